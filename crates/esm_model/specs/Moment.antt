@@ -1,0 +1,14 @@
+-- Moments: milliseconds since 1970-01-01T00:00:00Z. The end is this product's own: the last that a date of four
+-- digits can show, 9999-12-31T23:59:59.999Z.
+use Rattle.std.specs.Prelude.{ℕ, ◌+◌, min}
+
+abbrev pub MAX_MOMENT : ℕ
+MAX_MOMENT = 253402300799999
+
+-- a moment that is handed in
+abbrev pub capped_moment : ℕ → ℕ
+capped_moment m = min m MAX_MOMENT
+
+-- so many milliseconds after the moment: sums stop at the end
+abbrev pub moment_after : ℕ → ℕ → ℕ
+moment_after m n = min (m + n) MAX_MOMENT

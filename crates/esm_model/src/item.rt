@@ -1,0 +1,22 @@
+use crate::sequence::Seq;
+use crate::text::{Bytes, Text};
+
+/// A record of a stream: its shard's number, its partition key, its data and its approximate arrival
+/// in milliseconds since 1970.
+#[derive(Drop, Debug)]
+pub struct Record {
+    pub shard: u64,
+    pub seq: Seq,
+    pub key: Text,
+    pub payload: Bytes,
+    pub arrival: u64,
+}
+
+/// A message of a queue; `group` is there exactly where the queue is FIFO, `sent` is in milliseconds since 1970.
+#[derive(Drop, Debug)]
+pub struct Message {
+    pub id: Text,
+    pub group: Option<Text>,
+    pub body: Text,
+    pub sent: u64,
+}

@@ -1,0 +1,26 @@
+//! The vocabulary of the engine: the types that every crate speaks of, and the definitions of
+//! legal histories, batches, rulings and checkpoints that every contract cites.
+//! Pure values and small pure functions; no device, clock or thread.
+#![tactic(auto)]
+
+pub mod book;
+pub mod config;
+pub mod entry;
+pub mod event;
+pub mod item;
+pub mod lane;
+pub mod memory;
+pub mod sequence;
+pub mod text;
+pub mod verdict;
+
+pub use book::{BookError, BookOpen, CameError, Change, Job, Next, Refused, Trouble};
+pub use config::{Config, Kind, Start};
+pub use entry::{Entry, Fate, Reply, WindowState};
+pub use event::{Failure, Response, WindowCall};
+pub use item::{Message, Record};
+pub use lane::{LaneId, lane_of};
+pub use memory::OutOfMemory;
+pub use sequence::{Seq, SeqError};
+pub use text::{Bytes, Places, Text, Texts};
+pub use verdict::{Answer, QueueReading, Reading, Rest, StateRead, Verdict};

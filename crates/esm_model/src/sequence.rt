@@ -1,0 +1,102 @@
+ghost use Rattle.std.specs.Prelude.{◌≡◌, ◌≢◌, ◌==◌, ◌||◌, ◌<◌, not, true, false, length, slice_index, IfOk};
+ghost use Rattle.std.specs.List.{list_all};
+ghost use Rattle.std.specs.Char.{is_ascii_digit};
+ghost use Rattle.esm_model.specs.Sequence.{is_sequence, sequence_order};
+ghost use Rattle.esm_model.specs.declared.sequence.SeqError.TheVariants.{OutOfMemory};
+
+use crate::text::Text;
+use std::alloc::{AllocError, Global};
+use std::cmp::Ordering;
+use std::marker::Model;
+
+/// The sequence number of a record: `0`, or 1 to 129 digits that do not begin with `0`;
+/// seen as the list of its digits. (Kinesis API Reference, `SequenceNumber`.)
+#[derive(Drop, Debug)]
+pub struct Seq {
+    digits: Text,
+}
+
+impl Model for Seq {
+    ghost use Rattle.std.specs.Prelude.{ℕ, List, IsTrue};
+    ghost use Rattle.esm_model.specs.Sequence.{is_sequence};
+
+    ghost Value = { List ℕ };
+
+    ghost view = { λ s. s.digits };
+
+    ghost invariant = { λ s. IsTrue (is_sequence s.digits) };
+}
+
+/// Why a text gave no sequence number.
+#[derive(Clone, Copy, Debug, PartialEq, Eq)]
+pub enum SeqError {
+    /// It is not the text of one.
+    BadSeq,
+    /// There was no memory for the copy.
+    OutOfMemory,
+}
+
+impl From<AllocError> for SeqError {
+    ghost from_gives = { λ _ e. e ≡ OutOfMemory };
+
+    fn from(_: AllocError) -> Self {
+        SeqError::OutOfMemory
+    }
+}
+
+fn is_sequence(text: &[u8]) -> bool
+    ensures { result ≡ is_sequence text.now }
+{
+    if text.is_empty() || text.len() > 129 || !are_digits(text) {
+        return false;
+    }
+    is_short_or_leads(text)
+}
+
+fn are_digits(text: &[u8]) -> bool
+    ensures { result ≡ list_all is_ascii_digit text.now }
+{
+    text.iter().all(|d| d.is_ascii_digit())
+}
+
+fn is_short_or_leads(text: &[u8]) -> bool
+    requires { 0 < length text.now }
+    ensures { result ≡ ((length text.now == 1) || not (slice_index text.now 0 == 48)) }
+{
+    text.len() == 1 || text[0] != b'0'
+}
+
+impl Seq {
+    /// The sequence number that the text spells: a copy of it.
+    /// `BadSeq` exactly where the text is not that of a sequence number.
+    pub fn read(alloc: Global, text: &str) -> Result<Seq, SeqError>
+        ensures copied { IfOk result (λ s. s ≡ text.now) }
+        ensures spelled { IfOk result (λ s. is_sequence text.now ≡ true) }
+        ensures bad { result ≡ Err SeqError.BadSeq → is_sequence text.now ≡ false }
+        ensures good { is_sequence text.now ≡ true → result ≢ Err SeqError.BadSeq }
+    {
+        if !is_sequence(text.as_bytes()) {
+            return Err(SeqError::BadSeq);
+        }
+        let digits = String::from_str(alloc, text)?;
+        Ok(Seq {
+            digits: Text::from_vec(digits),
+        })
+    }
+
+    pub fn text(&self) -> &str
+        ensures value { result.now ≡ self.now }
+        ensures spelled { is_sequence self.now ≡ true }
+    {
+        self.digits.as_str()
+    }
+
+    /// The order of the numbers: by the number of digits, then digit by digit.
+    pub fn order(&self, other: &Seq) -> Ordering
+        ensures { result ≡ sequence_order self.now other.now }
+    {
+        let mine = self.digits.as_slice();
+        let theirs = other.digits.as_slice();
+        mine.len().cmp(&theirs.len()).then(mine.cmp(theirs))
+    }
+}

@@ -1,0 +1,127 @@
+ghost use Rattle.std.specs.Prelude.{◌≡◌};
+ghost use Rattle.std.specs.String.{string_bytes};
+
+use std::marker::Model;
+
+/// UTF-8 text, seen as the list of its bytes.
+#[derive(Drop, Debug)]
+pub struct Text {
+    chars: String,
+}
+
+impl Model for Text {
+    ghost use Rattle.std.specs.Prelude.{ℕ, List};
+    ghost use Rattle.std.specs.String.{string_bytes};
+
+    ghost Value = { List ℕ };
+
+    ghost view = { λ t. string_bytes t.chars };
+}
+
+impl Text {
+    /// The text of a `String`; takes no memory.
+    pub fn from_vec(chars: String) -> Self
+        ensures { result ≡ string_bytes chars }
+    {
+        Text { chars }
+    }
+
+    pub fn as_str(&self) -> &str
+        ensures { result.now ≡ self.now }
+    {
+        self.chars.as_str()
+    }
+
+    pub fn as_slice(&self) -> &[u8]
+        ensures { result.now ≡ self.now }
+    {
+        self.chars.as_bytes()
+    }
+}
+
+/// Bytes, seen as a list.
+#[derive(Drop, Debug)]
+pub struct Bytes {
+    bytes: Vec<u8>,
+}
+
+impl Model for Bytes {
+    ghost use Rattle.std.specs.Prelude.{ℕ, List};
+
+    ghost Value = { List ℕ };
+
+    ghost view = { λ b. b.bytes.items };
+}
+
+impl Bytes {
+    /// The bytes of a `Vec`; takes no memory.
+    pub fn from_vec(bytes: Vec<u8>) -> Self
+        ensures { result ≡ bytes.items }
+    {
+        Bytes { bytes }
+    }
+
+    pub fn as_slice(&self) -> &[u8]
+        ensures { result.now ≡ self.now }
+    {
+        self.bytes.as_slice()
+    }
+}
+
+/// Places of records in their shard's list, counted from 0; seen as a list.
+#[derive(Drop, Debug)]
+pub struct Places {
+    places: Vec<u32>,
+}
+
+impl Model for Places {
+    ghost use Rattle.std.specs.Prelude.{ℕ, List};
+
+    ghost Value = { List ℕ };
+
+    ghost view = { λ p. p.places.items };
+}
+
+impl Places {
+    /// The places of a `Vec`; takes no memory.
+    pub fn from_vec(places: Vec<u32>) -> Self
+        ensures { result ≡ places.items }
+    {
+        Places { places }
+    }
+
+    pub fn as_slice(&self) -> &[u32]
+        ensures { result.now ≡ self.now }
+    {
+        self.places.as_slice()
+    }
+}
+
+/// Texts, seen as the list of their lists of bytes.
+#[derive(Drop, Debug)]
+pub struct Texts {
+    texts: Vec<Text>,
+}
+
+impl Model for Texts {
+    ghost use Rattle.std.specs.Prelude.{ℕ, List};
+
+    ghost Value = { List (List ℕ) };
+
+    ghost view = { λ t. t.texts.items };
+}
+
+impl Texts {
+    /// The texts of a `Vec`; takes no memory.
+    pub fn from_vec(texts: Vec<Text>) -> Self
+        ensures { result ≡ texts.items }
+    {
+        Texts { texts }
+    }
+
+    pub fn as_slice(&self) -> &[Text]
+        ensures { result.now ≡ self.now }
+    {
+        self.texts.as_slice()
+    }
+}
