@@ -12,6 +12,8 @@ pub mod lane;
 pub mod memory;
 pub mod sequence;
 pub mod text;
+#[cfg(test)]
+mod tests;
 pub mod verdict;
 
 pub use book::{BookError, BookOpen, CameError, Change, Job, Next, Refused, Trouble};
