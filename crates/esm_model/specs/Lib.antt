@@ -3,3 +3,8 @@ pub mod Lane
 pub mod Moment
 pub mod Limits
 pub mod Valid
+pub mod Numbers
+pub mod JsonText
+pub mod Dates
+pub mod EventText
+pub mod FailureText
