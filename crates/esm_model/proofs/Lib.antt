@@ -1,1 +1,2 @@
 pub mod EventFacts
+pub mod EventLength
