@@ -8,3 +8,6 @@ pub mod JsonText
 pub mod Dates
 pub mod EventText
 pub mod FailureText
+pub mod Json
+pub mod State
+pub mod Reading

@@ -1,0 +1,9 @@
+-- JSON as this product reads it: a UTF-8 text that `serde_json` reads, its limit of depth included. Of a key that stands
+-- twice in an object the last value counts.
+use Rattle.std.specs.Prelude.{ℕ, List, if◌then◌else◌, Option, None}
+use Rattle.std.specs.Str.{is_utf8}
+use Rattle.serde_json.specs.Data.{Data}
+use Rattle.serde_json.specs.Read.{read}
+
+abbrev pub read_json : List ℕ → Option Data
+read_json bytes = if is_utf8 bytes then read bytes else None
