@@ -1,3 +1,4 @@
 pub mod EventFacts
 pub mod EventLength
 mod ReadingFacts
+mod FilterFacts

@@ -11,3 +11,6 @@ pub mod FailureText
 pub mod Json
 pub mod State
 pub mod Reading
+pub mod Pattern
+pub mod Leaves
+pub mod Filter
