@@ -14,3 +14,16 @@ pub mod Reading
 pub mod Pattern
 pub mod Leaves
 pub mod Filter
+pub mod Setting
+pub mod Entries
+pub mod Fates
+pub mod Checkpoint
+pub mod Ruling
+pub mod Tries
+pub mod Windows
+pub mod Calls
+pub mod Batches
+pub mod FailureLine
+pub mod Owed
+pub mod Step
+pub mod Laws

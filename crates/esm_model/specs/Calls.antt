@@ -1,0 +1,61 @@
+-- The event of a call, and the calls of a batcher. Source of the event: the Lambda Developer Guide, event source
+-- mappings for Kinesis (the record event, and `window`, `state` and `isFinalInvokeForWindow` of tumbling windows).
+use Rattle.std.specs.Prelude.{ℕ, ◌==◌, List, [], ◌∷◌, ◌++◌, Option, Some, None, unwrap_or, slice_index, is_some, if◌then◌else◌}
+use Rattle.esm_model.specs.Lane.{same_lane}
+use Rattle.esm_model.specs.declared.lane.LaneId.{LaneId}
+use Rattle.esm_model.specs.declared.entry.Reply.{Reply}
+use Rattle.esm_model.specs.declared.entry.Entry.{Entry}
+use Rattle.esm_model.specs.declared.entry.Entry.TheVariants.{Began, Ended}
+use Rattle.esm_model.specs.declared.event.WindowCall.{WindowCall}
+use Rattle.esm_model.specs.Setting.{Setting, records_at}
+use Rattle.esm_model.specs.Entries.{batcher}
+use Rattle.esm_model.specs.Windows.{has_windows, window_of, state_text}
+use Rattle.esm_model.specs.EventText.{event_text}
+
+-- the window of a call: the one that it closes, else that of its first record
+abbrev pub window_of_call : Setting → ℕ → List ℕ → Option ℕ → ℕ
+window_of_call s n places closing = unwrap_or closing (window_of s n (slice_index places 0))
+
+-- what the event of a call says of its window, with the state before the call
+abbrev pub window_call : Setting → List Entry → ℕ → List ℕ → Option ℕ → Option WindowCall
+window_call s h n places closing =
+    if has_windows s.config
+    then Some (record {
+      shard = n;
+      state = record { window = window_of_call s n places closing; text = state_text s h n (window_of_call s n places closing) };
+      closing = is_some closing;
+    })
+    else None
+
+-- the event text of a call that begins after the history
+abbrev pub event_of : Setting → List Entry → ℕ → List ℕ → Option ℕ → List ℕ
+event_of s h n places closing = event_text s.config (records_at s n places) (window_call s h n places closing)
+
+-- the calls of a batcher
+
+abbrev pub event_after : Setting → List Entry → LaneId → List ℕ → Entry → List ℕ
+event_after s h lane before (Began at places closing moment) = if same_lane at lane then event_of s h lane.shard places closing else before
+event_after s h lane before _ = before
+
+-- the event text of the lane's last call
+abbrev pub last_event : Setting → List Entry → LaneId → List ℕ
+last_event s [] lane = []
+last_event s (e ∷ h) lane = event_after s h lane (last_event s h lane) e
+
+-- a call as its caller sees it: the function's name, what the caller sends for the event, and the reply
+pub record CallMade : Type 0 where
+  pub function : List ℕ
+  pub sent : List ℕ
+  pub reply : Reply
+
+abbrev pub calls_after : Setting → (List ℕ → List ℕ) → List Entry → ℕ → List CallMade → Entry → List CallMade
+calls_after s sends h k before (Ended lane reply moment) =
+    if batcher s h lane == k
+    then before ++ record { function = s.config.function; sent = sends (last_event s h lane); reply = reply } ∷ []
+    else before
+calls_after s sends h k before _ = before
+
+-- the calls of the batcher's lane that ended, oldest first
+abbrev pub calls : Setting → (List ℕ → List ℕ) → List Entry → ℕ → List CallMade
+calls s sends [] k = []
+calls s sends (e ∷ h) k = calls_after s sends h k (calls s sends h k) e

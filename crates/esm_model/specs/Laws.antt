@@ -1,0 +1,50 @@
+-- What holds of every legal history (newest entry first).
+use Rattle.std.specs.Prelude.{◌≡◌, ℕ, ◌+◌, ◌<◌, ◌≤◌, IsTrue, IsSome, List, ◌∷◌, ◌++◌, Option, Some, None, ◌⊎◌}
+use Rattle.esm_model.specs.declared.item.Record.{Record}
+use Rattle.esm_model.specs.declared.lane.LaneId.{LaneId}
+use Rattle.esm_model.specs.declared.entry.Fate.{Fate}
+use Rattle.esm_model.specs.declared.entry.Fate.TheVariants.{Succeeded, Filtered, Expired, Exhausted}
+use Rattle.esm_model.specs.declared.entry.WindowState.{WindowState}
+use Rattle.esm_model.specs.declared.entry.Entry.{Entry}
+use Rattle.esm_model.specs.declared.entry.Entry.TheVariants.{Began, Gave}
+use Rattle.esm_model.specs.Setting.{Setting, record_at, found_fate}
+use Rattle.esm_model.specs.Entries.{holds, came_count}
+use Rattle.esm_model.specs.Fates.{fate, given, fate_count, open_count}
+use Rattle.esm_model.specs.Checkpoint.{checkpoint}
+
+-- no batch begins before every earlier record of a key in it has its fate, or is in it too
+abbrev pub OrderPerKey : Setting → List Entry → Type 0
+OrderPerKey s h =
+    (later before : List Entry) (lane : LaneId) (places : List ℕ) (closing : Option ℕ) (m : ℕ) → h ≡ later ++ Began lane places closing m ∷ before
+    → (i j : ℕ) (r q : Record) → record_at s lane.shard i ≡ Some r → record_at s lane.shard j ≡ Some q → q.key ≡ r.key
+    → IsTrue (holds places i) → j < i
+    → IsTrue (holds places j) ⊎ IsSome (fate s before lane.shard j)
+
+-- a fate goes to places that have none
+abbrev pub OneFate : Setting → List Entry → Type 0
+OneFate s h =
+    (later before : List Entry) (by : Option LaneId) (n : ℕ) (places : List ℕ) (f : Fate) (line : Option (List ℕ)) (state : Option WindowState) (m : ℕ) → h ≡ later ++ Gave by n places f line state m ∷ before
+    → (i : ℕ) → IsTrue (holds places i) → fate s before n i ≡ None
+
+-- no batch holds a record that has a found fate, or that an earlier `Gave` names
+abbrev pub NoRepeat : Setting → List Entry → Type 0
+NoRepeat s h =
+    (later before : List Entry) (lane : LaneId) (places : List ℕ) (closing : Option ℕ) (m : ℕ) → h ≡ later ++ Began lane places closing m ∷ before
+    → (i : ℕ) → IsTrue (holds places i)
+    → (found_fate s lane.shard i ≡ None) × (given before lane.shard i ≡ None)
+
+-- the records of the shard that came are the succeeded, filtered, expired, exhausted and open ones together
+abbrev pub EveryRecordCounted : Setting → List Entry → Type 0
+EveryRecordCounted s h =
+    (n : ℕ) → came_count h n ≡ fate_count s h n Succeeded + fate_count s h n Filtered + fate_count s h n Expired + fate_count s h n Exhausted + open_count s h n
+
+-- the checkpoint never falls
+abbrev pub CheckpointKept : Setting → List Entry → List Entry → Type 0
+CheckpointKept s later before = (n : ℕ) → checkpoint s before n ≤ checkpoint s (later ++ before) n
+
+-- each record before the checkpoint has a fate, and the checkpoint is the greatest number of the records that came of
+-- which this holds
+pub record CheckpointIsLongest (s : Setting) (h : List Entry) (n : ℕ) : Type 0 where
+  pub within : checkpoint s h n ≤ came_count h n
+  pub fated : (i : ℕ) → i < checkpoint s h n → IsSome (fate s h n i)
+  pub longest : (k : ℕ) → k ≤ came_count h n → ((i : ℕ) → i < k → IsSome (fate s h n i)) → k ≤ checkpoint s h n

@@ -1,0 +1,132 @@
+-- What the end of a call calls for, and which entries still owe it. This product's own.
+use Rattle.std.specs.Prelude.{◌≡◌, ℕ, ◌+◌, Bool, false, not, ◌&&◌, List, [], ◌∷◌, ◌++◌, take, drop, map, Option, Some, None, filter, option_map, unwrap_or, slice_get, codes, if◌then◌else◌}
+use Rattle.esm_model.specs.Lane.{same_lane}
+use Rattle.esm_model.specs.declared.item.Record.{Record}
+use Rattle.esm_model.specs.declared.lane.LaneId.{LaneId}
+use Rattle.esm_model.specs.declared.entry.Fate.TheVariants.{Succeeded, Exhausted}
+use Rattle.esm_model.specs.declared.entry.Reply.{Reply}
+use Rattle.esm_model.specs.declared.entry.Reply.TheVariants.{Answered}
+use Rattle.esm_model.specs.declared.entry.WindowState.{WindowState}
+use Rattle.esm_model.specs.declared.entry.Entry.{Entry}
+use Rattle.esm_model.specs.declared.entry.Entry.TheVariants.{Began, Ended, Gave, Tried, Closed}
+use Rattle.esm_model.specs.declared.verdict.Rest.{Rest}
+use Rattle.esm_model.specs.declared.verdict.Rest.TheVariants as rest
+use Rattle.esm_model.specs.declared.verdict.Verdict.{Verdict}
+use Rattle.esm_model.specs.Setting.{Setting, record_at}
+use Rattle.esm_model.specs.Entries.{Call, last_moment, last_call}
+use Rattle.esm_model.specs.Fates.{lacks_fate, came_places}
+use Rattle.esm_model.specs.Filter.{passes}
+use Rattle.esm_model.specs.State.{answered_state}
+use Rattle.esm_model.specs.Ruling.{capped_tries}
+use Rattle.esm_model.specs.Tries.{tries_of, verdict_after}
+use Rattle.esm_model.specs.Windows.{has_windows}
+use Rattle.esm_model.specs.Calls.{window_of_call}
+use Rattle.esm_model.specs.FailureLine.{failure_line}
+
+-- filtering
+
+abbrev pub is_refused : Setting → Record → Bool
+is_refused s r = not (passes s.config.filters r)
+
+abbrev pub is_unsorted : Setting → List Entry → ℕ → ℕ → Bool
+is_unsorted s h n i = lacks_fate s h n i && unwrap_or (option_map (is_refused s) (record_at s n i)) false
+
+-- the places of the shard's open records that do not pass the filter
+abbrev pub unsorted : Setting → List Entry → ℕ → List ℕ
+unsorted s h n = filter (is_unsorted s h n) (came_places h n)
+
+-- one thing that the end of a call calls for: an entry without its moment and its failure line, which it has of the
+-- moment at which it is added
+pub data Due : Type 0 where
+  Success : (places : List ℕ) (state : Option WindowState) → Due
+  GiveUp : (places : List ℕ) → Due
+  Try : (places : List ℕ) (closing : Option ℕ) (tries : ℕ) → Due
+  Close : (window : ℕ) → Due
+
+-- the entry of the lane that brings it, after the history
+abbrev pub due_entry : Setting → List Entry → LaneId → ℕ → Due → Entry
+due_entry s h lane m (Success places state) = Gave (Some lane) lane.shard places Succeeded None state m
+due_entry s h lane m (GiveUp places) = Gave (Some lane) lane.shard places Exhausted (failure_line s h lane.shard places false m) None m
+due_entry s h lane m (Try places closing tries) = Tried lane places closing tries m
+due_entry s h lane m (Close window) = Closed lane window m
+
+-- the state that a call leaves to its window, where windows are configured
+
+abbrev pub state_in_reply : Reply → List ℕ
+state_in_reply (Answered status error body) = answered_state body
+state_in_reply _ = codes "{}"
+
+abbrev pub new_state : Setting → ℕ → Call → Reply → Option WindowState
+new_state s n call reply =
+    if has_windows s.config
+    then Some (record { window = window_of_call s n call.places call.closing; text = state_in_reply reply })
+    else None
+
+-- the records that succeeded, where there are any
+abbrev pub due_success : List ℕ → Option WindowState → List Due
+due_success [] state = []
+due_success (i ∷ places) state = Success (i ∷ places) state ∷ []
+
+-- the records that are given up, where there are any
+abbrev pub due_give_up : List ℕ → List Due
+due_give_up [] = []
+due_give_up (i ∷ places) = GiveUp (i ∷ places) ∷ []
+
+-- the window of a final call
+abbrev pub due_close : Option ℕ → List Due
+due_close None = []
+due_close (Some window) = Close window ∷ []
+
+-- by the rest of the verdict; the tries are those before the end
+abbrev pub due_rest : Rest → List ℕ → Option ℕ → ℕ → List Due
+due_rest rest.Nothing places closing tries = due_close closing
+due_rest rest.Again places closing tries = []
+due_rest (rest.Split k) places closing tries = []
+due_rest rest.Counted places closing tries = Try places closing (capped_tries (tries + 1)) ∷ []
+due_rest rest.Exhausted places closing tries = due_give_up places ++ due_close closing
+
+abbrev pub due_by_verdict : Setting → ℕ → Call → ℕ → Verdict → Reply → List Due
+due_by_verdict s n call tries v reply =
+    due_success (take v.succeeded call.places) (new_state s n call reply)
+    ++ due_rest v.rest (drop v.succeeded call.places) call.closing tries
+
+abbrev pub due_of_call : Setting → List Entry → LaneId → Option Call → Reply → List Due
+due_of_call s h lane None reply = []
+due_of_call s h lane (Some call) reply = due_by_verdict s lane.shard call (tries_of s h lane.shard call) (verdict_after s h lane reply) reply
+
+-- what an `Ended` of the lane that follows the history calls for
+abbrev pub due_by_end : Setting → List Entry → LaneId → Reply → List Due
+due_by_end s h lane reply = due_of_call s h lane (last_call h lane) reply
+
+-- the lane that an entry is of, where it is one that a lane may owe
+abbrev pub giver : Entry → Option LaneId
+giver (Gave by shard places fate line state moment) = by
+giver (Tried lane places closing tries moment) = Some lane
+giver (Closed lane window moment) = Some lane
+giver _ = None
+
+abbrev pub is_by : LaneId → Entry → Bool
+is_by lane e = unwrap_or (option_map (λ (at : LaneId). same_lane at lane) (giver e)) false
+
+abbrev pub due_after : Setting → List Entry → LaneId → List Due → Entry → List Due
+due_after s h lane before (Began at places closing moment) = if same_lane at lane then [] else before
+due_after s h lane before (Ended at reply moment) = if same_lane at lane then due_by_end s h lane reply else before
+due_after s h lane before e = if is_by lane e then drop 1 before else before
+
+-- what the lane's last `Ended` calls for and does not yet stand after it, where no `Began` of the lane follows it
+abbrev pub due : Setting → List Entry → LaneId → List Due
+due s [] lane = []
+due s (e ∷ h) lane = due_after s h lane (due s h lane) e
+
+-- as entries, at the moment of the last entry
+abbrev pub owed : Setting → List Entry → LaneId → List Entry
+owed s h lane = map (due_entry s h lane (last_moment h)) (due s h lane)
+
+-- it is the first of them
+abbrev pub IsOwed : Setting → List Entry → LaneId → Entry → Type 0
+IsOwed s h lane e = slice_get (owed s h lane) 0 ≡ Some e
+
+-- each open record passes the filter, and no lane is owed anything
+pub record Settled (s : Setting) (h : List Entry) : Type 0 where
+  pub sorted : (n : ℕ) → unsorted s h n ≡ []
+  pub paid : (lane : LaneId) → due s h lane ≡ []

@@ -1,0 +1,104 @@
+-- A setting: what a history is judged over. This product's own.
+use Rattle.std.specs.Prelude.{ℕ, ◌≡◌, ◌==◌, Bool, false, ◌&&◌, List, [], ◌∷◌, map, Option, Some, find, option_map, unwrap_or, slice_get, filter_map, if◌then◌else◌}
+use Rattle.esm_model.specs.Lane.{lane_of}
+use Rattle.esm_model.specs.declared.config.Config.{Config}
+use Rattle.esm_model.specs.declared.item.Record.{Record}
+use Rattle.esm_model.specs.declared.entry.Fate.{Fate}
+use Rattle.esm_model.specs.declared.lane.LaneId.{LaneId}
+
+-- a shard's records by place: those of the stream from the mapping's starting position on
+pub record Stream : Type 0 where
+  pub shard : ℕ
+  pub records : List Record
+
+-- a fate that the journal told of at opening, with the sequence number that it kept of the record
+pub record FoundFate : Type 0 where
+  pub shard : ℕ
+  pub place : ℕ
+  pub fate : Fate
+  pub text : List ℕ
+
+-- failed tries of a record that the journal told of at opening, with the sequence number that it kept
+pub record FoundTries : Type 0 where
+  pub shard : ℕ
+  pub place : ℕ
+  pub tries : ℕ
+  pub text : List ℕ
+
+-- a window's state that the journal told of at opening
+pub record FoundState : Type 0 where
+  pub shard : ℕ
+  pub window : ℕ
+  pub text : List ℕ
+
+-- failed tries of a window's final call that the journal told of at opening
+pub record FoundWindowTries : Type 0 where
+  pub shard : ℕ
+  pub window : ℕ
+  pub tries : ℕ
+
+-- the configuration, the calls allowed, the records of each shard, and what the journal told of at opening
+pub record Setting : Type 0 where
+  pub config : Config
+  pub calls : ℕ
+  pub streams : List Stream
+  pub fates : List FoundFate
+  pub tries : List FoundTries
+  pub states : List FoundState
+  pub window_tries : List FoundWindowTries
+
+-- records
+
+-- those of the first stream with this shard
+abbrev pub records_in : List Stream → ℕ → List Record
+records_in [] n = []
+records_in (t ∷ ts) n = if t.shard == n then t.records else records_in ts n
+
+abbrev pub records_of : Setting → ℕ → List Record
+records_of s n = records_in s.streams n
+
+abbrev pub record_at : Setting → ℕ → ℕ → Option Record
+record_at s n i = slice_get (records_of s n) i
+
+abbrev pub records_at : Setting → ℕ → List ℕ → List Record
+records_at s n places = filter_map (record_at s n) places
+
+-- the sequence numbers of the records at the places
+abbrev pub sequences_at : Setting → ℕ → List ℕ → List (List ℕ)
+sequences_at s n places = map (λ (r : Record). r.seq) (records_at s n places)
+
+abbrev pub is_key_of : Setting → LaneId → Record → Bool
+is_key_of s lane r = lane_of r.key s.config.factor == lane.lane
+
+-- the record at the place belongs to the lane
+abbrev pub is_in_lane : Setting → LaneId → ℕ → Bool
+is_in_lane s lane i = unwrap_or (option_map (is_key_of s lane) (record_at s lane.shard i)) false
+
+-- what was found at opening
+
+abbrev pub found_fate : Setting → ℕ → ℕ → Option FoundFate
+found_fate s n i = find (λ (f : FoundFate). (f.shard == n) && (f.place == i)) s.fates
+
+abbrev pub found_try : Setting → ℕ → ℕ → Option FoundTries
+found_try s n i = find (λ (f : FoundTries). (f.shard == n) && (f.place == i)) s.tries
+
+-- the found tries of a place, or 0
+abbrev pub found_tries : Setting → ℕ → ℕ → ℕ
+found_tries s n i = unwrap_or (option_map (λ (f : FoundTries). f.tries) (found_try s n i)) 0
+
+abbrev pub found_state : Setting → ℕ → ℕ → Option (List ℕ)
+found_state s n w = option_map (λ (f : FoundState). f.text) (find (λ (f : FoundState). (f.shard == n) && (f.window == w)) s.states)
+
+-- the found tries of a window's final call, or 0
+abbrev pub found_window_tries : Setting → ℕ → ℕ → ℕ
+found_window_tries s n w = unwrap_or (option_map (λ (f : FoundWindowTries). f.tries) (find (λ (f : FoundWindowTries). (f.shard == n) && (f.window == w)) s.window_tries)) 0
+
+-- other records
+
+-- the same setting over other lists of records
+abbrev pub over : Setting → List Stream → Setting
+over s streams = record s { streams = streams }
+
+-- each record of the one lists stands at its place in the others
+abbrev pub Extends : List Stream → List Stream → Type 0
+Extends before after = (n i : ℕ) (r : Record) → slice_get (records_in before n) i ≡ Some r → slice_get (records_in after n) i ≡ Some r
