@@ -2,3 +2,7 @@ pub mod EventFacts
 pub mod EventLength
 mod ReadingFacts
 mod FilterFacts
+pub mod Lists
+pub mod Longest
+pub mod Steps
+pub mod Apart
