@@ -6,3 +6,6 @@ pub mod Lists
 pub mod Longest
 pub mod Steps
 pub mod Apart
+pub mod Due
+pub mod Sound
+pub mod Paid
