@@ -9,3 +9,4 @@ pub mod Apart
 pub mod Due
 pub mod Sound
 pub mod Paid
+pub mod WorkedFacts

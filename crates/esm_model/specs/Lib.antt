@@ -27,3 +27,4 @@ pub mod FailureLine
 pub mod Owed
 pub mod Step
 pub mod Laws
+pub mod Worked

@@ -11,10 +11,11 @@ pub mod item;
 pub mod lane;
 pub mod memory;
 pub mod sequence;
-pub mod text;
 #[cfg(test)]
 mod tests;
+pub mod text;
 pub mod verdict;
+pub mod worked;
 
 pub use book::{BookError, BookOpen, CameError, Change, Job, Next, Refused, Trouble};
 pub use config::{Config, Kind, Start};

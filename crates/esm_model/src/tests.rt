@@ -23,7 +23,12 @@ fn refusal(alloc: Global, text: &str) -> Option<SeqError> {
 #[test]
 fn sequence_numbers(rt: HostRuntime) -> Result<(), Fail> {
     let alloc = rt.alloc();
-    for good in ["0", "7", "10", "49590338271490256608559692538361571095921575989136588898"] {
+    for good in [
+        "0",
+        "7",
+        "10",
+        "49590338271490256608559692538361571095921575989136588898",
+    ] {
         assert_eq!(rt; refusal(alloc, good), None, "{good}");
     }
     for bad in ["", "00", "07", "1a", "-1", " 1"] {
