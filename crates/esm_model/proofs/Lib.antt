@@ -10,3 +10,6 @@ pub mod Due
 pub mod Sound
 pub mod Paid
 pub mod WorkedFacts
+pub mod Counts
+pub mod Fits
+pub mod Histories

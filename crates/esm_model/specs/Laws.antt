@@ -1,5 +1,8 @@
 -- What holds of every legal history (newest entry first).
-use Rattle.std.specs.Prelude.{◌≡◌, ℕ, ◌+◌, ◌<◌, ◌≤◌, IsTrue, IsSome, List, ◌∷◌, ◌++◌, Option, Some, None, ◌⊎◌}
+use Rattle.std.specs.Prelude.{◌≡◌, ℕ, ◌+◌, ◌<◌, ◌≤◌, Bool, true, false, IsTrue, IsSome, List, [], ◌∷◌, ◌++◌, length, take, Option, Some, None, ◌⊎◌}
+use Rattle.std.specs.List.{list_any}
+use Rattle.esm_model.specs.declared.config.Config.{Config}
+use Rattle.esm_model.specs.declared.event.WindowCall.{WindowCall}
 use Rattle.esm_model.specs.declared.item.Record.{Record}
 use Rattle.esm_model.specs.declared.lane.LaneId.{LaneId}
 use Rattle.esm_model.specs.declared.entry.Fate.{Fate}
@@ -9,8 +12,10 @@ use Rattle.esm_model.specs.declared.entry.Entry.{Entry}
 use Rattle.esm_model.specs.declared.entry.Entry.TheVariants.{Began, Gave}
 use Rattle.esm_model.specs.Setting.{Setting, record_at, found_fate}
 use Rattle.esm_model.specs.Entries.{holds, came_count}
-use Rattle.esm_model.specs.Fates.{fate, given, fate_count, open_count}
+use Rattle.esm_model.specs.Fates.{fate, names, fate_count, open_count}
 use Rattle.esm_model.specs.Checkpoint.{checkpoint}
+use Rattle.esm_model.specs.EventText.{event_text}
+use Rattle.esm_model.specs.Batches.{group, batch, fits}
 
 -- no batch begins before every earlier record of a key in it has its fate, or is in it too
 abbrev pub OrderPerKey : Setting → List Entry → Type 0
@@ -31,7 +36,7 @@ abbrev pub NoRepeat : Setting → List Entry → Type 0
 NoRepeat s h =
     (later before : List Entry) (lane : LaneId) (places : List ℕ) (closing : Option ℕ) (m : ℕ) → h ≡ later ++ Began lane places closing m ∷ before
     → (i : ℕ) → IsTrue (holds places i)
-    → (found_fate s lane.shard i ≡ None) × (given before lane.shard i ≡ None)
+    → (found_fate s lane.shard i ≡ None) × (list_any (names lane.shard i) before ≡ false)
 
 -- the records of the shard that came are the succeeded, filtered, expired, exhausted and open ones together
 abbrev pub EveryRecordCounted : Setting → List Entry → Type 0
@@ -48,3 +53,18 @@ pub record CheckpointIsLongest (s : Setting) (h : List Entry) (n : ℕ) : Type 0
   pub within : checkpoint s h n ≤ came_count h n
   pub fated : (i : ℕ) → i < checkpoint s h n → IsSome (fate s h n i)
   pub longest : (k : ℕ) → k ≤ came_count h n → ((i : ℕ) → i < k → IsSome (fate s h n i)) → k ≤ checkpoint s h n
+
+-- a prefix meets the test, or is empty, and no longer one meets it
+pub record IsLongestPrefix (meets : List ℕ → Bool) (xs prefix : List ℕ) : Type 0 where
+  pub within : length prefix ≤ length xs
+  pub front : prefix ≡ take (length prefix) xs
+  pub met : (prefix ≡ []) ⊎ (meets prefix ≡ true)
+  pub longest : (k : ℕ) → length prefix < k → k ≤ length xs → meets (take k xs) ≡ false
+
+-- an event is no shorter with one record more
+abbrev pub EventGrows : Type 0
+EventGrows = (c : Config) (records : List Record) (r : Record) (window : Option WindowCall) → length (event_text c records window) ≤ length (event_text c (records ++ r ∷ []) window)
+
+-- the batch is the longest prefix of the group that meets the four limits
+abbrev pub BatchIsLongest : Setting → List Entry → LaneId → ℕ → Type 0
+BatchIsLongest s h lane m = IsLongestPrefix (fits s h lane.shard m) (group s h lane) (batch s h lane m)

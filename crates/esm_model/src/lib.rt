@@ -9,6 +9,7 @@ pub mod entry;
 pub mod event;
 pub mod item;
 pub mod lane;
+pub mod laws;
 pub mod memory;
 pub mod sequence;
 #[cfg(test)]

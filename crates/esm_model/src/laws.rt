@@ -1,0 +1,43 @@
+//! What holds of every legal history, each as the contract of a function that does nothing.
+//! A history is written newest entry first.
+ghost use Rattle.std.specs.Prelude.{ℕ, List};
+ghost use Rattle.esm_model.specs.declared.lane.LaneId.{LaneId};
+ghost use Rattle.esm_model.specs.declared.entry.Entry.{Entry};
+ghost use Rattle.esm_model.specs.Setting.{Setting};
+ghost use Rattle.esm_model.specs.Step.{Legal};
+ghost use Rattle.esm_model.specs.Laws.{OrderPerKey, OneFate, NoRepeat, EveryRecordCounted, CheckpointKept, CheckpointIsLongest, EventGrows, BatchIsLongest};
+
+/// In a legal history no batch overtakes an earlier record of one of its keys.
+pub fn order_per_key()
+    ensures { (s : Setting) (h : List Entry) → Legal s h → OrderPerKey s h }
+{}
+
+/// A legal history gives each place one fate at most, and none where one was found.
+pub fn one_fate()
+    ensures { (s : Setting) (h : List Entry) → Legal s h → OneFate s h }
+{}
+
+/// A legal history never calls with a record that has a found fate or was given one.
+pub fn no_repeat()
+    ensures { (s : Setting) (h : List Entry) → Legal s h → NoRepeat s h }
+{}
+
+/// Each record of a shard that came is counted once: by its fate, or as open.
+pub fn every_record_counted()
+    ensures { (s : Setting) (h : List Entry) → EveryRecordCounted s h }
+{}
+
+/// No history takes a checkpoint back.
+pub fn checkpoint_kept()
+    ensures { (s : Setting) (later before : List Entry) → CheckpointKept s later before }
+{}
+
+/// The checkpoint counts the longest prefix of the records that came in which each has a fate.
+pub fn checkpoint_is_longest()
+    ensures { (s : Setting) (h : List Entry) (n : ℕ) → CheckpointIsLongest s h n }
+{}
+
+/// A batch is the longest prefix of its lane's group that meets the limits, since an event with more records is no shorter.
+pub fn batch_is_longest()
+    ensures { EventGrows → (s : Setting) (h : List Entry) (lane : LaneId) (m : ℕ) → BatchIsLongest s h lane m }
+{}
