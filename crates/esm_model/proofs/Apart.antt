@@ -1,17 +1,15 @@
 -- An entry of another shard changes nothing of a lane.
-use Rattle.std.proofs.Common.{◌≡◌, ℕ, Bool, true, false, cond, ◌&&◌, List, ◌∷◌, Option, Some, None, refl, sym, ap, ◌∙◌, subst}
+use Rattle.std.proofs.Common.{◌≡◌, ℕ, false, List, ◌∷◌, Option, Some, None, refl}
 use Rattle.std.specs.Prelude.{◌==◌, ⊤}
 use Rattle.std.specs.Option.{option_or}
-use Rattle.esm_model.specs.declared.entry.Fate.{Fate}
 use Rattle.esm_model.specs.declared.lane.LaneId.{LaneId}
 use Rattle.esm_model.specs.declared.entry.Entry.{Entry}
 use Rattle.esm_model.specs.declared.entry.Entry.TheVariants.{Came, Began, Ended, Gave, Tried, Closed, Replayed, Shut}
 use Rattle.esm_model.specs.Setting.{Setting}
 use Rattle.esm_model.specs.Entries.{came_count, came_moment, is_running, last_call}
 use Rattle.esm_model.specs.Fates.{fate, given}
-use Rattle.esm_model.specs.Tries.{tries, mark, window_tries}
+use Rattle.esm_model.specs.Tries.{tries, mark}
 use Rattle.esm_model.specs.Batches.{failures, last_end}
-use Rattle.esm_model.specs.Windows.{kept_state}
 use Rattle.esm_model.specs.Owed.{due}
 
 -- the entry speaks of another shard than this, or of none; a `Gave` by a lane is of that lane's shard

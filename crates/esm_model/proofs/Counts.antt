@@ -1,15 +1,14 @@
 -- Counts of a shard's records by their fates, and the checkpoint as a longest prefix.
-use Rattle.std.proofs.Common.{◌≡◌, ℕ, zero, suc, ◌+◌, ◌<◌, ◌≤◌, Bool, true, false, List, [], ◌∷◌, ◌++◌, length, refl, sym, ap, ◌∙◌, subst, inl, inr, Option, Some, None, arith, length-append}
-use Rattle.std.specs.Prelude.{filter, take_while, slice_get, is_some, is_none, IsSome}
+use Rattle.std.proofs.Common.{◌≡◌, ℕ, zero, suc, ◌+◌, ◌<◌, ◌≤◌, Bool, true, List, [], ◌∷◌, ◌++◌, length, refl, sym, ◌∙◌, subst, inl, inr, Option, Some, None, arith, length-append}
+use Rattle.std.specs.Prelude.{filter, take_while, slice_get, is_none}
 use Rattle.std.proofs.lemmas.Bool.{cases_Bool, cases_lt}
-use Rattle.std.proofs.lemmas.Option.{slice_get_within}
 use Rattle.std.proofs.lemmas.List.Sums.{take_while-cons}
 use Rattle.esm_model.specs.declared.entry.Fate.{Fate}
 use Rattle.esm_model.specs.declared.entry.Fate.TheVariants.{Succeeded, Filtered, Expired, Exhausted}
 use Rattle.esm_model.specs.declared.entry.Entry.{Entry}
 use Rattle.esm_model.specs.Setting.{Setting}
 use Rattle.esm_model.specs.Entries.{came_count}
-use Rattle.esm_model.specs.Fates.{below, fate, has_fate, is_fate, fate_count, open_count}
+use Rattle.esm_model.specs.Fates.{below, fate, has_fate, is_fate}
 use Rattle.esm_model.specs.Checkpoint.{checkpoint}
 use Rattle.esm_model.specs.Laws.{EveryRecordCounted, CheckpointIsLongest}
 

@@ -1,5 +1,5 @@
 -- The places of what a lane is due, and the entries that bring it.
-use Rattle.std.proofs.Common.{◌≡◌, ℕ, Bool, true, false, List, [], ◌∷◌, ◌++◌, take, drop, map, refl, sym, ap, ◌∙◌, Option, Some, None, append_assoc}
+use Rattle.std.proofs.Common.{◌≡◌, ℕ, List, [], ◌∷◌, ◌++◌, take, drop, map, refl, sym, ap, ◌∙◌, Option, Some, None, append_assoc}
 use Rattle.std.specs.Prelude.{slice_get}
 use Rattle.std.proofs.lemmas.List.{append-nil, take-append-drop}
 use Rattle.esm_model.specs.declared.entry.Fate.{Fate}
@@ -14,7 +14,7 @@ use Rattle.esm_model.specs.declared.verdict.Verdict.{Verdict}
 use Rattle.esm_model.specs.Setting.{Setting}
 use Rattle.esm_model.specs.Entries.{Call, last_moment, last_call, batch_of}
 use Rattle.esm_model.specs.Tries.{tries_of, verdict_after}
-use Rattle.esm_model.specs.Owed.{Due, Success, GiveUp, Try, Close, due, due_entry, due_success, due_give_up, due_close, due_rest, due_by_verdict, due_of_call, due_by_end, new_state, owed, IsOwed}
+use Rattle.esm_model.specs.Owed.{Due, Success, GiveUp, Try, Close, due, due_entry, due_success, due_give_up, due_close, due_rest, due_by_verdict, due_of_call, due_by_end, new_state, IsOwed}
 use Rattle.esm_model.proofs.Lists.{IsFront}
 
 -- the places that an entry gives a fate

@@ -11,7 +11,7 @@ use Rattle.esm_model.specs.declared.entry.Entry.{Entry}
 use Rattle.esm_model.specs.declared.entry.Entry.TheVariants.{Came, Began, Ended, Gave, Tried, Closed, Replayed, Shut}
 use Rattle.esm_model.specs.Setting.{Setting, FoundFate, record_at, is_in_lane, found_fate}
 use Rattle.esm_model.specs.Entries.{holds}
-use Rattle.esm_model.specs.Fates.{fate, given, names, lacks_fate, open_places}
+use Rattle.esm_model.specs.Fates.{fate, given, names, open_places}
 use Rattle.esm_model.specs.Checkpoint.{checkpoint}
 use Rattle.esm_model.specs.Step.{Legal, MayBegin}
 use Rattle.esm_model.specs.Laws.{OrderPerKey, OneFate, NoRepeat, CheckpointKept}

@@ -1,5 +1,5 @@
 -- What a legal history gives a fate, or runs, is open.
-use Rattle.std.proofs.Common.{◌≡◌, ℕ, true, false, List, [], ◌∷◌, ◌++◌, drop, sym, subst, Option, Some, None}
+use Rattle.std.proofs.Common.{◌≡◌, ℕ, true, false, List, ◌∷◌, drop, sym, subst, Option, Some, None}
 use Rattle.std.specs.Prelude.{option_map, unwrap_or}
 use Rattle.std.proofs.lemmas.Bool.{and_parts}
 use Rattle.esm_model.specs.declared.lane.LaneId.{LaneId}
@@ -11,7 +11,7 @@ use Rattle.esm_model.specs.declared.entry.Entry.TheVariants.{Gave}
 use Rattle.esm_model.specs.Setting.{Setting, record_at}
 use Rattle.esm_model.specs.Entries.{came_count, is_running, last_call, batch_of}
 use Rattle.esm_model.specs.Fates.{below, lacks_fate, open_places}
-use Rattle.esm_model.specs.Owed.{due, is_refused, is_unsorted, unsorted, IsOwed}
+use Rattle.esm_model.specs.Owed.{due, is_refused, is_unsorted, IsOwed}
 use Rattle.esm_model.specs.Step.{Legal, MayExpire}
 use Rattle.esm_model.proofs.Lists.{In, IsFront, In-filter, front_In, In-append_left}
 use Rattle.esm_model.proofs.Due.{due_places, gives_in_shard}

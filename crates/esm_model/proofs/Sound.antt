@@ -1,6 +1,6 @@
 -- What holds of each legal history: what a lane runs or is due is a front of its open records.
 use Rattle.std.proofs.Common.{◌≡◌, ℕ, ◌+◌, ◌<◌, Bool, true, false, not, cond, ◌&&◌, List, [], ◌∷◌, ◌++◌, take, drop, refl, sym, ap, ◌∙◌, subst, inl, inr, Option, Some, None, append_assoc}
-use Rattle.std.specs.Prelude.{◌==◌, filter, option_map, unwrap_or, slice_index, ⊤}
+use Rattle.std.specs.Prelude.{◌==◌, filter, option_map, unwrap_or, slice_index}
 use Rattle.std.specs.List.{prefix_len}
 use Rattle.std.proofs.lemmas.List.Elements.{filter_agree}
 use Rattle.std.proofs.lemmas.Bool.{cases_Bool, and_parts, and_from, eq-eqb, eqb-true}
@@ -21,9 +21,9 @@ use Rattle.esm_model.specs.Fates.{below, lacks_fate, open_places}
 use Rattle.esm_model.specs.Batches.{is_expired, group, same_piece}
 use Rattle.esm_model.specs.Owed.{Due, due, due_by_end, is_refused, is_unsorted, unsorted, IsOwed}
 use Rattle.esm_model.specs.Step.{Legal, MayFollow, MayBegin, MayBeginFinal, MayFilter, MayExpire}
-use Rattle.esm_model.proofs.Lists.{In, IsFront, Distinct, Distinct-filter, Distinct-below, In-filter, filter-In, In-below, below-In, front_filter, front_removed, front_front, front_In, In-take, take_front, filter_all, In-append_left, In-append_right, In-none}
+use Rattle.esm_model.proofs.Lists.{In, IsFront, Distinct, Distinct-filter, Distinct-below, In-filter, filter-In, In-below, below-In, front_filter, front_removed, front_front, front_In, take_front, filter_all, In-append_right, In-none}
 use Rattle.esm_model.proofs.Steps.{lane_from, same_lane-refl, open_gave, open_came, batch_front, span}
-use Rattle.esm_model.proofs.Due.{due_places, places_of, gave_places, end_places, IsFirstDue, first_due, gives_in_shard}
+use Rattle.esm_model.proofs.Due.{due_places, gave_places, end_places, IsFirstDue, first_due, gives_in_shard}
 
 -- what the lane runs, or is due
 abbrev pub pending : Setting → List Entry → LaneId → List ℕ

@@ -5,7 +5,7 @@ use Rattle.std.specs.List.{prefix_len}
 use Rattle.std.proofs.lemmas.List.{append-nil}
 use Rattle.std.specs.Option.{option_or}
 use Rattle.std.proofs.lemmas.List.Elements.{filter-append, filter_agree}
-use Rattle.std.proofs.lemmas.Bool.{cases_Bool, and_from, eq-eqb, eqb-true}
+use Rattle.std.proofs.lemmas.Bool.{cases_Bool, and_from, eq-eqb}
 use Rattle.esm_model.specs.Moment.{moment_after}
 use Rattle.esm_model.specs.Lane.{same_lane}
 use Rattle.esm_model.specs.declared.lane.LaneId.{LaneId}
@@ -21,7 +21,7 @@ use Rattle.esm_model.specs.Checkpoint.{checkpoint}
 use Rattle.esm_model.specs.Ruling.{is_failure}
 use Rattle.esm_model.specs.Tries.{tries, tries_sum, counts_in_call, mark, side, verdict_after}
 use Rattle.esm_model.specs.Batches.{failures, delay_end, batch, group, longest, fits, same_piece}
-use Rattle.esm_model.specs.Owed.{Due, due, due_by_end}
+use Rattle.esm_model.specs.Owed.{due, due_by_end}
 use Rattle.esm_model.specs.Step.{MayBegin}
 use Rattle.esm_model.proofs.Lists.{In, filter_both, take_while_longer, front_closed}
 

@@ -3,10 +3,10 @@
 use Rattle.std.specs.Prelude.{ℕ, ◌==◌, List, [], ◌∷◌, ◌++◌, Option, Some, None, unwrap_or, slice_index, is_some, if◌then◌else◌}
 use Rattle.esm_model.specs.Lane.{same_lane}
 use Rattle.esm_model.specs.declared.lane.LaneId.{LaneId}
-use Rattle.esm_model.specs.declared.entry.Reply.{Reply}
 use Rattle.esm_model.specs.declared.entry.Entry.{Entry}
 use Rattle.esm_model.specs.declared.entry.Entry.TheVariants.{Began, Ended}
 use Rattle.esm_model.specs.declared.event.WindowCall.{WindowCall}
+use Rattle.esm_model.specs.declared.called.Called.{Called}
 use Rattle.esm_model.specs.Setting.{Setting, records_at}
 use Rattle.esm_model.specs.Entries.{batcher}
 use Rattle.esm_model.specs.Windows.{has_windows, window_of, state_text}
@@ -42,20 +42,15 @@ abbrev pub last_event : Setting → List Entry → LaneId → List ℕ
 last_event s [] lane = []
 last_event s (e ∷ h) lane = event_after s h lane (last_event s h lane) e
 
--- a call as its caller sees it: the function's name, what the caller sends for the event, and the reply
-pub record CallMade : Type 0 where
-  pub function : List ℕ
-  pub sent : List ℕ
-  pub reply : Reply
-
-abbrev pub calls_after : Setting → (List ℕ → List ℕ) → List Entry → ℕ → List CallMade → Entry → List CallMade
+abbrev pub calls_after : Setting → (List ℕ → List ℕ) → List Entry → ℕ → List Called → Entry → List Called
 calls_after s sends h k before (Ended lane reply moment) =
     if batcher s h lane == k
-    then before ++ record { function = s.config.function; sent = sends (last_event s h lane); reply = reply } ∷ []
+    then before ++ record { name = s.config.function; event = sends (last_event s h lane); reply = reply } ∷ []
     else before
 calls_after s sends h k before _ = before
 
--- the calls of the batcher's lane that ended, oldest first
-abbrev pub calls : Setting → (List ℕ → List ℕ) → List Entry → ℕ → List CallMade
+-- the calls of the batcher's lane that ended, oldest first, as its caller logs them: `sends` gives the bytes that it
+-- sends for an event
+abbrev pub calls : Setting → (List ℕ → List ℕ) → List Entry → ℕ → List Called
 calls s sends [] k = []
 calls s sends (e ∷ h) k = calls_after s sends h k (calls s sends h k) e

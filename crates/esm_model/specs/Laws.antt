@@ -1,8 +1,6 @@
 -- What holds of every legal history (newest entry first).
 use Rattle.std.specs.Prelude.{◌≡◌, ℕ, ◌+◌, ◌<◌, ◌≤◌, Bool, true, false, IsTrue, IsSome, List, [], ◌∷◌, ◌++◌, length, take, Option, Some, None, ◌⊎◌}
 use Rattle.std.specs.List.{list_any}
-use Rattle.esm_model.specs.declared.config.Config.{Config}
-use Rattle.esm_model.specs.declared.event.WindowCall.{WindowCall}
 use Rattle.esm_model.specs.declared.item.Record.{Record}
 use Rattle.esm_model.specs.declared.lane.LaneId.{LaneId}
 use Rattle.esm_model.specs.declared.entry.Fate.{Fate}
@@ -14,7 +12,6 @@ use Rattle.esm_model.specs.Setting.{Setting, record_at, found_fate}
 use Rattle.esm_model.specs.Entries.{holds, came_count}
 use Rattle.esm_model.specs.Fates.{fate, names, fate_count, open_count}
 use Rattle.esm_model.specs.Checkpoint.{checkpoint}
-use Rattle.esm_model.specs.EventText.{event_text}
 use Rattle.esm_model.specs.Batches.{group, batch, fits}
 
 -- no batch begins before every earlier record of a key in it has its fate, or is in it too
@@ -60,10 +57,6 @@ pub record IsLongestPrefix (meets : List ℕ → Bool) (xs prefix : List ℕ) : 
   pub front : prefix ≡ take (length prefix) xs
   pub met : (prefix ≡ []) ⊎ (meets prefix ≡ true)
   pub longest : (k : ℕ) → length prefix < k → k ≤ length xs → meets (take k xs) ≡ false
-
--- an event is no shorter with one record more
-abbrev pub EventGrows : Type 0
-EventGrows = (c : Config) (records : List Record) (r : Record) (window : Option WindowCall) → length (event_text c records window) ≤ length (event_text c (records ++ r ∷ []) window)
 
 -- the batch is the longest prefix of the group that meets the four limits
 abbrev pub BatchIsLongest : Setting → List Entry → LaneId → ℕ → Type 0

@@ -5,7 +5,7 @@ ghost use Rattle.esm_model.specs.declared.lane.LaneId.{LaneId};
 ghost use Rattle.esm_model.specs.declared.entry.Entry.{Entry};
 ghost use Rattle.esm_model.specs.Setting.{Setting};
 ghost use Rattle.esm_model.specs.Step.{Legal};
-ghost use Rattle.esm_model.specs.Laws.{OrderPerKey, OneFate, NoRepeat, EveryRecordCounted, CheckpointKept, CheckpointIsLongest, EventGrows, BatchIsLongest};
+ghost use Rattle.esm_model.specs.Laws.{OrderPerKey, OneFate, NoRepeat, EveryRecordCounted, CheckpointKept, CheckpointIsLongest, BatchIsLongest};
 
 /// In a legal history no batch overtakes an earlier record of one of its keys.
 pub fn order_per_key()
@@ -37,7 +37,7 @@ pub fn checkpoint_is_longest()
     ensures { (s : Setting) (h : List Entry) (n : ℕ) → CheckpointIsLongest s h n }
 {}
 
-/// A batch is the longest prefix of its lane's group that meets the limits, since an event with more records is no shorter.
+/// A batch is the longest prefix of its lane's group that meets the four limits.
 pub fn batch_is_longest()
-    ensures { EventGrows → (s : Setting) (h : List Entry) (lane : LaneId) (m : ℕ) → BatchIsLongest s h lane m }
+    ensures { (s : Setting) (h : List Entry) (lane : LaneId) (m : ℕ) → BatchIsLongest s h lane m }
 {}

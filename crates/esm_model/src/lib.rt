@@ -4,6 +4,7 @@
 #![tactic(auto)]
 
 pub mod book;
+pub mod called;
 pub mod config;
 pub mod entry;
 pub mod event;
@@ -19,6 +20,7 @@ pub mod verdict;
 pub mod worked;
 
 pub use book::{BookError, BookOpen, CameError, Change, Job, Next, Refused, Trouble};
+pub use called::Called;
 pub use config::{Config, Kind, Start};
 pub use entry::{Entry, Fate, Reply, WindowState};
 pub use event::{Failure, Response, WindowCall};
