@@ -13,3 +13,4 @@ pub mod WorkedFacts
 pub mod Counts
 pub mod Fits
 pub mod Histories
+pub mod Owing

@@ -78,7 +78,7 @@ fate_gave s by n places f line state m h k i none =
 
 -- what is open
 
-lacks_gave : (s : Setting) (by : Option LaneId) (n : ℕ) (places : List ℕ) (f : Fate) (line : Option (List ℕ)) (state : Option WindowState) (m : ℕ) (h : List Entry) (k i : ℕ)
+pub lacks_gave : (s : Setting) (by : Option LaneId) (n : ℕ) (places : List ℕ) (f : Fate) (line : Option (List ℕ)) (state : Option WindowState) (m : ℕ) (h : List Entry) (k i : ℕ)
     → lacks_fate s (Gave by n places f line state m ∷ h) k i ≡ (lacks_fate s h k i && not ((n == k) && holds places i))
 lacks_gave s by n places f line state m h k i =
     open_at (option_map (λ (f : FoundFate). f.fate) (found_fate s k i)) (given h k i) f ((n == k) && holds places i)
