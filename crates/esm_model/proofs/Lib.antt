@@ -14,3 +14,7 @@ pub mod Counts
 pub mod Fits
 pub mod Histories
 pub mod Owing
+pub mod Lanes
+pub mod CallsMade
+pub mod Settling
+pub mod OneLane

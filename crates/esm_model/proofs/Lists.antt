@@ -1,5 +1,5 @@
 -- Lists of places, and tests on them.
-use Rattle.std.proofs.Common.{◌≡◌, ℕ, zero, suc, ◌<◌, ◌≤◌, Bool, true, false, not, ◌&&◌, List, [], ◌∷◌, ◌++◌, length, take, drop, refl, sym, ap, ◌∙◌, subst, ◌⊎◌, inl, inr, append_assoc, arith, Option, Some, None}
+use Rattle.std.proofs.Common.{◌≡◌, ℕ, zero, suc, ◌<◌, ◌≤◌, Bool, true, false, not, cond, ◌&&◌, List, [], ◌∷◌, ◌++◌, length, take, drop, refl, sym, ap, ◌∙◌, subst, ◌⊎◌, inl, inr, append_assoc, arith, Option, Some, None}
 use Rattle.std.specs.Prelude.{◌==◌, filter, take_while, is_some, is_none}
 use Rattle.std.specs.Option.{option_or}
 use Rattle.std.proofs.lemmas.List.{take-append-le, take-append-drop}
@@ -196,3 +196,16 @@ take_front k ys = (drop k ys, sym (take-append-drop k ys))
 -- the front of a front is a front
 pub front_front : (xs ys zs : List ℕ) → IsFront xs ys → IsFront ys zs → IsFront xs zs
 front_front xs ys zs a b = (a.0 ++ b.0, b.1 ∙ ap (λ ws. ws ++ b.0) a.1 ∙ append_assoc xs a.0 b.0)
+
+pub In-drop : (k : ℕ) (xs : List ℕ) (i : ℕ) → In (drop k xs) i → In xs i
+In-drop zero xs i h = h
+In-drop (suc k) [] i h = h
+In-drop (suc k) (x ∷ xs) i h = In-there x xs i (In-drop k xs i h)
+
+-- tests that agree on each member have the same front
+pub take_while_agree : (p q : ℕ → Bool) (xs : List ℕ) → ((i : ℕ) → In xs i → p i ≡ q i) → take_while p xs ≡ take_while q xs
+take_while_agree p q [] same = refl
+take_while_agree p q (x ∷ xs) same =
+    let rest : take_while p xs ≡ take_while q xs = take_while_agree p q xs (λ i m. same i (In-there x xs i m)) in
+    let here : p x ≡ q x = same x (In-here x xs x refl) in
+    take_while-cons p x xs ∙ ap (λ b. cond b (x ∷ take_while p xs) []) here ∙ ap (λ ys. cond (q x) (x ∷ ys) []) rest ∙ sym (take_while-cons q x xs)

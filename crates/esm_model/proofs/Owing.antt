@@ -107,16 +107,15 @@ owed_legal s h lane e rest legal is =
 
 -- what is settled but for one lane
 
--- a `Gave` leaves no more of them
-pub unsorted_gave : (s : Setting) (by : Option LaneId) (n : ℕ) (places : List ℕ) (f : Fate) (line : Option (List ℕ)) (state : Option WindowState) (m : ℕ) (h : List Entry) (k : ℕ)
-    → unsorted s h k ≡ [] → unsorted s (Gave by n places f line state m ∷ h) k ≡ []
-unsorted_gave s by n places f line state m h k none =
+-- a `Gave` takes its places from them
+pub unsorted_after_gave : (s : Setting) (by : Option LaneId) (n : ℕ) (places : List ℕ) (f : Fate) (line : Option (List ℕ)) (state : Option WindowState) (m : ℕ) (h : List Entry) (k : ℕ)
+    → unsorted s (Gave by n places f line state m ∷ h) k ≡ filter (λ i. not ((n == k) && holds places i)) (unsorted s h k)
+unsorted_after_gave s by n places f line state m h k =
     filter_agree (is_unsorted s (Gave by n places f line state m ∷ h) k) (λ i. is_unsorted s h k i && not ((n == k) && holds places i))
     (λ i. ap (λ b. b && unwrap_or (option_map (is_refused s) (record_at s k i)) false) (lacks_gave s by n places f line state m h k i)
     ∙ swap (lacks_fate s h k i) (not ((n == k) && holds places i)) (unwrap_or (option_map (is_refused s) (record_at s k i)) false))
     (below (came_count h k))
     ∙ filter_both (is_unsorted s h k) (λ i. not ((n == k) && holds places i)) (below (came_count h k))
-    ∙ ap (filter (λ i. not ((n == k) && holds places i))) none
   where
     swap : (a b c : Bool) → ((a && b) && c) ≡ ((a && c) && b)
     swap true true true = refl
@@ -124,6 +123,11 @@ unsorted_gave s by n places f line state m h k none =
     swap true false true = refl
     swap true false false = refl
     swap false b c = refl
+
+-- and leaves none where there were none
+pub unsorted_gave : (s : Setting) (by : Option LaneId) (n : ℕ) (places : List ℕ) (f : Fate) (line : Option (List ℕ)) (state : Option WindowState) (m : ℕ) (h : List Entry) (k : ℕ)
+    → unsorted s h k ≡ [] → unsorted s (Gave by n places f line state m ∷ h) k ≡ []
+unsorted_gave s by n places f line state m h k none = unsorted_after_gave s by n places f line state m h k ∙ ap (filter (λ i. not ((n == k) && holds places i))) none
 
 unsorted_brought : (s : Setting) (h : List Entry) (lane : LaneId) (m : ℕ) (d : Due) (n : ℕ) → unsorted s h n ≡ [] → unsorted s (due_entry s h lane m d ∷ h) n ≡ []
 unsorted_brought s h lane m (Success places state) n none = unsorted_gave s (Some lane) lane.shard places Succeeded None state m h n none

@@ -32,12 +32,16 @@ running_front s h at legal runs = let was = sound s h legal at in rw runs at was
 pub running_In : (s : Setting) (h : List Entry) (at : LaneId) → Legal s h → is_running h at ≡ true → (i : ℕ) → In (batch_of (last_call h at)) i → In (open_places s h at) i
 running_In s h at legal runs i member = front_In (batch_of (last_call h at)) (open_places s h at) i (running_front s h at legal runs) member
 
+owed_shard : (s : Setting) (h : List Entry) (at : LaneId) (n : ℕ) (places : List ℕ) (f : Fate) (line : Option (List ℕ)) (state : Option WindowState) (m : ℕ)
+    → Legal s h → IsOwed s h at (Gave (Some at) n places f line state m) → n ≡ at.shard
+owed_shard s h at n places f line state m legal owed =
+    let is = paid s h at (Gave (Some at) n places f line state m) owed (sound s h legal at) in
+    gives_in_shard s h at _ is.first.first (Some at) n places f line state m is.first.brings
+
 paid_open : (s : Setting) (h : List Entry) (at : LaneId) (n : ℕ) (places : List ℕ) (f : Fate) (line : Option (List ℕ)) (state : Option WindowState) (m : ℕ)
     → Legal s h → IsOwed s h at (Gave (Some at) n places f line state m) → (i : ℕ) → In places i → lacks_fate s h n i ≡ true
 paid_open s h at n places f line state m legal owed i member =
-    let is = paid s h at (Gave (Some at) n places f line state m) owed (sound s h legal at) in
-    let in_shard : n ≡ at.shard = gives_in_shard s h at _ is.first.first (Some at) n places f line state m is.first.brings in
-    subst (λ k. lacks_fate s h k i ≡ true) (sym in_shard) (open_In s h at i (paid_In s h at n places f line state m legal owed i member)).2
+    subst (λ k. lacks_fate s h k i ≡ true) (sym (owed_shard s h at n places f line state m legal owed)) (open_In s h at i (paid_In s h at n places f line state m legal owed i member)).2
 
 -- what expires is open, in the lane
 pub expired_In : (s : Setting) (h : List Entry) (at : LaneId) (n : ℕ) (places : List ℕ) (line : Option (List ℕ)) (state : Option WindowState) (m : ℕ)
@@ -58,3 +62,11 @@ gave_open s h (Some at) n places Succeeded line state m legal i member = paid_op
 gave_open s h (Some at) n places Expired line state m legal i member =
     subst (λ k. lacks_fate s h k i ≡ true) (sym legal.1.1.shard) (open_In s h at i (expired_In s h at n places line state m legal.1.1 i member)).2
 gave_open s h (Some at) n places Exhausted line state m legal i member = paid_open s h at n places Exhausted line state m legal.0 legal.1.1 i member
+
+-- the places of a `Gave` of a lane are open in the lane, which is of its shard
+pub gave_In : (s : Setting) (h : List Entry) (at : LaneId) (n : ℕ) (places : List ℕ) (f : Fate) (line : Option (List ℕ)) (state : Option WindowState) (m : ℕ)
+    → Legal s (Gave (Some at) n places f line state m ∷ h) → (n ≡ at.shard) × ((i : ℕ) → In places i → In (open_places s h at) i)
+gave_In s h at n places Filtered line state m legal = absurd legal.1.1
+gave_In s h at n places Succeeded line state m legal = (owed_shard s h at n places Succeeded line state m legal.0 legal.1.1, paid_In s h at n places Succeeded line state m legal.0 legal.1.1)
+gave_In s h at n places Exhausted line state m legal = (owed_shard s h at n places Exhausted line state m legal.0 legal.1.1, paid_In s h at n places Exhausted line state m legal.0 legal.1.1)
+gave_In s h at n places Expired line state m legal = (legal.1.1.shard, expired_In s h at n places line state m legal.1.1)

@@ -151,7 +151,7 @@ sound_ended s h at reply m runs sound lane =
     ]
 
 -- in a lane that has none of the places, nothing changes
-untouched : (s : Setting) (h : List Entry) (by : Option LaneId) (n : ℕ) (places : List ℕ) (f : Fate) (line : Option (List ℕ)) (state : Option WindowState) (m : ℕ) (lane : LaneId)
+pub untouched : (s : Setting) (h : List Entry) (by : Option LaneId) (n : ℕ) (places : List ℕ) (f : Fate) (line : Option (List ℕ)) (state : Option WindowState) (m : ℕ) (lane : LaneId)
     → ((i : ℕ) → n ≡ lane.shard → In places i → In (open_places s h lane) i → ⊥)
     → open_places s (Gave by n places f line state m ∷ h) lane ≡ open_places s h lane
 untouched s h by n places f line state m lane none =
@@ -175,7 +175,7 @@ fronted s h by n places f line state m lane ys zs same parts =
     ∙ front_removed places ys zs (subst Distinct parts (open_distinct s h lane))
 
 -- the places of a front of a lane's open records are in no other lane
-elsewhere : (s : Setting) (h : List Entry) (at lane : LaneId) (places : List ℕ) → same_lane at lane ≡ false → IsFront places (open_places s h at) → (i : ℕ) → at.shard ≡ lane.shard → In places i → In (open_places s h lane) i → ⊥
+pub elsewhere : (s : Setting) (h : List Entry) (at lane : LaneId) (places : List ℕ) → same_lane at lane ≡ false → IsFront places (open_places s h at) → (i : ℕ) → at.shard ≡ lane.shard → In places i → In (open_places s h lane) i → ⊥
 elsewhere s h at lane places other front i same a b =
     let there = open_In s h at i (front_In places (open_places s h at) i front a) in
     let here = open_In s h lane i b in

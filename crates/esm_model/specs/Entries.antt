@@ -1,7 +1,7 @@
 -- What the entries of a history say one by one. A history is written newest entry first, so each fact is a recursion
 -- over what one more entry does. This product's own.
 use Rattle.std.specs.Prelude.{ℕ, suc, ◌+◌, ◌*◌, ◌==◌, nat_le, nat_lt, Bool, true, false, not, ◌&&◌, List, [], ◌∷◌, ◌++◌, Option, Some, None, if◌then◌else◌}
-use Rattle.std.specs.List.{list_any, prefix_len}
+use Rattle.std.specs.List.{list_any, position_or_len}
 use Rattle.esm_model.specs.Lane.{same_lane}
 use Rattle.esm_model.specs.Setting.{Setting}
 use Rattle.esm_model.specs.declared.lane.LaneId.{LaneId}
@@ -65,7 +65,7 @@ shards_that_came (e ∷ h) = shards_after (shards_that_came h) e
 -- the number of the batcher that serves the lane: the index of its shard among those that came, times the factor,
 -- plus the lane's number
 abbrev pub batcher : Setting → List Entry → LaneId → ℕ
-batcher s h lane = prefix_len (λ n. not (n == lane.shard)) (shards_that_came h) * s.config.factor + lane.lane
+batcher s h lane = position_or_len (λ n. n == lane.shard) (shards_that_came h) * s.config.factor + lane.lane
 
 -- calls
 
