@@ -18,3 +18,4 @@ pub mod Lanes
 pub mod CallsMade
 pub mod Settling
 pub mod OneLane
+pub mod Growing

@@ -28,3 +28,5 @@ pub mod Owed
 pub mod Step
 pub mod Laws
 pub mod Worked
+pub mod Kept
+pub mod Setup

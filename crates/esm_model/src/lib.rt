@@ -9,12 +9,14 @@ pub mod config;
 pub mod entry;
 pub mod event;
 pub mod item;
+pub mod kept;
 pub mod lane;
 pub mod laws;
 pub mod memory;
 pub mod sequence;
 #[cfg(test)]
 mod tests;
+pub mod setup;
 pub mod text;
 pub mod verdict;
 pub mod worked;
@@ -25,8 +27,12 @@ pub use config::{Config, Kind, Start};
 pub use entry::{Entry, Fate, Reply, WindowState};
 pub use event::{Failure, Response, WindowCall};
 pub use item::{Message, Record};
+pub use kept::Kept;
 pub use lane::{LaneId, lane_of};
 pub use memory::OutOfMemory;
 pub use sequence::{Seq, SeqError};
+pub use setup::{
+    DeletionFound, DiskFound, FateFound, Setup, StateFound, Told, TriesFound, WindowTriesFound,
+};
 pub use text::{Bytes, Places, Text, Texts};
 pub use verdict::{Answer, QueueReading, Reading, Rest, StateRead, Verdict};

@@ -1,0 +1,44 @@
+-- Histories that several authors write: which entries are whose, and which histories are legal. This product's own.
+-- The oldest entry stands first.
+use Rattle.std.specs.Prelude.{◌≡◌, ℕ, ◌==◌, if◌then◌else◌, Bool, List, [], ◌∷◌, ◌++◌, length, drop}
+use Rattle.esm_model.specs.declared.setup.Told.{Told}
+use Rattle.esm_model.specs.declared.setup.Setup.{Setup}
+
+-- the meanings of a type whose values have a history
+pub record Meaning (T : Type 0) : Type 1 where
+  pub setup : T → Setup
+  pub history : T → List Told
+  pub mark : T → Bool
+  pub author : Setup → List Told → Told → ℕ
+  pub may_follow : Setup → List Told → Told → Type 0
+
+abbrev pub meaning : {T : Type 0} → (T → Setup) → (T → List Told) → (T → Bool) → (Setup → List Told → Told → ℕ) → (Setup → List Told → Told → Type 0) → Meaning T
+meaning setup history mark author may_follow = record { setup = setup; history = history; mark = mark; author = author; may_follow = may_follow }
+
+-- of the entries es, which come after the history h, those of the author n
+abbrev pub entries_after : (List Told → Told → ℕ) → ℕ → List Told → List Told → List Told
+entries_after author n h [] = []
+entries_after author n h (e ∷ es) =
+    if author h e == n then e ∷ entries_after author n (h ++ e ∷ []) es else entries_after author n (h ++ e ∷ []) es
+
+-- the entries of the author n
+abbrev pub entries_of : (List Told → Told → ℕ) → ℕ → List Told → List Told
+entries_of author n h = entries_after author n [] h
+
+-- each of the entries es may follow what stands before it, which begins with h
+abbrev pub MayFollowAll : (List Told → Told → Type 0) → List Told → List Told → Type 0
+MayFollowAll may h [] = Unit {0}
+MayFollowAll may h (e ∷ es) = may h e × MayFollowAll may (h ++ e ∷ []) es
+
+-- each entry may follow those before it
+abbrev pub IsLegal : (List Told → Told → Type 0) → List Told → Type 0
+IsLegal may h = MayFollowAll may [] h
+
+-- each of the entries es, which come after the history h, is one of the author n
+abbrev pub AllBy : (List Told → Told → ℕ) → ℕ → List Told → List Told → Type 0
+AllBy author n h [] = Unit {0}
+AllBy author n h (e ∷ es) = (author h e ≡ n) × AllBy author n (h ++ e ∷ []) es
+
+-- what the history has beyond its beginning, which is as long as the one that was seen
+abbrev pub added : List Told → List Told → List Told
+added seen h = drop (length seen) h

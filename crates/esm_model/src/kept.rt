@@ -1,0 +1,31 @@
+ghost use Rattle.std.specs.Prelude.{◌≡◌, ℕ, ◌<◌, ◌^◌, Bool, List, length};
+ghost use Rattle.esm_model.specs.declared.setup.Setup.{Setup};
+ghost use Rattle.esm_model.specs.declared.setup.Told.{Told};
+
+/// A value with a history of entries, which threads hand on to one another: a book.
+///
+/// A history is a list of entries, the oldest first. Each entry has an author: the number of the seat that added it.
+pub trait Kept {
+    // what the value was opened with
+    ghost setup: { Self → Setup };
+
+    ghost history: { Self → List Told };
+
+    // whether the value is down: no call of it does any more work
+    ghost mark: { Self → Bool };
+
+    // the author of an entry that comes after this history
+    ghost author: { Setup → List Told → Told → ℕ };
+
+    // the entry may come next after this history
+    ghost may_follow: { Setup → List Told → Told → Type 0 };
+
+    /// The number of entries of the history. Takes no memory.
+    fn entries(&self) -> u64
+        ensures same { result ≡ length (history self.now) }
+        ensures few { result < 2 ^ 62 };
+
+    /// Whether the value is down. Takes no memory.
+    fn marked(&self) -> bool
+        ensures { result ≡ mark self.now };
+}

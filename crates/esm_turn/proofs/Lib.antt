@@ -1,0 +1,3 @@
+mod PartLemmas
+mod Steps
+mod Closing

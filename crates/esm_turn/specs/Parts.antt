@@ -1,0 +1,45 @@
+-- What seats know, part by part. A seat has one part; while the seats are dealt, the first has the parts of all that
+-- have none yet, and while they are gathered, the last has the parts of all that have come. This product's own.
+use Rattle.std.specs.Prelude.{◌≡◌, ℕ, zero, suc, ◌==◌, ◌⊎◌, if◌then◌else◌, false, List, [], ◌∷◌}
+use Rattle.esm_model.specs.declared.setup.Setup.{Setup}
+use Rattle.esm_model.specs.Setup.{no_setup}
+use Rattle.esm_turn.specs.declared.part.Part.{Part}
+
+-- the part of the seat n, which has seen nothing
+abbrev pub blank_part : Setup → ℕ → Part
+blank_part setup n = record { setup = setup; number = n; seen = []; mine = []; mark = false; holds = false }
+
+-- those of so many seats, from the seat n on
+abbrev pub blank_parts : Setup → ℕ → ℕ → List Part
+blank_parts setup n zero = []
+blank_parts setup n (suc count) = blank_part setup n ∷ blank_parts setup (suc n) count
+
+-- the parts that are not of the seat n
+abbrev pub parts_but : ℕ → List Part → List Part
+parts_but n [] = []
+parts_but n (p ∷ ps) = if p.number == n then parts_but n ps else p ∷ parts_but n ps
+
+-- the parts that are not of the first part's seat
+abbrev pub but_first : List Part → List Part
+but_first [] = []
+but_first (p ∷ ps) = parts_but p.number ps
+
+-- the first part alone
+abbrev pub first_of_parts : List Part → List Part
+first_of_parts [] = []
+first_of_parts (p ∷ ps) = p ∷ []
+
+-- the part of a seat, which has one
+abbrev pub first_part : List Part → Part
+first_part [] = blank_part no_setup 0
+first_part (p ∷ ps) = p
+
+-- P holds of each part
+abbrev pub Each : (Part → Type 0) → List Part → Type 0
+Each P [] = Unit {0}
+Each P (p ∷ ps) = P p × Each P ps
+
+-- p is one of these parts
+abbrev pub Within : Part → List Part → Type 0
+Within p [] = ⊥
+Within p (q ∷ qs) = (p ≡ q) ⊎ Within p qs

@@ -1,0 +1,62 @@
+-- What contracts see of a turn and of its seats. This product's own.
+use Rattle.std.specs.Prelude.{◌≡◌, ℕ, ◌<◌, if◌then◌else◌, Bool, false, List, [], ◌∷◌, length, Option, None, slice_index_or}
+use Rattle.atomic_table.specs.Seated.{TableId}
+use Rattle.atomic_table.specs.Table.{Me}
+use Rattle.esm_model.specs.declared.setup.Setup.{Setup}
+use Rattle.esm_model.specs.declared.setup.Told.{Told}
+use Rattle.esm_turn.specs.declared.part.Part.{Part}
+use Rattle.esm_turn.specs.Parts.{blank_part}
+
+-- which turn it is, the setup of the value, and the number of seats
+pub record TurnView : Type 0 where
+  pub at : TableId
+  pub setup : Setup
+  pub seats : ℕ
+
+-- which turn the seat is of, and what it knows
+pub record SeatView : Type 0 where
+  pub at : TableId
+  pub setup : Setup
+  pub number : ℕ
+  pub seen : List Told
+  pub mine : List Told
+  pub mark : Bool
+  pub holds : Bool
+
+abbrev pub turn_view : TableId → Setup → ℕ → TurnView
+turn_view at setup seats = record { at = at; setup = setup; seats = seats }
+
+abbrev pub seat_view : TableId → Part → SeatView
+seat_view at p = record { at = at; setup = p.setup; number = p.number; seen = p.seen; mine = p.mine; mark = p.mark; holds = p.holds }
+
+abbrev pub part_of : SeatView → Part
+part_of s = record { setup = s.setup; number = s.number; seen = s.seen; mine = s.mine; mark = s.mark; holds = s.holds }
+
+-- the slot that the seat has is empty, since its caller has the value
+abbrev pub slot_in_hand : {T : Type 0} → Bool → List (ℕ × Option T)
+slot_in_hand holds = if holds then (0, None) ∷ [] else []
+
+-- a seat has one part, and the slot where it holds the value
+abbrev pub IsSeat : {T : Type 0} → Part → Me (Option T) (List Part) → Type 0
+IsSeat p me = me ≡ (p ∷ [], slot_in_hand p.holds)
+
+-- the seat k of the turn, which does not have the value
+pub record IsFreeSeat (t : TurnView) (k : ℕ) (s : SeatView) : Type 0 where
+  pub at_is : s.at ≡ t.at
+  pub setup_is : s.setup ≡ t.setup
+  pub number_is : s.number ≡ k
+  pub free : s.holds ≡ false
+
+-- these are all seats of the turn, in the order of their numbers, and none has the value
+pub record AreAllSeats (t : TurnView) (seats : List SeatView) : Type 0 where
+  pub count : length seats ≡ t.seats
+  pub each : (k : ℕ) (d : SeatView) → k < length seats → IsFreeSeat t k (slice_index_or seats k d)
+
+-- the seat k, which has seen nothing
+abbrev pub fresh_seat : TurnView → ℕ → SeatView
+fresh_seat t k = seat_view t.at (blank_part t.setup k)
+
+-- these are all seats of the turn, as it was made
+pub record AreFresh (t : TurnView) (seats : List SeatView) : Type 0 where
+  pub count : length seats ≡ t.seats
+  pub each : (k : ℕ) (d : SeatView) → k < length seats → slice_index_or seats k d ≡ fresh_seat t k

@@ -1,0 +1,23 @@
+use esm_model::{Setup, Told};
+use std::collections::LinkedList;
+use std::snapshot::Snapshot;
+
+/// What one seat knows. Only contracts speak of it: no value is made.
+pub struct Part {
+    pub setup: Setup,
+    pub number: u64,
+    /// The longest history that the seat has found or given back.
+    pub seen: LinkedList<Told>,
+    /// The entries that it added itself, in order.
+    pub mine: LinkedList<Told>,
+    /// Whether it has seen the mark true.
+    pub mark: bool,
+    /// Whether it has the value out.
+    pub holds: bool,
+}
+
+/// What a turn is told when it is made: the value, of which no copy is taken, and the number of seats.
+pub struct Terms<T> {
+    pub made: Snapshot<T>,
+    pub seats: u64,
+}

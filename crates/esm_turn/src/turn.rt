@@ -1,0 +1,248 @@
+ghost use Rattle.std.specs.Prelude.{◌≡◌, ℕ, true, false, [], ◌++◌, ◌<◌, ◌≤◌, length, IfSome, IfNone, IfOk, IfErr, vec_len, vec_capacity};
+ghost use Rattle.std.specs.List.{All};
+ghost use mathlib.Core.List.{IsPrefix};
+ghost use Rattle.esm_model.specs.Kept.{meaning, entries_of, IsLegal, MayFollowAll, AllBy, added};
+ghost use Rattle.esm_turn.specs.Parts.{blank_parts, Each, Within};
+ghost use Rattle.esm_turn.specs.Rule.{IsTaken};
+ghost use Rattle.esm_turn.specs.Seats.{AreAllSeats, AreFresh, turn_view, part_of};
+
+use crate::part::{Part, Terms};
+use crate::rule::{Deals, Gathers, Gives, Rule, Takes};
+use atomic_table::{Shared, Table};
+use crossbeam_utils::Backoff;
+use esm_model::{Kept, OutOfMemory, Refused};
+use std::alloc::Global;
+use std::collections::LinkedList;
+use std::marker::Model;
+use std::snapshot::Snapshot;
+use std::sync::Wait;
+
+/// A value that one seat at a time has out.
+///
+/// Whenever the value is at home it has the setup that it was made with, its history is legal and begins with what each
+/// seat has seen, and the entries of each author are those that this author's seat added.
+/// Contracts see which turn it is, the setup and the number of seats.
+pub struct Turn<T: Kept> {
+    table: Table<Option<T>, LinkedList<Part>, Terms<T>, Rule<T>, Global>,
+}
+
+impl<T: Kept> Model for Turn<T> {
+    ghost use Rattle.std.specs.Prelude.{◌≡◌, ◌<◌};
+    ghost use Rattle.esm_turn.specs.Seats.{TurnView, turn_view};
+
+    ghost Value = { TurnView };
+
+    ghost view = { λ t. turn_view t.table.shared.table_id (T.setup t.table.shared.key.made.value) t.table.shared.key.seats };
+
+    ghost invariant = { λ t. (t.table.shared.table_id.words ≡ 1) × (t.table.shared.table_id.slots ≡ 1) × (0 < t.table.shared.key.seats) };
+}
+
+/// A thread's place at a turn. It takes no bytes.
+///
+/// Contracts see the turn that it is of, its number, what it has seen, its own entries, whether it has seen the mark true,
+/// and whether it has the value out. It can't be dropped, so a turn is closed with all its seats.
+pub struct Seat<T> {
+    inner: atomic_table::Seat<Option<T>, LinkedList<Part>>,
+}
+
+impl<T> Model for Seat<T> {
+    ghost use Rattle.std.specs.Prelude.{◌≡◌};
+    ghost use Rattle.esm_turn.specs.Parts.{first_part};
+    ghost use Rattle.esm_turn.specs.Seats.{SeatView, seat_view, IsSeat};
+
+    ghost Value = { SeatView };
+
+    ghost view = { λ s. seat_view s.inner.table_id (first_part s.inner.me.0) };
+
+    ghost invariant = { λ s. IsSeat (first_part s.inner.me.0) s.inner.me };
+}
+
+/// The value while it is out. It can't be dropped, so it goes back by `give` alone.
+pub struct Held<T> {
+    pub value: T,
+}
+
+type Board<T> = Shared<Option<T>, LinkedList<Part>, Terms<T>, Rule<T>>;
+
+type Place<T> = atomic_table::Seat<Option<T>, LinkedList<Part>>;
+
+// Deals a part to each of the seats; the one that had all parts has none in the end.
+fn seat_all<T: Kept>(shared: &Board<T>, mut first: Place<T>, all: &mut Vec<Seat<T>>, seats: u32)
+    requires at { (first.table_id ≡ shared.now.table_id) × (shared.now.table_id.words ≡ 1) }
+    requires first { first.me ≡ (blank_parts (T.setup shared.now.key.made.value) 0 seats, []) }
+    requires key { shared.now.key.seats ≡ seats }
+    requires room { (vec_len all.old ≡ 0) × (seats ≤ vec_capacity all.old) }
+    ensures { AreFresh (turn_view shared.now.table_id (T.setup shared.now.key.made.value) seats) all.new.items }
+{
+    for _i in 0..seats {
+        let inner = shared.split_seat::<Deals>(&mut first);
+        all.push_reserved(Seat { inner });
+    }
+}
+
+// Gathers the parts of all seats in the last one.
+fn join_all<T: Kept>(shared: &Board<T>, mut seats: Vec<Seat<T>>) -> Place<T>
+    requires at { shared.now.table_id.words ≡ 1 }
+    requires some { 0 < length seats.items }
+    requires here { All (λ s. s.at ≡ shared.now.table_id) seats.items }
+    requires free { All (λ s. s.holds ≡ false) seats.items }
+    ensures at { (result.table_id ≡ shared.now.table_id) × (result.me.1 ≡ []) }
+    ensures free { Each (λ p. p.holds ≡ false) result.me.0 }
+    ensures all { All (λ s. Within (part_of s) result.me.0) seats.items }
+{
+    let Seat { inner: mut all } = seats.pop().unwrap();
+    while let Some(seat) = seats.pop() {
+        let Seat { inner } = seat;
+        shared.join_seat::<Gathers>(&mut all, inner);
+    }
+    seats.destroy_empty();
+    all
+}
+
+impl<T: Kept> Turn<T> {
+    /// A turn with this value at home, and its seats: the seat at index `s` has the number `s`.
+    /// For want of memory the value comes back.
+    pub fn new(
+        alloc: Global,
+        value: T,
+        seats: u32,
+    ) -> Result<(Turn<T>, Vec<Seat<T>>), Refused<OutOfMemory, T>>
+        requires seats { (0 < seats) × (seats ≤ 65) }
+        requires empty { T.history value ≡ [] }
+        ensures setup { IfOk result (λ r. r.0.setup ≡ T.setup value) }
+        ensures count { IfOk result (λ r. r.0.seats ≡ seats) }
+        ensures seats { IfOk result (λ r. AreFresh r.0 r.1.items) }
+        ensures refused { IfErr result (λ r. r.back ≡ value) }
+    {
+        let word = if value.marked() { 2 } else { 0 };
+        let Ok(mut all) = Vec::with_capacity(alloc, seats as usize) else {
+            return Err(Refused {
+                why: OutOfMemory,
+                back: value,
+            });
+        };
+        let Ok(mut slots) = Vec::with_capacity(alloc, 1) else {
+            all.destroy_empty();
+            return Err(Refused {
+                why: OutOfMemory,
+                back: value,
+            });
+        };
+        let terms = Terms {
+            made: Snapshot::of(&value),
+            seats: seats as u64,
+        };
+        slots.push_reserved(Some(value));
+        let made = Table::new(alloc, &[word], slots, &terms);
+        let Terms { made: _, seats: _ } = terms;
+        match made {
+            Ok((table, first)) => {
+                seat_all(&table.shared, first, &mut all, seats);
+                Ok((Turn { table }, all))
+            }
+            Err(atomic_table::Refused { mut slots }) => {
+                let back = slots.pop().unwrap().unwrap();
+                slots.destroy_empty();
+                all.destroy_empty();
+                Err(Refused {
+                    why: OutOfMemory,
+                    back,
+                })
+            }
+        }
+    }
+
+    // Takes the value where it is at home.
+    fn try_take(&self, seat: &mut Seat<T>) -> Option<Held<T>>
+        requires at { seat.old.at ≡ self.now.at }
+        requires free { seat.old.holds ≡ false }
+        ensures taken { IfSome result (λ h. IsTaken (meaning T.setup T.history T.mark T.author T.may_follow) (part_of seat.old) h.value) }
+        ensures seat { IfSome result (λ h. seat.new ≡ record seat.old { seen = T.history h.value; mark = T.mark h.value; holds = true }) }
+        ensures none { IfNone result (seat.new ≡ seat.old) }
+    {
+        let shared = &self.table.shared;
+        let word = shared.peek(0);
+        if word % 2 == 1 {
+            return None;
+        }
+        let found = shared.compare_exchange::<Takes<T>>(&mut seat.inner, 0, word, word + 1);
+        if found != word {
+            return None;
+        }
+        let value = shared.exchange(&mut seat.inner, 0, None).unwrap();
+        Some(Held { value })
+    }
+
+    // Sleeps until a `give` where the value is out; else returns at once.
+    fn sleep<R: Wait>(&self, rt: &R) {
+        let shared = &self.table.shared;
+        let word = shared.peek(0);
+        if word % 2 == 1 {
+            shared.park(rt, 0, (word % 4294967296) as u32);
+        }
+    }
+
+    /// Takes the value out for this seat, and waits while another seat has it: it backs off, then sleeps until a `give`
+    /// wakes it, so that many waiting seats cost no processor.
+    pub fn take<R: Wait>(&self, rt: &R, seat: &mut Seat<T>) -> Held<T>
+        requires at { seat.old.at ≡ self.now.at }
+        requires free { seat.old.holds ≡ false }
+        ensures setup { T.setup result.value ≡ seat.old.setup }
+        ensures legal { IsLegal (T.may_follow seat.old.setup) (T.history result.value) }
+        ensures begins { IsPrefix seat.old.seen (T.history result.value) }
+        ensures mine { entries_of (T.author seat.old.setup) seat.old.number (T.history result.value) ≡ seat.old.mine }
+        ensures marked { seat.old.mark ≡ true → T.mark result.value ≡ true }
+        ensures seat { seat.new ≡ record seat.old { seen = T.history result.value; mark = T.mark result.value; holds = true } }
+    {
+        let backoff = Backoff::new();
+        for _ in rt.forever() {
+            if let Some(held) = self.try_take(seat) {
+                return held;
+            }
+            if backoff.is_completed() {
+                self.sleep(rt);
+            } else {
+                backoff.snooze();
+            }
+        }
+        unreachable!()
+    }
+
+    /// Gives the value back, and wakes one seat that sleeps. It takes no memory.
+    pub fn give(&self, seat: &mut Seat<T>, held: Held<T>)
+        requires at { seat.old.at ≡ self.now.at }
+        requires holds { seat.old.holds ≡ true }
+        requires setup { T.setup held.value ≡ seat.old.setup }
+        requires goes_on { T.history held.value ≡ seat.old.seen ++ added seat.old.seen (T.history held.value) }
+        requires legal { MayFollowAll (T.may_follow seat.old.setup) seat.old.seen (added seat.old.seen (T.history held.value)) }
+        requires own { AllBy (T.author seat.old.setup) seat.old.number seat.old.seen (added seat.old.seen (T.history held.value)) }
+        requires marked { seat.old.mark ≡ true → T.mark held.value ≡ true }
+        ensures { seat.new ≡ record seat.old { seen = T.history held.value; mine = seat.old.mine ++ added seat.old.seen (T.history held.value); mark = T.mark held.value; holds = false } }
+    {
+        let Held { value } = held;
+        let word = value.entries() * 4 + if value.marked() { 2 } else { 0 };
+        let shared = &self.table.shared;
+        let empty = shared.exchange(&mut seat.inner, 0, Some(value));
+        let None = empty else { unreachable!() };
+        shared.store::<Gives<T>>(&mut seat.inner, 0, word);
+        shared.wake_one(0);
+    }
+
+    /// The value at the end. It takes no memory.
+    pub fn close(self, seats: Vec<Seat<T>>) -> T
+        requires all { AreAllSeats self seats.items }
+        ensures setup { T.setup result ≡ self.setup }
+        ensures legal { IsLegal (T.may_follow self.setup) (T.history result) }
+        ensures begins { All (λ s. IsPrefix s.seen (T.history result)) seats.items }
+        ensures mine { All (λ s. entries_of (T.author self.setup) s.number (T.history result) ≡ s.mine) seats.items }
+        ensures others { (n : ℕ) → self.seats ≤ n → entries_of (T.author self.setup) n (T.history result) ≡ [] }
+        ensures marked { All (λ s. s.mark ≡ true → T.mark result ≡ true) seats.items }
+    {
+        let Turn { table } = self;
+        let all = join_all(&table.shared, seats);
+        let mut closed = table.close_with(all);
+        let value = closed.take(0).unwrap();
+        closed.free();
+        value
+    }
+}
