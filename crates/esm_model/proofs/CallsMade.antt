@@ -1,7 +1,7 @@
 -- The calls of a batcher stay when the history goes on, and so does the number of a lane's batcher.
-use Rattle.std.proofs.Common.{◌≡◌, ℕ, suc, ◌+◌, ◌*◌, ◌≤◌, Bool, true, false, not, cond, List, [], ◌∷◌, ◌++◌, refl, sym, ap, ◌∙◌, subst, inl, inr, arith, append_assoc}
+use Rattle.std.proofs.Common.{◌≡◌, ℕ, ◌+◌, ◌*◌, ◌≤◌, Bool, true, false, not, cond, List, [], ◌∷◌, ◌++◌, refl, sym, ap, ◌∙◌, subst, inl, inr, arith, append_assoc}
 use Rattle.std.specs.Prelude.{◌==◌}
-use Rattle.std.specs.List.{list_any, prefix_len}
+use Rattle.std.specs.List.{prefix_len}
 use Rattle.std.proofs.lemmas.List.{append-nil}
 use Rattle.std.proofs.lemmas.Bool.{cases_Bool, eqb-true}
 use Rattle.esm_model.specs.declared.lane.LaneId.{LaneId}
@@ -9,14 +9,15 @@ use Rattle.esm_model.specs.declared.entry.Entry.{Entry}
 use Rattle.esm_model.specs.declared.entry.Entry.TheVariants.{Came, Began, Ended, Gave, Tried, Closed, Replayed, Shut}
 use Rattle.esm_model.specs.Setting.{Setting}
 use Rattle.esm_model.specs.Entries.{holds, came_count, shards_that_came, batcher}
-use Rattle.esm_model.specs.Calls.{CallMade, calls, last_event}
-use Rattle.esm_model.proofs.Lists.{In, In-cases, In-append_left, In-append_right, In-here}
+use Rattle.esm_model.specs.Calls.{calls, last_event}
+use Rattle.esm_model.specs.declared.called.Called.{Called}
+use Rattle.esm_model.proofs.Lists.{In, In-append_left, In-append_right, In-here}
 
 -- one more entry adds at most one call
-calls_more : (s : Setting) (sends : List ℕ → List ℕ) (e : Entry) (h : List Entry) (k : ℕ) → (rest : List CallMade) × (calls s sends (e ∷ h) k ≡ calls s sends h k ++ rest)
+calls_more : (s : Setting) (sends : List ℕ → List ℕ) (e : Entry) (h : List Entry) (k : ℕ) → (rest : List Called) × (calls s sends (e ∷ h) k ≡ calls s sends h k ++ rest)
 calls_more s sends (Ended lane reply m) h k =
     elim (cases_Bool (batcher s h lane == k)) [
-      | inl same ↦ (record { function = s.config.function; sent = sends (last_event s h lane); reply = reply } ∷ [], rw same)
+      | inl same ↦ (record { name = s.config.function; event = sends (last_event s h lane); reply = reply } ∷ [], rw same)
       | inr other ↦ ([], rw other (sym (append-nil (calls s sends h k))))
     ]
 calls_more s sends (Came n first count m) h k = ([], sym (append-nil (calls s sends h k)))
@@ -28,7 +29,7 @@ calls_more s sends (Replayed n places m) h k = ([], sym (append-nil (calls s sen
 calls_more s sends (Shut m) h k = ([], sym (append-nil (calls s sends h k)))
 
 -- the calls of a history begin those of each history that goes on from it
-pub calls_kept : (s : Setting) (sends : List ℕ → List ℕ) (later before : List Entry) (k : ℕ) → (rest : List CallMade) × (calls s sends (later ++ before) k ≡ calls s sends before k ++ rest)
+pub calls_kept : (s : Setting) (sends : List ℕ → List ℕ) (later before : List Entry) (k : ℕ) → (rest : List Called) × (calls s sends (later ++ before) k ≡ calls s sends before k ++ rest)
 calls_kept s sends [] before k = ([], sym (append-nil (calls s sends before k)))
 calls_kept s sends (e ∷ later) before k =
     let so_far = calls_kept s sends later before k in

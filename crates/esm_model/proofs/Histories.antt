@@ -11,7 +11,7 @@ use Rattle.esm_model.specs.declared.entry.Entry.{Entry}
 use Rattle.esm_model.specs.declared.entry.Entry.TheVariants.{Came, Began, Ended, Gave, Tried, Closed, Replayed, Shut}
 use Rattle.esm_model.specs.Setting.{Setting, FoundFate, record_at, is_in_lane, found_fate}
 use Rattle.esm_model.specs.Entries.{holds}
-use Rattle.esm_model.specs.Fates.{fate, given, names, open_places}
+use Rattle.esm_model.specs.Fates.{fate, given, names_place, open_places}
 use Rattle.esm_model.specs.Checkpoint.{checkpoint}
 use Rattle.esm_model.specs.Step.{Legal, MayBegin}
 use Rattle.esm_model.specs.Laws.{OrderPerKey, OneFate, NoRepeat, CheckpointKept}
@@ -82,11 +82,11 @@ not_named_at (Some x) f t is = cc
 or_none : (a b : Bool) → a ≡ false → b ≡ false → (a || b) ≡ false
 or_none a b first second = rw (first, second)
 
-not_named : (h : List Entry) (n i : ℕ) → is_none (given h n i) ≡ true → list_any (names n i) h ≡ false
+not_named : (h : List Entry) (n i : ℕ) → is_none (given h n i) ≡ true → list_any (names_place n i) h ≡ false
 not_named [] n i none = refl
 not_named (Gave by shard places f line state m ∷ h) n i none =
     let parts = not_named_at (given h n i) f ((shard == n) && holds places i) none in
-    or_none ((shard == n) && holds places i) (list_any (names n i) h) parts.0 (not_named h n i parts.1)
+    or_none ((shard == n) && holds places i) (list_any (names_place n i) h) parts.0 (not_named h n i parts.1)
 not_named (Came shard first count m ∷ h) n i none = not_named h n i none
 not_named (Began lane places closing m ∷ h) n i none = not_named h n i none
 not_named (Ended lane reply m ∷ h) n i none = not_named h n i none

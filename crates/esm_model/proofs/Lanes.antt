@@ -1,8 +1,7 @@
 -- An entry of one lane changes nothing of another lane.
-use Rattle.std.proofs.Common.{◌≡◌, ℕ, Bool, true, false, cond, ◌&&◌, List, [], ◌∷◌, drop, refl, sym, ap, ◌∙◌, subst, inl, inr, Option, Some, None}
-use Rattle.std.specs.Prelude.{◌==◌, option_map, slice_index, take_while, ⊤}
-use Rattle.std.specs.Option.{option_or}
-use Rattle.std.proofs.lemmas.Bool.{cases_Bool, eq-eqb, eqb-true, false_from_ne_true}
+use Rattle.std.proofs.Common.{◌≡◌, ℕ, Bool, true, false, ◌&&◌, List, [], ◌∷◌, drop, refl, sym, ap, ◌∙◌, subst, inl, inr, Option, Some, None}
+use Rattle.std.specs.Prelude.{◌==◌}
+use Rattle.std.proofs.lemmas.Bool.{cases_Bool, eqb-true}
 use Rattle.esm_model.specs.Lane.{same_lane}
 use Rattle.esm_model.specs.Ruling.{is_counted}
 use Rattle.esm_model.specs.declared.lane.LaneId.{LaneId}
@@ -10,21 +9,20 @@ use Rattle.esm_model.specs.declared.verdict.Rest.{Rest}
 use Rattle.esm_model.specs.declared.verdict.Rest.TheVariants as rest
 use Rattle.esm_model.specs.declared.verdict.Verdict.{Verdict}
 use Rattle.esm_model.specs.declared.entry.Fate.{Fate}
-use Rattle.esm_model.specs.declared.entry.Fate.TheVariants.{Succeeded, Filtered, Expired, Exhausted}
 use Rattle.esm_model.specs.declared.entry.Reply.{Reply}
 use Rattle.esm_model.specs.declared.entry.WindowState.{WindowState}
 use Rattle.esm_model.specs.declared.entry.Entry.{Entry}
 use Rattle.esm_model.specs.declared.entry.Entry.TheVariants.{Came, Began, Ended, Gave, Tried, Closed, Replayed, Shut}
 use Rattle.esm_model.specs.Setting.{Setting, is_in_lane}
-use Rattle.esm_model.specs.Entries.{Call, holds, came_count, is_running, last_call, batch_of}
+use Rattle.esm_model.specs.Entries.{Call, holds, is_running, last_call, batch_of}
 use Rattle.esm_model.specs.Fates.{open_places}
 use Rattle.esm_model.specs.Tries.{tries, tries_sum, counts, counts_in_call, call_verdict, mark, side, verdict_after, same_mark}
 use Rattle.esm_model.specs.Batches.{same_piece, group_of, group, failures, last_end}
-use Rattle.esm_model.specs.Owed.{due, IsOwed}
-use Rattle.esm_model.specs.Step.{Legal, MayFollow, MayExpire}
-use Rattle.esm_model.proofs.Lists.{In, In-drop, In-here, IsFront, not_in, apart, take_while_agree, front_In}
+use Rattle.esm_model.specs.Owed.{due}
+use Rattle.esm_model.specs.Step.{Legal}
+use Rattle.esm_model.proofs.Lists.{In, In-drop, In-here, not_in, apart, take_while_agree}
 use Rattle.esm_model.proofs.Steps.{same_lane-refl}
-use Rattle.esm_model.proofs.Sound.{one_lane, open_In, untouched, elsewhere, expired_front}
+use Rattle.esm_model.proofs.Sound.{one_lane, open_In, untouched}
 use Rattle.esm_model.proofs.Paid.{running_In, gave_In}
 
 -- the entry is one of another lane than this
@@ -131,21 +129,16 @@ other_untouched s h (Shut m) lane legal other = absurd other
 
 -- and so its group stays
 
-piece_same : (s : Setting) (h : List Entry) (e : Entry) (n i j : ℕ)
-    → mark s (e ∷ h) n i ≡ mark s h n i → mark s (e ∷ h) n j ≡ mark s h n j → tries s (e ∷ h) n i ≡ tries s h n i → tries s (e ∷ h) n j ≡ tries s h n j
-    → same_piece s (e ∷ h) n i j ≡ same_piece s h n i j
-piece_same s h e n i j mi mj ti tj =
-    ap (λ x. same_mark x (mark s (e ∷ h) n j) && (tries s (e ∷ h) n i == tries s (e ∷ h) n j)) mi
-    ∙ ap (λ x. same_mark (mark s h n i) x && (tries s (e ∷ h) n i == tries s (e ∷ h) n j)) mj
-    ∙ ap (λ x. same_mark (mark s h n i) (mark s h n j) && (x == tries s (e ∷ h) n j)) ti
-    ∙ ap (λ x. same_mark (mark s h n i) (mark s h n j) && (tries s h n i == x)) tj
+pub piece_agree : (mi ni mj nj : Option (ℕ × ℕ)) (ti ui tj uj : ℕ) → mi ≡ ni → mj ≡ nj → ti ≡ ui → tj ≡ uj → (same_mark mi mj && (ti == tj)) ≡ (same_mark ni nj && (ui == uj))
+piece_agree mi ni mj nj ti ui tj uj a b c d =
+    ap (λ x. same_mark x mj && (ti == tj)) a ∙ ap (λ x. same_mark ni x && (ti == tj)) b ∙ ap (λ x. same_mark ni nj && (x == tj)) c ∙ ap (λ x. same_mark ni nj && (ui == x)) d
 
 group_at : (s : Setting) (h : List Entry) (e : Entry) (lane : LaneId) → IsUntouched s h e lane → (xs : List ℕ) → ((i : ℕ) → In xs i → is_in_lane s lane i ≡ true) → group_of s (e ∷ h) lane.shard xs ≡ group_of s h lane.shard xs
 group_at s h e lane is [] here = refl
 group_at s h e lane is (x ∷ xs) here =
     take_while_agree (same_piece s (e ∷ h) lane.shard x) (same_piece s h lane.shard x) (x ∷ xs) (λ i member.
-        let first = here x (In-here x xs x refl) in
-        piece_same s h e lane.shard x i (is.marks x first) (is.marks i (here i member)) (is.tries x first) (is.tries i (here i member)))
+    let first = here x (In-here x xs x refl) in
+    piece_agree (mark s (e ∷ h) lane.shard x) (mark s h lane.shard x) (mark s (e ∷ h) lane.shard i) (mark s h lane.shard i) (tries s (e ∷ h) lane.shard x) (tries s h lane.shard x) (tries s (e ∷ h) lane.shard i) (tries s h lane.shard i) (is.marks x first) (is.marks i (here i member)) (is.tries x first) (is.tries i (here i member)))
 
 pub group_untouched : (s : Setting) (h : List Entry) (e : Entry) (lane : LaneId) → IsUntouched s h e lane → group s (e ∷ h) lane ≡ group s h lane
 group_untouched s h e lane is =

@@ -19,3 +19,5 @@ pub mod CallsMade
 pub mod Settling
 pub mod OneLane
 pub mod Growing
+pub mod Records
+pub mod Extended

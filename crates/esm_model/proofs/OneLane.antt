@@ -1,6 +1,6 @@
 -- With the factor 1 each record is in the lane 0 of its shard.
-use Rattle.std.proofs.Common.{◌≡◌, ℕ, Bool, true, false, List, refl, sym, ap, ◌∙◌, subst, Option, Some, arith}
-use Rattle.std.specs.Prelude.{◌==◌, ◌%◌, ◌<◌, option_map, unwrap_or}
+use Rattle.std.proofs.Common.{◌≡◌, ℕ, true, false, sym, ap, ◌∙◌, Option, Some, arith}
+use Rattle.std.specs.Prelude.{◌%◌, option_map, unwrap_or}
 use Rattle.std.proofs.lemmas.Bool.{eq-eqb}
 use Rattle.esm_model.specs.Lane.{lane_of}
 use Rattle.esm_model.specs.declared.item.Record.{Record}

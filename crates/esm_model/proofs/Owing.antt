@@ -1,5 +1,5 @@
 -- A lane may be given all that it is owed, one entry after the other, and then the history is settled.
-use Rattle.std.proofs.Common.{◌≡◌, ℕ, zero, ◌≤◌, Bool, true, false, not, ◌&&◌, List, [], ◌∷◌, ◌++◌, drop, map, reverse, refl, sym, ap, ◌∙◌, subst, inl, inr, Option, Some, None, arith, append_assoc}
+use Rattle.std.proofs.Common.{◌≡◌, ℕ, ◌≤◌, Bool, true, false, not, ◌&&◌, List, [], ◌∷◌, ◌++◌, drop, map, reverse, refl, sym, ap, ◌∙◌, subst, inl, inr, Option, Some, None, arith, append_assoc}
 use Rattle.std.specs.Prelude.{◌==◌, filter, option_map, unwrap_or, slice_get}
 use Rattle.std.proofs.lemmas.List.{reverse-append}
 use Rattle.std.proofs.lemmas.Bool.{cases_Bool}
@@ -12,7 +12,7 @@ use Rattle.esm_model.specs.declared.entry.Fate.TheVariants.{Succeeded, Exhausted
 use Rattle.esm_model.specs.declared.entry.Reply.{Reply}
 use Rattle.esm_model.specs.declared.entry.WindowState.{WindowState}
 use Rattle.esm_model.specs.declared.entry.Entry.{Entry}
-use Rattle.esm_model.specs.declared.entry.Entry.TheVariants.{Came, Began, Ended, Gave, Tried, Closed, Replayed, Shut}
+use Rattle.esm_model.specs.declared.entry.Entry.TheVariants.{Ended, Gave}
 use Rattle.esm_model.specs.Setting.{Setting, record_at}
 use Rattle.esm_model.specs.Entries.{holds, moment_of, last_moment, came_count}
 use Rattle.esm_model.specs.Fates.{below, lacks_fate}
@@ -20,7 +20,7 @@ use Rattle.esm_model.specs.FailureLine.{failure_line}
 use Rattle.esm_model.specs.Owed.{Due, Success, GiveUp, Try, Close, due, due_entry, owed, IsOwed, is_refused, is_unsorted, unsorted, Settled}
 use Rattle.esm_model.specs.Step.{Legal, MayFollow, IsLater}
 use Rattle.esm_model.proofs.Lists.{filter_both}
-use Rattle.esm_model.proofs.Steps.{same_lane-refl, due_gave, due_tried, due_closed, lacks_gave}
+use Rattle.esm_model.proofs.Steps.{due_gave, due_tried, due_closed, lacks_gave}
 use Rattle.esm_model.proofs.Sound.{same_lane-true}
 
 -- an entry that brings what is due

@@ -1,6 +1,6 @@
 -- What the other entries leave settled.
-use Rattle.std.proofs.Common.{◌≡◌, ℕ, ◌+◌, Bool, true, false, not, cond, ◌&&◌, List, [], ◌∷◌, drop, refl, sym, ap, ◌∙◌, subst, inl, inr, Option, Some, None}
-use Rattle.std.specs.Prelude.{◌==◌, filter, option_map, unwrap_or}
+use Rattle.std.proofs.Common.{◌≡◌, ℕ, ◌+◌, Bool, true, false, not, cond, ◌&&◌, List, [], ◌∷◌, drop, refl, ap, ◌∙◌, Option, Some, None}
+use Rattle.std.specs.Prelude.{◌==◌, filter}
 use Rattle.std.proofs.lemmas.Bool.{and_from, eq-eqb}
 use Rattle.esm_model.specs.Lane.{same_lane}
 use Rattle.esm_model.specs.declared.lane.LaneId.{LaneId}
@@ -8,10 +8,10 @@ use Rattle.esm_model.specs.declared.entry.Fate.{Fate}
 use Rattle.esm_model.specs.declared.entry.WindowState.{WindowState}
 use Rattle.esm_model.specs.declared.entry.Entry.{Entry}
 use Rattle.esm_model.specs.declared.entry.Entry.TheVariants.{Came, Began, Gave, Shut}
-use Rattle.esm_model.specs.Setting.{Setting, record_at}
+use Rattle.esm_model.specs.Setting.{Setting}
 use Rattle.esm_model.specs.Entries.{holds, came_count}
-use Rattle.esm_model.specs.Fates.{below, lacks_fate}
-use Rattle.esm_model.specs.Owed.{Due, due, is_refused, is_unsorted, unsorted, Settled}
+use Rattle.esm_model.specs.Fates.{below}
+use Rattle.esm_model.specs.Owed.{Due, due, is_unsorted, unsorted, Settled}
 use Rattle.esm_model.proofs.Lists.{filter_all, filter_none}
 use Rattle.esm_model.proofs.Owing.{unsorted_after_gave, unsorted_gave}
 

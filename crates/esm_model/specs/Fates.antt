@@ -11,9 +11,9 @@ use Rattle.esm_model.specs.Setting.{Setting, FoundFate, is_in_lane, found_fate}
 use Rattle.esm_model.specs.Entries.{holds, came_count}
 
 -- the entry is a `Gave` that names the place
-abbrev pub names : ℕ → ℕ → Entry → Bool
-names n i (Gave by shard places fate line state moment) = (shard == n) && holds places i
-names n i _ = false
+abbrev pub names_place : ℕ → ℕ → Entry → Bool
+names_place n i (Gave by shard places fate line state moment) = (shard == n) && holds places i
+names_place n i _ = false
 
 -- a fate that stands stays
 abbrev pub given_after : ℕ → ℕ → Option Fate → Entry → Option Fate

@@ -10,7 +10,7 @@ use Rattle.esm_model.specs.declared.entry.Entry.{Entry}
 use Rattle.esm_model.specs.declared.entry.Entry.TheVariants.{Began, Gave}
 use Rattle.esm_model.specs.Setting.{Setting, record_at, found_fate}
 use Rattle.esm_model.specs.Entries.{holds, came_count}
-use Rattle.esm_model.specs.Fates.{fate, names, fate_count, open_count}
+use Rattle.esm_model.specs.Fates.{fate, names_place, fate_count, open_count}
 use Rattle.esm_model.specs.Checkpoint.{checkpoint}
 use Rattle.esm_model.specs.Batches.{group, batch, fits}
 
@@ -33,7 +33,7 @@ abbrev pub NoRepeat : Setting → List Entry → Type 0
 NoRepeat s h =
     (later before : List Entry) (lane : LaneId) (places : List ℕ) (closing : Option ℕ) (m : ℕ) → h ≡ later ++ Began lane places closing m ∷ before
     → (i : ℕ) → IsTrue (holds places i)
-    → (found_fate s lane.shard i ≡ None) × (list_any (names lane.shard i) before ≡ false)
+    → (found_fate s lane.shard i ≡ None) × (list_any (names_place lane.shard i) before ≡ false)
 
 -- the records of the shard that came are the succeeded, filtered, expired, exhausted and open ones together
 abbrev pub EveryRecordCounted : Setting → List Entry → Type 0

@@ -3,7 +3,7 @@
 ghost use Rattle.std.specs.Prelude.{ℕ, List};
 ghost use Rattle.esm_model.specs.declared.lane.LaneId.{LaneId};
 ghost use Rattle.esm_model.specs.declared.entry.Entry.{Entry};
-ghost use Rattle.esm_model.specs.Setting.{Setting};
+ghost use Rattle.esm_model.specs.Setting.{Setting, Stream, Extends, over};
 ghost use Rattle.esm_model.specs.Step.{Legal};
 ghost use Rattle.esm_model.specs.Laws.{OrderPerKey, OneFate, NoRepeat, EveryRecordCounted, CheckpointKept, CheckpointIsLongest, BatchIsLongest};
 
@@ -40,4 +40,9 @@ pub fn checkpoint_is_longest()
 /// A batch is the longest prefix of its lane's group that meets the four limits.
 pub fn batch_is_longest()
     ensures { (s : Setting) (h : List Entry) (lane : LaneId) (m : ℕ) → BatchIsLongest s h lane m }
+{}
+
+/// A history that is legal over some lists of records is legal over all lists that go on from them.
+pub fn legal_over_more_records()
+    ensures { (s : Setting) (h : List Entry) (after : List Stream) → Extends s.streams after → Legal s h → Legal (over s after) h }
 {}

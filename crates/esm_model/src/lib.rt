@@ -14,9 +14,9 @@ pub mod lane;
 pub mod laws;
 pub mod memory;
 pub mod sequence;
+pub mod setup;
 #[cfg(test)]
 mod tests;
-pub mod setup;
 pub mod text;
 pub mod verdict;
 pub mod worked;
