@@ -5,7 +5,7 @@ mod FilterFacts
 pub mod Lists
 pub mod Longest
 pub mod Steps
-pub mod Apart
+pub mod OtherShards
 pub mod Due
 pub mod Sound
 pub mod Paid
@@ -14,10 +14,11 @@ pub mod Counts
 pub mod Fits
 pub mod Histories
 pub mod Owing
-pub mod Lanes
+pub mod OtherLanes
 pub mod CallsMade
 pub mod Settling
 pub mod OneLane
 pub mod Growing
 pub mod Records
 pub mod Extended
+pub mod Unchanged

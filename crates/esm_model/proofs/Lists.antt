@@ -30,7 +30,7 @@ filter_both p q (x ∷ xs) =
         | inl also ↦ simp (is, also) (ap (λ zs. x ∷ zs) (filter_both p q xs))
         | inr never ↦ simp (is, never) (filter_both p q xs)
       ]
-      | inr not' ↦ simp not' (filter_both p q xs)
+      | inr fails ↦ simp fails (filter_both p q xs)
     ]
 
 -- the front where a test holds is no shorter where a weaker test is taken, or the list goes on
@@ -41,7 +41,7 @@ take_while_longer p q weaker (x ∷ xs) ys =
     rw (take_while-cons p x xs, take_while-cons q x (xs ++ ys))
     (elim (cases_Bool (p x)) [
       | inl is ↦ (let also : q x ≡ true = weaker x is in rw (is, also) (omega (arith, rest)))
-      | inr not' ↦ rw not' (omega arith)
+      | inr fails ↦ rw fails (omega arith)
     ])
 
 pub In-here : (x : ℕ) (xs : List ℕ) (i : ℕ) → x ≡ i → In (x ∷ xs) i
@@ -95,7 +95,7 @@ In-filter p (x ∷ xs) i h =
         | inl e ↦ (In-here x xs i e, ap p (sym e) ∙ is)
         | inr rest ↦ (In-there x xs i (In-filter p xs i rest).0, (In-filter p xs i rest).1)
       ]
-      | inr not' ↦ (let rest : In (filter p xs) i = rw not' at h in (In-there x xs i (In-filter p xs i rest).0, (In-filter p xs i rest).1))
+      | inr fails ↦ (let rest : In (filter p xs) i = rw fails at h in (In-there x xs i (In-filter p xs i rest).0, (In-filter p xs i rest).1))
     ]
 
 pub filter-In : (p : ℕ → Bool) (xs : List ℕ) (i : ℕ) → In xs i → p i ≡ true → In (filter p xs) i
@@ -103,7 +103,7 @@ filter-In p [] i h passes = h
 filter-In p (x ∷ xs) i h passes =
     elim (In-cases x xs i h) [
       | inl e ↦ (let here : p x ≡ true = ap p e ∙ passes in rw here (In-here x (filter p xs) i e))
-      | inr rest ↦ elim (cases_Bool (p x)) [ inl is ↦ rw is (In-there x (filter p xs) i (filter-In p xs i rest passes)) | inr not' ↦ rw not' (filter-In p xs i rest passes) ]
+      | inr rest ↦ elim (cases_Bool (p x)) [ inl is ↦ rw is (In-there x (filter p xs) i (filter-In p xs i rest passes)) | inr fails ↦ rw fails (filter-In p xs i rest passes) ]
     ]
 
 -- members of a front of what passes of the numbers below n: each smaller number that passes is there too
@@ -141,7 +141,7 @@ Distinct-filter p [] d = tt
 Distinct-filter p (x ∷ xs) d =
     elim (cases_Bool (p x)) [
       | inl is ↦ rw is (not_in (filter p xs) x (λ h. apart xs x d.0 (In-filter p xs x h).0), Distinct-filter p xs d.1)
-      | inr not' ↦ rw not' (Distinct-filter p xs d.1)
+      | inr fails ↦ rw fails (Distinct-filter p xs d.1)
     ]
 
 pub Distinct-push : (xs : List ℕ) (n : ℕ) → Distinct xs → (In xs n → ⊥) → Distinct (xs ++ n ∷ [])

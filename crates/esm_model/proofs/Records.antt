@@ -29,7 +29,7 @@ use Rattle.esm_model.proofs.Lists.{In, In-here, In-there, In-take, In-below, In-
 use Rattle.esm_model.proofs.Steps.{came_grows}
 use Rattle.esm_model.proofs.Sound.{same_lane-true, open_In}
 use Rattle.esm_model.proofs.Paid.{running_In}
-use Rattle.esm_model.proofs.Lanes.{piece_agree}
+use Rattle.esm_model.proofs.OtherLanes.{piece_agree}
 
 -- lists
 
@@ -49,7 +49,7 @@ all_same : (p q : ℕ → Bool) (xs : List ℕ) → ((i : ℕ) → In xs i → p
 all_same p q [] same = refl
 all_same p q (x ∷ xs) same = rw (same x (In-here x xs x refl), all_same p q xs (λ i m. same i (In-there x xs i m))) refl
 
-longest_same : (p q : List ℕ → Bool) (seen xs : List ℕ) → ((zs : List ℕ) → 1 ≤ length zs → ((i : ℕ) → In zs i → In (seen ++ xs) i) → p zs ≡ q zs) → longest p seen xs ≡ longest q seen xs
+pub longest_same : (p q : List ℕ → Bool) (seen xs : List ℕ) → ((zs : List ℕ) → 1 ≤ length zs → ((i : ℕ) → In zs i → In (seen ++ xs) i) → p zs ≡ q zs) → longest p seen xs ≡ longest q seen xs
 longest_same p q seen [] same = refl
 longest_same p q seen (x ∷ xs) same =
     let now = seen ++ x ∷ [] in
@@ -250,6 +250,11 @@ due_window_same s after h same n w =
     ap (λ o. has_windows s.config && nat_lt 0 (came_count h n) && is_some o && not (has_open_record (over s after) h n w) && (has_later_record (over s after) h n w || is_shut h)) (kept_same s after h n w)
     ∙ ap (λ b. is_outstanding s h n w && not b && (has_later_record (over s after) h n w || is_shut h)) none
     ∙ ap (λ b. is_outstanding s h n w && not (has_open_record s h n w) && (b || is_shut h)) later
+
+-- where two histories keep the same state of the window
+pub window_call_agree : (s : Setting) (h now : List Entry) (n : ℕ) (places : List ℕ) (closing : Option ℕ) → kept_state s now n (window_of_call s n places closing) ≡ kept_state s h n (window_of_call s n places closing) → window_call s now n places closing ≡ window_call s h n places closing
+window_call_agree s h now n places closing same =
+    ap (λ o. cond (has_windows s.config) (Some (record { shard = n; state = record { window = window_of_call s n places closing; text = unwrap_or o (codes "{}") }; closing = is_some closing })) None) same
 
 window_call_same : (s : Setting) (after : List Stream) (h : List Entry) (n : ℕ) (places : List ℕ) (closing : Option ℕ) → window_of_call (over s after) n places closing ≡ window_of_call s n places closing → window_call (over s after) h n places closing ≡ window_call s h n places closing
 window_call_same s after h n places closing is =

@@ -93,12 +93,12 @@ sound_shut s h m sound lane = let was = sound lane in record { front = was.front
 
 -- an open place that is settled passes the filter
 settled_sorted : (s : Setting) (h : List Entry) (n i : ℕ) → unsorted s h n ≡ [] → i < came_count h n → lacks_fate s h n i ≡ true → is_sorted_place s n i ≡ true
-settled_sorted s h n i none came open' =
+settled_sorted s h n i none came lacks =
     elim (cases_Bool (is_sorted_place s n i)) [
       | inl good ↦ good
       | inr bad ↦ absurd (In-none i (subst (λ xs. In xs i) none
           (filter-In (is_unsorted s h n) (below (came_count h n)) i (below-In (came_count h n) i came)
-          (and_from (lacks_fate s h n i) (unwrap_or (option_map (is_refused s) (record_at s n i)) false) open' (bad_at (record_at s n i) bad)))))
+          (and_from (lacks_fate s h n i) (unwrap_or (option_map (is_refused s) (record_at s n i)) false) lacks (bad_at (record_at s n i) bad)))))
     ]
   where
     bad_at : (o : Option Record) → unwrap_or (option_map (λ (r : Record). passes s.config.filters r) o) true ≡ false → unwrap_or (option_map (is_refused s) o) false ≡ true
@@ -198,7 +198,7 @@ sound_filtered s h n places line state m may sound lane =
     both_apart true false h = refl
     both_apart false b h = refl
 
-    clash_at : (o : Option Record) (open' : Bool) → unwrap_or (option_map (λ (r : Record). passes s.config.filters r) o) true ≡ true → (open' && unwrap_or (option_map (is_refused s) o) false) ≡ true → ⊥
+    clash_at : (o : Option Record) (lacks : Bool) → unwrap_or (option_map (λ (r : Record). passes s.config.filters r) o) true ≡ true → (lacks && unwrap_or (option_map (is_refused s) o) false) ≡ true → ⊥
     clash_at None true a b = cc
     clash_at None false a b = cc
     clash_at (Some r) false a b = cc

@@ -231,7 +231,7 @@ longest_front p seen [] = (0, sym (append-nil seen))
 longest_front p seen (x ∷ xs) =
     elim (cases_Bool (p (seen ++ x ∷ []))) [
       | inl is ↦ (let rest = longest_front p (seen ++ x ∷ []) xs in (suc rest.0, rw is (rest.1 ∙ append_assoc seen (x ∷ []) (take rest.0 xs))))
-      | inr not' ↦ (0, rw not' (sym (append-nil seen)))
+      | inr fails ↦ (0, rw fails (sym (append-nil seen)))
     ]
 
 take_of_take : (j k : ℕ) (xs : List ℕ) → (n : ℕ) × (take j (take k xs) ≡ take n xs)
@@ -252,10 +252,10 @@ pub order_in_lane : (s : Setting) (h : List Entry) (lane : LaneId) (places : Lis
 order_in_lane s h lane places m may i j member before in_lane =
     elim (cases_Bool (lacks_fate s h lane.shard j)) [
       | inr fated ↦ inr fated
-      | inl open' ↦ inl (
+      | inl lacks ↦ inl (
           let front = batch_front s h lane m in
           let e : places ≡ take front.0 (open_places s h lane) = may.exact ∙ front.1 in
           subst (λ xs. In xs j) (sym e)
           (front_closed (λ k. is_in_lane s lane k && lacks_fate s h lane.shard k) (came_count h lane.shard) front.0 i j
-          (subst (λ xs. In xs i) e member) before (and_from (is_in_lane s lane j) (lacks_fate s h lane.shard j) in_lane open')))
+          (subst (λ xs. In xs i) e member) before (and_from (is_in_lane s lane j) (lacks_fate s h lane.shard j) in_lane lacks)))
     ]

@@ -21,6 +21,7 @@ use Rattle.esm_model.specs.Calls.{event_of}
 
 -- groups
 
+-- the two records have one mark and the same tries
 abbrev pub same_piece : Setting → List Entry → ℕ → ℕ → ℕ → Bool
 same_piece s h n i j = same_mark (mark s h n i) (mark s h n j) && (tries s h n i == tries s h n j)
 
@@ -39,6 +40,7 @@ abbrev pub is_older : Option ℕ → Record → ℕ → Bool
 is_older None r m = false
 is_older (Some age) r m = nat_lt age (m - r.arrival)
 
+-- the record at the place is older than the age at the moment
 abbrev pub is_expired : Setting → ℕ → ℕ → ℕ → Bool
 is_expired s n m i = unwrap_or (option_map (λ (r : Record). is_older s.config.age_ms r m) (record_at s n i)) false
 
@@ -67,6 +69,7 @@ batch s h lane m = longest (fits s h lane.shard m) [] (group s h lane)
 
 -- the delay
 
+-- one more failure, or the end of a row of them
 abbrev pub failures_by : Rest → ℕ → ℕ
 failures_by r before = if is_failure r then suc before else 0
 

@@ -12,6 +12,7 @@ use Rattle.esm_model.specs.declared.entry.Entry.TheVariants.{Came, Began, Ended,
 abbrev pub holds : List ℕ → ℕ → Bool
 holds places i = list_any (λ p. p == i) places
 
+-- in milliseconds
 abbrev pub moment_of : Entry → ℕ
 moment_of (Came shard first count moment) = moment
 moment_of (Began lane places closing moment) = moment
@@ -22,6 +23,7 @@ moment_of (Closed lane window moment) = moment
 moment_of (Replayed shard places moment) = moment
 moment_of (Shut moment) = moment
 
+-- that of the newest entry, or 0
 abbrev pub last_moment : List Entry → ℕ
 last_moment [] = 0
 last_moment (e ∷ h) = moment_of e
@@ -46,10 +48,12 @@ abbrev pub came_moment : List Entry → ℕ → ℕ → ℕ
 came_moment [] n i = 0
 came_moment (e ∷ h) n i = came_moment_after n i (came_moment h n i) e
 
+-- it ends the input
 abbrev pub is_shut_entry : Entry → Bool
 is_shut_entry (Shut moment) = true
 is_shut_entry _ = false
 
+-- the input ended: the history has a `Shut`
 abbrev pub is_shut : List Entry → Bool
 is_shut h = list_any is_shut_entry h
 
@@ -93,6 +97,7 @@ abbrev pub last_call : List Entry → LaneId → Option Call
 last_call [] lane = None
 last_call (e ∷ h) lane = call_after lane (last_call h lane) e
 
+-- the places of a call
 abbrev pub batch_of : Option Call → List ℕ
 batch_of None = []
 batch_of (Some call) = call.places

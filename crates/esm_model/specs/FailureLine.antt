@@ -35,12 +35,15 @@ abbrev pub response_of : List Entry → ℕ → ℕ → Option Response
 response_of [] n i = None
 response_of (e ∷ h) n i = response_after h n i (response_of h n i) e
 
+-- the sequence number of the record at the place
 abbrev pub sequence_at : Setting → ℕ → ℕ → List ℕ
 sequence_at s n i = unwrap_or (option_map (λ (r : Record). r.seq) (record_at s n i)) []
 
+-- its arrival
 abbrev pub arrival_at : Setting → ℕ → ℕ → ℕ
 arrival_at s n i = unwrap_or (option_map (λ (r : Record). r.arrival) (record_at s n i)) 0
 
+-- the last of the places
 abbrev pub last_of : List ℕ → ℕ
 last_of places = slice_index places (length places - 1)
 

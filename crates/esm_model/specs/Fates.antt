@@ -29,9 +29,11 @@ given (e ∷ h) n i = given_after n i (given h n i) e
 abbrev pub fate : Setting → List Entry → ℕ → ℕ → Option Fate
 fate s h n i = option_or (option_map (λ (f : FoundFate). f.fate) (found_fate s n i)) (given h n i)
 
+-- the place has a fate
 abbrev pub has_fate : Setting → List Entry → ℕ → ℕ → Bool
 has_fate s h n i = is_some (fate s h n i)
 
+-- the place has none
 abbrev pub lacks_fate : Setting → List Entry → ℕ → ℕ → Bool
 lacks_fate s h n i = is_none (fate s h n i)
 

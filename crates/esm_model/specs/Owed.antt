@@ -25,9 +25,11 @@ use Rattle.esm_model.specs.FailureLine.{failure_line}
 
 -- filtering
 
+-- the record does not pass the filter
 abbrev pub is_refused : Setting → Record → Bool
 is_refused s r = not (passes s.config.filters r)
 
+-- it has no fate and does not pass
 abbrev pub is_unsorted : Setting → List Entry → ℕ → ℕ → Bool
 is_unsorted s h n i = lacks_fate s h n i && unwrap_or (option_map (is_refused s) (record_at s n i)) false
 
@@ -52,10 +54,12 @@ due_entry s h lane m (Close window) = Closed lane window m
 
 -- the state that a call leaves to its window, where windows are configured
 
+-- the state that an answer gives
 abbrev pub state_in_reply : Reply → List ℕ
 state_in_reply (Answered status error body) = answered_state body
 state_in_reply _ = codes "{}"
 
+-- of the call's window
 abbrev pub new_state : Setting → ℕ → Call → Reply → Option WindowState
 new_state s n call reply =
     if has_windows s.config
@@ -85,11 +89,13 @@ due_rest (rest.Split k) places closing tries = []
 due_rest rest.Counted places closing tries = Try places closing (capped_tries (tries + 1)) ∷ []
 due_rest rest.Exhausted places closing tries = due_give_up places ++ due_close closing
 
+-- what the verdict calls for: the records that succeeded, then the rest
 abbrev pub due_by_verdict : Setting → ℕ → Call → ℕ → Verdict → Reply → List Due
 due_by_verdict s n call tries v reply =
     due_success (take v.succeeded call.places) (new_state s n call reply)
     ++ due_rest v.rest (drop v.succeeded call.places) call.closing tries
 
+-- of the lane's last call
 abbrev pub due_of_call : Setting → List Entry → LaneId → Option Call → Reply → List Due
 due_of_call s h lane None reply = []
 due_of_call s h lane (Some call) reply = due_by_verdict s lane.shard call (tries_of s h lane.shard call) (verdict_after s h lane reply) reply
@@ -105,6 +111,7 @@ giver (Tried lane places closing tries moment) = Some lane
 giver (Closed lane window moment) = Some lane
 giver _ = None
 
+-- the entry is of the lane
 abbrev pub is_by : LaneId → Entry → Bool
 is_by lane e = unwrap_or (option_map (λ (at : LaneId). same_lane at lane) (giver e)) false
 

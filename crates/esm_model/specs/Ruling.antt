@@ -19,6 +19,7 @@ abbrev pub after_try : Option ℕ → ℕ → Rest
 after_try None tries = rest.Counted
 after_try (Some retries) tries = if nat_lt retries (tries + 1) then rest.Exhausted else rest.Counted
 
+-- so many succeeded, and what becomes of the others
 abbrev pub verdict : ℕ → Rest → Verdict
 verdict succeeded rest = record { succeeded = succeeded; rest = rest }
 

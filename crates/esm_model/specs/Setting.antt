@@ -54,12 +54,15 @@ abbrev pub records_in : List Stream → ℕ → List Record
 records_in [] n = []
 records_in (t ∷ ts) n = if t.shard == n then t.records else records_in ts n
 
+-- the shard's records
 abbrev pub records_of : Setting → ℕ → List Record
 records_of s n = records_in s.streams n
 
+-- the record of a shard at a place
 abbrev pub record_at : Setting → ℕ → ℕ → Option Record
 record_at s n i = slice_get (records_of s n) i
 
+-- those at the places, in order
 abbrev pub records_at : Setting → ℕ → List ℕ → List Record
 records_at s n places = filter_map (record_at s n) places
 
@@ -67,6 +70,7 @@ records_at s n places = filter_map (record_at s n) places
 abbrev pub sequences_at : Setting → ℕ → List ℕ → List (List ℕ)
 sequences_at s n places = map (λ (r : Record). r.seq) (records_at s n places)
 
+-- the record's key is one of the lane
 abbrev pub is_key_of : Setting → LaneId → Record → Bool
 is_key_of s lane r = lane_of r.key s.config.factor == lane.lane
 
@@ -76,9 +80,11 @@ is_in_lane s lane i = unwrap_or (option_map (is_key_of s lane) (record_at s lane
 
 -- what was found at opening
 
+-- the found fate of a place
 abbrev pub found_fate : Setting → ℕ → ℕ → Option FoundFate
 found_fate s n i = find (λ (f : FoundFate). (f.shard == n) && (f.place == i)) s.fates
 
+-- the found tries of a place
 abbrev pub found_try : Setting → ℕ → ℕ → Option FoundTries
 found_try s n i = find (λ (f : FoundTries). (f.shard == n) && (f.place == i)) s.tries
 
@@ -86,6 +92,7 @@ found_try s n i = find (λ (f : FoundTries). (f.shard == n) && (f.place == i)) s
 abbrev pub found_tries : Setting → ℕ → ℕ → ℕ
 found_tries s n i = unwrap_or (option_map (λ (f : FoundTries). f.tries) (found_try s n i)) 0
 
+-- the found state of a window
 abbrev pub found_state : Setting → ℕ → ℕ → Option (List ℕ)
 found_state s n w = option_map (λ (f : FoundState). f.text) (find (λ (f : FoundState). (f.shard == n) && (f.window == w)) s.states)
 

@@ -41,6 +41,7 @@ abbrev pub tries_sum : Setting → List Entry → ℕ → ℕ → ℕ
 tries_sum s [] n i = found_tries s n i
 tries_sum s (e ∷ h) n i = tries_after s h (tries_sum s h n) n i e
 
+-- a sum above 10,001 counts as 10,001
 abbrev pub tries : Setting → List Entry → ℕ → ℕ → ℕ
 tries s h n i = capped_tries (tries_sum s h n i)
 
@@ -51,6 +52,7 @@ abbrev pub is_closed_by : Option ℕ → ℕ → Bool
 is_closed_by None w = false
 is_closed_by (Some closing) w = closing == w
 
+-- the call is a final one of the window, and its verdict counts a try
 abbrev pub counts_in_final_call : Setting → ℕ → Option Call → ℕ → ℕ → Reply → Bool
 counts_in_final_call s n None w before reply = false
 counts_in_final_call s n (Some call) w before reply = is_closed_by call.closing w && is_counted (call_verdict s n call (capped_tries before) reply).rest
@@ -66,6 +68,7 @@ abbrev pub window_tries_sum : Setting → List Entry → ℕ → ℕ → ℕ
 window_tries_sum s [] n w = found_window_tries s n w
 window_tries_sum s (e ∷ h) n w = window_tries_after s h n w (window_tries_sum s h n w) e
 
+-- and so here
 abbrev pub window_tries : Setting → List Entry → ℕ → ℕ → ℕ
 window_tries s h n w = capped_tries (window_tries_sum s h n w)
 
@@ -80,6 +83,7 @@ tries_for s h n places (Some w) = window_tries s h n w
 abbrev pub tries_of : Setting → List Entry → ℕ → Call → ℕ
 tries_of s h n call = tries_for s h n call.places call.closing
 
+-- the ruling at the tries that the history tells of
 abbrev pub verdict_on : Setting → List Entry → ℕ → Option Call → Reply → Verdict
 verdict_on s h n None reply = verdict 0 rest.Nothing
 verdict_on s h n (Some call) reply = call_verdict s n call (tries_of s h n call) reply
@@ -109,6 +113,7 @@ abbrev pub mark : Setting → List Entry → ℕ → ℕ → Option (ℕ × ℕ)
 mark s [] n i = None
 mark s (e ∷ h) n i = option_or (option_map (λ (k : ℕ). (length h, k)) (marked_by s h n i e)) (mark s h n i)
 
+-- by the same `Ended` and on the same side, or none
 abbrev pub same_mark : Option (ℕ × ℕ) → Option (ℕ × ℕ) → Bool
 same_mark None None = true
 same_mark (Some a) (Some b) = (a.0 == b.0) && (a.1 == b.1)

@@ -11,6 +11,7 @@ use Rattle.esm_model.specs.Setting.{Setting, records_of, found_state}
 use Rattle.esm_model.specs.Entries.{came_count, is_shut}
 use Rattle.esm_model.specs.Fates.{lacks_fate, came_places}
 
+-- tumbling windows are configured
 abbrev pub has_windows : Config → Bool
 has_windows c = not (c.tumbling_ms == 0)
 
@@ -24,11 +25,13 @@ window_from width before [] i = before
 window_from width before (r ∷ rs) zero = max before (window_floor width r.arrival)
 window_from width before (r ∷ rs) (suc i) = window_from width (max before (window_floor width r.arrival)) rs i
 
+-- the window of the record at the place, by its start
 abbrev pub window_of : Setting → ℕ → ℕ → ℕ
 window_of s n i = window_from s.config.tumbling_ms 0 (records_of s n) i
 
 -- states
 
+-- the text of the state, where it is that of the window
 abbrev pub text_for : ℕ → Option (List ℕ) → Option WindowState → Option (List ℕ)
 text_for w before None = before
 text_for w before (Some state) = if state.window == w then Some state.text else before
@@ -51,9 +54,11 @@ state_text s h n w = unwrap_or (kept_state s h n w) (codes "{}")
 abbrev pub is_outstanding : Setting → List Entry → ℕ → ℕ → Bool
 is_outstanding s h n w = has_windows s.config && nat_lt 0 (came_count h n) && is_some (kept_state s h n w)
 
+-- a record of the window is open
 abbrev pub has_open_record : Setting → List Entry → ℕ → ℕ → Bool
 has_open_record s h n w = list_any (λ i. lacks_fate s h n i && (window_of s n i == w)) (came_places h n)
 
+-- a record of a later window came
 abbrev pub has_later_record : Setting → List Entry → ℕ → ℕ → Bool
 has_later_record s h n w = list_any (λ i. nat_lt w (window_of s n i)) (came_places h n)
 

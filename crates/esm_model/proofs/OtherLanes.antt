@@ -35,7 +35,7 @@ IsOfOther lane (Closed at window moment) = same_lane at lane ≡ false
 IsOfOther lane _ = ⊥
 
 pub record IsUntouched (s : Setting) (h : List Entry) (e : Entry) (lane : LaneId) : Type 0 where
-  pub open' : open_places s (e ∷ h) lane ≡ open_places s h lane
+  pub opens : open_places s (e ∷ h) lane ≡ open_places s h lane
   pub tries : (i : ℕ) → is_in_lane s lane i ≡ true → tries s (e ∷ h) lane.shard i ≡ tries s h lane.shard i
   pub marks : (i : ℕ) → is_in_lane s lane i ≡ true → mark s (e ∷ h) lane.shard i ≡ mark s h lane.shard i
   pub runs : is_running (e ∷ h) lane ≡ is_running h lane
@@ -75,7 +75,7 @@ no_side rest.Exhausted xs i none = refl
 
 ended_untouched : (s : Setting) (h : List Entry) (at : LaneId) (reply : Reply) (m : ℕ) (lane : LaneId) → Legal s h → is_running h at ≡ true → same_lane at lane ≡ false → IsUntouched s h (Ended at reply m) lane
 ended_untouched s h at reply m lane legal runs other = record {
-  open' = refl;
+  opens = refl;
   tries = λ i here. elim (cases_Bool (at.shard == lane.shard)) [
     | inr off ↦ rw off refl
     | inl same ↦ (
@@ -101,7 +101,7 @@ gave_untouched s h at n places f line state m lane legal other =
     let shard_of = (gave_In s h at n places f line state m legal).0 in
     let places_of = (gave_In s h at n places f line state m legal).1 in
     record {
-      open' = untouched s h (Some at) n places f line state m lane (λ i same inside member.
+      opens = untouched s h (Some at) n places f line state m lane (λ i same inside member.
           let there = open_In s h at i (places_of i inside) in
           let here = open_In s h lane i member in
           let e : at ≡ lane = one_lane s at lane i (sym shard_of ∙ same) there.1 here.1 in
@@ -117,12 +117,12 @@ gave_untouched s h at n places f line state m lane legal other =
     }
 
 pub other_untouched : (s : Setting) (h : List Entry) (e : Entry) (lane : LaneId) → Legal s (e ∷ h) → IsOfOther lane e → IsUntouched s h e lane
-other_untouched s h (Began at places closing m) lane legal other = record { open' = refl; tries = λ i here. refl; marks = λ i here. refl; runs = rw other refl; call = rw other refl; failures = refl; end = refl; due = rw other refl }
+other_untouched s h (Began at places closing m) lane legal other = record { opens = refl; tries = λ i here. refl; marks = λ i here. refl; runs = rw other refl; call = rw other refl; failures = refl; end = refl; due = rw other refl }
 other_untouched s h (Ended at reply m) lane legal other = ended_untouched s h at reply m lane legal.0 legal.1.1 other
 other_untouched s h (Gave (Some at) n places f line state m) lane legal other = gave_untouched s h at n places f line state m lane legal other
 other_untouched s h (Gave None n places f line state m) lane legal other = absurd other
-other_untouched s h (Tried at places closing t m) lane legal other = record { open' = refl; tries = λ i here. refl; marks = λ i here. refl; runs = refl; call = refl; failures = refl; end = refl; due = rw other refl }
-other_untouched s h (Closed at w m) lane legal other = record { open' = refl; tries = λ i here. refl; marks = λ i here. refl; runs = refl; call = refl; failures = refl; end = refl; due = rw other refl }
+other_untouched s h (Tried at places closing t m) lane legal other = record { opens = refl; tries = λ i here. refl; marks = λ i here. refl; runs = refl; call = refl; failures = refl; end = refl; due = rw other refl }
+other_untouched s h (Closed at w m) lane legal other = record { opens = refl; tries = λ i here. refl; marks = λ i here. refl; runs = refl; call = refl; failures = refl; end = refl; due = rw other refl }
 other_untouched s h (Came n first count m) lane legal other = absurd other
 other_untouched s h (Replayed n places m) lane legal other = absurd other
 other_untouched s h (Shut m) lane legal other = absurd other
@@ -142,4 +142,4 @@ group_at s h e lane is (x ∷ xs) here =
 
 pub group_untouched : (s : Setting) (h : List Entry) (e : Entry) (lane : LaneId) → IsUntouched s h e lane → group s (e ∷ h) lane ≡ group s h lane
 group_untouched s h e lane is =
-    ap (group_of s (e ∷ h) lane.shard) is.open' ∙ group_at s h e lane is (open_places s h lane) (λ i member. (open_In s h lane i member).1)
+    ap (group_of s (e ∷ h) lane.shard) is.opens ∙ group_at s h e lane is (open_places s h lane) (λ i member. (open_In s h lane i member).1)
