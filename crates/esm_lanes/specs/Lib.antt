@@ -1,0 +1,4 @@
+pub mod Piece
+pub mod Open
+pub mod Run
+pub mod Queue

@@ -1,0 +1,89 @@
+ghost use Rattle.std.specs.Prelude.{◌≡◌, ℕ, ◌+◌, ◌-◌, ◌<◌, ◌≤◌, ◌≢◌, []};
+ghost use Rattle.std.specs.VecDeque.{deque_len, deque_capacity};
+ghost use Rattle.esm_lanes.specs.Run as spec;
+
+use crate::standing::Standing;
+use std::collections::VecDeque;
+
+/// How many of a lane's open places are a piece, and its standing.
+#[derive(Clone, Copy, Debug)]
+pub struct Run {
+    pub count: u32,
+    pub standing: Standing,
+}
+
+impl Run {
+    fn without(self, count: u32) -> Run
+        requires { count ≤ self.count }
+        ensures { result ≡ spec.without count self }
+    {
+        Run {
+            count: self.count - count,
+            standing: self.standing,
+        }
+    }
+}
+
+/// One more place at the end: it joins the last run where that takes it.
+pub fn add_one(runs: &mut VecDeque<Run>, standing: Standing)
+    requires room { deque_len runs.old < deque_capacity runs.old }
+    requires few { spec.total runs.old.items < 4294967295 }
+    ensures runs { runs.new.items ≡ spec.one_added standing runs.old.items }
+    ensures len { deque_len runs.new ≤ deque_len runs.old + 1 }
+    ensures capacity { deque_capacity runs.new ≡ deque_capacity runs.old }
+{
+    let one = Run { count: 1, standing };
+    match runs.pop_back() {
+        None => runs.push_back_reserved(one),
+        Some(last) => {
+            if last.standing.takes(standing) {
+                runs.push_back_reserved(Run {
+                    count: last.count + 1,
+                    standing: last.standing,
+                });
+            } else {
+                runs.push_back_reserved(last);
+                runs.push_back_reserved(one);
+            }
+        }
+    }
+}
+
+/// The first run in two: its first places with so many tries, and the rest where there is one.
+pub fn split_first(runs: &mut VecDeque<Run>, first: u32, tries: u32)
+    requires room { deque_len runs.old < deque_capacity runs.old }
+    requires within { first ≤ spec.first_count runs.old.items }
+    ensures runs { runs.new.items ≡ spec.first_split first tries runs.old.items }
+    ensures len { deque_len runs.new ≤ deque_len runs.old + 1 }
+    ensures capacity { deque_capacity runs.new ≡ deque_capacity runs.old }
+{
+    match runs.pop_front() {
+        None => {}
+        Some(run) => {
+            if first < run.count {
+                runs.push_front_reserved(run.without(first));
+            }
+            runs.push_front_reserved(Run {
+                count: first,
+                standing: Standing::Split(tries),
+            });
+        }
+    }
+}
+
+/// The first run without its first places; it goes where none is left.
+pub fn shorten_first(runs: &mut VecDeque<Run>, count: u32)
+    requires within { count ≤ spec.first_count runs.old.items }
+    ensures runs { runs.new.items ≡ spec.first_shortened count runs.old.items }
+    ensures len { deque_len runs.new ≤ deque_len runs.old }
+    ensures capacity { deque_capacity runs.new ≡ deque_capacity runs.old }
+{
+    match runs.pop_front() {
+        None => {}
+        Some(run) => {
+            if count < run.count {
+                runs.push_front_reserved(run.without(count));
+            }
+        }
+    }
+}

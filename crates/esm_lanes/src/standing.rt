@@ -1,0 +1,42 @@
+ghost use Rattle.std.specs.Prelude.{◌≡◌};
+ghost use Rattle.esm_lanes.specs.Piece as spec;
+
+/// How a piece came to be, and so which places may join it.
+#[derive(Clone, Copy, Debug, PartialEq, Eq)]
+pub enum Standing {
+    /// Opened by `add`: no call has failed with these places.
+    Fresh,
+    /// Opened by `add_tried`, with so many failed tries.
+    Tried(u32),
+    /// The first part of a split, with so many failed tries: no place joins it.
+    Split(u32),
+}
+
+impl Standing {
+    pub fn is_fresh(self) -> bool
+        ensures { result ≡ spec.is_fresh self }
+    {
+        matches!(self, Standing::Fresh)
+    }
+
+    /// The number of failed tries, 0 of a fresh piece.
+    pub fn tries(self) -> u32
+        ensures { result ≡ spec.tries_of self }
+    {
+        match self {
+            Standing::Fresh => 0,
+            Standing::Tried(tries) | Standing::Split(tries) => tries,
+        }
+    }
+
+    /// Whether a place of this other standing joins such a piece.
+    pub fn takes(self, other: Standing) -> bool
+        ensures { result ≡ spec.takes self other }
+    {
+        match (self, other) {
+            (Standing::Fresh, Standing::Fresh) => true,
+            (Standing::Tried(mine), Standing::Tried(theirs)) => mine == theirs,
+            _ => false,
+        }
+    }
+}
