@@ -1,0 +1,9 @@
+pub mod Digits
+pub mod Feeds
+pub mod FirstLine
+pub mod Follows
+pub mod Inputs
+pub mod Objects
+pub mod Splits
+pub mod Steps
+pub mod Valid

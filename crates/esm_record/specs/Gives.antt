@@ -1,0 +1,14 @@
+-- What a function answers that reads a line, or is short of memory.
+use Rattle.std.specs.Prelude.{◌≡◌, Result, Ok, Err}
+use Rattle.esm_record.specs.declared.error.LineError.{LineError}
+use Rattle.esm_record.specs.declared.error.Refusal.{Refusal}
+use Rattle.esm_record.specs.declared.error.Refusal.TheVariants as refusal
+
+abbrev pub Fails : {A : Type 0} → Refusal → Result A LineError → Type 0
+Fails refusal.OutOfMemory reading = Unit {0}
+Fails (refusal.Line why) reading = reading ≡ Err why
+
+-- the answer is that of the reading, unless memory was wanting
+abbrev pub Gives : {A : Type 0} → Result A Refusal → Result A LineError → Type 0
+Gives (Ok x) reading = reading ≡ Ok x
+Gives (Err e) reading = Fails e reading

@@ -1,0 +1,120 @@
+-- The items of an input, and its first bad line. Sources: JSON Lines for the lines; the Kinesis API Reference,
+-- `SequenceNumber` (numbers of a shard grow); the limit of a line and the names of the refusals are this product's own.
+use Rattle.std.specs.Prelude.{◌≡◌, ℕ, ◌+◌, ◌==◌, nat_lt, Bool, true, false, ◌||◌, List, [], ◌∷◌, ◌++◌, length, fold, Option, Some, None, is_some, Result, Ok, Err, if◌then◌else◌}
+use Rattle.std.specs.List.{list_all, slice_split}
+use Rattle.std.specs.Ordering.{is_lt}
+use Rattle.esm_model.specs.Sequence.{sequence_order}
+use Rattle.esm_model.specs.Valid.{IsValidRecord}
+use Rattle.esm_model.specs.declared.item.Record.{Record}
+use Rattle.esm_record.specs.declared.error.LineError.{LineError}
+use Rattle.esm_record.specs.declared.error.LineError.TheVariants.{LineTooLong, Backwards}
+use Rattle.esm_record.specs.declared.error.BadLine.{BadLine}
+use Rattle.esm_record.specs.declared.item.LineKind.{LineKind}
+use Rattle.esm_record.specs.declared.item.LineKind.TheVariants as kinds
+use Rattle.esm_record.specs.declared.item.Item.{Item}
+use Rattle.esm_record.specs.declared.item.Item.TheVariants.{Stream}
+use Rattle.esm_record.specs.Line.{◌>>=◌, line_of}
+
+-- bytes of a line, without its line feed
+abbrev pub MAX_LINE : ℕ
+MAX_LINE = 8388608
+
+abbrev pub is_line_feed : ℕ → Bool
+is_line_feed b = b == 10
+
+-- space, tab, carriage return
+abbrev pub is_space : ℕ → Bool
+is_space b = (b == 32) || (b == 9) || (b == 13)
+
+abbrev pub is_blank : List ℕ → Bool
+is_blank line = list_all is_space line
+
+-- the parts between line feeds; the last one has none behind it
+abbrev pub lines_of : List ℕ → List (List ℕ)
+lines_of bytes = slice_split is_line_feed bytes
+
+-- the lines whose line feed came
+abbrev pub ended : List (List ℕ) → List (List ℕ)
+ended [] = []
+ended (line ∷ []) = []
+ended (line ∷ next ∷ more) = line ∷ ended (next ∷ more)
+
+-- what stands after the last line feed
+abbrev pub begun : List (List ℕ) → List ℕ
+begun [] = []
+begun (line ∷ []) = line
+begun (line ∷ next ∷ more) = begun (next ∷ more)
+
+-- the last sequence number of the shard, by the items in order
+abbrev pub number_after : ℕ → Option (List ℕ) → Item → Option (List ℕ)
+number_after shard last (Stream r) = if r.shard == shard then Some r.seq else last
+
+abbrev pub last_number : ℕ → List Item → Option (List ℕ)
+last_number shard items = fold (number_after shard) None items
+
+-- a record's number is greater than the shard's last one
+abbrev pub in_order : Option (List ℕ) → Record → Result Record LineError
+in_order None r = Ok r
+in_order (Some kept) r = if is_lt (sequence_order kept r.seq) then Ok r else Err (Backwards kept r.seq)
+
+-- the record of a line, where these are the shards' last numbers
+abbrev pub next_record : (ℕ → Option (List ℕ)) → List ℕ → Result Record LineError
+next_record last line = line_of line >>= λ r. in_order (last r.shard) r
+
+abbrev pub stream_item : Result Record LineError → Result (Option Item) LineError
+stream_item (Ok r) = Ok (Some (Stream r))
+stream_item (Err why) = Err why
+
+-- the item of a line that is neither blank nor too long, after these items
+abbrev pub item_of : LineKind → List Item → List ℕ → Result (Option Item) LineError
+item_of kinds.Stream items line = stream_item (next_record (λ shard. last_number shard items) line)
+
+-- what a line says after these items: nothing where it is blank, its item, or why it is refused
+abbrev pub read_after : LineKind → List Item → List ℕ → Result (Option Item) LineError
+read_after kind items line =
+    if nat_lt MAX_LINE (length line) then Err LineTooLong
+    else (if is_blank line then Ok None else item_of kind items line)
+
+-- the good lines so far, their items, and the first bad line
+pub record Input : Type 0 where
+  pub lines : ℕ
+  pub items : List Item
+  pub bad : Option BadLine
+
+abbrev pub nothing_read : Input
+nothing_read = record { lines = 0; items = []; bad = None }
+
+abbrev pub after_line : Input → Result (Option Item) LineError → Input
+after_line input (Ok None) = record input { lines = input.lines + 1 }
+after_line input (Ok (Some item)) = record input { lines = input.lines + 1; items = input.items ++ item ∷ [] }
+after_line input (Err why) = record input { bad = Some (record { line = input.lines + 1; why = why }) }
+
+-- the next line; after a bad one nothing is read
+abbrev pub add_line : LineKind → Input → List ℕ → Input
+add_line kind input line = if is_some input.bad then input else after_line input (read_after kind input.items line)
+
+abbrev pub read_lines : LineKind → List (List ℕ) → Input
+read_lines kind lines = fold (add_line kind) nothing_read lines
+
+-- all lines of the bytes, also a last one without a line feed
+unfoldable pub input_of : LineKind → List ℕ → Input
+input_of kind bytes = read_lines kind (lines_of bytes)
+
+-- a line without its line feed that is too long already
+abbrev pub too_long : List ℕ → List (List ℕ)
+too_long line = if nat_lt MAX_LINE (length line) then line ∷ [] else []
+
+-- the lines of the bytes that ended, and a last one that is too long already
+unfoldable pub input_so_far : LineKind → List ℕ → Input
+input_so_far kind bytes = read_lines kind (ended (lines_of bytes) ++ too_long (begun (lines_of bytes)))
+
+abbrev pub IsValidItem : Item → Type 0
+IsValidItem (Stream r) = IsValidRecord r
+
+-- what a reader of lines was fed
+pub record Feeding : Type 0 where
+  pub kind : LineKind
+  pub bytes : List ℕ
+  -- a call of it was short of memory
+  pub failed : Bool
+  pub finished : Bool

@@ -1,0 +1,18 @@
+//! The input of a mapping: lines of JSON in any pieces of bytes, read into items.
+//! Says the first bad line, with its number and why it is refused.
+//! Pure values; no device, clock or thread.
+#![tactic(auto)]
+
+mod error;
+mod item;
+mod line;
+mod lines;
+mod order;
+mod reading;
+
+pub use error::{BadLine, Field, LineError};
+pub use item::{Fed, Item, Items, LineKind};
+pub use lines::Lines;
+
+#[cfg(test)]
+mod tests;

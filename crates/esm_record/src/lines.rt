@@ -1,0 +1,151 @@
+ghost use Rattle.std.specs.Prelude.{◌≡◌, ◌≤◌, ℕ, List, ◌++◌, [], length, true, false, Ok, IsErr, OnOk, IfOk, OnErr, IsNone, All};
+ghost use Rattle.esm_record.specs.declared.item.Item.{Item};
+ghost use Rattle.esm_record.specs.Input.{IsValidItem, input_so_far, input_of};
+ghost use Rattle.esm_record.specs.Reading.{HasRead, Stands};
+ghost use Rattle.esm_record.specs.Fed.{fed_bytes};
+
+use crate::item::{Fed, Items, LineKind};
+use crate::reading::Reading;
+use esm_model::OutOfMemory;
+use std::alloc::Global;
+use std::marker::Model;
+use std::snapshot::Snapshot;
+
+/// A reader of an input's lines, in any pieces of bytes.
+/// Contracts see the bytes that it was fed, whether it failed for want of memory and whether it finished.
+#[derive(Drop)]
+pub struct Lines {
+    alloc: Global,
+    /// The pieces so far, which clauses alone see.
+    fed: Vec<Snapshot<Vec<u8>>>,
+    piece: Vec<u8>,
+    reading: Reading,
+    failed: bool,
+    finished: bool,
+}
+
+impl Model for Lines {
+    ghost use Rattle.std.specs.Prelude.{◌≡◌, false};
+    ghost use Rattle.esm_record.specs.Input.{Feeding};
+    ghost use Rattle.esm_record.specs.Fed.{fed_bytes};
+    ghost use Rattle.esm_record.specs.Reading.{IsFed};
+
+    ghost Value = { Feeding };
+
+    ghost view = { λ l. record { kind = l.reading.kind; bytes = fed_bytes l.fed.items; failed = l.failed; finished = l.finished } };
+
+    ghost invariant = { λ l. l.failed ≡ false → l.finished ≡ false → IsFed (fed_bytes l.fed.items) l.reading };
+}
+
+/// Notes the piece for the clauses.
+fn note(
+    fed: &mut Vec<Snapshot<Vec<u8>>>,
+    copy: &mut Vec<u8>,
+    piece: &[u8],
+) -> Result<(), OutOfMemory>
+    ensures { OnOk result (fed_bytes fed.new.items ≡ fed_bytes fed.old.items ++ piece.now) }
+{
+    copy.clear();
+    copy.extend_from_slice(piece)?;
+    fed.push(Snapshot::of(copy))?;
+    Ok(())
+}
+
+fn read_piece(alloc: Global, reading: &mut Reading, piece: &[u8]) -> Result<Fed, OutOfMemory>
+    requires { IsNone reading.old.bad → length reading.old.begun.items ≤ 8388608 }
+    ensures read { IfOk result (λ fed. (bytes : List ℕ) (before : List Item) → HasRead bytes before [] reading.old
+        → HasRead (bytes ++ piece.now) before fed.items reading.new) }
+    ensures bad { IfOk result (λ fed. fed.bad ≡ reading.new.bad) }
+    ensures kind { reading.new.kind ≡ reading.old.kind }
+{
+    let mut items = Vec::new(alloc);
+    reading.read_more(alloc, &mut items, piece)?;
+    let bad = reading.bad_line(alloc)?;
+    Ok(Fed {
+        items: Items::from_vec(items),
+        bad,
+    })
+}
+
+fn read_end(alloc: Global, reading: &mut Reading) -> Result<Fed, OutOfMemory>
+    requires { IsNone reading.old.bad → length reading.old.begun.items ≤ 8388608 }
+    ensures read { IfOk result (λ fed. (bytes : List ℕ) (before : List Item) → HasRead bytes before [] reading.old
+        → Stands (input_of reading.old.kind bytes) before fed.items reading.new) }
+    ensures bad { IfOk result (λ fed. fed.bad ≡ reading.new.bad) }
+    ensures kind { reading.new.kind ≡ reading.old.kind }
+{
+    let mut items = Vec::new(alloc);
+    reading.read_end(alloc, &mut items)?;
+    let bad = reading.bad_line(alloc)?;
+    Ok(Fed {
+        items: Items::from_vec(items),
+        bad,
+    })
+}
+
+impl Lines {
+    /// A reader that was fed nothing. It takes no memory yet.
+    #[tactic(auto, unfolding(crate::specs::Input::input_so_far))]
+    pub fn new(alloc: Global, kind: LineKind) -> Result<Lines, OutOfMemory>
+        ensures { result ≡ Ok (record { kind = kind; bytes = []; failed = false; finished = false }) }
+    {
+        Ok(Lines {
+            alloc,
+            fed: Vec::new(alloc),
+            piece: Vec::new(alloc),
+            reading: Reading::new(alloc, kind),
+            failed: false,
+            finished: false,
+        })
+    }
+
+    /// Takes the next piece of the input. Gives the items of the lines that it ends, up to the first bad line, and that
+    /// line; after a bad line each call gives no items and the same bad line. A line of more than 8,388,608 bytes is bad
+    /// as soon as they came. After `OutOfMemory` each call answers `OutOfMemory`.
+    pub fn feed(&mut self, piece: &[u8]) -> Result<Fed, OutOfMemory>
+        requires { self.old.finished ≡ false }
+        ensures items { IfOk result (λ fed. (input_so_far self.old.kind self.old.bytes).items ++ fed.items
+            ≡ (input_so_far self.old.kind (self.old.bytes ++ piece.now)).items) }
+        ensures bad { IfOk result (λ fed. fed.bad ≡ (input_so_far self.old.kind (self.old.bytes ++ piece.now)).bad) }
+        ensures valid { IfOk result (λ fed. All IsValidItem fed.items) }
+        ensures bytes { OnOk result (self.new.bytes ≡ self.old.bytes ++ piece.now) }
+        ensures good { OnOk result (self.new.failed ≡ false) }
+        ensures memory { OnErr result (self.new.failed ≡ true) }
+        ensures for_ever { self.old.failed ≡ true → IsErr result }
+        ensures kind { self.new.kind ≡ self.old.kind }
+        ensures going { self.new.finished ≡ false }
+    {
+        if self.failed {
+            return Err(OutOfMemory);
+        }
+        self.failed = true;
+        note(&mut self.fed, &mut self.piece, piece)?;
+        let fed = read_piece(self.alloc, &mut self.reading, piece)?;
+        self.failed = false;
+        Ok(fed)
+    }
+
+    /// Ends the input: what stands after the last line feed is a line of its own. Gives its item, or the first bad line
+    /// of the whole input.
+    pub fn finish(&mut self) -> Result<Fed, OutOfMemory>
+        requires { self.old.finished ≡ false }
+        ensures items { IfOk result (λ fed. (input_so_far self.old.kind self.old.bytes).items ++ fed.items
+            ≡ (input_of self.old.kind self.old.bytes).items) }
+        ensures bad { IfOk result (λ fed. fed.bad ≡ (input_of self.old.kind self.old.bytes).bad) }
+        ensures valid { IfOk result (λ fed. All IsValidItem fed.items) }
+        ensures finished { OnOk result (self.new ≡ record self.old { finished = true }) }
+        ensures memory { OnErr result (self.new.failed ≡ true) }
+        ensures for_ever { self.old.failed ≡ true → IsErr result }
+        ensures kind { self.new.kind ≡ self.old.kind }
+        ensures going { OnErr result (self.new.finished ≡ false) }
+    {
+        if self.failed {
+            return Err(OutOfMemory);
+        }
+        self.failed = true;
+        let fed = read_end(self.alloc, &mut self.reading)?;
+        self.failed = false;
+        self.finished = true;
+        Ok(fed)
+    }
+}
