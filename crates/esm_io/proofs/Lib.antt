@@ -1,0 +1,4 @@
+pub mod Fronts
+pub mod Elapsed
+pub mod DiskCalls
+pub mod Crashed

@@ -1,0 +1,12 @@
+-- What a scripted caller holds. This product's own.
+use Rattle.std.specs.Prelude.{ℕ, List}
+use Rattle.esm_io.specs.Schedule.{ScheduleState}
+use Rattle.esm_io.specs.declared.script.Script.{Script}
+use Rattle.esm_model.specs.declared.called.Called.{Called}
+
+-- its script, how many of the script's replies were given, and the calls made, in order
+pub record CallerState : Type 0 where
+  pub script : Script
+  pub given : ℕ
+  pub log : List Called
+  pub schedule : ScheduleState

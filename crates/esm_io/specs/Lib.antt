@@ -1,0 +1,10 @@
+pub mod Faults
+pub mod Told
+pub mod Talks
+pub mod Images
+pub mod Schedule
+pub mod Forms
+pub mod Script
+pub mod Caller
+pub mod Steps
+pub mod Crashes

@@ -1,0 +1,17 @@
+-- What an object from outside holds or has left, where it tells it: `None` tells nothing. This product's own.
+use Rattle.std.specs.Prelude.{◌≡◌, List, ◌++◌, [], Option, Some, None}
+
+-- these came from the front of what was left
+abbrev pub TakesFront : {A : Type 0} → Option (List A) → Option (List A) → List A → Type 0
+TakesFront None new front = new ≡ None
+TakesFront {A} (Some old) new front = (rest : List A) × (old ≡ front ++ rest) × (new ≡ Some rest)
+
+-- the list grew by these at its end
+abbrev pub Grows : {A : Type 0} → Option (List A) → Option (List A) → List A → Type 0
+Grows None new more = new ≡ None
+Grows (Some old) new more = new ≡ Some (old ++ more)
+
+-- nothing is left
+abbrev pub IsAtEnd : {A : Type 0} → Option (List A) → Type 0
+IsAtEnd None = Unit {0}
+IsAtEnd (Some left) = left ≡ []

@@ -1,0 +1,55 @@
+ghost use Rattle.std.specs.Prelude.{◌≡◌, ◌≤◌, ℕ, List, [], ◌∷◌, Bool, true, false, Option, length, IsErrOf, OnOk, OnErr};
+ghost use Rattle.esm_io.specs.Faults.{IsCount, Rose};
+ghost use Rattle.esm_io.specs.Told.{Grows};
+
+use esm_model::OutOfMemory;
+use std::alloc::Global;
+
+/// Why a line was not delivered.
+#[derive(Clone, Copy, Debug, PartialEq, Eq)]
+pub enum DestError {
+    /// The destination's count of faults rose; it takes no further line.
+    Failed,
+    /// There was no memory, and nothing has changed.
+    OutOfMemory,
+}
+
+/// Where failure lines are delivered.
+pub trait Dest {
+    /// How often it has failed.
+    ghost faults: { Self → ℕ };
+
+    /// What a destination of this kind sends for a line.
+    ghost sends: { List ℕ → List ℕ };
+
+    /// What was sent for the lines, in order, where it tells it.
+    ghost lines: { Self → Option (List (List ℕ)) };
+
+    /// A `deliver` of it answered `Failed`.
+    ghost failed: { Self → Bool };
+
+    /// Holds of a number of bytes where the next `deliver` of a line of so many does not answer `OutOfMemory`.
+    ghost has_room: { Self → ℕ → Type 0 };
+
+    /// Makes room for the next line, of at most so many bytes. After its Ok the next `deliver` of such a line does
+    /// not answer `OutOfMemory`.
+    fn reserve(&mut self, alloc: Global, bytes: u64) -> Result<(), OutOfMemory>
+        ensures room { OnOk result ((n : ℕ) → n ≤ bytes → has_room self.new n) }
+        ensures lines_kept { lines self.new ≡ lines self.old }
+        ensures failed_kept { failed self.new ≡ failed self.old }
+        ensures count { faults self.new ≡ faults self.old };
+
+    /// Delivers a line. `Failed` only where the count of faults rose; the line may then stand at the destination
+    /// though it is not among the lines told.
+    fn deliver(&mut self, alloc: Global, line: &[u8]) -> Result<(), DestError>
+        requires short { length line.now ≤ 16777216 }
+        requires usable { failed self.old ≡ false }
+        ensures sent { OnOk result (Grows (lines self.old) (lines self.new) (sends line.now ∷ [])) }
+        ensures unsent { OnErr result (lines self.new ≡ lines self.old) }
+        ensures usable_still { OnOk result (failed self.new ≡ false) }
+        ensures usable_again { IsErrOf result DestError.OutOfMemory → failed self.new ≡ false }
+        ensures down { IsErrOf result DestError.Failed → failed self.new ≡ true }
+        ensures room { IsErrOf result DestError.OutOfMemory → has_room self.old (length line.now) → ⊥ }
+        ensures count { IsCount (faults self.old) (faults self.new) }
+        ensures cause { IsErrOf result DestError.Failed → Rose (faults self.old) (faults self.new) };
+}

@@ -1,0 +1,45 @@
+ghost use Rattle.std.specs.Prelude.{None};
+
+use crate::failed::Failed;
+use crate::real::counted;
+use crate::source::Source;
+use esm_model::{OutOfMemory, Text};
+use std::fs;
+use std::io::Read;
+use std::rt::Files;
+
+/// A file that is read from its front. A missing one is a fault of the first read.
+#[derive(Drop)]
+pub struct FileSource<R: Files + Clone> {
+    rt: R,
+    path: Text,
+    file: Option<R::File>,
+    faults: u64,
+}
+
+impl<R: Files + Clone> FileSource<R> {
+    pub fn new(rt: &R, path: Text) -> Result<Self, OutOfMemory> {
+        Ok(FileSource {
+            rt: rt.clone()?,
+            path,
+            file: None,
+            faults: 0,
+        })
+    }
+}
+
+impl<R: Files + Clone> Source for FileSource<R> {
+    ghost faults = { λ s. s.faults };
+
+    ghost left = { λ s. None };
+
+    fn read(&mut self, into: &mut [u8]) -> Result<usize, Failed> {
+        let mut file = match self.file.take() {
+            Some(file) => file,
+            None => counted(&mut self.faults, fs::open(&self.rt, self.path.as_str()))?,
+        };
+        let count = counted(&mut self.faults, file.read(into));
+        self.file = Some(file);
+        count
+    }
+}

@@ -1,0 +1,107 @@
+ghost use Rattle.std.specs.Prelude.{◌≡◌, ◌<◌, ◌≤◌, ◌++◌, ℕ, Some, [], ◌∷◌, length, vec_len, vec_capacity, true, false, OnOk, OnErr, IsErrOf};
+ghost use Rattle.esm_io.specs.Faults.{IsCount, Rose};
+ghost use Rattle.esm_io.specs.Schedule.{is_due};
+
+use crate::dest::{Dest, DestError};
+use crate::schedule::Schedule;
+use esm_model::{Bytes, OutOfMemory};
+use std::alloc::{AllocError, Global};
+use std::marker::Model;
+
+/// A destination in memory. It keeps the lines, and tells them.
+#[derive(Drop, Debug)]
+pub struct MemDest {
+    lines: Vec<Bytes>,
+    /// Room for the next line.
+    room: Vec<u8>,
+    failed: bool,
+    schedule: Schedule,
+}
+
+impl Model for MemDest {
+    ghost use Rattle.std.specs.Prelude.{◌≡◌, ◌+◌, nat_lt, if◌then◌else◌, vec_len, vec_capacity};
+    ghost use Rattle.esm_io.specs.Forms.{DestState};
+
+    ghost Value = { DestState };
+
+    ghost view = { λ s. record {
+      lines = s.lines.items;
+      failed = s.failed;
+      room = if nat_lt (vec_len s.lines) (vec_capacity s.lines) then vec_capacity s.room + 1 else 0;
+      schedule = s.schedule;
+    } };
+
+    ghost invariant = { λ s. vec_len s.room ≡ 0 };
+}
+
+impl MemDest {
+    /// `fails` are the numbers, from 0, of the deliveries that are to fail.
+    pub fn new(alloc: Global, fails: Vec<u64>) -> Self
+        ensures lines { result.lines ≡ [] }
+        ensures usable { result.failed ≡ false }
+        ensures schedule { result.schedule ≡ record { fails = fails.items; calls = 0; faults = 0 } }
+    {
+        MemDest {
+            lines: Vec::new(alloc),
+            room: Vec::new(alloc),
+            failed: false,
+            schedule: Schedule::new(fails),
+        }
+    }
+
+    /// The lines, in order.
+    pub fn lines(&self) -> &[Bytes]
+        ensures { result.now ≡ self.now.lines }
+    {
+        &self.lines
+    }
+}
+
+/// Adds a line, in the room that was made for it where there is enough.
+fn add_line(
+    alloc: Global,
+    lines: &mut Vec<Bytes>,
+    room: &mut Vec<u8>,
+    line: &[u8],
+) -> Result<(), AllocError>
+    requires { vec_len room.old ≡ 0 }
+    ensures added { OnOk result (lines.new.items ≡ lines.old.items ++ line.now ∷ []) }
+    ensures unadded { OnErr result (lines.new.items ≡ lines.old.items) }
+    ensures full { OnErr result (vec_len lines.old < vec_capacity lines.old → length line.now ≤ vec_capacity room.old → ⊥) }
+    ensures room { vec_len room.new ≡ 0 }
+{
+    let mut bytes = std::mem::replace(room, Vec::new(alloc));
+    bytes.extend_from_slice(line)?;
+    lines.push(Bytes::from_vec(bytes))?;
+    Ok(())
+}
+
+impl Dest for MemDest {
+    ghost faults = { λ s. s.schedule.faults };
+
+    ghost sends = { λ line. line };
+
+    ghost lines = { λ s. Some s.lines };
+
+    ghost failed = { λ s. s.failed };
+
+    ghost has_room = { λ s n. n < s.room };
+
+    fn reserve(&mut self, alloc: Global, bytes: u64) -> Result<(), OutOfMemory> {
+        let room = Vec::with_capacity(alloc, bytes as usize)?;
+        self.lines.reserve(1)?;
+        self.room = room;
+        Ok(())
+    }
+
+    fn deliver(&mut self, alloc: Global, line: &[u8]) -> Result<(), DestError> {
+        if self.schedule.fails_now() {
+            self.failed = true;
+            return Err(DestError::Failed);
+        }
+        match add_line(alloc, &mut self.lines, &mut self.room, line) {
+            Ok(()) => Ok(()),
+            Err(_) => Err(DestError::OutOfMemory),
+        }
+    }
+}

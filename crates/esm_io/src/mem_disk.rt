@@ -1,0 +1,207 @@
+ghost use Rattle.std.specs.Prelude.{◌≡◌, ◌+◌, ◌≤◌, ℕ, true, List, [], ◌∷◌, ◌++◌, length, take, drop, OnOk, OnErr, IfOk, IfErr};
+ghost use Rattle.esm_io.specs.Images.{overwritten};
+ghost use Rattle.esm_io.specs.Crashes.{crashed};
+ghost use Rattle.esm_io.specs.Steps.{IsImage, IsImageSince, reads_as_image, counts_now, only_now};
+
+use crate::crash::crashed;
+use crate::disk::Disk;
+use crate::disk_step::DiskStep;
+use crate::failed::Failed;
+use crate::schedule::Schedule;
+use esm_model::{Bytes, OutOfMemory, Refused};
+use std::alloc::{AllocError, Global};
+use std::marker::Model;
+
+/// A disk in memory. It tells what a read gives and what a crash may leave, and counts its calls.
+#[derive(Drop, Debug)]
+pub struct MemDisk {
+    alloc: Global,
+    bytes: Vec<u8>,
+    steps: Vec<DiskStep>,
+    schedule: Schedule,
+}
+
+impl Model for MemDisk {
+    ghost use Rattle.std.specs.Prelude.{reverse};
+    ghost use Rattle.esm_io.specs.Steps.{DiskState, AreSteps};
+
+    ghost Value = { DiskState };
+
+    ghost view = { λ s. record { content = s.bytes.items; steps = reverse s.steps.items; schedule = s.schedule } };
+
+    ghost invariant = { λ s. AreSteps s.bytes.items (reverse s.steps.items) };
+}
+
+impl MemDisk {
+    /// A disk that holds these bytes, all of them synced. `fails` are the numbers, from 0, of the calls that are to
+    /// fail.
+    pub fn new(alloc: Global, bytes: Vec<u8>, fails: Vec<u64>) -> Self
+        ensures content { result.content ≡ bytes.items }
+        ensures steps { result.steps ≡ [] }
+        ensures schedule { result.schedule ≡ record { fails = fails.items; calls = 0; faults = 0 } }
+    {
+        MemDisk {
+            alloc,
+            bytes,
+            steps: Vec::new(alloc),
+            schedule: Schedule::new(fails),
+        }
+    }
+
+    /// The disk after a crash: with choice 0 no byte written since the last sync has arrived, and with choice 1 all
+    /// have. With a choice from 2 on the byte at place `p` has arrived where bit `p mod 8` of it is set; the length is
+    /// the new one, and bytes past the old end that have not arrived are 0. No call of the new disk is to fail.
+    pub fn crash(self, alloc: Global, choice: u64) -> Result<MemDisk, Refused<OutOfMemory, MemDisk>>
+        ensures left { IfOk result (λ disk. disk.content ≡ crashed choice self.content self.steps) }
+        ensures image { IfOk result (λ disk. IsImage self.content self.steps disk.content) }
+        ensures synced { IfOk result (λ disk. disk.steps ≡ []) }
+        ensures fresh { IfOk result (λ disk. disk.schedule ≡ record { fails = []; calls = 0; faults = 0 }) }
+        ensures back { IfErr result (λ refused. refused.back ≡ self) }
+    {
+        match crashed(alloc, choice, &self.bytes, &self.steps) {
+            Ok(bytes) => Ok(MemDisk::new(alloc, bytes, Vec::new(alloc))),
+            Err(_) => Err(Refused {
+                why: OutOfMemory,
+                back: self,
+            }),
+        }
+    }
+
+    /// What a read gives.
+    pub fn bytes(&self) -> &[u8]
+        ensures { result.now ≡ self.now.content }
+    {
+        &self.bytes
+    }
+
+    /// How many calls it had.
+    pub fn calls(&self) -> u64
+        ensures { result ≡ self.now.schedule.calls }
+    {
+        self.schedule.calls()
+    }
+}
+
+/// Writes over bytes and past their end, or changes nothing. Gives what stood in the range before.
+fn overwrite(
+    alloc: Global,
+    bytes: &mut Vec<u8>,
+    at: usize,
+    from: &[u8],
+) -> Result<Vec<u8>, AllocError>
+    requires { at ≤ length bytes.old.items }
+    ensures written { OnOk result (bytes.new.items ≡ overwritten bytes.old.items at from.now) }
+    ensures before { IfOk result (λ before. before.items ≡ take (length from.now) (drop at bytes.old.items)) }
+    ensures err { OnErr result (bytes.new.items ≡ bytes.old.items) }
+{
+    let (_, rest) = bytes.as_slice().split_at(at);
+    let overlap = from.len().min(rest.len());
+    let (front, _) = rest.split_at(overlap);
+    let before = Vec::from_slice(alloc, front)?;
+    let (over, past) = from.split_at(overlap);
+    bytes.extend_from_slice(past)?;
+    bytes[at..at + overlap].copy_from_slice(over);
+    Ok(before)
+}
+
+/// Writes over bytes and records it, or changes nothing.
+fn record_write(
+    alloc: Global,
+    bytes: &mut Vec<u8>,
+    steps: &mut Vec<DiskStep>,
+    at: usize,
+    from: &[u8],
+) -> Result<(), AllocError>
+    requires { at ≤ length bytes.old.items }
+    ensures written { OnOk result (bytes.new.items ≡ overwritten bytes.old.items at from.now) }
+    ensures recorded { OnOk result (steps.new.items ≡ steps.old.items ++ DiskStep.Wrote at (length from.now) (take (length from.now) (drop at bytes.old.items)) ∷ []) }
+    ensures err { OnErr result (bytes.new.items ≡ bytes.old.items) }
+    ensures unrecorded { OnErr result (steps.new.items ≡ steps.old.items) }
+{
+    steps.reserve(1)?;
+    let before = overwrite(alloc, bytes, at, from)?;
+    steps.push(DiskStep::Wrote {
+        at,
+        count: from.len(),
+        before: Bytes::from_vec(before),
+    })?;
+    Ok(())
+}
+
+/// Records a sync, or changes nothing.
+fn record_sync(steps: &mut Vec<DiskStep>) -> Result<(), AllocError>
+    ensures recorded { OnOk result (steps.new.items ≡ steps.old.items ++ DiskStep.Synced ∷ []) }
+    ensures unrecorded { OnErr result (steps.new.items ≡ steps.old.items) }
+{
+    steps.push(DiskStep::Synced)?;
+    Ok(())
+}
+
+impl Disk for MemDisk {
+    ghost faults = { λ s. s.schedule.faults };
+
+    ghost honest = { λ s. true };
+
+    ghost content = { λ s. s.content };
+
+    ghost image = { λ s. IsImage s.content s.steps };
+
+    ghost moment = { λ s. length s.steps };
+
+    ghost image_since = { λ s. IsImageSince s.content s.steps };
+
+    ghost reads_as_image = { λ s h. reads_as_image s.content s.steps };
+
+    ghost counts_now = { λ s t left h le now. counts_now s.content s.steps t left now };
+
+    ghost only_now = { λ s left h since. only_now s.content s.steps left since };
+
+    fn len(&mut self) -> Result<u64, Failed> {
+        if self.schedule.fails_now() {
+            return Err(Failed);
+        }
+        Ok(self.bytes.len() as u64)
+    }
+
+    fn read(&mut self, at: u64, into: &mut [u8]) -> Result<(), Failed> {
+        if self.schedule.fails_now() {
+            return Err(Failed);
+        }
+        let (_, rest) = self.bytes.as_slice().split_at(at as usize);
+        let (front, _) = rest.split_at(into.len());
+        into.copy_from_slice(front);
+        Ok(())
+    }
+
+    fn write_at(&mut self, at: u64, from: &[u8]) -> Result<(), Failed> {
+        if self.schedule.fails_now() {
+            return Err(Failed);
+        }
+        match record_write(
+            self.alloc,
+            &mut self.bytes,
+            &mut self.steps,
+            at as usize,
+            from,
+        ) {
+            Ok(()) => Ok(()),
+            Err(_) => {
+                self.schedule.fault();
+                Err(Failed)
+            }
+        }
+    }
+
+    fn sync(&mut self) -> Result<(), Failed> {
+        if self.schedule.fails_now() {
+            return Err(Failed);
+        }
+        match record_sync(&mut self.steps) {
+            Ok(()) => Ok(()),
+            Err(_) => {
+                self.schedule.fault();
+                Err(Failed)
+            }
+        }
+    }
+}

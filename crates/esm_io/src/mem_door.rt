@@ -1,0 +1,80 @@
+ghost use Rattle.std.specs.Prelude.{◌≡◌, [], Some, map};
+ghost use Rattle.std.specs.List.{All};
+ghost use Rattle.esm_io.specs.Forms.{IsUnused, closed_link};
+
+use crate::door::Door;
+use crate::failed::Failed;
+use crate::mem_link::MemLink;
+use crate::schedule::Schedule;
+use esm_model::OutOfMemory;
+use std::alloc::Global;
+use std::collections::VecDeque;
+use std::marker::Model;
+
+/// A door in memory. It gives its connections in order, then fails, and keeps those that were closed.
+#[derive(Drop, Debug)]
+pub struct MemDoor {
+    links: VecDeque<MemLink>,
+    closed: Vec<MemLink>,
+    schedule: Schedule,
+}
+
+impl Model for MemDoor {
+    ghost use Rattle.std.specs.List.{All};
+    ghost use Rattle.esm_io.specs.Forms.{DoorState, IsUnused};
+
+    ghost Value = { DoorState };
+
+    ghost view = { λ s. record { links = s.links.items; closed = s.closed.items; schedule = s.schedule } };
+
+    ghost invariant = { λ s. All IsUnused s.links.items };
+}
+
+impl MemDoor {
+    /// `fails` are the numbers, from 0, of the calls of `accept` that are to fail.
+    pub fn new(alloc: Global, links: Vec<MemLink>, fails: Vec<u64>) -> Self
+        requires { All IsUnused links.items }
+        ensures links { result.links ≡ links.items }
+        ensures closed { result.closed ≡ [] }
+        ensures schedule { result.schedule ≡ record { fails = fails.items; calls = 0; faults = 0 } }
+    {
+        MemDoor {
+            links: VecDeque::from_vec(links),
+            closed: Vec::new(alloc),
+            schedule: Schedule::new(fails),
+        }
+    }
+
+    /// The connections that were closed, in order.
+    pub fn closed(&self) -> &[MemLink]
+        ensures { result.now ≡ self.now.closed }
+    {
+        &self.closed
+    }
+}
+
+impl Door for MemDoor {
+    type Conn = MemLink;
+
+    ghost faults = { λ s. s.schedule.faults };
+
+    ghost closed = { λ s. Some (map closed_link s.closed) };
+
+    fn accept(&mut self) -> Result<MemLink, Failed> {
+        if self.schedule.fails_now() {
+            return Err(Failed);
+        }
+        match self.links.pop_front() {
+            Some(link) => Ok(link),
+            None => {
+                self.schedule.fault();
+                Err(Failed)
+            }
+        }
+    }
+
+    fn close(&mut self, _alloc: Global, conn: MemLink) -> Result<(), OutOfMemory> {
+        self.closed.push(conn)?;
+        Ok(())
+    }
+}

@@ -1,0 +1,84 @@
+ghost use Rattle.std.specs.Prelude.{◌≡◌, ◌<◌, ◌≤◌, ℕ, Some, [], length, take, min, true, IfOk, OnErr, IsErr};
+ghost use Rattle.esm_io.specs.Faults.{IsCount, Rose};
+ghost use Rattle.esm_io.specs.Told.{Grows};
+ghost use Rattle.esm_io.specs.Schedule.{is_due, one_more};
+
+use crate::failed::Failed;
+use crate::pieces::take_front;
+use crate::schedule::Schedule;
+use crate::sink::Sink;
+use std::alloc::Global;
+use std::marker::Model;
+
+/// A sink in memory. It takes at most `piece` bytes a write, and tells what it took.
+#[derive(Drop, Debug)]
+pub struct MemSink {
+    written: Vec<u8>,
+    piece: usize,
+    schedule: Schedule,
+}
+
+impl Model for MemSink {
+    ghost use Rattle.std.specs.Prelude.{◌<◌};
+    ghost use Rattle.esm_io.specs.Forms.{SinkState};
+
+    ghost Value = { SinkState };
+
+    ghost view = { λ s. record { written = s.written.items; piece = s.piece; schedule = s.schedule } };
+
+    ghost invariant = { λ s. 0 < s.piece };
+}
+
+impl MemSink {
+    /// `fails` are the numbers, from 0, of the writes that are to fail.
+    pub fn new(alloc: Global, piece: usize, fails: Vec<u64>) -> Self
+        requires { 0 < piece }
+        ensures written { result.written ≡ [] }
+        ensures piece { result.piece ≡ piece }
+        ensures schedule { result.schedule ≡ record { fails = fails.items; calls = 0; faults = 0 } }
+    {
+        MemSink {
+            written: Vec::new(alloc),
+            piece,
+            schedule: Schedule::new(fails),
+        }
+    }
+
+    /// The bytes that it took.
+    pub fn written(&self) -> &[u8]
+        ensures { result.now ≡ self.now.written }
+    {
+        &self.written
+    }
+}
+
+impl Sink for MemSink {
+    ghost faults = { λ s. s.schedule.faults };
+
+    ghost written = { λ s. Some s.written };
+
+    /// A write that finds no memory fails too.
+    fn write(&mut self, from: &[u8]) -> Result<usize, Failed>
+        ensures within { IfOk result (λ n. n ≤ length from.now) }
+        ensures some { IfOk result (λ n. 0 < length from.now → 0 < n) }
+        ensures taken { IfOk result (λ n. Grows (Some self.old.written) (Some self.new.written) (take n from.now)) }
+        ensures untaken { OnErr result (Some self.new.written ≡ Some self.old.written) }
+        ensures count { IsCount self.old.schedule.faults self.new.schedule.faults }
+        ensures cause { OnErr result (Rose self.old.schedule.faults self.new.schedule.faults) }
+        ensures piece { IfOk result (λ n. n ≡ min (length from.now) self.old.piece) }
+        ensures piece_kept { self.new.piece ≡ self.old.piece }
+        ensures due { is_due self.old.schedule ≡ true → IsErr result }
+        ensures calls { self.new.schedule.calls ≡ one_more self.old.schedule.calls }
+    {
+        if self.schedule.fails_now() {
+            return Err(Failed);
+        }
+        match take_front(&mut self.written, from, self.piece) {
+            Ok(count) => Ok(count),
+            Err(_) => {
+                self.schedule.fault();
+                Err(Failed)
+            }
+        }
+    }
+}

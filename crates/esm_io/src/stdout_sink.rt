@@ -1,0 +1,46 @@
+ghost use Rattle.std.specs.Prelude.{◌<◌, ◌≤◌, None, IfOk, length};
+
+use crate::failed::Failed;
+use crate::real::counted;
+use crate::sink::Sink;
+use esm_model::OutOfMemory;
+use std::io;
+
+/// Standard output.
+#[derive(Drop)]
+pub struct StdoutSink<R: Print + Clone> {
+    rt: R,
+    faults: u64,
+}
+
+impl<R: Print + Clone> StdoutSink<R> {
+    pub fn new(rt: &R) -> Result<Self, OutOfMemory> {
+        Ok(StdoutSink {
+            rt: rt.clone()?,
+            faults: 0,
+        })
+    }
+}
+
+impl<R: Print + Clone> Sink for StdoutSink<R> {
+    ghost faults = { λ s. s.faults };
+
+    ghost written = { λ s. None };
+
+    /// What takes nothing of bytes that are there has failed.
+    fn write(&mut self, from: &[u8]) -> Result<usize, Failed> {
+        counted(&mut self.faults, write_some(&self.rt, from))
+    }
+}
+
+/// Writes bytes from the front, at least one where there are any.
+pub fn write_some<R: Print>(rt: &R, from: &[u8]) -> io::Result<usize>
+    ensures within { IfOk result (λ n. n ≤ length from.now) }
+    ensures some { IfOk result (λ n. 0 < length from.now → 0 < n) }
+{
+    let count = rt.write_some(from)?;
+    if count == 0 && !from.is_empty() {
+        return Err(io::Error::from(io::ErrorKind::WriteZero));
+    }
+    Ok(count)
+}
