@@ -1,0 +1,6 @@
+pub mod Steps
+pub mod Uses
+pub mod WordKinds
+pub mod Refusals
+pub mod Parse
+pub mod Spelled

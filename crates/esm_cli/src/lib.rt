@@ -1,0 +1,11 @@
+//! The words of the command line: which command they spell, and with which options.
+//! Pure: the words come as a list, and nothing is printed.
+//! `read` answers the command exactly where the words spell one.
+#![tactic(auto)]
+
+pub mod command;
+pub mod run;
+pub mod words;
+
+pub use command::{Command, RunWords, Which, WordsError};
+pub use words::read;
