@@ -22,3 +22,4 @@ pub mod Growing
 pub mod Records
 pub mod Extended
 pub mod Unchanged
+pub mod NumberLemmas

@@ -28,16 +28,20 @@ request_part c f =
 abbrev pub error_part : Bool → List ℕ
 error_part error = if error then codes ",\"functionError\":\"Unhandled\"" else []
 
--- the last answer, where there is one
-abbrev pub response_part : Option Response → List ℕ
-response_part None = []
-response_part (Some a) =
+-- an answer's status, and whether it had the error header
+abbrev pub answer_part : Response → List ℕ
+answer_part a =
     codes "\"responseContext\":{\"statusCode\":" ++ decimal a.status
     ++ codes ",\"executedVersion\":\"$LATEST\"" ++ error_part a.error ++ codes "},"
 
--- the moment of the fate, and the batch
-abbrev pub batch_part : Config → Failure → List ℕ
-batch_part c f =
+-- the last answer, where there is one
+abbrev pub response_part : Option Response → List ℕ
+response_part None = []
+response_part (Some a) = answer_part a
+
+-- the moment of the fate, and the first and the last record
+abbrev pub batch_part : Failure → List ℕ
+batch_part f =
     codes "\"version\":\"1.0\",\"timestamp\":\"" ++ date_text f.moment
     ++ codes "\",\"KinesisBatchInfo\":{\"shardId\":\"" ++ shard_id f.shard
     ++ codes "\",\"startSequenceNumber\":\"" ++ f.first
@@ -52,4 +56,4 @@ arrivals_part c f =
 
 -- the whole line, without its line feed
 unfoldable pub failure_text : Config → Failure → List ℕ
-failure_text c f = request_part c f ++ response_part f.response ++ batch_part c f ++ arrivals_part c f
+failure_text c f = request_part c f ++ response_part f.response ++ batch_part f ++ arrivals_part c f

@@ -8,6 +8,7 @@ pub mod JsonText
 pub mod Dates
 pub mod EventText
 pub mod FailureText
+pub mod ValidCall
 pub mod Json
 pub mod State
 pub mod Reading
