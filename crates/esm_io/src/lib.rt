@@ -59,4 +59,6 @@ pub use stdout_sink::StdoutSink;
 pub use step_clock::StepClock;
 
 #[cfg(test)]
+mod crossing;
+#[cfg(test)]
 mod tests;

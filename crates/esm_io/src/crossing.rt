@@ -1,0 +1,25 @@
+use crate::{
+    FileDisk, FileSource, HostClock, MemDest, MemDisk, MemDoor, MemLink, MemSink, MemSource,
+    ScriptCaller, StdinSource, StdoutSink, StepClock,
+};
+
+fn crosses<T: Send>() {}
+
+fn is_shared<T: Sync>() {}
+
+/// The forms move between threads, and a clock is shared by them.
+pub fn forms_cross() {
+    crosses::<MemSource>();
+    crosses::<MemSink>();
+    crosses::<MemDisk>();
+    crosses::<MemLink>();
+    crosses::<MemDoor>();
+    crosses::<MemDest>();
+    crosses::<ScriptCaller>();
+    is_shared::<StepClock>();
+    crosses::<FileDisk<HostRuntime>>();
+    crosses::<FileSource<HostRuntime>>();
+    crosses::<StdoutSink<HostRuntime>>();
+    crosses::<StdinSource<HostRuntime>>();
+    is_shared::<HostClock<HostRuntime>>();
+}
