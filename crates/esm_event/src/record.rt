@@ -1,0 +1,121 @@
+// One record of a stream as an element of an event's `Records`.
+ghost use Rattle.std.specs.Prelude.{◌≡◌, ◌++◌, OnOk, IfOk};
+ghost use Rattle.esm_event.specs.Elements.{element_text};
+ghost use Rattle.esm_model.specs.EventText.{base64_text, shard_id, seconds_text, kinesis_part, identity_part, source_part};
+
+use crate::bytes::push_bytes;
+use crate::digits::{push_decimal, push_padded};
+use crate::json::push_quoted;
+use base64::encoded_len;
+use base64::engine::general_purpose::STANDARD;
+use esm_model::{Config, OutOfMemory, Record};
+use std::alloc::Global;
+
+/// What every element of the mapping's events ends with.
+pub(crate) fn source_text(alloc: Global, config: &Config) -> Result<Vec<u8>, OutOfMemory>
+    ensures { IfOk result (λ text. text.items ≡ source_part config.now) }
+{
+    let mut out = Vec::new(alloc);
+    push_source(&mut out, config)?;
+    Ok(out)
+}
+
+fn push_source(out: &mut Vec<u8>, config: &Config) -> Result<(), OutOfMemory>
+    ensures { OnOk result (out.new.items ≡ out.old.items ++ source_part config.now) }
+{
+    push_bytes(
+        out,
+        b"\",\"eventName\":\"aws:kinesis:record\",\"invokeIdentityArn\":\"arn:aws:iam::",
+    )?;
+    push_bytes(out, config.account.as_slice())?;
+    push_bytes(out, b":role/esm\",\"awsRegion\":\"")?;
+    push_bytes(out, config.region.as_slice())?;
+    push_bytes(out, b"\",\"eventSourceARN\":\"")?;
+    push_bytes(out, config.source_arn.as_slice())?;
+    push_bytes(out, b"\"}")?;
+    Ok(())
+}
+
+/// Appends the element that ends with `source`. After an `Err` a part of it may stand there.
+pub(crate) fn push_record(
+    out: &mut Vec<u8>,
+    source: &[u8],
+    item: &Record,
+) -> Result<(), OutOfMemory>
+    ensures { OnOk result (out.new.items ≡ out.old.items ++ element_text source.now item.now) }
+{
+    push_kinesis(out, item)?;
+    push_identity(out, item)?;
+    push_bytes(out, source)?;
+    Ok(())
+}
+
+fn push_kinesis(out: &mut Vec<u8>, item: &Record) -> Result<(), OutOfMemory>
+    ensures { OnOk result (out.new.items ≡ out.old.items ++ kinesis_part item.now) }
+{
+    push_bytes(
+        out,
+        b"{\"kinesis\":{\"kinesisSchemaVersion\":\"1.0\",\"partitionKey\":",
+    )?;
+    push_quoted(out, item.key.as_slice())?;
+    push_bytes(out, b",\"sequenceNumber\":\"")?;
+    push_bytes(out, item.seq.text().as_bytes())?;
+    push_bytes(out, b"\",\"data\":\"")?;
+    push_base64(out, item.payload.as_slice())?;
+    push_bytes(out, b"\",\"approximateArrivalTimestamp\":")?;
+    push_seconds(out, item.arrival)?;
+    push_bytes(out, b"}")?;
+    Ok(())
+}
+
+fn push_identity(out: &mut Vec<u8>, item: &Record) -> Result<(), OutOfMemory>
+    ensures { OnOk result (out.new.items ≡ out.old.items ++ identity_part item.now) }
+{
+    push_bytes(
+        out,
+        b",\"eventSource\":\"aws:kinesis\",\"eventVersion\":\"1.0\",\"eventID\":\"",
+    )?;
+    push_shard_id(out, item.shard)?;
+    push_bytes(out, b":")?;
+    push_bytes(out, item.seq.text().as_bytes())?;
+    Ok(())
+}
+
+/// Appends `shardId-` and the twelve digits of the shard's number.
+/// After an `Err` a part of it may stand there.
+pub fn push_shard_id(out: &mut Vec<u8>, shard: u64) -> Result<(), OutOfMemory>
+    ensures { OnOk result (out.new.items ≡ out.old.items ++ shard_id shard) }
+{
+    push_bytes(out, b"shardId-")?;
+    push_padded(out, 12, shard)?;
+    Ok(())
+}
+
+/// Appends milliseconds as seconds, a point and three digits. After an `Err` a part of it may stand there.
+pub fn push_seconds(out: &mut Vec<u8>, milliseconds: u64) -> Result<(), OutOfMemory>
+    ensures { OnOk result (out.new.items ≡ out.old.items ++ seconds_text milliseconds) }
+{
+    push_decimal(out, milliseconds / 1000)?;
+    push_bytes(out, b".")?;
+    push_padded(out, 3, milliseconds % 1000)?;
+    Ok(())
+}
+
+/// Appends the standard padded base64 of the bytes (RFC 4648). After an `Err` a part of it may stand there.
+#[tactic(auto, unfolding(esm_model::specs::EventText::base64_text))]
+pub fn push_base64(out: &mut Vec<u8>, bytes: &[u8]) -> Result<(), OutOfMemory>
+    ensures { OnOk result (out.new.items ≡ out.old.items ++ base64_text bytes.now) }
+{
+    let start = out.len();
+    let Some(size) = encoded_len(bytes.len(), true) else {
+        return Err(OutOfMemory);
+    };
+    let Some(end) = start.checked_add(size) else {
+        return Err(OutOfMemory);
+    };
+    out.resize(end, 0)?;
+    match STANDARD.encode_slice(bytes, &mut out[start..]) {
+        Ok(_) => Ok(()),
+        Err(_) => Err(OutOfMemory),
+    }
+}
