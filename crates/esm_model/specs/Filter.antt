@@ -1,75 +1,76 @@
 -- Which records and messages pass the filter criteria. Source: the Lambda Developer Guide, event filtering for Kinesis
 -- and SQS (which fields an event source has, and what becomes of data that is not JSON).
-use Rattle.std.specs.Prelude.{ℕ, List, [], ◌∷◌, codes, Bool, true, false, ◌&&◌, ◌||◌, if◌then◌else◌, Option, Some, None, Ok, Err}
+use Rattle.std.specs.Prelude.{ℕ, List, [], ◌∷◌, codes, Bool, true, false, ◌&&◌, ◌||◌, if◌then◌else◌, Option, Some, None, option_map, Ok, Err}
 use Rattle.std.specs.List.{list_any}
 use Rattle.std.specs.Str.{bytes_eq}
-use Rattle.serde_json.specs.Data.{Data, string, array, object, Members, no_members}
+use Rattle.serde_json.specs.Data.{Data, null, boolean, number, string, array, object, Members, no_members}
 use Rattle.serde_json.specs.Find.{get_member}
 use Rattle.serde_json.specs.Read.{read}
 use Rattle.esm_model.specs.Json.{read_json}
 use Rattle.esm_model.specs.Pattern.{Test, Rule, tests, nested, one_of, Fields, no_fields, field, Choices, no_choices, choice, Reads, read_pattern}
-use Rattle.esm_model.specs.Leaves.{leaves, some_passes, tests_pass}
+use Rattle.esm_model.specs.Leaves.{is_leaf, leaves, some_passes, tests_pass}
 use Rattle.esm_model.specs.declared.item.Record.{Record}
 use Rattle.esm_model.specs.declared.item.Message.{Message}
 
 -- ---- the object that is judged
 
 -- What a field shows to a list of tests and to an object pattern; where it shows nothing, that fails.
-pub data Seen : Type 0 where
-  seen : Option (List Data) → Option Members → Seen
+pub record Seen : Type 0 where
+  pub leaves : Option (List Data)
+  pub members : Option Members
 
 -- the members of an object; another value, or none, counts as the empty object
 abbrev pub members_in : Option Data → Members
+members_in None = no_members
+members_in (Some null) = no_members
+members_in (Some (boolean b)) = no_members
+members_in (Some (number n)) = no_members
+members_in (Some (string s)) = no_members
+members_in (Some (array ds)) = no_members
 members_in (Some (object ms)) = ms
-members_in _ = no_members
 
 abbrev pub plain : Option Data → Seen
-plain d = seen (Some (leaves d)) (Some (members_in d))
+plain d = record { leaves = Some (leaves d); members = Some (members_in d) }
 
 -- the fields of the object with these members
 abbrev pub in_object : Members → List ℕ → Seen
 in_object ms key = plain (get_member key ms)
 
--- the members that a text has as JSON, where it is JSON
+-- the members of what is JSON
 abbrev pub json_members : Option Data → Option Members
-json_members None = None
-json_members (Some d) = Some (members_in (Some d))
+json_members d = option_map (λ v. members_in (Some v)) d
 
--- A stream's record. Its data is seen as JSON by an object pattern alone.
-abbrev pub in_record : Record → List ℕ → Seen
-in_record r key =
-    if bytes_eq key (codes "kinesisSchemaVersion") then plain (Some (string (codes "1.0")))
-    else (if bytes_eq key (codes "partitionKey") then plain (Some (string r.key))
-    else (if bytes_eq key (codes "sequenceNumber") then plain (Some (string r.seq))
-    else (if bytes_eq key (codes "data") then seen None (json_members (read_json r.payload))
-    else plain None)))
+abbrev pub record_text : Record → List ℕ → Option Data
+record_text r key =
+    if bytes_eq key (codes "kinesisSchemaVersion") then Some (string (codes "1.0"))
+    else (if bytes_eq key (codes "partitionKey") then Some (string r.key) else (if bytes_eq key (codes "sequenceNumber") then Some (string r.seq) else None))
 
--- A list of tests sees a body as its text, unless it is a JSON object or list.
-abbrev pub body_leaves : List ℕ → Option Data → Option (List Data)
-body_leaves body (Some (object ms)) = None
-body_leaves body (Some (array ds)) = None
-body_leaves body _ = Some (string body ∷ [])
+-- The fields of a stream's record, and its data as JSON: only an object pattern sees that.
+abbrev pub in_record : Record → Option Data → List ℕ → Seen
+in_record r json key = if bytes_eq key (codes "data") then record { leaves = None; members = json_members json } else plain (record_text r key)
 
--- A queue's message.
-abbrev pub in_message : Message → List ℕ → Seen
-in_message m key =
-    if bytes_eq key (codes "messageId") then plain (Some (string m.id))
-    else (if bytes_eq key (codes "body") then seen (body_leaves m.body (read m.body)) (json_members (read m.body))
-    else plain None)
+-- neither an object nor a list
+abbrev pub is_text_body : Option Data → Bool
+is_text_body None = true
+is_text_body (Some d) = is_leaf d
+
+abbrev pub message_text : Message → List ℕ → Option Data
+message_text m key = if bytes_eq key (codes "messageId") then Some (string m.id) else None
+
+-- The fields of a queue's message, and its body as JSON: a list of tests sees the body as its text, unless it is a JSON
+-- object or list.
+abbrev pub in_message : Message → Option Data → List ℕ → Seen
+in_message m json key =
+    if bytes_eq key (codes "body") then record { leaves = if is_text_body json then Some (string m.body ∷ []) else None; members = json_members json }
+    else plain (message_text m key)
 
 -- ---- passing
-
-abbrev pub tests_pass_seen : List Test → Seen → Bool
-tests_pass_seen ts (seen ds ms) = some_passes (tests_pass ts) ds
-
-abbrev pub members_pass_seen : (Members → Bool) → Seen → Bool
-members_pass_seen p (seen ds ms) = some_passes p ms
 
 abbrev mutual
   -- the field with this key meets its rule; `$or` is judged over the same object
   pub rule_passes : Rule → List ℕ → (List ℕ → Seen) → Bool
-  rule_passes (tests ts) key found = tests_pass_seen ts (found key)
-  rule_passes (nested fs) key found = members_pass_seen (λ ms. fields_pass fs (in_object ms)) (found key)
+  rule_passes (tests ts) key found = some_passes (tests_pass ts) (found key).leaves
+  rule_passes (nested fs) key found = some_passes (λ ms. fields_pass fs (in_object ms)) (found key).members
   rule_passes (one_of cs) key found = one_passes cs found
 
   -- an object pattern passes where every member does
@@ -96,7 +97,7 @@ texts_pass for_stream [] found = true
 texts_pass for_stream (t ∷ ts) found = list_any (λ text. read_passes found (read_pattern for_stream text)) (t ∷ ts)
 
 unfoldable pub passes : List (List ℕ) → Record → Bool
-passes texts r = texts_pass true texts (in_record r)
+passes texts r = texts_pass true texts (in_record r (read_json r.payload))
 
 unfoldable pub passes_message : List (List ℕ) → Message → Bool
-passes_message texts m = texts_pass false texts (in_message m)
+passes_message texts m = texts_pass false texts (in_message m (read m.body))

@@ -1,6 +1,6 @@
 -- The leaves of a field and the tests on them. Source: the EventBridge event pattern syntax; that a list without leaves
 -- passes `"exists":false` is this product's own.
-use Rattle.std.specs.Prelude.{ℤ, int_lt, int_le, List, [], ◌∷◌, filter, length, ◌==◌, nat_eq, Bool, true, false, not, Option, Some, None, option_map, unwrap_or, is_some}
+use Rattle.std.specs.Prelude.{if◌then◌else◌, ℤ, int_lt, int_le, List, [], ◌∷◌, filter, length, ◌==◌, nat_eq, Bool, true, false, not, Option, Some, None, option_map, unwrap_or, is_some}
 use Rattle.std.specs.List.{list_any, list_all, starts_with, ends_with}
 use Rattle.std.specs.Ordering.{int_eq}
 use Rattle.std.specs.Bool.{beq}
@@ -56,10 +56,20 @@ leaf_passes (prefix s) d = some_passes (λ t. starts_with nat_eq t s) (as_str d)
 leaf_passes (suffix s) d = some_passes (λ t. ends_with nat_eq t s) (as_str d)
 leaf_passes (exists b) d = b
 
+abbrev pub is_absence : Test → Bool
+is_absence (equals x) = false
+is_absence (truth b) = false
+is_absence nothing = false
+is_absence (equals_ignore_case s) = false
+is_absence (anything_but xs) = false
+is_absence (numeric bs) = false
+is_absence (prefix s) = false
+is_absence (suffix s) = false
+is_absence (exists b) = not b
+
 -- `"exists":false` passes where there is no leaf, each other test where it passes for one of them
 abbrev pub test_passes : List Data → Test → Bool
-test_passes ds (exists false) = length ds == 0
-test_passes ds t = list_any (leaf_passes t) ds
+test_passes ds t = if is_absence t then length ds == 0 else list_any (leaf_passes t) ds
 
 -- a list of tests passes where one of them passes
 abbrev pub tests_pass : List Test → List Data → Bool

@@ -107,9 +107,19 @@ read_scalar (string s) = Ok (text s)
 read_scalar (array ds) = Err (refusal_of (array ds))
 read_scalar (object ms) = Err (refusal_of (object ms))
 
-abbrev pub read_scalars : Items → Reads (List Scalar)
-read_scalars no_items = Ok []
-read_scalars (item d ds) = and_then (read_scalar d) (λ x. reads_map (λ xs. x ∷ xs) (read_scalars ds))
+-- each of a list, in order
+abbrev pub read_all : {A : Type 0} → (Data → Reads A) → Items → Reads (List A)
+read_all one no_items = Ok []
+read_all one (item d ds) = and_then (one d) (λ x. reads_map (λ xs. x ∷ xs) (read_all one ds))
+
+-- lists and objects that have members
+abbrev pub unless_no_items : {A : Type 0} → Items → Reads A → Reads A
+unless_no_items no_items r = Err empty
+unless_no_items (item d ds) r = r
+
+abbrev pub unless_no_members : {A : Type 0} → Members → Reads A → Reads A
+unless_no_members no_members r = Err empty
+unless_no_members (member k d ms) r = r
 
 -- one of them, or a list of some
 abbrev pub read_anything_but : Data → Reads (List Scalar)
@@ -117,8 +127,7 @@ read_anything_but null = Err bad_test
 read_anything_but (boolean b) = Err bad_test
 read_anything_but (number n) = reads_map (λ x. x ∷ []) (read_scalar (number n))
 read_anything_but (string s) = Ok (text s ∷ [])
-read_anything_but (array no_items) = Err empty
-read_anything_but (array (item d ds)) = read_scalars (item d ds)
+read_anything_but (array ds) = unless_no_items ds (read_all read_scalar ds)
 read_anything_but (object ms) = Err (refusal_of (object ms))
 
 abbrev pub comparison_named : List ℕ → Option Comparison
@@ -171,6 +180,12 @@ read_named name d =
     else (if bytes_eq name (codes "exists") then reads_map exists (read_bool d)
     else Err bad_test)))))
 
+-- the one member of a test
+abbrev pub read_only : Members → Reads Test
+read_only no_members = Err empty
+read_only (member k d no_members) = read_named k d
+read_only (member k d (member l e ms)) = Err bad_test
+
 -- a text, a whole number, a truth value, null, or an object with one named test
 abbrev pub read_test : Data → Reads Test
 read_test null = Ok nothing
@@ -178,13 +193,7 @@ read_test (boolean b) = Ok (truth b)
 read_test (number n) = reads_map equals (read_scalar (number n))
 read_test (string s) = Ok (equals (text s))
 read_test (array ds) = Err (refusal_of (array ds))
-read_test (object no_members) = Err empty
-read_test (object (member k d no_members)) = read_named k d
-read_test (object (member k d (member l e ms))) = Err bad_test
-
-abbrev pub read_tests : Items → Reads (List Test)
-read_tests no_items = Ok []
-read_tests (item d ds) = and_then (read_test d) (λ t. reads_map (λ ts. t ∷ ts) (read_tests ds))
+read_test (object ms) = read_only ms
 
 -- A stream's pattern may not test the data of a record as a whole: only at the top, where `outer` holds.
 abbrev pub is_data : Bool → List ℕ → Bool
@@ -201,12 +210,10 @@ abbrev mutual
   read_rule outer key (boolean b) = Err bad_test
   read_rule outer key (number n) = Err bad_test
   read_rule outer key (string s) = Err bad_test
-  read_rule outer key (array no_items) = Err empty
-  read_rule outer key (array (item d ds)) =
-      if is_or key then reads_map one_of (read_choices outer (item d ds))
-      else (if is_data outer key then Err bad_test else reads_map tests (read_tests (item d ds)))
-  read_rule outer key (object no_members) = Err empty
-  read_rule outer key (object (member k d ms)) = if is_or key then Err bad_test else reads_map nested (read_fields false (member k d ms))
+  read_rule outer key (array ds) =
+      unless_no_items ds
+      (if is_or key then reads_map one_of (read_choices outer ds) else (if is_data outer key then Err bad_test else reads_map tests (read_all read_test ds)))
+  read_rule outer key (object ms) = unless_no_members ms (if is_or key then Err bad_test else reads_map nested (read_fields false ms))
 
   pub read_fields : Bool → Members → Reads Fields
   read_fields outer no_members = Ok no_fields
@@ -222,8 +229,7 @@ abbrev mutual
   read_choice outer (number n) = Err bad_test
   read_choice outer (string s) = Err bad_test
   read_choice outer (array ds) = Err (refusal_of (array ds))
-  read_choice outer (object no_members) = Err empty
-  read_choice outer (object (member k d ms)) = read_fields outer (member k d ms)
+  read_choice outer (object ms) = unless_no_members ms (read_fields outer ms)
 
 abbrev pub read_object : Bool → Data → Reads Fields
 read_object outer null = Err not_object

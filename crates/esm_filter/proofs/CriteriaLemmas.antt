@@ -1,0 +1,72 @@
+-- Patterns one after another.
+use Rattle.std.proofs.Common.{◌≡◌, ℕ, zero, suc, ◌+◌, ◌<◌, ◌≤◌, List, [], ◌∷◌, ◌++◌, map, length, ◌==◌, drop, get_or, Bool, true, false, if◌then◌else◌, Option, Some, None, Result, Ok, Err, String, Vec, Global, IsUtf8, arith, refl, ap, sym, ◌∙◌, append_assoc, add-one, zero-add, add-zero, drop-cons, length-append}
+use Rattle.std.specs.List.{list_any}
+use Rattle.std.specs.Str.{is_utf8}
+use Rattle.std.specs.Result.{result_map_both}
+use Rattle.std.proofs.lemmas.Str.{IsUtf8-from_is_utf8, is_utf8-from_IsUtf8}
+use Rattle.serde_json.specs.Data.{Data}
+use Rattle.serde_json.specs.Read.{read}
+use Rattle.esm_model.specs.Json.{read_json}
+use Rattle.esm_model.specs.Filter.{Seen, fields_pass, patterns_pass}
+use Rattle.esm_model.specs.Pattern.{Fields, Refusal, Reads, read_pattern, read_patterns, with_first, later}
+use Rattle.esm_filter.specs.Criteria.{patterns_view}
+use Rattle.esm_filter.specs.View.{fields_view}
+use Rattle.esm_filter.specs.declared.pattern.Rule.{Rule}
+use Rattle.esm_filter.proofs.ViewLemmas.{any_view}
+use Rattle.esm_filter.proofs.ReadLemmas.{Field}
+
+json_if : (b : Bool) (o : Option Data) (bs : List ℕ) → is_utf8 bs ≡ b → (if b then o else None) ≡ (if is_utf8 bs then o else None)
+json_if b o bs e = ap (λ c. if c then o else None) (sym e)
+
+pub json_read : (bs : List ℕ) (d : Data) → IsUtf8 bs → read bs ≡ Some d → Some d ≡ read_json bs
+json_read bs d text h = sym h ∙ json_if true (read bs) bs (is_utf8-from_IsUtf8 bs text)
+
+refused_by : (bs : List ℕ) (b : Bool) → is_utf8 bs ≡ b → (IsUtf8 bs → read bs ≡ None) → None ≡ read_json bs
+refused_by bs true e h = sym (h (IsUtf8-from_is_utf8 bs e)) ∙ json_if true (read bs) bs e
+refused_by bs false e h = json_if false (read bs) bs e
+
+pub json_refused : (bs : List ℕ) → (IsUtf8 bs → read bs ≡ None) → None ≡ read_json bs
+json_refused bs h = refused_by bs (is_utf8 bs) refl h
+
+abbrev pub Tree : Type 0
+Tree = Vec Field Global
+
+pub some_patterns : (ps : List Tree) (found : List ℕ → Seen) (r b : Bool) → b ≡ (length ps == 0) → b ≡ false → r ≡ list_any (λ p. fields_pass (fields_view p.items) found) ps
+    → r ≡ patterns_pass (patterns_view ps) found
+some_patterns [] found r b is not' h = absurd (cc)
+some_patterns (p ∷ ps) found r b is not' h = h ∙ sym (any_view (λ fs. fields_pass fs found) (λ (q : Tree). fields_view q.items) (p ∷ ps))
+
+-- the patterns that were read, and then the rest
+abbrev pub then_patterns : List Fields → Result (List Fields) (ℕ × Refusal) → Result (List Fields) (ℕ × Refusal)
+then_patterns ps r = result_map_both (λ qs. ps ++ qs) (λ e. (length ps + e.0, e.1)) r
+
+pub none_before : (r : Result (List Fields) (ℕ × Refusal)) → r ≡ then_patterns [] r
+none_before (Ok ps) = refl
+none_before (Err e) = ap (λ n. Err (n, e.1)) (sym (zero-add e.0))
+
+one_after : (ps : List Fields) (p : Fields) (r : Result (List Fields) (ℕ × Refusal)) → then_patterns ps (with_first (Ok p) r) ≡ then_patterns (ps ++ p ∷ []) r
+one_after ps p (Ok qs) = ap Ok (sym (append_assoc ps (p ∷ []) qs))
+one_after ps p (Err e) = let same : length ps + (e.0 + 1) ≡ length (ps ++ p ∷ []) + e.0 = simp length-append (omega arith) in ap (λ n. Err (n, e.1)) same
+
+abbrev and_patterns : List Fields → Bool → List (List ℕ) → Reads Fields → Result (List Fields) (ℕ × Refusal)
+and_patterns ps s ts o = then_patterns ps (with_first o (read_patterns s ts))
+
+view_more : (ps : List Tree) (p : Tree) → patterns_view ps ++ fields_view p.items ∷ [] ≡ patterns_view (ps ++ p ∷ [])
+view_more [] p = refl
+view_more (q ∷ ps) p = ap (λ xs. fields_view q.items ∷ xs) (view_more ps p)
+
+pub more_patterns : (s : Bool) (ps : List Tree) (ts : List (List ℕ)) (i : ℕ) (t : List ℕ) (p : Tree) → i < length ts → t ≡ get_or ts i t → read_pattern s t ≡ Ok (fields_view p.items)
+    → then_patterns (patterns_view ps) (read_patterns s (drop i ts)) ≡ then_patterns (patterns_view (ps ++ p ∷ [])) (read_patterns s (drop (i + 1) ts))
+more_patterns s ps ts i t p within is e =
+    ap (λ us. then_patterns (patterns_view ps) (read_patterns s us)) (drop-cons ts i t within ∙ ap (λ u. u ∷ drop (suc i) ts) (sym is))
+    ∙ ap (and_patterns (patterns_view ps) s (drop (suc i) ts)) e
+    ∙ one_after (patterns_view ps) (fields_view p.items) (read_patterns s (drop (suc i) ts))
+    ∙ ap (λ qs. then_patterns qs (read_patterns s (drop (suc i) ts))) (view_more ps p)
+    ∙ ap (λ n. then_patterns (patterns_view (ps ++ p ∷ [])) (read_patterns s (drop n ts))) (sym (add-one i))
+
+pub refused_pattern : (s : Bool) (ps : List Fields) (ts : List (List ℕ)) (i n : ℕ) (t : List ℕ) (why : Refusal) → i < length ts → t ≡ get_or ts i t → length ps ≡ n → read_pattern s t ≡ Err why
+    → then_patterns ps (read_patterns s (drop i ts)) ≡ Err (n, why)
+refused_pattern s ps ts i n t why within is count e =
+    ap (λ us. then_patterns ps (read_patterns s us)) (drop-cons ts i t within ∙ ap (λ u. u ∷ drop (suc i) ts) (sym is))
+    ∙ ap (and_patterns ps s (drop (suc i) ts)) e
+    ∙ ap (λ m. Err (m, why)) (add-zero (length ps) ∙ count)

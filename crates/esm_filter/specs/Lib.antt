@@ -1,0 +1,4 @@
+pub mod View
+pub mod Judged
+pub mod Told
+pub mod Criteria

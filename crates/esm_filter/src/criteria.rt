@@ -1,0 +1,173 @@
+ghost use Rattle.std.specs.Prelude.{◌≡◌, ◌<◌, ◌^◌, length, option_map, IfOk};
+ghost use Rattle.std.specs.List.{list_any};
+ghost use Rattle.serde_json.specs.Read.{read as read_text};
+ghost use Rattle.serde_json.specs.View.{view};
+ghost use Rattle.esm_model.specs.Json.{read_json};
+ghost use Rattle.esm_model.specs.Valid.{is_stream};
+ghost use Rattle.esm_model.specs.Filter.{fields_pass, in_message, in_record, patterns_pass};
+ghost use Rattle.esm_model.specs.Pattern.{read_pattern, read_patterns};
+ghost use Rattle.esm_filter.specs.Criteria.{IsOneRead, IsRead, JudgesMessages, JudgesRecords, patterns_of, patterns_view};
+ghost use Rattle.esm_filter.specs.Judged.{judged_view, value_of};
+ghost use Rattle.esm_filter.specs.View.{fields_view};
+
+use crate::error::{FilterError, ReadError};
+use crate::judge::{Judged, fields_pass};
+use crate::pattern::Rule;
+use crate::read::read_pattern;
+use esm_model::{Kind, Message, OutOfMemory, Record, Text};
+use serde_json::Value;
+use std::alloc::Global;
+
+/// The filter criteria of a mapping: what passes one of the patterns passes, and everything where there are none.
+/// (Lambda Developer Guide, event filtering; EventBridge event pattern syntax.)
+#[derive(Drop)]
+pub struct Criteria {
+    patterns: Vec<Vec<(String, Rule)>>,
+}
+
+fn is_stream(kind: Kind) -> bool
+    ensures { result ≡ is_stream kind }
+{
+    match kind {
+        Kind::Stream => true,
+        Kind::Standard | Kind::Fifo => false,
+    }
+}
+
+/// The pattern that the text at the place `filter` is.
+fn read_one(
+    alloc: Global,
+    for_stream: bool,
+    filter: u32,
+    text: &str,
+) -> Result<Vec<(String, Rule)>, FilterError>
+    ensures { IsOneRead filter result (read_pattern for_stream text.now) }
+{
+    match read_pattern(alloc, for_stream, text) {
+        Ok(pattern) => Ok(pattern),
+        Err(ReadError::Refused(why)) => Err(FilterError::BadPattern { filter, why }),
+        Err(ReadError::OutOfMemory) => Err(FilterError::OutOfMemory),
+    }
+}
+
+fn read_all(alloc: Global, for_stream: bool, texts: &[Text]) -> Result<Criteria, FilterError>
+    requires { length texts.now < 2 ^ 32 }
+    ensures { IsRead result (read_patterns for_stream texts.now) }
+{
+    let mut patterns = Vec::new(alloc);
+    let mut filter: u32 = 0;
+    for text in texts {
+        let pattern = read_one(alloc, for_stream, filter, text.as_str())?;
+        patterns.push(pattern)?;
+        filter += 1;
+    }
+    Ok(Criteria { patterns })
+}
+
+fn json_of(alloc: Global, bytes: &[u8]) -> Result<Option<Value>, OutOfMemory>
+    ensures { IfOk result (λ o. option_map view o ≡ read_json bytes.now) }
+{
+    match Value::from_slice(alloc, bytes) {
+        Ok(value) => Ok(Some(value)),
+        Err(error) => {
+            if error.is_memory() {
+                Err(OutOfMemory)
+            } else {
+                Ok(None)
+            }
+        }
+    }
+}
+
+fn json_of_text(alloc: Global, text: &str) -> Result<Option<Value>, OutOfMemory>
+    ensures { IfOk result (λ o. option_map view o ≡ read_text text.now) }
+{
+    match Value::from_str(alloc, text) {
+        Ok(value) => Ok(Some(value)),
+        Err(error) => {
+            if error.is_memory() {
+                Err(OutOfMemory)
+            } else {
+                Ok(None)
+            }
+        }
+    }
+}
+
+fn lent(json: &Option<Value>) -> Option<&Value>
+    ensures { value_of result ≡ option_map view json.now }
+{
+    match json {
+        Some(value) => Some(value),
+        None => None,
+    }
+}
+
+fn one_passes(patterns: &[Vec<(String, Rule)>], found: Judged<'_>) -> bool
+    ensures { result ≡ list_any (λ p. fields_pass (fields_view p.items) (judged_view found.entry)) patterns.now }
+{
+    patterns.iter().any(|p| fields_pass(p, found))
+}
+
+fn patterns_pass(patterns: &[Vec<(String, Rule)>], found: Judged<'_>) -> bool
+    ensures { result ≡ patterns_pass (patterns_view patterns.now) (judged_view found.entry) }
+{
+    let none = patterns.is_empty();
+    if none {
+        return true;
+    }
+    one_passes(patterns, found)
+}
+
+fn record_passes<'a>(
+    patterns: &[Vec<(String, Rule)>],
+    item: &'a Record,
+    json: &'a Option<Value>,
+) -> bool
+    ensures { result ≡ patterns_pass (patterns_view patterns.now) (in_record item.now (option_map view json.now)) }
+{
+    let data = lent(json);
+    let found = Judged::OfRecord(item, data);
+    patterns_pass(patterns, found)
+}
+
+fn message_passes<'a>(
+    patterns: &[Vec<(String, Rule)>],
+    item: &'a Message,
+    json: &'a Option<Value>,
+) -> bool
+    ensures { result ≡ patterns_pass (patterns_view patterns.now) (in_message item.now (option_map view json.now)) }
+{
+    let body = lent(json);
+    let found = Judged::OfMessage(item, body);
+    patterns_pass(patterns, found)
+}
+
+impl Criteria {
+    /// The criteria that the pattern texts are, for what a mapping of this kind reads.
+    /// `BadPattern` names the first text that is no pattern, with the first refusal in it.
+    pub fn read(alloc: Global, kind: Kind, texts: &[Text]) -> Result<Criteria, FilterError>
+        requires { length texts.now < 2 ^ 32 }
+        ensures patterns { IsRead result (read_patterns (is_stream kind) texts.now) }
+        ensures records { IfOk result (λ c. JudgesRecords kind texts.now c) }
+        ensures messages { IfOk result (λ c. JudgesMessages kind texts.now c) }
+    {
+        read_all(alloc, is_stream(kind), texts)
+    }
+
+    /// Whether a stream's record passes; its data is parsed once at most.
+    pub fn passes_record(&self, alloc: Global, item: &Record) -> Result<bool, OutOfMemory>
+        ensures { IfOk result (λ b. b ≡ patterns_pass (patterns_of self.now) (in_record item.now (read_json item.now.payload))) }
+    {
+        let json = json_of(alloc, item.payload.as_slice())?;
+        Ok(record_passes(self.patterns.as_slice(), item, &json))
+    }
+
+    /// Whether a queue's message passes; its body is parsed once at most.
+    pub fn passes_message(&self, alloc: Global, item: &Message) -> Result<bool, OutOfMemory>
+        ensures { IfOk result (λ b. b ≡ patterns_pass (patterns_of self.now) (in_message item.now (read_text item.now.body))) }
+    {
+        let json = json_of_text(alloc, item.body.as_str())?;
+        Ok(message_passes(self.patterns.as_slice(), item, &json))
+    }
+}

@@ -1,0 +1,82 @@
+use std::alloc::{AllocError, AllocFailed};
+
+/// Why a text is no filter pattern.
+#[derive(Clone, Copy, Debug, PartialEq, Eq)]
+pub enum PatternError {
+    /// It does not read as JSON.
+    NotJson,
+    /// It is no JSON object.
+    NotObject,
+    /// An object or a list in it has no members.
+    Empty,
+    /// Something else in it is not in the grammar.
+    BadTest,
+    /// It has more than 4,096 characters.
+    TooLong,
+}
+
+/// Why filter criteria were refused.
+#[derive(Clone, Copy, Debug, PartialEq, Eq)]
+pub enum FilterError {
+    /// The first text that is no pattern, counted from 0, and why.
+    BadPattern { filter: u32, why: PatternError },
+    /// Want of memory.
+    OutOfMemory,
+}
+
+/// Why a part of a pattern was not read.
+#[derive(Clone, Copy, Debug, PartialEq, Eq)]
+pub(crate) enum ReadError {
+    Refused(PatternError),
+    OutOfMemory,
+}
+
+impl From<AllocError> for ReadError {
+    ghost use Rattle.std.specs.Prelude.{◌≡◌};
+    ghost use Rattle.esm_filter.specs.declared.error.ReadError.{ReadError};
+
+    ghost from_gives = { λ _ e. e ≡ ReadError.OutOfMemory };
+
+    fn from(_: AllocError) -> Self {
+        ReadError::OutOfMemory
+    }
+}
+
+impl<T> From<AllocFailed<T>> for ReadError
+where
+    T: Drop,
+{
+    ghost use Rattle.std.specs.Prelude.{◌≡◌};
+    ghost use Rattle.esm_filter.specs.declared.error.ReadError.{ReadError};
+
+    ghost from_gives = { λ _ e. e ≡ ReadError.OutOfMemory };
+
+    fn from(_: AllocFailed<T>) -> Self {
+        ReadError::OutOfMemory
+    }
+}
+
+impl From<AllocError> for FilterError {
+    ghost use Rattle.std.specs.Prelude.{◌≡◌};
+    ghost use Rattle.esm_filter.specs.declared.error.FilterError.{FilterError};
+
+    ghost from_gives = { λ _ e. e ≡ FilterError.OutOfMemory };
+
+    fn from(_: AllocError) -> Self {
+        FilterError::OutOfMemory
+    }
+}
+
+impl<T> From<AllocFailed<T>> for FilterError
+where
+    T: Drop,
+{
+    ghost use Rattle.std.specs.Prelude.{◌≡◌};
+    ghost use Rattle.esm_filter.specs.declared.error.FilterError.{FilterError};
+
+    ghost from_gives = { λ _ e. e ≡ FilterError.OutOfMemory };
+
+    fn from(_: AllocFailed<T>) -> Self {
+        FilterError::OutOfMemory
+    }
+}

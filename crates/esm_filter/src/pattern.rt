@@ -1,0 +1,48 @@
+/// How a leaf's number stands to a bound.
+#[derive(Clone, Copy, Debug, PartialEq, Eq)]
+pub(crate) enum Comparison {
+    Equal,
+    Below,
+    AtMost,
+    Above,
+    AtLeast,
+}
+
+/// A bound of `numeric`.
+#[derive(Clone, Copy, Debug, PartialEq, Eq)]
+pub(crate) struct Bound {
+    pub(crate) comparison: Comparison,
+    pub(crate) value: i64,
+}
+
+/// What a leaf can be equal to.
+#[derive(Drop, Debug)]
+pub(crate) enum Scalar {
+    Text(String),
+    Whole(i64),
+}
+
+/// One test of a field's leaves (EventBridge event pattern syntax).
+#[derive(Drop, Debug)]
+pub(crate) enum Test {
+    Equals(Scalar),
+    Truth(bool),
+    Nothing,
+    EqualsIgnoreCase(String),
+    AnythingBut(Vec<Scalar>),
+    Numeric(Vec<Bound>),
+    Prefix(String),
+    Suffix(String),
+    Exists(bool),
+}
+
+/// What a field has to meet.
+#[derive(Drop)]
+pub(crate) enum Rule {
+    /// One of these tests passes for its leaves.
+    Tests(Vec<Test>),
+    /// An object pattern: each member passes for its value.
+    Nested(Vec<(String, Rule)>),
+    /// Under the key `$or`: one of these, each an object pattern, passes for the same object.
+    OneOf(Vec<Rule>),
+}
