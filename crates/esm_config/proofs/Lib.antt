@@ -1,0 +1,4 @@
+pub mod Accepted
+pub mod Cuts
+pub mod Listed
+pub mod Validity

@@ -1,0 +1,60 @@
+-- The parts of an ARN. Source: the AWS General Reference, Amazon Resource Names
+-- (`arn:partition:service:region:account-id:resource`).
+use Rattle.std.specs.Prelude.{ℕ, ◌==◌, ◌&&◌, Bool, List, length, drop, codes, Option, Some, None, nat_eq, nat_lt, if◌then◌else◌}
+use Rattle.esm_model.specs.Valid.{is_account, is_name_byte, is_region, is_stream_byte, is_word}
+use Rattle.std.specs.List.{after_first, before_first, position_or_len, starts_with}
+
+-- what stands after the prefix, where the text begins with it
+abbrev pub strip : List ℕ → List ℕ → Option (List ℕ)
+strip prefix text = if starts_with nat_eq text prefix then Some (drop (length prefix) text) else None
+
+abbrev pub is_colon : ℕ → Bool
+is_colon b = b == 58
+
+-- what stands before and after the first colon
+abbrev pub cut : List ℕ → Option (List ℕ × List ℕ)
+cut text =
+    if nat_lt (position_or_len is_colon text) (length text) then Some (before_first is_colon text, after_first is_colon text) else None
+
+-- the parts of `PREFIX REGION:ACCOUNT:RESOURCE NAME`
+pub record Owned : Type 0 where
+  pub region : List ℕ
+  pub account : List ℕ
+  pub name : List ℕ
+
+abbrev pub owned_name : List ℕ → List ℕ → Option (List ℕ) → Option Owned
+owned_name region account None = None
+owned_name region account (Some name) = Some (record { region = region; account = account; name = name })
+
+abbrev pub owned_account : List ℕ → List ℕ → Option (List ℕ × List ℕ) → Option Owned
+owned_account resource region None = None
+owned_account resource region (Some p) = owned_name region p.0 (strip resource p.1)
+
+abbrev pub owned_region : List ℕ → Option (List ℕ × List ℕ) → Option Owned
+owned_region resource None = None
+owned_region resource (Some p) = owned_account resource p.0 (cut p.1)
+
+abbrev pub owned_rest : List ℕ → Option (List ℕ) → Option Owned
+owned_rest resource None = None
+owned_rest resource (Some rest) = owned_region resource (cut rest)
+
+abbrev pub owned : List ℕ → List ℕ → List ℕ → Option Owned
+owned prefix resource text = owned_rest resource (strip prefix text)
+
+-- a Kinesis stream's, a Lambda function's
+abbrev pub is_stream : Owned → Bool
+is_stream o = is_region o.region && (is_account o.account && is_word is_stream_byte 1 128 o.name)
+
+abbrev pub is_function : Owned → Bool
+is_function o = is_region o.region && (is_account o.account && is_word is_name_byte 1 64 o.name)
+
+-- where it passes
+abbrev pub kept : (Owned → Bool) → Option Owned → Option Owned
+kept passes None = None
+kept passes (Some o) = if passes o then Some o else None
+
+abbrev pub stream_of : List ℕ → Option Owned
+stream_of text = kept is_stream (owned (codes "arn:aws:kinesis:") (codes "stream/") text)
+
+abbrev pub function_arn_of : List ℕ → Option Owned
+function_arn_of text = kept is_function (owned (codes "arn:aws:lambda:") (codes "function:") text)

@@ -1,0 +1,9 @@
+pub mod Answer
+pub mod Arn
+pub mod Fields
+pub mod FunctionParts
+pub mod Mapping
+pub mod MappingParts
+pub mod Names
+pub mod Parts
+pub mod Table

@@ -1,0 +1,47 @@
+ghost use Rattle.std.specs.Prelude.{◌≡◌, option_map};
+ghost use Rattle.serde_json.specs.View.{view};
+ghost use Rattle.esm_config.specs.Fields.{function_of, named_by};
+ghost use Rattle.esm_config.specs.FunctionParts.{named_of};
+
+use crate::arn::is_function_name;
+use crate::fields::text_field;
+use crate::owned::function_arn_of;
+use serde_json::Value;
+
+/// The function of a mapping.
+#[derive(Clone, Copy, Debug)]
+pub struct FunctionName<'a> {
+    /// The plain name.
+    pub name: &'a str,
+    /// The ARN, where the mapping gives it.
+    pub arn: Option<&'a str>,
+}
+
+/// The function that the text names: a plain name, or the ARN of a function.
+fn named_by(text: &str) -> Option<FunctionName<'_>>
+    ensures { option_map named_of result ≡ named_by text.entry.now }
+{
+    if is_function_name(text.as_bytes()) {
+        return Some(FunctionName {
+            name: text,
+            arn: None,
+        });
+    }
+    match function_arn_of(text) {
+        Some(parts) => Some(FunctionName {
+            name: parts.name,
+            arn: Some(text),
+        }),
+        None => None,
+    }
+}
+
+/// The function that is called.
+pub fn function_of(value: &Value) -> Option<FunctionName<'_>>
+    ensures { option_map named_of result ≡ function_of (view value.entry.now) }
+{
+    match text_field(value, "FunctionName") {
+        Some(text) => named_by(text),
+        None => None,
+    }
+}

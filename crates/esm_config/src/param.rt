@@ -1,0 +1,76 @@
+ghost use Rattle.std.specs.Prelude.{◌≡◌};
+ghost use Rattle.esm_config.specs.Names.{name_of};
+ghost use Rattle.esm_config.specs.declared.param.ConfigError.TheVariants.{OutOfMemory};
+
+use std::alloc::AllocError;
+
+/// A field of a mapping, by its name in the Lambda API reference (`CreateEventSourceMapping`),
+/// in the order in which the fields are judged.
+#[derive(Clone, Copy, Debug, PartialEq, Eq)]
+pub enum Param {
+    EventSourceArn,
+    FunctionName,
+    Enabled,
+    BatchSize,
+    MaximumBatchingWindowInSeconds,
+    FilterCriteria,
+    FunctionResponseTypes,
+    StartingPosition,
+    StartingPositionTimestamp,
+    ParallelizationFactor,
+    MaximumRetryAttempts,
+    MaximumRecordAgeInSeconds,
+    BisectBatchOnFunctionError,
+    TumblingWindowInSeconds,
+    DestinationConfig,
+    ScalingConfig,
+    /// A field that is none of these.
+    Unknown,
+    /// The value is no object.
+    Body,
+}
+
+impl Param {
+    /// The field's name.
+    pub fn name(self) -> &'static str
+        ensures { result.now ≡ name_of self }
+    {
+        match self {
+            Param::EventSourceArn => "EventSourceArn",
+            Param::FunctionName => "FunctionName",
+            Param::Enabled => "Enabled",
+            Param::BatchSize => "BatchSize",
+            Param::MaximumBatchingWindowInSeconds => "MaximumBatchingWindowInSeconds",
+            Param::FilterCriteria => "FilterCriteria",
+            Param::FunctionResponseTypes => "FunctionResponseTypes",
+            Param::StartingPosition => "StartingPosition",
+            Param::StartingPositionTimestamp => "StartingPositionTimestamp",
+            Param::ParallelizationFactor => "ParallelizationFactor",
+            Param::MaximumRetryAttempts => "MaximumRetryAttempts",
+            Param::MaximumRecordAgeInSeconds => "MaximumRecordAgeInSeconds",
+            Param::BisectBatchOnFunctionError => "BisectBatchOnFunctionError",
+            Param::TumblingWindowInSeconds => "TumblingWindowInSeconds",
+            Param::DestinationConfig => "DestinationConfig",
+            Param::ScalingConfig => "ScalingConfig",
+            Param::Unknown => "Unknown",
+            Param::Body => "Body",
+        }
+    }
+}
+
+/// Why a value gave no configuration.
+#[derive(Clone, Copy, Debug, PartialEq, Eq)]
+pub enum ConfigError {
+    /// The first field that is refused.
+    BadParam(Param),
+    /// There was no memory for the texts.
+    OutOfMemory,
+}
+
+impl From<AllocError> for ConfigError {
+    ghost from_gives = { λ _ e. e ≡ OutOfMemory };
+
+    fn from(_: AllocError) -> Self {
+        ConfigError::OutOfMemory
+    }
+}
