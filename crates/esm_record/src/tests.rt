@@ -5,21 +5,39 @@ use esm_model::OutOfMemory;
 use std::alloc::Global;
 use std::test::Fail;
 
-const RECORD_99: &[u8] = b"{\"shardId\":\"shardId-000000000000\",\"sequenceNumber\":\"99\",\"partitionKey\":\"1\",\"data\":\"SGVsbG8=\",\"approximateArrivalTimestamp\":0}\n";
-const RECORD_100: &[u8] = b"{\"shardId\":\"shardId-000000000000\",\"sequenceNumber\":\"100\",\"partitionKey\":\"1\",\"data\":\"SGVsbG8=\",\"approximateArrivalTimestamp\":0}\n";
+const RECORD_99: &[u8] =
+    b"{\"shardId\":\"shardId-000000000000\",\"sequenceNumber\":\"99\",\"partitionKey\":\"1\",\"data\":\"SGVsbG8=\",\"approximateArrivalTimestamp\":0}\n";
+
+const RECORD_100: &[u8] =
+    b"{\"shardId\":\"shardId-000000000000\",\"sequenceNumber\":\"100\",\"partitionKey\":\"1\",\"data\":\"SGVsbG8=\",\"approximateArrivalTimestamp\":0}\n";
+
 const CUT: &[u8] = b"{\"shardId\":\"sh";
-const NO_DATA: &[u8] = b"{\"shardId\":\"shardId-000000000000\",\"sequenceNumber\":\"1\",\"partitionKey\":\"1\",\"approximateArrivalTimestamp\":0}\n";
-const BAD_DATA: &[u8] = b"{\"shardId\":\"shardId-000000000000\",\"sequenceNumber\":\"1\",\"partitionKey\":\"1\",\"data\":\"!\",\"approximateArrivalTimestamp\":0}\n";
+
+const NO_DATA: &[u8] =
+    b"{\"shardId\":\"shardId-000000000000\",\"sequenceNumber\":\"1\",\"partitionKey\":\"1\",\"approximateArrivalTimestamp\":0}\n";
+
+const BAD_DATA: &[u8] =
+    b"{\"shardId\":\"shardId-000000000000\",\"sequenceNumber\":\"1\",\"partitionKey\":\"1\",\"data\":\"!\",\"approximateArrivalTimestamp\":0}\n";
 
 /// The number of items of an input in three pieces, and its first bad line.
-fn told(alloc: Global, first: &[u8], second: &[u8], third: &[u8]) -> Result<(usize, Option<BadLine>), OutOfMemory> {
+fn told(
+    alloc: Global,
+    first: &[u8],
+    second: &[u8],
+    third: &[u8],
+) -> Result<(usize, Option<BadLine>), OutOfMemory> {
     let mut lines = Lines::new(alloc, LineKind::Stream)?;
     let one = lines.feed(first)?.items.as_slice().len();
     let two = lines.feed(second)?.items.as_slice().len();
     let three = lines.feed(third)?.items.as_slice().len();
     let last = lines.finish()?;
     let four = last.items.as_slice().len();
-    Ok((one.saturating_add(two).saturating_add(three).saturating_add(four), last.bad))
+    Ok((
+        one.saturating_add(two)
+            .saturating_add(three)
+            .saturating_add(four),
+        last.bad,
+    ))
 }
 
 /// Feeds each byte alone, and gives the number of items.
@@ -55,7 +73,9 @@ fn backwards_number(rt: HostRuntime) -> Result<(), Fail> {
     assert_eq!(rt; items, 1);
     let bad = bad.ok_or("the second line is bad")?;
     assert_eq!(rt; bad.line, 2);
-    assert!(rt; matches!(&bad.why, LineError::Backwards { kept, given } if kept.as_str() == "100" && given.as_str() == "99"));
+    assert!(rt;
+        matches!(&bad.why, LineError::Backwards { kept, given } if kept.as_str() == "100" && given.as_str() == "99")
+    );
     Ok(())
 }
 
@@ -63,22 +83,54 @@ fn backwards_number(rt: HostRuntime) -> Result<(), Fail> {
 fn cut_line(rt: HostRuntime) -> Result<(), Fail> {
     let (items, bad) = told(rt.alloc(), RECORD_99, RECORD_100, CUT)?;
     assert_eq!(rt; items, 2);
-    assert!(rt; matches!(bad, Some(BadLine { line: 3, why: LineError::NotJson })));
+    assert!(rt;
+        matches!(
+            bad,
+            Some(BadLine {
+                line: 3,
+                why: LineError::NotJson
+            })
+        )
+    );
     Ok(())
 }
 
 #[test]
 fn refused_lines(rt: HostRuntime) -> Result<(), Fail> {
     let (_, bad) = told(rt.alloc(), NO_DATA, b"", b"")?;
-    assert!(rt; matches!(bad, Some(BadLine { line: 1, why: LineError::Missing(Field::Data) })));
+    assert!(rt;
+        matches!(
+            bad,
+            Some(BadLine {
+                line: 1,
+                why: LineError::Missing(Field::Data)
+            })
+        )
+    );
     let (_, bad) = told(rt.alloc(), BAD_DATA, b"", b"")?;
-    assert!(rt; matches!(bad, Some(BadLine { line: 1, why: LineError::BadField(Field::Data) })));
+    assert!(rt;
+        matches!(
+            bad,
+            Some(BadLine {
+                line: 1,
+                why: LineError::BadField(Field::Data)
+            })
+        )
+    );
     let piece = [b' '; 4096];
     let mut lines = Lines::new(rt.alloc(), LineKind::Stream)?;
     let bad = feed_often(&mut lines, &piece, 2048)?;
     assert!(rt; bad.is_none());
     let bad = feed_often(&mut lines, b" ", 1)?;
-    assert!(rt; matches!(bad, Some(BadLine { line: 1, why: LineError::LineTooLong })));
+    assert!(rt;
+        matches!(
+            bad,
+            Some(BadLine {
+                line: 1,
+                why: LineError::LineTooLong
+            })
+        )
+    );
     Ok(())
 }
 
