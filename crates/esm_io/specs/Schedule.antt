@@ -20,6 +20,10 @@ is_due s = list_any (λ n. n == s.calls) s.fails
 abbrev pub after_fault : ScheduleState → ScheduleState
 after_fault s = record { fails = s.fails; calls = s.calls; faults = one_more s.faults }
 
+-- a call that failed was made
+abbrev pub after_failure : ScheduleState → ScheduleState
+after_failure s = record { fails = s.fails; calls = one_more s.calls; faults = one_more s.faults }
+
 -- a call was made; one that is to fail is a fault
 abbrev pub after_call : ScheduleState → ScheduleState
 after_call s = record { fails = s.fails; calls = one_more s.calls; faults = if is_due s then one_more s.faults else s.faults }

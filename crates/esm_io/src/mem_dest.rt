@@ -1,6 +1,7 @@
 ghost use Rattle.std.specs.Prelude.{◌≡◌, ◌<◌, ◌≤◌, ◌++◌, ℕ, Some, [], ◌∷◌, length, vec_len, vec_capacity, true, false, OnOk, OnErr, IsErrOf};
+ghost use Rattle.esm_io.specs.Told.{Grows};
 ghost use Rattle.esm_io.specs.Faults.{IsCount, Rose};
-ghost use Rattle.esm_io.specs.Schedule.{is_due};
+ghost use Rattle.esm_io.specs.Schedule.{is_due, after_call};
 
 use crate::dest::{Dest, DestError};
 use crate::schedule::Schedule;
@@ -87,14 +88,34 @@ impl Dest for MemDest {
 
     ghost has_room = { λ s n. n < s.room };
 
-    fn reserve(&mut self, alloc: Global, bytes: u64) -> Result<(), OutOfMemory> {
+    /// No call of it is to fail: it is not counted.
+    fn reserve(&mut self, alloc: Global, bytes: u64) -> Result<(), OutOfMemory>
+        ensures room { OnOk result ((n : ℕ) → n ≤ bytes → n < self.new.room) }
+        ensures lines_kept { self.new.lines ≡ self.old.lines }
+        ensures failed_kept { self.new.failed ≡ self.old.failed }
+        ensures count { self.new.schedule ≡ self.old.schedule }
+    {
         let room = Vec::with_capacity(alloc, bytes as usize)?;
         self.lines.reserve(1)?;
         self.room = room;
         Ok(())
     }
 
-    fn deliver(&mut self, alloc: Global, line: &[u8]) -> Result<(), DestError> {
+    fn deliver(&mut self, alloc: Global, line: &[u8]) -> Result<(), DestError>
+        requires short { length line.now ≤ 16777216 }
+        requires usable { self.old.failed ≡ false }
+        ensures sent { OnOk result (Grows (Some self.old.lines) (Some self.new.lines) (line.now ∷ [])) }
+        ensures unsent { OnErr result (self.new.lines ≡ self.old.lines) }
+        ensures usable_still { OnOk result (self.new.failed ≡ false) }
+        ensures usable_again { IsErrOf result DestError.OutOfMemory → self.new.failed ≡ false }
+        ensures down { IsErrOf result DestError.Failed → self.new.failed ≡ true }
+        ensures room { IsErrOf result DestError.OutOfMemory → length line.now < self.old.room → ⊥ }
+        ensures count { IsCount self.old.schedule.faults self.new.schedule.faults }
+        ensures cause { IsErrOf result DestError.Failed → Rose self.old.schedule.faults self.new.schedule.faults }
+        ensures due { is_due self.old.schedule ≡ true → IsErrOf result DestError.Failed }
+        ensures not_due { is_due self.old.schedule ≡ false → IsErrOf result DestError.Failed → ⊥ }
+        ensures counted { self.new.schedule ≡ after_call self.old.schedule }
+    {
         if self.schedule.fails_now() {
             self.failed = true;
             return Err(DestError::Failed);

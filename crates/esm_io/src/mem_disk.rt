@@ -1,5 +1,7 @@
-ghost use Rattle.std.specs.Prelude.{◌≡◌, ◌+◌, ◌≤◌, ℕ, true, List, [], ◌∷◌, ◌++◌, length, take, drop, OnOk, OnErr, IfOk, IfErr};
-ghost use Rattle.esm_io.specs.Images.{overwritten};
+ghost use Rattle.std.specs.Prelude.{◌≡◌, ◌+◌, ◌≤◌, ℕ, true, false, List, [], ◌∷◌, ◌++◌, length, take, drop, OnOk, OnErr, IfOk, IfErr, IsOk, IsErr};
+ghost use Rattle.esm_io.specs.Faults.{IsCount, Rose};
+ghost use Rattle.esm_io.specs.Images.{overwritten, Torn, Follows, Within, Only, Elapses};
+ghost use Rattle.esm_io.specs.Schedule.{is_due, after_call, after_failure};
 ghost use Rattle.esm_io.specs.Crashes.{crashed};
 ghost use Rattle.esm_io.specs.Steps.{IsImage, IsImageSince, reads_as_image, counts_now, only_now};
 
@@ -156,14 +158,37 @@ impl Disk for MemDisk {
 
     ghost only_now = { λ s left h since. only_now s.content s.steps left since };
 
-    fn len(&mut self) -> Result<u64, Failed> {
+    fn len(&mut self) -> Result<u64, Failed>
+        ensures length { IfOk result (λ n. n ≡ length self.old.content) }
+        ensures same { self.new.content ≡ self.old.content }
+        ensures steps { self.new.steps ≡ self.old.steps }
+        ensures images { Within (IsImage self.old.content self.old.steps) (IsImageSince self.new.content self.new.steps (length self.old.steps)) }
+        ensures time { Elapses (length self.old.steps) (length self.new.steps) (IsImageSince self.old.content self.old.steps) (IsImageSince self.new.content self.new.steps) }
+        ensures count { IsCount self.old.schedule.faults self.new.schedule.faults }
+        ensures cause { OnErr result (Rose self.old.schedule.faults self.new.schedule.faults) }
+        ensures due { is_due self.old.schedule ≡ true → IsErr result }
+        ensures not_due { is_due self.old.schedule ≡ false → IsOk result }
+        ensures counted { self.new.schedule ≡ after_call self.old.schedule }
+    {
         if self.schedule.fails_now() {
             return Err(Failed);
         }
         Ok(self.bytes.len() as u64)
     }
 
-    fn read(&mut self, at: u64, into: &mut [u8]) -> Result<(), Failed> {
+    fn read(&mut self, at: u64, into: &mut [u8]) -> Result<(), Failed>
+        requires { at + length into.old ≤ length self.old.content }
+        ensures bytes { OnOk result (into.new ≡ take (length into.old) (drop at self.old.content)) }
+        ensures same { self.new.content ≡ self.old.content }
+        ensures steps { self.new.steps ≡ self.old.steps }
+        ensures images { Within (IsImage self.old.content self.old.steps) (IsImageSince self.new.content self.new.steps (length self.old.steps)) }
+        ensures time { Elapses (length self.old.steps) (length self.new.steps) (IsImageSince self.old.content self.old.steps) (IsImageSince self.new.content self.new.steps) }
+        ensures count { IsCount self.old.schedule.faults self.new.schedule.faults }
+        ensures cause { OnErr result (Rose self.old.schedule.faults self.new.schedule.faults) }
+        ensures due { is_due self.old.schedule ≡ true → IsErr result }
+        ensures not_due { is_due self.old.schedule ≡ false → IsOk result }
+        ensures counted { self.new.schedule ≡ after_call self.old.schedule }
+    {
         if self.schedule.fails_now() {
             return Err(Failed);
         }
@@ -173,7 +198,22 @@ impl Disk for MemDisk {
         Ok(())
     }
 
-    fn write_at(&mut self, at: u64, from: &[u8]) -> Result<(), Failed> {
+    /// A write that finds no memory fails too, and has changed nothing.
+    fn write_at(&mut self, at: u64, from: &[u8]) -> Result<(), Failed>
+        requires { at ≤ length self.old.content }
+        ensures written { OnOk result (self.new.content ≡ overwritten self.old.content at from.now) }
+        ensures recorded { OnOk result (self.new.steps ≡ DiskStep.Wrote at (length from.now) (take (length from.now) (drop at self.old.content)) ∷ self.old.steps) }
+        ensures torn { OnErr result (Torn at (length from.now) self.old.content self.new.content) }
+        ensures unwritten { OnErr result (self.new.content ≡ self.old.content) }
+        ensures unrecorded { OnErr result (self.new.steps ≡ self.old.steps) }
+        ensures images { Follows (Torn at (length from.now)) (IsImage self.old.content self.old.steps) (IsImageSince self.new.content self.new.steps (length self.old.steps)) }
+        ensures time { Elapses (length self.old.steps) (length self.new.steps) (IsImageSince self.old.content self.old.steps) (IsImageSince self.new.content self.new.steps) }
+        ensures count { IsCount self.old.schedule.faults self.new.schedule.faults }
+        ensures cause { OnErr result (Rose self.old.schedule.faults self.new.schedule.faults) }
+        ensures due { is_due self.old.schedule ≡ true → IsErr result }
+        ensures counted { OnOk result (self.new.schedule ≡ after_call self.old.schedule) }
+        ensures failed { OnErr result (self.new.schedule ≡ after_failure self.old.schedule) }
+    {
         if self.schedule.fails_now() {
             return Err(Failed);
         }
@@ -192,7 +232,20 @@ impl Disk for MemDisk {
         }
     }
 
-    fn sync(&mut self) -> Result<(), Failed> {
+    /// A sync that finds no memory fails too.
+    fn sync(&mut self) -> Result<(), Failed>
+        ensures durable { OnOk result (Only self.old.content (IsImage self.new.content self.new.steps)) }
+        ensures recorded { OnOk result (self.new.steps ≡ DiskStep.Synced ∷ self.old.steps) }
+        ensures same { self.new.content ≡ self.old.content }
+        ensures unrecorded { OnErr result (self.new.steps ≡ self.old.steps) }
+        ensures images { Within (IsImage self.old.content self.old.steps) (IsImageSince self.new.content self.new.steps (length self.old.steps)) }
+        ensures time { Elapses (length self.old.steps) (length self.new.steps) (IsImageSince self.old.content self.old.steps) (IsImageSince self.new.content self.new.steps) }
+        ensures count { IsCount self.old.schedule.faults self.new.schedule.faults }
+        ensures cause { OnErr result (Rose self.old.schedule.faults self.new.schedule.faults) }
+        ensures due { is_due self.old.schedule ≡ true → IsErr result }
+        ensures counted { OnOk result (self.new.schedule ≡ after_call self.old.schedule) }
+        ensures failed { OnErr result (self.new.schedule ≡ after_failure self.old.schedule) }
+    {
         if self.schedule.fails_now() {
             return Err(Failed);
         }

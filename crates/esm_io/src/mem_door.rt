@@ -1,5 +1,8 @@
-ghost use Rattle.std.specs.Prelude.{◌≡◌, [], Some, map};
+ghost use Rattle.std.specs.Prelude.{◌≡◌, ◌<◌, [], ◌∷◌, ◌++◌, length, Some, map, true, false, IfOk, OnOk, OnErr, IsOk, IsErr};
 ghost use Rattle.std.specs.List.{All};
+ghost use Rattle.esm_io.specs.Faults.{IsCount, Rose};
+ghost use Rattle.esm_io.specs.Talks.{Closes, IsFresh};
+ghost use Rattle.esm_io.specs.Schedule.{is_due, after_call, after_failure};
 ghost use Rattle.esm_io.specs.Forms.{IsUnused, closed_link};
 
 use crate::door::Door;
@@ -60,7 +63,20 @@ impl Door for MemDoor {
 
     ghost closed = { λ s. Some (map closed_link s.closed) };
 
-    fn accept(&mut self) -> Result<MemLink, Failed> {
+    /// Fails too where no connection is left. A call that is to fail takes none.
+    fn accept(&mut self) -> Result<MemLink, Failed>
+        ensures fresh { IfOk result (λ conn. IsFresh (Some conn.talk)) }
+        ensures faultless { IfOk result (λ conn. conn.schedule.faults ≡ 0) }
+        ensures kept { self.new.closed ≡ self.old.closed }
+        ensures count { IsCount self.old.schedule.faults self.new.schedule.faults }
+        ensures cause { OnErr result (Rose self.old.schedule.faults self.new.schedule.faults) }
+        ensures in_order { IfOk result (λ conn. self.old.links ≡ conn ∷ self.new.links) }
+        ensures untaken { OnErr result (self.new.links ≡ self.old.links) }
+        ensures due { is_due self.old.schedule ≡ true → IsErr result }
+        ensures not_due { is_due self.old.schedule ≡ false → 0 < length self.old.links → IsOk result }
+        ensures counted { OnOk result (self.new.schedule ≡ after_call self.old.schedule) }
+        ensures failed { OnErr result (self.new.schedule ≡ after_failure self.old.schedule) }
+    {
         if self.schedule.fails_now() {
             return Err(Failed);
         }
@@ -73,7 +89,13 @@ impl Door for MemDoor {
         }
     }
 
-    fn close(&mut self, _alloc: Global, conn: MemLink) -> Result<(), OutOfMemory> {
+    fn close(&mut self, _alloc: Global, conn: MemLink) -> Result<(), OutOfMemory>
+        ensures listed { OnOk result (Closes (Some (map closed_link self.old.closed)) (Some (map closed_link self.new.closed)) (Some conn.talk) conn.schedule.faults) }
+        ensures unlisted { OnErr result (self.new.closed ≡ self.old.closed) }
+        ensures last { OnOk result (self.new.closed ≡ self.old.closed ++ conn ∷ []) }
+        ensures links { self.new.links ≡ self.old.links }
+        ensures count { self.new.schedule ≡ self.old.schedule }
+    {
         self.closed.push(conn)?;
         Ok(())
     }

@@ -1,4 +1,7 @@
-ghost use Rattle.std.specs.Prelude.{◌≡◌, ◌<◌, ◌≤◌, ℕ, Some, [], length, take, drop, min};
+ghost use Rattle.std.specs.Prelude.{◌≡◌, ◌<◌, ◌≤◌, ℕ, Some, [], length, take, drop, min, true, false, IfOk, OnOk, OnErr, IsOk, IsErr};
+ghost use Rattle.esm_io.specs.Faults.{IsCount, Rose};
+ghost use Rattle.esm_io.specs.Talks.{Reads, Writes, IsReadOut};
+ghost use Rattle.esm_io.specs.Schedule.{is_due, after_call, after_failure};
 ghost use Rattle.esm_io.specs.Forms.{IsUnused};
 
 use crate::failed::Failed;
@@ -65,7 +68,19 @@ impl Link for MemLink {
 
     ghost told = { λ s. Some s.talk };
 
-    fn read(&mut self, into: &mut [u8]) -> Result<usize, Failed> {
+    fn read(&mut self, into: &mut [u8]) -> Result<usize, Failed>
+        ensures within { IfOk result (λ n. n ≤ length into.old) }
+        ensures taken { IfOk result (λ n. Reads (Some self.old.talk) (Some self.new.talk) (take n into.new)) }
+        ensures end { IfOk result (λ n. n ≡ 0 → 0 < length into.old → IsReadOut (Some self.new.talk)) }
+        ensures untaken { OnErr result (self.new.talk ≡ self.old.talk) }
+        ensures count { IsCount self.old.schedule.faults self.new.schedule.faults }
+        ensures cause { OnErr result (Rose self.old.schedule.faults self.new.schedule.faults) }
+        ensures piece { IfOk result (λ n. n ≡ min (min (length into.old) self.old.piece) (length self.old.talk.left)) }
+        ensures piece_kept { self.new.piece ≡ self.old.piece }
+        ensures due { is_due self.old.schedule ≡ true → IsErr result }
+        ensures not_due { is_due self.old.schedule ≡ false → IsOk result }
+        ensures counted { self.new.schedule ≡ after_call self.old.schedule }
+    {
         if self.schedule.fails_now() {
             return Err(Failed);
         }
@@ -73,7 +88,19 @@ impl Link for MemLink {
     }
 
     /// A write that finds no memory fails too.
-    fn write(&mut self, from: &[u8]) -> Result<usize, Failed> {
+    fn write(&mut self, from: &[u8]) -> Result<usize, Failed>
+        ensures within { IfOk result (λ n. n ≤ length from.now) }
+        ensures some { IfOk result (λ n. 0 < length from.now → 0 < n) }
+        ensures taken { IfOk result (λ n. Writes (Some self.old.talk) (Some self.new.talk) (take n from.now)) }
+        ensures untaken { OnErr result (self.new.talk ≡ self.old.talk) }
+        ensures count { IsCount self.old.schedule.faults self.new.schedule.faults }
+        ensures cause { OnErr result (Rose self.old.schedule.faults self.new.schedule.faults) }
+        ensures piece { IfOk result (λ n. n ≡ min (length from.now) self.old.piece) }
+        ensures piece_kept { self.new.piece ≡ self.old.piece }
+        ensures due { is_due self.old.schedule ≡ true → IsErr result }
+        ensures counted { OnOk result (self.new.schedule ≡ after_call self.old.schedule) }
+        ensures failed { OnErr result (self.new.schedule ≡ after_failure self.old.schedule) }
+    {
         if self.schedule.fails_now() {
             return Err(Failed);
         }

@@ -1,7 +1,7 @@
-ghost use Rattle.std.specs.Prelude.{◌≡◌, ◌<◌, ◌≤◌, ℕ, Some, [], length, take, min, true, IfOk, OnErr, IsErr};
+ghost use Rattle.std.specs.Prelude.{◌≡◌, ◌<◌, ◌≤◌, ℕ, Some, [], length, take, min, true, IfOk, OnOk, OnErr, IsErr};
 ghost use Rattle.esm_io.specs.Faults.{IsCount, Rose};
 ghost use Rattle.esm_io.specs.Told.{Grows};
-ghost use Rattle.esm_io.specs.Schedule.{is_due, one_more};
+ghost use Rattle.esm_io.specs.Schedule.{is_due, after_call, after_failure};
 
 use crate::failed::Failed;
 use crate::pieces::take_front;
@@ -68,7 +68,8 @@ impl Sink for MemSink {
         ensures piece { IfOk result (λ n. n ≡ min (length from.now) self.old.piece) }
         ensures piece_kept { self.new.piece ≡ self.old.piece }
         ensures due { is_due self.old.schedule ≡ true → IsErr result }
-        ensures calls { self.new.schedule.calls ≡ one_more self.old.schedule.calls }
+        ensures counted { OnOk result (self.new.schedule ≡ after_call self.old.schedule) }
+        ensures failed { OnErr result (self.new.schedule ≡ after_failure self.old.schedule) }
     {
         if self.schedule.fails_now() {
             return Err(Failed);

@@ -1,28 +1,36 @@
 // One happy path for each form, a call that fails in mid-stream, and crashes by choice.
+ghost use Rattle.std.specs.Prelude.{◌≡◌, ℕ, [], ◌∷◌, false, IfOk};
+
 use crate::put_byte::put_byte;
 use crate::{
-    Caller, Clock, Dest, Disk, Door, Link, MemDest, MemDisk, MemDoor, MemLink, MemSink, MemSource,
-    Script, ScriptCaller, Sink, Source, StepClock,
+    Caller, Clock, Dest, DestError, Disk, Door, Failed, Link, MemDest, MemDisk, MemDoor, MemLink,
+    MemSink, MemSource, Script, ScriptCaller, Sink, Source, StepClock,
 };
 use esm_model::{Bytes, Reply};
 use std::alloc::{AllocError, Global};
 use std::test::Fail;
+
+/// What was answered; 9 is a call that failed.
+fn counted(answer: Result<usize, Failed>) -> usize {
+    match answer {
+        Ok(count) => count,
+        Err(_) => 9,
+    }
+}
 
 #[test]
 fn source_fails_in_mid_stream(rt: HostRuntime) -> Result<(), Fail> {
     let alloc = rt.alloc();
     let mut source = MemSource::new([1, 2, 3].to_vec(alloc)?, 2, [1].to_vec(alloc)?);
     let mut into = [0; 4];
-    let first = source.read(&mut into);
-    assert!(rt; first == Ok(2));
-    assert!(rt; into == [1, 2, 0, 0]);
-    let second = source.read(&mut into);
-    assert!(rt; second.is_err());
-    let third = source.read(&mut into);
-    assert!(rt; third == Ok(1));
-    assert!(rt; into == [3, 2, 0, 0]);
-    let fourth = source.read(&mut into);
-    assert!(rt; fourth == Ok(0));
+    let counts = [
+        counted(source.read(&mut into)),
+        counted(source.read(&mut into)),
+        counted(source.read(&mut into)),
+        counted(source.read(&mut into)),
+    ];
+    assert_eq!(rt; counts, [2, 9, 1, 0]);
+    assert_eq!(rt; into, [3, 2, 0, 0]);
     Ok(())
 }
 
@@ -30,37 +38,28 @@ fn source_fails_in_mid_stream(rt: HostRuntime) -> Result<(), Fail> {
 fn sink_fails_in_mid_stream(rt: HostRuntime) -> Result<(), Fail> {
     let alloc = rt.alloc();
     let mut sink = MemSink::new(alloc, 2, [1].to_vec(alloc)?);
-    let first = sink.write(&[1, 2, 3]);
-    assert!(rt; first == Ok(2));
-    let second = sink.write(&[3]);
-    assert!(rt; second.is_err());
-    let third = sink.write(&[3]);
-    assert!(rt; third == Ok(1));
+    let counts = [
+        counted(sink.write(&[1, 2, 3])),
+        counted(sink.write(&[3])),
+        counted(sink.write(&[3])),
+    ];
+    assert_eq!(rt; counts, [2, 9, 1]);
     assert_eq!(rt; sink.written(), [1, 2, 3].as_slice());
     Ok(())
 }
 
 #[test]
-fn clock_steps(rt: HostRuntime) -> Result<(), Fail> {
+fn clock_steps(rt: HostRuntime) {
     let clock = StepClock::new(5);
-    assert!(rt; clock.now() == 5);
-    assert!(rt; clock.pause(9) == 9);
-    assert!(rt; clock.pause(7) == 9);
-    assert!(rt; clock.now() == 9);
-    Ok(())
+    let moments = [clock.now(), clock.pause(9), clock.pause(7), clock.now()];
+    assert_eq!(rt; moments, [5, 9, 9, 9]);
 }
 
-fn status_of(reply: &Reply) -> Option<(u16, bool)> {
-    match reply {
-        Reply::Answered { status, error, .. } => Some((*status, *error)),
-        _ => None,
-    }
-}
-
-fn answered(caller: &mut ScriptCaller, alloc: Global, event: &[u8]) -> Option<(u16, bool)> {
+/// The call has the function error; none: it was lost, or there was no memory.
+fn has_error(caller: &mut ScriptCaller, alloc: Global, event: &[u8]) -> Option<bool> {
     match caller.call(alloc, "f", event) {
-        Ok(reply) => status_of(&reply),
-        Err(_) => Some((0, false)),
+        Ok(Reply::Answered { error, .. }) => Some(error),
+        _ => None,
     }
 }
 
@@ -69,112 +68,93 @@ fn poison_fails_and_one_call_is_lost(rt: HostRuntime) -> Result<(), Fail> {
     let alloc = rt.alloc();
     let script = Script::Poison(Bytes::from_vec([2, 3].to_vec(alloc)?));
     let mut caller = ScriptCaller::new(alloc, script, [1].to_vec(alloc)?);
-    let poisoned = answered(&mut caller, alloc, &[1, 2, 3]);
-    assert!(rt; poisoned == Some((200, true)));
-    let lost = answered(&mut caller, alloc, &[1]);
-    assert!(rt; lost.is_none());
-    let plain = answered(&mut caller, alloc, &[3, 2]);
-    assert!(rt; plain == Some((200, false)));
-    assert!(rt; caller.log().len() == 3);
+    let errors = [
+        has_error(&mut caller, alloc, &[1, 2, 3]),
+        has_error(&mut caller, alloc, &[1]),
+        has_error(&mut caller, alloc, &[3, 2]),
+    ];
+    assert!(rt; errors == [Some(true), None, Some(false)]);
+    assert_eq!(rt; caller.log().len(), 3);
     Ok(())
 }
 
-/// Bytes 1 to 4 synced; then 7, 8 and 9 over the last of them and past the end.
-fn written(alloc: Global) -> Result<MemDisk, AllocError> {
+/// What a crash leaves of bytes 1 to 4, all synced, over which 7, 8 and 9 were written from the last of them on.
+fn left_by(alloc: Global, choice: u64) -> Result<MemDisk, AllocError> {
     let bytes = [1, 2, 3, 4].to_vec(alloc)?;
     let mut disk = MemDisk::new(alloc, bytes, Vec::new(alloc));
-    match disk.write_at(3, &[7, 8, 9]) {
-        Ok(()) => Ok(disk),
-        Err(_) => Err(AllocError),
+    let wrote = disk.write_at(3, &[7, 8, 9]);
+    match disk.crash(alloc, choice) {
+        Ok(left) if wrote.is_ok() => Ok(left),
+        _ => Err(AllocError),
     }
-}
-
-#[test]
-fn crash_with_none(rt: HostRuntime) -> Result<(), Fail> {
-    let alloc = rt.alloc();
-    let disk = written(alloc)?;
-    match disk.crash(alloc, 0) {
-        Ok(left) => assert_eq!(rt; left.bytes(), [1, 2, 3, 4].as_slice()),
-        Err(_) => assert!(rt; false),
-    }
-    Ok(())
-}
-
-#[test]
-fn crash_with_all(rt: HostRuntime) -> Result<(), Fail> {
-    let alloc = rt.alloc();
-    let disk = written(alloc)?;
-    match disk.crash(alloc, 1) {
-        Ok(left) => assert_eq!(rt; left.bytes(), [1, 2, 3, 7, 8, 9].as_slice()),
-        Err(_) => assert!(rt; false),
-    }
-    Ok(())
 }
 
 // 165 has the bits 0, 2, 5 and 7: of the places 3, 4 and 5 only the last has arrived.
 #[test]
-fn crash_with_some(rt: HostRuntime) -> Result<(), Fail> {
+fn crash_leaves_what_has_arrived(rt: HostRuntime) -> Result<(), Fail> {
     let alloc = rt.alloc();
-    let disk = written(alloc)?;
-    match disk.crash(alloc, 165) {
-        Ok(left) => assert_eq!(rt; left.bytes(), [1, 2, 3, 4, 0, 9].as_slice()),
-        Err(_) => assert!(rt; false),
-    }
+    assert_eq!(rt; left_by(alloc, 0)?.bytes(), [1, 2, 3, 4].as_slice());
+    assert_eq!(rt; left_by(alloc, 1)?.bytes(), [1, 2, 3, 7, 8, 9].as_slice());
+    assert_eq!(rt; left_by(alloc, 165)?.bytes(), [1, 2, 3, 4, 0, 9].as_slice());
     Ok(())
 }
 
 #[test]
-fn disk_counts_its_calls(rt: HostRuntime) -> Result<(), Fail> {
-    let alloc = rt.alloc();
-    let mut disk = written(alloc)?;
-    let synced = disk.sync();
-    assert!(rt; synced.is_ok());
-    let length = disk.len();
-    assert!(rt; length == Ok(6));
-    assert!(rt; disk.calls() == 3);
-    Ok(())
-}
-
-#[test]
-fn byte_is_put(rt: HostRuntime) -> Result<(), Fail> {
+fn disk_puts_a_byte_and_counts_its_calls(rt: HostRuntime) -> Result<(), Fail> {
     let alloc = rt.alloc();
     let mut disk = MemDisk::new(alloc, [1, 2, 3].to_vec(alloc)?, Vec::new(alloc));
-    let put = put_byte(&mut disk, 1, 9);
-    assert!(rt; put.is_ok());
+    put_byte(&mut disk, 1, 9)?;
+    assert_eq!(rt; disk.len()?, 3);
     assert_eq!(rt; disk.bytes(), [1, 9, 3].as_slice());
+    assert_eq!(rt; disk.calls(), 3);
     Ok(())
+}
+
+/// A door with one connection, on which 1 and 2 are to be read.
+fn door_of_one(alloc: Global) -> Result<MemDoor, AllocError> {
+    let link = MemLink::new(alloc, [1, 2].to_vec(alloc)?, 9, Vec::new(alloc));
+    let mut links = Vec::new(alloc);
+    links.push(link)?;
+    Ok(MemDoor::new(alloc, links, Vec::new(alloc)))
+}
+
+/// Reads on the next connection, writes 3, and closes it. Tells what the two calls answered.
+fn serve(door: &mut MemDoor, alloc: Global) -> Result<[usize; 2], Failed> {
+    let mut link = door.accept()?;
+    let counts = [counted(link.read(&mut [0; 4])), counted(link.write(&[3]))];
+    match door.close(alloc, link) {
+        Ok(()) => Ok(counts),
+        Err(_) => Err(Failed),
+    }
 }
 
 #[test]
 fn door_gives_a_link_and_keeps_it(rt: HostRuntime) -> Result<(), Fail> {
     let alloc = rt.alloc();
-    let mut links = Vec::new(alloc);
-    links.push(MemLink::new(alloc, [1, 2].to_vec(alloc)?, 9, Vec::new(alloc)))?;
-    let mut door = MemDoor::new(alloc, links, Vec::new(alloc));
-    if let Ok(mut link) = door.accept() {
-        let wrote = link.write(&[3]);
-        assert!(rt; wrote == Ok(1));
-        let closed = door.close(alloc, link);
-        assert!(rt; closed.is_ok());
-    }
-    assert!(rt; door.closed().len() == 1);
-    let none = door.accept();
-    assert!(rt; none.is_err());
+    let mut door = door_of_one(alloc)?;
+    assert_eq!(rt; serve(&mut door, alloc)?, [2, 1]);
+    assert_eq!(rt; door.closed().len(), 1);
+    assert!(rt; serve(&mut door, alloc).is_err());
     Ok(())
+}
+
+/// Delivers two lines, the first in room that was made for it.
+fn deliver_two(dest: &mut MemDest, alloc: Global) -> Result<(), DestError>
+    requires { dest.old.failed ≡ false }
+{
+    if dest.reserve(alloc, 3).is_err() {
+        return Err(DestError::OutOfMemory);
+    }
+    dest.deliver(alloc, &[1, 2, 3])?;
+    dest.deliver(alloc, &[4])
 }
 
 #[test]
 fn dest_keeps_lines_until_it_fails(rt: HostRuntime) -> Result<(), Fail> {
     let alloc = rt.alloc();
     let mut dest = MemDest::new(alloc, [1].to_vec(alloc)?);
-    let room = dest.reserve(alloc, 3);
-    assert!(rt; room.is_ok());
-    let first = dest.deliver(alloc, &[1, 2, 3]);
-    assert!(rt; first.is_ok());
-    if first.is_ok() {
-        let second = dest.deliver(alloc, &[4]);
-        assert!(rt; second.is_err());
-    }
-    assert!(rt; dest.lines().len() == 1);
+    let delivered = deliver_two(&mut dest, alloc);
+    assert!(rt; matches!(&delivered, Err(DestError::Failed)));
+    assert_eq!(rt; dest.lines().len(), 1);
     Ok(())
 }
