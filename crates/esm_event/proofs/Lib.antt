@@ -1,3 +1,4 @@
 pub mod CalendarLemmas
 pub mod Appending
 pub mod LengthLemmas
+pub mod PlainMapping

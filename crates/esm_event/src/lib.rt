@@ -16,3 +16,6 @@ pub use esm_model::{Failure, Response, WindowCall};
 pub use event::stream_event;
 pub use failure::failure_text;
 pub use length::{frame_bytes, stream_bytes};
+
+#[cfg(test)]
+mod tests;
