@@ -88,7 +88,7 @@ impl Dest for MemDest {
 
     ghost has_room = { λ s n. n < s.room };
 
-    /// No call of it is to fail: it is not counted.
+    /// It is not counted among the calls that are to fail.
     fn reserve(&mut self, alloc: Global, bytes: u64) -> Result<(), OutOfMemory>
         ensures room { OnOk result ((n : ℕ) → n ≤ bytes → n < self.new.room) }
         ensures lines_kept { self.new.lines ≡ self.old.lines }

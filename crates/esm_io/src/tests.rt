@@ -8,7 +8,7 @@ use crate::{
 };
 use esm_model::{Bytes, Reply};
 use std::alloc::{AllocError, Global};
-use std::test::Fail;
+use std::process::Abort;
 
 /// What was answered; 9 is a call that failed.
 fn counted(answer: Result<usize, Failed>) -> usize {
@@ -19,9 +19,11 @@ fn counted(answer: Result<usize, Failed>) -> usize {
 }
 
 #[test]
-fn source_fails_in_mid_stream(rt: HostRuntime) -> Result<(), Fail> {
+fn source_fails_in_mid_stream(rt: HostRuntime) {
     let alloc = rt.alloc();
-    let mut source = MemSource::new([1, 2, 3].to_vec(alloc)?, 2, [1].to_vec(alloc)?);
+    let bytes = [1, 2, 3].to_vec(alloc).expect(&rt, "memory");
+    let fails = [1].to_vec(alloc).expect(&rt, "memory");
+    let mut source = MemSource::new(bytes, 2, fails);
     let mut into = [0; 4];
     let counts = [
         counted(source.read(&mut into)),
@@ -31,13 +33,13 @@ fn source_fails_in_mid_stream(rt: HostRuntime) -> Result<(), Fail> {
     ];
     assert_eq!(rt; counts, [2, 9, 1, 0]);
     assert_eq!(rt; into, [3, 2, 0, 0]);
-    Ok(())
 }
 
 #[test]
-fn sink_fails_in_mid_stream(rt: HostRuntime) -> Result<(), Fail> {
+fn sink_fails_in_mid_stream(rt: HostRuntime) {
     let alloc = rt.alloc();
-    let mut sink = MemSink::new(alloc, 2, [1].to_vec(alloc)?);
+    let fails = [1].to_vec(alloc).expect(&rt, "memory");
+    let mut sink = MemSink::new(alloc, 2, fails);
     let counts = [
         counted(sink.write(&[1, 2, 3])),
         counted(sink.write(&[3])),
@@ -45,7 +47,6 @@ fn sink_fails_in_mid_stream(rt: HostRuntime) -> Result<(), Fail> {
     ];
     assert_eq!(rt; counts, [2, 9, 1]);
     assert_eq!(rt; sink.written(), [1, 2, 3].as_slice());
-    Ok(())
 }
 
 #[test]
@@ -64,10 +65,11 @@ fn has_error(caller: &mut ScriptCaller, alloc: Global, event: &[u8]) -> Option<b
 }
 
 #[test]
-fn poison_fails_and_one_call_is_lost(rt: HostRuntime) -> Result<(), Fail> {
+fn poison_fails_and_one_call_is_lost(rt: HostRuntime) {
     let alloc = rt.alloc();
-    let script = Script::Poison(Bytes::from_vec([2, 3].to_vec(alloc)?));
-    let mut caller = ScriptCaller::new(alloc, script, [1].to_vec(alloc)?);
+    let text = [2, 3].to_vec(alloc).expect(&rt, "memory");
+    let fails = [1].to_vec(alloc).expect(&rt, "memory");
+    let mut caller = ScriptCaller::new(alloc, Script::Poison(Bytes::from_vec(text)), fails);
     let errors = [
         has_error(&mut caller, alloc, &[1, 2, 3]),
         has_error(&mut caller, alloc, &[1]),
@@ -75,39 +77,40 @@ fn poison_fails_and_one_call_is_lost(rt: HostRuntime) -> Result<(), Fail> {
     ];
     assert!(rt; errors == [Some(true), None, Some(false)]);
     assert_eq!(rt; caller.log().len(), 3);
-    Ok(())
 }
 
 /// What a crash leaves of bytes 1 to 4, all synced, over which 7, 8 and 9 were written from the last of them on.
-fn left_by(alloc: Global, choice: u64) -> Result<MemDisk, AllocError> {
-    let bytes = [1, 2, 3, 4].to_vec(alloc)?;
+fn left_by(rt: &impl Abort, alloc: Global, choice: u64) -> MemDisk {
+    let bytes = [1, 2, 3, 4].to_vec(alloc).expect(rt, "memory");
     let mut disk = MemDisk::new(alloc, bytes, Vec::new(alloc));
-    let wrote = disk.write_at(3, &[7, 8, 9]);
-    match disk.crash(alloc, choice) {
-        Ok(left) if wrote.is_ok() => Ok(left),
-        _ => Err(AllocError),
-    }
+    disk.write_at(3, &[7, 8, 9]).expect(rt, "memory");
+    disk.crash(alloc, choice).ok().expect(rt, "memory")
 }
 
 // 165 has the bits 0, 2, 5 and 7: of the places 3, 4 and 5 only the last has arrived.
 #[test]
-fn crash_leaves_what_has_arrived(rt: HostRuntime) -> Result<(), Fail> {
+fn crash_leaves_what_has_arrived(rt: HostRuntime) {
     let alloc = rt.alloc();
-    assert_eq!(rt; left_by(alloc, 0)?.bytes(), [1, 2, 3, 4].as_slice());
-    assert_eq!(rt; left_by(alloc, 1)?.bytes(), [1, 2, 3, 7, 8, 9].as_slice());
-    assert_eq!(rt; left_by(alloc, 165)?.bytes(), [1, 2, 3, 4, 0, 9].as_slice());
-    Ok(())
+    assert_eq!(rt; left_by(&rt, alloc, 0).bytes(), [1, 2, 3, 4].as_slice());
+    assert_eq!(rt;
+        left_by(&rt, alloc, 1).bytes(),
+        [1, 2, 3, 7, 8, 9].as_slice()
+    );
+    assert_eq!(rt;
+        left_by(&rt, alloc, 165).bytes(),
+        [1, 2, 3, 4, 0, 9].as_slice()
+    );
 }
 
 #[test]
-fn disk_puts_a_byte_and_counts_its_calls(rt: HostRuntime) -> Result<(), Fail> {
+fn disk_puts_a_byte_and_counts_its_calls(rt: HostRuntime) {
     let alloc = rt.alloc();
-    let mut disk = MemDisk::new(alloc, [1, 2, 3].to_vec(alloc)?, Vec::new(alloc));
-    put_byte(&mut disk, 1, 9)?;
-    assert_eq!(rt; disk.len()?, 3);
+    let bytes = [1, 2, 3].to_vec(alloc).expect(&rt, "memory");
+    let mut disk = MemDisk::new(alloc, bytes, Vec::new(alloc));
+    assert!(rt; put_byte(&mut disk, 1, 9).is_ok());
+    assert!(rt; disk.len() == Ok(3));
     assert_eq!(rt; disk.bytes(), [1, 9, 3].as_slice());
     assert_eq!(rt; disk.calls(), 3);
-    Ok(())
 }
 
 /// A door with one connection, on which 1 and 2 are to be read.
@@ -129,13 +132,12 @@ fn serve(door: &mut MemDoor, alloc: Global) -> Result<[usize; 2], Failed> {
 }
 
 #[test]
-fn door_gives_a_link_and_keeps_it(rt: HostRuntime) -> Result<(), Fail> {
+fn door_gives_a_link_and_keeps_it(rt: HostRuntime) {
     let alloc = rt.alloc();
-    let mut door = door_of_one(alloc)?;
-    assert_eq!(rt; serve(&mut door, alloc)?, [2, 1]);
+    let mut door = door_of_one(alloc).expect(&rt, "memory");
+    assert!(rt; serve(&mut door, alloc) == Ok([2, 1]));
     assert_eq!(rt; door.closed().len(), 1);
     assert!(rt; serve(&mut door, alloc).is_err());
-    Ok(())
 }
 
 /// Delivers two lines, the first in room that was made for it.
@@ -150,11 +152,11 @@ fn deliver_two(dest: &mut MemDest, alloc: Global) -> Result<(), DestError>
 }
 
 #[test]
-fn dest_keeps_lines_until_it_fails(rt: HostRuntime) -> Result<(), Fail> {
+fn dest_keeps_lines_until_it_fails(rt: HostRuntime) {
     let alloc = rt.alloc();
-    let mut dest = MemDest::new(alloc, [1].to_vec(alloc)?);
+    let fails = [1].to_vec(alloc).expect(&rt, "memory");
+    let mut dest = MemDest::new(alloc, fails);
     let delivered = deliver_two(&mut dest, alloc);
     assert!(rt; matches!(&delivered, Err(DestError::Failed)));
     assert_eq!(rt; dest.lines().len(), 1);
-    Ok(())
 }
