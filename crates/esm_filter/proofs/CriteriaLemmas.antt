@@ -1,5 +1,5 @@
 -- Patterns one after another.
-use Rattle.std.proofs.Common.{◌≡◌, ℕ, zero, suc, ◌+◌, ◌<◌, ◌≤◌, List, [], ◌∷◌, ◌++◌, map, length, ◌==◌, drop, get_or, Bool, true, false, if◌then◌else◌, Option, Some, None, Result, Ok, Err, String, Vec, Global, IsUtf8, arith, refl, ap, sym, ◌∙◌, append_assoc, add-one, zero-add, add-zero, drop-cons, length-append}
+use Rattle.std.proofs.Common.{◌≡◌, ℕ, suc, ◌+◌, ◌<◌, List, [], ◌∷◌, ◌++◌, length, ◌==◌, drop, get_or, Bool, true, false, if◌then◌else◌, Option, Some, None, Result, Ok, Err, Vec, Global, IsUtf8, arith, refl, ap, sym, ◌∙◌, append_assoc, add-one, zero-add, add-zero, drop-cons, length-append}
 use Rattle.std.specs.List.{list_any}
 use Rattle.std.specs.Str.{is_utf8}
 use Rattle.std.specs.Result.{result_map_both}
@@ -8,12 +8,11 @@ use Rattle.serde_json.specs.Data.{Data}
 use Rattle.serde_json.specs.Read.{read}
 use Rattle.esm_model.specs.Json.{read_json}
 use Rattle.esm_model.specs.Filter.{Seen, fields_pass, patterns_pass}
-use Rattle.esm_model.specs.Pattern.{Fields, Refusal, Reads, read_pattern, read_patterns, with_first, later}
+use Rattle.esm_model.specs.Pattern.{Fields, Refusal, Reads, read_pattern, read_patterns, with_first}
 use Rattle.esm_filter.specs.Criteria.{patterns_view}
 use Rattle.esm_filter.specs.View.{fields_view}
-use Rattle.esm_filter.specs.declared.pattern.Rule.{Rule}
 use Rattle.esm_filter.proofs.ViewLemmas.{any_view}
-use Rattle.esm_filter.proofs.ReadLemmas.{Field}
+use Rattle.esm_filter.proofs.ReadLemmas.{Field, none_of_some}
 
 json_if : (b : Bool) (o : Option Data) (bs : List ℕ) → is_utf8 bs ≡ b → (if b then o else None) ≡ (if is_utf8 bs then o else None)
 json_if b o bs e = ap (λ c. if c then o else None) (sym e)
@@ -30,6 +29,10 @@ json_refused bs h = refused_by bs (is_utf8 bs) refl h
 
 abbrev pub Tree : Type 0
 Tree = Vec Field Global
+
+pub no_patterns : (ps : List Tree) (found : List ℕ → Seen) (b : Bool) → b ≡ (length ps == 0) → b ≡ true → true ≡ patterns_pass (patterns_view ps) found
+no_patterns [] found b is none = refl
+no_patterns (p ∷ ps) found b is none = let some : (length (p ∷ ps) == 0) ≡ false = none_of_some p ps in absurd (cc)
 
 pub some_patterns : (ps : List Tree) (found : List ℕ → Seen) (r b : Bool) → b ≡ (length ps == 0) → b ≡ false → r ≡ list_any (λ p. fields_pass (fields_view p.items) found) ps
     → r ≡ patterns_pass (patterns_view ps) found

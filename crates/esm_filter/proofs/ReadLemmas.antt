@@ -1,6 +1,6 @@
 -- Reading a list one element after another.
-use Rattle.std.proofs.Common.{◌≡◌, ℕ, zero, suc, ◌+◌, ◌<◌, ◌≤◌, arith, List, [], ◌∷◌, ◌++◌, map, length, ◌==◌, get_or, drop, Bool, true, false, if◌then◌else◌, Result, Ok, Err, String, Vec, string_bytes, Global, rules, refl, ap, ◌∙◌, sym, append_assoc, append-nil, add-one, drop-cons}
-use Rattle.serde_json.specs.Data.{Data, Items, no_items, item, array, object}
+use Rattle.std.proofs.Common.{◌≡◌, ℕ, zero, suc, ◌+◌, ◌<◌, ◌≤◌, arith, List, [], ◌∷◌, ◌++◌, length, ◌==◌, get_or, drop, Bool, false, if◌then◌else◌, Ok, Err, String, Vec, string_bytes, Global, rules, refl, ap, ◌∙◌, sym, append_assoc, add-one, drop-cons}
+use Rattle.serde_json.specs.Data.{Data, array, object}
 use Rattle.serde_json.specs.View.{view, items_view, members_view}
 use Rattle.serde_json.specs.declared.value.Value.{Value}
 use Rattle.serde_json.proofs.Views.{Entry}
@@ -9,7 +9,7 @@ use Rattle.esm_model.specs.Pattern as spec
 use Rattle.esm_filter.specs.View.{rule_view, fields_view, fields_in, choices_view}
 use Rattle.esm_filter.specs.declared.pattern.Rule.{Rule, Nested, the_lemmas}
 
-none_of_some : {X : Type 0} (x : X) (xs : List X) → (length (x ∷ xs) == 0) ≡ false
+pub none_of_some : {X : Type 0} (x : X) (xs : List X) → (length (x ∷ xs) == 0) ≡ false
 none_of_some x xs = search rules
 
 pub list_refusal : (vs : List Value) (r : Refusal) → r ≡ (if length vs == 0 then empty else bad_test) → r ≡ refusal_of (array (items_view vs))

@@ -1,6 +1,6 @@
 -- Tests over what the program's tree stands for.
-use Rattle.std.proofs.Common.{◌≡◌, ℕ, ℤ, List, [], ◌∷◌, map, Bool, true, false, not, Option, Some, None, nat_eq, refl, ap, ◌∙◌, sym}
-use Rattle.std.specs.List.{list_any, list_all, starts_with, ends_with}
+use Rattle.std.proofs.Common.{◌≡◌, ℤ, List, [], ◌∷◌, map, Bool, true, false, not, Option, Some, None, refl, ap, ◌∙◌, sym}
+use Rattle.std.specs.List.{list_any, list_all}
 use Rattle.serde_json.specs.Data.{Data, Num, boolean, null, number}
 use Rattle.serde_json.specs.Find.{as_i64}
 use Rattle.esm_model.specs.Pattern as spec

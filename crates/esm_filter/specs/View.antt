@@ -1,5 +1,5 @@
 -- The pattern that the program's tree stands for.
-use Rattle.std.specs.Prelude.{ℕ, List, [], ◌∷◌, map, String, string_bytes, Vec}
+use Rattle.std.specs.Prelude.{List, [], ◌∷◌, map, String, string_bytes}
 use Rattle.std.specs.declared.alloc.Global.{Global}
 use Rattle.esm_model.specs.Pattern as spec
 use Rattle.esm_filter.specs.declared.pattern.Comparison.{Comparison}

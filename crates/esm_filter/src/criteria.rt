@@ -1,4 +1,4 @@
-ghost use Rattle.std.specs.Prelude.{◌≡◌, ◌<◌, ◌^◌, length, option_map, IfOk};
+ghost use Rattle.std.specs.Prelude.{◌≡◌, ◌==◌, ◌<◌, ◌^◌, length, option_map, IfOk};
 ghost use Rattle.std.specs.List.{list_any};
 ghost use Rattle.serde_json.specs.Read.{read as read_text};
 ghost use Rattle.serde_json.specs.View.{view};
@@ -155,18 +155,32 @@ impl Criteria {
         read_all(alloc, is_stream(kind), texts)
     }
 
-    /// Whether a stream's record passes; its data is parsed once at most.
+    fn has_no_patterns(&self) -> bool
+        ensures { result ≡ (length self.now.patterns.items == 0) }
+    {
+        self.patterns.as_slice().is_empty()
+    }
+
+    /// Whether a stream's record passes; its data is parsed once at most, and not at all where there are no patterns.
     pub fn passes_record(&self, alloc: Global, item: &Record) -> Result<bool, OutOfMemory>
         ensures { IfOk result (λ b. b ≡ patterns_pass (patterns_of self.now) (in_record item.now (read_json item.now.payload))) }
     {
+        let none = self.has_no_patterns();
+        if none {
+            return Ok(true);
+        }
         let json = json_of(alloc, item.payload.as_slice())?;
         Ok(record_passes(self.patterns.as_slice(), item, &json))
     }
 
-    /// Whether a queue's message passes; its body is parsed once at most.
+    /// Whether a queue's message passes; its body is parsed once at most, and not at all where there are no patterns.
     pub fn passes_message(&self, alloc: Global, item: &Message) -> Result<bool, OutOfMemory>
         ensures { IfOk result (λ b. b ≡ patterns_pass (patterns_of self.now) (in_message item.now (read_text item.now.body))) }
     {
+        let none = self.has_no_patterns();
+        if none {
+            return Ok(true);
+        }
         let json = json_of_text(alloc, item.body.as_str())?;
         Ok(message_passes(self.patterns.as_slice(), item, &json))
     }

@@ -1,4 +1,4 @@
-use Rattle.std.proofs.Common.{rules, arith, IsUtf8}
+use Rattle.std.proofs.Common.{rules, arith}
 use Rattle.std.proofs.lemmas.Grind.{common_steps}
 use Rattle.serde_json.specs.Errors.{IsMemory}
 use Rattle.serde_json.specs.View.{view}

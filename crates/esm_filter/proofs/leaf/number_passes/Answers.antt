@@ -1,4 +1,3 @@
-use Rattle.std.proofs.Common.{sym, ◌∙◌}
 use Rattle.serde_json.specs.Data as json
 use Rattle.serde_json.specs.View.{number_view}
 use Rattle.esm_filter.proofs.ViewLemmas.{but_passes, meets_passes}

@@ -1,4 +1,3 @@
-use Rattle.std.proofs.Common.{sym, ◌∙◌}
 use Rattle.serde_json.specs.View.{items_view}
 use Rattle.esm_model.specs.Pattern.{read_all, read_scalar}
 use Rattle.esm_filter.proofs.ReadLemmas.{some_items}

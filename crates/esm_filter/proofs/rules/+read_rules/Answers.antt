@@ -1,10 +1,10 @@
-use Rattle.std.proofs.Common.{◌≡◌, ◌+◌, drop, Ok, sym, ap, ◌∙◌, length, ◌==◌, if◌then◌else◌, Err, false}
+use Rattle.std.proofs.Common.{◌+◌, drop, Ok, sym, ap, ◌∙◌, if◌then◌else◌, Err, false}
 use Rattle.serde_json.specs.View.{view, items_view, members_view}
 use Rattle.serde_json.proofs.Views.{Entry}
 use Rattle.esm_model.specs.Pattern.{bad_test, is_data, is_or, nested, one_of, tests, reads_map, read_all, read_test, read_rule, read_fields, read_choices}
-use Rattle.esm_filter.proofs.ReadLemmas.{some_items, some_members, Field, then_fields, more_fields, all_fields, then_choices, more_choices, end_choices, view-Nested}
+use Rattle.esm_filter.proofs.ReadLemmas.{some_items, some_members, then_fields, more_fields, all_fields, then_choices, more_choices, end_choices, view-Nested}
 use Rattle.esm_filter.specs.View.{fields_in}
-use Rattle.esm_filter.specs.declared.pattern.Rule.{Rule, Nested}
+use Rattle.esm_filter.specs.declared.pattern.Rule.{Nested}
 use Rattle.esm_filter.proofs.rules.+read_rules.Goals as goal
 
 pub read_list_rule-returns : goal.read_list_rule-returns

@@ -1,7 +1,4 @@
-use Rattle.std.proofs.Common.{subst, ap, sym}
-use Rattle.esm_model.specs.Pattern.{read_patterns}
 use Rattle.esm_filter.proofs.TextLemmas.{judges_records, judges_messages}
-use Rattle.esm_filter.specs.Criteria.{IsRead}
 use Rattle.esm_filter.proofs.criteria.Criteria.read.Goals as goal
 
 pub returns-clause-records : goal.returns-clause-records
