@@ -1,0 +1,92 @@
+-- The report of a stream's run: a line for each shard that came, a line for the calls, and the last line, which tells
+-- how the run ended. Each line ends with a line feed. This product's own.
+use Rattle.std.specs.Prelude.{ℕ, Bool, true, false, List, [], ◌++◌, codes, if◌then◌else◌}
+use Rattle.std.specs.List.{flat_map, fold}
+use Rattle.std.specs.Ordering.{nat_cmp}
+use Rattle.std.specs.BTreeSet.{insert_key}
+use Rattle.esm_model.specs.declared.entry.Fate.{Fate}
+use Rattle.esm_model.specs.declared.entry.Fate.TheVariants.{Succeeded, Filtered, Expired, Exhausted}
+use Rattle.esm_model.specs.declared.entry.Entry.{Entry}
+use Rattle.esm_model.specs.Setting.{Setting}
+use Rattle.esm_model.specs.Entries.{came_count, shards_that_came, calls_begun}
+use Rattle.esm_model.specs.Fates.{fate_count}
+use Rattle.esm_model.specs.Checkpoint.{checkpoint}
+use Rattle.esm_model.specs.Numbers.{decimal}
+use Rattle.esm_model.specs.EventText.{shard_id}
+use Rattle.esm_report.specs.declared.ending.Ending.{Ending}
+use Rattle.esm_report.specs.declared.ending.Ending.TheVariants.{Done, CallsSpent, BadWords, BadLine, InputFault, UnknownMapping, DisabledMapping, BadParameter, Limit}
+use Rattle.esm_report.specs.declared.ending.LimitName.{LimitName}
+use Rattle.esm_report.specs.declared.ending.LimitName.TheVariants.{Records, Bytes, Shards, Lanes}
+
+-- a line ends with a line feed
+abbrev pub line : List ℕ → List ℕ
+line text = text ++ codes "\n"
+
+-- the numbers in rising order, each once
+abbrev pub rising : List ℕ → List ℕ
+rising ns = fold (insert_key nat_cmp) [] ns
+
+-- a word, and the number of the shard's records that came and have this fate
+abbrev pub fate_part : List ℕ → Fate → Setting → List Entry → ℕ → List ℕ
+fate_part word f s h n = codes " " ++ word ++ codes " " ++ decimal (fate_count s h n f)
+
+-- the numbers of the four fates
+abbrev pub fates_part : Setting → List Entry → ℕ → List ℕ
+fates_part s h n =
+    fate_part (codes "succeeded") Succeeded s h n
+    ++ fate_part (codes "filtered") Filtered s h n
+    ++ fate_part (codes "expired") Expired s h n
+    ++ fate_part (codes "exhausted") Exhausted s h n
+
+-- the shard, the number of its records that came, and its checkpoint
+abbrev pub records_part : Setting → List Entry → ℕ → List ℕ
+records_part s h n =
+    codes "shard " ++ shard_id n
+    ++ codes " records " ++ decimal (came_count h n)
+    ++ codes " checkpoint " ++ decimal (checkpoint s h n)
+
+-- and the numbers of the four fates among these records, found ones included
+abbrev pub shard_text : Setting → List Entry → ℕ → List ℕ
+shard_text s h n = records_part s h n ++ fates_part s h n
+
+-- the number of calls that began
+abbrev pub calls_text : List Entry → List ℕ
+calls_text h = codes "calls " ++ decimal (calls_begun h)
+
+-- the name of a limit of the engine
+abbrev pub limit_name : LimitName → List ℕ
+limit_name Records = codes "records"
+limit_name Bytes = codes "bytes"
+limit_name Shards = codes "shards"
+limit_name Lanes = codes "lanes"
+
+-- how the run ended
+abbrev pub ending_text : Ending → List ℕ
+ending_text Done = codes "done"
+ending_text CallsSpent = codes "calls spent"
+ending_text BadWords = codes "bad words"
+ending_text (BadLine number why) = codes "bad line " ++ decimal number ++ codes ": " ++ why
+ending_text InputFault = codes "input fault"
+ending_text UnknownMapping = codes "unknown mapping"
+ending_text DisabledMapping = codes "disabled mapping"
+ending_text (BadParameter name) = codes "bad parameter " ++ name
+ending_text (Limit name) = codes "limit " ++ limit_name name
+
+abbrev pub last_line : Ending → List ℕ
+last_line ending = line (ending_text ending)
+
+-- the run was refused before it began, so there is nothing else to tell
+abbrev pub stands_alone : Ending → Bool
+stands_alone BadWords = true
+stands_alone UnknownMapping = true
+stands_alone DisabledMapping = true
+stands_alone (BadParameter name) = true
+stands_alone _ = false
+
+-- the lines of the shards that came, by rising number
+abbrev pub shard_lines : Setting → List Entry → List ℕ
+shard_lines s h = flat_map (λ n. line (shard_text s h n)) (rising (shards_that_came h))
+
+-- the report of a history (newest entry first) and an ending
+abbrev pub report_text : Setting → List Entry → Ending → List ℕ
+report_text s h ending = if stands_alone ending then last_line ending else shard_lines s h ++ line (calls_text h) ++ last_line ending

@@ -1,0 +1,59 @@
+-- What a history comes to, shard by shard, and the lines that tell of it.
+use Rattle.std.specs.Prelude.{ℕ, ◌≡◌, List, ◌++◌, codes, length, get_or, filter, take_while, is_some, Option, Some, None}
+use Rattle.std.specs.List.{flat_map}
+use Rattle.std.specs.Ordering.{nat_cmp}
+use Rattle.std.specs.Map.{count_at}
+use Rattle.std.specs.BTreeMap as map
+use Rattle.std.specs.BTreeSet as set
+use Rattle.esm_model.specs.declared.entry.Fate.{Fate}
+use Rattle.esm_model.specs.declared.entry.Fate.TheVariants.{Succeeded, Filtered, Expired, Exhausted}
+use Rattle.esm_model.specs.declared.entry.Entry.{Entry}
+use Rattle.esm_model.specs.Entries.{holds, came_count, shards_that_came}
+use Rattle.esm_model.specs.Fates.{below, given, is_fate}
+use Rattle.esm_model.specs.Numbers.{decimal}
+use Rattle.esm_model.specs.EventText.{shard_id}
+use Rattle.esm_report.specs.Report.{line, rising}
+use Rattle.esm_report.specs.declared.totals.Totals.{Totals}
+
+-- the fate of the place by a list of fates by place, if there is one
+abbrev pub fate_at : Option (List (Option Fate)) → ℕ → Option Fate
+fate_at None i = None
+fate_at (Some fates) i = get_or fates i None
+
+-- the totals of a history: the shards that came, the number of records that came of each, and the fates of its places
+pub record IsTotal (t : Totals) (h : List Entry) : Type 0 where
+  pub shards : t.shards.keys ≡ rising (shards_that_came h)
+  pub seen : (n : ℕ) → set.contains nat_cmp t.shards n ≡ holds (shards_that_came h) n
+  pub records : (n : ℕ) → count_at (map.get nat_cmp t.records) n ≡ came_count h n
+  pub fates : (n i : ℕ) → fate_at (map.get nat_cmp t.fates n) i ≡ given h n i
+
+-- a word, and how many of the first places have this fate
+abbrev pub count_part : List ℕ → Fate → ℕ → (ℕ → Option Fate) → List ℕ
+count_part word f count fates = codes " " ++ word ++ codes " " ++ decimal (length (filter (λ i. is_fate f (fates i)) (below count)))
+
+-- the numbers of the four fates
+abbrev pub counts_part : ℕ → (ℕ → Option Fate) → List ℕ
+counts_part count fates =
+    count_part (codes "succeeded") Succeeded count fates
+    ++ count_part (codes "filtered") Filtered count fates
+    ++ count_part (codes "expired") Expired count fates
+    ++ count_part (codes "exhausted") Exhausted count fates
+
+-- the length of the longest prefix of the first places in which each has a fate
+unfoldable pub front_count : ℕ → (ℕ → Option Fate) → ℕ
+front_count count fates = length (take_while (λ i. is_some (fates i)) (below count))
+
+-- a shard, the number of its records, and its checkpoint
+abbrev pub numbers_part : ℕ → ℕ → ℕ → List ℕ
+numbers_part n count front =
+    codes "shard " ++ shard_id n ++ codes " records " ++ decimal count ++ codes " checkpoint " ++ decimal front
+
+-- the text of a shard with so many records, by the fates of its places
+unfoldable pub count_text : ℕ → ℕ → (ℕ → Option Fate) → List ℕ
+count_text n count fates = numbers_part n count (front_count count fates) ++ counts_part count fates
+
+unfoldable pub total_line : Totals → ℕ → List ℕ
+total_line t n = line (count_text n (count_at (map.get nat_cmp t.records) n) (fate_at (map.get nat_cmp t.fates n)))
+
+abbrev pub total_lines : Totals → List ℕ
+total_lines t = flat_map (total_line t) t.shards.keys

@@ -1,0 +1,14 @@
+//! The report that a stream's run prints: what became of the records of each shard, how many calls were made, and
+//! how the run ended, as a text that is a function of the history and the ending.
+//! Pure: values in, bytes out. No device, clock or thread.
+#![tactic(auto)]
+
+pub mod ending;
+mod fates;
+pub mod output;
+#[cfg(test)]
+mod tests;
+mod totals;
+
+pub use ending::{Ending, LimitName};
+pub use output::report;
