@@ -25,7 +25,8 @@ const WINDOW_BYTES: usize = 191;
 pub fn stream_bytes(config: &Config, item: &Record) -> u32
     requires config { IsStreamConfig config.now }
     requires item { IsValidRecord item.now }
-    ensures { result ≡ length (record_text config.now item.now) }
+    ensures value { result ≡ length (record_text config.now item.now) }
+    ensures bound { result ≤ 2000000 }
 {
     let key = key_bytes(item);
     let sequence = item.seq.text().len();

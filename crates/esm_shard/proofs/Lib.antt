@@ -1,0 +1,10 @@
+pub mod Configs
+pub mod Tables
+pub mod Books
+pub mod Bridge
+pub mod Decide
+pub mod Comings
+pub mod Kept
+pub mod Ends
+pub mod Points
+pub mod Served

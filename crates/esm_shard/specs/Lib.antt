@@ -1,0 +1,10 @@
+pub mod FirstPath
+pub mod CoreView
+pub mod Coming
+pub mod Following
+pub mod Ending
+pub mod Plain
+pub mod Table
+pub mod Book
+pub mod Ledger
+pub mod Inside

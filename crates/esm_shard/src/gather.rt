@@ -1,0 +1,46 @@
+ghost use Rattle.std.specs.Prelude.{◌≡◌, ◌<◌, IfOk, All, length};
+ghost use Rattle.esm_shard.specs.Table.{table_records};
+
+use esm_model::{Bytes, OutOfMemory, Record, Seq, Text};
+use std::alloc::Global;
+
+/// Copies of the records at the places, in order.
+pub fn gathered(
+    alloc: Global,
+    records: &[Record],
+    places: &[u32],
+) -> Result<Vec<Record>, OutOfMemory>
+    requires { All (λ p. p < length records.now) places.now }
+    ensures { IfOk result (λ v. v.items ≡ table_records records.now places.now) }
+{
+    let mut batch = Vec::with_capacity(alloc, places.len())?;
+    for place in places {
+        let copy = record_copy(alloc, &records[*place as usize])?;
+        batch.push(copy)?;
+    }
+    Ok(batch)
+}
+
+fn record_copy(alloc: Global, item: &Record) -> Result<Record, OutOfMemory>
+    ensures { IfOk result (λ copy. copy ≡ item.now) }
+{
+    let seq = sequence_copy(alloc, &item.seq)?;
+    let key = String::from_str(alloc, item.key.as_str())?;
+    let payload = Vec::from_slice(alloc, item.payload.as_slice())?;
+    Ok(Record {
+        shard: item.shard,
+        seq,
+        key: Text::from_vec(key),
+        payload: Bytes::from_vec(payload),
+        arrival: item.arrival,
+    })
+}
+
+fn sequence_copy(alloc: Global, seq: &Seq) -> Result<Seq, OutOfMemory>
+    ensures { IfOk result (λ copy. copy ≡ seq.now) }
+{
+    match Seq::read(alloc, seq.text()) {
+        Ok(copy) => Ok(copy),
+        Err(_) => Err(OutOfMemory),
+    }
+}

@@ -1,0 +1,13 @@
+//! The decisions of a stream's book, without its devices: which entry may come next, and what a batcher is to do.
+//! A core holds the history of one shard whose lane runs one batch at a time.
+//! Pure: values in, values out. No device, clock or thread.
+#![tactic(auto)]
+
+pub mod decisions;
+mod gather;
+mod ledger;
+mod slot;
+mod verdict;
+
+pub use decisions::Core;
+pub use esm_model::{CameError, Job, Next};

@@ -1,0 +1,233 @@
+ghost use Rattle.std.specs.Prelude.{◌≡◌, ◌+◌, ◌<◌, ◌≤◌, ◌^◌, IfOk, length, take, drop, filter, All, slice_index, [], ℕ, true, false};
+ghost use Rattle.std.specs.List.{prefix_len};
+ghost use Rattle.esm_model.specs.Entries.{holds};
+ghost use Rattle.esm_model.specs.Fates.{below};
+ghost use Rattle.esm_model.specs.Tries.{side};
+ghost use Rattle.esm_model.specs.Batches.{longest, delay_from};
+ghost use Rattle.esm_model.specs.Valid.{IsValidRecord, IsStreamConfig};
+ghost use Rattle.esm_model.specs.Moment.{MAX_MOMENT as LAST_MOMENT};
+ghost use Rattle.esm_shard.specs.Table.{is_fated, open_slots, same_slots, is_same_slot, fits_records, slot_at, marked_slot, fated_slot, ready_test};
+
+use esm_event::{frame_bytes, stream_bytes};
+use esm_model::{Config, OutOfMemory, Record, Rest};
+use std::alloc::Global;
+
+/// The greatest moment, 9999-12-31T23:59:59.999Z, in milliseconds since 1970.
+pub const MAX_MOMENT: u64 = 253402300799999;
+
+/// The greatest length of an event's text, in bytes (Lambda quotas, 6 MB for a synchronous invocation).
+pub const MAX_EVENT: u64 = 6291456;
+
+/// Which end marked a record, by the number of entries before it, and on which side of its split.
+#[derive(Clone, Copy, Debug, PartialEq, Eq)]
+pub struct Mark {
+    pub at: u64,
+    pub side: u32,
+}
+
+/// What is known of a record: whether it has a fate, its failed tries, its mark, and the moment at which it came.
+#[derive(Clone, Copy, Debug, PartialEq, Eq)]
+pub struct Slot {
+    pub fated: bool,
+    pub tries: u32,
+    pub mark: Option<Mark>,
+    pub came: u64,
+}
+
+/// The open places, in order.
+pub fn open_places(alloc: Global, slots: &[Slot]) -> Result<Vec<u32>, OutOfMemory>
+    requires { length slots.now < 2 ^ 32 }
+    ensures { IfOk result (λ v. v.items ≡ open_slots slots.now) }
+{
+    let mut places = Vec::new(alloc);
+    for (i, slot) in slots.iter().enumerate() {
+        if !slot.fated {
+            places.push(i as u32)?;
+        }
+    }
+    Ok(places)
+}
+
+/// Two records have one mark and as many tries.
+pub fn is_same_piece(a: &Slot, b: &Slot) -> bool
+    ensures { result ≡ is_same_slot a.now b.now }
+{
+    let same_mark = match (a.mark, b.mark) {
+        (None, None) => true,
+        (Some(x), Some(y)) => x.at == y.at && x.side == y.side,
+        _ => false,
+    };
+    same_mark && a.tries == b.tries
+}
+
+/// How many of the first places are of one piece.
+pub fn group_len(slots: &[Slot], places: &[u32]) -> usize
+    requires { All (λ p. p < length slots.now) places.now }
+    ensures { result ≡ prefix_len (same_slots slots.now (slice_index places.now 0)) places.now }
+{
+    for (i, place) in places.iter().enumerate() {
+        let first = slots[places[0] as usize];
+        let here = slots[*place as usize];
+        if !is_same_piece(&first, &here) {
+            return i;
+        }
+    }
+    places.len()
+}
+
+/// How many of the first places are one batch: at most the batch size, with an event of at most 6,291,456 bytes.
+pub fn cut(config: &Config, records: &[Record], places: &[u32]) -> usize
+    requires config { IsStreamConfig config.now }
+    requires places { All (λ p. p < length records.now) places.now }
+    requires valid { All IsValidRecord records.now }
+    requires size { 1 ≤ config.now.batch_size }
+    ensures within { result ≤ length places.now }
+    ensures some { 1 ≤ length places.now → 1 ≤ result }
+    ensures longest { take result places.now ≡ longest (fits_records config.now records.now) [] places.now }
+{
+    let full = config.batch_size as usize;
+    let frame = frame_bytes(config, None) as u64;
+    let mut bytes: u64 = 0;
+    for (i, place) in places.iter().enumerate() {
+        let record = &records[*place as usize];
+        let more = bytes + stream_bytes(config, record) as u64;
+        let event = frame + more + i as u64;
+        if i >= full || event > MAX_EVENT {
+            return i;
+        }
+        bytes = more;
+    }
+    places.len()
+}
+
+/// Whether the place stands in the list.
+pub fn is_in(places: &[u32], place: u32) -> bool
+    ensures { result ≡ holds places.now place }
+{
+    places.iter().any(|p| *p == place)
+}
+
+/// The side of the place, where the rest of a batch is marked and the place is in it.
+pub fn side_of(rest: Rest, places: &[u32], place: u32) -> Option<u32>
+    ensures { result ≡ side rest places.now place }
+{
+    match rest {
+        Rest::Counted => { if is_in(places, place) { Some(0) } else { None } }
+        Rest::Split(k) => {
+            if is_in(places, place) {
+                let first = (k as usize).min(places.len());
+                if is_in(&places[..first], place) {
+                    Some(0)
+                } else {
+                    Some(1)
+                }
+            } else {
+                None
+            }
+        }
+        _ => None,
+    }
+}
+
+/// The slot after an end that is the entry `at`.
+pub fn marked(slot: &Slot, rest: Rest, places: &[u32], place: u32, at: u64) -> Slot
+    ensures { result ≡ marked_slot at rest places.now place slot.now }
+{
+    match side_of(rest, places, place) {
+        None => *slot,
+        Some(side) => {
+            let counted = rest == Rest::Counted;
+            let tries = if counted {
+                slot.tries.min(10000) + 1
+            } else {
+                slot.tries
+            };
+            Slot {
+                fated: slot.fated,
+                tries,
+                mark: Some(Mark { at, side }),
+                came: slot.came,
+            }
+        }
+    }
+}
+
+/// Marks the places that an end left.
+pub fn mark_slots(slots: &mut [Slot], rest: Rest, places: &[u32], at: u64)
+    requires { length slots.old < 2 ^ 32 }
+    ensures { (i : ℕ) → i < length slots.old → slot_at slots.new i ≡ marked_slot at rest places.now i (slot_at slots.old i) }
+{
+    for i in 0..slots.len() {
+        slots[i] = marked(&slots[i], rest, places, i as u32, at);
+    }
+}
+
+/// Gives the places a fate.
+pub fn fate_slots(slots: &mut [Slot], places: &[u32])
+    requires { length slots.old < 2 ^ 32 }
+    ensures { (i : ℕ) → i < length slots.old → slot_at slots.new i ≡ fated_slot places.now i (slot_at slots.old i) }
+{
+    for i in 0..slots.len() {
+        if is_in(places, i as u32) {
+            slots[i].fated = true;
+        }
+    }
+}
+
+/// The moment at which the delay runs out that so many failures in a row began at `end`; 0 where there are none.
+pub fn delay_end(failures: u64, end: u64) -> u64
+    requires { end ≤ LAST_MOMENT }
+    ensures { result ≡ delay_from failures end }
+{
+    if failures == 0 {
+        0
+    } else if failures >= 9 {
+        (end + 60000).min(MAX_MOMENT)
+    } else {
+        (end + (250u64 << (failures - 1)).min(60000)).min(MAX_MOMENT)
+    }
+}
+
+/// Whether a group is called now: it is not fresh, its batch is full or cut, the book is shut, or it waited.
+pub fn is_ready(
+    fresh: bool,
+    batch_size: u32,
+    count: usize,
+    group: usize,
+    shut: bool,
+    waited: u64,
+    now: u64,
+) -> bool
+    ensures { result ≡ ready_test fresh batch_size count group shut waited now }
+{
+    !fresh || (count == batch_size as usize || count < group) || shut || waited <= now
+}
+
+/// How many of the first slots all have a fate.
+pub fn fated_len(slots: &[Slot]) -> usize
+    ensures before { (i : ℕ) → i < result → is_fated slots.now i ≡ true }
+    ensures at { result < length slots.now → is_fated slots.now result ≡ false }
+    ensures within { result ≤ length slots.now }
+{
+    for (i, slot) in slots.iter().enumerate() {
+        if !slot.fated {
+            return i;
+        }
+    }
+    slots.len()
+}
+
+/// How many slots from the first one on have a fate.
+pub fn fated_past(slots: &[Slot], first: usize) -> usize
+    requires { first ≤ length slots.now }
+    ensures value { result ≡ length (filter (is_fated slots.now) (drop first (below (length slots.now)))) }
+    ensures within { result ≤ length slots.now }
+{
+    let mut count = 0;
+    for i in first..slots.len() {
+        if slots[i].fated {
+            count += 1;
+        }
+    }
+    count
+}
