@@ -11,3 +11,6 @@ mod verdict;
 
 pub use decisions::Core;
 pub use esm_model::{CameError, Job, Next};
+
+#[cfg(test)]
+mod tests;
