@@ -6,7 +6,7 @@ ghost use Rattle.esm_model.specs.Setting.{over};
 ghost use Rattle.esm_model.specs.Entries.{is_shut, is_running, came_count};
 ghost use Rattle.esm_shard.specs.FirstPath.{IsFirstPath};
 ghost use Rattle.esm_shard.specs.CoreView.{new_setting, moment_for, LegalOver, SettledOver, lane_of_batcher, IsRunningJob, checkpoint_of, spread_of};
-ghost use Rattle.esm_shard.specs.Coming.{with_records, shards_of, came_entries, AreOfOneShard};
+ghost use Rattle.esm_shard.specs.Coming.{with_records, came_entries, AreOfOneShard};
 ghost use Rattle.esm_shard.specs.Following.{IsNext, next_entries, IsFinished};
 ghost use Rattle.esm_shard.specs.Ending.{HasEnded, owed_entries, given_count};
 
@@ -84,7 +84,8 @@ impl Core {
         self.ledger.shut(moment);
     }
 
-    /// What the batcher does next, by the first rule that holds; a call is noted. The batcher's lane is not running.
+    /// What the batcher does next, by the first rule that holds; a call is noted (Lambda Developer Guide, batching
+    /// and retries of a Kinesis event source). The batcher's lane is not running.
     /// After `OutOfMemory` the core is as before.
     pub fn next(&mut self, alloc: Global, batcher: u32, moment: u64) -> Result<Next, OutOfMemory>
         requires batcher { batcher < 64 }
@@ -104,7 +105,8 @@ impl Core {
         self.ledger.next(alloc, batcher, moment)
     }
 
-    /// Notes the end of the job, and then all that it calls for: answers how many records got a fate.
+    /// Notes the end of the job, and then all that it calls for: answers how many records got a fate (Lambda
+    /// Developer Guide, error handling for Kinesis).
     /// After `OutOfMemory` the core is as before, and the job and the reply are dropped.
     pub fn done(
         &mut self,

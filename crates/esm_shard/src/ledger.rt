@@ -1,47 +1,29 @@
-ghost use Rattle.std.specs.Prelude.{◌≡◌, ℕ, min, max, ◌+◌, ◌<◌, ◌≤◌, ◌^◌, ◌++◌, ◌∷◌, [], List, IfOk, OnErr, OnOk, IsSome, All, Some, None, Ok, length, vec_len, false, true, drop, take, reverse, nat_lt, unwrap_or, if◌then◌else◌};
-ghost use Rattle.std.specs.Vec.{vec_capacity};
+ghost use Rattle.std.specs.Prelude.{◌≡◌, ℕ, min, max, ◌+◌, ◌<◌, ◌≤◌, ◌^◌, ◌++◌, ◌∷◌, [], IfOk, OnErr, OnOk, IsSome, All, Some, None, Ok, length, false, reverse, unwrap_or};
 ghost use Rattle.esm_model.specs.Moment.{MAX_MOMENT as LAST_MOMENT};
 ghost use Rattle.esm_model.specs.Valid.{IsValidRecord, IsStreamConfig};
 ghost use Rattle.esm_model.specs.Setting.{over};
 ghost use Rattle.esm_model.specs.Entries.{is_shut, is_running, came_count};
-ghost use Rattle.esm_model.specs.Batches.{failures_by, delay_from};
-ghost use Rattle.esm_model.specs.Owed.{Due, Try, due_success, due_rest};
+ghost use Rattle.esm_model.specs.Batches.{delay_from};
 ghost use Rattle.esm_model.specs.declared.entry.Entry.{Entry};
 ghost use Rattle.esm_model.specs.declared.item.Record.{Record};
 ghost use Rattle.esm_model.specs.declared.lane.LaneId.{LaneId};
 ghost use Rattle.esm_shard.specs.FirstPath.{IsFirstPath};
-ghost use Rattle.esm_shard.specs.CoreView.{new_setting, moment_for, lane_of_batcher, IsRunningJob, checkpoint_of, spread_of};
+ghost use Rattle.esm_shard.specs.CoreView.{new_setting, moment_for, lane_of_batcher, checkpoint_of, spread_of};
 ghost use Rattle.esm_shard.specs.Coming.{with_records, came_entries, AreOfOneShard};
-ghost use Rattle.esm_shard.specs.Following.{IsNext, next_entries, IsFinished, next_without_lane};
-ghost use Rattle.esm_shard.specs.Ending.{HasEnded, owed_entries, given_count};
-ghost use Rattle.esm_shard.specs.Book.{lane_id};
-ghost use Rattle.esm_shard.specs.Table.{open_slots, table_records};
-ghost use Rattle.esm_shard.specs.Ledger.{past_of, setting_of, view_of, shard_of, lane_of_ledger, Keeps, Owing, HasRoom, rest_of, IsLaneNext, HasPlaces, begun_entries, IsJobOf, MayBeginAt, IsAnswered, due_fate, gave, plain_due, IsVerdictOf, RunsPlaces, running_places, first_tries, success_entries, rest_entries, left_given};
+ghost use Rattle.esm_shard.specs.Following.{IsNext, next_entries, IsFinished};
+ghost use Rattle.esm_shard.specs.Table.{open_slots};
+ghost use Rattle.esm_shard.specs.Ledger.{past_of, setting_of, view_of, lane_of_ledger, Keeps, HasRoom, rest_of, IsLaneNext, HasPlaces, begun_entries, IsJobOf, MayBeginAt};
 
 use crate::gather::gathered;
 use crate::slot::{
-    MAX_MOMENT, Slot, cut, delay_end, fate_slots, fated_len, fated_past, group_len, is_ready,
-    mark_slots, open_places,
+    MAX_MOMENT, Slot, cut, delay_end, fated_len, fated_past, group_len, is_ready, open_places,
 };
-use crate::verdict::{judge, read};
 use esm_event::stream_event;
-use esm_model::{
-    Bytes, Config, Entry, Fate, Job, LaneId, Next, OutOfMemory, Places, Record, Reply, Rest,
-    Verdict,
-};
+use esm_model::{Bytes, Config, Entry, Job, LaneId, Next, OutOfMemory, Places, Record};
 use std::alloc::Global;
 
 /// A history is refused where it would come to so many entries.
-const MAX_ENTRIES: usize = 1 << 40;
-
-/// What an answer makes of a batch.
-#[derive(Drop)]
-struct Parts {
-    verdict: Verdict,
-    good: Places,
-    left: Places,
-    tries: u32,
-}
+pub const MAX_ENTRIES: usize = 1 << 40;
 
 /// A history beside what it says of its shard's records, one slot for each place.
 #[derive(Drop)]
@@ -319,7 +301,8 @@ impl Ledger {
         })
     }
 
-    fn lane(&self) -> LaneId
+    /// The shard's one lane.
+    pub fn lane(&self) -> LaneId
         ensures { result ≡ lane_of_ledger self.now }
     {
         LaneId {
@@ -357,236 +340,6 @@ impl Ledger {
         self.begun += 1;
         self.last = now;
         Ok(())
-    }
-
-    /// Notes the end of the job, and all that it calls for.
-    pub fn done(
-        &mut self,
-        alloc: Global,
-        job: Job,
-        reply: Reply,
-        moment: u64,
-    ) -> Result<u32, OutOfMemory>
-        requires kept { Keeps self.old }
-        requires room { HasRoom self.old }
-        requires runs { IsRunningJob (past_of self.old) job }
-        ensures kept { Keeps self.new }
-        ensures room { HasRoom self.new }
-        ensures history { OnOk result
-            (HasEnded (view_of self.old) job.lane reply (moment_for (past_of self.old) moment) (past_of self.new)) }
-        ensures answer { IfOk result (λ count. count
-            ≡ given_count (owed_entries (setting_of self.old) (past_of self.old) job.lane reply
-            (moment_for (past_of self.old) moment))) }
-        ensures setting { setting_of self.new ≡ setting_of self.old }
-        ensures unchanged { OnErr result (view_of self.new ≡ view_of self.old) }
-    {
-        if self.history.len() + 3 >= MAX_ENTRIES {
-            return Err(OutOfMemory);
-        }
-        let now = raised_to(self.last, moment);
-        self.history.reserve(4)?;
-        self.settle(alloc, job.places.as_slice(), reply, now)
-    }
-
-    /// Notes the end of the call of these places, and all that it calls for, in room that is there.
-    fn settle(
-        &mut self,
-        alloc: Global,
-        places: &[u32],
-        reply: Reply,
-        now: u64,
-    ) -> Result<u32, OutOfMemory>
-        requires kept { Keeps self.old }
-        requires runs { RunsPlaces self.old places.now }
-        requires room { vec_len self.old.history + 4 ≤ vec_capacity self.old.history }
-        requires short { vec_len self.old.history + 3 < 2 ^ 40 }
-        requires goes_on { self.old.last ≤ now }
-        requires in_time { now ≤ LAST_MOMENT }
-        ensures kept { Keeps self.new }
-        ensures room { HasRoom self.new }
-        ensures history { OnOk result
-            (HasEnded (view_of self.old) (lane_of_ledger self.old) reply now (past_of self.new)) }
-        ensures answer { IfOk result (λ count. count
-            ≡ given_count (owed_entries (setting_of self.old) (past_of self.old) (lane_of_ledger self.old) reply now)) }
-        ensures setting { setting_of self.new ≡ setting_of self.old }
-        ensures unchanged { OnErr result (view_of self.new ≡ view_of self.old) }
-    {
-        let Parts {
-            verdict,
-            good,
-            left,
-            tries,
-        } = self.parts(alloc, places, &reply)?;
-        let given = given(verdict.rest, good.as_slice(), left.as_slice());
-        self.end(verdict, reply, left.as_slice(), now);
-        self.pay_good(good);
-        self.pay_rest(verdict.rest, left, tries);
-        Ok(given)
-    }
-
-    /// What the answer makes of the running call's places.
-    fn parts(&self, alloc: Global, places: &[u32], reply: &Reply) -> Result<Parts, OutOfMemory>
-        requires kept { Keeps self.now }
-        requires runs { RunsPlaces self.now places.now }
-        ensures verdict { IfOk result (λ parts. IsVerdictOf self.now reply.now parts.verdict) }
-        ensures good { IfOk result (λ parts. parts.good ≡ take parts.verdict.succeeded places.now) }
-        ensures left { IfOk result (λ parts. parts.left ≡ drop parts.verdict.succeeded places.now) }
-        ensures tries { IfOk result (λ parts. parts.tries ≡ first_tries self.now places.now) }
-    {
-        let verdict = self.judged(places, reply);
-        let count = verdict.succeeded as usize;
-        let tries = self.front_tries(places);
-        Ok(Parts {
-            verdict,
-            good: copied(alloc, &places[..count])?,
-            left: copied(alloc, &places[count..])?,
-            tries,
-        })
-    }
-
-    /// The failed tries of the running call.
-    fn front_tries(&self, places: &[u32]) -> u32
-        requires kept { Keeps self.now }
-        requires runs { RunsPlaces self.now places.now }
-        ensures { result ≡ first_tries self.now places.now }
-    {
-        self.slots[places[0] as usize].tries
-    }
-
-    /// The ruling of an answer to the running call.
-    fn judged(&self, places: &[u32], reply: &Reply) -> Verdict
-        requires kept { Keeps self.now }
-        requires runs { RunsPlaces self.now places.now }
-        ensures verdict { IsVerdictOf self.now reply.now result }
-        ensures within { result.succeeded ≤ length places.now }
-    {
-        let tries = self.slots[places[0] as usize].tries;
-        judge(&self.config, places.len() as u32, tries, read(reply))
-    }
-
-    /// Notes the end of the running call.
-    fn end(&mut self, verdict: Verdict, reply: Reply, left: &[u32], now: u64)
-        requires kept { Keeps self.old }
-        requires runs { self.old.running ≡ true }
-        requires verdict { IsVerdictOf self.old reply verdict }
-        requires left { left.now ≡ drop verdict.succeeded (running_places self.old) }
-        requires room { vec_len self.old.history < vec_capacity self.old.history }
-        requires few { vec_len self.old.slots < 2 ^ 32 }
-        requires long { vec_len self.old.history < 2 ^ 40 }
-        requires goes_on { self.old.last ≤ now }
-        requires in_time { now ≤ LAST_MOMENT }
-        ensures owing { Owing self.new (plain_due verdict (running_places self.old)
-            (first_tries self.old (running_places self.old))) }
-        ensures history { past_of self.new ≡ Entry.Ended (lane_of_ledger self.old) reply now ∷ past_of self.old }
-        ensures rooms { vec_capacity self.new.history ≡ vec_capacity self.old.history }
-        ensures more { vec_len self.new.history ≡ vec_len self.old.history + 1 }
-        ensures setting { setting_of self.new ≡ setting_of self.old }
-        ensures shard { self.new.shard ≡ self.old.shard }
-        ensures last { self.new.last ≡ now }
-        ensures shut { self.new.shut ≡ self.old.shut }
-        ensures slots { vec_len self.new.slots ≡ vec_len self.old.slots }
-    {
-        let at = self.history.len() as u64;
-        let lane = self.lane();
-        self.history.push_reserved(Entry::Ended {
-            lane,
-            reply,
-            moment: now,
-        });
-        mark_slots(self.slots.as_mut_slice(), verdict.rest, left, at);
-        self.running = false;
-        self.failures = failures_of(verdict.rest, self.failures);
-        self.last_end = now;
-        self.last = now;
-    }
-
-    /// Gives the places a fate, in room that is there.
-    fn give(&mut self, places: Places, fate: Fate)
-        requires answered { IsAnswered fate }
-        requires room { vec_len self.old.history < vec_capacity self.old.history }
-        requires few { vec_len self.old.slots < 2 ^ 32 }
-        ensures owing { (ds : List Due) → Owing self.old (due_fate fate places ∷ ds) → Owing self.new ds }
-        ensures history { past_of self.new ≡ gave self.old places fate ∷ past_of self.old }
-        ensures rooms { vec_capacity self.new.history ≡ vec_capacity self.old.history }
-        ensures more { vec_len self.new.history ≡ vec_len self.old.history + 1 }
-        ensures setting { setting_of self.new ≡ setting_of self.old }
-        ensures shard { self.new.shard ≡ self.old.shard }
-        ensures last { self.new.last ≡ self.old.last }
-        ensures shut { self.new.shut ≡ self.old.shut }
-        ensures slots { vec_len self.new.slots ≡ vec_len self.old.slots }
-    {
-        fate_slots(self.slots.as_mut_slice(), places.as_slice());
-        let lane = self.lane();
-        self.history.push_reserved(Entry::Gave {
-            by: Some(lane),
-            shard: lane.shard,
-            places,
-            fate,
-            line: None,
-            state: None,
-            moment: self.last,
-        });
-    }
-
-    /// Notes a failed try that counts.
-    fn note_try(&mut self, places: Places, tries: u32)
-        requires room { vec_len self.old.history < vec_capacity self.old.history }
-        ensures owing { (ds : List Due) → Owing self.old (Try places None tries ∷ ds) → Owing self.new ds }
-        ensures history { past_of self.new ≡ Entry.Tried (lane_of_ledger self.old) places None tries self.old.last ∷ past_of self.old }
-        ensures rooms { vec_capacity self.new.history ≡ vec_capacity self.old.history }
-        ensures more { vec_len self.new.history ≡ vec_len self.old.history + 1 }
-        ensures setting { setting_of self.new ≡ setting_of self.old }
-        ensures shut { self.new.shut ≡ self.old.shut }
-    {
-        let lane = self.lane();
-        self.history.push_reserved(Entry::Tried {
-            lane,
-            places,
-            closing: None,
-            tries,
-            moment: self.last,
-        });
-    }
-
-    /// Gives the records that succeeded their fate.
-    fn pay_good(&mut self, good: Places)
-        requires room { vec_len self.old.history < vec_capacity self.old.history }
-        requires few { vec_len self.old.slots < 2 ^ 32 }
-        ensures owing { (ds : List Due) → Owing self.old (due_success good None ++ ds) → Owing self.new ds }
-        ensures history { past_of self.new ≡ success_entries (lane_of_ledger self.old) good self.old.last ++ past_of self.old }
-        ensures rooms { vec_capacity self.new.history ≡ vec_capacity self.old.history }
-        ensures more { vec_len self.new.history ≤ vec_len self.old.history + 1 }
-        ensures setting { setting_of self.new ≡ setting_of self.old }
-        ensures shard { self.new.shard ≡ self.old.shard }
-        ensures last { self.new.last ≡ self.old.last }
-        ensures shut { self.new.shut ≡ self.old.shut }
-        ensures slots { vec_len self.new.slots ≡ vec_len self.old.slots }
-    {
-        if !good.as_slice().is_empty() {
-            self.give(good, Fate::Succeeded);
-        }
-    }
-
-    /// Notes what becomes of the records that did not succeed.
-    fn pay_rest(&mut self, rest: Rest, left: Places, tries: u32)
-        requires room { vec_len self.old.history < vec_capacity self.old.history }
-        requires few { vec_len self.old.slots < 2 ^ 32 }
-        ensures owing { (ds : List Due) → Owing self.old (due_rest rest left None tries ++ ds) → Owing self.new ds }
-        ensures history { past_of self.new ≡ rest_entries (lane_of_ledger self.old) rest left tries self.old.last ++ past_of self.old }
-        ensures rooms { vec_capacity self.new.history ≡ vec_capacity self.old.history }
-        ensures more { vec_len self.new.history ≤ vec_len self.old.history + 1 }
-        ensures setting { setting_of self.new ≡ setting_of self.old }
-        ensures shut { self.new.shut ≡ self.old.shut }
-    {
-        match rest {
-            Rest::Counted => self.note_try(left, tries.min(10000) + 1),
-            Rest::Exhausted => {
-                if !left.as_slice().is_empty() {
-                    self.give(left, Fate::Exhausted);
-                }
-            }
-            _ => {}
-        }
     }
 
     /// How many of the shard's first records all have a fate.
@@ -642,31 +395,9 @@ fn rest(shut: bool, now: u64) -> Next
 }
 
 /// A copy of the places.
-fn copied(alloc: Global, places: &[u32]) -> Result<Places, OutOfMemory>
+pub fn copied(alloc: Global, places: &[u32]) -> Result<Places, OutOfMemory>
     ensures { IfOk result (λ copy. copy ≡ places.now) }
 {
     let copy = Vec::from_slice(alloc, places)?;
     Ok(Places::from_vec(copy))
-}
-
-/// How many records get a fate.
-fn given(rest: Rest, good: &[u32], left: &[u32]) -> u32
-    requires { length good.now + length left.now < 2 ^ 32 }
-    ensures { result ≡ length good.now + left_given rest left.now }
-{
-    match rest {
-        Rest::Exhausted => (good.len() + left.len()) as u32,
-        _ => good.len() as u32,
-    }
-}
-
-fn failures_of(rest: Rest, failures: u64) -> u64
-    requires { failures < 2 ^ 62 }
-    ensures { result ≡ failures_by rest failures }
-{
-    match rest {
-        Rest::Again => failures + 1,
-        Rest::Counted => failures + 1,
-        _ => 0,
-    }
 }

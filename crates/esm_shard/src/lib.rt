@@ -6,6 +6,7 @@
 pub mod decisions;
 mod gather;
 mod ledger;
+mod settling;
 mod slot;
 mod verdict;
 

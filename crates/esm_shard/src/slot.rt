@@ -1,4 +1,4 @@
-ghost use Rattle.std.specs.Prelude.{◌≡◌, ◌+◌, ◌<◌, ◌≤◌, ◌^◌, IfOk, length, take, drop, filter, All, slice_index, [], ℕ, true, false};
+ghost use Rattle.std.specs.Prelude.{◌≡◌, ◌<◌, ◌≤◌, ◌^◌, IfOk, length, take, drop, filter, All, slice_index, [], ℕ, true, false};
 ghost use Rattle.std.specs.List.{prefix_len};
 ghost use Rattle.esm_model.specs.Entries.{holds};
 ghost use Rattle.esm_model.specs.Fates.{below};

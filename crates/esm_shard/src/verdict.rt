@@ -1,4 +1,4 @@
-ghost use Rattle.std.specs.Prelude.{◌≡◌, ◌+◌, ◌<◌, ◌≤◌, ◌^◌};
+ghost use Rattle.std.specs.Prelude.{◌≡◌, ◌≤◌};
 ghost use Rattle.esm_model.specs.Ruling.{ruling, after_try as after_try_of};
 ghost use Rattle.esm_shard.specs.Plain.{plain_reading, UpToWithin};
 
