@@ -8,7 +8,6 @@ ghost use Rattle.esm_shard.specs.CoreView.{moment_for, IsRunningJob};
 ghost use Rattle.esm_shard.specs.Ending.{HasEnded, owed_entries, given_count};
 ghost use Rattle.esm_shard.specs.Ledger.{past_of, setting_of, view_of, lane_of_ledger, Keeps, Owing, HasRoom, IsAnswered, due_fate, gave, plain_due, IsVerdictOf, RunsPlaces, running_places, first_tries, success_entries, rest_entries, left_given};
 
-use crate::gather::gathered;
 use crate::ledger::{Ledger, MAX_ENTRIES, copied, raised_to};
 use crate::slot::{fate_slots, mark_slots};
 use crate::verdict::{judge, read};
