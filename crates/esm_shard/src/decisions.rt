@@ -21,6 +21,7 @@ use std::marker::Model;
 /// age, no failure destination and no item failures, and all records are of one shard.
 /// Moments are in milliseconds since 1970; an entry has the moment that is handed in, or that of the last entry where
 /// that is later, and at most 9999-12-31T23:59:59.999Z.
+/// A history that would come to more than 2^40 entries is refused as want of memory.
 #[derive(Drop)]
 pub struct Core {
     ledger: Ledger,
