@@ -1,0 +1,18 @@
+//! What the journal of a mapping says, without its disks: the meaning of one payload as a value and as bytes, the
+//! meaning of a list of payloads, and the shorter list that says the same.
+//! Pure: values in, values out. No device, clock or thread.
+#![tactic(auto)]
+
+mod field;
+pub mod laws;
+mod names;
+mod reading;
+pub mod said;
+#[cfg(test)]
+mod tests;
+mod word;
+mod writing;
+
+pub use reading::read_said;
+pub use said::Said;
+pub use writing::said_bytes;

@@ -1,0 +1,58 @@
+use esm_model::{Fate, Places, Texts, WindowState};
+
+/// What one payload of a mapping's journal says. Moments and the starts of windows are in milliseconds since 1970;
+/// places count a shard's records, or a queue's messages, from 0, and rise strictly. Of each record its sequence
+/// number is kept, of each message its id.
+#[derive(Drop, Debug)]
+pub enum Said {
+    /// Records of a shard got this fate; where they succeeded in a tumbling window, with its new state.
+    Fates {
+        shard: u64,
+        fate: Fate,
+        moment: u64,
+        state: Option<WindowState>,
+        places: Places,
+        texts: Texts,
+    },
+    /// A tumbling window was closed.
+    Closed {
+        shard: u64,
+        window: u64,
+        moment: u64,
+    },
+    /// Messages of a queue were deleted: they succeeded, did not pass the filter, or were moved away.
+    Deleted {
+        fate: Fate,
+        moment: u64,
+        places: Places,
+        texts: Texts,
+    },
+    /// A tumbling window has this state.
+    State {
+        shard: u64,
+        moment: u64,
+        state: WindowState,
+    },
+    /// Records have failed so often.
+    Tried {
+        shard: u64,
+        moment: u64,
+        tries: u32,
+        places: Places,
+        texts: Texts,
+    },
+    /// The final call of a tumbling window has failed so often.
+    WindowTried {
+        shard: u64,
+        window: u64,
+        moment: u64,
+        tries: u32,
+    },
+    /// Records that had failed for good were called again by a replay.
+    Replayed {
+        shard: u64,
+        moment: u64,
+        places: Places,
+        texts: Texts,
+    },
+}
