@@ -1,0 +1,4 @@
+pub mod Request
+pub mod Response
+pub mod Reading
+pub mod Exchange

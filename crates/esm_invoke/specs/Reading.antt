@@ -1,0 +1,94 @@
+-- What a reader of responses knows of the bytes so far, whatever follows them.
+use Rattle.std.specs.Prelude.{◌≡◌, ◌≢◌, ℕ, ◌<◌, ◌≤◌, Bool, false, List, ◌++◌, length, drop, Option, Some, None}
+use Rattle.httparse.specs.Grammar.{ResponseHead, print_response, ReadsResponse}
+use Rattle.http.specs.StatusCode.{IsStatusCode}
+use Rattle.httparse.specs.declared.spans.HeaderSpan.{HeaderSpan}
+use Rattle.httparse.specs.declared.spans.ResponseSpans.{ResponseSpans}
+use Rattle.httparse.specs.Spans.{IsResponseAt}
+use Rattle.http1.specs.declared.decode.Decoder.{Decoder}
+use Rattle.http1.specs.declared.decode.Decoder.TheVariants.{UntilClose}
+use Rattle.http1.specs.declared.framing.Framing.TheVariants as Framed
+use Rattle.http1.specs.Body.{Body, body_of, ReadsBody}
+use Rattle.http1.specs.Decoder.{Completes, with_front}
+use Rattle.esm_invoke.specs.declared.head.Head.{Head}
+use Rattle.esm_invoke.specs.declared.head.HeadSearch.{HeadSearch}
+use Rattle.esm_invoke.specs.declared.head.HeadSearch.TheVariants as Search
+use Rattle.esm_invoke.specs.declared.body.BodyReader.{BodyReader}
+use Rattle.esm_invoke.specs.declared.body.Step.{Step}
+use Rattle.esm_invoke.specs.declared.body.Step.TheVariants as Taken
+use Rattle.esm_invoke.specs.declared.body.Progress.{Progress}
+use Rattle.esm_invoke.specs.declared.body.Progress.TheVariants as Comes
+use Rattle.esm_invoke.specs.Response.{Says, BeginsWith, IsBodyWithin, MAX_BODY, limits}
+
+-- a head at the front of the bytes, whatever follows them, is longer than this
+pub record HasNoHead (looked : ℕ) (bytes : List ℕ) : Type 0 where
+  pub none : (more : List ℕ) (tree : ResponseHead) (rest : List ℕ) → ReadsResponse (bytes ++ more) tree rest
+    → looked < length (print_response tree)
+
+-- no continuation of the bytes begins with a head within the limits
+abbrev pub NeverBegins : List ℕ → Type 0
+NeverBegins bytes = (more : List ℕ) (head : Head) (after : List ℕ) → ¬ (BeginsWith (bytes ++ more) head after)
+
+-- what a search for the head in the bytes found
+abbrev pub FindsHead : List ℕ → HeadSearch → Type 0
+FindsHead bytes (Search.Found head) = BeginsWith bytes head (drop head.len bytes) × (head.len ≤ length bytes)
+FindsHead bytes Search.More = HasNoHead (length bytes) bytes
+FindsHead bytes Search.Never = NeverBegins bytes
+
+-- what a parse of the first bytes came to, so many of which were looked at
+abbrev pub ParsesHead : List ℕ → ℕ → HeadSearch → Type 0
+ParsesHead bytes looked (Search.Found head) = BeginsWith bytes head (drop head.len bytes) × (head.len ≤ length bytes)
+ParsesHead bytes looked Search.More = HasNoHead looked bytes
+ParsesHead bytes looked Search.Never = NeverBegins bytes
+
+-- what the spans of a head say, whichever head they are of
+abbrev pub SaysAt : List ℕ → List HeaderSpan → ResponseSpans → Option Head → Type 0
+SaysAt bytes lines spans None =
+    (tree : ResponseHead) → IsResponseAt bytes lines spans tree → (head : Head) → Says tree head → ¬ (IsStatusCode head.status)
+SaysAt bytes lines spans (Some head) =
+    (tree : ResponseHead) → IsResponseAt bytes lines spans tree → Says tree head × IsStatusCode head.status
+
+-- the body's first bytes gave the content, and the decoder waits for just what remains of it behind them
+pub record Awaits (bytes : List ℕ) (r : BodyReader) : Type 0 where
+  pub within : r.at ≤ length bytes
+  pub forth : (more : List ℕ) (whole : Body) (rest : List ℕ)
+    → ReadsBody limits r.head.framing (drop r.head.len bytes ++ more) whole rest
+    → (body : Body) × (whole ≡ with_front r.content.items body) × Completes r.decoder (drop r.at bytes ++ more) body rest
+  pub back : (more : List ℕ) (body : Body) (rest : List ℕ) → Completes r.decoder (drop r.at bytes ++ more) body rest
+    → ReadsBody limits r.head.framing (drop r.head.len bytes ++ more) (with_front r.content.items body) rest
+  pub until_end : r.head.framing ≡ Framed.UntilClose → r.decoder ≡ UntilClose
+  pub only_until_end : r.decoder ≡ UntilClose → r.head.framing ≡ Framed.UntilClose
+  pub small : length r.content.items ≤ MAX_BODY
+
+-- the bytes do not hold the body's remainder, unless that goes up to the link's end
+abbrev pub IsUnfinished : List ℕ → BodyReader → Type 0
+IsUnfinished bytes r =
+    r.decoder ≢ UntilClose → (body : Body) (rest : List ℕ) → ¬ (Completes r.decoder (drop r.at bytes) body rest)
+
+-- the bytes hold the body, whose content the reader has
+pub record HoldsBody (ended : Bool) (bytes : List ℕ) (r : BodyReader) : Type 0 where
+  pub body : Body
+  pub rest : List ℕ
+  pub reads : ReadsBody limits r.head.framing (drop r.head.len bytes) body rest
+  pub content_is : r.content.items ≡ body.bytes
+  pub within : IsBodyWithin ended bytes r.head.framing body rest
+
+-- no continuation of the bytes holds a body within the limits
+abbrev pub NeverHoldsBody : List ℕ → BodyReader → Type 0
+NeverHoldsBody bytes r =
+    (ended : Bool) (more : List ℕ) (body : Body) (rest : List ℕ)
+    → ReadsBody limits r.head.framing (drop r.head.len bytes ++ more) body rest
+    → ¬ (IsBodyWithin ended (bytes ++ more) r.head.framing body rest)
+
+-- what one call of the decoder came to
+abbrev pub TakesStep : List ℕ → BodyReader → BodyReader → Step → Type 0
+TakesStep bytes old new Taken.Data = Awaits bytes new × (old.at < new.at)
+TakesStep bytes old new Taken.More = Awaits bytes new × IsUnfinished bytes new
+TakesStep bytes old new Taken.Whole = HoldsBody false bytes new
+TakesStep bytes old new Taken.Never = NeverHoldsBody bytes new
+
+-- what the bytes so far come to
+abbrev pub HasRead : List ℕ → BodyReader → Progress → Type 0
+HasRead bytes new Comes.More = Awaits bytes new × IsUnfinished bytes new
+HasRead bytes new Comes.Whole = HoldsBody false bytes new
+HasRead bytes new Comes.Never = NeverHoldsBody bytes new

@@ -1,0 +1,137 @@
+// The head of a response.
+ghost use Rattle.std.specs.Prelude.{◌≡◌, ◌<◌, ◌≤◌, ℕ, List, ◌++◌, length, map, take, drop, min, All};
+ghost use Rattle.httparse.specs.Grammar.{ResponseHead};
+ghost use Rattle.httparse.specs.Spans.{IsHeaderWithin, IsSectionWithin, IsResponseAt, header_bytes};
+ghost use Rattle.http1.specs.Fields.{known_fields};
+ghost use Rattle.esm_invoke.specs.Response.{framing_of, framing_by_coding, has_function_error};
+ghost use Rattle.esm_invoke.specs.Reading.{HasNoHead, NeverBegins, FindsHead, ParsesHead, SaysAt};
+
+use http::StatusCode;
+use http1::fields::{ContentLength, KnownFields, TransferEncoding};
+use http1::framing::Framing;
+use http1::text::eq_ignore_case;
+use httparse::Status;
+use httparse::spans::{EMPTY_HEADER_SPAN, HeaderSpan, ResponseSpans, parse_response};
+
+/// The greatest length of a head, in bytes.
+pub const MAX_HEAD: usize = 16_384;
+
+/// The most header lines of a head.
+pub const MAX_LINES: usize = 64;
+
+/// What the head of a response says.
+#[derive(Clone, Copy, Debug, PartialEq, Eq)]
+pub struct Head {
+    /// Its length in bytes, where the body begins.
+    pub len: usize,
+    pub status: u16,
+    /// It has the header `X-Amz-Function-Error`.
+    pub error: bool,
+    /// How the body is delimited.
+    pub framing: Framing,
+}
+
+/// What a search for the head found.
+#[derive(Clone, Copy, Debug, PartialEq, Eq)]
+pub enum HeadSearch {
+    Found(Head),
+    /// The head has not come whole.
+    More,
+    /// No continuation is a head within the limits.
+    Never,
+}
+
+/// Looks for a head at the front of the bytes, of which the first `looked` hold none. The head is parsed where a
+/// line's end has come behind them, so the work is linear in the bytes for each line of the head.
+pub fn find_head(bytes: &[u8], looked: usize) -> HeadSearch
+    requires within { looked ≤ length bytes.now }
+    requires looked { HasNoHead looked bytes.now }
+    ensures { FindsHead bytes.now result }
+{
+    match look(bytes, looked) {
+        HeadSearch::More if bytes.len() >= MAX_HEAD => HeadSearch::Never,
+        search => search,
+    }
+}
+
+/// The same, but `More` also where the bytes are too many for a head.
+fn look(bytes: &[u8], looked: usize) -> HeadSearch
+    requires within { looked ≤ length bytes.now }
+    requires looked { HasNoHead looked bytes.now }
+    ensures { ParsesHead bytes.now (min (length bytes.now) 16384) result }
+{
+    let (_, fresh) = bytes.split_at(looked);
+    if !fresh.contains(&b'\n') {
+        return HeadSearch::More;
+    }
+    let count = bytes.len().min(MAX_HEAD);
+    let (front, _) = bytes.split_at(count);
+    parse(front)
+}
+
+/// Parses the head at the front of the bytes, which are no more than a head may have.
+fn parse(bytes: &[u8]) -> HeadSearch
+    requires { length bytes.now ≤ 16384 }
+    ensures { ParsesHead bytes.now (length bytes.now) result }
+{
+    let mut lines = [EMPTY_HEADER_SPAN; MAX_LINES];
+    match parse_response(bytes, &mut lines) {
+        Ok(Status::Complete(spans)) => match said(bytes, &lines, &spans) {
+            Some(head) => HeadSearch::Found(head),
+            None => HeadSearch::Never,
+        },
+        Ok(Status::Partial) => HeadSearch::More,
+        Err(_) => HeadSearch::Never,
+    }
+}
+
+/// What a head says that `httparse` found; none where its status is no status code or its fields give its body no end.
+fn said(bytes: &[u8], lines: &[HeaderSpan], spans: &ResponseSpans) -> Option<Head>
+    requires within { IsSectionWithin bytes.now lines.now spans.now.len spans.now.headers }
+    ensures { SaysAt bytes.now lines.now spans.now result }
+{
+    let (fields, _) = lines.split_at(spans.headers);
+    let status = StatusCode::from_u16(spans.code).ok()?;
+    let framing = framing(&KnownFields::from_spans(bytes, fields))?;
+    Some(Head {
+        len: spans.len,
+        status: status.as_u16(),
+        error: has_function_error(bytes, fields),
+        framing,
+    })
+}
+
+/// One of the headers is `X-Amz-Function-Error`, in any case of letters (Lambda API Reference, `Invoke`).
+fn has_function_error(bytes: &[u8], fields: &[HeaderSpan]) -> bool
+    requires { All (IsHeaderWithin (length bytes.now)) fields.now }
+    ensures { result ≡ has_function_error (map (header_bytes bytes.now) fields.now) }
+{
+    for field in fields {
+        if eq_ignore_case(field.name.of(bytes), b"X-Amz-Function-Error") {
+            return true;
+        }
+    }
+    false
+}
+
+/// How the body is delimited, by the fields of its head (RFC 9112, section 6.3). `chunked` is the one coding.
+fn framing(fields: &KnownFields) -> Option<Framing>
+    ensures { result ≡ framing_of fields.now }
+{
+    match fields.content_length {
+        ContentLength::Absent => framing_without_length(fields, Framing::UntilClose),
+        ContentLength::Value(length) => framing_without_length(fields, Framing::Length(length)),
+        ContentLength::Invalid => None,
+    }
+}
+
+/// How the body is delimited, where it is by `unchunked` if no transfer coding stands.
+fn framing_without_length(fields: &KnownFields, unchunked: Framing) -> Option<Framing>
+    ensures { result ≡ framing_by_coding unchunked fields.now.transfer_encoding fields.now.other_coding }
+{
+    match fields.transfer_encoding {
+        TransferEncoding::Absent => Some(unchunked),
+        TransferEncoding::Chunked if !fields.other_coding => Some(Framing::Chunked),
+        _ => None,
+    }
+}

@@ -1,0 +1,12 @@
+//! Calls of functions over HTTP on loopback: the request's exact bytes, and the reply that the bytes read make, over
+//! any link. A head is read by `httparse`, a body by the decoder of `http1`, each byte once.
+#![tactic(auto)]
+
+pub mod body;
+pub mod call;
+pub mod head;
+pub mod request;
+#[cfg(test)]
+mod tests;
+
+pub use call::{BUFFER_LEN, invoke};
