@@ -1,10 +1,11 @@
 -- What a reader of responses knows of the bytes so far, whatever follows them.
-use Rattle.std.specs.Prelude.{◌≡◌, ◌≢◌, ℕ, ◌<◌, ◌≤◌, Bool, false, List, ◌++◌, length, drop, Option, Some, None}
+use Rattle.std.specs.Prelude.{◌≡◌, ◌≢◌, ℕ, ◌+◌, ◌<◌, ◌≤◌, Bool, false, List, ◌++◌, length, drop, Option, Some, None}
 use Rattle.httparse.specs.Grammar.{ResponseHead, print_response, ReadsResponse}
 use Rattle.http.specs.StatusCode.{IsStatusCode}
 use Rattle.httparse.specs.declared.spans.HeaderSpan.{HeaderSpan}
 use Rattle.httparse.specs.declared.spans.ResponseSpans.{ResponseSpans}
-use Rattle.httparse.specs.Spans.{IsResponseAt}
+use Rattle.httparse.specs.declared.spans.Span.{Span}
+use Rattle.httparse.specs.Spans.{IsResponseAt, span_bytes}
 use Rattle.http1.specs.declared.decode.Decoder.{Decoder}
 use Rattle.http1.specs.declared.decode.Decoder.TheVariants.{UntilClose}
 use Rattle.http1.specs.declared.framing.Framing.TheVariants as Framed
@@ -74,21 +75,31 @@ pub record HoldsBody (ended : Bool) (bytes : List ℕ) (r : BodyReader) : Type 0
   pub within : IsBodyWithin ended bytes r.head.framing body rest
 
 -- no continuation of the bytes holds a body within the limits
-abbrev pub NeverHoldsBody : List ℕ → BodyReader → Type 0
-NeverHoldsBody bytes r =
+abbrev pub NeverHoldsBody : List ℕ → Head → Type 0
+NeverHoldsBody bytes head =
     (ended : Bool) (more : List ℕ) (body : Body) (rest : List ℕ)
-    → ReadsBody limits r.head.framing (drop r.head.len bytes ++ more) body rest
-    → ¬ (IsBodyWithin ended (bytes ++ more) r.head.framing body rest)
+    → ReadsBody limits head.framing (drop head.len bytes ++ more) body rest
+    → ¬ (IsBodyWithin ended (bytes ++ more) head.framing body rest)
+
+-- what became of a piece of the content: it was taken, or it makes the body too long
+abbrev pub TakesPiece : List ℕ → Span → BodyReader → BodyReader → Step → Type 0
+TakesPiece input span old new Taken.Data =
+    (new.content.items ≡ old.content.items ++ span_bytes input span) × (new.at ≡ old.at + span.end)
+    × (length new.content.items ≤ MAX_BODY)
+TakesPiece input span old new Taken.More = ⊥
+TakesPiece input span old new Taken.Whole = ⊥
+TakesPiece input span old new Taken.Never =
+    (MAX_BODY < length old.content.items + length (span_bytes input span)) × (new ≡ old)
 
 -- what one call of the decoder came to
 abbrev pub TakesStep : List ℕ → BodyReader → BodyReader → Step → Type 0
 TakesStep bytes old new Taken.Data = Awaits bytes new × (old.at < new.at)
 TakesStep bytes old new Taken.More = Awaits bytes new × IsUnfinished bytes new
 TakesStep bytes old new Taken.Whole = HoldsBody false bytes new
-TakesStep bytes old new Taken.Never = NeverHoldsBody bytes new
+TakesStep bytes old new Taken.Never = NeverHoldsBody bytes new.head
 
 -- what the bytes so far come to
 abbrev pub HasRead : List ℕ → BodyReader → Progress → Type 0
 HasRead bytes new Comes.More = Awaits bytes new × IsUnfinished bytes new
 HasRead bytes new Comes.Whole = HoldsBody false bytes new
-HasRead bytes new Comes.Never = NeverHoldsBody bytes new
+HasRead bytes new Comes.Never = NeverHoldsBody bytes new.head

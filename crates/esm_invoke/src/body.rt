@@ -1,25 +1,43 @@
 // The body of a response.
+ghost use Rattle.std.specs.Prelude.{◌≡◌, ◌+◌, ◌^◌, ◌<◌, ◌≤◌, [], length, IfOk};
+ghost use Rattle.http1.specs.Decoder.{decoder_for};
+ghost use Rattle.esm_invoke.specs.Response.{limits, MAX_BODY};
+ghost use Rattle.esm_invoke.specs.Reading.{Awaits, TakesPiece, TakesStep, HasRead};
 
-use crate::head::Head;
-use http1::decode::Decoder;
+use crate::head::{Head, MAX_HEAD, MAX_LINES};
+use esm_model::OutOfMemory;
+use http1::Limits;
+use http1::decode::{Decoded, Decoder};
+use httparse::spans::{EMPTY_HEADER_SPAN, Span};
+use std::alloc::Global;
 
-/// Reads a body as its bytes come.
+/// The greatest length of a body, in bytes.
+pub const MAX_BODY: usize = 6_291_456;
+
+/// The greatest length of a response up to its body's end, in bytes.
+pub const MAX_RESPONSE: usize = 8_388_608;
+
+/// Reads a body as its bytes come: chunked, of a stated length, or up to the link's end.
 #[derive(Drop, Debug)]
 pub struct BodyReader {
     pub head: Head,
     pub decoder: Decoder,
     /// How many bytes of the response were read.
     pub at: usize,
-    /// What they gave.
+    /// What the body's bytes gave so far.
     pub content: Vec<u8>,
 }
 
 /// What one call of the decoder came to.
 #[derive(Clone, Copy, Debug, PartialEq, Eq)]
 pub enum Step {
+    /// A piece of the content.
     Data,
+    /// The bytes are used up, and the body goes on.
     More,
+    /// The body is whole.
     Whole,
+    /// No continuation is a body within the limits.
     Never,
 }
 
@@ -32,4 +50,83 @@ pub enum Progress {
     Whole,
     /// No continuation is a body within the limits.
     Never,
+}
+
+impl BodyReader {
+    /// A reader of the body that follows the head.
+    pub fn new(alloc: Global, head: Head) -> Self
+        ensures head { result.head ≡ head }
+        ensures decoder { result.decoder ≡ decoder_for limits head.framing }
+        ensures at { result.at ≡ head.len }
+        ensures content { result.content.items ≡ [] }
+    {
+        let limits = Limits {
+            max_head_len: MAX_HEAD,
+            max_extensions_len: MAX_RESPONSE,
+            max_trailers_len: MAX_HEAD,
+        };
+        BodyReader {
+            head,
+            decoder: Decoder::new(head.framing, &limits),
+            at: head.len,
+            content: Vec::new(alloc),
+        }
+    }
+
+    /// Reads on in the bytes of the response, which go on from those of the call before.
+    pub fn advance(&mut self, bytes: &[u8]) -> Result<Progress, OutOfMemory>
+        requires { Awaits bytes.now self.old }
+        ensures head { self.new.head ≡ self.old.head }
+        ensures read { IfOk result (HasRead bytes.now self.new) }
+    {
+        loop {
+            match self.step(bytes)? {
+                Step::Data => {}
+                Step::More => return Ok(Progress::More),
+                Step::Whole => return Ok(Progress::Whole),
+                Step::Never => return Ok(Progress::Never),
+            }
+        }
+    }
+
+    /// Reads up to the end of the next piece of the content.
+    fn step(&mut self, bytes: &[u8]) -> Result<Step, OutOfMemory>
+        requires { Awaits bytes.now self.old }
+        ensures head { self.new.head ≡ self.old.head }
+        ensures taken { IfOk result (TakesStep bytes.now self.old self.new) }
+    {
+        let (_, input) = bytes.split_at(self.at);
+        let mut trailers = [EMPTY_HEADER_SPAN; MAX_LINES];
+        match self.decoder.decode(input, &mut trailers) {
+            Ok(Decoded::Data(span)) => self.take(input, span),
+            Ok(Decoded::NeedMore(len)) => {
+                self.at += len;
+                Ok(Step::More)
+            }
+            Ok(Decoded::End { len, .. }) => {
+                self.at += len;
+                Ok(if self.at <= MAX_RESPONSE { Step::Whole } else { Step::Never })
+            }
+            Err(_) => Ok(Step::Never),
+        }
+    }
+
+    /// Takes a piece of the content, unless it makes the body too long.
+    fn take(&mut self, input: &[u8], span: Span) -> Result<Step, OutOfMemory>
+        requires small { length self.old.content.items ≤ MAX_BODY }
+        requires ordered { span.start ≤ span.end }
+        requires within { span.end ≤ length input.now }
+        requires room { self.old.at + length input.now < 2 ^ 64 }
+        ensures head { self.new.head ≡ self.old.head }
+        ensures decoder { self.new.decoder ≡ self.old.decoder }
+        ensures piece { IfOk result (TakesPiece input.now span self.old self.new) }
+    {
+        let piece = span.of(input);
+        if piece.len() > MAX_BODY - self.content.len() {
+            return Ok(Step::Never);
+        }
+        self.content.extend_from_slice(piece)?;
+        self.at += span.end;
+        Ok(Step::Data)
+    }
 }
