@@ -2,3 +2,4 @@ pub mod Request
 pub mod Response
 pub mod Reading
 pub mod Exchange
+pub mod Receiving

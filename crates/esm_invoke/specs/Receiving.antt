@@ -1,0 +1,48 @@
+-- What a call knows while it sends and receives.
+use Rattle.std.specs.Prelude.{◌≡◌, ◌≤◌, ℕ, List, ◌++◌, Bool, true, false, length, take, drop, Option}
+use Rattle.esm_io.specs.Talks.{Talk, Reads, Writes, IsReadOut}
+use Rattle.esm_model.specs.declared.entry.Reply.{Reply}
+use Rattle.esm_invoke.specs.declared.call.HeadReceived.{HeadReceived}
+use Rattle.esm_invoke.specs.declared.call.HeadReceived.TheVariants as Received
+use Rattle.esm_invoke.specs.Response.{BeginsWith, IsReplyTo, HoldsNone, StopsAt}
+
+-- the bytes were read behind those that were there
+pub record ReadsMore (old new : Option Talk) (before after : List ℕ) : Type 0 where
+  pub piece : List ℕ
+  pub grown : after ≡ before ++ piece
+  pub reads : Reads old new piece
+
+-- some bytes were read
+abbrev pub ReadsSome : Option Talk → Option Talk → Type 0
+ReadsSome old new = (read : List ℕ) × Reads old new read
+
+-- a part of the bytes was written, from their front on
+pub record WritesPart (old new : Option Talk) (bytes : List ℕ) : Type 0 where
+  pub sent : List ℕ
+  pub unsent : List ℕ
+  pub parts : bytes ≡ sent ++ unsent
+  pub writes : Writes old new sent
+
+-- bytes were read, and the reply is that to all the bytes so far
+pub record Replies (old new : Option Talk) (before : List ℕ) (reply : Reply) : Type 0 where
+  pub read : List ℕ
+  pub ended : Bool
+  pub reads : Reads old new read
+  pub at_end : ended ≡ true → IsReadOut new
+  pub is_reply : IsReplyTo ended (before ++ read) reply
+
+-- reading stopped at these bytes, which hold no response
+pub record Stops (new : Option Talk) (bytes : List ℕ) : Type 0 where
+  pub ended : Bool
+  pub at_end : ended ≡ true → IsReadOut new
+  pub none : HoldsNone ended bytes
+  pub reason : StopsAt ended bytes
+
+-- what came of reading up to the end of the head, into this buffer
+abbrev pub ReceivesHead : Option Talk → Option Talk → List ℕ → HeadReceived → Type 0
+ReceivesHead old new buffer (Received.Head head filled) =
+    (filled ≤ length buffer) × Reads old new (take filled buffer) × BeginsWith (take filled buffer) head (drop head.len (take filled buffer))
+    × (head.len ≤ filled)
+ReceivesHead old new buffer (Received.Garbled filled) =
+    (filled ≤ length buffer) × Reads old new (take filled buffer) × Stops new (take filled buffer)
+ReceivesHead old new buffer Received.Lost = ReadsSome old new
