@@ -1,6 +1,6 @@
 -- What a call of the decoder does to what the reader of a body knows.
 use Rattle.std.specs.Prelude.{Result, Ok, Err, IfOk}
-use Rattle.std.proofs.Common.{◌≡◌, ◌≢◌, ℕ, ◌+◌, ◌-◌, ◌<◌, ◌≤◌, Bool, true, false, List, [], ◌∷◌, ◌++◌, map, length, take, drop, sym, refl, ap, ◌∙◌, subst, arith, append_assoc, append-nil}
+use Rattle.std.proofs.Common.{◌≡◌, ◌≢◌, ℕ, ◌+◌, ◌-◌, ◌<◌, ◌≤◌, Bool, true, false, List, [], ◌∷◌, ◌++◌, map, length, take, drop, sym, refl, ap, ◌∙◌, subst, inl, inr, arith, append_assoc, append-nil}
 use Rattle.std.proofs.lemmas.List.{length-append, length-drop, length-map, length-take-le, drop-drop}
 use Rattle.httparse.specs.declared.spans.HeaderSpan.{HeaderSpan}
 use Rattle.httparse.specs.declared.spans.Span.{Span}
@@ -10,7 +10,7 @@ use Rattle.http1.specs.declared.decode.Decoder.{Decoder}
 use Rattle.http1.specs.declared.decode.Decoder.TheVariants.{Length, Chunked, UntilClose}
 use Rattle.http1.specs.declared.framing.Framing.TheVariants as Framed
 use Rattle.http1.specs.Body.{Body, body_of, ReadsBody}
-use Rattle.http1.specs.Decoder.{Completes, Continues, Runs, Starves, Ends, with_front}
+use Rattle.http1.specs.Decoder.{Completes, Continues, Runs, Starves, AwaitsTrailers, Ends, with_front}
 use Rattle.http1.proofs.OneParse.{body_unique}
 use Rattle.esm_invoke.specs.declared.body.BodyReader.{BodyReader}
 use Rattle.esm_invoke.specs.declared.body.Step.{Step}
@@ -65,8 +65,9 @@ module _ (bytes : List ℕ) (r new : BodyReader) (n : ℕ) (piece : List ℕ) (a
     small = small;
   }
 
-  pub unfinished_on : (r.decoder ≢ UntilClose → (body : Body) (rest : List ℕ) → ¬ (Completes r.decoder (drop r.at bytes) body rest)) → IsUnfinished bytes new
-  unfinished_on none closed body rest completes =
+  pub none_on : (r.decoder ≢ UntilClose → (body : Body) (rest : List ℕ) → ¬ (Completes r.decoder (drop r.at bytes) body rest))
+      → new.decoder ≢ UntilClose → (body : Body) (rest : List ℕ) → ¬ (Completes new.decoder (drop new.at bytes) body rest)
+  none_on none closed body rest completes =
       let left : drop new.at bytes ≡ drop n (drop r.at bytes) ++ [] = sym left_is ∙ sym (append-nil _) in
       let before = goes_on.back [] body rest (subst (λ l. Completes new.decoder l body rest) left completes) in
       none (λ e. closed (stays_until_close r.decoder new.decoder _ n piece goes_on.runs e)) (with_front piece body) rest
@@ -132,11 +133,21 @@ module _ (bytes : List ℕ) (r new : BodyReader) (spans : List HeaderSpan) (n co
 
 -- ---- what one call of the decoder came to
 
+all_used : (bytes : List ℕ) (r new : BodyReader) (n : ℕ) → Awaits bytes r → Starves r.decoder (drop r.at bytes) new.decoder n → new.decoder ≡ UntilClose → r.at + n ≡ length bytes
+all_used bytes r new n awaits starves e =
+    elim starves.drained [
+    | inl all ↦ omega (arith, all, awaits.within, length-drop r.at bytes)
+    | inr trailers ↦ absurd (subst (λ d. AwaitsTrailers d (length (drop n (drop r.at bytes)))) e trailers)
+    ]
+
 pub step_more : (bytes : List ℕ) (r new : BodyReader) (n : ℕ) → Awaits bytes r → Starves r.decoder (drop r.at bytes) new.decoder n → Takes r new n [] → Awaits bytes new × IsUnfinished bytes new
 step_more bytes r new n awaits starves takes =
     let content : new.content.items ≡ r.content.items = takes.content ∙ append-nil _ in (
       awaits_on bytes r new n [] awaits starves.continues takes (omega (arith, awaits.small, ap length content)),
-      unfinished_on bytes r new n [] awaits starves.continues takes starves.unfinished,
+      record {
+        none = none_on bytes r new n [] awaits starves.continues takes starves.unfinished;
+        used_up = λ e. takes.at ∙ all_used bytes r new n awaits starves e;
+      },
     )
 
 -- a piece of the content is taken, or makes the body too long

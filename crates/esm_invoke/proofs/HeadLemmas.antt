@@ -90,7 +90,7 @@ never_without_saying bytes lines spans found none more head after begins =
     let same = response_prefix_free bytes more found.0 begins.tree _ after found.1.reads begins.reads in
     none found.0 found.1 head (subst (λ t. Says t head) (sym same.0) begins.says) begins.known
 
-BeginsWith-append : (bytes : List ℕ) (head : Head) (after more : List ℕ) → BeginsWith bytes head after → BeginsWith (bytes ++ more) head (after ++ more)
+pub BeginsWith-append : (bytes : List ℕ) (head : Head) (after more : List ℕ) → BeginsWith bytes head after → BeginsWith (bytes ++ more) head (after ++ more)
 BeginsWith-append bytes head after more begins =
     record {
       tree = begins.tree;

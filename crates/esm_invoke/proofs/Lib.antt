@@ -1,3 +1,4 @@
 pub mod HeadLemmas
 pub mod BodyLemmas
 pub mod TalkLemmas
+pub mod ReplyLemmas

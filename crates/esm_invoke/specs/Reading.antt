@@ -61,10 +61,10 @@ pub record Awaits (bytes : List ℕ) (r : BodyReader) : Type 0 where
   pub only_until_end : r.decoder ≡ UntilClose → r.head.framing ≡ Framed.UntilClose
   pub small : length r.content.items ≤ MAX_BODY
 
--- the bytes do not hold the body's remainder, unless that goes up to the link's end
-abbrev pub IsUnfinished : List ℕ → BodyReader → Type 0
-IsUnfinished bytes r =
-    r.decoder ≢ UntilClose → (body : Body) (rest : List ℕ) → ¬ (Completes r.decoder (drop r.at bytes) body rest)
+-- the bytes do not hold the body's remainder; a body up to the link's end has taken them all
+pub record IsUnfinished (bytes : List ℕ) (r : BodyReader) : Type 0 where
+  pub none : r.decoder ≢ UntilClose → (body : Body) (rest : List ℕ) → ¬ (Completes r.decoder (drop r.at bytes) body rest)
+  pub used_up : r.decoder ≡ UntilClose → r.at ≡ length bytes
 
 -- the bytes hold the body, whose content the reader has
 pub record HoldsBody (ended : Bool) (bytes : List ℕ) (r : BodyReader) : Type 0 where

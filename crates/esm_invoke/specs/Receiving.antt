@@ -1,10 +1,12 @@
 -- What a call knows while it sends and receives.
-use Rattle.std.specs.Prelude.{◌≡◌, ◌≤◌, ℕ, List, ◌++◌, Bool, true, false, length, take, drop, Option}
+use Rattle.std.specs.Prelude.{◌≡◌, ◌≤◌, ℕ, List, ◌++◌, Bool, true, false, length, take, drop, Option, Some, None}
 use Rattle.esm_io.specs.Talks.{Talk, Reads, Writes, IsReadOut}
 use Rattle.esm_model.specs.declared.entry.Reply.{Reply}
+use Rattle.esm_invoke.specs.declared.body.BodyReader.{BodyReader}
 use Rattle.esm_invoke.specs.declared.call.HeadReceived.{HeadReceived}
 use Rattle.esm_invoke.specs.declared.call.HeadReceived.TheVariants as Received
 use Rattle.esm_invoke.specs.Response.{BeginsWith, IsReplyTo, HoldsNone, StopsAt}
+use Rattle.esm_invoke.specs.Reading.{Awaits, IsUnfinished}
 
 -- the bytes were read behind those that were there
 pub record ReadsMore (old new : Option Talk) (before after : List ℕ) : Type 0 where
@@ -37,6 +39,11 @@ pub record Stops (new : Option Talk) (bytes : List ℕ) : Type 0 where
   pub at_end : ended ≡ true → IsReadOut new
   pub none : HoldsNone ended bytes
   pub reason : StopsAt ended bytes
+
+-- what a reader of a body made of the bytes: a reply, or the body goes on
+abbrev pub Settles : List ℕ → BodyReader → Option Reply → Type 0
+Settles bytes r (Some reply) = IsReplyTo false bytes reply
+Settles bytes r None = Awaits bytes r × IsUnfinished bytes r
 
 -- what came of reading up to the end of the head, into this buffer
 abbrev pub ReceivesHead : Option Talk → Option Talk → List ℕ → HeadReceived → Type 0

@@ -1,18 +1,21 @@
 // A call over a link.
-ghost use Rattle.std.specs.Prelude.{◌≡◌, ◌≢◌, ◌+◌, ◌<◌, ◌≤◌, ℕ, [], length, take, drop, vec_len, IfOk, OnOk, OnErr};
+ghost use Rattle.std.specs.Prelude.{◌≡◌, ◌≢◌, ◌+◌, ◌<◌, ◌≤◌, ℕ, true, [], length, take, drop, vec_len, IfOk, OnOk, OnErr};
 ghost use Rattle.esm_io.specs.Faults.{MAX_FAULTS, IsCount, Rose};
 ghost use Rattle.esm_io.specs.Talks.{Reads, Writes, IsReadOut};
 ghost use Rattle.esm_invoke.specs.Request.{request_text};
 ghost use Rattle.esm_invoke.specs.Exchange.{SendsPart, Answers};
-ghost use Rattle.esm_invoke.specs.Receiving.{ReadsMore, ReadsSome, WritesPart, Replies, ReceivesHead};
-ghost use Rattle.esm_invoke.specs.Response.{BeginsWith};
+ghost use Rattle.esm_invoke.specs.Receiving.{ReadsMore, ReadsSome, WritesPart, Replies, ReceivesHead, Settles};
+ghost use Rattle.esm_invoke.specs.Response.{BeginsWith, IsReplyTo};
+ghost use Rattle.esm_invoke.specs.Reading.{Awaits, IsUnfinished};
 
 use crate::body::{BodyReader, Progress};
 use crate::head::{Head, HeadSearch, find_head};
 use crate::request::request;
 use esm_io::{Failed, Link};
 use esm_model::{Bytes, OutOfMemory, Reply};
+use http1::decode::Decoder;
 use std::alloc::Global;
+use std::mem;
 
 /// The length of the work area of a call, in bytes: one above the greatest response.
 pub const BUFFER_LEN: usize = 8_388_609;
@@ -55,4 +58,119 @@ fn read_more<L: Link>(link: &mut L, buffer: &mut [u8], filled: usize) -> Result<
 {
     let (_, rest) = buffer.split_at_mut(filled);
     link.read(rest)
+}
+
+/// Reads up to the end of the head. `Lost` only where the link's count of faults rose.
+fn receive_head<L: Link>(link: &mut L, buffer: &mut [u8]) -> HeadReceived
+    requires room { length buffer.old ≡ 8388609 }
+    requires counted { L.faults link.old ≤ MAX_FAULTS }
+    ensures received { ReceivesHead (L.told link.old) (L.told link.new) buffer.new result }
+    ensures lost { result ≡ HeadReceived.Lost → Rose (L.faults link.old) (L.faults link.new) }
+    ensures count { IsCount (L.faults link.old) (L.faults link.new) }
+{
+    let mut filled = 0;
+    while filled < buffer.len() {
+        let looked = filled;
+        let count = match read_more(link, buffer, looked) {
+            Ok(count) => count,
+            Err(_) => return HeadReceived::Lost,
+        };
+        filled += count;
+        let (bytes, _) = buffer.split_at(filled);
+        match find_head(bytes, looked) {
+            HeadSearch::Found(head) => return HeadReceived::Head(head, filled),
+            HeadSearch::More if count > 0 => {}
+            HeadSearch::More => return HeadReceived::Garbled(filled),
+            HeadSearch::Never => return HeadReceived::Garbled(filled),
+        }
+    }
+    HeadReceived::Garbled(filled)
+}
+
+/// Reads on until the body is whole or can't become so. `Lost` only where the link's count of faults rose.
+fn receive_body<L: Link>(
+    alloc: Global,
+    link: &mut L,
+    buffer: &mut [u8],
+    head: Head,
+    first: usize,
+) -> Result<Reply, OutOfMemory>
+    requires within { first ≤ length buffer.old }
+    requires len { head.len ≤ first }
+    requires begins { BeginsWith (take first buffer.old) head (drop head.len (take first buffer.old)) }
+    requires room { length buffer.old ≡ 8388609 }
+    requires counted { L.faults link.old ≤ MAX_FAULTS }
+    ensures read { ReadsSome (L.told link.old) (L.told link.new) }
+    ensures replied { IfOk result (λ reply. reply ≢ Reply.Lost → Replies (L.told link.old) (L.told link.new) (take first buffer.old) reply) }
+    ensures lost { IfOk result (λ reply. reply ≡ Reply.Lost → Rose (L.faults link.old) (L.faults link.new)) }
+    ensures count { IsCount (L.faults link.old) (L.faults link.new) }
+{
+    let mut body = BodyReader::new(alloc, head);
+    let mut filled = first;
+    loop {
+        let (bytes, _) = buffer.split_at(filled);
+        if let Some(reply) = settle(alloc, &mut body, bytes)? {
+            return Ok(reply);
+        }
+        if filled == buffer.len() {
+            return garbled(alloc, buffer);
+        }
+        match read_more(link, buffer, filled) {
+            Ok(0) => {
+                let (bytes, _) = buffer.split_at(filled);
+                return close(alloc, &mut body, bytes);
+            }
+            Ok(count) => filled += count,
+            Err(_) => return Ok(Reply::Lost),
+        }
+    }
+}
+
+/// The reply where the bytes so far make one: an answer, or garbled bytes where no continuation is a response.
+fn settle(alloc: Global, body: &mut BodyReader, bytes: &[u8]) -> Result<Option<Reply>, OutOfMemory>
+    requires begins { BeginsWith bytes.now body.old.head (drop body.old.head.len bytes.now) }
+    requires awaits { Awaits bytes.now body.old }
+    ensures head { body.new.head ≡ body.old.head }
+    ensures settled { IfOk result (Settles bytes.now body.new) }
+{
+    match body.advance(bytes)? {
+        Progress::More => Ok(None),
+        Progress::Whole => Ok(Some(answered(alloc, body))),
+        Progress::Never => Ok(Some(garbled(alloc, bytes)?)),
+    }
+}
+
+/// The reply where the link has ended after these bytes.
+fn close(alloc: Global, body: &mut BodyReader, bytes: &[u8]) -> Result<Reply, OutOfMemory>
+    requires begins { BeginsWith bytes.now body.old.head (drop body.old.head.len bytes.now) }
+    requires awaits { Awaits bytes.now body.old }
+    requires unfinished { IsUnfinished bytes.now body.old }
+    ensures { IfOk result (IsReplyTo true bytes.now) }
+{
+    match body.decoder {
+        Decoder::UntilClose => Ok(answered(alloc, body)),
+        _ => garbled(alloc, bytes),
+    }
+}
+
+/// The answer that the reader has; takes the content out of it.
+fn answered(alloc: Global, body: &mut BodyReader) -> Reply
+    ensures answer { result ≡ Reply.Answered body.old.head.status body.old.head.error body.old.content.items }
+    ensures head { body.new.head ≡ body.old.head }
+{
+    let content = mem::replace(&mut body.content, Vec::new(alloc));
+    Reply::Answered {
+        status: body.head.status,
+        error: body.head.error,
+        body: Bytes::from_vec(content),
+    }
+}
+
+/// The bytes are no response.
+fn garbled(alloc: Global, bytes: &[u8]) -> Result<Reply, OutOfMemory>
+    ensures { IfOk result (λ reply. reply ≡ Reply.Garbled bytes.now) }
+{
+    Ok(Reply::Garbled {
+        bytes: Bytes::from_vec(Vec::from_slice(alloc, bytes)?),
+    })
 }
