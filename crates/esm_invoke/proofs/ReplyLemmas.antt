@@ -17,14 +17,16 @@ use Rattle.http1.specs.Fields.{known_fields}
 use Rattle.esm_model.specs.declared.entry.Reply.{Reply}
 use Rattle.esm_model.specs.declared.entry.Reply.TheVariants.{Answered, Garbled, Lost}
 use Rattle.esm_model.specs.declared.memory.OutOfMemory.{OutOfMemory}
-use Rattle.esm_io.specs.Talks.{Talk, Reads, IsReadOut}
+use Rattle.esm_io.specs.Talks.{Talk, Reads, Writes, IsReadOut}
 use Rattle.esm_invoke.specs.declared.body.BodyReader.{BodyReader}
 use Rattle.esm_invoke.specs.declared.head.Head.{Head}
 use Rattle.esm_invoke.specs.Response.{MAX_RESPONSE, limits, framing_of, has_function_error, Says, BeginsWith, IsBodyWithin, HoldsResponse, HoldsNone, NeverHolds, StopsAt, IsReplyTo}
 use Rattle.esm_invoke.specs.Reading.{HasNoHead, NeverBegins, Awaits, IsUnfinished, NeverHoldsBody}
-use Rattle.esm_invoke.specs.Receiving.{ReadsMore, Replies, Settles}
+use Rattle.esm_invoke.specs.Receiving.{ReadsMore, ReadsSome, WritesPart, Replies, Settles, Stops}
+use Rattle.esm_invoke.specs.Exchange.{SendsPart, Answers}
+use Rattle.esm_invoke.specs.Request.{request_line, request_text}
 use Rattle.esm_invoke.proofs.HeadLemmas.{print_response_ends, BeginsWith-append}
-use Rattle.esm_invoke.proofs.TalkLemmas.{Reads_none, Reads_then}
+use Rattle.esm_invoke.proofs.TalkLemmas.{Reads_none, Reads_then, Writes_none}
 
 -- ---- one head
 
@@ -247,3 +249,56 @@ front_stays a b buffer new bytes filled n within more_within none more same =
     let old_len = length-take-le filled buffer within in
     let new_len = length-take-le (filled + n) new more_within in
     same ∙ all ∙ nothing_more a b (take filled buffer) (take (filled + n) new) more (omega (arith, old_len, new_len, none))
+
+-- ---- a whole call
+
+-- a reply to bytes that were read on from others is the reply to them all
+pub replies_after : (r : Result Reply OutOfMemory) (old mid new : Option Talk) (before : List ℕ) → Reads old mid before
+    → IfOk r (λ reply. reply ≢ Lost → Replies mid new before reply) → IfOk r (λ reply. reply ≢ Lost → Replies old new [] reply)
+replies_after (Ok reply) old mid new before first replied = λ other.
+    let next = replied other in record {
+      read = before ++ next.read;
+      ended = next.ended;
+      reads = Reads_then old mid new before next.read first next.reads;
+      at_end = next.at_end;
+      is_reply = next.is_reply;
+    }
+replies_after (Err e) old mid new before first replied = tt
+
+-- bytes that hold no response make a garbled reply
+pub replies_garbled : (r : Result Reply OutOfMemory) (old new : Option Talk) (bytes : List ℕ) → Reads old new bytes → Stops new bytes
+    → IfOk r (λ reply. reply ≡ Garbled bytes) → IfOk r (λ reply. reply ≢ Lost → Replies old new [] reply)
+replies_garbled (Ok reply) old new bytes reads stops is = λ other. record {
+  read = bytes;
+  ended = stops.ended;
+  reads = reads;
+  at_end = stops.at_end;
+  is_reply = subst (IsReplyTo stops.ended bytes) (sym is) (refl, stops.none, stops.reason);
+}
+replies_garbled (Err e) old new bytes reads stops is = tt
+
+pub answers_after : (r : Result Reply OutOfMemory) (old mid new : Option Talk) (request : List ℕ) → Writes old mid request
+    → IfOk r (λ reply. reply ≢ Lost → Replies mid new [] reply) → IfOk r (λ reply. reply ≢ Lost → Answers old new request reply)
+answers_after (Ok reply) old mid new request writes replied = λ other.
+    let next = replied other in record {
+      read = next.read;
+      ended = next.ended;
+      exchanges = (mid, writes, next.reads);
+      at_end = next.at_end;
+      is_reply = next.is_reply;
+    }
+answers_after (Err e) old mid new request writes replied = tt
+
+pub sends_none : (t : Option Talk) (request : List ℕ) → SendsPart t t request
+sends_none t request = record { sent = []; unsent = request; read = []; parts = refl; exchanges = (t, Writes_none t, Reads_none t) }
+
+pub sends_part : (old new : Option Talk) (request : List ℕ) → WritesPart old new request → SendsPart old new request
+sends_part old new request part = record { sent = part.sent; unsent = part.unsent; read = []; parts = part.parts; exchanges = (new, part.writes, Reads_none new) }
+
+pub sends_all : (old mid new : Option Talk) (request : List ℕ) → Writes old mid request → ReadsSome mid new → SendsPart old new request
+sends_all old mid new request writes read =
+    record { sent = request; unsent = []; read = read.0; parts = sym (append-nil request); exchanges = (mid, writes, read.1) }
+
+pub request_some : (name event : List ℕ) → 0 < length (request_text name event)
+unfolding request_line
+request_some name event = omega arith

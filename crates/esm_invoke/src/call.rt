@@ -30,6 +30,34 @@ pub enum HeadReceived {
     Lost,
 }
 
+/// Calls the function `name` with the event over a link: writes the whole request, then reads until a prefix of the
+/// bytes read is a whole response, until no continuation of them is one, until they are more than 8,388,608, or up to
+/// the link's end. `Garbled` gives the bytes read, which hold no response. `Lost` only where the link's count of faults
+/// rose. `buffer` is a work area; what it holds has no effect, and means nothing afterwards. After `OutOfMemory` a part
+/// of the request may have been sent (Lambda API Reference of 2015-03-31, `Invoke`; RFC 9112).
+pub fn invoke<L: Link>(
+    alloc: Global,
+    link: &mut L,
+    name: &str,
+    event: &[u8],
+    buffer: &mut Vec<u8>,
+) -> Result<Reply, OutOfMemory>
+    requires { vec_len buffer.old ≡ 8388609 }
+    ensures answered { IfOk result (λ reply. reply ≢ Reply.Lost
+        → Answers (L.told link.old) (L.told link.new) (request_text name.now event.now) reply) }
+    ensures lost { IfOk result (λ reply. reply ≡ Reply.Lost → Rose (L.faults link.old) (L.faults link.new)) }
+    ensures sent { SendsPart (L.told link.old) (L.told link.new) (request_text name.now event.now) }
+    ensures count { OnOk result (IsCount (L.faults link.old) (L.faults link.new)) }
+    ensures never_falls { L.faults link.old ≤ L.faults link.new }
+    ensures buffer { vec_len buffer.new ≡ vec_len buffer.old }
+{
+    let request = request(alloc, name, event)?;
+    match send(link, &request) {
+        Ok(()) => receive(alloc, link, buffer.as_mut_slice()),
+        Err(_) => Ok(Reply::Lost),
+    }
+}
+
 /// Sends the bytes. `Failed` only where the link's count of faults rose; a part may have been sent then.
 fn send<L: Link>(link: &mut L, bytes: &[u8]) -> Result<(), Failed>
     requires some { 0 < length bytes.now }
@@ -58,6 +86,25 @@ fn read_more<L: Link>(link: &mut L, buffer: &mut [u8], filled: usize) -> Result<
 {
     let (_, rest) = buffer.split_at_mut(filled);
     link.read(rest)
+}
+
+/// Reads until the reply is known. `Lost` only where the link's count of faults rose.
+fn receive<L: Link>(alloc: Global, link: &mut L, buffer: &mut [u8]) -> Result<Reply, OutOfMemory>
+    requires room { length buffer.old ≡ 8388609 }
+    requires counted { L.faults link.old ≤ MAX_FAULTS }
+    ensures read { ReadsSome (L.told link.old) (L.told link.new) }
+    ensures replied { IfOk result (λ reply. reply ≢ Reply.Lost → Replies (L.told link.old) (L.told link.new) [] reply) }
+    ensures lost { IfOk result (λ reply. reply ≡ Reply.Lost → Rose (L.faults link.old) (L.faults link.new)) }
+    ensures count { IsCount (L.faults link.old) (L.faults link.new) }
+{
+    match receive_head(link, buffer) {
+        HeadReceived::Head(head, filled) => receive_body(alloc, link, buffer, head, filled),
+        HeadReceived::Garbled(filled) => {
+            let (bytes, _) = buffer.split_at(filled);
+            garbled(alloc, bytes)
+        }
+        HeadReceived::Lost => Ok(Reply::Lost),
+    }
 }
 
 /// Reads up to the end of the head. `Lost` only where the link's count of faults rose.

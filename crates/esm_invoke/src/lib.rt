@@ -9,4 +9,4 @@ pub mod request;
 #[cfg(test)]
 mod tests;
 
-pub use call::BUFFER_LEN;
+pub use call::{BUFFER_LEN, invoke};
