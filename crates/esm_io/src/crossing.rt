@@ -1,6 +1,6 @@
 use crate::{
     FileDisk, FileSource, HostClock, MemDest, MemDisk, MemDoor, MemLink, MemSink, MemSource,
-    ScriptCaller, StdinSource, StdoutSink, StepClock,
+    ScriptCaller, StdinSource, StdoutSink, StepClock, TcpLink,
 };
 
 fn crosses<T: Send>() {}
@@ -21,5 +21,6 @@ pub fn forms_cross() {
     crosses::<FileSource<HostRuntime>>();
     crosses::<StdoutSink<HostRuntime>>();
     crosses::<StdinSource<HostRuntime>>();
+    crosses::<TcpLink<HostRuntime>>();
     is_shared::<HostClock<HostRuntime>>();
 }

@@ -32,6 +32,7 @@ pub mod source;
 pub mod stdin_source;
 pub mod stdout_sink;
 pub mod step_clock;
+pub mod tcp_link;
 
 pub use caller::Caller;
 pub use clock::Clock;
@@ -57,6 +58,7 @@ pub use source::Source;
 pub use stdin_source::StdinSource;
 pub use stdout_sink::StdoutSink;
 pub use step_clock::StepClock;
+pub use tcp_link::TcpLink;
 
 #[cfg(test)]
 mod crossing;
