@@ -136,8 +136,8 @@ module _ (bytes : List ℕ) (r new : BodyReader) (spans : List HeaderSpan) (n co
 all_used : (bytes : List ℕ) (r new : BodyReader) (n : ℕ) → Awaits bytes r → Starves r.decoder (drop r.at bytes) new.decoder n → new.decoder ≡ UntilClose → r.at + n ≡ length bytes
 all_used bytes r new n awaits starves e =
     elim starves.drained [
-    | inl all ↦ omega (arith, all, awaits.within, length-drop r.at bytes)
-    | inr trailers ↦ absurd (subst (λ d. AwaitsTrailers d (length (drop n (drop r.at bytes)))) e trailers)
+      | inl all ↦ omega (arith, all, awaits.within, length-drop r.at bytes)
+      | inr trailers ↦ absurd (subst (λ d. AwaitsTrailers d (length (drop n (drop r.at bytes)))) e trailers)
     ]
 
 pub step_more : (bytes : List ℕ) (r new : BodyReader) (n : ℕ) → Awaits bytes r → Starves r.decoder (drop r.at bytes) new.decoder n → Takes r new n [] → Awaits bytes new × IsUnfinished bytes new

@@ -45,20 +45,20 @@ lf_within : (bytes more front rest : List ℕ) (looked : ℕ)
     → bytes ++ more ≡ (front ++ 10 ∷ []) ++ rest → looked < length front + 1 → length bytes < length front + 1
 lf_within bytes more front rest looked none reads past =
     elim (cases_lt (length bytes) (length front + 1)) [
-    | inl longer ↦ longer
-    | inr within ↦
-        let text = front ++ 10 ∷ [] in
-        let len : length text ≡ length front + 1 = length-append front (10 ∷ []) in
-        let whole : bytes ≡ text ++ drop (length text) bytes = front_within bytes more text rest reads (omega (arith, len)) in
-        let index = length front - looked in
-        let place : looked + index ≡ length front = omega arith in
-        let tail = drop (length text) bytes in
-        let here : get_or (drop looked bytes) index 0 ≡ 10 =
-            get_or-drop looked bytes index 0 ∙ ap (λ i. get_or bytes i 0) place
-            ∙ ap (λ t. get_or t (length front) 0) (whole ∙ append_assoc front (10 ∷ []) tail)
-            ∙ get_or-append_seam front 10 tail 0 in
-        let inside : index < length (drop looked bytes) = omega (arith, length-drop looked bytes) in
-        absurd (false≢true (sym none ∙ list_any_at (λ b. eqb b 10) (drop looked bytes) index 0 inside (ap (λ b. eqb b 10) here)))
+      | inl longer ↦ longer
+      | inr within ↦
+          let text = front ++ 10 ∷ [] in
+          let len : length text ≡ length front + 1 = length-append front (10 ∷ []) in
+          let whole : bytes ≡ text ++ drop (length text) bytes = front_within bytes more text rest reads (omega (arith, len)) in
+          let index = length front - looked in
+          let place : looked + index ≡ length front = omega arith in
+          let tail = drop (length text) bytes in
+          let here : get_or (drop looked bytes) index 0 ≡ 10 =
+          get_or-drop looked bytes index 0 ∙ ap (λ i. get_or bytes i 0) place
+          ∙ ap (λ t. get_or t (length front) 0) (whole ∙ append_assoc front (10 ∷ []) tail)
+          ∙ get_or-append_seam front 10 tail 0 in
+          let inside : index < length (drop looked bytes) = omega (arith, length-drop looked bytes) in
+          absurd (false≢true (sym none ∙ list_any_at (λ b. eqb b 10) (drop looked bytes) index 0 inside (ap (λ b. eqb b 10) here)))
     ]
 
 -- no line feed after the bytes that were looked at: no head ends behind them
@@ -79,8 +79,8 @@ pub no_head_yet : (bytes : List ℕ) → HasNoResponse bytes → HasNoHead (leng
 no_head_yet bytes none = record {
   none = λ more tree rest reads.
       elim (cases_lt (length bytes) (length (print_response tree))) [
-      | inl longer ↦ longer
-      | inr within ↦ absurd (none tree _ (reads.0, front_within bytes more (print_response tree) rest reads.1 within))
+        | inl longer ↦ longer
+        | inr within ↦ absurd (none tree _ (reads.0, front_within bytes more (print_response tree) rest reads.1 within))
       ];
 }
 

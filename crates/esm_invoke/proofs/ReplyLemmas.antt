@@ -85,10 +85,10 @@ none_unfinished ended bytes r begins awaits unfinished open' head content holds 
     let reads = subst (λ t. ReadsBody limits r.head.framing t holds.body holds.rest) (sym same.1) (subst (λ h. ReadsBody limits h.framing holds.after holds.body holds.rest) (sym same.0) holds.reads) in
     let left = awaits.forth [] holds.body holds.rest reads in
     elim (is_until_close r.decoder) [
-    | inl close ↦
-        let whole : ended ≡ true = holds.within.closed (ap (λ h. h.framing) (sym same.0) ∙ awaits.only_until_end close) in
-        absurd (false≢true (sym (open' close) ∙ whole))
-    | inr other ↦ unfinished.none other left.0 holds.rest (subst (λ b. Completes r.decoder b left.0 holds.rest) (append-nil _) left.2)
+      | inl close ↦
+          let whole : ended ≡ true = holds.within.closed (ap (λ h. h.framing) (sym same.0) ∙ awaits.only_until_end close) in
+          absurd (false≢true (sym (open' close) ∙ whole))
+      | inr other ↦ unfinished.none other left.0 holds.rest (subst (λ b. Completes r.decoder b left.0 holds.rest) (append-nil _) left.2)
     ]
 
 -- a body up to the link's end is whole there
@@ -98,11 +98,10 @@ answered_at_end bytes r begins awaits unfinished close =
     let left : drop r.at bytes ≡ [] = drop_all r.at bytes (omega (arith, unfinished.used_up close)) in
     let framing = awaits.only_until_end close in
     let completes : Completes r.decoder (drop r.at bytes ++ []) (body_of [] []) [] =
-        subst (λ d. Completes d (drop r.at bytes ++ []) (body_of [] []) []) (sym close) (sym (append-nil _ ∙ left), refl, refl) in
+    subst (λ d. Completes d (drop r.at bytes ++ []) (body_of [] []) []) (sym close) (sym (append-nil _ ∙ left), refl, refl) in
     let body = with_front r.content.items (body_of [] []) in
     let reads = subst (λ t. ReadsBody limits r.head.framing t body []) (append-nil _) (awaits.back [] (body_of [] []) [] completes) in
-    let all : r.content.items ++ [] ≡ drop r.head.len bytes = (subst (λ f. ReadsBody limits f (drop r.head.len bytes) body []) framing reads).0 in
-    (
+    let all : r.content.items ++ [] ≡ drop r.head.len bytes = (subst (λ f. ReadsBody limits f (drop r.head.len bytes) body []) framing reads).0 in (
       r.head,
       record {
         after = drop r.head.len bytes;
@@ -166,9 +165,9 @@ begins_on a b before after head more within begins =
 awaits_append : (before piece : List ℕ) (r : BodyReader) → r.head.len ≤ length before → Awaits before r → Awaits (before ++ piece) r
 awaits_append before piece r within awaits =
     let body_is : (more : List ℕ) → drop r.head.len (before ++ piece) ++ more ≡ drop r.head.len before ++ (piece ++ more) =
-        λ more. ap (λ t. t ++ more) (drop-append-le r.head.len before piece within) ∙ append_assoc (drop r.head.len before) piece more in
+    λ more. ap (λ t. t ++ more) (drop-append-le r.head.len before piece within) ∙ append_assoc (drop r.head.len before) piece more in
     let left_is : (more : List ℕ) → drop r.at (before ++ piece) ++ more ≡ drop r.at before ++ (piece ++ more) =
-        λ more. ap (λ t. t ++ more) (drop-append-le r.at before piece awaits.within) ∙ append_assoc (drop r.at before) piece more in
+    λ more. ap (λ t. t ++ more) (drop-append-le r.at before piece awaits.within) ∙ append_assoc (drop r.at before) piece more in
     record {
       within = omega (arith, awaits.within, length-append before piece);
       forth = λ more whole rest reads.
@@ -207,7 +206,7 @@ awaits_start bytes head r same decoder at content within =
         whole,
         sym (empty whole),
         subst (λ d. Completes d (drop r.at bytes ++ more) whole rest) (sym starts)
-        (completes_from_body limits r.head.framing (drop r.at bytes ++ more) whole rest (subst (λ t. ReadsBody limits r.head.framing t whole rest) (body_is more) reads)),
+            (completes_from_body limits r.head.framing (drop r.at bytes ++ more) whole rest (subst (λ t. ReadsBody limits r.head.framing t whole rest) (body_is more) reads)),
       );
       back = λ more body rest completes.
           subst (λ b. ReadsBody limits r.head.framing (drop r.head.len bytes ++ more) b rest) (sym (empty body))

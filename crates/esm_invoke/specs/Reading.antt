@@ -24,7 +24,7 @@ use Rattle.esm_invoke.specs.Response.{Says, BeginsWith, IsBodyWithin, MAX_BODY, 
 -- a head at the front of the bytes, whatever follows them, is longer than this
 pub record HasNoHead (looked : ℕ) (bytes : List ℕ) : Type 0 where
   pub none : (more : List ℕ) (tree : ResponseHead) (rest : List ℕ) → ReadsResponse (bytes ++ more) tree rest
-    → looked < length (print_response tree)
+      → looked < length (print_response tree)
 
 -- no continuation of the bytes begins with a head within the limits
 abbrev pub NeverBegins : List ℕ → Type 0
@@ -53,10 +53,10 @@ SaysAt bytes lines spans (Some head) =
 pub record Awaits (bytes : List ℕ) (r : BodyReader) : Type 0 where
   pub within : r.at ≤ length bytes
   pub forth : (more : List ℕ) (whole : Body) (rest : List ℕ)
-    → ReadsBody limits r.head.framing (drop r.head.len bytes ++ more) whole rest
-    → (body : Body) × (whole ≡ with_front r.content.items body) × Completes r.decoder (drop r.at bytes ++ more) body rest
+      → ReadsBody limits r.head.framing (drop r.head.len bytes ++ more) whole rest
+      → (body : Body) × (whole ≡ with_front r.content.items body) × Completes r.decoder (drop r.at bytes ++ more) body rest
   pub back : (more : List ℕ) (body : Body) (rest : List ℕ) → Completes r.decoder (drop r.at bytes ++ more) body rest
-    → ReadsBody limits r.head.framing (drop r.head.len bytes ++ more) (with_front r.content.items body) rest
+      → ReadsBody limits r.head.framing (drop r.head.len bytes ++ more) (with_front r.content.items body) rest
   pub until_end : r.head.framing ≡ Framed.UntilClose → r.decoder ≡ UntilClose
   pub only_until_end : r.decoder ≡ UntilClose → r.head.framing ≡ Framed.UntilClose
   pub small : length r.content.items ≤ MAX_BODY

@@ -45,11 +45,11 @@ has_function_error headers = list_any (is_named (codes "X-Amz-Function-Error")) 
 
 -- chunked where that is the one transfer coding, and else delimited in the other way
 abbrev pub framing_by_coding : Framing → TransferEncoding → Bool → Option Framing
-framing_by_coding unchunked Coding.Absent other = Some unchunked
-framing_by_coding unchunked Coding.Chunked other = if other then None else Some Chunked
-framing_by_coding unchunked Coding.Other other = None
-framing_by_coding unchunked Coding.Blank other = None
-framing_by_coding unchunked Coding.Invalid other = None
+framing_by_coding otherwise Coding.Absent other = Some otherwise
+framing_by_coding otherwise Coding.Chunked other = if other then None else Some Chunked
+framing_by_coding otherwise Coding.Other other = None
+framing_by_coding otherwise Coding.Blank other = None
+framing_by_coding otherwise Coding.Invalid other = None
 
 -- by the stated length or up to the link's end, where it is not chunked; none where a length is no number or two differ
 abbrev pub framing_by_fields : TransferEncoding → Bool → ContentLength → Option Framing

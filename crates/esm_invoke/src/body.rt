@@ -105,7 +105,11 @@ impl BodyReader {
             }
             Ok(Decoded::End { len, .. }) => {
                 self.at += len;
-                Ok(if self.at <= MAX_RESPONSE { Step::Whole } else { Step::Never })
+                Ok(if self.at <= MAX_RESPONSE {
+                    Step::Whole
+                } else {
+                    Step::Never
+                })
             }
             Err(_) => Ok(Step::Never),
         }

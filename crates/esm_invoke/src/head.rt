@@ -125,12 +125,12 @@ fn framing(fields: &KnownFields) -> Option<Framing>
     }
 }
 
-/// How the body is delimited, where it is by `unchunked` if no transfer coding stands.
-fn framing_without_length(fields: &KnownFields, unchunked: Framing) -> Option<Framing>
-    ensures { result ≡ framing_by_coding unchunked fields.now.transfer_encoding fields.now.other_coding }
+/// How the body is delimited, where it is by `otherwise` if no transfer coding stands.
+fn framing_without_length(fields: &KnownFields, otherwise: Framing) -> Option<Framing>
+    ensures { result ≡ framing_by_coding otherwise fields.now.transfer_encoding fields.now.other_coding }
 {
     match fields.transfer_encoding {
-        TransferEncoding::Absent => Some(unchunked),
+        TransferEncoding::Absent => Some(otherwise),
         TransferEncoding::Chunked if !fields.other_coding => Some(Framing::Chunked),
         _ => None,
     }

@@ -5,8 +5,12 @@
 pub mod body;
 pub mod call;
 pub mod head;
+pub mod http_caller;
+pub mod program_caller;
 pub mod request;
 #[cfg(test)]
 mod tests;
 
 pub use call::{BUFFER_LEN, invoke};
+pub use http_caller::HttpCaller;
+pub use program_caller::ProgramCaller;

@@ -36,7 +36,9 @@ fn push_headers(text: &mut Vec<u8>, len: usize) -> Result<(), OutOfMemory>
     ensures { OnOk result (text.new.items ≡ text.old.items ++ header_lines len) }
 {
     let mut digits = Buffer::new();
-    text.extend_from_slice(b"Host: 127.0.0.1\r\nContent-Type: application/json\r\nContent-Length: ")?;
+    text.extend_from_slice(
+        b"Host: 127.0.0.1\r\nContent-Type: application/json\r\nContent-Length: ",
+    )?;
     text.extend_from_slice(digits.format(len as u64).as_bytes())?;
     text.extend_from_slice(b"\r\nConnection: close\r\n\r\n")?;
     Ok(())
