@@ -42,7 +42,7 @@ pub fn invoke<L: Link>(
     event: &[u8],
     buffer: &mut Vec<u8>,
 ) -> Result<Reply, OutOfMemory>
-    requires { vec_len buffer.old ≡ 8388609 }
+    requires { vec_len buffer.old ≡ BUFFER_LEN }
     ensures answered { IfOk result (λ reply. reply ≢ Reply.Lost
         → Answers (L.told link.old) (L.told link.new) (request_text name.now event.now) reply) }
     ensures lost { IfOk result (λ reply. reply ≡ Reply.Lost → Rose (L.faults link.old) (L.faults link.new)) }
@@ -90,7 +90,7 @@ fn read_more<L: Link>(link: &mut L, buffer: &mut [u8], filled: usize) -> Result<
 
 /// Reads until the reply is known. `Lost` only where the link's count of faults rose.
 fn receive<L: Link>(alloc: Global, link: &mut L, buffer: &mut [u8]) -> Result<Reply, OutOfMemory>
-    requires room { length buffer.old ≡ 8388609 }
+    requires room { length buffer.old ≡ BUFFER_LEN }
     requires counted { L.faults link.old ≤ MAX_FAULTS }
     ensures read { ReadsSome (L.told link.old) (L.told link.new) }
     ensures replied { IfOk result (λ reply. reply ≢ Reply.Lost → Replies (L.told link.old) (L.told link.new) [] reply) }
@@ -109,7 +109,7 @@ fn receive<L: Link>(alloc: Global, link: &mut L, buffer: &mut [u8]) -> Result<Re
 
 /// Reads up to the end of the head. `Lost` only where the link's count of faults rose.
 fn receive_head<L: Link>(link: &mut L, buffer: &mut [u8]) -> HeadReceived
-    requires room { length buffer.old ≡ 8388609 }
+    requires room { length buffer.old ≡ BUFFER_LEN }
     requires counted { L.faults link.old ≤ MAX_FAULTS }
     ensures received { ReceivesHead (L.told link.old) (L.told link.new) buffer.new result }
     ensures lost { result ≡ HeadReceived.Lost → Rose (L.faults link.old) (L.faults link.new) }
@@ -145,7 +145,7 @@ fn receive_body<L: Link>(
     requires within { first ≤ length buffer.old }
     requires len { head.len ≤ first }
     requires begins { BeginsWith (take first buffer.old) head (drop head.len (take first buffer.old)) }
-    requires room { length buffer.old ≡ 8388609 }
+    requires room { length buffer.old ≡ BUFFER_LEN }
     requires counted { L.faults link.old ≤ MAX_FAULTS }
     ensures read { ReadsSome (L.told link.old) (L.told link.new) }
     ensures replied { IfOk result (λ reply. reply ≢ Reply.Lost → Replies (L.told link.old) (L.told link.new) (take first buffer.old) reply) }
