@@ -1,8 +1,8 @@
 // The head of a response.
-ghost use Rattle.std.specs.Prelude.{◌≡◌, ◌<◌, ◌≤◌, ℕ, List, ◌++◌, length, map, take, drop, min, All};
+ghost use Rattle.std.specs.Prelude.{◌≡◌, ◌<◌, ◌≤◌, ℕ, List, ◌++◌, length, map, take, drop, min, All, codes};
 ghost use Rattle.httparse.specs.Grammar.{ResponseHead};
 ghost use Rattle.httparse.specs.Spans.{IsHeaderWithin, IsSectionWithin, IsResponseAt, header_bytes};
-ghost use Rattle.http1.specs.Fields.{known_fields};
+ghost use Rattle.http1.specs.Fields.{is_named, known_fields};
 ghost use Rattle.esm_invoke.specs.Response.{framing_of, framing_by_coding, has_function_error};
 ghost use Rattle.esm_invoke.specs.Reading.{HasNoHead, NeverBegins, FindsHead, ParsesHead, SaysAt};
 
@@ -107,11 +107,19 @@ fn has_function_error(bytes: &[u8], fields: &[HeaderSpan]) -> bool
     ensures { result ≡ has_function_error (map (header_bytes bytes.now) fields.now) }
 {
     for field in fields {
-        if eq_ignore_case(field.name.of(bytes), b"X-Amz-Function-Error") {
+        if is_error_header(bytes, field) {
             return true;
         }
     }
     false
+}
+
+/// The header has that name.
+fn is_error_header(bytes: &[u8], field: &HeaderSpan) -> bool
+    requires { IsHeaderWithin (length bytes.now) field.now }
+    ensures { result ≡ is_named (codes "X-Amz-Function-Error") (header_bytes bytes.now field.now) }
+{
+    eq_ignore_case(field.name.of(bytes), b"X-Amz-Function-Error")
 }
 
 /// How the body is delimited, by the fields of its head (RFC 9112, section 6.3). `chunked` is the one coding.

@@ -5,7 +5,6 @@ use Rattle.std.proofs.lemmas.List.{take_all}
 use Rattle.std.proofs.lemmas.List.Folds.{list_any_at, list_any_more}
 use Rattle.httparse.specs.Spans.{header_bytes}
 use Rattle.httparse.specs.declared.spans.HeaderSpan.{HeaderSpan}
-use Rattle.http1.specs.Text.{eq_ignore_case}
 use Rattle.http1.specs.Fields.{is_named}
 use Rattle.esm_invoke.proofs.HeadLemmas.{list_any-map}
 use Rattle.esm_invoke.proofs.head.has_function_error.Goals as goal
@@ -13,17 +12,17 @@ use Rattle.esm_invoke.proofs.head.has_function_error.Goals as goal
 abbrev NAME : List ℕ
 NAME = codes "X-Amz-Function-Error"
 
-pub returns-then-eq_ignore_case : goal.returns-then-eq_ignore_case
-returns-then-eq_ignore_case c =
+pub returns-then-is_error_header : goal.returns-then-is_error_header
+returns-then-is_error_header c =
     let named = is_named NAME in
-    let found = ap (λ t. eq_ignore_case t NAME) (sym c.of.ensures) ∙ sym c.eq_ignore_case.ensures ∙ c.if-eq_ignore_case.true in
+    let found = sym c.is_error_header.ensures ∙ c.if-is_error_header.true in
     sym (list_any-map named (header_bytes c.args.bytes.now) c.args.fields.now
     ∙ list_any_at (λ f. named (header_bytes c.args.bytes.now f)) c.args.fields.now c.loop-field.field-index _ c.loop-field-test.true found)
 
 pub loop-field-preserved : goal.loop-field-preserved
 loop-field-preserved c =
     let named = is_named NAME in
-    let passed = ap (λ t. eq_ignore_case t NAME) (sym c.of.ensures) ∙ sym c.eq_ignore_case.ensures ∙ c.if-eq_ignore_case.false in
+    let passed = sym c.is_error_header.ensures ∙ c.if-is_error_header.false in
     list_any_more (λ f. named (header_bytes c.args.bytes.now f)) c.args.fields.now c.loop-field.field-index _ c.loop-field-test.true
     ∙ (λ i. c.loop-field.invariant i || passed i)
 
