@@ -1,3 +1,5 @@
 pub mod Payload
 pub mod Reading
 pub mod Words
+pub mod Meaning
+pub mod Table

@@ -3,11 +3,15 @@
 //! Pure: values in, values out. No device, clock or thread.
 #![tactic(auto)]
 
+mod add;
 mod field;
+mod judge;
+pub mod kept;
 pub mod laws;
 mod names;
 mod reading;
 pub mod said;
+mod table;
 #[cfg(test)]
 mod tests;
 mod word;

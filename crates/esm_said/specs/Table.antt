@@ -1,0 +1,31 @@
+-- What a history comes to, as maps.
+use Rattle.std.specs.Prelude.{ℕ, ◌≡◌, Bool, List, Option}
+use Rattle.std.specs.Ordering.{nat_cmp, ordering_then}
+use Rattle.std.specs.declared.cmp.Ordering.{Ordering}
+use Rattle.std.specs.BTreeMap as map
+use Rattle.std.specs.BTreeSet as set
+use Rattle.esm_said.specs.declared.said.Said.{Said}
+use Rattle.esm_said.specs.declared.table.Table.{Table}
+use Rattle.esm_said.specs.Meaning.{fate_said, tries_said, state_said, window_tries_said, replayed_said, deletion_said, Known}
+
+-- the order of places, and of windows: by shard, and then by the number
+abbrev pub pair_cmp : ℕ × ℕ → ℕ × ℕ → Ordering
+pair_cmp x y = ordering_then (nat_cmp x.0 y.0) (nat_cmp x.1 y.1)
+
+-- the maps have what the history says
+pub record IsTable (t : Table) (h : List Said) : Type 0 where
+  pub fates : (n i : ℕ) → map.get pair_cmp t.fates (n, i) ≡ fate_said h n i
+  pub tries : (n i : ℕ) → map.get pair_cmp t.tries (n, i) ≡ tries_said h n i
+  pub states : (n w : ℕ) → map.get pair_cmp t.states (n, w) ≡ state_said h n w
+  pub window_tries : (n w : ℕ) → map.get pair_cmp t.window_tries (n, w) ≡ window_tries_said h n w
+  pub replays : (n i : ℕ) → set.contains pair_cmp t.replays (n, i) ≡ replayed_said h n i
+  pub deletions : (i : ℕ) → map.get nat_cmp t.deletions i ≡ deletion_said h i
+
+-- what the maps know
+abbrev pub known_in : Table → Known
+known_in t = record {
+  fates = λ n i. map.get pair_cmp t.fates (n, i);
+  tries = λ n i. map.get pair_cmp t.tries (n, i);
+  replays = λ n i. set.contains pair_cmp t.replays (n, i);
+  deletions = λ i. map.get nat_cmp t.deletions i;
+}

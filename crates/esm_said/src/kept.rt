@@ -1,0 +1,15 @@
+use esm_model::{Fate, Text};
+
+/// A fate, and the sequence number or message id that is kept with it.
+#[derive(Drop, Debug)]
+pub struct KeptFate {
+    pub fate: Fate,
+    pub text: Text,
+}
+
+/// A number of failed tries, and the sequence number that is kept with it.
+#[derive(Drop, Debug)]
+pub struct KeptTries {
+    pub tries: u32,
+    pub text: Text,
+}
