@@ -18,9 +18,9 @@ is_eq-nat a b =
     elim (cases_order a b) [
       | inl same ↦ rw (le-ltb a b (omega arith), eq-eqb a b same) refl
       | inr apart ↦ (elim apart [
-          | inl below ↦ rw (lt-ltb a b below, ne_eqb a b (λ e. omega arith)) refl
-          | inr above ↦ rw (le-ltb a b (omega arith), ne_eqb a b (λ e. omega arith)) refl
-        ])
+        | inl below ↦ rw (lt-ltb a b below, ne_eqb a b (λ e. omega arith)) refl
+        | inr above ↦ rw (le-ltb a b (omega arith), ne_eqb a b (λ e. omega arith)) refl
+      ])
     ]
 
 is_eq-then : (o p : Ordering) → is_eq (ordering_then o p) ≡ (is_eq o && is_eq p)

@@ -3,3 +3,4 @@ pub mod Reading
 pub mod Words
 pub mod Meaning
 pub mod Table
+pub mod Bad

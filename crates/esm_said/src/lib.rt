@@ -4,7 +4,9 @@
 #![tactic(auto)]
 
 mod add;
+pub mod error;
 mod field;
+mod history;
 mod judge;
 pub mod kept;
 pub mod laws;

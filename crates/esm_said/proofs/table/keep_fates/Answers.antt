@@ -10,8 +10,8 @@ loop-index-preserved-in_ok-insert c = record {
   within = omega arith;
   kept = λ n i.
       kept_more (fate_kept c.args.fate) c.args.shard n i c.args.places.now c.args.texts.now c.loop-index.index c.index-texts-index.result c.in_ok-text.text
-          (map.get pair_cmp c.args.fates.now (n, i)) (map.get pair_cmp c.loop-index.fates (n, i)) (map.get pair_cmp c.insert.new.self (n, i))
-          c.loop-index-test.true c.loop-index.invariant.within c.requires (c.in_ok-text.ensures ∙ c.index-texts-index.is) (c.in_ok-insert.ensures.updates.0 (n, i)) (c.loop-index.invariant.kept n i);
+      (map.get pair_cmp c.args.fates.now (n, i)) (map.get pair_cmp c.loop-index.fates (n, i)) (map.get pair_cmp c.insert.new.self (n, i))
+      c.loop-index-test.true c.loop-index.invariant.within c.requires (c.in_ok-text.ensures ∙ c.index-texts-index.is) (c.in_ok-insert.ensures.updates.0 (n, i)) (c.loop-index.invariant.kept n i);
 }
 
 pub loop-index-preserved : goal.loop-index-preserved
@@ -19,6 +19,6 @@ loop-index-preserved c = record {
   within = omega arith;
   kept = λ n i.
       kept_more (fate_kept c.args.fate) c.args.shard n i c.args.places.now c.args.texts.now c.loop-index.index c.index-texts-index.result c.in_ok-text.text
-          (map.get pair_cmp c.args.fates.now (n, i)) (map.get pair_cmp c.loop-index.fates (n, i)) (map.get pair_cmp c.insert.new.self (n, i))
-          c.loop-index-test.true c.loop-index.invariant.within c.requires (c.in_ok-text.ensures ∙ c.index-texts-index.is) (c.in_ok-insert.ensures.updates.0 (n, i)) (c.loop-index.invariant.kept n i);
+      (map.get pair_cmp c.args.fates.now (n, i)) (map.get pair_cmp c.loop-index.fates (n, i)) (map.get pair_cmp c.insert.new.self (n, i))
+      c.loop-index-test.true c.loop-index.invariant.within c.requires (c.in_ok-text.ensures ∙ c.index-texts-index.is) (c.in_ok-insert.ensures.updates.0 (n, i)) (c.loop-index.invariant.kept n i);
 }
