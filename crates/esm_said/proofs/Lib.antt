@@ -5,3 +5,5 @@ pub mod Fields
 pub mod Values
 pub mod Payloads
 pub mod Pairs
+pub mod Finding
+pub mod Gathering

@@ -2,5 +2,8 @@ pub mod Payload
 pub mod Reading
 pub mod Words
 pub mod Meaning
+pub mod Told
+pub mod Tells
 pub mod Table
+pub mod View
 pub mod Bad

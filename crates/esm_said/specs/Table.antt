@@ -1,16 +1,12 @@
 -- What a history comes to, as maps.
 use Rattle.std.specs.Prelude.{ℕ, ◌≡◌, Bool, List, Option}
-use Rattle.std.specs.Ordering.{nat_cmp, ordering_then}
-use Rattle.std.specs.declared.cmp.Ordering.{Ordering}
+use Rattle.std.specs.Ordering.{nat_cmp}
 use Rattle.std.specs.BTreeMap as map
 use Rattle.std.specs.BTreeSet as set
 use Rattle.esm_said.specs.declared.said.Said.{Said}
 use Rattle.esm_said.specs.declared.table.Table.{Table}
+pub use Rattle.esm_said.specs.Told.{pair_cmp}
 use Rattle.esm_said.specs.Meaning.{fate_said, tries_said, state_said, window_tries_said, replayed_said, deletion_said, Known}
-
--- the order of places, and of windows: by shard, and then by the number
-abbrev pub pair_cmp : ℕ × ℕ → ℕ × ℕ → Ordering
-pair_cmp x y = ordering_then (nat_cmp x.0 y.0) (nat_cmp x.1 y.1)
 
 -- the maps have what the history says
 pub record IsTable (t : Table) (h : List Said) : Type 0 where
@@ -29,3 +25,12 @@ known_in t = record {
   replays = λ n i. set.contains pair_cmp t.replays (n, i);
   deletions = λ i. map.get nat_cmp t.deletions i;
 }
+
+-- the maps are in order
+pub record HasOrder (t : Table) : Type 0 where
+  pub fates : map.IsOrdered pair_cmp t.fates
+  pub tries : map.IsOrdered pair_cmp t.tries
+  pub states : map.IsOrdered pair_cmp t.states
+  pub window_tries : map.IsOrdered pair_cmp t.window_tries
+  pub replays : set.IsOrdered pair_cmp t.replays
+  pub deletions : map.IsOrdered nat_cmp t.deletions

@@ -4,12 +4,16 @@ ghost use Rattle.esm_said.specs.declared.said.Said.{Said};
 ghost use Rattle.esm_said.specs.Bad.{IsFirstBad, IsAt};
 ghost use Rattle.esm_said.specs.Meaning.{history, is_good, are_good};
 ghost use Rattle.esm_said.specs.Table.{IsTable};
+ghost use Rattle.esm_said.specs.Tells.{Tells};
+ghost use Rattle.esm_said.specs.Told.{IsInOrder};
 
 use crate::add::add;
 use crate::error::SaysError;
+use crate::gather::gathered;
 use crate::judge::is_bad;
 use crate::reading::read_said;
 use crate::table::{Table, empty_table};
+use crate::told::Says;
 use esm_model::{Bytes, OutOfMemory};
 use std::alloc::Global;
 
@@ -52,4 +56,17 @@ pub(crate) fn table_of(alloc: Global, payloads: &[Bytes]) -> Result<Table, SaysE
         }
     }
     Ok(table)
+}
+
+/// What the payloads say, the oldest first. Near-linear in their bytes: each place costs a logarithm.
+/// `BadPayload` exactly where a payload is none of a mapping's journal or is bad for a book after those before it, with
+/// the index of the first such one.
+pub fn says(alloc: Global, payloads: &[Bytes]) -> Result<Says, SaysError>
+    ensures told { IfOk result (λ s. Tells s (history (reverse payloads.now))) }
+    ensures order { IfOk result (λ s. IsInOrder s) }
+    ensures good { OnOk result (are_good (reverse payloads.now) ≡ true) }
+    ensures bad { IfErr result (λ e. IsFirstBad payloads.now e) }
+{
+    let table = table_of(alloc, payloads)?;
+    Ok(gathered(alloc, table)?)
 }

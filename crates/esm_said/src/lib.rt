@@ -6,6 +6,7 @@
 mod add;
 pub mod error;
 mod field;
+mod gather;
 mod history;
 mod judge;
 pub mod kept;
@@ -16,9 +17,13 @@ pub mod said;
 mod table;
 #[cfg(test)]
 mod tests;
+pub mod told;
 mod word;
 mod writing;
 
+pub use error::SaysError;
+pub use history::says;
 pub use reading::read_said;
 pub use said::Said;
+pub use told::{Found, FoundTries, SaidState, Says};
 pub use writing::said_bytes;

@@ -1,8 +1,8 @@
 ghost use Rattle.std.specs.Prelude.{IfOk};
 ghost use Rattle.esm_said.specs.Payload.{IsSaid};
 
-use crate::{Said, read_said, said_bytes};
-use esm_model::{Fate, OutOfMemory, Places, Text, Texts};
+use crate::{Said, SaysError, read_said, said_bytes, says};
+use esm_model::{Bytes, Fate, OutOfMemory, Places, Text, Texts};
 use std::alloc::Global;
 use std::test::Fail;
 
@@ -56,5 +56,39 @@ fn no_payload(rt: HostRuntime) -> Result<(), Fail> {
         "cut short"
     );
     assert!(rt; read_said(rt.alloc(), &[9])?.is_none(), "no kind");
+    Ok(())
+}
+
+fn payloads(alloc: Global, count: u32) -> Result<Vec<Bytes>, OutOfMemory> {
+    let mut payloads = Vec::new(alloc);
+    for _ in 0..count {
+        payloads.push(Bytes::from_vec(ONE_RECORD.to_vec(alloc)?))?;
+    }
+    Ok(payloads)
+}
+
+#[test]
+fn one_record_said(rt: HostRuntime) -> Result<(), Fail> {
+    let payloads = payloads(rt.alloc(), 1)?;
+    let said = says(rt.alloc(), &payloads)?;
+    assert_eq!(rt;
+        (said.count(0), said.frontier(0), said.deletions()),
+        (1, 1, 0)
+    );
+    assert_eq!(rt; said.shards(), [0].as_slice());
+    assert_eq!(rt; said.states().len(), 0);
+    let found = said.fate(0, 0).ok_or("a fate")?;
+    assert_eq!(rt; (found.fate, found.text.as_str()), (Fate::Succeeded, "1"));
+    assert!(rt;
+        said.fate(0, 1).is_none() && said.tries(0, 0).is_none() && said.deleted(0).is_none()
+    );
+    assert!(rt; !said.replayed(0, 0) && said.window_tries(0, 0) == 0);
+    Ok(())
+}
+
+#[test]
+fn named_twice(rt: HostRuntime) -> Result<(), Fail> {
+    let payloads = payloads(rt.alloc(), 2)?;
+    assert!(rt; matches!(says(rt.alloc(), &payloads), Err(SaysError::BadPayload(1))));
     Ok(())
 }
