@@ -32,7 +32,7 @@ pub number_in_entry : (payload more : List ℕ) → length payload ≤ max_paylo
 number_in_entry payload more short = from_be_bytes-to_be_bytes_4 (length payload) (omega arith)
 
 -- an entry that is not cut short
-whole : (place size count : ℕ) (payload : List ℕ) (rest : Opening) → 4 ≤ size → count ≤ max_payload
+pub whole : (place size count : ℕ) (payload : List ℕ) (rest : Opening) → 4 ≤ size → count ≤ max_payload
     → (if nat_lt size 4 then Damaged (place + 1 + size) else if nat_lt max_payload count then Damaged (place + 1) else preceded payload rest) ≡ preceded payload rest
 whole place size count payload rest enough short = grind (arith, nat_tests)
 

@@ -36,7 +36,7 @@ pub end_within : (header : List ℕ) (epoch : ℕ) (payloads : List (List ℕ)) 
 end_within header epoch payloads bytes eight file =
     omega (arith, ap length file.bytes_are, length-append (front header epoch payloads) (file.gate ∷ file.rest), length_front header epoch payloads eight)
 
-entries_push : (payloads : List (List ℕ)) (payload : List ℕ) → entries (payloads ++ payload ∷ []) ≡ entries payloads ++ 1 ∷ [] ++ entry payload
+pub entries_push : (payloads : List (List ℕ)) (payload : List ℕ) → entries (payloads ++ payload ∷ []) ≡ entries payloads ++ 1 ∷ [] ++ entry payload
 entries_push [] payload = append-nil (1 ∷ [] ++ entry payload)
 entries_push (p ∷ payloads) payload =
     ap (λ l. 1 ∷ [] ++ entry p ++ l) (entries_push payloads payload)

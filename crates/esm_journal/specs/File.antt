@@ -91,11 +91,13 @@ eight_at bytes n =
 abbrev pub epoch_in : List ℕ → ℕ
 epoch_in bytes = from_be_bytes w64 (eight_at bytes 8)
 
--- What a file with this header says: it begins with the header, has at least 18 bytes, and its seal, at place 16, is 1.
-abbrev pub opened : List ℕ → List ℕ → Opening
-opened header bytes =
-    if starts_with nat_eq bytes header
-    then (if nat_lt (length bytes) 18 then Damaged (length bytes)
+-- what a file that begins with the header says: it has at least 18 bytes, and its seal, at place 16, is 1
+abbrev pub opened_rest : List ℕ → Opening
+opened_rest bytes =
+    if nat_lt (length bytes) 18 then Damaged (length bytes)
     else if slice_index bytes 16 == 1 then read_from (epoch_in bytes) 17 0 (drop 17 bytes)
-    else Damaged 16)
-    else Foreign
+    else Damaged 16
+
+-- what opening a file with this header finds
+abbrev pub opened : List ℕ → List ℕ → Opening
+opened header bytes = if starts_with nat_eq bytes header then opened_rest bytes else Foreign

@@ -1,7 +1,7 @@
 -- What calls of a disk that write nothing leave, and why a file was refused.
 use Rattle.std.specs.Prelude.{◌≡◌, ℕ, ◌≤◌, Bool, true, List}
 use Rattle.esm_io.specs.Images.{Within, LeavesOnly}
-use Rattle.esm_io.specs.Faults.{IsCount}
+use Rattle.esm_io.specs.Faults.{MAX_FAULTS}
 use Rattle.esm_journal.specs.declared.error.OpenError.{OpenError}
 use Rattle.esm_journal.specs.declared.error.OpenError.TheVariants.{NotAJournal, Damaged, DiskFault, OutOfMemory}
 
@@ -11,11 +11,13 @@ pub record IsOnlyRead {D : Type 0} (honest : D → Bool) (content : D → List �
   pub same : honest old ≡ true → content new ≡ content old
   pub images : honest old ≡ true → Within (image old) (image new)
   pub any_moment : honest old ≡ true → LeavesOnly moment since old new (image old)
-  pub count : IsCount (faults old) (faults new)
+  pub never_falls : faults old ≤ faults new
+  pub greatest : faults old ≤ MAX_FAULTS → faults new ≤ MAX_FAULTS
 
--- the refusal of a file that begins with the header: damage at a place with this fact, or a disk whose faults rose
-abbrev pub RefusedFor : (ℕ → Type 0) → Type 0 → OpenError → Type 0
-RefusedFor damaged rose (NotAJournal first) = ⊥
-RefusedFor damaged rose (Damaged place) = damaged place
-RefusedFor damaged rose DiskFault = rose
-RefusedFor damaged rose OutOfMemory = Unit {0}
+-- why a file was refused: it does not begin with the header, and these are its first eight bytes; it is damaged at a
+-- place; or the disk's faults rose
+abbrev pub RefusedFor : (List ℕ → Type 0) → (ℕ → Type 0) → Type 0 → OpenError → Type 0
+RefusedFor foreign damaged rose (NotAJournal first) = foreign first
+RefusedFor foreign damaged rose (Damaged place) = damaged place
+RefusedFor foreign damaged rose DiskFault = rose
+RefusedFor foreign damaged rose OutOfMemory = Unit {0}

@@ -4,6 +4,9 @@
 #![tactic(auto)]
 
 pub mod error;
+mod format;
+mod head;
+mod reading;
 mod through;
 
 pub use error::{AppendError, InitError, OpenError};

@@ -1,0 +1,132 @@
+// A file is read in pieces: its head, and then entry by entry up to the first gate that is not open.
+ghost use Rattle.std.specs.Prelude.{◌≡◌, ◌≢◌, ◌+◌, ◌<◌, ◌≤◌, true, ℕ, List, [], ◌∷◌, ◌++◌, length, take, drop, slice_index, IfOk, IfErr, IfSome, IfNone, MatchOption, OnOk, OnErr};
+ghost use Rattle.std.specs.List.{All};
+ghost use Rattle.esm_io.specs.Faults.{IsCount, Rose};
+ghost use Rattle.esm_io.specs.Images.{Only, LeavesOnly};
+ghost use Rattle.std.specs.Int.{w32, to_be_bytes, from_be_bytes};
+ghost use Rattle.esm_journal.specs.File.{max_payload, number_in, entry, entries, end_of, AreShort, Damaged, read_from};
+ghost use Rattle.esm_journal.specs.Reads.{IsOnlyRead, RefusedFor};
+
+use crate::error::OpenError;
+use crate::format::MAX_PAYLOAD;
+use crate::through::{read_at, settle, size_of};
+use esm_io::{Disk, Failed};
+use esm_model::Bytes;
+use std::alloc::Global;
+
+/// The gate byte at a place.
+fn byte_at<D: Disk>(disk: &mut D, place: u64) -> Result<u8, Failed>
+    requires within { D.honest disk.old ≡ true → place < length (D.content disk.old) }
+    ensures byte { D.honest disk.old ≡ true → IfOk result (λ byte. byte ≡ slice_index (D.content disk.old) place) }
+    ensures only_read { IsOnlyRead D.honest D.content D.image D.moment D.image_since D.faults disk.old disk.new }
+    ensures cause { OnErr result (Rose (D.faults disk.old) (D.faults disk.new)) }
+{
+    let mut byte = [0];
+    read_at(disk, place, &mut byte)?;
+    Ok(byte[0])
+}
+
+/// The number that four bytes write.
+fn number_of(four: &[u8]) -> u32
+    requires { length four.now ≡ 4 }
+    ensures number { result ≡ from_be_bytes w32 four.now }
+    ensures written { to_be_bytes w32 result ≡ four.now }
+{
+    u32::from_be_bytes([four[0], four[1], four[2], four[3]])
+}
+
+/// The number that the four bytes from a place on write.
+fn number_at<D: Disk>(disk: &mut D, place: u64) -> Result<u32, Failed>
+    requires within { D.honest disk.old ≡ true → place + 4 ≤ length (D.content disk.old) }
+    ensures number { D.honest disk.old ≡ true → IfOk result (λ n. n ≡ number_in (drop place (D.content disk.old))) }
+    ensures written { D.honest disk.old ≡ true → IfOk result (λ n. to_be_bytes w32 n ≡ take 4 (drop place (D.content disk.old))) }
+    ensures only_read { IsOnlyRead D.honest D.content D.image D.moment D.image_since D.faults disk.old disk.new }
+    ensures cause { OnErr result (Rose (D.faults disk.old) (D.faults disk.new)) }
+{
+    let mut four = [0; 4];
+    read_at(disk, place, &mut four)?;
+    Ok(number_of(&four))
+}
+
+/// So many bytes from a place on.
+fn bytes_at<D: Disk>(
+    alloc: Global,
+    disk: &mut D,
+    place: u64,
+    count: usize,
+) -> Result<Bytes, OpenError>
+    requires within { D.honest disk.old ≡ true → place + count ≤ length (D.content disk.old) }
+    ensures bytes { D.honest disk.old ≡ true → IfOk result (λ bytes. bytes ≡ take count (drop place (D.content disk.old))) }
+    ensures size { IfOk result (λ bytes. length bytes ≡ count) }
+    ensures only_read { IsOnlyRead D.honest D.content D.image D.moment D.image_since D.faults disk.old disk.new }
+    ensures refused { IfErr result (λ e. RefusedFor (λ first. ⊥) (λ place. ⊥) (Rose (D.faults disk.old) (D.faults disk.new)) e) }
+{
+    let mut bytes = vec![in alloc; 0; count]?;
+    read_at(disk, place, bytes.as_mut_slice())?;
+    Ok(Bytes::from_vec(bytes))
+}
+
+/// The entry whose gate stands at a place, where that gate is open.
+fn read_entry<D: Disk>(
+    alloc: Global,
+    disk: &mut D,
+    place: u64,
+    size: u64,
+) -> Result<Option<Bytes>, OpenError>
+    requires within { place < size }
+    requires size { D.honest disk.old ≡ true → size ≡ length (D.content disk.old) }
+    ensures closed { D.honest disk.old ≡ true → IfOk result (λ found. IfNone found (slice_index (D.content disk.old) place ≢ 1)) }
+    ensures whole { D.honest disk.old ≡ true → IfOk result (λ found. IfSome found (λ payload.
+        drop place (D.content disk.old) ≡ 1 ∷ [] ++ entry payload ++ drop (place + 5 + length payload) (D.content disk.old))) }
+    ensures next { IfOk result (λ found. IfSome found (λ payload. place + 5 + length payload < size)) }
+    ensures short { IfOk result (λ found. IfSome found (λ payload. length payload ≤ max_payload)) }
+    ensures only_read { IsOnlyRead D.honest D.content D.image D.moment D.image_since D.faults disk.old disk.new }
+    ensures refused { IfErr result (λ e. RefusedFor (λ first. ⊥)
+        (λ damage. D.honest disk.old ≡ true → (epoch : ℕ) → read_from epoch place 0 (drop place (D.content disk.old)) ≡ Damaged damage)
+        (Rose (D.faults disk.old) (D.faults disk.new)) e) }
+{
+    if byte_at(disk, place)? != 1 {
+        return Ok(None);
+    }
+    let left = size - place;
+    if left < 5 {
+        return Err(OpenError::Damaged(size));
+    }
+    let count = number_at(disk, place + 1)?;
+    if u64::from(count) > MAX_PAYLOAD {
+        return Err(OpenError::Damaged(place + 1));
+    }
+    if left - 5 <= u64::from(count) {
+        return Err(OpenError::Damaged(size));
+    }
+    let payload = bytes_at(alloc, disk, place + 5, count as usize)?;
+    Ok(Some(payload))
+}
+
+/// The payloads of a file that begins with an open seal, and the place of its last gate.
+fn read_entries<D: Disk>(
+    alloc: Global,
+    disk: &mut D,
+    size: u64,
+) -> Result<(Vec<Bytes>, u64), OpenError>
+    requires long { 18 ≤ size }
+    requires size { D.honest disk.old ≡ true → size ≡ length (D.content disk.old) }
+    ensures entries { D.honest disk.old ≡ true → IfOk result (λ found.
+        drop 17 (D.content disk.old) ≡ entries found.0.items ++ drop found.1 (D.content disk.old)) }
+    ensures closed { D.honest disk.old ≡ true → IfOk result (λ found. slice_index (D.content disk.old) found.1 ≢ 1) }
+    ensures end { IfOk result (λ found. found.1 ≡ end_of found.0.items) }
+    ensures within { IfOk result (λ found. found.1 < size) }
+    ensures short { IfOk result (λ found. AreShort found.0.items) }
+    ensures only_read { IsOnlyRead D.honest D.content D.image D.moment D.image_since D.faults disk.old disk.new }
+    ensures refused { IfErr result (λ e. RefusedFor (λ first. ⊥)
+        (λ damage. D.honest disk.old ≡ true → (epoch : ℕ) → read_from epoch 17 0 (drop 17 (D.content disk.old)) ≡ Damaged damage)
+        (Rose (D.faults disk.old) (D.faults disk.new)) e) }
+{
+    let mut payloads = Vec::new(alloc);
+    let mut place = 17;
+    while let Some(payload) = read_entry(alloc, disk, place, size)? {
+        place += 5 + payload.as_slice().len() as u64;
+        payloads.push(payload)?;
+    }
+    Ok((payloads, place))
+}
