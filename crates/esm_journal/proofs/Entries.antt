@@ -1,10 +1,10 @@
 -- What the bytes at an open gate say.
-use Rattle.std.proofs.Common.{◌≡◌, ℕ, zero, suc, ◌+◌, ◌-◌, ◌<◌, ◌≤◌, List, [], ◌∷◌, ◌++◌, length, take, drop, get_or, slice_index, nat_lt, if◌then◌else◌, arith, refl, sym, ap, ◌∙◌, length-drop, take-append-drop, append_assoc}
+use Rattle.std.proofs.Common.{◌≡◌, ℕ, zero, suc, ◌+◌, ◌<◌, ◌≤◌, List, [], ◌∷◌, ◌++◌, length, take, drop, get_or, slice_index, nat_lt, if◌then◌else◌, arith, refl, sym, ap, ◌∙◌, length-drop, take-append-drop, append_assoc}
 use Rattle.std.proofs.lemmas.List.{drop_more, drop-drop}
 use Rattle.std.proofs.lemmas.Bool.Decides.{nat_tests}
 use Rattle.std.proofs.lemmas.Nat.{be_bytes_4}
 use Rattle.std.specs.Int.{w32, to_be_bytes, from_be_bytes}
-use Rattle.esm_journal.specs.File.{max_payload, entry, Opening, Damaged, preceded, number_in, opened_entry, read_from}
+use Rattle.esm_journal.specs.File.{max_payload, entry, Opening, Damaged, preceded, number_in, read_from}
 use Rattle.esm_journal.proofs.Files.{whole, read_short}
 
 pub open_gate : (content : List ℕ) (place : ℕ) → place < length content → slice_index content place ≡ 1 → drop place content ≡ 1 ∷ drop (place + 1) content

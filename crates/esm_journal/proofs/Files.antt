@@ -1,12 +1,12 @@
 -- A file that is made of these payloads opens to them, whatever stands after the last gate.
-use Rattle.std.proofs.Common.{◌≡◌, ◌≢◌, ℕ, zero, suc, ◌+◌, ◌^◌, ◌<◌, ◌≤◌, ◌==◌, Bool, true, false, List, [], ◌∷◌, ◌++◌, length, take, drop, slice_index, nat_eq, nat_lt, arith, refl, sym, ap, subst, ◌∙◌, length-append, append_assoc, rules, if◌then◌else◌}
-use Rattle.std.proofs.lemmas.List.{take_at, drop_at, get_or_at, append-nil}
+use Rattle.std.proofs.Common.{◌≡◌, ◌≢◌, ℕ, zero, suc, ◌+◌, ◌^◌, ◌<◌, ◌≤◌, ◌==◌, Bool, true, List, [], ◌∷◌, ◌++◌, length, take, drop, slice_index, nat_eq, nat_lt, arith, refl, sym, ap, ◌∙◌, length-append, append_assoc, if◌then◌else◌}
+use Rattle.std.proofs.lemmas.List.{take_at, drop_at, get_or_at}
 use Rattle.std.proofs.lemmas.Bool.Decides.{nat_tests}
 use Rattle.std.proofs.lemmas.Nat.{from_be_bytes-to_be_bytes_4, from_be_bytes-to_be_bytes_8}
-use Rattle.std.specs.List.{All, starts_with}
+use Rattle.std.specs.List.{starts_with}
 use Rattle.std.specs.Cmp.Lexicographic.{pointwise}
-use Rattle.std.specs.Int.{w32, w64, to_be_bytes, from_be_bytes}
-use Rattle.esm_journal.specs.File.{max_payload, header_of, entry, entries, front, end_of, AreShort, IsFile, Opening, Holding, Foreign, Damaged, preceded, number_in, opened_entry, read_from, eight_at, epoch_in, opened}
+use Rattle.std.specs.Int.{w64, to_be_bytes, from_be_bytes}
+use Rattle.esm_journal.specs.File.{max_payload, entry, entries, front, end_of, AreShort, IsFile, Opening, Holding, Foreign, Damaged, preceded, number_in, read_from, eight_at, epoch_in, opened}
 
 -- bytes are passed
 pub read_past : (epoch place : ℕ) (bytes more : List ℕ) → read_from epoch place (length bytes) (bytes ++ more) ≡ read_from epoch (place + length bytes) 0 more
@@ -71,7 +71,7 @@ read_entries epoch place (payload ∷ payloads) more short =
     ∙ ap (preceded payload) (read_entries epoch (place + 5 + length payload) payloads more (later_short payload payloads short)
     ∙ ap (λ p. all_preceded payloads (read_from epoch p 0 more)) (omega (arith, size)))
 
-same_bytes : (xs : List ℕ) → pointwise nat_eq xs xs ≡ true
+pub same_bytes : (xs : List ℕ) → pointwise nat_eq xs xs ≡ true
 same_bytes [] = refl
 same_bytes (x ∷ xs) = grind (arith, nat_tests, same_bytes xs)
 

@@ -1,6 +1,10 @@
+pub mod Adds
 pub mod Entries
 pub mod Files
+pub mod FreshFiles
 pub mod Heads
 pub mod Loops
+pub mod Rooms
 pub mod Runs
+pub mod States
 pub mod Written

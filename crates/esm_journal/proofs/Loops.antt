@@ -1,6 +1,6 @@
 -- The loop that reads the entries of a file.
-use Rattle.std.proofs.Common.{◌≡◌, ◌≢◌, ℕ, ◌+◌, ◌<◌, ◌≤◌, Bool, true, List, [], ◌∷◌, ◌++◌, length, take, drop, slice_index, arith, refl, sym, ap, subst, ◌∙◌, append_assoc}
-use Rattle.esm_journal.specs.File.{max_payload, entry, entries, end_of, AreShort, Opening, Damaged, read_from}
+use Rattle.std.proofs.Common.{◌≡◌, ℕ, ◌+◌, ◌<◌, ◌≤◌, Bool, true, List, [], ◌∷◌, ◌++◌, length, drop, arith, refl, sym, ap, ◌∙◌, append_assoc}
+use Rattle.esm_journal.specs.File.{max_payload, entry, entries, end_of, AreShort, Damaged, read_from}
 use Rattle.esm_journal.specs.Reads.{IsOnlyRead}
 use Rattle.esm_journal.proofs.Files.{all_preceded, read_entries}
 use Rattle.esm_journal.proofs.Runs.{still, reads_on}

@@ -1,6 +1,6 @@
 -- How runs of device calls go on.
-use Rattle.std.proofs.Common.{◌≡◌, ℕ, ◌≤◌, Bool, true, List, inl, inr, ⊎_elim, arith, refl, sym, subst, ◌∙◌}
-use Rattle.esm_io.specs.Images.{Within, Elapses, LeavesOnly}
+use Rattle.std.proofs.Common.{◌≡◌, ℕ, Bool, true, List, inl, inr, ⊎_elim, arith, refl, ◌∙◌}
+use Rattle.esm_io.specs.Images.{LeavesOnly}
 use Rattle.esm_journal.specs.Reads.{IsOnlyRead, RefusedFor}
 use Rattle.esm_journal.specs.declared.error.OpenError.{OpenError}
 use Rattle.esm_journal.specs.declared.error.OpenError.TheVariants.{NotAJournal, Damaged, DiskFault, OutOfMemory}

@@ -1,10 +1,10 @@
 -- What writes leave of a file, whole or torn.
-use Rattle.std.proofs.Common.{◌≡◌, ◌≢◌, ◌⊎◌, inl, inr, ℕ, zero, suc, ◌+◌, ◌^◌, ◌<◌, ◌≤◌, max, List, [], ◌∷◌, ◌++◌, length, take, drop, slice_index, get_or, arith, refl, sym, ap, subst, ◌∙◌, length-append, append_assoc, take-append-drop, length-drop}
-use Rattle.std.proofs.lemmas.List.{take_at, drop_at, get_or_at, append-nil, drop_more, drop-drop, length-take}
+use Rattle.std.proofs.Common.{◌≡◌, ◌≢◌, ◌⊎◌, inl, inr, ℕ, zero, suc, ◌+◌, ◌^◌, ◌<◌, ◌≤◌, List, [], ◌∷◌, ◌++◌, length, drop, get_or, arith, refl, sym, ap, subst, ◌∙◌, length-append, append_assoc, take-append-drop}
+use Rattle.std.proofs.lemmas.List.{take_at, drop_at, append-nil, drop_more}
 use Rattle.std.proofs.lemmas.List.Elements.{All-append}
 use Rattle.std.proofs.lemmas.Bool.{cases_eq}
 use Rattle.std.proofs.Math.Seq.{drop-append-add}
-use Rattle.std.specs.Int.{w32, w64, to_be_bytes}
+use Rattle.std.specs.Int.{w64, to_be_bytes}
 use Rattle.esm_io.specs.Images.{overwritten, Torn}
 use Rattle.esm_journal.specs.File.{max_payload, entry, entries, front, end_of, AreShort, IsFile}
 

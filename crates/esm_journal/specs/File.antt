@@ -1,6 +1,6 @@
 -- The bytes of a journal's file. This product's own format: a header, an epoch, a seal byte, and entries, each behind
 -- a gate byte that is opened only once the whole entry is on the disk. Numbers are big-endian.
-use Rattle.std.specs.Prelude.{◌≢◌, ◌≡◌, ℕ, ◌+◌, ◌^◌, ◌<◌, ◌≤◌, ◌==◌, Bool, List, [], ◌∷◌, ◌++◌, length, take, drop, slice_index, nat_eq, nat_lt, if◌then◌else◌, replicate, zero, suc}
+use Rattle.std.specs.Prelude.{◌≢◌, ◌≡◌, ℕ, ◌+◌, ◌^◌, ◌<◌, ◌≤◌, ◌==◌, List, [], ◌∷◌, ◌++◌, length, take, drop, slice_index, nat_eq, nat_lt, if◌then◌else◌, zero, suc}
 use Rattle.std.specs.List.{All, starts_with}
 use Rattle.std.specs.Int.{w32, w64, to_be_bytes, from_be_bytes}
 
@@ -101,3 +101,11 @@ opened_rest bytes =
 -- what opening a file with this header finds
 abbrev pub opened : List ℕ → List ℕ → Opening
 opened header bytes = if starts_with nat_eq bytes header then opened_rest bytes else Foreign
+
+-- a file that was never sealed: the header, the epoch, a closed seal and a closed gate
+abbrev pub blank_file : List ℕ → ℕ → List ℕ
+blank_file header epoch = header ++ to_be_bytes w64 epoch ++ 0 ∷ 0 ∷ []
+
+-- a fresh file: epoch 1, an open seal and a closed gate
+abbrev pub fresh_file : List ℕ → List ℕ
+fresh_file header = header ++ to_be_bytes w64 1 ++ 1 ∷ 0 ∷ []

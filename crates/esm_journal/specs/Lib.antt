@@ -1,3 +1,6 @@
 pub mod File
 pub mod Reads
 pub mod Head
+pub mod Room
+pub mod Log
+pub mod State

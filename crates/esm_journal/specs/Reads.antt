@@ -2,6 +2,8 @@
 use Rattle.std.specs.Prelude.{◌≡◌, ℕ, ◌≤◌, Bool, true, List}
 use Rattle.esm_io.specs.Images.{Within, LeavesOnly}
 use Rattle.esm_io.specs.Faults.{MAX_FAULTS}
+use Rattle.esm_journal.specs.declared.error.InitError.{InitError}
+use Rattle.esm_journal.specs.declared.error.InitError.TheVariants as init_error
 use Rattle.esm_journal.specs.declared.error.OpenError.{OpenError}
 use Rattle.esm_journal.specs.declared.error.OpenError.TheVariants.{NotAJournal, Damaged, DiskFault, OutOfMemory}
 
@@ -21,3 +23,9 @@ RefusedFor foreign damaged rose (NotAJournal first) = foreign first
 RefusedFor foreign damaged rose (Damaged place) = damaged place
 RefusedFor foreign damaged rose DiskFault = rose
 RefusedFor foreign damaged rose OutOfMemory = Unit {0}
+
+-- why a file was not made: the disk has so many bytes; or its faults rose
+abbrev pub NotMadeFor : (ℕ → Type 0) → Type 0 → InitError → Type 0
+NotMadeFor not_empty rose (init_error.NotEmpty size) = not_empty size
+NotMadeFor not_empty rose init_error.DiskFault = rose
+NotMadeFor not_empty rose init_error.OutOfMemory = Unit {0}

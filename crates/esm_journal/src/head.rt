@@ -10,6 +10,7 @@ use crate::through::{read_at, size_of};
 use esm_io::{Disk, Failed};
 
 /// What stands at the front of a file, with 0 for each byte that is missing.
+#[derive(Drop)]
 pub(crate) struct Head {
     pub(crate) size: u64,
     pub(crate) first: [u8; 8],

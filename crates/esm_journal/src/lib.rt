@@ -5,8 +5,14 @@
 
 pub mod error;
 mod format;
+mod found;
+mod fresh;
 mod head;
+mod journal;
+mod log;
 mod reading;
+mod room;
 mod through;
 
 pub use error::{AppendError, InitError, OpenError};
+pub use journal::Journal;

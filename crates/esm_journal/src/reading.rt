@@ -104,7 +104,7 @@ fn read_entry<D: Disk>(
 }
 
 /// The payloads of a file that begins with an open seal, and the place of its last gate.
-fn read_entries<D: Disk>(
+pub(crate) fn read_entries<D: Disk>(
     alloc: Global,
     disk: &mut D,
     size: u64,

@@ -27,6 +27,7 @@ pub(crate) fn write_through<D: Disk>(disk: &mut D, at: u64, from: &[u8]) -> Resu
 pub(crate) fn size_of<D: Disk>(disk: &mut D) -> Result<u64, Failed>
     ensures size { D.honest disk.old ≡ true → IfOk result (λ n. n ≡ length (D.content disk.old)) }
     ensures only_read { IsOnlyRead D.honest D.content D.image D.moment D.image_since D.faults disk.old disk.new }
+    ensures count { IsCount (D.faults disk.old) (D.faults disk.new) }
     ensures cause { OnErr result (Rose (D.faults disk.old) (D.faults disk.new)) }
 {
     disk.len()
@@ -46,6 +47,7 @@ pub(crate) fn read_at<D: Disk>(disk: &mut D, at: u64, into: &mut [u8]) -> Result
 pub(crate) fn settle<D: Disk>(disk: &mut D) -> Result<(), Failed>
     ensures durable { D.honest disk.old ≡ true → OnOk result (Only (D.content disk.new) (D.image disk.new)) }
     ensures only_read { IsOnlyRead D.honest D.content D.image D.moment D.image_since D.faults disk.old disk.new }
+    ensures count { IsCount (D.faults disk.old) (D.faults disk.new) }
     ensures cause { OnErr result (Rose (D.faults disk.old) (D.faults disk.new)) }
 {
     disk.sync()

@@ -1,8 +1,5 @@
-use Rattle.std.proofs.Common.{◌≡◌, ◌≢◌, ◌+◌, ◌<◌, ◌≤◌, true, ℕ, List, [], ◌∷◌, ◌++◌, length, take, drop, slice_index, IfOk, IfErr, IfSome, OnOk, OnErr, arith, sym, ap, ◌∙◌}
+use Rattle.std.proofs.Common.{◌+◌, ℕ, List, length, arith, ap}
 use Rattle.std.proofs.lemmas.Result.{err_from_is_err_and}
-use Rattle.esm_io.specs.Faults.{Rose}
-use Rattle.esm_journal.specs.File.{max_payload, entry, entries, end_of, AreShort, Damaged, read_from}
-use Rattle.esm_journal.specs.Reads.{RefusedFor}
 use Rattle.esm_journal.proofs.Loops.{one_read, damaged_next}
 use Rattle.esm_journal.proofs.Runs.{refused_more}
 use Rattle.esm_journal.proofs.reading.read_entries.Goals as goal

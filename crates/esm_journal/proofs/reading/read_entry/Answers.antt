@@ -1,6 +1,5 @@
-use Rattle.std.proofs.Common.{◌≡◌, ℕ, ◌+◌, ◌<◌, ◌≤◌, length, take, drop, slice_index, get_or, arith, sym, ap, ◌∙◌}
-use Rattle.std.specs.Int.{w32, to_be_bytes}
-use Rattle.esm_journal.specs.File.{max_payload, number_in, Damaged}
+use Rattle.std.proofs.Common.{◌+◌, take, drop, arith, sym, ap, ◌∙◌}
+use Rattle.esm_journal.specs.File.{number_in, Damaged}
 use Rattle.esm_journal.proofs.Entries.{too_long, cut_short, whole_entry}
 use Rattle.esm_journal.proofs.reading.read_entry.Goals as goal
 

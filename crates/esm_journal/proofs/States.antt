@@ -1,0 +1,26 @@
+-- From what a log holds to what its file opens to.
+use Rattle.std.proofs.Common.{◌≡◌, inl, inr, ℕ, Bool, true, false, List, [], ◌∷◌, ◌++◌, length, subst}
+use Rattle.esm_io.specs.Images.{Only}
+use Rattle.esm_journal.specs.File.{IsFile}
+use Rattle.esm_journal.specs.Log.{IsLog, IsEither}
+use Rattle.esm_journal.specs.State.{OpensTo, OpensToEither, Keeps}
+use Rattle.esm_journal.specs.declared.log.Log.{Log}
+use Rattle.esm_journal.proofs.Files.{opened_file}
+
+pub opens : (header : List ℕ) (epoch : ℕ) (payloads : List (List ℕ)) (bytes : List ℕ) → length header ≡ 8 → IsFile header epoch payloads bytes → OpensTo header payloads bytes
+opens header epoch payloads bytes eight file = (epoch, opened_file header epoch payloads bytes eight file)
+
+pub opens_to_either : (header : List ℕ) (epoch : ℕ) (payloads : List (List ℕ)) (payload bytes : List ℕ) → length header ≡ 8 → IsEither header epoch payloads (payloads ++ payload ∷ []) bytes → OpensToEither header payloads payload bytes
+opens_to_either header epoch payloads payload bytes eight (inl file) = inl (opens header epoch payloads bytes eight file)
+opens_to_either header epoch payloads payload bytes eight (inr file) = inr (opens header epoch (payloads ++ payload ∷ []) bytes eight file)
+
+pub keeps : {D : Type 0} (honest : D → Bool) (content : D → List ℕ) (image : D → List ℕ → Type 0) (faults : D → ℕ) (header : List ℕ) (log : Log D) → log.header ≡ header → IsLog honest content image faults log
+    → honest log.disk ≡ true → log.down ≡ false → Keeps content image header log.payloads.items log.disk
+keeps honest content image faults header log is sound h up = record {
+  opens = subst (λ l. OpensTo l log.payloads.items (content log.disk)) is (opens log.header log.epoch log.payloads.items (content log.disk) sound.header (sound.file h up));
+  durable = sound.synced h up;
+}
+
+-- a disk with this file on it, all of it synced
+pub keeps_file : {D : Type 0} (content : D → List ℕ) (image : D → List ℕ → Type 0) (header : List ℕ) (epoch : ℕ) (payloads : List (List ℕ)) (disk : D) → length header ≡ 8 → IsFile header epoch payloads (content disk) → Only (content disk) (image disk) → Keeps content image header payloads disk
+keeps_file content image header epoch payloads disk eight file only = record { opens = opens header epoch payloads (content disk) eight file; durable = only }

@@ -1,0 +1,29 @@
+-- A file that is open: what is kept of it in memory, and what the disk holds.
+use Rattle.std.specs.Prelude.{◌≡◌, ◌+◌, ◌≤◌, ◌<◌, ◌^◌, ◌⊎◌, ℕ, Bool, true, false, List, length, vec_len, vec_capacity}
+use Rattle.esm_io.specs.Images.{Only}
+use Rattle.esm_io.specs.Faults.{MAX_FAULTS}
+use Rattle.esm_journal.specs.File.{end_of, IsFile}
+use Rattle.esm_journal.specs.Room.{total_room, AreSpares}
+use Rattle.esm_journal.specs.declared.log.Log.{Log}
+
+-- Where the disk is honest and no call of it failed, its file holds exactly these payloads, and is the only image.
+pub record IsLog {D : Type 0} (honest : D → Bool) (content : D → List ℕ) (image : D → List ℕ → Type 0) (faults : D → ℕ) (log : Log D) : Type 0 where
+  pub header : length log.header ≡ 8
+  pub file : honest log.disk ≡ true → log.down ≡ false → IsFile log.header log.epoch log.payloads.items (content log.disk)
+  pub synced : honest log.disk ≡ true → log.down ≡ false → Only (content log.disk) (image log.disk)
+  pub end : log.end ≡ end_of log.payloads.items
+  pub faults_fit : faults log.disk ≤ MAX_FAULTS
+  pub spares : AreSpares log.spares.items
+  pub total : log.end + total_room log.spares.items < 2 ^ 64
+  pub places : vec_len log.payloads + length log.spares.items ≤ vec_capacity log.payloads
+
+-- a call left the log as it was
+pub record IsUnchanged {D : Type 0} (old new : Log D) : Type 0 where
+  pub disk : new.disk ≡ old.disk
+  pub payloads : new.payloads.items ≡ old.payloads.items
+  pub spares : new.spares.items ≡ old.spares.items
+  pub down : new.down ≡ old.down
+
+-- the file holds these payloads or those
+abbrev pub IsEither : List ℕ → ℕ → List (List ℕ) → List (List ℕ) → List ℕ → Type 0
+IsEither header epoch one other bytes = IsFile header epoch one bytes ⊎ IsFile header epoch other bytes

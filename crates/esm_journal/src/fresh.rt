@@ -1,0 +1,64 @@
+// Fresh files.
+ghost use Rattle.std.specs.Prelude.{◌≡◌, ◌≢◌, ◌++◌, [], ◌∷◌, true, ℕ, length, IfErr, OnOk};
+ghost use Rattle.std.specs.Int.{w64, to_be_bytes};
+ghost use Rattle.esm_io.specs.Faults.{IsCount, Rose};
+ghost use Rattle.esm_io.specs.Images.{Only};
+ghost use Rattle.esm_journal.specs.File.{blank_file, fresh_file};
+ghost use Rattle.esm_journal.specs.Reads.{NotMadeFor};
+
+use crate::error::InitError;
+use crate::through::{settle, size_of, write_through};
+use esm_io::Disk;
+
+/// The 18 bytes of a file that was never sealed.
+fn blank_bytes(header: [u8; 8], epoch: u64) -> [u8; 18]
+    requires { length header ≡ 8 }
+    ensures { result ≡ blank_file header epoch }
+{
+    let mut bytes = [0; 18];
+    bytes[..8].copy_from_slice(&header);
+    bytes[8..16].copy_from_slice(&epoch.to_be_bytes());
+    bytes
+}
+
+/// Makes an empty disk a file that was never sealed.
+pub(crate) fn write_blank<D: Disk>(
+    disk: &mut D,
+    header: [u8; 8],
+    epoch: u64,
+) -> Result<(), InitError>
+    requires { length header ≡ 8 }
+    ensures made { D.honest disk.old ≡ true → OnOk result (D.content disk.new ≡ blank_file header epoch) }
+    ensures durable { D.honest disk.old ≡ true → OnOk result (Only (D.content disk.new) (D.image disk.new)) }
+    ensures was_empty { D.honest disk.old ≡ true → OnOk result (length (D.content disk.old) ≡ 0) }
+    ensures refused { IfErr result (λ e. NotMadeFor
+        (λ size. D.honest disk.old ≡ true → (size ≡ length (D.content disk.old)) × (size ≢ 0) × (D.content disk.new ≡ D.content disk.old))
+        (Rose (D.faults disk.old) (D.faults disk.new)) e) }
+    ensures honesty { D.honest disk.new ≡ D.honest disk.old }
+    ensures count { IsCount (D.faults disk.old) (D.faults disk.new) }
+{
+    settle(disk)?;
+    let size = size_of(disk)?;
+    if size != 0 {
+        return Err(InitError::NotEmpty(size));
+    }
+    write_through(disk, 0, &blank_bytes(header, epoch))?;
+    Ok(())
+}
+
+/// Makes an empty disk a fresh file: its seal is opened once the rest is on the disk.
+pub(crate) fn write_fresh<D: Disk>(disk: &mut D, header: [u8; 8]) -> Result<(), InitError>
+    requires { length header ≡ 8 }
+    ensures made { D.honest disk.old ≡ true → OnOk result (D.content disk.new ≡ fresh_file header) }
+    ensures durable { D.honest disk.old ≡ true → OnOk result (Only (D.content disk.new) (D.image disk.new)) }
+    ensures was_empty { D.honest disk.old ≡ true → OnOk result (length (D.content disk.old) ≡ 0) }
+    ensures refused { IfErr result (λ e. NotMadeFor
+        (λ size. D.honest disk.old ≡ true → (size ≡ length (D.content disk.old)) × (size ≢ 0) × (D.content disk.new ≡ D.content disk.old))
+        (Rose (D.faults disk.old) (D.faults disk.new)) e) }
+    ensures honesty { D.honest disk.new ≡ D.honest disk.old }
+    ensures count { IsCount (D.faults disk.old) (D.faults disk.new) }
+{
+    write_blank(disk, header, 1)?;
+    write_through(disk, 16, &[1])?;
+    Ok(())
+}

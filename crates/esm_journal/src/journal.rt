@@ -1,0 +1,160 @@
+ghost use Rattle.std.specs.Prelude.{◌≡◌, ◌≢◌, ◌+◌, ◌<◌, ◌≤◌, ℕ, List, [], ◌∷◌, ◌++◌, true, false, length, IfOk, IfErr, OnOk, OnErr, IsErrOf};
+ghost use Rattle.esm_io.specs.Faults.{IsCount, Rose};
+ghost use Rattle.esm_io.specs.Images.{LeavesOnly};
+ghost use Rattle.esm_journal.specs.File.{max_payload, header_of, Foreign, Damaged, eight_at, opened, fresh_file};
+ghost use Rattle.esm_journal.specs.Reads.{IsOnlyRead, RefusedFor, NotMadeFor};
+ghost use Rattle.esm_journal.specs.Room.{HasRoom, room_after};
+ghost use Rattle.esm_journal.specs.State.{OpensTo, OpensToEither, Keeps};
+
+use crate::error::{AppendError, InitError, OpenError};
+use crate::format::SINGLE;
+use crate::found::read_file;
+use crate::fresh::write_fresh;
+use crate::log::Log;
+use esm_io::Disk;
+use esm_model::{Bytes, OutOfMemory, Refused};
+use std::alloc::Global;
+use std::collections::VecDeque;
+use std::marker::Model;
+
+/// One file of payloads, with the header `ESMJ0001`. A payload that was added is in every image of the disk; one that
+/// was not is in none.
+#[derive(Drop)]
+pub struct Journal<D: Disk> {
+    log: Log<D>,
+}
+
+impl<D: Disk> Model for Journal<D> {
+    ghost use Rattle.std.specs.Prelude.{◌≡◌};
+    ghost use Rattle.esm_journal.specs.State.{JournalState, state_code};
+
+    ghost Value = { JournalState D };
+
+    ghost coded = { state_code D.code };
+
+    ghost use Rattle.esm_journal.specs.File.{header_of};
+    ghost use Rattle.esm_journal.specs.Room.{room_of};
+    ghost use Rattle.esm_journal.specs.Log.{IsLog};
+
+    ghost view = { λ j. record { payloads = j.log.payloads.items; down = j.log.down; room = room_of j.log.spares.items; disk = j.log.disk } };
+
+    ghost invariant = { λ j. IsLog D.honest D.content D.image D.faults j.log × (j.log.header ≡ header_of 1) };
+}
+
+impl<D: Disk> Journal<D> {
+    /// Makes an empty disk a journal without payloads, with all of it on the disk. `NotEmpty` where the disk has bytes,
+    /// with their number; nothing is written then.
+    pub fn init(alloc: Global, disk: D) -> Result<Journal<D>, Refused<InitError, D>>
+        ensures fresh { IfOk result (λ journal. (journal.payloads ≡ []) × (journal.down ≡ false) × (journal.room ≡ [])) }
+        ensures bytes { D.honest disk ≡ true → IfOk result (λ journal. D.content journal.disk ≡ fresh_file (header_of 1)) }
+        ensures kept { D.honest disk ≡ true → IfOk result (λ journal. Keeps D.content D.image (header_of 1) [] journal.disk) }
+        ensures was_empty { D.honest disk ≡ true → OnOk result (length (D.content disk) ≡ 0) }
+        ensures refused { IfErr result (λ refused. NotMadeFor
+            (λ size. D.honest disk ≡ true → (size ≡ length (D.content disk)) × (size ≢ 0) × (D.content refused.back ≡ D.content disk))
+            (Rose (D.faults disk) (D.faults refused.back)) refused.why) }
+        ensures honesty { IfOk result (λ journal. D.honest journal.disk ≡ D.honest disk) }
+        ensures back_honesty { IfErr result (λ refused. D.honest refused.back ≡ D.honest disk) }
+        ensures count { IfOk result (λ journal. IsCount (D.faults disk) (D.faults journal.disk)) }
+        ensures back_count { IfErr result (λ refused. IsCount (D.faults disk) (D.faults refused.back)) }
+    {
+        let mut disk = disk;
+        match write_fresh(&mut disk, SINGLE) {
+            Ok(()) => Ok(Journal {
+                log: Log {
+                    disk,
+                    header: SINGLE,
+                    epoch: 1,
+                    payloads: Vec::new(alloc),
+                    end: 17,
+                    spares: VecDeque::new(alloc),
+                    down: false,
+                },
+            }),
+            Err(why) => Err(Refused { why, back: disk }),
+        }
+    }
+
+    /// Opens a file: syncs the disk and reads the file, entry by entry. `NotAJournal` where it does not begin with the
+    /// header, with its first eight bytes; `Damaged` where it does and is damaged, with the place; nothing is written.
+    pub fn open(alloc: Global, disk: D) -> Result<Journal<D>, Refused<OpenError, D>>
+        ensures opened { D.honest disk ≡ true → IfOk result (λ journal. OpensTo (header_of 1) journal.payloads (D.content disk)) }
+        ensures kept { D.honest disk ≡ true → IfOk result (λ journal. Keeps D.content D.image (header_of 1) journal.payloads journal.disk) }
+        ensures fresh { IfOk result (λ journal. (journal.down ≡ false) × (journal.room ≡ [])) }
+        ensures only_read { IfOk result (λ journal. IsOnlyRead D.honest D.content D.image D.moment D.image_since D.faults disk journal.disk) }
+        ensures refused { IfErr result (λ refused. RefusedFor
+            (λ first. D.honest disk ≡ true → (opened (header_of 1) (D.content disk) ≡ Foreign) × (first ≡ eight_at (D.content disk) 0))
+            (λ place. D.honest disk ≡ true → opened (header_of 1) (D.content disk) ≡ Damaged place)
+            (Rose (D.faults disk) (D.faults refused.back)) refused.why) }
+        ensures back { IfErr result (λ refused. IsOnlyRead D.honest D.content D.image D.moment D.image_since D.faults disk refused.back) }
+    {
+        let mut disk = disk;
+        match read_file(alloc, &mut disk, SINGLE) {
+            Ok(found) => Ok(Journal {
+                log: Log {
+                    disk,
+                    header: SINGLE,
+                    epoch: found.epoch,
+                    payloads: found.payloads,
+                    end: found.end,
+                    spares: VecDeque::new(alloc),
+                    down: false,
+                },
+            }),
+            Err(why) => Err(Refused { why, back: disk }),
+        }
+    }
+
+    /// The payloads, in order.
+    pub fn payloads(&self) -> &[Bytes]
+        ensures payloads { result.now ≡ self.now.payloads }
+        ensures kept { D.honest self.now.disk ≡ true → self.now.down ≡ false → Keeps D.content D.image (header_of 1) self.now.payloads self.now.disk }
+    {
+        &self.log.payloads
+    }
+
+    /// Makes room for the next payloads: after its Ok the next calls of `append`, one for each length in this order and
+    /// of payloads that are not longer, do not answer `OutOfMemory`.
+    pub fn reserve(&mut self, alloc: Global, lengths: &[u32]) -> Result<(), OutOfMemory>
+        ensures room { OnOk result (self.new.room ≡ lengths.now) }
+        ensures kept { OnErr result (self.new ≡ self.old) }
+        ensures payloads { self.new.payloads ≡ self.old.payloads }
+        ensures down { self.new.down ≡ self.old.down }
+        ensures disk { self.new.disk ≡ self.old.disk }
+    {
+        self.log.reserve(alloc, lengths)
+    }
+
+    /// Adds a payload, in four calls of the disk. A crash at any moment leaves a file that opens to the payloads from
+    /// before the call, with the new one or without; after Ok every crash leaves the new one. After `DiskFault` the
+    /// journal is down until it is opened again; after the other errors nothing has changed.
+    pub fn append(&mut self, alloc: Global, payload: &[u8]) -> Result<(), AppendError>
+        ensures added { OnOk result (self.new.payloads ≡ self.old.payloads ++ payload.now ∷ []) }
+        ensures not_added { OnErr result (self.new.payloads ≡ self.old.payloads) }
+        ensures up { OnOk result (self.new.down ≡ false) }
+        ensures kept { D.honest self.new.disk ≡ true → self.new.down ≡ false → Keeps D.content D.image (header_of 1) self.new.payloads self.new.disk }
+        ensures any_moment { D.honest self.old.disk ≡ true → self.old.down ≡ false →
+            LeavesOnly D.moment D.image_since self.old.disk self.new.disk (OpensToEither (header_of 1) self.old.payloads payload.now) }
+        ensures fault { IsErrOf result AppendError.DiskFault → self.new.down ≡ true }
+        ensures cause { IsErrOf result AppendError.DiskFault → Rose (D.faults self.old.disk) (D.faults self.new.disk) }
+        ensures down { IsErrOf result AppendError.Down → (self.new ≡ self.old) × (self.old.down ≡ true) }
+        ensures is_down { self.old.down ≡ true → IsErrOf result AppendError.Down }
+        ensures too_long { (n : ℕ) → IsErrOf result (AppendError.TooLong n) →
+            (self.new ≡ self.old) × (self.old.down ≡ false) × (n ≡ length payload.now) × (max_payload < length payload.now) }
+        ensures is_too_long { self.old.down ≡ false → max_payload < length payload.now → IsErrOf result (AppendError.TooLong (length payload.now)) }
+        ensures no_memory { IsErrOf result AppendError.OutOfMemory → self.new ≡ self.old }
+        ensures has_room { HasRoom self.old.room (length payload.now) → IsErrOf result AppendError.OutOfMemory → ⊥ }
+        ensures room { OnOk result (self.new.room ≡ room_after self.old.room (length payload.now)) }
+        ensures honesty { D.honest self.new.disk ≡ D.honest self.old.disk }
+        ensures count { IsCount (D.faults self.old.disk) (D.faults self.new.disk) }
+    {
+        self.log.append(alloc, payload)
+    }
+
+    /// The disk, as the calls on it left it.
+    pub fn into_disk(self) -> D
+        ensures { result ≡ self.disk }
+    {
+        let Journal { log } = self;
+        log.disk
+    }
+}

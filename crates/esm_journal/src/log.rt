@@ -1,0 +1,113 @@
+// A file that is open: what is kept of it in memory, and its disk.
+ghost use Rattle.std.specs.Prelude.{◌≡◌, ◌+◌, ◌<◌, ◌≤◌, ◌^◌, ◌⊎◌, ℕ, List, [], ◌∷◌, ◌++◌, true, false, length, OnOk, OnErr, IsErrOf};
+ghost use Rattle.esm_io.specs.Faults.{IsCount, Rose};
+ghost use Rattle.esm_io.specs.Images.{overwritten, Torn, Only, LeavesOnly};
+ghost use Rattle.esm_journal.specs.File.{max_payload};
+ghost use Rattle.esm_journal.specs.Room.{HasRoom, room_after, room_of};
+
+use crate::error::AppendError;
+use crate::format::MAX_PAYLOAD;
+use crate::room::{framed, make_spares, payload_of};
+use crate::through::write_through;
+use esm_io::{Disk, Failed};
+use esm_model::{Bytes, OutOfMemory};
+use std::alloc::Global;
+use std::collections::VecDeque;
+
+#[derive(Drop)]
+pub(crate) struct Log<D: Disk> {
+    pub(crate) disk: D,
+    pub(crate) header: [u8; 8],
+    pub(crate) epoch: u64,
+    pub(crate) payloads: Vec<Bytes>,
+    /// The place of the last gate.
+    pub(crate) end: u64,
+    /// Empty buffers for the entries of payloads to come.
+    pub(crate) spares: VecDeque<Vec<u8>>,
+    /// A call of the disk failed.
+    pub(crate) down: bool,
+}
+
+/// Writes an entry and a next gate behind a gate, syncs, and only then opens that gate, and syncs. A crash at any moment
+/// leaves other bytes behind the gate alone, or the entry whole and another gate.
+fn add_entry<D: Disk>(disk: &mut D, gate: u64, frame: &[u8]) -> Result<(), Failed>
+    requires synced { D.honest disk.old ≡ true → Only (D.content disk.old) (D.image disk.old) }
+    requires within { D.honest disk.old ≡ true → gate < length (D.content disk.old) }
+    requires fits { gate + 1 < 2 ^ 64 }
+    ensures written { D.honest disk.old ≡ true → OnOk result (D.content disk.new ≡ overwritten (overwritten (D.content disk.old) (gate + 1) frame.now) gate (1 ∷ [])) }
+    ensures durable { D.honest disk.old ≡ true → OnOk result (Only (D.content disk.new) (D.image disk.new)) }
+    ensures any_moment { D.honest disk.old ≡ true → LeavesOnly D.moment D.image_since disk.old disk.new
+        (λ image. Torn (gate + 1) (length frame.now) (D.content disk.old) image ⊎ Torn gate 1 (overwritten (D.content disk.old) (gate + 1) frame.now) image) }
+    ensures honesty { D.honest disk.new ≡ D.honest disk.old }
+    ensures count { IsCount (D.faults disk.old) (D.faults disk.new) }
+    ensures cause { OnErr result (Rose (D.faults disk.old) (D.faults disk.new)) }
+{
+    write_through(disk, gate + 1, frame)?;
+    write_through(disk, gate, &[1])
+}
+
+impl<D: Disk> Log<D> {
+    ghost use Rattle.esm_journal.specs.Log.{IsLog, IsUnchanged, IsEither};
+
+    /// Makes room for the next payloads of these lengths.
+    pub(crate) fn reserve(&mut self, alloc: Global, lengths: &[u32]) -> Result<(), OutOfMemory>
+        requires { IsLog D.honest D.content D.image D.faults self.old }
+        ensures log { IsLog D.honest D.content D.image D.faults self.new }
+        ensures room { OnOk result (room_of self.new.spares.items ≡ lengths.now) }
+        ensures kept { OnErr result (IsUnchanged self.old self.new) }
+        ensures disk { self.new.disk ≡ self.old.disk }
+        ensures payloads { self.new.payloads.items ≡ self.old.payloads.items }
+        ensures down { self.new.down ≡ self.old.down }
+        ensures header { self.new.header ≡ self.old.header }
+        ensures epoch { self.new.epoch ≡ self.old.epoch }
+    {
+        let spares = make_spares(alloc, self.end, lengths)?;
+        self.payloads.reserve(lengths.len())?;
+        self.spares = spares;
+        Ok(())
+    }
+
+    /// Adds a payload behind those that are there. Four device calls.
+    pub(crate) fn append(&mut self, alloc: Global, payload: &[u8]) -> Result<(), AppendError>
+        requires { IsLog D.honest D.content D.image D.faults self.old }
+        ensures log { IsLog D.honest D.content D.image D.faults self.new }
+        ensures header { self.new.header ≡ self.old.header }
+        ensures epoch { self.new.epoch ≡ self.old.epoch }
+        ensures added { OnOk result (self.new.payloads.items ≡ self.old.payloads.items ++ payload.now ∷ []) }
+        ensures not_added { OnErr result (self.new.payloads.items ≡ self.old.payloads.items) }
+        ensures up { OnOk result (self.new.down ≡ false) }
+        ensures was_up { OnOk result (self.old.down ≡ false) }
+        ensures room_used { OnOk result (room_of self.new.spares.items ≡ room_after (room_of self.old.spares.items) (length payload.now)) }
+        ensures down { IsErrOf result AppendError.Down → IsUnchanged self.old self.new × (self.old.down ≡ true) }
+        ensures is_down { self.old.down ≡ true → IsErrOf result AppendError.Down }
+        ensures too_long { (n : ℕ) → IsErrOf result (AppendError.TooLong n) → IsUnchanged self.old self.new × (self.old.down ≡ false) × (n ≡ length payload.now) × (max_payload < length payload.now) }
+        ensures is_too_long { self.old.down ≡ false → max_payload < length payload.now → IsErrOf result (AppendError.TooLong (length payload.now)) }
+        ensures no_memory { IsErrOf result AppendError.OutOfMemory → IsUnchanged self.old self.new × (HasRoom (room_of self.old.spares.items) (length payload.now) → ⊥) }
+        ensures fault { IsErrOf result AppendError.DiskFault → (self.new.down ≡ true) × Rose (D.faults self.old.disk) (D.faults self.new.disk) }
+        ensures any_moment { D.honest self.old.disk ≡ true → self.old.down ≡ false → LeavesOnly D.moment D.image_since self.old.disk self.new.disk
+            (IsEither self.old.header self.old.epoch self.old.payloads.items (self.old.payloads.items ++ payload.now ∷ [])) }
+        ensures honesty { D.honest self.new.disk ≡ D.honest self.old.disk }
+        ensures count { IsCount (D.faults self.old.disk) (D.faults self.new.disk) }
+    {
+        if self.down {
+            return Err(AppendError::Down);
+        }
+        if payload.len() as u64 > MAX_PAYLOAD {
+            return Err(AppendError::TooLong(payload.len() as u64));
+        }
+        if self.payloads.reserve(1).is_err() {
+            return Err(AppendError::OutOfMemory);
+        }
+        let Ok(frame) = framed(alloc, &mut self.spares, self.end, payload) else {
+            return Err(AppendError::OutOfMemory);
+        };
+        if add_entry(&mut self.disk, self.end, &frame).is_err() {
+            self.down = true;
+            return Err(AppendError::DiskFault);
+        }
+        self.end += payload.len() as u64 + 5;
+        self.payloads
+            .push_reserved(Bytes::from_vec(payload_of(frame)));
+        Ok(())
+    }
+}
