@@ -4,6 +4,7 @@
 #![tactic(auto)]
 
 pub mod error;
+mod file_dest;
 mod format;
 mod found;
 mod fresh;
@@ -15,4 +16,5 @@ mod room;
 mod through;
 
 pub use error::{AppendError, InitError, OpenError};
+pub use file_dest::FileDest;
 pub use journal::Journal;

@@ -1,0 +1,97 @@
+ghost use Rattle.std.specs.Prelude.{◌≡◌, ◌≤◌, ◌++◌, ℕ, List, [], ◌∷◌, true, false, Some, length, OnOk, OnErr, IsErrOf};
+ghost use Rattle.esm_io.specs.Faults.{IsCount, Rose};
+ghost use Rattle.esm_io.specs.Images.{LeavesOnly};
+ghost use Rattle.esm_io.specs.Told.{Grows};
+ghost use Rattle.esm_journal.specs.File.{max_payload, header_of};
+ghost use Rattle.esm_journal.specs.Room.{HasRoom};
+ghost use Rattle.esm_journal.specs.State.{OpensToEither, Keeps};
+
+use crate::error::AppendError;
+use crate::format::MAX_PAYLOAD;
+use crate::journal::Journal;
+use esm_io::{Dest, DestError, Disk};
+use esm_model::OutOfMemory;
+use std::alloc::Global;
+use std::marker::Model;
+
+/// A destination that is a file: each line is a payload of a journal, without its line feed.
+#[derive(Drop)]
+pub struct FileDest<D: Disk> {
+    journal: Journal<D>,
+}
+
+impl<D: Disk> Model for FileDest<D> {
+    ghost use Rattle.esm_journal.specs.State.{JournalState, state_code};
+
+    ghost Value = { JournalState D };
+
+    ghost coded = { state_code D.code };
+
+    ghost view = { λ d. d.journal };
+}
+
+impl<D: Disk> FileDest<D> {
+    pub fn new(journal: Journal<D>) -> FileDest<D>
+        requires { journal.down ≡ false }
+        ensures { result ≡ journal }
+    {
+        FileDest { journal }
+    }
+
+    /// The journal, as the deliveries left it.
+    pub fn into_journal(self) -> Journal<D>
+        ensures { result ≡ self }
+    {
+        let FileDest { journal } = self;
+        journal
+    }
+}
+
+impl<D: Disk> Dest for FileDest<D> {
+    ghost faults = { λ d. D.faults d.disk };
+
+    ghost sends = { λ line. line };
+
+    ghost lines = { λ d. Some d.payloads };
+
+    ghost failed = { λ d. d.down };
+
+    ghost has_room = { λ d n. n ≤ max_payload → HasRoom d.room n };
+
+    fn reserve(&mut self, alloc: Global, bytes: u64) -> Result<(), OutOfMemory>
+        ensures room { OnOk result ((n : ℕ) → n ≤ bytes → n ≤ max_payload → HasRoom self.new.room n) }
+        ensures lines_kept { self.new.payloads ≡ self.old.payloads }
+        ensures failed_kept { self.new.down ≡ self.old.down }
+        ensures disk_kept { self.new.disk ≡ self.old.disk }
+        ensures count { D.faults self.new.disk ≡ D.faults self.old.disk }
+    {
+        self.journal
+            .reserve(alloc, &[bytes.min(MAX_PAYLOAD) as u32])
+    }
+
+    /// After Ok every image of the disk has the line. After `Failed` an image may have it whole, or not at all.
+    fn deliver(&mut self, alloc: Global, line: &[u8]) -> Result<(), DestError>
+        requires short { length line.now ≤ 16777216 }
+        requires usable { self.old.down ≡ false }
+        ensures sent { OnOk result (Grows (Some self.old.payloads) (Some self.new.payloads) (line.now ∷ [])) }
+        ensures unsent { OnErr result (self.new.payloads ≡ self.old.payloads) }
+        ensures usable_still { OnOk result (self.new.down ≡ false) }
+        ensures usable_again { IsErrOf result DestError.OutOfMemory → self.new.down ≡ false }
+        ensures unchanged { IsErrOf result DestError.OutOfMemory → self.new ≡ self.old }
+        ensures down { IsErrOf result DestError.Failed → self.new.down ≡ true }
+        ensures room { IsErrOf result DestError.OutOfMemory → (length line.now ≤ max_payload → HasRoom self.old.room (length line.now)) → ⊥ }
+        ensures kept { D.honest self.new.disk ≡ true → self.new.down ≡ false → Keeps D.content D.image (header_of 1) self.new.payloads self.new.disk }
+        ensures any_moment { D.honest self.old.disk ≡ true →
+            LeavesOnly D.moment D.image_since self.old.disk self.new.disk (OpensToEither (header_of 1) self.old.payloads line.now) }
+        ensures honesty { D.honest self.new.disk ≡ D.honest self.old.disk }
+        ensures count { IsCount (D.faults self.old.disk) (D.faults self.new.disk) }
+        ensures cause { IsErrOf result DestError.Failed → Rose (D.faults self.old.disk) (D.faults self.new.disk) }
+    {
+        match self.journal.append(alloc, line) {
+            Ok(()) => Ok(()),
+            Err(AppendError::OutOfMemory) => Err(DestError::OutOfMemory),
+            Err(AppendError::DiskFault) => Err(DestError::Failed),
+            Err(AppendError::TooLong(_) | AppendError::Down) => unreachable!(),
+        }
+    }
+}
