@@ -4,7 +4,9 @@ pub mod Files
 pub mod FreshFiles
 pub mod Heads
 pub mod Loops
+pub mod Pairs
 pub mod Rooms
 pub mod Runs
 pub mod States
+pub mod WorkedFile
 pub mod Written

@@ -4,3 +4,5 @@ pub mod Head
 pub mod Room
 pub mod Log
 pub mod State
+pub mod Pair
+pub mod Worked

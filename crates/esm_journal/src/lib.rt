@@ -18,3 +18,6 @@ mod through;
 pub use error::{AppendError, InitError, OpenError};
 pub use file_dest::FileDest;
 pub use journal::Journal;
+
+#[cfg(test)]
+mod tests;

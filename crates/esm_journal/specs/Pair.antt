@@ -1,0 +1,67 @@
+-- Two files of which one is in use: the sealed one with the greater epoch.
+use Rattle.std.specs.Prelude.{◌≡◌, ◌≤◌, ◌<◌, ◌==◌, ◌&&◌, ◌||◌, not, ℕ, Bool, true, List, length, slice_index, nat_eq, nat_lt, if◌then◌else◌, refl}
+use Rattle.std.specs.Cmp.Lexicographic.{pointwise}
+use Rattle.std.specs.Coded.{Coded, code_by, coded×, coded_ℕ, coded_bool, coded_list}
+use Rattle.esm_io.specs.Images.{Only}
+use Rattle.esm_journal.specs.File.{Opening, Holding, Foreign, Damaged, IsFile, eight_at, epoch_in, opened_rest}
+
+-- it begins with the header and its seal is open
+abbrev pub is_sealed : List ℕ → List ℕ → Bool
+is_sealed header bytes = pointwise nat_eq (eight_at bytes 0) header && (slice_index bytes 16 == 1)
+
+-- the first of two files is taken: it is sealed, and the other is not or has a lower epoch
+abbrev pub is_taken : List ℕ → List ℕ → List ℕ → Bool
+is_taken header bytes other = is_sealed header bytes && (not (is_sealed header other) || nat_lt (epoch_in other) (epoch_in bytes))
+
+-- what the file that is taken says, beside another of so many bytes
+abbrev pub beside : Opening → ℕ → Opening
+beside (Holding epoch payloads) size = if nat_lt size 18 then Damaged size else Holding epoch payloads
+beside Foreign size = Foreign
+beside (Damaged place) size = Damaged place
+
+-- what opening a pair with this header finds
+abbrev pub pair_opened : List ℕ → List ℕ → List ℕ → Opening
+pair_opened header first second =
+    if is_taken header first second then beside (opened_rest first) (length second)
+    else if is_taken header second first then beside (opened_rest second) (length first)
+    else Foreign
+
+-- beside a file of this epoch in use this one is not taken, nor does it hinder the other
+pub record IsSpare (header : List ℕ) (epoch : ℕ) (bytes : List ℕ) : Type 0 where
+  pub long : 18 ≤ length bytes
+  pub lower : is_sealed header bytes ≡ true → epoch_in bytes < epoch
+
+-- a pair: its payloads in order; the epoch of the disk in use; whether a call of a disk failed; the lengths of the next
+-- payloads for which there is memory; the disk in use and the spare one; and whether the one in use is the second that
+-- was handed in
+pub record PairState (D : Type 0) : Type 0 where
+  pub payloads : List (List ℕ)
+  pub epoch : ℕ
+  pub down : Bool
+  pub room : List ℕ
+  pub used : D
+  pub spare : D
+  pub swapped : Bool
+
+-- a state is stored as the tuple of its fields
+abbrev pub pair_code : {D : Type 0} → Coded D → Coded (PairState D)
+pair_code {D} code =
+    code_by (List (List ℕ) × (ℕ × (Bool × (List ℕ × (D × (D × Bool))))))
+    (coded× (coded_list (coded_list coded_ℕ)) (coded× coded_ℕ (coded× coded_bool (coded× (coded_list coded_ℕ) (coded× code (coded× code coded_bool))))))
+    (λ s. (s.payloads, (s.epoch, (s.down, (s.room, (s.used, (s.spare, s.swapped)))))))
+    (λ p. record { payloads = p.0; epoch = p.1.0; down = p.1.1.0; room = p.1.1.1.0; used = p.1.1.1.1.0; spare = p.1.1.1.1.1.0; swapped = p.1.1.1.1.1.1 }) (λ _. refl)
+
+-- the first and the second disk, as they were handed in
+abbrev pub first_disk : {D : Type 0} → PairState D → D
+first_disk s = if s.swapped then s.spare else s.used
+
+abbrev pub second_disk : {D : Type 0} → PairState D → D
+second_disk s = if s.swapped then s.used else s.spare
+
+-- What the disks of a pair hold: the one in use exactly these payloads, the other nothing that is taken; each is its
+-- only image. So each image of the pair opens to the payloads, in whichever order the disks are handed in.
+pub record PairKeeps {D : Type 0} (content : D → List ℕ) (image : D → List ℕ → Type 0) (header : List ℕ) (epoch : ℕ) (payloads : List (List ℕ)) (used spare : D) : Type 0 where
+  pub file : IsFile header epoch payloads (content used)
+  pub durable : Only (content used) (image used)
+  pub beside : IsSpare header epoch (content spare)
+  pub spare_durable : Only (content spare) (image spare)

@@ -1,0 +1,71 @@
+use super::*;
+use esm_io::{Dest, MemDisk};
+use std::alloc::Global;
+use std::test::Fail;
+
+/// A journal's file with the payload of one record that succeeded.
+const FILE: [u8; 52] =
+    *b"ESMJ0001\0\0\0\0\0\0\0\x01\x01\x01\0\0\0\x1d\x01\0\0\0\0\0\0\0\0\x01\0\0\0\0\0\0\0\0\0\0\0\0\x01\0\0\0\0\x011\0";
+
+const PAYLOAD: [u8; 29] = *b"\x01\0\0\0\0\0\0\0\0\x01\0\0\0\0\0\0\0\0\0\0\0\0\x01\0\0\0\0\x011";
+
+/// How many payloads a journal has after the `k`-th call of its disk failed while one was added, and a crash.
+fn left_after(alloc: Global, k: u64, choice: u64) -> Result<usize, Fail> {
+    let fails = [k].to_vec(alloc)?;
+    let mut journal = Journal::init(alloc, MemDisk::new(alloc, Vec::new(alloc), fails))?;
+    let added = journal.append(alloc, &PAYLOAD);
+    if !matches!(&added, Err(AppendError::DiskFault)) {
+        return Ok(99);
+    }
+    let disk = journal.into_disk().crash(alloc, choice)?;
+    Ok(Journal::open(alloc, disk)?.payloads().len())
+}
+
+/// The calls of `append` are the disk's calls 6 to 9: a write, a sync, the gate's write, a sync.
+#[test]
+fn append_stopped(rt: HostRuntime) -> Result<(), Fail> {
+    let alloc = rt.alloc();
+    for k in 6..9 {
+        assert_eq!(rt; left_after(alloc, k, 0)?, 0);
+        assert_eq!(rt; left_after(alloc, k, 1)?, 0);
+        assert_eq!(rt; left_after(alloc, k, 165)?, 0);
+    }
+    assert_eq!(rt; left_after(alloc, 9, 0)?, 0);
+    assert_eq!(rt; left_after(alloc, 9, 1)?, 1);
+    assert_eq!(rt; left_after(alloc, 9, 165)?, 0);
+    Ok(())
+}
+
+#[test]
+fn journal_has_the_bytes(rt: HostRuntime) -> Result<(), Fail> {
+    let alloc = rt.alloc();
+    let disk = MemDisk::new(alloc, Vec::new(alloc), Vec::new(alloc));
+    let mut journal = Journal::init(alloc, disk)?;
+    journal.reserve(alloc, &[29])?;
+    journal.append(alloc, &PAYLOAD)?;
+    let disk = journal.into_disk();
+    assert_eq!(rt; disk.bytes(), FILE.as_slice());
+    Ok(())
+}
+
+#[test]
+fn payload_bytes(rt: HostRuntime) -> Result<(), Fail> {
+    let alloc = rt.alloc();
+    let disk = MemDisk::new(alloc, FILE.to_vec(alloc)?, Vec::new(alloc));
+    let mut journal = Journal::open(alloc, disk)?;
+    let long = vec![in alloc; 0; 16_777_217]?;
+    let added = journal.append(alloc, &long);
+    assert!(rt; matches!(&added, Err(AppendError::TooLong(16_777_217))));
+    Ok(())
+}
+
+#[test]
+fn lines_are_delivered(rt: HostRuntime) -> Result<(), Fail> {
+    let alloc = rt.alloc();
+    let disk = MemDisk::new(alloc, FILE.to_vec(alloc)?, Vec::new(alloc));
+    let mut dest = FileDest::new(Journal::open(alloc, disk)?);
+    dest.reserve(alloc, 2)?;
+    dest.deliver(alloc, b"{}")?;
+    assert_eq!(rt; dest.into_journal().payloads().len(), 2);
+    Ok(())
+}
