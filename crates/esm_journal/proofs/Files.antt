@@ -129,3 +129,26 @@ opened_file header epoch payloads bytes eight file =
     ∙ opened_front header epoch payloads (file.gate ∷ file.rest) eight file.epoch_fits file.short (omega arith)
     ∙ ap (all_preceded payloads) (read_closed epoch (end_of payloads) file.gate file.rest file.closed)
     ∙ all_of epoch payloads
+
+-- the parts of a file's front
+module _ (header : List ℕ) (epoch : ℕ) (payloads : List (List ℕ)) (bytes : List ℕ) (eight : length header ≡ 8) (file : IsFile header epoch payloads bytes) where
+  behind_header : List ℕ
+  behind_header = to_be_bytes w64 epoch ++ 1 ∷ (entries payloads ++ file.gate ∷ file.rest)
+
+  split : bytes ≡ header ++ (to_be_bytes w64 epoch ++ 1 ∷ (entries payloads ++ file.gate ∷ file.rest))
+  split = file.bytes_are ∙ simp append_assoc
+
+  pub first_of_file : eight_at bytes 0 ≡ header
+  first_of_file =
+      sym (eight_is bytes (omega (arith, ap (λ (l : List ℕ). length l) split, length-append header (to_be_bytes w64 epoch ++ 1 ∷ (entries payloads ++ file.gate ∷ file.rest)), eight)))
+      ∙ ap (take 8) split ∙ take_at header (to_be_bytes w64 epoch ++ 1 ∷ (entries payloads ++ file.gate ∷ file.rest)) 8 eight
+
+  pub epoch_of_file : epoch_in bytes ≡ epoch
+  epoch_of_file =
+      ap (from_be_bytes w64) (eight_drop bytes ∙ ap (λ l. eight_at l 0) (ap (drop 8) split ∙ drop_at header (to_be_bytes w64 epoch ++ 1 ∷ (entries payloads ++ file.gate ∷ file.rest)) 8 eight))
+      ∙ from_be_bytes-to_be_bytes_8 epoch file.epoch_fits
+
+  pub seal_of_file : slice_index bytes 16 ≡ 1
+  seal_of_file =
+      ap (λ l. slice_index l 16) (split ∙ sym (append_assoc header (to_be_bytes w64 epoch) (1 ∷ (entries payloads ++ file.gate ∷ file.rest))))
+      ∙ get_or_at (header ++ to_be_bytes w64 epoch) 1 (entries payloads ++ file.gate ∷ file.rest) 0 16 (simp length-append (omega arith))

@@ -107,3 +107,11 @@ differ xs ys told same = clash (pointwise nat_eq xs ys) told (ap (pointwise nat_
     clash : (b : Bool) → not b ≡ true → b ≡ true → ⊥
     clash true told is = cc
     clash false told is = cc
+
+-- a test told that two lists do not differ
+pub agree : (xs ys : List ℕ) → not (pointwise nat_eq xs ys) ≡ false → xs ≡ ys
+agree xs ys told = same_text xs ys (held (pointwise nat_eq xs ys) told)
+  where
+    held : (b : Bool) → not b ≡ false → true ≡ b
+    held true told = refl
+    held false told = cc

@@ -1,8 +1,12 @@
 -- What images of a pair open to.
-use Rattle.std.proofs.Common.{◌≡◌, ℕ, ◌≤◌, ◌<◌, ◌&&◌, ◌||◌, not, Bool, true, false, List, length, nat_lt, if◌then◌else◌, arith, refl, ap, ◌∙◌}
+use Rattle.std.proofs.Common.{◌==◌, ◌≡◌, ◌≢◌, ◌⊎◌, inl, inr, ℕ, ◌+◌, ◌≤◌, ◌<◌, ◌&&◌, ◌||◌, not, Bool, true, false, List, [], ◌∷◌, ◌++◌, length, slice_index, nat_eq, nat_lt, if◌then◌else◌, arith, refl, sym, ap, subst, ◌∙◌}
 use Rattle.std.proofs.lemmas.Bool.Decides.{nat_tests}
-use Rattle.esm_journal.specs.File.{Holding, Foreign, epoch_in, opened_rest}
+use Rattle.std.specs.Cmp.Lexicographic.{pointwise, same_text}
+use Rattle.esm_journal.specs.File.{Opening, Holding, Foreign, Damaged, IsFile, end_of, eight_at, epoch_in, opened_rest, opened}
 use Rattle.esm_journal.specs.Pair.{is_sealed, is_taken, beside, pair_opened, IsSpare}
+use Rattle.esm_journal.proofs.Files.{opened_file, same_bytes, first_of_file, epoch_of_file, seal_of_file}
+use Rattle.esm_journal.proofs.Written.{end_within}
+use Rattle.esm_journal.proofs.Heads.{same_header}
 
 -- a file of these payloads, as its front
 pub record Sealed (header : List ℕ) (epoch : ℕ) (payloads : List (List ℕ)) (bytes : List ℕ) : Type 0 where
@@ -37,3 +41,74 @@ used_second header epoch payloads used spare s b =
     ap (λ c. if c then beside (opened_rest spare) (length used) else if is_taken header used spare then beside (opened_rest used) (length spare) else Foreign) n
     ∙ ap (λ c. if c then beside (opened_rest used) (length spare) else Foreign) t
     ∙ ap (λ o. beside o (length spare)) s.says ∙ beside_long epoch payloads (length spare) b.long
+
+-- a file of these payloads is sealed, whatever stands after its last gate
+pub sealed_file : (header : List ℕ) (epoch : ℕ) (payloads : List (List ℕ)) (bytes : List ℕ) → length header ≡ 8 → IsFile header epoch payloads bytes → Sealed header epoch payloads bytes
+sealed_file header epoch payloads bytes eight file =
+    let first = first_of_file header epoch payloads bytes eight file in
+    let seal = seal_of_file header epoch payloads bytes eight file in
+    let long = long_file header epoch payloads bytes eight file in
+    record {
+      seal = both (pointwise nat_eq (eight_at bytes 0) header) (slice_index bytes 16) (ap (λ l. pointwise nat_eq l header) first ∙ same_bytes header) seal;
+      epoch_is = epoch_of_file header epoch payloads bytes eight file;
+      says = sym (same_header header bytes eight (omega (arith, long)) first) ∙ opened_file header epoch payloads bytes eight file;
+      long = long;
+    }
+  where
+    both : (a : Bool) (n : ℕ) → a ≡ true → n ≡ 1 → (a && (n == 1)) ≡ true
+    both a n is one = grind (arith, nat_tests)
+
+    long_file : (header : List ℕ) (epoch : ℕ) (payloads : List (List ℕ)) (bytes : List ℕ) → length header ≡ 8 → IsFile header epoch payloads bytes → 18 ≤ length bytes
+    long_file header epoch payloads bytes eight file = omega (arith, end_within header epoch payloads bytes eight file)
+
+-- a file that was replaced is no hindrance to one of a higher epoch
+pub old_file_beside : (header : List ℕ) (epoch higher : ℕ) (payloads : List (List ℕ)) (bytes : List ℕ) → length header ≡ 8 → IsFile header epoch payloads bytes → epoch < higher → IsSpare header higher bytes
+old_file_beside header epoch higher payloads bytes eight file lt =
+    let s = sealed_file header epoch payloads bytes eight file in
+    record { long = s.long; lower = λ e. omega (arith, lt, s.epoch_is) }
+
+-- the file that is taken holds its payloads, and the other is cut short
+pub beside_short : (header : List ℕ) (epoch : ℕ) (payloads : List (List ℕ)) (bytes : List ℕ) (size : ℕ) → length header ≡ 8 → IsFile header epoch payloads bytes → size < 18 → beside (opened_rest bytes) size ≡ Damaged size
+beside_short header epoch payloads bytes size eight file short = ap (λ o. beside o size) (sealed_file header epoch payloads bytes eight file).says ∙ cut epoch payloads size short
+  where
+    cut : (epoch : ℕ) (payloads : List (List ℕ)) (size : ℕ) → size < 18 → beside (Holding epoch payloads) size ≡ Damaged size
+    cut epoch payloads size short = grind (arith, nat_tests)
+
+damaged_beside : (place size : ℕ) → beside (Damaged place) size ≡ Damaged place
+damaged_beside place size = refl
+
+lower_of : (sealed other : Bool) (lower epoch : ℕ) → (sealed && (not other || nat_lt lower epoch)) ≡ true → other ≡ true → lower < epoch
+lower_of true true lower epoch is e = grind (arith, nat_tests)
+lower_of true false lower epoch is e = cc
+lower_of false other lower epoch is e = cc
+
+headed_of : (same seal rest : Bool) → ((same && seal) && rest) ≡ true → same ≡ true
+headed_of true seal rest is = refl
+headed_of false seal rest is = cc
+
+-- the file that is taken begins with the header
+pub taken_header : (header bytes other : List ℕ) → is_taken header bytes other ≡ true → eight_at bytes 0 ≡ header
+taken_header header bytes other is = same_text (eight_at bytes 0) header (sym (headed_of (pointwise nat_eq (eight_at bytes 0) header) (slice_index bytes 16 == 1) (not (is_sealed header other) || nat_lt (epoch_in other) (epoch_in bytes)) is))
+
+-- the other does not hinder it
+pub taken_beside : (header bytes other : List ℕ) (epoch : ℕ) → is_taken header bytes other ≡ true → epoch_in bytes ≡ epoch → 18 ≤ length other → IsSpare header epoch other
+taken_beside header bytes other epoch is epoch_is long = record {
+  long = long;
+  lower = λ e. omega (arith, lower_of (is_sealed header bytes) (is_sealed header other) (epoch_in other) (epoch_in bytes) is e, epoch_is);
+}
+
+-- the first file is taken
+pub first_taken : (header first second : List ℕ) → is_taken header first second ≡ true → pair_opened header first second ≡ beside (opened_rest first) (length second)
+first_taken header first second is = ap (λ c. if c then beside (opened_rest first) (length second) else if is_taken header second first then beside (opened_rest second) (length first) else Foreign) is
+
+-- the second file is taken
+pub second_taken : (header first second : List ℕ) → is_taken header first second ≡ false → is_taken header second first ≡ true → pair_opened header first second ≡ beside (opened_rest second) (length first)
+second_taken header first second not_first is =
+    ap (λ c. if c then beside (opened_rest first) (length second) else if is_taken header second first then beside (opened_rest second) (length first) else Foreign) not_first
+    ∙ ap (λ c. if c then beside (opened_rest second) (length first) else Foreign) is
+
+-- neither file is taken
+pub none_taken : (header first second : List ℕ) → is_taken header first second ≡ false → is_taken header second first ≡ false → pair_opened header first second ≡ Foreign
+none_taken header first second not_first not_second =
+    ap (λ c. if c then beside (opened_rest first) (length second) else if is_taken header second first then beside (opened_rest second) (length first) else Foreign) not_first
+    ∙ ap (λ c. if c then beside (opened_rest second) (length first) else Foreign) not_second

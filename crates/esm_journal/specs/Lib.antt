@@ -6,3 +6,5 @@ pub mod Log
 pub mod State
 pub mod Pair
 pub mod Worked
+pub mod Taken
+pub mod IsPair

@@ -1,15 +1,15 @@
 ghost use Rattle.std.specs.Prelude.{◌≡◌, ◌≢◌, ◌+◌, ◌<◌, ◌≤◌, ℕ, List, [], ◌∷◌, ◌++◌, true, false, length, IfOk, IfErr, OnOk, OnErr, IsErrOf};
 ghost use Rattle.esm_io.specs.Faults.{IsCount, Rose};
-ghost use Rattle.esm_io.specs.Images.{LeavesOnly};
-ghost use Rattle.esm_journal.specs.File.{max_payload, header_of, Foreign, Damaged, eight_at, opened, fresh_file};
+ghost use Rattle.esm_io.specs.Images.{LeavesOnly, Only};
+ghost use Rattle.esm_journal.specs.File.{max_payload, header_of, Foreign, Damaged, eight_at, opened, fresh_file, blank_file};
 ghost use Rattle.esm_journal.specs.Reads.{IsOnlyRead, RefusedFor, NotMadeFor};
 ghost use Rattle.esm_journal.specs.Room.{HasRoom, room_after};
 ghost use Rattle.esm_journal.specs.State.{OpensTo, OpensToEither, Keeps};
 
 use crate::error::{AppendError, InitError, OpenError};
-use crate::format::SINGLE;
+use crate::format::{PAIR, SINGLE};
 use crate::found::read_file;
-use crate::fresh::write_fresh;
+use crate::fresh::{write_blank, write_fresh};
 use crate::log::Log;
 use esm_io::Disk;
 use esm_model::{Bytes, OutOfMemory, Refused};
@@ -70,6 +70,27 @@ impl<D: Disk> Journal<D> {
                     down: false,
                 },
             }),
+            Err(why) => Err(Refused { why, back: disk }),
+        }
+    }
+
+    /// Makes an empty disk the fresh spare of a pair: the header `ESMJ0002`, epoch 0, a closed seal and a closed gate,
+    /// all of it on the disk. The refusals are those of `init`.
+    pub fn blank(disk: D) -> Result<D, Refused<InitError, D>>
+        ensures bytes { D.honest disk ≡ true → IfOk result (λ made. D.content made ≡ blank_file (header_of 2) 0) }
+        ensures durable { D.honest disk ≡ true → IfOk result (λ made. Only (D.content made) (D.image made)) }
+        ensures was_empty { D.honest disk ≡ true → OnOk result (length (D.content disk) ≡ 0) }
+        ensures refused { IfErr result (λ refused. NotMadeFor
+            (λ size. D.honest disk ≡ true → (size ≡ length (D.content disk)) × (size ≢ 0) × (D.content refused.back ≡ D.content disk))
+            (Rose (D.faults disk) (D.faults refused.back)) refused.why) }
+        ensures honesty { IfOk result (λ made. D.honest made ≡ D.honest disk) }
+        ensures back_honesty { IfErr result (λ refused. D.honest refused.back ≡ D.honest disk) }
+        ensures count { IfOk result (λ made. IsCount (D.faults disk) (D.faults made)) }
+        ensures back_count { IfErr result (λ refused. IsCount (D.faults disk) (D.faults refused.back)) }
+    {
+        let mut disk = disk;
+        match write_blank(&mut disk, PAIR, 0) {
+            Ok(()) => Ok(disk),
             Err(why) => Err(Refused { why, back: disk }),
         }
     }

@@ -11,6 +11,8 @@ mod fresh;
 mod head;
 mod journal;
 mod log;
+mod pair;
+mod pair_reading;
 mod reading;
 mod room;
 mod through;
@@ -18,6 +20,7 @@ mod through;
 pub use error::{AppendError, InitError, OpenError};
 pub use file_dest::FileDest;
 pub use journal::Journal;
+pub use pair::Pair;
 
 #[cfg(test)]
 mod tests;

@@ -1,0 +1,221 @@
+ghost use Rattle.std.specs.Prelude.{◌≡◌, ◌≢◌, ◌⊎◌, ◌+◌, ◌<◌, ◌≤◌, ℕ, List, [], ◌∷◌, ◌++◌, true, false, length, IfOk, IfErr, OnOk, OnErr, IsErrOf};
+ghost use Rattle.esm_io.specs.Faults.{IsCount, Rose};
+ghost use Rattle.esm_io.specs.Images.{LeavesOnly, Only};
+ghost use Rattle.esm_journal.specs.File.{max_payload, header_of, Foreign, Damaged, Holding, eight_at, fresh_file, blank_file};
+ghost use Rattle.esm_journal.specs.Reads.{IsOnlyRead, RefusedFor, NotMadeFor};
+ghost use Rattle.esm_journal.specs.Room.{HasRoom, room_after};
+ghost use Rattle.esm_journal.specs.Log.{IsEither};
+ghost use Rattle.esm_journal.specs.Pair.{pair_opened, first_disk, second_disk, PairKeeps};
+
+use crate::error::{AppendError, InitError, OpenError};
+use crate::format::PAIR;
+use crate::found::Found;
+use crate::fresh::write_fresh;
+use crate::log::Log;
+use crate::pair_reading::{Taken, read_pair};
+use esm_io::Disk;
+use esm_model::{Bytes, OutOfMemory, Refused};
+use std::alloc::Global;
+use std::collections::VecDeque;
+use std::marker::Model;
+
+/// Two files of payloads with the header `ESMJ0002`, of which one is in use: the sealed one with the greater epoch.
+/// Payloads are added to the file in use.
+#[derive(Drop)]
+pub struct Pair<D: Disk> {
+    log: Log<D>,
+    spare: D,
+    /// The seal byte of the spare disk is 1.
+    spare_sealed: bool,
+    /// The disk in use is the second that was handed in.
+    swapped: bool,
+}
+
+impl<D: Disk> Model for Pair<D> {
+    ghost use Rattle.std.specs.Prelude.{◌≡◌, ◌≤◌};
+    ghost use Rattle.esm_journal.specs.Pair.{PairState, pair_code};
+
+    ghost Value = { PairState D };
+
+    ghost coded = { pair_code D.code };
+
+    ghost use Rattle.esm_io.specs.Faults.{MAX_FAULTS};
+    ghost use Rattle.esm_journal.specs.File.{header_of};
+    ghost use Rattle.esm_journal.specs.Room.{room_of};
+    ghost use Rattle.esm_journal.specs.Log.{IsLog};
+    ghost use Rattle.esm_journal.specs.IsPair.{IsPair};
+
+    ghost view = { λ p. record {
+      payloads = p.log.payloads.items;
+      epoch = p.log.epoch;
+      down = p.log.down;
+      room = room_of p.log.spares.items;
+      used = p.log.disk;
+      spare = p.spare;
+      swapped = p.swapped;
+    } };
+
+    ghost invariant = { λ p. IsLog D.honest D.content D.image D.faults p.log × IsPair D.honest D.content D.image D.faults p.log p.spare p.spare_sealed };
+}
+
+impl<D: Disk> Pair<D> {
+    /// Opens a pair: syncs both disks and reads the one in use, entry by entry. `NotAJournal` where neither disk is
+    /// taken, with the first eight bytes of the first; `Damaged` where the one that is taken is damaged, with the place,
+    /// or where it is not and the other has fewer than 18 bytes, with their number. Nothing is written.
+    pub fn open(alloc: Global, journal: D, spare: D) -> Result<Pair<D>, Refused<OpenError, (D, D)>>
+        ensures opened { D.honest journal ≡ true → D.honest spare ≡ true → IfOk result (λ pair. pair_opened (header_of 2) (D.content journal) (D.content spare) ≡ Holding pair.epoch pair.payloads) }
+        ensures kept { D.honest journal ≡ true → D.honest spare ≡ true → IfOk result (λ pair. PairKeeps D.content D.image (header_of 2) pair.epoch pair.payloads pair.used pair.spare) }
+        ensures fresh { IfOk result (λ pair. (pair.down ≡ false) × (pair.room ≡ [])) }
+        ensures first_read { IfOk result (λ pair. IsOnlyRead D.honest D.content D.image D.moment D.image_since D.faults journal (first_disk pair)) }
+        ensures second_read { IfOk result (λ pair. IsOnlyRead D.honest D.content D.image D.moment D.image_since D.faults spare (second_disk pair)) }
+        ensures refused { IfErr result (λ refused. RefusedFor
+            (λ first. D.honest journal ≡ true → D.honest spare ≡ true → (pair_opened (header_of 2) (D.content journal) (D.content spare) ≡ Foreign) × (first ≡ eight_at (D.content journal) 0))
+            (λ place. D.honest journal ≡ true → D.honest spare ≡ true → pair_opened (header_of 2) (D.content journal) (D.content spare) ≡ Damaged place)
+            (Rose (D.faults journal) (D.faults refused.back.0) ⊎ Rose (D.faults spare) (D.faults refused.back.1)) refused.why) }
+        ensures first_back { IfErr result (λ refused. IsOnlyRead D.honest D.content D.image D.moment D.image_since D.faults journal refused.back.0) }
+        ensures second_back { IfErr result (λ refused. IsOnlyRead D.honest D.content D.image D.moment D.image_since D.faults spare refused.back.1) }
+    {
+        let mut first = journal;
+        let mut second = spare;
+        match read_pair(alloc, &mut first, &mut second, PAIR) {
+            Ok(taken) => {
+                let Taken {
+                    found,
+                    swapped,
+                    spare_sealed,
+                } = taken;
+                let Found {
+                    epoch,
+                    payloads,
+                    end,
+                } = found;
+                if swapped {
+                    return Ok(Pair {
+                        log: Log {
+                            disk: second,
+                            header: PAIR,
+                            epoch,
+                            payloads,
+                            end,
+                            spares: VecDeque::new(alloc),
+                            down: false,
+                        },
+                        spare: first,
+                        spare_sealed,
+                        swapped: true,
+                    });
+                }
+                Ok(Pair {
+                    log: Log {
+                        disk: first,
+                        header: PAIR,
+                        epoch,
+                        payloads,
+                        end,
+                        spares: VecDeque::new(alloc),
+                        down: false,
+                    },
+                    spare: second,
+                    spare_sealed,
+                    swapped: false,
+                })
+            }
+            Err(why) => Err(Refused {
+                why,
+                back: (first, second),
+            }),
+        }
+    }
+
+    /// Makes an empty disk a fresh `journal.esm` without payloads, with all of it on the disk. `NotEmpty` where the disk
+    /// has bytes, with their number; nothing is written then.
+    pub fn first(disk: D) -> Result<D, Refused<InitError, D>>
+        ensures bytes { D.honest disk ≡ true → IfOk result (λ made. D.content made ≡ fresh_file (header_of 2)) }
+        ensures durable { D.honest disk ≡ true → IfOk result (λ made. Only (D.content made) (D.image made)) }
+        ensures was_empty { D.honest disk ≡ true → OnOk result (length (D.content disk) ≡ 0) }
+        ensures refused { IfErr result (λ refused. NotMadeFor
+            (λ size. D.honest disk ≡ true → (size ≡ length (D.content disk)) × (size ≢ 0) × (D.content refused.back ≡ D.content disk))
+            (Rose (D.faults disk) (D.faults refused.back)) refused.why) }
+        ensures honesty { IfOk result (λ made. D.honest made ≡ D.honest disk) }
+        ensures back_honesty { IfErr result (λ refused. D.honest refused.back ≡ D.honest disk) }
+        ensures count { IfOk result (λ made. IsCount (D.faults disk) (D.faults made)) }
+        ensures back_count { IfErr result (λ refused. IsCount (D.faults disk) (D.faults refused.back)) }
+    {
+        let mut disk = disk;
+        match write_fresh(&mut disk, PAIR) {
+            Ok(()) => Ok(disk),
+            Err(why) => Err(Refused { why, back: disk }),
+        }
+    }
+
+    /// The payloads, in order.
+    pub fn payloads(&self) -> &[Bytes]
+        ensures payloads { result.now ≡ self.now.payloads }
+        ensures kept { D.honest self.now.used ≡ true → D.honest self.now.spare ≡ true → self.now.down ≡ false → PairKeeps D.content D.image (header_of 2) self.now.epoch self.now.payloads self.now.used self.now.spare }
+    {
+        &self.log.payloads
+    }
+
+    /// The epoch of the disk in use.
+    pub fn epoch(&self) -> u64
+        ensures { result ≡ self.now.epoch }
+    {
+        self.log.epoch
+    }
+
+    /// Makes room for the next payloads: after its Ok the next calls of `append`, one for each length in this order and
+    /// of payloads that are not longer, do not answer `OutOfMemory`.
+    pub fn reserve(&mut self, alloc: Global, lengths: &[u32]) -> Result<(), OutOfMemory>
+        ensures room { OnOk result (self.new ≡ record self.old { room = lengths.now }) }
+        ensures kept { OnErr result (self.new ≡ self.old) }
+    {
+        self.log.reserve(alloc, lengths)
+    }
+
+    /// Adds a payload to the file in use, in four calls of its disk. A crash at any moment leaves a pair that opens to
+    /// the payloads from before the call, with the new one or without; after Ok every crash leaves the new one. After
+    /// `DiskFault` the pair is down until it is opened again; after the other errors nothing has changed.
+    pub fn append(&mut self, alloc: Global, payload: &[u8]) -> Result<(), AppendError>
+        ensures added { OnOk result (self.new.payloads ≡ self.old.payloads ++ payload.now ∷ []) }
+        ensures not_added { OnErr result (self.new.payloads ≡ self.old.payloads) }
+        ensures up { OnOk result (self.new.down ≡ false) }
+        ensures spare { self.new.spare ≡ self.old.spare }
+        ensures epoch { self.new.epoch ≡ self.old.epoch }
+        ensures swapped { self.new.swapped ≡ self.old.swapped }
+        ensures kept { D.honest self.new.used ≡ true → D.honest self.new.spare ≡ true → self.new.down ≡ false → PairKeeps D.content D.image (header_of 2) self.new.epoch self.new.payloads self.new.used self.new.spare }
+        ensures any_moment { D.honest self.old.used ≡ true → self.old.down ≡ false →
+            LeavesOnly D.moment D.image_since self.old.used self.new.used (IsEither (header_of 2) self.old.epoch self.old.payloads (self.old.payloads ++ payload.now ∷ [])) }
+        ensures fault { IsErrOf result AppendError.DiskFault → self.new.down ≡ true }
+        ensures cause { IsErrOf result AppendError.DiskFault → Rose (D.faults self.old.used) (D.faults self.new.used) }
+        ensures down { IsErrOf result AppendError.Down → (self.new ≡ self.old) × (self.old.down ≡ true) }
+        ensures is_down { self.old.down ≡ true → IsErrOf result AppendError.Down }
+        ensures too_long { (n : ℕ) → IsErrOf result (AppendError.TooLong n) →
+            (self.new ≡ self.old) × (self.old.down ≡ false) × (n ≡ length payload.now) × (max_payload < length payload.now) }
+        ensures is_too_long { self.old.down ≡ false → max_payload < length payload.now → IsErrOf result (AppendError.TooLong (length payload.now)) }
+        ensures no_memory { IsErrOf result AppendError.OutOfMemory → self.new ≡ self.old }
+        ensures has_room { HasRoom self.old.room (length payload.now) → IsErrOf result AppendError.OutOfMemory → ⊥ }
+        ensures room { OnOk result (self.new.room ≡ room_after self.old.room (length payload.now)) }
+        ensures honesty { D.honest self.new.used ≡ D.honest self.old.used }
+        ensures count { IsCount (D.faults self.old.used) (D.faults self.new.used) }
+    {
+        self.log.append(alloc, payload)
+    }
+
+    /// The disks in the order in which they were handed in, as the calls on them left them.
+    pub fn into_disks(self) -> (D, D)
+        ensures first { result.0 ≡ first_disk self }
+        ensures second { result.1 ≡ second_disk self }
+    {
+        let Pair {
+            log,
+            spare,
+            spare_sealed: _,
+            swapped,
+        } = self;
+        if swapped {
+            (spare, log.disk)
+        } else {
+            (log.disk, spare)
+        }
+    }
+}
