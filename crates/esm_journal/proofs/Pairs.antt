@@ -1,9 +1,10 @@
 -- What images of a pair open to.
-use Rattle.std.proofs.Common.{◌==◌, ◌≡◌, ◌≢◌, ◌⊎◌, inl, inr, ℕ, ◌+◌, ◌≤◌, ◌<◌, ◌&&◌, ◌||◌, not, Bool, true, false, List, [], ◌∷◌, ◌++◌, length, slice_index, nat_eq, nat_lt, if◌then◌else◌, arith, refl, sym, ap, subst, ◌∙◌}
+use Rattle.std.proofs.Common.{◌==◌, ◌≡◌, inl, inr, ℕ, ◌≤◌, ◌<◌, ◌&&◌, ◌||◌, not, Bool, true, false, List, [], ◌∷◌, ◌++◌, length, slice_index, nat_eq, nat_lt, if◌then◌else◌, arith, refl, sym, ap, ◌∙◌}
 use Rattle.std.proofs.lemmas.Bool.Decides.{nat_tests}
 use Rattle.std.specs.Cmp.Lexicographic.{pointwise, same_text}
-use Rattle.esm_journal.specs.File.{Opening, Holding, Foreign, Damaged, IsFile, end_of, eight_at, epoch_in, opened_rest, opened}
-use Rattle.esm_journal.specs.Pair.{is_sealed, is_taken, beside, pair_opened, IsSpare}
+use Rattle.esm_journal.specs.File.{Holding, Foreign, Damaged, IsFile, eight_at, epoch_in, opened_rest}
+use Rattle.esm_journal.specs.Pair.{is_sealed, is_taken, beside, pair_opened, IsSpare, PairOpensTo, PairOpensToEither}
+use Rattle.esm_journal.specs.Log.{IsEither}
 use Rattle.esm_journal.proofs.Files.{opened_file, same_bytes, first_of_file, epoch_of_file, seal_of_file}
 use Rattle.esm_journal.proofs.Written.{end_within}
 use Rattle.esm_journal.proofs.Heads.{same_header}
@@ -112,3 +113,13 @@ pub none_taken : (header first second : List ℕ) → is_taken header first seco
 none_taken header first second not_first not_second =
     ap (λ c. if c then beside (opened_rest first) (length second) else if is_taken header second first then beside (opened_rest second) (length first) else Foreign) not_first
     ∙ ap (λ c. if c then beside (opened_rest second) (length first) else Foreign) not_second
+
+pair_opens : (header : List ℕ) (epoch : ℕ) (payloads : List (List ℕ)) (used spare : List ℕ) → length header ≡ 8 → IsFile header epoch payloads used → IsSpare header epoch spare → PairOpensTo header epoch payloads used spare
+pair_opens header epoch payloads used spare eight file beside =
+    let s = sealed_file header epoch payloads used eight file in
+    (used_first header epoch payloads used spare s beside, used_second header epoch payloads used spare s beside)
+
+-- while a payload is added, the images of a pair open to the payloads with it or without
+pub pair_either : (header : List ℕ) (epoch : ℕ) (payloads : List (List ℕ)) (payload used spare : List ℕ) → length header ≡ 8 → IsEither header epoch payloads (payloads ++ payload ∷ []) used → IsSpare header epoch spare → PairOpensToEither header epoch payloads payload used spare
+pair_either header epoch payloads payload used spare eight (inl file) harmless = inl (pair_opens header epoch payloads used spare eight file harmless)
+pair_either header epoch payloads payload used spare eight (inr file) harmless = inr (pair_opens header epoch (payloads ++ payload ∷ []) used spare eight file harmless)

@@ -1,5 +1,5 @@
 -- Two files of which one is in use: the sealed one with the greater epoch.
-use Rattle.std.specs.Prelude.{◌≡◌, ◌≤◌, ◌<◌, ◌==◌, ◌&&◌, ◌||◌, not, ℕ, Bool, true, List, length, slice_index, nat_eq, nat_lt, if◌then◌else◌, refl}
+use Rattle.std.specs.Prelude.{◌++◌, ◌∷◌, [], ◌⊎◌, ◌≡◌, ◌≤◌, ◌<◌, ◌==◌, ◌&&◌, ◌||◌, not, ℕ, Bool, true, List, length, slice_index, nat_eq, nat_lt, if◌then◌else◌, refl}
 use Rattle.std.specs.Cmp.Lexicographic.{pointwise}
 use Rattle.std.specs.Coded.{Coded, code_by, coded×, coded_ℕ, coded_bool, coded_list}
 use Rattle.esm_io.specs.Images.{Only}
@@ -65,3 +65,13 @@ pub record PairKeeps {D : Type 0} (content : D → List ℕ) (image : D → List
   pub durable : Only (content used) (image used)
   pub beside : IsSpare header epoch (content spare)
   pub spare_durable : Only (content spare) (image spare)
+
+-- images of the disk in use and of the other open to these payloads, in whichever order they are handed in
+abbrev pub PairOpensTo : List ℕ → ℕ → List (List ℕ) → List ℕ → List ℕ → Type 0
+PairOpensTo header epoch payloads used spare =
+    (pair_opened header used spare ≡ Holding epoch payloads) × (pair_opened header spare used ≡ Holding epoch payloads)
+
+-- they open to these payloads, or to these and one more
+abbrev pub PairOpensToEither : List ℕ → ℕ → List (List ℕ) → List ℕ → List ℕ → List ℕ → Type 0
+PairOpensToEither header epoch payloads payload used spare =
+    PairOpensTo header epoch payloads used spare ⊎ PairOpensTo header epoch (payloads ++ payload ∷ []) used spare

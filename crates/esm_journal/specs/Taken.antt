@@ -1,6 +1,6 @@
 -- What opening a pair finds of its disks.
 use Rattle.std.specs.Prelude.{◌≡◌, ◌==◌, List, ℕ, slice_index, if◌then◌else◌}
-use Rattle.esm_journal.specs.File.{IsFile, end_of}
+use Rattle.esm_journal.specs.File.{IsFile}
 use Rattle.esm_journal.specs.Pair.{IsSpare}
 use Rattle.esm_journal.specs.declared.pair_reading.Taken.{Taken}
 

@@ -5,7 +5,7 @@ ghost use Rattle.esm_journal.specs.File.{max_payload, header_of, Foreign, Damage
 ghost use Rattle.esm_journal.specs.Reads.{IsOnlyRead, RefusedFor, NotMadeFor};
 ghost use Rattle.esm_journal.specs.Room.{HasRoom, room_after};
 ghost use Rattle.esm_journal.specs.Log.{IsEither};
-ghost use Rattle.esm_journal.specs.Pair.{pair_opened, first_disk, second_disk, PairKeeps};
+ghost use Rattle.esm_journal.specs.Pair.{pair_opened, first_disk, second_disk, PairKeeps, PairOpensToEither};
 
 use crate::error::{AppendError, InitError, OpenError};
 use crate::format::PAIR;
@@ -185,6 +185,9 @@ impl<D: Disk> Pair<D> {
         ensures kept { D.honest self.new.used ≡ true → D.honest self.new.spare ≡ true → self.new.down ≡ false → PairKeeps D.content D.image (header_of 2) self.new.epoch self.new.payloads self.new.used self.new.spare }
         ensures any_moment { D.honest self.old.used ≡ true → self.old.down ≡ false →
             LeavesOnly D.moment D.image_since self.old.used self.new.used (IsEither (header_of 2) self.old.epoch self.old.payloads (self.old.payloads ++ payload.now ∷ [])) }
+        ensures pair_images { D.honest self.old.used ≡ true → D.honest self.old.spare ≡ true → self.old.down ≡ false → (one other : List ℕ) →
+            D.image_since self.new.used (D.moment self.old.used) one → D.image_since self.new.spare (D.moment self.old.spare) other →
+            PairOpensToEither (header_of 2) self.old.epoch self.old.payloads payload.now one other }
         ensures fault { IsErrOf result AppendError.DiskFault → self.new.down ≡ true }
         ensures cause { IsErrOf result AppendError.DiskFault → Rose (D.faults self.old.used) (D.faults self.new.used) }
         ensures down { IsErrOf result AppendError.Down → (self.new ≡ self.old) × (self.old.down ≡ true) }

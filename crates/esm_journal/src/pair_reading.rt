@@ -47,7 +47,12 @@ fn takes(head: &Head, other: &Head, header: [u8; 8]) -> bool
 }
 
 /// Reads the file that is taken, beside another of so many bytes.
-fn read_taken<D: Disk>(alloc: Global, disk: &mut D, head: &Head, size: u64) -> Result<Found, OpenError>
+fn read_taken<D: Disk>(
+    alloc: Global,
+    disk: &mut D,
+    head: &Head,
+    size: u64,
+) -> Result<Found, OpenError>
     requires head { D.honest disk.old ≡ true → IsHead (D.content disk.old) head.now }
     requires first { length head.now.first ≡ 8 }
     ensures found { D.honest disk.old ≡ true → IfOk result (λ found. IsFile head.now.first found.epoch found.payloads.items (D.content disk.old)) }

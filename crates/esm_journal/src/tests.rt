@@ -1,5 +1,6 @@
 use super::*;
 use esm_io::{Dest, MemDisk};
+use esm_model::Refused;
 use std::alloc::Global;
 use std::test::Fail;
 
@@ -56,6 +57,17 @@ fn payload_bytes(rt: HostRuntime) -> Result<(), Fail> {
     let long = vec![in alloc; 0; 16_777_217]?;
     let added = journal.append(alloc, &long);
     assert!(rt; matches!(&added, Err(AppendError::TooLong(16_777_217))));
+    let spare = Journal::blank(MemDisk::new(alloc, Vec::new(alloc), Vec::new(alloc)))?;
+    let again = Journal::blank(spare);
+    assert!(rt;
+        matches!(
+            &again,
+            Err(Refused {
+                why: InitError::NotEmpty(18),
+                ..
+            })
+        )
+    );
     Ok(())
 }
 
@@ -67,5 +79,21 @@ fn lines_are_delivered(rt: HostRuntime) -> Result<(), Fail> {
     dest.reserve(alloc, 2)?;
     dest.deliver(alloc, b"{}")?;
     assert_eq!(rt; dest.into_journal().payloads().len(), 2);
+    Ok(())
+}
+
+#[test]
+fn pair_opens_to_what_was_added(rt: HostRuntime) -> Result<(), Fail> {
+    let alloc = rt.alloc();
+    let journal = Pair::first(MemDisk::new(alloc, Vec::new(alloc), Vec::new(alloc)))?;
+    let spare = Journal::blank(MemDisk::new(alloc, Vec::new(alloc), Vec::new(alloc)))?;
+    let mut pair = Pair::open(alloc, journal, spare)?;
+    pair.reserve(alloc, &[29])?;
+    pair.append(alloc, &PAYLOAD)?;
+    let (journal, spare) = pair.into_disks();
+    assert_eq!(rt; journal.bytes().len(), 52);
+    let pair = Pair::open(alloc, journal, spare)?;
+    assert_eq!(rt; pair.payloads().len(), 1);
+    assert_eq!(rt; pair.epoch(), 1);
     Ok(())
 }

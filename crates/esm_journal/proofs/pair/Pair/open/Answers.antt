@@ -1,4 +1,4 @@
-use Rattle.std.proofs.Common.{◌≡◌, ℕ, List, if◌then◌else◌, refl, sym, subst, Bool}
+use Rattle.std.proofs.Common.{if◌then◌else◌, refl, sym, subst, Bool}
 use Rattle.esm_journal.specs.File.{header_of, IsFile}
 use Rattle.esm_journal.specs.Pair.{IsSpare}
 use Rattle.esm_journal.proofs.Pairs.{sealed_file, used_first, used_second}
