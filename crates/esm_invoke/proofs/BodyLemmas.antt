@@ -1,6 +1,6 @@
 -- What a call of the decoder does to what the reader of a body knows.
 use Rattle.std.specs.Prelude.{Result, Ok, Err, IfOk}
-use Rattle.std.proofs.Common.{◌≡◌, ◌≢◌, ℕ, ◌+◌, ◌-◌, ◌<◌, ◌≤◌, Bool, true, false, List, [], ◌∷◌, ◌++◌, map, length, take, drop, sym, refl, ap, ◌∙◌, subst, inl, inr, arith, append_assoc, append-nil}
+use Rattle.std.proofs.Common.{◌≡◌, ◌≢◌, ℕ, ◌+◌, ◌<◌, ◌≤◌, false, List, [], ◌∷◌, ◌++◌, length, take, drop, sym, refl, ap, ◌∙◌, subst, inl, inr, arith, append_assoc, append-nil}
 use Rattle.std.proofs.lemmas.List.{length-append, length-drop, length-map, length-take-le, drop-drop}
 use Rattle.httparse.specs.declared.spans.HeaderSpan.{HeaderSpan}
 use Rattle.httparse.specs.declared.spans.Span.{Span}
@@ -8,7 +8,6 @@ use Rattle.httparse.specs.Spans.{header_bytes, name_and_value, span_bytes}
 use Rattle.esm_model.specs.declared.memory.OutOfMemory.{OutOfMemory}
 use Rattle.http1.specs.declared.decode.Decoder.{Decoder}
 use Rattle.http1.specs.declared.decode.Decoder.TheVariants.{Length, Chunked, UntilClose}
-use Rattle.http1.specs.declared.framing.Framing.TheVariants as Framed
 use Rattle.http1.specs.Body.{Body, body_of, ReadsBody}
 use Rattle.http1.specs.Decoder.{Completes, Continues, Runs, Starves, AwaitsTrailers, Ends, with_front}
 use Rattle.http1.proofs.OneParse.{body_unique}
@@ -16,7 +15,7 @@ use Rattle.esm_invoke.specs.declared.body.BodyReader.{BodyReader}
 use Rattle.esm_invoke.specs.declared.body.Step.{Step}
 use Rattle.esm_invoke.specs.declared.body.Step.TheVariants.{Data, More, Whole, Never}
 use Rattle.esm_invoke.specs.declared.head.Head.{Head}
-use Rattle.esm_invoke.specs.Response.{MAX_BODY, MAX_LINES, MAX_RESPONSE, limits, IsBodyWithin}
+use Rattle.esm_invoke.specs.Response.{MAX_BODY, MAX_LINES, MAX_RESPONSE, limits}
 use Rattle.esm_invoke.specs.Reading.{Awaits, IsUnfinished, HoldsBody, NeverHoldsBody, TakesPiece, TakesStep}
 
 -- a decoder of a body up to the link's end stays one, and no other becomes one

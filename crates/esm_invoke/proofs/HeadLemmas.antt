@@ -1,14 +1,11 @@
 -- Heads at the front of bytes that go on.
-use Rattle.std.proofs.Common.{◌≡◌, ℕ, ◌+◌, ◌-◌, ◌<◌, ◌≤◌, ◌⊎◌, min, Bool, true, false, eqb, ◌||◌, List, [], ◌∷◌, ◌++◌, map, length, get_or, take, drop, sym, refl, ap, ◌∙◌, subst, Some, None, inl, inr, arith, append_assoc}
+use Rattle.std.proofs.Common.{◌≡◌, ℕ, ◌+◌, ◌-◌, ◌<◌, ◌≤◌, min, Bool, true, false, eqb, ◌||◌, List, [], ◌∷◌, ◌++◌, map, length, get_or, drop, sym, refl, ap, ◌∙◌, subst, None, inl, inr, arith, append_assoc}
 use Rattle.std.specs.List.{list_any}
 use Rattle.std.specs.Prelude.{flat_map}
-use Rattle.std.proofs.lemmas.Bool.{cases_lt, false≢true}
-use Rattle.std.proofs.lemmas.List.{length-append, length-drop, take-append-drop, drop-append-le, get_or-drop, take_at}
-use Rattle.std.proofs.Math.Seq.{get_or-append_seam}
-use Rattle.std.proofs.lemmas.List.Folds.{list_any_at}
-use Rattle.http.specs.StatusCode.{IsStatusCode}
-use Rattle.httparse.specs.Grammar.{LineEnd, crlf, lf, print_end, print_blank, print_version, print_reason, print_field, print_section, ResponseHead, print_response, ReadsResponse, HasNoResponse}
-use Rattle.httparse.specs.Spans.{IsResponseAt, IsResponseOf}
+use Rattle.std.proofs.lemmas.Bool.{cases_lt, false≢true, and_from, or_left, or_right, le-leb}
+use Rattle.std.proofs.lemmas.List.{length-append, drop-append-le, append-nil, get_or-append-add}
+use Rattle.httparse.specs.Grammar.{LineEnd, crlf, lf, print_end, print_field, Field, ResponseHead, print_response, ReadsResponse, HasNoResponse}
+use Rattle.httparse.specs.Spans.{IsResponseOf}
 use Rattle.httparse.specs.declared.spans.HeaderSpan.{HeaderSpan}
 use Rattle.httparse.specs.declared.spans.ResponseSpans.{ResponseSpans}
 use Rattle.httparse.proofs.GrammarLemmas.{ReadsResponse-append, response_prefix_free}
@@ -17,7 +14,7 @@ use Rattle.esm_invoke.specs.declared.head.Head.{Head}
 use Rattle.esm_invoke.specs.declared.head.HeadSearch.{HeadSearch}
 use Rattle.esm_invoke.specs.declared.head.HeadSearch.TheVariants.{Found, More, Never}
 use Rattle.esm_invoke.specs.Response.{Says, BeginsWith}
-use Rattle.esm_invoke.specs.Reading.{HasNoHead, NeverBegins, ParsesHead, SaysAt}
+use Rattle.esm_invoke.specs.Reading.{ends_empty_line, HasNoHead, NeverBegins, ParsesHead, SaysAt}
 
 pub list_any-map : {X Y : Type 0} (p : Y → Bool) (f : X → Y) (xs : List X) → list_any p (map f xs) ≡ list_any (λ x. p (f x)) xs
 list_any-map p f [] = refl
@@ -35,42 +32,69 @@ print_end_ends : (e : LineEnd) → EndsInLf (print_end e)
 print_end_ends crlf = (13 ∷ [], refl)
 print_end_ends lf = ([], refl)
 
-pub print_response_ends : (tree : ResponseHead) → EndsInLf (print_response tree)
+print_field_ends : (f : Field) → EndsInLf (print_field f)
+print_field_ends f = EndsInLf-after (f.name ++ 58 ∷ f.raw) (print_end f.end) (print_end_ends f.end)
+
+EndsInLf-fields : (before : List ℕ) (fields : List Field) → EndsInLf before → EndsInLf (before ++ flat_map print_field fields)
+EndsInLf-fields before [] ends = subst EndsInLf (sym (append-nil before)) ends
+EndsInLf-fields before (f ∷ fields) ends =
+    subst EndsInLf (append_assoc before (print_field f) (flat_map print_field fields))
+    (EndsInLf-fields (before ++ print_field f) fields (EndsInLf-after before (print_field f) (print_field_ends f)))
+
+-- a head is lines, and the end of the empty line after them
+pub print_response_ends : (tree : ResponseHead) → (front : List ℕ) × EndsInLf front × (print_response tree ≡ front ++ print_end tree.last)
 unfolding print_response
-print_response_ends tree = EndsInLf-after _ _ (EndsInLf-after _ _ (print_end_ends tree.last))
+print_response_ends tree =
+    let lines = flat_map print_field tree.fields in (
+      _,
+      EndsInLf-fields _ tree.fields (EndsInLf-after _ _ (print_end_ends tree.line_end)),
+      sym (append_assoc _ lines (print_end tree.last)),
+    )
 
--- a text that ends in a line feed is no longer than the bytes up to the last line feed
-lf_within : (bytes more front rest : List ℕ) (looked : ℕ)
-    → list_any (λ b. eqb b 10) (drop looked bytes) ≡ false
-    → bytes ++ more ≡ (front ++ 10 ∷ []) ++ rest → looked < length front + 1 → length bytes < length front + 1
-lf_within bytes more front rest looked none reads past =
-    elim (cases_lt (length bytes) (length front + 1)) [
-      | inl longer ↦ longer
-      | inr within ↦
-          let text = front ++ 10 ∷ [] in
-          let len : length text ≡ length front + 1 = length-append front (10 ∷ []) in
-          let whole : bytes ≡ text ++ drop (length text) bytes = front_within bytes more text rest reads (omega (arith, len)) in
-          let index = length front - looked in
-          let place : looked + index ≡ length front = omega arith in
-          let tail = drop (length text) bytes in
-          let here : get_or (drop looked bytes) index 0 ≡ 10 =
-          get_or-drop looked bytes index 0 ∙ ap (λ i. get_or bytes i 0) place
-          ∙ ap (λ t. get_or t (length front) 0) (whole ∙ append_assoc front (10 ∷ []) tail)
-          ∙ get_or-append_seam front 10 tail 0 in
-          let inside : index < length (drop looked bytes) = omega (arith, length-drop looked bytes) in
-          absurd (false≢true (sym none ∙ list_any_at (λ b. eqb b 10) (drop looked bytes) index 0 inside (ap (λ b. eqb b 10) here)))
-    ]
+-- an empty line behind a line feed is found at its end
+empty_line_found : (front rest : List ℕ) (e : LineEnd)
+    → ends_empty_line (front ++ 10 ∷ (print_end e ++ rest)) (length front + length (print_end e)) ≡ true
+empty_line_found front rest crlf =
+    let bytes = front ++ 10 ∷ 13 ∷ 10 ∷ rest in
+    let at : ℕ = length front + 2 in
+    let one : at - 1 ≡ length front + 1 = omega arith in
+    let two : at - 2 ≡ length front + 0 = omega arith in
+    let third : get_or bytes at 0 ≡ 10 = get_or-append-add front (10 ∷ 13 ∷ 10 ∷ rest) 2 0 in
+    let second : get_or bytes (at - 1) 0 ≡ 13 = ap (λ k. get_or bytes k 0) one ∙ get_or-append-add front (10 ∷ 13 ∷ 10 ∷ rest) 1 0 in
+    let first : get_or bytes (at - 2) 0 ≡ 10 = ap (λ k. get_or bytes k 0) two ∙ get_or-append-add front (10 ∷ 13 ∷ 10 ∷ rest) 0 0 in
+    and_from _ _ (ap (λ b. eqb b 10) third)
+    (or_right _ _ (and_from _ _ (le-leb 2 at (omega arith)) (and_from _ _ (ap (λ b. eqb b 13) second) (ap (λ b. eqb b 10) first))))
+empty_line_found front rest lf =
+    let bytes = front ++ 10 ∷ 10 ∷ rest in
+    let at : ℕ = length front + 1 in
+    let one : at - 1 ≡ length front + 0 = omega arith in
+    let second : get_or bytes at 0 ≡ 10 = get_or-append-add front (10 ∷ 10 ∷ rest) 1 0 in
+    let first : get_or bytes (at - 1) 0 ≡ 10 = ap (λ k. get_or bytes k 0) one ∙ get_or-append-add front (10 ∷ 10 ∷ rest) 0 0 in
+    and_from _ _ (ap (λ b. eqb b 10) second) (or_left _ _ (and_from _ _ (le-leb 1 at (omega arith)) (ap (λ b. eqb b 10) first)))
 
--- no line feed after the bytes that were looked at: no head ends behind them
-pub no_head_without_lf : (bytes : List ℕ) (looked : ℕ) → HasNoHead looked bytes
-    → list_any (λ b. eqb b 10) (drop looked bytes) ≡ false → HasNoHead (min (length bytes) 16384) bytes
-no_head_without_lf bytes looked before none = record {
+-- no empty line ends behind the bytes that were looked at: no head does
+pub no_head_without_empty_line : (bytes : List ℕ) (looked : ℕ) → HasNoHead looked bytes
+    → ((k : ℕ) → looked ≤ k → k < length bytes → ends_empty_line bytes k ≡ false) → HasNoHead (min (length bytes) 16384) bytes
+no_head_without_empty_line bytes looked before none = record {
   none = λ more tree rest reads.
       let ends = print_response_ends tree in
-      let len : length (print_response tree) ≡ length ends.0 + 1 = ap length ends.1 ∙ length-append ends.0 (10 ∷ []) in
+      let text = print_response tree in
       let past = before.none more tree rest reads in
-      let within = lf_within bytes more ends.0 rest looked none (reads.1 ∙ ap (λ t. t ++ rest) ends.1) (omega (arith, len, past)) in
-      omega (arith, len, within);
+      elim (cases_lt (length bytes) (length text)) [
+        | inl longer ↦ omega (arith, longer)
+        | inr within ↦
+            let e = print_end tree.last in
+            let tail = drop (length text) bytes in
+            let whole : bytes ≡ text ++ tail = front_within bytes more text rest reads.1 within in
+            let line : bytes ≡ ends.1.0 ++ 10 ∷ (e ++ tail) =
+            whole ∙ ap (λ t. t ++ tail) (ends.2 ∙ ap (λ f. f ++ e) ends.1.1)
+            ∙ append_assoc (ends.1.0 ++ 10 ∷ []) e tail ∙ append_assoc ends.1.0 (10 ∷ []) (e ++ tail) in
+            let len : length text ≡ length ends.1.0 + 1 + length e =
+            ap length ends.2 ∙ length-append ends.0 e ∙ ap (λ n. n + length e) (ap length ends.1.1 ∙ length-append ends.1.0 (10 ∷ [])) in
+            let at = length ends.1.0 + length e in
+            let found : ends_empty_line bytes at ≡ true = ap (λ t. ends_empty_line t at) line ∙ empty_line_found ends.1.0 tail tree.last in
+            absurd (false≢true (sym (none at (omega (arith, len, past)) (omega (arith, len, within))) ∙ found))
+      ];
 }
 
 -- ---- what a parse of the bytes says of all that go on from them

@@ -1,10 +1,9 @@
 -- From what the reader of heads and that of bodies know to the reply.
 use Rattle.std.specs.Prelude.{Result, Ok, Err, IfOk}
-use Rattle.std.proofs.Common.{◌≡◌, ◌≢◌, ℕ, ◌+◌, ◌-◌, ◌<◌, ◌≤◌, ◌⊎◌, Bool, true, false, List, [], ◌∷◌, ◌++◌, map, length, take, drop, Some, None, Option, sym, refl, ap, ◌∙◌, subst, inl, inr, arith, append_assoc, append-nil}
+use Rattle.std.proofs.Common.{◌≡◌, ◌≢◌, ℕ, ◌+◌, ◌<◌, ◌≤◌, ◌⊎◌, Bool, true, false, List, [], ◌∷◌, ◌++◌, length, take, drop, Some, None, Option, sym, refl, ap, ◌∙◌, subst, inl, inr, arith, append_assoc, append-nil}
 use Rattle.std.proofs.lemmas.List.{length-append, length-drop, length-take-le, drop-append-le, drop_all}
 use Rattle.std.proofs.lemmas.Bool.{false≢true}
-use Rattle.httparse.specs.Grammar.{ResponseHead, print_response, ReadsResponse, status_code}
-use Rattle.httparse.specs.Spans.{name_and_value}
+use Rattle.httparse.specs.Grammar.{ResponseHead, print_end, print_response, ReadsResponse}
 use Rattle.httparse.proofs.GrammarLemmas.{response_prefix_free}
 use Rattle.http1.specs.declared.decode.Decoder.{Decoder}
 use Rattle.http1.specs.declared.decode.Decoder.TheVariants.{Length, Chunked, UntilClose}
@@ -13,14 +12,13 @@ use Rattle.http1.specs.declared.framing.Framing.TheVariants as Framed
 use Rattle.http1.specs.Body.{Body, body_of, ReadsBody}
 use Rattle.http1.specs.Decoder.{decoder_for, Completes, with_front}
 use Rattle.http1.proofs.OneParse.{completes_from_body, body_from_completes}
-use Rattle.http1.specs.Fields.{known_fields}
 use Rattle.esm_model.specs.declared.entry.Reply.{Reply}
 use Rattle.esm_model.specs.declared.entry.Reply.TheVariants.{Answered, Garbled, Lost}
 use Rattle.esm_model.specs.declared.memory.OutOfMemory.{OutOfMemory}
 use Rattle.esm_io.specs.Talks.{Talk, Reads, Writes, IsReadOut}
 use Rattle.esm_invoke.specs.declared.body.BodyReader.{BodyReader}
 use Rattle.esm_invoke.specs.declared.head.Head.{Head}
-use Rattle.esm_invoke.specs.Response.{MAX_RESPONSE, limits, framing_of, has_function_error, Says, BeginsWith, IsBodyWithin, HoldsResponse, HoldsNone, NeverHolds, StopsAt, IsReplyTo}
+use Rattle.esm_invoke.specs.Response.{limits, Says, BeginsWith, IsBodyWithin, HoldsResponse, HoldsNone, NeverHolds, StopsAt, IsReplyTo}
 use Rattle.esm_invoke.specs.Reading.{HasNoHead, NeverBegins, Awaits, IsUnfinished, NeverHoldsBody}
 use Rattle.esm_invoke.specs.Receiving.{ReadsMore, ReadsSome, WritesPart, Replies, Settles, Stops}
 use Rattle.esm_invoke.specs.Exchange.{SendsPart, Answers}
@@ -128,7 +126,9 @@ reads_on a b c before after first more = subst (Reads a c) (sym more.grown) (Rea
 
 pub no_head_in_none : HasNoHead 0 []
 no_head_in_none = record {
-  none = λ more tree rest reads. let ends = print_response_ends tree in omega (arith, ap length ends.1, length-append ends.0 (10 ∷ []));
+  none = λ more tree rest reads.
+      let ends = print_response_ends tree in
+      omega (arith, ap length ends.2, length-append ends.0 (print_end tree.last), ap length ends.1.1, length-append ends.1.0 (10 ∷ []));
 }
 
 pub more_then : (a b c : Option Talk) (before mid after : List ℕ) → ReadsMore a b before mid → ReadsMore b c mid after → ReadsMore a c before after

@@ -1,15 +1,15 @@
 -- What a reader of responses knows of the bytes so far, whatever follows them.
-use Rattle.std.specs.Prelude.{◌≡◌, ◌≢◌, ℕ, ◌+◌, ◌<◌, ◌≤◌, Bool, false, List, ◌++◌, length, drop, Option, Some, None}
+use Rattle.std.specs.Prelude.{◌≡◌, ◌≢◌, ℕ, ◌+◌, ◌-◌, ◌<◌, ◌≤◌, ◌==◌, nat_le, slice_index, Bool, false, ◌&&◌, ◌||◌, List, ◌++◌, length, drop, Option, Some, None}
+use Rattle.httparse.specs.Ascii.{line_feed, carriage_return}
 use Rattle.httparse.specs.Grammar.{ResponseHead, print_response, ReadsResponse}
 use Rattle.http.specs.StatusCode.{IsStatusCode}
 use Rattle.httparse.specs.declared.spans.HeaderSpan.{HeaderSpan}
 use Rattle.httparse.specs.declared.spans.ResponseSpans.{ResponseSpans}
 use Rattle.httparse.specs.declared.spans.Span.{Span}
 use Rattle.httparse.specs.Spans.{IsResponseAt, span_bytes}
-use Rattle.http1.specs.declared.decode.Decoder.{Decoder}
 use Rattle.http1.specs.declared.decode.Decoder.TheVariants.{UntilClose}
 use Rattle.http1.specs.declared.framing.Framing.TheVariants as Framed
-use Rattle.http1.specs.Body.{Body, body_of, ReadsBody}
+use Rattle.http1.specs.Body.{Body, ReadsBody}
 use Rattle.http1.specs.Decoder.{Completes, with_front}
 use Rattle.esm_invoke.specs.declared.head.Head.{Head}
 use Rattle.esm_invoke.specs.declared.head.HeadSearch.{HeadSearch}
@@ -20,6 +20,13 @@ use Rattle.esm_invoke.specs.declared.body.Step.TheVariants as Taken
 use Rattle.esm_invoke.specs.declared.body.Progress.{Progress}
 use Rattle.esm_invoke.specs.declared.body.Progress.TheVariants as Comes
 use Rattle.esm_invoke.specs.Response.{Says, BeginsWith, IsBodyWithin, MAX_BODY, limits}
+
+-- an empty line ends at this place: a line feed behind another, with or without a carriage return between them
+abbrev pub ends_empty_line : List ℕ → ℕ → Bool
+ends_empty_line bytes at =
+    (slice_index bytes at == line_feed)
+    && ((nat_le 1 at && (slice_index bytes (at - 1) == line_feed))
+    || (nat_le 2 at && ((slice_index bytes (at - 1) == carriage_return) && (slice_index bytes (at - 2) == line_feed))))
 
 -- a head at the front of the bytes, whatever follows them, is longer than this
 pub record HasNoHead (looked : ℕ) (bytes : List ℕ) : Type 0 where

@@ -1,10 +1,10 @@
 // The head of a response.
-ghost use Rattle.std.specs.Prelude.{◌≡◌, ◌<◌, ◌≤◌, ℕ, List, ◌++◌, length, map, take, drop, min, All, codes};
+ghost use Rattle.std.specs.Prelude.{◌≡◌, ◌<◌, ◌≤◌, ℕ, List, ◌++◌, length, map, take, drop, min, false, All, codes};
 ghost use Rattle.httparse.specs.Grammar.{ResponseHead};
 ghost use Rattle.httparse.specs.Spans.{IsHeaderWithin, IsSectionWithin, IsResponseAt, header_bytes};
 ghost use Rattle.http1.specs.Fields.{is_named, known_fields};
 ghost use Rattle.esm_invoke.specs.Response.{framing_of, framing_by_coding, has_function_error};
-ghost use Rattle.esm_invoke.specs.Reading.{HasNoHead, NeverBegins, FindsHead, ParsesHead, SaysAt};
+ghost use Rattle.esm_invoke.specs.Reading.{ends_empty_line, HasNoHead, NeverBegins, FindsHead, ParsesHead, SaysAt};
 
 use http::StatusCode;
 use http1::fields::{ContentLength, KnownFields, TransferEncoding};
@@ -41,8 +41,8 @@ pub enum HeadSearch {
     Never,
 }
 
-/// Looks for a head at the front of the bytes, of which the first `looked` hold none. The head is parsed where a
-/// line's end has come behind them, so the work is linear in the bytes for each line of the head.
+/// Looks for a head at the front of the bytes, of which the first `looked` hold none. The head is parsed only where an
+/// empty line has come behind these, so once where no empty lines stand before it.
 pub fn find_head(bytes: &[u8], looked: usize) -> HeadSearch
     requires within { looked ≤ length bytes.now }
     requires looked { HasNoHead looked bytes.now }
@@ -60,13 +60,34 @@ fn look(bytes: &[u8], looked: usize) -> HeadSearch
     requires looked { HasNoHead looked bytes.now }
     ensures { ParsesHead bytes.now (min (length bytes.now) 16384) result }
 {
-    let (_, fresh) = bytes.split_at(looked);
-    if !fresh.contains(&b'\n') {
+    if !has_empty_line(bytes, looked) {
         return HeadSearch::More;
     }
     let count = bytes.len().min(MAX_HEAD);
     let (front, _) = bytes.split_at(count);
     parse(front)
+}
+
+/// Whether an empty line ends in the bytes from this place on.
+fn has_empty_line(bytes: &[u8], from: usize) -> bool
+    ensures { result ≡ false → (k : ℕ) → from ≤ k → k < length bytes.now → ends_empty_line bytes.now k ≡ false }
+{
+    for at in from..bytes.len() {
+        if ends_empty_line(bytes, at) {
+            return true;
+        }
+    }
+    false
+}
+
+/// An empty line ends at this place.
+fn ends_empty_line(bytes: &[u8], at: usize) -> bool
+    requires { at < length bytes.now }
+    ensures { result ≡ ends_empty_line bytes.now at }
+{
+    bytes[at] == b'\n'
+        && ((at >= 1 && bytes[at - 1] == b'\n')
+            || (at >= 2 && bytes[at - 1] == b'\r' && bytes[at - 2] == b'\n'))
 }
 
 /// Parses the head at the front of the bytes, which are no more than a head may have.

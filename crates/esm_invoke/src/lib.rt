@@ -1,5 +1,6 @@
 //! Calls of functions over HTTP on loopback: the request's exact bytes, and the reply that the bytes read make, over
-//! any link. A head is read by `httparse`, a body by the decoder of `http1`, each byte once.
+//! any link. A head is looked for as its bytes come and parsed by `httparse` where an empty line has ended; a body goes
+//! through the decoder of `http1` as it comes.
 #![tactic(auto)]
 
 pub mod body;

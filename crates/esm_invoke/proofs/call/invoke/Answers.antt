@@ -1,4 +1,4 @@
-use Rattle.std.proofs.Common.{◌≡◌, ◌<◌, ◌∙◌, length, ap, sym, subst}
+use Rattle.std.proofs.Common.{◌<◌, ◌∙◌, length, sym, subst}
 use Rattle.esm_io.specs.Talks.{Writes}
 use Rattle.esm_invoke.specs.Receiving.{WritesPart}
 use Rattle.esm_invoke.proofs.ReplyLemmas.{answers_after, sends_none, sends_part, sends_all, request_some}

@@ -1,4 +1,4 @@
-use Rattle.std.proofs.Common.{◌≡◌, ◌∙◌, ap, sym, subst}
+use Rattle.std.proofs.Common.{◌≡◌, subst}
 use Rattle.std.specs.Prelude.{IfOk}
 use Rattle.esm_model.specs.declared.entry.Reply.TheVariants.{Garbled}
 use Rattle.esm_invoke.proofs.TalkLemmas.{Reads_then}

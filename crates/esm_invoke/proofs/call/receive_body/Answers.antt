@@ -1,12 +1,10 @@
-use Rattle.std.proofs.Common.{◌≡◌, ◌≤◌, ℕ, ◌+◌, true, false, length, take, drop, sym, refl, ap, ◌∙◌, inl, inr, subst, arith, None, add-zero}
+use Rattle.std.proofs.Common.{◌≡◌, ◌≤◌, ◌+◌, true, false, length, take, drop, sym, refl, ap, ◌∙◌, inl, inr, subst, arith}
 use Rattle.std.proofs.lemmas.Bool.{false≢true}
 use Rattle.std.proofs.lemmas.List.{length-take-le, take_all}
-use Rattle.std.specs.Prelude.{IfOk}
-use Rattle.esm_model.specs.declared.entry.Reply.TheVariants.{Garbled}
-use Rattle.esm_invoke.specs.Response.{BeginsWith, IsReplyTo}
+use Rattle.esm_invoke.specs.Response.{BeginsWith}
 use Rattle.esm_invoke.specs.Reading.{Awaits, IsUnfinished}
-use Rattle.esm_invoke.specs.Receiving.{ReadsMore, Settles}
-use Rattle.esm_invoke.proofs.ReplyLemmas.{no_more, more_then, nothing_more, begins_on, awaits_more, awaits_start, none_unfinished, garbled_if, replies_if, goes_on_here, front_stays}
+use Rattle.esm_invoke.specs.Receiving.{ReadsMore}
+use Rattle.esm_invoke.proofs.ReplyLemmas.{no_more, more_then, begins_on, awaits_more, awaits_start, none_unfinished, garbled_if, replies_if, goes_on_here, front_stays}
 use Rattle.esm_invoke.proofs.call.receive_body.Goals as goal
 
 pub loop-body-init : goal.loop-body-init

@@ -1,4 +1,4 @@
-use Rattle.std.proofs.Common.{◌≡◌, ◌<◌, ◌≤◌, ◌-◌, length, take, drop}
+use Rattle.std.proofs.Common.{◌≤◌, ◌-◌, length, take, drop}
 use Rattle.esm_io.specs.Faults.{MAX_FAULTS}
 use Rattle.esm_invoke.specs.Receiving.{ReadsMore}
 use Rattle.esm_invoke.specs.Response.{BeginsWith}

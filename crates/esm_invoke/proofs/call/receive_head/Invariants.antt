@@ -1,4 +1,4 @@
-use Rattle.std.proofs.Common.{◌≡◌, ◌<◌, ◌≤◌, ◌-◌, length, take}
+use Rattle.std.proofs.Common.{◌≤◌, ◌-◌, length, take}
 use Rattle.esm_io.specs.Faults.{MAX_FAULTS}
 use Rattle.esm_io.specs.Talks.{Reads}
 use Rattle.esm_invoke.specs.Reading.{HasNoHead}

@@ -1,4 +1,4 @@
-use Rattle.std.proofs.Common.{◌≡◌, ◌+◌, ◌<◌, take, sym, ap, ◌∙◌, subst, arith}
+use Rattle.std.proofs.Common.{take, sym, subst, arith}
 use Rattle.std.proofs.Math.Seq.{take-add}
 use Rattle.esm_io.specs.Talks.{Writes}
 use Rattle.esm_invoke.proofs.TalkLemmas.{Writes_then}

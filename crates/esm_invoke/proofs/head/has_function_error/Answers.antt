@@ -1,10 +1,9 @@
-use Rattle.std.proofs.Common.{◌≡◌, ℕ, List, ◌<◌, false, true, map, length, get_or, take, sym, ap, ◌∙◌, ◌||◌, arith, rules}
+use Rattle.std.proofs.Common.{ℕ, List, sym, ap, ◌∙◌, ◌||◌}
 use Rattle.std.specs.List.{list_any}
 use Rattle.std.specs.Prelude.{codes}
 use Rattle.std.proofs.lemmas.List.{take_all}
 use Rattle.std.proofs.lemmas.List.Folds.{list_any_at, list_any_more}
 use Rattle.httparse.specs.Spans.{header_bytes}
-use Rattle.httparse.specs.declared.spans.HeaderSpan.{HeaderSpan}
 use Rattle.http1.specs.Fields.{is_named}
 use Rattle.esm_invoke.proofs.HeadLemmas.{list_any-map}
 use Rattle.esm_invoke.proofs.head.has_function_error.Goals as goal
