@@ -26,7 +26,7 @@ use Rattle.esm_shard.specs.Ledger.{next_plain, next_with, next_open, rest_of}
 use Rattle.esm_shard.proofs.Books.{book_settled}
 use Rattle.esm_shard.proofs.Bridge.{open_is, group_is, batch_is, fresh_is, not_expired, never_due, never_outstanding}
 
-all_from_In : (n : ℕ) (xs : List ℕ) → ((i : ℕ) → In xs i → i < n) → All (λ p. p < n) xs
+pub all_from_In : (n : ℕ) (xs : List ℕ) → ((i : ℕ) → In xs i → i < n) → All (λ p. p < n) xs
 all_from_In n [] h = All-nil (λ p. p < n)
 all_from_In n (x ∷ xs) h = All-cons (λ p. p < n) x xs (h x (In-here x xs x refl)) (all_from_In n xs (λ i m. h i (In-there x xs i m)))
 

@@ -8,3 +8,4 @@ pub mod Kept
 pub mod Ends
 pub mod Points
 pub mod Served
+pub mod Marks

@@ -1,5 +1,5 @@
 -- What a core keeps of its shard's records, as a table.
-use Rattle.std.specs.Prelude.{ℕ, ◌+◌, ◌==◌, nat_le, Bool, true, false, not, ◌&&◌, ◌||◌, nat_lt, List, length, Option, Some, None, filter, filter_map, option_map, slice_get, slice_index_or, if◌then◌else◌}
+use Rattle.std.specs.Prelude.{◌≡◌, ℕ, ◌+◌, ◌==◌, nat_le, Bool, true, false, not, ◌&&◌, ◌||◌, nat_lt, List, [], ◌∷◌, length, ⊤, Option, Some, None, filter, filter_map, option_map, slice_get, slice_index_or, if◌then◌else◌}
 use Rattle.esm_model.specs.Limits.{MAX_EVENT}
 use Rattle.esm_model.specs.declared.config.Config.{Config}
 use Rattle.esm_model.specs.declared.item.Record.{Record}
@@ -53,6 +53,15 @@ marked_at at rest slot (Some k) = record slot { tries = if is_counted rest then 
 -- the slot of the place after an end with this rest and these places
 abbrev pub marked_slot : ℕ → Rest → List ℕ → ℕ → Slot → Slot
 marked_slot at rest places i slot = marked_at at rest slot (side rest places i)
+
+-- the slot of the place after these places were marked with this side
+abbrev pub side_slot : ℕ → Rest → List ℕ → ℕ → ℕ → Slot → Slot
+side_slot at rest places k i slot = marked_at at rest slot (if holds places i then Some k else None)
+
+-- no place stands twice
+abbrev pub AreDistinct : List ℕ → Type 0
+AreDistinct [] = ⊤
+AreDistinct (i ∷ places) = (holds places i ≡ false) × AreDistinct places
 
 -- the slot of the place after a fate was given to the places
 abbrev pub fated_slot : List ℕ → ℕ → Slot → Slot

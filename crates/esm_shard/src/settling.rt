@@ -1,4 +1,4 @@
-ghost use Rattle.std.specs.Prelude.{◌≡◌, ◌+◌, ◌<◌, ◌≤◌, ◌^◌, ◌++◌, ◌∷◌, List, IfOk, OnErr, OnOk, None, length, vec_len, true, drop, take};
+ghost use Rattle.std.specs.Prelude.{◌≡◌, ◌+◌, ◌<◌, ◌≤◌, ◌^◌, ◌++◌, ◌∷◌, List, IfOk, OnErr, OnOk, All, None, length, vec_len, true, drop, take};
 ghost use Rattle.std.specs.Vec.{vec_capacity};
 ghost use Rattle.esm_model.specs.Moment.{MAX_MOMENT as LAST_MOMENT};
 ghost use Rattle.esm_model.specs.Batches.{failures_by};
@@ -136,7 +136,6 @@ impl Ledger {
         requires verdict { IsVerdictOf self.old reply verdict }
         requires left { left.now ≡ drop verdict.succeeded (running_places self.old) }
         requires room { vec_len self.old.history < vec_capacity self.old.history }
-        requires few { vec_len self.old.slots < 2 ^ 32 }
         requires long { vec_len self.old.history < 2 ^ 40 }
         requires goes_on { self.old.last ≤ now }
         requires in_time { now ≤ LAST_MOMENT }
@@ -169,7 +168,7 @@ impl Ledger {
     fn give(&mut self, places: Places, fate: Fate)
         requires answered { IsAnswered fate }
         requires room { vec_len self.old.history < vec_capacity self.old.history }
-        requires few { vec_len self.old.slots < 2 ^ 32 }
+        requires within { All (λ p. p < vec_len self.old.slots) places }
         ensures owing { (ds : List Due) → Owing self.old (due_fate fate places ∷ ds) → Owing self.new ds }
         ensures history { past_of self.new ≡ gave self.old places fate ∷ past_of self.old }
         ensures rooms { vec_capacity self.new.history ≡ vec_capacity self.old.history }
@@ -216,7 +215,7 @@ impl Ledger {
     /// Gives the records that succeeded their fate.
     fn pay_good(&mut self, good: Places)
         requires room { vec_len self.old.history < vec_capacity self.old.history }
-        requires few { vec_len self.old.slots < 2 ^ 32 }
+        requires within { All (λ p. p < vec_len self.old.slots) good }
         ensures owing { (ds : List Due) → Owing self.old (due_success good None ++ ds) → Owing self.new ds }
         ensures history { past_of self.new ≡ success_entries (lane_of_ledger self.old) good self.old.last ++ past_of self.old }
         ensures rooms { vec_capacity self.new.history ≡ vec_capacity self.old.history }
@@ -235,7 +234,7 @@ impl Ledger {
     /// Notes what becomes of the records that did not succeed.
     fn pay_rest(&mut self, rest: Rest, left: Places, tries: u32)
         requires room { vec_len self.old.history < vec_capacity self.old.history }
-        requires few { vec_len self.old.slots < 2 ^ 32 }
+        requires within { All (λ p. p < vec_len self.old.slots) left }
         ensures owing { (ds : List Due) → Owing self.old (due_rest rest left None tries ++ ds) → Owing self.new ds }
         ensures history { past_of self.new ≡ rest_entries (lane_of_ledger self.old) rest left tries self.old.last ++ past_of self.old }
         ensures rooms { vec_capacity self.new.history ≡ vec_capacity self.old.history }

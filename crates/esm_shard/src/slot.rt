@@ -1,12 +1,10 @@
-ghost use Rattle.std.specs.Prelude.{◌≡◌, ◌<◌, ◌≤◌, ◌^◌, IfOk, length, take, drop, filter, All, slice_index, [], ℕ, true, false};
+ghost use Rattle.std.specs.Prelude.{◌≡◌, ◌<◌, ◌≤◌, ◌^◌, IfOk, length, take, drop, filter, All, Some, slice_index, [], ℕ, true, false};
 ghost use Rattle.std.specs.List.{prefix_len};
-ghost use Rattle.esm_model.specs.Entries.{holds};
 ghost use Rattle.esm_model.specs.Fates.{below};
-ghost use Rattle.esm_model.specs.Tries.{side};
 ghost use Rattle.esm_model.specs.Batches.{longest, delay_from};
 ghost use Rattle.esm_model.specs.Valid.{IsValidRecord, IsStreamConfig};
 ghost use Rattle.esm_model.specs.Moment.{MAX_MOMENT as LAST_MOMENT};
-ghost use Rattle.esm_shard.specs.Table.{is_fated, open_slots, same_slots, is_same_slot, fits_records, slot_at, marked_slot, fated_slot, ready_test};
+ghost use Rattle.esm_shard.specs.Table.{is_fated, open_slots, same_slots, is_same_slot, fits_records, slot_at, marked_at, marked_slot, side_slot, fated_slot, AreDistinct, ready_test};
 
 use esm_event::{frame_bytes, stream_bytes};
 use esm_model::{Config, OutOfMemory, Record, Rest};
@@ -100,77 +98,60 @@ pub fn cut(config: &Config, records: &[Record], places: &[u32]) -> usize
     places.len()
 }
 
-/// Whether the place stands in the list.
-pub fn is_in(places: &[u32], place: u32) -> bool
-    ensures { result ≡ holds places.now place }
+/// The slot after an end with this rest that marks it.
+pub fn marked(slot: &Slot, rest: Rest, mark: Mark) -> Slot
+    ensures { result ≡ marked_at mark.at rest slot.now (Some mark.side) }
 {
-    places.iter().any(|p| *p == place)
-}
-
-/// The side of the place, where the rest of a batch is marked and the place is in it.
-pub fn side_of(rest: Rest, places: &[u32], place: u32) -> Option<u32>
-    ensures { result ≡ side rest places.now place }
-{
-    match rest {
-        Rest::Counted => { if is_in(places, place) { Some(0) } else { None } }
-        Rest::Split(k) => {
-            if is_in(places, place) {
-                let first = (k as usize).min(places.len());
-                if is_in(&places[..first], place) {
-                    Some(0)
-                } else {
-                    Some(1)
-                }
-            } else {
-                None
-            }
-        }
-        _ => None,
+    let counted = rest == Rest::Counted;
+    let tries = if counted {
+        slot.tries.min(10000) + 1
+    } else {
+        slot.tries
+    };
+    Slot {
+        fated: slot.fated,
+        tries,
+        mark: Some(mark),
+        came: slot.came,
     }
 }
 
-/// The slot after an end that is the entry `at`.
-pub fn marked(slot: &Slot, rest: Rest, places: &[u32], place: u32, at: u64) -> Slot
-    ensures { result ≡ marked_slot at rest places.now place slot.now }
+/// Marks the places of one side.
+pub fn mark_side(slots: &mut [Slot], rest: Rest, places: &[u32], mark: Mark)
+    requires within { All (λ p. p < length slots.old) places.now }
+    requires distinct { AreDistinct places.now }
+    ensures { (i : ℕ) → i < length slots.old → slot_at slots.new i ≡ side_slot mark.at rest places.now mark.side i (slot_at slots.old i) }
 {
-    match side_of(rest, places, place) {
-        None => *slot,
-        Some(side) => {
-            let counted = rest == Rest::Counted;
-            let tries = if counted {
-                slot.tries.min(10000) + 1
-            } else {
-                slot.tries
-            };
-            Slot {
-                fated: slot.fated,
-                tries,
-                mark: Some(Mark { at, side }),
-                came: slot.came,
-            }
-        }
+    for place in places {
+        let i = *place as usize;
+        slots[i] = marked(&slots[i], rest, mark);
     }
 }
 
 /// Marks the places that an end left.
 pub fn mark_slots(slots: &mut [Slot], rest: Rest, places: &[u32], at: u64)
-    requires { length slots.old < 2 ^ 32 }
+    requires within { All (λ p. p < length slots.old) places.now }
+    requires distinct { AreDistinct places.now }
     ensures { (i : ℕ) → i < length slots.old → slot_at slots.new i ≡ marked_slot at rest places.now i (slot_at slots.old i) }
 {
-    for i in 0..slots.len() {
-        slots[i] = marked(&slots[i], rest, places, i as u32, at);
+    match rest {
+        Rest::Counted => mark_side(slots, rest, places, Mark { at, side: 0 }),
+        Rest::Split(k) => {
+            let first = (k as usize).min(places.len());
+            mark_side(slots, rest, &places[..first], Mark { at, side: 0 });
+            mark_side(slots, rest, &places[first..], Mark { at, side: 1 });
+        }
+        _ => {}
     }
 }
 
 /// Gives the places a fate.
 pub fn fate_slots(slots: &mut [Slot], places: &[u32])
-    requires { length slots.old < 2 ^ 32 }
+    requires { All (λ p. p < length slots.old) places.now }
     ensures { (i : ℕ) → i < length slots.old → slot_at slots.new i ≡ fated_slot places.now i (slot_at slots.old i) }
 {
-    for i in 0..slots.len() {
-        if is_in(places, i as u32) {
-            slots[i].fated = true;
-        }
+    for place in places {
+        slots[*place as usize].fated = true;
     }
 }
 

@@ -1,12 +1,13 @@
-use Rattle.std.proofs.Common.{◌≡◌, ◌∙◌, sym, ap, subst, arith, ℕ, List, length, ◌<◌, rules, vec_len, ◌++◌, ◌∷◌, []}
+use Rattle.std.proofs.Common.{◌≡◌, ◌∙◌, refl, sym, ap, subst, arith, ℕ, List, length, ◌<◌, rules, vec_len, ◌++◌, ◌∷◌, []}
 use Rattle.std.proofs.lemmas.List.{length-reverse}
 use Rattle.std.specs.Vec.{with_items}
 use Rattle.esm_model.specs.declared.entry.Entry.TheVariants.{Ended}
 use Rattle.esm_shard.specs.declared.slot.Slot.{Slot}
 use Rattle.esm_shard.specs.Table.{slot_at, marked_slot}
-use Rattle.esm_shard.specs.Ledger.{setting_of, past_of, lane_of_ledger}
+use Rattle.esm_shard.specs.Ledger.{setting_of, past_of, lane_of_ledger, running_places}
 use Rattle.esm_shard.proofs.Kept.{own, written}
 use Rattle.esm_shard.proofs.Ends.{failures_le, owing_ended}
+use Rattle.esm_shard.proofs.Marks.{left_within, left_distinct}
 use Rattle.esm_shard.proofs.ledger.Ledger.end.Goals as goal
 
 pub failures_of-self-requires : goal.failures_of-self-requires
@@ -33,3 +34,13 @@ returns-clause-owing c =
     c.failures_of-self.ensures at c.requires.left
     (λ i low. subst (λ (xs : List Slot). slot_at xs i ≡ marked_slot c.len-at.result c.args.verdict.rest c.args.left.now i (slot_at old.items i)) (sym w) (each i low))
     (ap length w ∙ same) e c.requires.runs c.requires.verdict c.requires.goes_on c.requires.in_time c.requires.kept
+
+pub mark_slots-requires-clause-within : goal.mark_slots-requires-clause-within
+mark_slots-requires-clause-within c =
+    let self = c.args.self.now in
+    let lent : length c.as_mut_slice.result.now ≡ length self.slots.items = search rules in
+    left_within self (running_places self) c.requires.kept (record { runs = c.requires.runs; batch = refl }) c.args.verdict.succeeded c.args.left.now (length c.as_mut_slice.result.now) c.requires.left lent
+
+pub mark_slots-requires-clause-distinct : goal.mark_slots-requires-clause-distinct
+mark_slots-requires-clause-distinct c =
+    left_distinct c.args.self.now (running_places c.args.self.now) c.requires.kept (record { runs = c.requires.runs; batch = refl }) c.args.verdict.succeeded c.args.left.now c.requires.left

@@ -9,6 +9,7 @@ use Rattle.esm_shard.specs.Book.{lane_id}
 use Rattle.std.specs.Prelude.{unwrap_or, Option}
 use Rattle.esm_shard.proofs.Kept.{own}
 use Rattle.esm_shard.proofs.Ends.{dues, pasts, owed_are, plain_given, batch_few, parts_length}
+use Rattle.esm_shard.proofs.Marks.{good_within, left_within}
 use Rattle.esm_shard.proofs.ledger.Ledger.settle.Goals as goal
 
 pub returns-clause-kept : goal.returns-clause-kept
@@ -62,20 +63,14 @@ given-given-requires c =
     let whole = parts_length c.in_ok-verdict.field-0.verdict.succeeded places c.as_slice.result.now c.as_slice-2.result.now (c.as_slice.ensures ∙ found.good) (c.as_slice-2.ensures ∙ found.left) in
     omega (arith, few, whole, b.few)
 
-pub end-requires-clause-few : goal.end-requires-clause-few
-end-requires-clause-few c =
-    let b = own c.args.self.now c.requires.kept in
-    let all : vec_len c.args.self.now.slots ≡ length c.args.self.now.slots.items = search rules in
-    omega (arith, all, b.long, b.few)
+pub pay_good-requires-clause-within : goal.pay_good-requires-clause-within
+pay_good-requires-clause-within c =
+    let self = c.args.self.now in
+    let all : vec_len self.slots ≡ length self.slots.items = search rules in
+    good_within self c.args.places.now c.requires.kept c.requires.runs c.in_ok-verdict.field-0.verdict.succeeded c.in_ok-verdict.field-0.good (vec_len c.end.new.self.slots) c.in_ok-verdict.ensures.good (c.end.ensures.slots ∙ all)
 
-pub pay_good-requires-clause-few : goal.pay_good-requires-clause-few
-pay_good-requires-clause-few c =
-    let b = own c.args.self.now c.requires.kept in
-    let all : vec_len c.args.self.now.slots ≡ length c.args.self.now.slots.items = search rules in
-    omega (arith, all, b.long, b.few, c.end.ensures.slots)
-
-pub pay_rest-requires-clause-few : goal.pay_rest-requires-clause-few
-pay_rest-requires-clause-few c =
-    let b = own c.args.self.now c.requires.kept in
-    let all : vec_len c.args.self.now.slots ≡ length c.args.self.now.slots.items = search rules in
-    omega (arith, all, b.long, b.few, c.end.ensures.slots, c.pay_good.ensures.slots)
+pub pay_rest-requires-clause-within : goal.pay_rest-requires-clause-within
+pay_rest-requires-clause-within c =
+    let self = c.args.self.now in
+    let all : vec_len self.slots ≡ length self.slots.items = search rules in
+    left_within self c.args.places.now c.requires.kept c.requires.runs c.in_ok-verdict.field-0.verdict.succeeded c.in_ok-verdict.field-0.left (vec_len c.pay_good.new.self.slots) c.in_ok-verdict.ensures.left (c.pay_good.ensures.slots ∙ c.end.ensures.slots ∙ all)
