@@ -39,7 +39,7 @@ use Rattle.esm_shard.specs.declared.slot.Slot.{Slot}
 use Rattle.esm_shard.specs.declared.ledger.Ledger.{Ledger}
 use Rattle.esm_shard.specs.CoreView.{CoreView, IsRunningJob}
 use Rattle.esm_shard.specs.Plain.{plain_reading, UpToWithin}
-use Rattle.esm_shard.specs.Table.{slot_at, marked_slot, marked_at, nothing}
+use Rattle.esm_shard.specs.Table.{slot_at, is_fated, marked_slot, marked_at, nothing, IsPoint}
 use Rattle.esm_shard.specs.Book.{Table, IsBook, lane_id}
 use Rattle.esm_shard.specs.Ending.{HasEnded, given_count, owed_entries}
 use Rattle.esm_shard.specs.Ledger.{Owing, Keeps, past_of, setting_of, table_of, view_of, lane_of_ledger, running_places, RunsPlaces, IsVerdictOf, first_tries, plain_due, success_entries, exhausted_entries, rest_entries, left_given}
@@ -160,6 +160,21 @@ marked_all at r slots new places same inside each i =
     no_side rest.Counted out = rw out refl
     no_side (rest.Split k) out = rw out refl
 
+-- a mark gives and takes no fate
+marked_point : (at : ℕ) (r : Rest) (slots new : List Slot) (places : List ℕ) (k : ℕ) → length new ≡ length slots → ((i : ℕ) → i < length slots → slot_at new i ≡ marked_slot at r places i (slot_at slots i)) → IsPoint slots k → IsPoint new k
+marked_point at r slots new places k same each point = record {
+  before = λ i less. still i (let w = point.within in omega arith) ∙ point.before i less;
+  open' = λ inside. (let low : k < length slots = omega (arith, same) in still k low ∙ point.open' low);
+  within = (let w = point.within in omega (arith, same));
+}
+  where
+    as_before : (slot : Slot) (o : Option ℕ) → (marked_at at r slot o).fated ≡ slot.fated
+    as_before slot None = refl
+    as_before slot (Some j) = refl
+
+    still : (i : ℕ) → i < length slots → is_fated new i ≡ is_fated slots i
+    still i low = ap (λ (slot : Slot). slot.fated) (each i low) ∙ as_before (slot_at slots i) (side r places i)
+
 pub owing_ended : (c : Ledger) (slots : Vec Slot Global) (history : Vec Entry Global) (n : ℕ) (v : Verdict) (reply : Reply) (left : List ℕ) (at m : ℕ)
     → n ≡ failures_by v.rest c.failures → at ≡ length c.history.items
     → left ≡ drop v.succeeded (running_places c)
@@ -181,6 +196,7 @@ owing_ended c slots history n v reply left at m fails at_is left_is each same is
       let t : Table = record (table_of c) { slots = slots.items; running = false; failures = n; last_end = m; last = m } in
       subst (λ (h : List Entry). IsBook (over (setting_of c) ts) h (record (table_of c) { slots = slots.items; running = false; failures = n; last_end = m; last = m }) (plain_due v (running_places c) (first_tries c (running_places c)))) (sym (pushed c.history.items history.items (Ended (lane_of_ledger c) reply m) is))
       (subst (λ (es : List Due). IsBook (over (setting_of c) ts) (Ended (lane_of_ledger c) reply m ∷ past_of c) (record (table_of c) { slots = slots.items; running = false; failures = n; last_end = m; last = m }) es) (due_is s (past_of c) (table_of c) places reply v b runs refl (verdict ts ext)) new));
+  point = marked_point at v.rest c.slots.items slots.items left c.front same each k.point;
 }
 
 pub first_In : (xs : List ℕ) → 1 ≤ length xs → In xs (get_or xs 0 0)

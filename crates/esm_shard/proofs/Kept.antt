@@ -1,8 +1,9 @@
 -- What each method of a ledger leaves is kept.
-use Rattle.std.proofs.Common.{◌≡◌, ℕ, zero, suc, ◌+◌, ◌^◌, ◌<◌, ◌≤◌, Bool, true, false, cond, List, [], ◌∷◌, ◌++◌, length, take, drop, refl, sym, ap, ◌∙◌, subst, inl, inr, arith, Option, Some, None, min, max, Vec, Global, reverse, add-one}
+use Rattle.std.proofs.Common.{◌≡◌, ℕ, zero, suc, ◌+◌, ◌-◌, ◌^◌, ◌<◌, ◌≤◌, Bool, true, false, cond, List, [], ◌∷◌, ◌++◌, length, take, drop, refl, sym, ap, ◌∙◌, subst, inl, inr, arith, Option, Some, None, min, max, Vec, Global, reverse, add-one, length-append}
 use Rattle.std.specs.Prelude.{◌==◌, slice_get, replicate, All, unwrap_or, is_some}
 use Rattle.std.proofs.lemmas.List.Elements.{All-append}
-use Rattle.std.proofs.lemmas.List.{reverse-append, get_or_past}
+use Rattle.std.proofs.lemmas.List.{reverse-append, get_or_past, get_or-append_right, get_or-replicate, length-replicate}
+use Rattle.std.proofs.Math.ListN.{get_or-append}
 use Rattle.std.proofs.lemmas.Bool.{cases_Bool, eq-eqb, cases_lt}
 use Rattle.esm_model.specs.Moment.{MAX_MOMENT, capped_moment}
 use Rattle.esm_model.specs.Valid.{IsValidRecord}
@@ -20,7 +21,7 @@ use Rattle.esm_model.proofs.Paid.{gave_In}
 use Rattle.esm_shard.specs.declared.slot.Slot.{Slot}
 use Rattle.esm_shard.specs.declared.ledger.Ledger.{Ledger}
 use Rattle.esm_shard.specs.CoreView.{moment_for, LegalOver, SettledOver}
-use Rattle.esm_shard.specs.Table.{slot_at, fated_slot, nothing}
+use Rattle.esm_shard.specs.Table.{slot_at, is_fated, fated_slot, nothing, IsPoint}
 use Rattle.esm_shard.specs.Book.{Table, IsBook, lane_id}
 use Rattle.esm_shard.specs.Ledger.{Keeps, Owing, past_of, setting_of, table_of, view_of, streams_of, lane_of_ledger, MayBeginAt, IsAnswered, due_fate, gave}
 use Rattle.esm_shard.proofs.Books.{book_shut, book_came, book_began, book_gave, book_tried, book_named, book_settled, legal_gave, fresh_slot, true_false}
@@ -45,13 +46,17 @@ pub pushed : (xs ys : List Entry) (e : Entry) → ys ≡ xs ++ e ∷ [] → reve
 pushed xs ys e is = ap reverse is ∙ reverse-append xs (e ∷ [])
 
 pub keeps_history : (c : Ledger) (v : Vec Entry Global) → v.items ≡ c.history.items → Keeps c → Keeps (record c { history = v })
-keeps_history c v same k = record { book = λ ts ext. subst (λ (items : List Entry). IsBook (over (setting_of c) ts) (reverse items) (table_of c) []) (sym same) (k.book ts ext) }
+keeps_history c v same k = record {
+  book = λ ts ext. subst (λ (items : List Entry). IsBook (over (setting_of c) ts) (reverse items) (table_of c) []) (sym same) (k.book ts ext);
+  point = k.point;
+}
 
 pub keeps_shut : (c : Ledger) (v : Vec Entry Global) (m : ℕ) → v.items ≡ c.history.items ++ Shut m ∷ [] → c.shut ≡ false → c.last ≤ m → m ≤ MAX_MOMENT → Keeps c → Keeps (record c { history = v; shut = true; last = m })
 keeps_shut c v m is going back end k = record {
   book = λ ts ext.
       subst (λ (h : List Entry). IsBook (over (setting_of c) ts) h (table_of (record c { history = v; shut = true; last = m })) []) (sym (pushed c.history.items v.items (Shut m) is))
       (book_shut (over (setting_of c) ts) (past_of c) (table_of c) m (k.book ts ext) going back end);
+  point = k.point;
 }
 
 slice_get_left : {X : Type 0} (xs ys : List X) (i : ℕ) (x : X) → slice_get xs i ≡ Some x → slice_get (xs ++ ys) i ≡ Some x
@@ -69,6 +74,7 @@ keeps_lists c records slots history e f g k =
           (subst (λ (rs : List Record). IsBook (over (setting_of c) ts) (past_of c) (record (table_of c) { records = rs; slots = slots.items }) []) (sym e)
           (subst (λ (ss : List Slot). IsBook (over (setting_of c) ts) (past_of c) (record (table_of c) { slots = ss }) []) (sym f)
           (k.book ts (subst (λ (rs : List Record). Extends (streams_of c.shard rs) ts) e ext))));
+      point = subst (λ (ss : List Slot). IsPoint ss c.front) (sym f) k.point;
     }
 
 -- the shard that comes is the table's, or the table has none
@@ -96,6 +102,19 @@ pub named_shard : (o : Option ℕ) (n : ℕ) → n ≡ unwrap_or o n → is_some
 named_shard None n named is = true_false false is refl
 named_shard (Some k) n named is = sym named
 
+-- new records have no fate
+came_point : (slots : List Slot) (k n m : ℕ) → IsPoint slots k → IsPoint (slots ++ replicate n (fresh_slot m)) k
+came_point slots k n m point = record {
+  before = λ i less. (let low : i < length slots = (let w = point.within in omega arith) in ap (λ (slot : Slot). slot.fated) (get_or-append slots (replicate n (fresh_slot m)) nothing i low) ∙ point.before i less);
+  open' = λ inside. elim (cases_lt k (length slots)) [
+    | inl low ↦ ap (λ (slot : Slot). slot.fated) (get_or-append slots (replicate n (fresh_slot m)) nothing k low) ∙ point.open' low
+    | inr high ↦ (
+        let few : k - length slots < n = omega (arith, length-append slots (replicate n (fresh_slot m)), length-replicate n (fresh_slot m)) in
+        ap (λ (slot : Slot). slot.fated) (get_or-append_right slots (replicate n (fresh_slot m)) (length slots) k nothing refl high ∙ get_or-replicate n (k - length slots) (fresh_slot m) nothing few))
+  ];
+  within = (let w = point.within in omega (arith, length-append slots (replicate n (fresh_slot m))));
+}
+
 pub keeps_came : (c : Ledger) (records : Vec Record Global) (slots : Vec Slot Global) (history : Vec Entry Global) (n m : ℕ) (items : List Record)
     → records.items ≡ c.records.items ++ items
     → slots.items ≡ c.slots.items ++ replicate (length items) (fresh_slot m)
@@ -116,6 +135,7 @@ keeps_came c records slots history n m items e f g named going some few valid ba
           subst (λ (h : List Entry). IsBook (over (setting_of c) ts) h (table_of (record c { records = records; slots = slots; history = history; shard = Some n; last = m })) []) (sym (pushed c.history.items history.items (Came n (length c.records.items) (length items) m) g))
           (subst (λ (rs : List Record). IsBook (over (setting_of c) ts) (Came n (length c.records.items) (length items) m ∷ past_of c) (record (table_of c) { named = true; shard = n; records = rs; slots = slots.items; last = m }) []) (sym e)
           (subst (λ (ss : List Slot). IsBook (over (setting_of c) ts) (Came n (length c.records.items) (length items) m ∷ past_of c) (record (table_of c) { named = true; shard = n; records = c.records.items ++ items; slots = ss; last = m }) []) (sym f) new)));
+      point = subst (λ (ss : List Slot). IsPoint ss c.front) (sym f) (came_point c.slots.items c.front (length items) m k.point);
     }
 
 pub keeps_began : (c : Ledger) (places : List ℕ) (history : Vec Entry Global) (m begun : ℕ)
@@ -128,6 +148,7 @@ keeps_began c places history m begun f g may back end k = record {
       subst (λ (h : List Entry). IsBook (over (setting_of c) ts) h (table_of (record c { history = history; running = true; begun = begun; last = m })) []) (sym (pushed c.history.items history.items (Began (lane_of_ledger c) places None m) g))
       (subst (λ (n : ℕ). IsBook (over (setting_of c) ts) (Began (lane_of_ledger c) places None m ∷ past_of c) (record (table_of c) { running = true; last = m; begun = n }) []) (sym (f ∙ add-one c.begun))
       (book_began (over (setting_of c) ts) (past_of c) (table_of c) places m (k.book ts ext) (may ts ext) back end));
+  point = k.point;
 }
 
 gave_all : (slots new : List Slot) (places : List ℕ) → length new ≡ length slots → ((i : ℕ) → In places i → i < length slots) → ((i : ℕ) → i < length slots → slot_at new i ≡ fated_slot places i (slot_at slots i)) → (i : ℕ) → slot_at new i ≡ fated_slot places i (slot_at slots i)
@@ -139,6 +160,27 @@ gave_all slots new places same inside each i =
           rw out (get_or_past new i nothing (omega (arith, same)) ∙ sym (get_or_past slots i nothing high)))
     ]
 
+-- from the place on all slots have a fate up to the new one
+pub record MovesFrom (slots : List Slot) (k new : ℕ) : Type 0 where
+  pub before : (i : ℕ) → k ≤ i → i < new → is_fated slots i ≡ true
+  pub open' : new < length slots → is_fated slots new ≡ false
+  pub within : new ≤ length slots
+
+-- what has a fate keeps it
+gave_point : (slots new : List Slot) (k front : ℕ) (places : List ℕ) → ((i : ℕ) → i < length slots → slot_at new i ≡ fated_slot places i (slot_at slots i)) → MovesFrom new k front → IsPoint slots k → IsPoint new front
+gave_point slots new k front places each moves point = record {
+  before = λ i less. elim (cases_lt i k) [
+    | inr from ↦ moves.before i from less
+    | inl low ↦ ap (λ (slot : Slot). slot.fated) (each i (let w = point.within in omega arith)) ∙ still (holds places i) (slot_at slots i) (point.before i low)
+  ];
+  open' = moves.open';
+  within = moves.within;
+}
+  where
+    still : (b : Bool) (slot : Slot) → slot.fated ≡ true → (cond b (record slot { fated = true }) slot).fated ≡ true
+    still true slot is = refl
+    still false slot is = is
+
 -- the places that are given a fate are in the table
 gave_low : (s : Setting) (h : List Entry) (t : Table) (places : List ℕ) (f : Fate) (ds : List Due) → IsAnswered f → IsBook s h t (due_fate f places ∷ ds) → (i : ℕ) → In places i → i < length t.slots
 gave_low s h t places f ds answered b i member =
@@ -146,17 +188,19 @@ gave_low s h t places f ds answered b i member =
     let came = (open_In s h (lane_id t.shard) i there).0 in
     omega (arith, came, b.came, b.long)
 
-pub owing_gave : (c : Ledger) (slots : Vec Slot Global) (history : Vec Entry Global) (places : List ℕ) (f : Fate) (ds : List Due)
+pub owing_gave : (c : Ledger) (slots : Vec Slot Global) (front : ℕ) (history : Vec Entry Global) (places : List ℕ) (f : Fate) (ds : List Due)
     → IsAnswered f
     → ((i : ℕ) → i < length c.slots.items → slot_at slots.items i ≡ fated_slot places i (slot_at c.slots.items i)) → length slots.items ≡ length c.slots.items
     → history.items ≡ c.history.items ++ gave c places f ∷ []
-    → Owing c (due_fate f places ∷ ds) → Owing (record c { slots = slots; history = history }) ds
-owing_gave c slots history places f ds answered each same is k = record {
+    → MovesFrom slots.items c.front front
+    → Owing c (due_fate f places ∷ ds) → Owing (record c { slots = slots; front = front; history = history }) ds
+owing_gave c slots front history places f ds answered each same is moves k = record {
   book = λ ts ext.
       (let b = k.book ts ext in
       let low : (i : ℕ) → In places i → i < length c.slots.items = λ i member. gave_low (over (setting_of c) ts) (past_of c) (table_of c) places f ds answered b i member in
-      subst (λ (h : List Entry). IsBook (over (setting_of c) ts) h (table_of (record c { slots = slots; history = history })) ds) (sym (pushed c.history.items history.items (gave c places f) is))
+      subst (λ (h : List Entry). IsBook (over (setting_of c) ts) h (table_of (record c { slots = slots; front = front; history = history })) ds) (sym (pushed c.history.items history.items (gave c places f) is))
       (book_gave (over (setting_of c) ts) (past_of c) (table_of c) places f ds slots.items answered (gave_all c.slots.items slots.items places same low each) same b));
+  point = gave_point c.slots.items slots.items c.front front places each moves k.point;
 }
 
 -- what is written through a whole slice of a vector
@@ -174,6 +218,7 @@ owing_tried c history places n ds is k = record {
   book = λ ts ext.
       subst (λ (h : List Entry). IsBook (over (setting_of c) ts) h (table_of c) ds) (sym (pushed c.history.items history.items (Tried (lane_of_ledger c) places None n c.last) is))
       (book_tried (over (setting_of c) ts) (past_of c) (table_of c) places n ds (k.book ts ext));
+  point = k.point;
 }
 
 pub success_some : (places : List ℕ) → (length places ≡ 0 → ⊥) → due_success places None ≡ Success places None ∷ []

@@ -12,7 +12,6 @@ use Rattle.esm_model.specs.Checkpoint.{checkpoint, spread}
 use Rattle.esm_model.proofs.Lists.{In, In-one, In-none}
 use Rattle.esm_model.proofs.Counts.{checkpoint_longest}
 use Rattle.esm_model.proofs.CallsMade.{came_shard}
-use Rattle.esm_shard.specs.declared.slot.Slot.{Slot}
 use Rattle.esm_shard.specs.CoreView.{checkpoint_of, spread_of}
 use Rattle.esm_shard.specs.Table.{is_fated}
 use Rattle.esm_shard.specs.Book.{Table, IsBook, named_shards}
@@ -90,26 +89,19 @@ elsewhere_spread c n k is =
     let b = own c k in
     none_spread (setting_of c) (past_of c) (table_of c) b n (elsewhere_none (setting_of c) (past_of c) (table_of c) b n (other_shard c.shard n is))
 
--- the first so many slots have a fate, and no more
-pub record IsPoint (slots : List Slot) (k : ℕ) : Type 0 where
-  pub before : (i : ℕ) → i < k → is_fated slots i ≡ true
-  pub open' : k < length slots → is_fated slots k ≡ false
-  pub within : k ≤ length slots
-
-pub here_point : (c : Ledger) (n : ℕ) (slots : List Slot) (k : ℕ) → Keeps c → false ≡ not (option_eq eqb c.shard (Some n)) → slots ≡ c.slots.items → IsPoint slots k → Some k ≡ checkpoint_of (setting_of c) (past_of c) n
-here_point c n slots k kept is same point =
+pub here_point : (c : Ledger) (n : ℕ) → Keeps c → false ≡ not (option_eq eqb c.shard (Some n)) → Some c.front ≡ checkpoint_of (setting_of c) (past_of c) n
+here_point c n kept is =
     let b = own c kept in
     let named = this_shard c.shard n is in
-    let p = subst (λ (ss : List Slot). IsPoint ss k) same point in
-    some_point (setting_of c) (past_of c) (table_of c) b k (ap (λ (o : Option ℕ). is_some o) named) (point_is (setting_of c) (past_of c) (table_of c) b k p.before p.open' p.within)
+    let p = kept.point in
+    some_point (setting_of c) (past_of c) (table_of c) b c.front (ap (λ (o : Option ℕ). is_some o) named) (point_is (setting_of c) (past_of c) (table_of c) b c.front p.before p.open' p.within)
     ∙ ap (λ (o : Option ℕ). checkpoint_of (setting_of c) (past_of c) (unwrap_or o 0)) named
 
-pub here_spread : (c : Ledger) (n : ℕ) (slots : List Slot) (k count : ℕ) → Keeps c → false ≡ not (option_eq eqb c.shard (Some n)) → slots ≡ c.slots.items → IsPoint slots k
-    → count ≡ length (filter (is_fated slots) (drop k (below (length slots)))) → Some count ≡ spread_of (setting_of c) (past_of c) n
-here_spread c n slots k count kept is same point counted =
+pub here_spread : (c : Ledger) (n count : ℕ) → Keeps c → false ≡ not (option_eq eqb c.shard (Some n))
+    → count ≡ length (filter (is_fated c.slots.items) (drop c.front (below (length c.slots.items)))) → Some count ≡ spread_of (setting_of c) (past_of c) n
+here_spread c n count kept is counted =
     let b = own c kept in
     let named = this_shard c.shard n is in
-    let p = subst (λ (ss : List Slot). IsPoint ss k) same point in
-    let many = counted ∙ ap (λ (ss : List Slot). length (filter (is_fated ss) (drop k (below (length ss))))) same ∙ spread_is (setting_of c) (past_of c) (table_of c) b k p.before p.open' p.within in
-    some_spread (setting_of c) (past_of c) (table_of c) b count (ap (λ (o : Option ℕ). is_some o) named) many
+    let p = kept.point in
+    some_spread (setting_of c) (past_of c) (table_of c) b count (ap (λ (o : Option ℕ). is_some o) named) (counted ∙ spread_is (setting_of c) (past_of c) (table_of c) b c.front p.before p.open' p.within)
     ∙ ap (λ (o : Option ℕ). spread_of (setting_of c) (past_of c) (unwrap_or o 0)) named

@@ -25,7 +25,7 @@ use Rattle.esm_model.specs.Step.{MayBegin}
 use Rattle.esm_shard.specs.declared.ledger.Ledger.{Ledger}
 use Rattle.esm_shard.specs.CoreView.{CoreView}
 use Rattle.esm_shard.specs.Following.{job_of, next_batch, next_of, pause}
-use Rattle.esm_shard.specs.Table.{slot_at}
+use Rattle.esm_shard.specs.Table.{slot_at, IsPoint}
 use Rattle.esm_shard.specs.Book.{Table, IsBook, lane_id}
 
 abbrev pub past_of : Ledger → List Entry
@@ -71,9 +71,11 @@ table_of c = record {
 abbrev pub lane_of_ledger : Ledger → LaneId
 lane_of_ledger c = lane_id (shard_of c)
 
--- over all lists of records that go on from its own, the table agrees with the history, and so much is due
+-- over all lists of records that go on from its own, the table agrees with the history, and so much is due; the front is
+-- where the first record without a fate stands
 pub record Owing (c : Ledger) (owed : List Due) : Type 0 where
   pub book : (streams : List Stream) → Extends (setting_of c).streams streams → IsBook (over (setting_of c) streams) (past_of c) (table_of c) owed
+  pub point : IsPoint c.slots.items c.front
 
 -- nothing is due
 abbrev pub Keeps : Ledger → Type 0

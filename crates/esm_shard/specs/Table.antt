@@ -1,5 +1,5 @@
 -- What a core keeps of its shard's records, as a table.
-use Rattle.std.specs.Prelude.{◌≡◌, ℕ, ◌+◌, ◌==◌, nat_le, Bool, true, false, not, ◌&&◌, ◌||◌, nat_lt, List, [], ◌∷◌, length, ⊤, Option, Some, None, filter, filter_map, option_map, slice_get, slice_index_or, if◌then◌else◌}
+use Rattle.std.specs.Prelude.{◌≡◌, ℕ, ◌<◌, ◌≤◌, ◌+◌, ◌==◌, nat_le, Bool, true, false, not, ◌&&◌, ◌||◌, nat_lt, List, [], ◌∷◌, length, ⊤, Option, Some, None, filter, filter_map, option_map, slice_get, slice_index_or, if◌then◌else◌}
 use Rattle.esm_model.specs.Limits.{MAX_EVENT}
 use Rattle.esm_model.specs.declared.config.Config.{Config}
 use Rattle.esm_model.specs.declared.item.Record.{Record}
@@ -25,6 +25,12 @@ slot_at slots i = slice_index_or slots i nothing
 -- the place has a fate
 abbrev pub is_fated : List Slot → ℕ → Bool
 is_fated slots i = (slot_at slots i).fated
+
+-- the first so many places have a fate, and the next one has none
+pub record IsPoint (slots : List Slot) (k : ℕ) : Type 0 where
+  pub before : (i : ℕ) → i < k → is_fated slots i ≡ true
+  pub open' : k < length slots → is_fated slots k ≡ false
+  pub within : k ≤ length slots
 
 abbrev pub open_slots : List Slot → List ℕ
 open_slots slots = filter (λ i. not (slot_at slots i).fated) (below (length slots))

@@ -15,9 +15,7 @@ ghost use Rattle.esm_shard.specs.Table.{open_slots};
 ghost use Rattle.esm_shard.specs.Ledger.{past_of, setting_of, view_of, lane_of_ledger, Keeps, HasRoom, rest_of, IsLaneNext, HasPlaces, begun_entries, IsJobOf, MayBeginAt};
 
 use crate::gather::gathered;
-use crate::slot::{
-    MAX_MOMENT, Slot, cut, delay_end, fated_len, fated_past, group_len, is_ready, open_places,
-};
+use crate::slot::{MAX_MOMENT, Slot, cut, delay_end, fated_past, group_len, is_ready, open_places};
 use esm_event::stream_event;
 use esm_model::{Bytes, Config, Entry, Job, LaneId, Next, OutOfMemory, Places, Record};
 use std::alloc::Global;
@@ -25,7 +23,8 @@ use std::alloc::Global;
 /// A history is refused where it would come to so many entries.
 pub const MAX_ENTRIES: usize = 1 << 40;
 
-/// A history beside what it says of its shard's records, one slot for each place.
+/// A history beside what it says of its shard's records, one slot for each place, and how many of the first of them all
+/// have a fate.
 #[derive(Drop)]
 pub struct Ledger {
     pub config: Config,
@@ -33,6 +32,7 @@ pub struct Ledger {
     pub shard: Option<u64>,
     pub records: Vec<Record>,
     pub slots: Vec<Slot>,
+    pub front: usize,
     pub running: bool,
     pub failures: u64,
     pub last_end: u64,
@@ -69,6 +69,7 @@ impl Ledger {
             shard: None,
             records: Vec::new(alloc),
             slots: Vec::new(alloc),
+            front: 0,
             running: false,
             failures: 0,
             last_end: 0,
@@ -350,7 +351,7 @@ impl Ledger {
         if self.shard != Some(shard) {
             return None;
         }
-        Some(fated_len(self.slots.as_slice()) as u32)
+        Some(self.front as u32)
     }
 
     /// How many records have a fate and stand past the checkpoint.
@@ -361,8 +362,7 @@ impl Ledger {
         if self.shard != Some(shard) {
             return None;
         }
-        let first = fated_len(self.slots.as_slice());
-        Some(fated_past(self.slots.as_slice(), first) as u32)
+        Some(fated_past(self.slots.as_slice(), self.front) as u32)
     }
 
     /// The number of entries.

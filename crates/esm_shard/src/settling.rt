@@ -9,7 +9,7 @@ ghost use Rattle.esm_shard.specs.Ending.{HasEnded, owed_entries, given_count};
 ghost use Rattle.esm_shard.specs.Ledger.{past_of, setting_of, view_of, lane_of_ledger, Keeps, Owing, HasRoom, IsAnswered, due_fate, gave, plain_due, IsVerdictOf, RunsPlaces, running_places, first_tries, success_entries, rest_entries, left_given};
 
 use crate::ledger::{Ledger, MAX_ENTRIES, copied, raised_to};
-use crate::slot::{fate_slots, mark_slots};
+use crate::slot::{fate_slots, fated_from, mark_slots};
 use crate::verdict::{judge, read};
 use esm_model::{Entry, Fate, Job, OutOfMemory, Places, Reply, Rest, Verdict};
 use std::alloc::Global;
@@ -180,6 +180,7 @@ impl Ledger {
         ensures slots { vec_len self.new.slots ≡ vec_len self.old.slots }
     {
         fate_slots(self.slots.as_mut_slice(), places.as_slice());
+        self.front = fated_from(self.slots.as_slice(), self.front);
         let lane = self.lane();
         self.history.push_reserved(Entry::Gave {
             by: Some(lane),

@@ -184,14 +184,14 @@ pub fn is_ready(
     !fresh || (count == batch_size as usize || count < group) || shut || waited <= now
 }
 
-/// How many of the first slots all have a fate.
-pub fn fated_len(slots: &[Slot]) -> usize
-    ensures before { (i : ℕ) → i < result → is_fated slots.now i ≡ true }
+/// Where the first slot from `first` on stands that has no fate.
+pub fn fated_from(slots: &[Slot], first: usize) -> usize
+    ensures before { (i : ℕ) → first ≤ i → i < result → is_fated slots.now i ≡ true }
     ensures at { result < length slots.now → is_fated slots.now result ≡ false }
     ensures within { result ≤ length slots.now }
 {
-    for (i, slot) in slots.iter().enumerate() {
-        if !slot.fated {
+    for i in first..slots.len() {
+        if !slots[i].fated {
             return i;
         }
     }

@@ -5,7 +5,7 @@ use Rattle.esm_model.specs.declared.entry.Entry.TheVariants.{Gave}
 use Rattle.esm_shard.specs.declared.slot.Slot.{Slot}
 use Rattle.esm_shard.specs.Table.{slot_at, fated_slot}
 use Rattle.esm_shard.specs.Ledger.{gave}
-use Rattle.esm_shard.proofs.Kept.{owing_gave, written}
+use Rattle.esm_shard.proofs.Kept.{MovesFrom, owing_gave, written}
 use Rattle.esm_shard.proofs.ledger.Ledger.give.Goals as goal
 
 pub returns-clause-owing : goal.returns-clause-owing
@@ -19,6 +19,10 @@ returns-clause-owing c = λ ds k.
     let each : (i : ℕ) → i < length old.items → slot_at new i ≡ fated_slot c.args.places i (slot_at old.items i) = search rules in
     let e : c.push_reserved.new.self.items ≡ c.args.self.now.history.items ++ gave c.args.self.now c.args.places c.args.fate ∷ [] =
     c.push_reserved.ensures.items ∙ ap (λ (l : LaneId). c.args.self.now.history.items ++ Gave (Some l) l.shard c.args.places c.args.fate None None c.args.self.now.last ∷ []) c.lane-lane.ensures in
-    owing_gave c.args.self.now (with_items old new) c.push_reserved.new.self c.args.places c.args.fate ds c.requires.answered
+    let found = c.fated_from-self.ensures in
+    let front = c.fated_from-self.result in
+    let moves : MovesFrom (with_items old new).items c.args.self.now.front front =
+    subst (λ (ss : List Slot). MovesFrom ss c.args.self.now.front front) c.as_slice-2.ensures.value (record { before = found.before; open' = found.at; within = found.within }) in
+    owing_gave c.args.self.now (with_items old new) front c.push_reserved.new.self c.args.places c.args.fate ds c.requires.answered
     (λ i low. subst (λ (xs : List Slot). slot_at xs i ≡ fated_slot c.args.places i (slot_at old.items i)) (sym w) (each i low))
-    (ap length w ∙ same) e k
+    (ap length w ∙ same) e moves k

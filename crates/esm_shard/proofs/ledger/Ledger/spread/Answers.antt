@@ -1,4 +1,4 @@
-use Rattle.std.proofs.Common.{◌∙◌, List, ap, sym, length, drop, filter, arith}
+use Rattle.std.proofs.Common.{◌∙◌, List, ap, length, drop, filter, arith}
 use Rattle.esm_model.specs.Fates.{below}
 use Rattle.esm_shard.specs.declared.slot.Slot.{Slot}
 use Rattle.esm_shard.specs.Table.{is_fated}
@@ -12,13 +12,9 @@ returns-then-ne c = elsewhere_spread c.args.self.now c.args.shard c.requires.kep
 pub overflow_cast-result : goal.overflow_cast-result
 overflow_cast-result c =
     let b = own c.args.self.now c.requires.kept in
-    omega (arith, c.fated_past.ensures.within, ap length c.as_slice-2.ensures.value, b.long, b.few)
+    omega (arith, c.fated_past.ensures.within, ap length c.as_slice.ensures.value, b.long, b.few)
 
 pub returns : goal.returns
 returns c =
-    let found = c.fated_len-first.ensures in
-    let first = c.fated_len-first.result in
-    let same = c.as_slice-2.ensures.value ∙ sym c.as_slice.ensures.value in
-    here_spread c.args.self.now c.args.shard c.as_slice.result.now first c.fated_past.result c.requires.kept c.if-ne.ensures c.as_slice.ensures.value
-    (record { before = found.before; open' = found.at; within = found.within })
-    (c.fated_past.ensures.value ∙ ap (λ (ss : List Slot). length (filter (is_fated ss) (drop first (below (length ss))))) same)
+    here_spread c.args.self.now c.args.shard c.fated_past.result c.requires.kept c.if-ne.ensures
+    (c.fated_past.ensures.value ∙ ap (λ (ss : List Slot). length (filter (is_fated ss) (drop c.args.self.now.front (below (length ss))))) c.as_slice.ensures.value)
