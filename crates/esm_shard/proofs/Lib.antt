@@ -2,6 +2,7 @@ pub mod Configs
 pub mod Tables
 pub mod Books
 pub mod Bridge
+pub mod Groups
 pub mod Decide
 pub mod Comings
 pub mod Kept

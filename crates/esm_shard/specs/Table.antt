@@ -1,5 +1,5 @@
 -- What a core keeps of its shard's records, as a table.
-use Rattle.std.specs.Prelude.{◌≡◌, ℕ, ◌<◌, ◌≤◌, ◌+◌, ◌==◌, nat_le, Bool, true, false, not, ◌&&◌, ◌||◌, nat_lt, List, [], ◌∷◌, length, ⊤, Option, Some, None, filter, filter_map, option_map, slice_get, slice_index_or, if◌then◌else◌}
+use Rattle.std.specs.Prelude.{◌≡◌, ℕ, ◌<◌, ◌≤◌, ◌+◌, ◌==◌, nat_le, Bool, true, false, not, ◌&&◌, ◌||◌, nat_lt, List, [], ◌∷◌, length, ⊤, Option, Some, None, filter, filter_map, option_map, slice_get, slice_index, slice_index_or, take_while, if◌then◌else◌}
 use Rattle.esm_model.specs.Limits.{MAX_EVENT}
 use Rattle.esm_model.specs.declared.config.Config.{Config}
 use Rattle.esm_model.specs.declared.item.Record.{Record}
@@ -40,6 +40,10 @@ is_same_slot a b = same_mark (mark_of a.mark) (mark_of b.mark) && (a.tries == b.
 
 abbrev pub same_slots : List Slot → ℕ → ℕ → Bool
 same_slots slots i j = is_same_slot (slot_at slots i) (slot_at slots j)
+
+-- the open places, as far as they are of the piece of the first
+abbrev pub group_slots : List Slot → List ℕ
+group_slots slots = take_while (same_slots slots (slice_index (open_slots slots) 0)) (open_slots slots)
 
 -- the records at the places, in order
 abbrev pub table_records : List Record → List ℕ → List Record

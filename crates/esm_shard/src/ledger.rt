@@ -1,4 +1,4 @@
-ghost use Rattle.std.specs.Prelude.{◌≡◌, ℕ, min, max, ◌+◌, ◌<◌, ◌≤◌, ◌^◌, ◌++◌, ◌∷◌, [], IfOk, OnErr, OnOk, IsSome, All, Some, None, Ok, length, false, reverse, unwrap_or};
+ghost use Rattle.std.specs.Prelude.{◌≡◌, ℕ, min, max, ◌+◌, ◌<◌, ◌≤◌, ◌^◌, ◌++◌, ◌∷◌, [], IfOk, OnErr, OnOk, IsSome, All, Some, None, Ok, length, take, vec_len, false, reverse, unwrap_or};
 ghost use Rattle.esm_model.specs.Moment.{MAX_MOMENT as LAST_MOMENT};
 ghost use Rattle.esm_model.specs.Valid.{IsValidRecord, IsStreamConfig};
 ghost use Rattle.esm_model.specs.Setting.{over};
@@ -11,11 +11,11 @@ ghost use Rattle.esm_shard.specs.FirstPath.{IsFirstPath};
 ghost use Rattle.esm_shard.specs.CoreView.{new_setting, moment_for, lane_of_batcher, checkpoint_of, spread_of};
 ghost use Rattle.esm_shard.specs.Coming.{with_records, came_entries, AreOfOneShard};
 ghost use Rattle.esm_shard.specs.Following.{IsNext, next_entries, IsFinished};
-ghost use Rattle.esm_shard.specs.Table.{open_slots};
+ghost use Rattle.esm_shard.specs.Table.{group_slots};
 ghost use Rattle.esm_shard.specs.Ledger.{past_of, setting_of, view_of, lane_of_ledger, Keeps, HasRoom, rest_of, IsLaneNext, HasPlaces, begun_entries, IsJobOf, MayBeginAt};
 
 use crate::gather::gathered;
-use crate::slot::{MAX_MOMENT, Slot, cut, delay_end, fated_past, group_len, is_ready, open_places};
+use crate::slot::{MAX_MOMENT, Slot, cut, delay_end, fated_past, first_group, is_ready};
 use esm_event::stream_event;
 use esm_model::{Bytes, Config, Entry, Job, LaneId, Next, OutOfMemory, Places, Record};
 use std::alloc::Global;
@@ -245,9 +245,7 @@ impl Ledger {
         ensures answer { IfOk result (λ next. IsLaneNext self.now now next) }
         ensures some { IfOk result HasPlaces }
     {
-        let open = open_places(alloc, self.slots.as_slice())?;
-        let places = open.as_slice();
-        if places.is_empty() {
+        if self.front == self.slots.len() {
             return Ok(rest(self.shut, now));
         }
         if self.begun >= self.calls as u64 {
@@ -257,24 +255,24 @@ impl Ledger {
         if now < until {
             return Ok(Next::Idle { until });
         }
-        self.decide_open(alloc, places, now)
+        let most = self.config.batch_size as usize + 1;
+        let group = first_group(alloc, self.slots.as_slice(), self.front, most)?;
+        self.decide_open(alloc, group.as_slice(), now)
     }
 
-    /// What the lane does next with its open places, where it may call.
-    fn decide_open(&self, alloc: Global, places: &[u32], now: u64) -> Result<Next, OutOfMemory>
+    /// What the lane does next with its group, where it may call. A batch takes one place less at most.
+    fn decide_open(&self, alloc: Global, group: &[u32], now: u64) -> Result<Next, OutOfMemory>
         requires kept { Keeps self.now }
         requires in_time { now ≤ LAST_MOMENT }
-        requires open { places.now ≡ open_slots self.now.slots.items }
-        requires some { 1 ≤ length places.now }
+        requires group { group.now ≡ take (self.now.config.batch_size + 1) (group_slots self.now.slots.items) }
+        requires some { self.now.front < vec_len self.now.slots }
         requires left { self.now.begun < self.now.calls }
         requires due { delay_from self.now.failures self.now.last_end ≤ now }
         ensures answer { IfOk result (λ next. IsLaneNext self.now now next) }
         ensures some { IfOk result HasPlaces }
     {
-        let slots = self.slots.as_slice();
-        let group = &places[..group_len(slots, places)];
         let count = cut(&self.config, self.records.as_slice(), group);
-        let first = slots[places[0] as usize];
+        let first = self.slots[self.front];
         let waited = (first.came + self.config.window_ms).min(MAX_MOMENT);
         let fresh = first.mark.is_none();
         let size = self.config.batch_size;

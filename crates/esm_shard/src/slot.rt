@@ -1,10 +1,9 @@
-ghost use Rattle.std.specs.Prelude.{◌≡◌, ◌<◌, ◌≤◌, ◌^◌, IfOk, length, take, drop, filter, All, Some, slice_index, [], ℕ, true, false};
-ghost use Rattle.std.specs.List.{prefix_len};
+ghost use Rattle.std.specs.Prelude.{◌≡◌, ◌<◌, ◌≤◌, ◌^◌, IfOk, length, take, drop, filter, All, Some, [], ℕ, true, false};
 ghost use Rattle.esm_model.specs.Fates.{below};
 ghost use Rattle.esm_model.specs.Batches.{longest, delay_from};
 ghost use Rattle.esm_model.specs.Valid.{IsValidRecord, IsStreamConfig};
 ghost use Rattle.esm_model.specs.Moment.{MAX_MOMENT as LAST_MOMENT};
-ghost use Rattle.esm_shard.specs.Table.{is_fated, open_slots, same_slots, is_same_slot, fits_records, slot_at, marked_at, marked_slot, side_slot, fated_slot, AreDistinct, ready_test};
+ghost use Rattle.esm_shard.specs.Table.{is_fated, IsPoint, group_slots, is_same_slot, fits_records, slot_at, marked_at, marked_slot, side_slot, fated_slot, AreDistinct, ready_test};
 
 use esm_event::{frame_bytes, stream_bytes};
 use esm_model::{Config, OutOfMemory, Record, Rest};
@@ -32,20 +31,6 @@ pub struct Slot {
     pub came: u64,
 }
 
-/// The open places, in order.
-pub fn open_places(alloc: Global, slots: &[Slot]) -> Result<Vec<u32>, OutOfMemory>
-    requires { length slots.now < 2 ^ 32 }
-    ensures { IfOk result (λ v. v.items ≡ open_slots slots.now) }
-{
-    let mut places = Vec::new(alloc);
-    for (i, slot) in slots.iter().enumerate() {
-        if !slot.fated {
-            places.push(i as u32)?;
-        }
-    }
-    Ok(places)
-}
-
 /// Two records have one mark and as many tries.
 pub fn is_same_piece(a: &Slot, b: &Slot) -> bool
     ensures { result ≡ is_same_slot a.now b.now }
@@ -58,19 +43,30 @@ pub fn is_same_piece(a: &Slot, b: &Slot) -> bool
     same_mark && a.tries == b.tries
 }
 
-/// How many of the first places are of one piece.
-pub fn group_len(slots: &[Slot], places: &[u32]) -> usize
-    requires { All (λ p. p < length slots.now) places.now }
-    ensures { result ≡ prefix_len (same_slots slots.now (slice_index places.now 0)) places.now }
+/// The first `most` of the open places of one piece, from the front on.
+pub fn first_group(
+    alloc: Global,
+    slots: &[Slot],
+    front: usize,
+    most: usize,
+) -> Result<Vec<u32>, OutOfMemory>
+    requires few { length slots.now < 2 ^ 32 }
+    requires point { IsPoint slots.now front }
+    ensures { IfOk result (λ v. v.items ≡ take most (group_slots slots.now)) }
 {
-    for (i, place) in places.iter().enumerate() {
-        let first = slots[places[0] as usize];
-        let here = slots[*place as usize];
-        if !is_same_piece(&first, &here) {
-            return i;
+    let mut group = Vec::new(alloc);
+    for i in front..slots.len() {
+        if group.len() == most {
+            return Ok(group);
+        }
+        if !slots[i].fated {
+            if !is_same_piece(&slots[front], &slots[i]) {
+                return Ok(group);
+            }
+            group.push(i as u32)?;
         }
     }
-    places.len()
+    Ok(group)
 }
 
 /// How many of the first places are one batch: at most the batch size, with an event of at most 6,291,456 bytes.
