@@ -1,0 +1,14 @@
+pub mod Moments
+pub mod Quiet
+pub mod Calling
+pub mod Asking
+pub mod Noting
+pub mod Handing
+pub mod Limiting
+pub mod Within
+pub mod Runs
+pub mod Outcomes
+pub mod Taking
+pub mod Mappings
+pub mod Writing
+pub mod Open

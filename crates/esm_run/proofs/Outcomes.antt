@@ -1,0 +1,75 @@
+-- Why the options of `run` ended so.
+use Rattle.std.proofs.Common.{◌≡◌, ℕ, Bool, true, false, List, [], refl, sym, ap, ◌∙◌, subst, Option, Some}
+use Rattle.esm_model.specs.declared.called.Called.{Called}
+use Rattle.esm_model.specs.declared.config.Config.{Config}
+use Rattle.esm_model.specs.declared.entry.Entry.{Entry}
+use Rattle.esm_model.specs.Setting.{Setting}
+use Rattle.esm_cli.specs.declared.command.RunWords.{RunWords}
+use Rattle.esm_cli.specs.declared.command.Which.TheVariants.{Config as Text}
+use Rattle.esm_config.specs.Names.{name_of}
+use Rattle.esm_config.specs.declared.param.Param.{Param}
+use Rattle.esm_report.specs.declared.ending.Ending.{Ending}
+use Rattle.esm_report.specs.declared.ending.Ending.TheVariants as ending
+use Rattle.esm_run.specs.declared.input.InputEnd.{InputEnd}
+use Rattle.esm_run.specs.declared.input.InputEnd.TheVariants as ends
+use Rattle.esm_run.specs.Configured.{IsConfigured, refused_field}
+use Rattle.esm_run.specs.Endings.{ending_of}
+use Rattle.esm_run.specs.Headline.{Read, IsEndedRun, setting_of}
+use Rattle.esm_run.specs.Answers.{IsUntouched, RunCause, RunEnded}
+
+-- the ending of a run
+ran : Ending → Bool
+ran ending.BadWords = false
+ran ending.UnknownMapping = false
+ran ending.DisabledMapping = false
+ran (ending.BadParameter name) = false
+ran ending.Done = true
+ran ending.CallsSpent = true
+ran (ending.BadLine number why) = true
+ran ending.InputFault = true
+ran (ending.Limit limit) = true
+
+all_ran : (end : InputEnd) → ran (ending_of end) ≡ true
+unfolding ran
+all_ran ends.End = refl
+all_ran (ends.BadLine bad) = refl
+all_ran ends.Fault = refl
+all_ran (ends.Limit limit) = refl
+
+not_ran : (e : Ending) (end : InputEnd) → ran e ≡ false → e ≡ ending_of end → ⊥
+not_ran e end untrue is = (let true' : ran e ≡ true = ap ran is ∙ all_ran end in let both : true ≡ false = sym true' ∙ untrue in cc)
+
+cause_of : {F : Type 0} (gave : ℕ → Bool) (sends : List ℕ → List ℕ) (log : F → Option (List Called)) (r : RunWords) (text : List ℕ) (config : Config) (input : Read) (h : List Entry) (old new : List F) (e : Ending)
+    → r.which ≡ Text text → IsConfigured text config → (run : IsEndedRun gave sends log input config r.calls h old new e)
+    → RunCause gave sends log r input h old new (setting_of config r.calls run.records) e
+unfolding ran
+cause_of gave sends log r text config input h old new ending.BadWords which configured run = absurd (not_ran ending.BadWords run.end refl run.ended.0)
+cause_of gave sends log r text config input h old new ending.UnknownMapping which configured run = absurd (not_ran ending.UnknownMapping run.end refl run.ended.0)
+cause_of gave sends log r text config input h old new ending.DisabledMapping which configured run = absurd (not_ran ending.DisabledMapping run.end refl run.ended.0)
+cause_of gave sends log r text config input h old new (ending.BadParameter name) which configured run = absurd (not_ran (ending.BadParameter name) run.end refl run.ended.0)
+cause_of gave sends log r text config input h old new ending.Done which configured run = record { text = text; which = which; config = config; configured = configured; run = run; over_records = refl }
+cause_of gave sends log r text config input h old new ending.CallsSpent which configured run = record { text = text; which = which; config = config; configured = configured; run = run; over_records = refl }
+cause_of gave sends log r text config input h old new (ending.BadLine number why) which configured run = record { text = text; which = which; config = config; configured = configured; run = run; over_records = refl }
+cause_of gave sends log r text config input h old new ending.InputFault which configured run = record { text = text; which = which; config = config; configured = configured; run = run; over_records = refl }
+cause_of gave sends log r text config input h old new (ending.Limit limit) which configured run = record { text = text; which = which; config = config; configured = configured; run = run; over_records = refl }
+
+pub ended_run : {F : Type 0} (gave : ℕ → Bool) (sends : List ℕ → List ℕ) (log : F → Option (List Called)) (r : RunWords) (text : List ℕ) (config : Config) (input : Read) (h : List Entry) (old new : List F) (e : Ending)
+    → r.which ≡ Text text → IsConfigured text config → IsEndedRun gave sends log input config r.calls h old new e → RunEnded gave sends log r input h old new e
+ended_run gave sends log r text config input h old new e which configured run = record {
+  setting = setting_of config r.calls run.records;
+  no_journal = refl;
+  cause = cause_of gave sends log r text config input h old new e which configured run;
+}
+
+pub ended_refused : {F : Type 0} (gave : ℕ → Bool) (sends : List ℕ → List ℕ) (log : F → Option (List Called)) (r : RunWords) (text : List ℕ) (field : Param) (input : Read) (h : List Entry) (old new : List F) (e : Ending) (s : Setting)
+    → s.fates ≡ [] → e ≡ ending.BadParameter (name_of field) → r.which ≡ Text text → refused_field text ≡ Some field → IsUntouched input h old new → RunEnded gave sends log r input h old new e
+ended_refused gave sends log r text field input h old new e s none is which refused untouched =
+    subst (RunEnded gave sends log r input h old new) (sym is) (record {
+      setting = s;
+      no_journal = none;
+      cause = (record { text = text; which = which; field = field; refused = refused; name_is = refl }, untouched);
+    })
+
+-- no options of `run` are bad words
+pub never_bad_words : {F : Type 0} (gave : ℕ → Bool) (sends : List ℕ → List ℕ) (log : F → Option (List Called)) (r : RunWords) (input : Read) (h : List Entry) (old new : List F) (e : Ending) → e ≡ ending.BadWords → RunEnded gave sends log r input h old new e → ⊥
+never_bad_words gave sends log r input h old new e is ended = (let at : RunEnded gave sends log r input h old new ending.BadWords = subst (RunEnded gave sends log r input h old new) is ended in at.cause)

@@ -1,0 +1,81 @@
+-- What a command's words did to the world. This product's own.
+use Rattle.std.specs.Prelude.{◌≡◌, ◌⊎◌, ℕ, Bool, List, [], Option, Some}
+use Rattle.esm_model.specs.declared.called.Called.{Called}
+use Rattle.esm_model.specs.declared.config.Config.{Config}
+use Rattle.esm_model.specs.declared.entry.Entry.{Entry}
+use Rattle.esm_model.specs.Setting.{Setting}
+use Rattle.esm_cli.specs.declared.command.Command.{Command}
+use Rattle.esm_cli.specs.declared.command.Command.TheVariants.{Run}
+use Rattle.esm_cli.specs.declared.command.RunWords.{RunWords}
+use Rattle.esm_cli.specs.declared.command.Which.TheVariants.{Config as Text}
+use Rattle.esm_cli.specs.Words.{spells}
+use Rattle.esm_config.specs.Names.{name_of}
+use Rattle.esm_config.specs.declared.param.Param.{Param}
+use Rattle.esm_report.specs.declared.ending.Ending.{Ending}
+use Rattle.esm_report.specs.declared.ending.Ending.TheVariants as ending
+use Rattle.esm_report.specs.Report.{report_text}
+use Rattle.esm_run.specs.Configured.{IsConfigured, refused_field}
+use Rattle.esm_run.specs.Endings.{IsTold}
+use Rattle.esm_run.specs.Headline.{Read, IsEndedRun, setting_of}
+
+-- nothing came, and input and callers are as before
+pub record IsUntouched {F : Type 0} (input : Read) (h : List Entry) (old new : List F) : Type 0 where
+  pub no_trace : h ≡ []
+  pub unread : input.left ≡ input.before
+  pub uncalled : new ≡ old
+
+-- the named field of the mapping's text is refused
+pub record IsRefused (r : RunWords) (name : List ℕ) : Type 0 where
+  pub text : List ℕ
+  pub which : r.which ≡ Text text
+  pub field : Param
+  pub refused : refused_field text ≡ Some field
+  pub name_is : name ≡ name_of field
+
+-- the mapping of these options ran, over this setting
+pub record IsRunOf {F : Type 0} (gave : ℕ → Bool) (sends : List ℕ → List ℕ) (log : F → Option (List Called)) (r : RunWords) (input : Read) (h : List Entry) (old new : List F) (s : Setting) (ending : Ending) : Type 0 where
+  pub text : List ℕ
+  pub which : r.which ≡ Text text
+  pub config : Config
+  pub configured : IsConfigured text config
+  pub run : IsEndedRun gave sends log input config r.calls h old new ending
+  pub over_records : s ≡ setting_of config r.calls run.records
+
+-- why the options of `run` ended so
+abbrev pub RunCause : {F : Type 0} → (ℕ → Bool) → (List ℕ → List ℕ) → (F → Option (List Called)) → RunWords → Read → List Entry → List F → List F → Setting → Ending → Type 0
+RunCause gave sends log r input h old new s ending.BadWords = ⊥
+RunCause gave sends log r input h old new s ending.UnknownMapping = ⊥
+RunCause gave sends log r input h old new s ending.DisabledMapping = ⊥
+RunCause gave sends log r input h old new s (ending.BadParameter name) = IsRefused r name × IsUntouched input h old new
+RunCause gave sends log r input h old new s other = IsRunOf gave sends log r input h old new s other
+
+-- the options of `run` came to this ending, over a setting in which nothing was found in a journal
+pub record RunEnded {F : Type 0} (gave : ℕ → Bool) (sends : List ℕ → List ℕ) (log : F → Option (List Called)) (r : RunWords) (input : Read) (h : List Entry) (old new : List F) (ending : Ending) : Type 0 where
+  pub setting : Setting
+  pub no_journal : setting.fates ≡ []
+  pub cause : RunCause gave sends log r input h old new setting ending
+
+-- what is seen of an output before and after
+pub record Written : Type 0 where
+  pub faults_before : ℕ
+  pub faults_now : ℕ
+  pub before : Option (List ℕ)
+  pub after : Option (List ℕ)
+
+-- the options of `run` ended with the status: why, and what was told
+pub record RunOutcome {F : Type 0} (gave : ℕ → Bool) (sends : List ℕ → List ℕ) (log : F → Option (List Called)) (r : RunWords) (input : Read) (output : Written) (h : List Entry) (old new : List F) (status : ℕ) : Type 0 where
+  pub ending : Ending
+  pub ended : RunEnded gave sends log r input h old new ending
+  pub told : IsTold output.faults_before output.faults_now output.before output.after (report_text ended.setting h ending) ending status
+
+-- no command is spelled, and that was told
+pub record AreBadWords {F : Type 0} (words : List (List ℕ)) (input : Read) (output : Written) (h : List Entry) (old new : List F) (status : ℕ) : Type 0 where
+  pub none_spelled : (c : Command) → ¬ spells words c
+  pub untouched : IsUntouched input h old new
+  pub told : (s : Setting) → s.fates ≡ [] → IsTold output.faults_before output.faults_now output.before output.after (report_text s h ending.BadWords) ending.BadWords status
+
+-- what the words did: the options of `run` that they spell ended with the status, or they spell no command
+abbrev pub Outcome : {F : Type 0} → (ℕ → Bool) → (List ℕ → List ℕ) → (F → Option (List Called)) → List (List ℕ) → Read → Written → List Entry → List F → List F → ℕ → Type 0
+Outcome gave sends log words input output h old new status =
+    ((r : RunWords) × spells words (Run r) × RunOutcome gave sends log r input output h old new status)
+    ⊎ AreBadWords words input output h old new status

@@ -1,0 +1,9 @@
+pub mod Limits
+pub mod Reading
+pub mod Given
+pub mod Coming
+pub mod Running
+pub mod Endings
+pub mod Configured
+pub mod Headline
+pub mod Answers

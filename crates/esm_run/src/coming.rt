@@ -1,0 +1,67 @@
+ghost use Rattle.std.specs.Prelude.{◌≡◌, ◌≤◌, ◌<◌, ◌++◌, ℕ, List, [], IfOk, OnOk, OnErr, All, length};
+ghost use Rattle.esm_model.specs.Valid.{IsValidRecord};
+ghost use Rattle.esm_model.specs.Setting.{over, records_in};
+ghost use Rattle.esm_model.specs.declared.item.Record.{Record};
+ghost use Rattle.esm_run.specs.Reading.{IsWithin};
+ghost use Rattle.esm_run.specs.Coming.{HasCome};
+
+use crate::gathered::Gathered;
+use esm_io::Clock;
+use esm_model::{OutOfMemory, Record};
+use esm_shard::Core;
+use std::alloc::Global;
+
+/// The greatest number of records that come at once.
+const LIST: usize = 10000;
+
+/// Notes a list of records of the shard.
+fn note<C: Clock>(
+    alloc: Global,
+    core: &mut Core,
+    list: Vec<Record>,
+    shard: u64,
+    clock: &C,
+) -> Result<(), OutOfMemory>
+    requires few { length list.items ≤ 10000 }
+    requires valid { All IsValidRecord list.items }
+    requires shard { All (λ (r : Record). r.shard ≡ shard) list.items }
+    requires come { HasCome C.gave shard core.old }
+    requires room { length (records_in core.old.setting.streams shard) ≤ 1000000 }
+    ensures come { HasCome C.gave shard core.new }
+    ensures records { OnOk result (records_in core.new.setting.streams shard
+        ≡ records_in core.old.setting.streams shard ++ list.items) }
+    ensures setting { core.new.setting ≡ over core.old.setting core.new.setting.streams }
+{
+    let Ok(()) = core.came(alloc, list, clock.now()) else {
+        return Err(OutOfMemory);
+    };
+    Ok(())
+}
+
+/// Hands the records on, in lists of at most 10,000.
+pub fn hand_on<C: Clock>(
+    alloc: Global,
+    core: &mut Core,
+    gathered: Gathered,
+    clock: &C,
+) -> Result<(), OutOfMemory>
+    requires within { IsWithin gathered }
+    requires come { HasCome C.gave gathered.shard core.old }
+    requires new { records_in core.old.setting.streams gathered.shard ≡ [] }
+    ensures come { HasCome C.gave gathered.shard core.new }
+    ensures records { OnOk result (records_in core.new.setting.streams gathered.shard ≡ gathered.records.items) }
+    ensures setting { core.new.setting ≡ over core.old.setting core.new.setting.streams }
+{
+    let shard = gathered.shard;
+    let mut rest = gathered.records;
+    rest.reverse();
+    let mut list = Vec::new(alloc);
+    while let Some(next) = rest.pop() {
+        list.push(next)?;
+        if list.len() == LIST {
+            note(alloc, core, list, shard, clock)?;
+            list = Vec::new(alloc);
+        }
+    }
+    note(alloc, core, list, shard, clock)
+}

@@ -1,0 +1,104 @@
+ghost use Rattle.std.specs.Prelude.{◌≡◌, ◌≢◌, List, Option, [], length, reverse, IfOk};
+ghost use Rattle.esm_report.specs.declared.ending.Ending.TheVariants.{BadWords};
+ghost use Rattle.esm_model.specs.Setting.{Setting};
+ghost use Rattle.esm_report.specs.Report.{report_text};
+ghost use Rattle.esm_run.specs.Endings.{IsTold};
+ghost use Rattle.esm_run.specs.Answers.{RunEnded, RunOutcome};
+
+use crate::mapping::mapping;
+use crate::output::{OUT_OF_MEMORY, tell};
+use crate::refusal::bad_parameter;
+use crate::running::run_mapping;
+use crate::world::World;
+use esm_cli::{RunWords, Which};
+use esm_config::ConfigError;
+use esm_io::{Caller, Clock, Disk, Door, Sink, Source};
+use esm_model::{OutOfMemory, Text};
+use esm_report::{Ending, report};
+use std::alloc::Global;
+use std::sync::Wait;
+
+/// Tells of an ending, and answers the exit status. Only the output changes.
+pub fn finish<S: Source, K: Sink, D: Disk, C: Clock, F: Caller, L: Door>(
+    alloc: Global,
+    world: &mut World<S, K, D, C, F, L>,
+    ending: &Ending,
+) -> u8
+    ensures told { result ≢ 70 → (s : Setting) → s.fates ≡ [] → IsTold (K.faults world.old.out) (K.faults world.new.out)
+        (K.written world.old.out) (K.written world.new.out)
+        (report_text s (reverse world.old.trace.items) ending.now) ending.now result }
+    ensures words { result ≡ 2 → ending.now ≡ BadWords }
+    ensures same { world.new ≡ record world.old { out = world.new.out } }
+{
+    let Ok(text) = report(alloc, &world.trace, ending) else {
+        return OUT_OF_MEMORY;
+    };
+    tell(&mut world.out, &text, ending)
+}
+
+/// The text of the mapping that the words name.
+fn mapping_text(which: Which) -> Text
+    ensures { which ≡ Which.Config result }
+{
+    let Which::Config(text) = which;
+    text
+}
+
+/// Runs the mapping that the words name.
+fn run_words<R: Wait, S: Source, K: Sink, D: Disk, C: Clock, F: Caller, L: Door>(
+    rt: &R,
+    alloc: Global,
+    words: RunWords,
+    world: &mut World<S, K, D, C, F, L>,
+) -> Result<Ending, OutOfMemory>
+    requires callers { length world.old.callers.items ≡ 64 }
+    requires trace { world.old.trace.items ≡ [] }
+    ensures ended { IfOk result (RunEnded C.gave F.sends F.log words
+        (record {
+          faults_before = S.faults world.old.input;
+          faults_now = S.faults world.new.input;
+          before = S.left world.old.input;
+          left = S.left world.new.input;
+        })
+        (reverse world.new.trace.items) world.old.callers.items world.new.callers.items) }
+    ensures out { world.new.out ≡ world.old.out }
+{
+    let calls = words.calls;
+    let text = mapping_text(words.which);
+    match mapping(alloc, &text) {
+        Ok(config) => run_mapping(rt, alloc, config, calls, world),
+        Err(ConfigError::BadParam(param)) => bad_parameter(alloc, param),
+        Err(ConfigError::OutOfMemory) => Err(OutOfMemory),
+    }
+}
+
+/// Runs the mapping that the words name, tells how it ended, and answers the exit status.
+pub fn run<R: Wait, S: Source, K: Sink, D: Disk, C: Clock, F: Caller, L: Door>(
+    rt: &R,
+    alloc: Global,
+    words: RunWords,
+    world: &mut World<S, K, D, C, F, L>,
+) -> u8
+    requires callers { length world.old.callers.items ≡ 64 }
+    requires trace { world.old.trace.items ≡ [] }
+    ensures outcome { result ≢ 70 → RunOutcome C.gave F.sends F.log words
+        (record {
+          faults_before = S.faults world.old.input;
+          faults_now = S.faults world.new.input;
+          before = S.left world.old.input;
+          left = S.left world.new.input;
+        })
+        (record {
+          faults_before = K.faults world.old.out;
+          faults_now = K.faults world.new.out;
+          before = K.written world.old.out;
+          after = K.written world.new.out;
+        })
+        (reverse world.new.trace.items) world.old.callers.items world.new.callers.items result }
+    ensures good_words { result ≢ 2 }
+{
+    match run_words(rt, alloc, words, world) {
+        Ok(ending) => finish(alloc, world, &ending),
+        Err(OutOfMemory) => OUT_OF_MEMORY,
+    }
+}

@@ -1,0 +1,72 @@
+ghost use Rattle.std.specs.Prelude.{◌≡◌, List, Option, OnOk, OnErr};
+ghost use Rattle.esm_io.specs.Faults.{IsCount};
+ghost use Rattle.esm_io.specs.Told.{Grows};
+ghost use Rattle.esm_report.specs.declared.ending.Ending.TheVariants.{BadWords};
+ghost use Rattle.esm_run.specs.Endings.{status_of, failed_status_of, IsCutShort, IsTold};
+
+use esm_io::{Failed, Sink};
+use esm_report::Ending;
+
+/// Bad words.
+const BAD_WORDS: u8 = 2;
+
+/// The output failed.
+const OUTPUT_FAULT: u8 = 5;
+
+/// Want of memory.
+pub const OUT_OF_MEMORY: u8 = 70;
+
+/// The exit status that tells of an ending.
+fn status_of(ending: &Ending) -> u8
+    ensures value { result ≡ status_of ending.now }
+    ensures words { result ≡ 2 → ending.now ≡ BadWords }
+{
+    match ending {
+        Ending::Done => 0,
+        Ending::CallsSpent => 1,
+        Ending::BadWords => BAD_WORDS,
+        Ending::BadLine { .. } => 3,
+        Ending::InputFault => 4,
+        Ending::UnknownMapping => 9,
+        Ending::DisabledMapping => 9,
+        Ending::BadParameter { .. } => 9,
+        Ending::Limit(_) => 10,
+    }
+}
+
+/// The exit status where the output failed.
+fn failed_status_of(ending: &Ending) -> u8
+    ensures value { result ≡ failed_status_of ending.now }
+    ensures words { result ≡ 2 → ending.now ≡ BadWords }
+{
+    match ending {
+        Ending::BadWords => BAD_WORDS,
+        _ => OUTPUT_FAULT,
+    }
+}
+
+/// Writes all of the text. After a failed write a part from its front was taken.
+fn write_all<K: Sink>(out: &mut K, text: &[u8]) -> Result<(), Failed>
+    ensures written { OnOk result (Grows (K.written out.old) (K.written out.new) text.now) }
+    ensures cut_short { OnErr result (IsCutShort (K.faults out.old) (K.faults out.new)
+        (K.written out.old) (K.written out.new) text.now) }
+{
+    let mut at = 0;
+    while at < text.len() {
+        let count = out.write(&text[at..])?;
+        at += count;
+    }
+    Ok(())
+}
+
+/// Writes the text of an ending, and answers the status. Where the output fails the status is 5, but for bad words.
+pub fn tell<K: Sink>(out: &mut K, text: &[u8], ending: &Ending) -> u8
+    ensures told { IsTold (K.faults out.old) (K.faults out.new) (K.written out.old) (K.written out.new)
+        text.now ending.now result }
+    ensures words { result ≡ 2 → ending.now ≡ BadWords }
+{
+    match write_all(out, text) {
+        Ok(()) => status_of(ending),
+        Err(_) => failed_status_of(ending),
+    }
+}
