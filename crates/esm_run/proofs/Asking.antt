@@ -32,7 +32,7 @@ rests_after h lane l places closing m n reply none = elim (cases_Bool (same_lane
   | inr other ↦ rw other (none l)
 ]
 
-event_began : (s : Setting) (h : List Entry) (lane : LaneId) (places : List ℕ) (closing : Option ℕ) (m : ℕ) → last_event s (Began lane places closing m ∷ h) lane ≡ event_of s h lane.shard places closing
+pub event_began : (s : Setting) (h : List Entry) (lane : LaneId) (places : List ℕ) (closing : Option ℕ) (m : ℕ) → last_event s (Began lane places closing m ∷ h) lane ≡ event_of s h lane.shard places closing
 event_began s h lane places closing m = rw (same_lane-refl lane) refl
 
 abbrev called : (s : Setting) (sends : List ℕ → List ℕ) (event : List ℕ) (reply : Reply) → Called
@@ -111,10 +111,10 @@ have_then gave sends log a b c xs ys zs same x y = record {
       second first (x.logs k d within first grows);
 }
 
-not_same : (j k : ℕ) → (j == k) ≡ false → j ≡ k → ⊥
+pub not_same : (j k : ℕ) → (j == k) ≡ false → j ≡ k → ⊥
 not_same j k apart is = let same : (j == k) ≡ true = eq-eqb j k is in cc
 
-get_default : {A : Type 0} (xs : List A) (k : ℕ) (d e : A) → k < length xs → get_or xs k d ≡ get_or xs k e
+pub get_default : {A : Type 0} (xs : List A) (k : ℕ) (d e : A) → k < length xs → get_or xs k d ≡ get_or xs k e
 get_default [] k d e within = absurd (omega (arith, within))
 get_default (x ∷ xs) zero d e within = refl
 get_default (x ∷ xs) (suc k) d e within = get_default xs k d e (omega (arith, within))

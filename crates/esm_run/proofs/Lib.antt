@@ -1,12 +1,16 @@
+pub mod Results
 pub mod Moments
 pub mod Quiet
 pub mod Calling
 pub mod Asking
+pub mod Stops
 pub mod Noting
 pub mod Handing
 pub mod Limiting
 pub mod Within
 pub mod Runs
+pub mod Halts
+pub mod Mapped
 pub mod Outcomes
 pub mod Taking
 pub mod Mappings

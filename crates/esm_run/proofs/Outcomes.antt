@@ -1,5 +1,6 @@
 -- Why the options of `run` ended so.
-use Rattle.std.proofs.Common.{◌≡◌, ℕ, Bool, true, false, List, [], refl, sym, ap, ◌∙◌, subst, Option, Some}
+use Rattle.std.proofs.Common.{◌≡◌, ℕ, Bool, true, false, List, [], refl, sym, ap, ◌∙◌, subst, inl, inr, Option, Some, Result, Ok, Err}
+use Rattle.std.specs.Prelude.{OnErr}
 use Rattle.esm_model.specs.declared.called.Called.{Called}
 use Rattle.esm_model.specs.declared.config.Config.{Config}
 use Rattle.esm_model.specs.declared.entry.Entry.{Entry}
@@ -14,8 +15,12 @@ use Rattle.esm_run.specs.declared.input.InputEnd.{InputEnd}
 use Rattle.esm_run.specs.declared.input.InputEnd.TheVariants as ends
 use Rattle.esm_run.specs.Configured.{IsConfigured, refused_field}
 use Rattle.esm_run.specs.Endings.{ending_of}
-use Rattle.esm_run.specs.Headline.{Read, IsEndedRun, setting_of}
-use Rattle.esm_run.specs.Answers.{IsUntouched, RunCause, RunEnded}
+use Rattle.esm_model.specs.declared.memory.OutOfMemory.{OutOfMemory}
+use Rattle.esm_cli.specs.declared.command.Command.TheVariants.{Run}
+use Rattle.esm_cli.specs.Words.{spells}
+use Rattle.esm_run.specs.Headline.{Read, IsEndedRun, IsCutRun, setting_of}
+use Rattle.esm_run.specs.Answers.{IsUntouched, IsRunOf, RunCause, RunEnded, IsCutOf, IsCut}
+use Rattle.esm_run.proofs.Halts.{stopped_whole}
 
 -- the ending of a run
 ran : Ending → Bool
@@ -73,3 +78,53 @@ ended_refused gave sends log r text field input h old new e s none is which refu
 -- no options of `run` are bad words
 pub never_bad_words : {F : Type 0} (gave : ℕ → Bool) (sends : List ℕ → List ℕ) (log : F → Option (List Called)) (r : RunWords) (input : Read) (h : List Entry) (old new : List F) (e : Ending) → e ≡ ending.BadWords → RunEnded gave sends log r input h old new e → ⊥
 never_bad_words gave sends log r input h old new e is ended = (let at : RunEnded gave sends log r input h old new ending.BadWords = subst (RunEnded gave sends log r input h old new) is ended in at.cause)
+
+-- want of memory
+
+cut_at : {F : Type 0} (gave : ℕ → Bool) (sends : List ℕ → List ℕ) (log : F → Option (List Called)) (r : RunWords) (text : List ℕ) (config : Config) (input : Read) (h : List Entry) (old new : List F)
+    → r.which ≡ Text text → IsConfigured text config → IsCutRun gave sends log input config r.calls h old new → IsCutOf gave sends log r input h old new
+cut_at gave sends log r text config input h old new which configured (inl uncalled) = inl uncalled
+cut_at gave sends log r text config input h old new which configured (inr run) = inr (record { text = text; which = which; config = config; configured = configured; run = run })
+
+pub cut_of : {F : Type 0} (gave : ℕ → Bool) (sends : List ℕ → List ℕ) (log : F → Option (List Called)) (r : RunWords) (text : List ℕ) (config : Config) (input : Read) (h : List Entry) (old new : List F) (result : Result Ending OutOfMemory)
+    → r.which ≡ Text text → IsConfigured text config → OnErr result (IsCutRun gave sends log input config r.calls h old new) → OnErr result (IsCutOf gave sends log r input h old new)
+cut_of gave sends log r text config input h old new (Ok e) which configured cut = tt
+cut_of gave sends log r text config input h old new (Err e) which configured cut = cut_at gave sends log r text config input h old new which configured cut
+
+whole : {F : Type 0} (gave : ℕ → Bool) (sends : List ℕ → List ℕ) (log : F → Option (List Called)) (r : RunWords) (input : Read) (h : List Entry) (old new : List F) (s : Setting) (e : Ending)
+    → IsRunOf gave sends log r input h old new s e → IsCutOf gave sends log r input h old new
+whole gave sends log r input h old new s e of = inr (record {
+  text = of.text;
+  which = of.which;
+  config = of.config;
+  configured = of.configured;
+  run = record {
+    end = of.run.end;
+    records = of.run.records;
+    read = of.run.read;
+    stopped = stopped_whole gave sends log (setting_of of.config r.calls of.run.records) h old new of.run.run;
+    laws = of.run.laws;
+  };
+})
+
+whole_cause : {F : Type 0} (gave : ℕ → Bool) (sends : List ℕ → List ℕ) (log : F → Option (List Called)) (r : RunWords) (input : Read) (h : List Entry) (old new : List F) (s : Setting) (e : Ending)
+    → RunCause gave sends log r input h old new s e → IsCutOf gave sends log r input h old new
+whole_cause gave sends log r input h old new s ending.BadWords cause = absurd cause
+whole_cause gave sends log r input h old new s ending.UnknownMapping cause = absurd cause
+whole_cause gave sends log r input h old new s ending.DisabledMapping cause = absurd cause
+whole_cause gave sends log r input h old new s (ending.BadParameter name) cause = inl (record { no_trace = cause.1.no_trace; uncalled = cause.1.uncalled })
+whole_cause gave sends log r input h old new s ending.Done cause = whole gave sends log r input h old new s ending.Done cause
+whole_cause gave sends log r input h old new s ending.CallsSpent cause = whole gave sends log r input h old new s ending.CallsSpent cause
+whole_cause gave sends log r input h old new s (ending.BadLine number why) cause = whole gave sends log r input h old new s (ending.BadLine number why) cause
+whole_cause gave sends log r input h old new s ending.InputFault cause = whole gave sends log r input h old new s ending.InputFault cause
+whole_cause gave sends log r input h old new s (ending.Limit limit) cause = whole gave sends log r input h old new s (ending.Limit limit) cause
+
+-- the run was whole, and only its report was not told
+pub whole_cut : {F : Type 0} (gave : ℕ → Bool) (sends : List ℕ → List ℕ) (log : F → Option (List Called)) (r : RunWords) (input : Read) (h : List Entry) (old new : List F) (e : Ending)
+    → RunEnded gave sends log r input h old new e → IsCutOf gave sends log r input h old new
+whole_cut gave sends log r input h old new e ended = whole_cause gave sends log r input h old new ended.setting e ended.cause
+
+pub cut_words : {F : Type 0} (gave : ℕ → Bool) (sends : List ℕ → List ℕ) (log : F → Option (List Called)) (words : List (List ℕ)) (r : RunWords) (input : Read) (h : List Entry) (old new : List F)
+    → spells words (Run r) → IsCutOf gave sends log r input h old new → IsCut gave sends log words input h old new
+cut_words gave sends log words r input h old new spelled (inl uncalled) = inl uncalled
+cut_words gave sends log words r input h old new spelled (inr stopped) = inr (r, spelled, stopped)

@@ -48,7 +48,7 @@ none_run (e ∷ h) only lane = grind arith
 pub shut_rests : (h past : List Entry) (m : ℕ) → list_all is_came h ≡ true → past ≡ Shut m ∷ h → NoneRuns past
 shut_rests h past m only is = λ lane. ap (λ p. is_running p lane) is ∙ none_run h only lane
 
-no_calls : (s : Setting) (sends : List ℕ → List ℕ) (h : List Entry) (k : ℕ) → list_all is_came h ≡ true → calls s sends h k ≡ []
+pub no_calls : (s : Setting) (sends : List ℕ → List ℕ) (h : List Entry) (k : ℕ) → list_all is_came h ≡ true → calls s sends h k ≡ []
 no_calls s sends [] k only = refl
 no_calls s sends (Came n first count m ∷ h) k only = no_calls s sends h k only
 no_calls s sends (e ∷ h) k only = grind arith

@@ -16,7 +16,7 @@ use Rattle.esm_report.specs.declared.ending.Ending.TheVariants as ending
 use Rattle.esm_report.specs.Report.{report_text}
 use Rattle.esm_run.specs.Configured.{IsConfigured, refused_field}
 use Rattle.esm_run.specs.Endings.{IsTold}
-use Rattle.esm_run.specs.Headline.{Read, IsEndedRun, setting_of}
+use Rattle.esm_run.specs.Headline.{Read, IsEndedRun, IsUncalled, IsStoppedRun, setting_of}
 
 -- nothing came, and input and callers are as before
 pub record IsUntouched {F : Type 0} (input : Read) (h : List Entry) (old new : List F) : Type 0 where
@@ -79,3 +79,22 @@ abbrev pub Outcome : {F : Type 0} → (ℕ → Bool) → (List ℕ → List ℕ)
 Outcome gave sends log words input output h old new status =
     ((r : RunWords) × spells words (Run r) × RunOutcome gave sends log r input output h old new status)
     ⊎ AreBadWords words input output h old new status
+
+-- want of memory
+
+-- it stopped the run of the mapping of these options
+pub record IsStoppedOf {F : Type 0} (gave : ℕ → Bool) (sends : List ℕ → List ℕ) (log : F → Option (List Called)) (r : RunWords) (input : Read) (h : List Entry) (old new : List F) : Type 0 where
+  pub text : List ℕ
+  pub which : r.which ≡ Text text
+  pub config : Config
+  pub configured : IsConfigured text config
+  pub run : IsStoppedRun gave sends log input config r.calls h old new
+
+-- it stopped these options of `run`, before anything came or later
+abbrev pub IsCutOf : {F : Type 0} → (ℕ → Bool) → (List ℕ → List ℕ) → (F → Option (List Called)) → RunWords → Read → List Entry → List F → List F → Type 0
+IsCutOf gave sends log r input h old new = IsUncalled h old new ⊎ IsStoppedOf gave sends log r input h old new
+
+-- it stopped what the words ask for
+abbrev pub IsCut : {F : Type 0} → (ℕ → Bool) → (List ℕ → List ℕ) → (F → Option (List Called)) → List (List ℕ) → Read → List Entry → List F → List F → Type 0
+IsCut gave sends log words input h old new =
+    IsUncalled h old new ⊎ ((r : RunWords) × spells words (Run r) × IsStoppedOf gave sends log r input h old new)

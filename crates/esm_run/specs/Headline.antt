@@ -1,5 +1,5 @@
 -- The headline: what a run of a stream's mapping leaves. This product's own.
-use Rattle.std.specs.Prelude.{◌≡◌, ◌<◌, ℕ, Bool, List, [], length, slice_index_or, Option, None, IsSome}
+use Rattle.std.specs.Prelude.{◌≡◌, ◌<◌, ◌⊎◌, ℕ, Bool, List, [], length, slice_index_or, Option, None, IsSome}
 use Rattle.esm_io.specs.Told.{Grows}
 use Rattle.esm_model.specs.declared.called.Called.{Called}
 use Rattle.esm_model.specs.declared.config.Config.{Config}
@@ -20,6 +20,7 @@ use Rattle.esm_run.specs.Endings.{ending_of}
 use Rattle.esm_run.specs.Given.{AreGiven}
 use Rattle.esm_run.specs.Reading.{IsRead}
 use Rattle.esm_run.specs.Running.{NoneRuns}
+use Rattle.esm_run.specs.Stopping.{IsStopped}
 
 -- the records, each in the list of its shard
 abbrev pub setting_of : Config → ℕ → List Record → Setting
@@ -83,3 +84,20 @@ pub record IsEndedRun {F : Type 0} (gave : ℕ → Bool) (sends : List ℕ → L
   pub run : IsRun gave sends log (setting_of config calls records) h old new
   pub ended : IsEnding (setting_of config calls records) h end ending
   pub laws : Laws (setting_of config calls records) h
+
+-- nothing came, and nothing was called
+pub record IsUncalled {F : Type 0} (h : List Entry) (old new : List F) : Type 0 where
+  pub no_trace : h ≡ []
+  pub uncalled : new ≡ old
+
+-- the records were read, and want of memory stopped the run of the configuration with this history
+pub record IsStoppedRun {F : Type 0} (gave : ℕ → Bool) (sends : List ℕ → List ℕ) (log : F → Option (List Called)) (input : Read) (config : Config) (calls : ℕ) (h : List Entry) (old new : List F) : Type 0 where
+  pub end : InputEnd
+  pub records : List Record
+  pub read : IsRead input.faults_before input.faults_now input.before input.left end records
+  pub stopped : IsStopped gave sends log (setting_of config calls records) h old new
+  pub laws : Laws (setting_of config calls records) h
+
+-- want of memory stopped it before anything came, or later
+abbrev pub IsCutRun : {F : Type 0} → (ℕ → Bool) → (List ℕ → List ℕ) → (F → Option (List Called)) → Read → Config → ℕ → List Entry → List F → List F → Type 0
+IsCutRun gave sends log input config calls h old new = IsUncalled h old new ⊎ IsStoppedRun gave sends log input config calls h old new

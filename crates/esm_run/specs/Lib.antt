@@ -3,6 +3,7 @@ pub mod Reading
 pub mod Given
 pub mod Coming
 pub mod Running
+pub mod Stopping
 pub mod Endings
 pub mod Configured
 pub mod Headline

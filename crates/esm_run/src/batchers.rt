@@ -1,6 +1,7 @@
-ghost use Rattle.std.specs.Prelude.{◌≡◌, ◌<◌, ◌≤◌, ℕ, length, OnOk, IfOk, None, false};
+ghost use Rattle.std.specs.Prelude.{◌≡◌, ◌<◌, ◌≤◌, ℕ, length, OnOk, OnErr, IfOk, None, false};
 ghost use Rattle.esm_shard.specs.CoreView.{IsRunningJob, LegalOver};
 ghost use Rattle.esm_run.specs.Running.{NoneRuns, HasCalled, HasAsked, HaveAsked, IsAtRest, IsQuiet, AreQuiet};
+ghost use Rattle.esm_run.specs.Stopping.{MayHaveCalled, HasStopped, HaveStopped};
 
 use esm_io::{Caller, Clock};
 use esm_model::{Job, Next, OutOfMemory};
@@ -54,6 +55,8 @@ fn make_call<C: Clock, F: Caller>(
     requires legal { LegalOver core.old }
     ensures called { OnOk result (HasCalled C.gave F.sends name.now job.event job.lane core.old core.new
         (F.log caller.old) (F.log caller.new)) }
+    ensures uncertain { OnErr result (MayHaveCalled F.sends name.now job.event (F.log caller.old) (F.log caller.new)) }
+    ensures unchanged { OnErr result (core.new ≡ core.old) }
     ensures legal { LegalOver core.new }
     ensures setting { core.new.setting ≡ core.old.setting }
 {
@@ -76,6 +79,7 @@ fn ask<C: Clock, F: Caller>(
     requires rests { NoneRuns core.old.past }
     requires name { name.now ≡ core.old.setting.config.function }
     ensures asked { OnOk result (HasAsked C.gave F.sends batcher core.old core.new (F.log caller.old) (F.log caller.new)) }
+    ensures stopped { OnErr result (HasStopped C.gave F.sends batcher core.old core.new (F.log caller.old) (F.log caller.new)) }
     ensures quiet { IfOk result (λ round. round.worked ≡ false → IsQuiet core.old core.new batcher round.until) }
     ensures legal { LegalOver core.new }
     ensures setting { core.new.setting ≡ core.old.setting }
@@ -116,6 +120,7 @@ fn ask_all<C: Clock, F: Caller>(
     requires rests { NoneRuns core.old.past }
     requires name { name.now ≡ core.old.setting.config.function }
     ensures asked { OnOk result (HaveAsked C.gave F.sends F.log core.old core.new callers.old.items callers.new.items) }
+    ensures stopped { OnErr result (HaveStopped C.gave F.sends F.log core.old core.new callers.old.items callers.new.items) }
     ensures quiet { IfOk result (λ round. round.worked ≡ false
         → AreQuiet core.old core.new (length callers.old.items) round.until) }
     ensures legal { LegalOver core.new }
@@ -154,6 +159,7 @@ pub fn run_rounds<R: Wait, C: Clock, F: Caller>(
     requires rests { NoneRuns core.old.past }
     requires name { name.now ≡ core.old.setting.config.function }
     ensures asked { OnOk result (HaveAsked C.gave F.sends F.log core.old core.new callers.old.items callers.new.items) }
+    ensures stopped { OnErr result (HaveStopped C.gave F.sends F.log core.old core.new callers.old.items callers.new.items) }
     ensures rest { OnOk result ((k : ℕ) → k < length callers.old.items → IsAtRest core.new k) }
     ensures legal { LegalOver core.new }
     ensures setting { core.new.setting ≡ core.old.setting }

@@ -2,6 +2,7 @@ ghost use Rattle.std.specs.Prelude.{◌≡◌, ◌≤◌, ◌<◌, ◌++◌, ℕ
 ghost use Rattle.esm_model.specs.Valid.{IsValidRecord};
 ghost use Rattle.esm_model.specs.Setting.{over, records_in};
 ghost use Rattle.esm_model.specs.declared.item.Record.{Record};
+ghost use Rattle.esm_shard.specs.CoreView.{LegalOver};
 ghost use Rattle.esm_run.specs.Reading.{IsWithin};
 ghost use Rattle.esm_run.specs.Coming.{HasCome};
 
@@ -28,6 +29,8 @@ fn note<C: Clock>(
     requires come { HasCome C.gave shard core.old }
     requires room { length (records_in core.old.setting.streams shard) ≤ 1000000 }
     ensures come { HasCome C.gave shard core.new }
+    ensures unchanged { OnErr result (core.new ≡ core.old) }
+    ensures legal { LegalOver core.new }
     ensures records { OnOk result (records_in core.new.setting.streams shard
         ≡ records_in core.old.setting.streams shard ++ list.items) }
     ensures setting { core.new.setting ≡ over core.old.setting core.new.setting.streams }
@@ -48,7 +51,11 @@ pub fn hand_on<C: Clock>(
     requires within { IsWithin gathered }
     requires come { HasCome C.gave gathered.shard core.old }
     requires new { records_in core.old.setting.streams gathered.shard ≡ [] }
+    requires legal { LegalOver core.old }
     ensures come { HasCome C.gave gathered.shard core.new }
+    ensures front { (rest : List Record) × (gathered.records.items
+        ≡ records_in core.new.setting.streams gathered.shard ++ rest) }
+    ensures legal { LegalOver core.new }
     ensures records { OnOk result (records_in core.new.setting.streams gathered.shard ≡ gathered.records.items) }
     ensures setting { core.new.setting ≡ over core.old.setting core.new.setting.streams }
 {

@@ -1,9 +1,9 @@
-ghost use Rattle.std.specs.Prelude.{◌≡◌, ◌≢◌, List, Option, [], length, reverse, IfOk};
+ghost use Rattle.std.specs.Prelude.{◌≡◌, ◌≢◌, List, Option, [], length, reverse, IfOk, OnErr};
 ghost use Rattle.esm_report.specs.declared.ending.Ending.TheVariants.{BadWords};
 ghost use Rattle.esm_model.specs.Setting.{Setting};
 ghost use Rattle.esm_report.specs.Report.{report_text};
 ghost use Rattle.esm_run.specs.Endings.{IsTold};
-ghost use Rattle.esm_run.specs.Answers.{RunEnded, RunOutcome};
+ghost use Rattle.esm_run.specs.Answers.{RunEnded, RunOutcome, IsCutOf};
 
 use crate::mapping::mapping;
 use crate::output::{OUT_OF_MEMORY, tell};
@@ -61,6 +61,14 @@ fn run_words<R: Wait, S: Source, K: Sink, D: Disk, C: Clock, F: Caller, L: Door>
           left = S.left world.new.input;
         })
         (reverse world.new.trace.items) world.old.callers.items world.new.callers.items) }
+    ensures stopped { OnErr result (IsCutOf C.gave F.sends F.log words
+        (record {
+          faults_before = S.faults world.old.input;
+          faults_now = S.faults world.new.input;
+          before = S.left world.old.input;
+          left = S.left world.new.input;
+        })
+        (reverse world.new.trace.items) world.old.callers.items world.new.callers.items) }
     ensures out { world.new.out ≡ world.old.out }
 {
     let calls = words.calls;
@@ -95,6 +103,14 @@ pub fn run<R: Wait, S: Source, K: Sink, D: Disk, C: Clock, F: Caller, L: Door>(
           after = K.written world.new.out;
         })
         (reverse world.new.trace.items) world.old.callers.items world.new.callers.items result }
+    ensures want_of_memory { result ≡ 70 → IsCutOf C.gave F.sends F.log words
+        (record {
+          faults_before = S.faults world.old.input;
+          faults_now = S.faults world.new.input;
+          before = S.left world.old.input;
+          left = S.left world.new.input;
+        })
+        (reverse world.new.trace.items) world.old.callers.items world.new.callers.items }
     ensures good_words { result ≢ 2 }
 {
     match run_words(rt, alloc, words, world) {

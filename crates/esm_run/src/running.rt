@@ -1,13 +1,15 @@
-ghost use Rattle.std.specs.Prelude.{◌≡◌, ◌≢◌, ◌≤◌, ◌<◌, ℕ, List, Ok, [], IfOk, OnOk, length, reverse, true, false, if◌then◌else◌, ◌==◌};
+ghost use Rattle.std.specs.Prelude.{◌≡◌, ◌≢◌, ◌≤◌, ◌<◌, ℕ, List, Ok, [], IfOk, OnOk, OnErr, length, reverse, true, false, if◌then◌else◌, ◌==◌};
 ghost use Rattle.esm_model.specs.declared.entry.Entry.{Entry};
 ghost use Rattle.esm_model.specs.Valid.{IsStreamConfig};
 ghost use Rattle.esm_model.specs.Setting.{Setting, over};
 ghost use Rattle.esm_model.specs.Entries.{came_count};
 ghost use Rattle.esm_model.specs.Step.{Legal};
+ghost use Rattle.esm_shard.specs.CoreView.{LegalOver};
 ghost use Rattle.esm_shard.specs.Coming.{with_records};
 ghost use Rattle.esm_shard.specs.FirstPath.{IsFirstPath};
 ghost use Rattle.esm_run.specs.Reading.{IsWithin};
-ghost use Rattle.esm_run.specs.Headline.{IsRun, AllFated, HasOpen, IsEnding, IsEndedRun, Laws};
+ghost use Rattle.esm_run.specs.Headline.{IsRun, AllFated, HasOpen, IsEnding, IsEndedRun, IsCutRun, Laws};
+ghost use Rattle.esm_run.specs.Stopping.{IsStopped};
 
 use crate::batchers::run_rounds;
 use crate::coming::hand_on;
@@ -54,8 +56,11 @@ fn run_core<R: Wait, C: Clock, F: Caller>(
     requires new { core.old.past ≡ [] }
     requires none_came { core.old.setting.streams ≡ [] }
     requires name { name.now ≡ core.old.setting.config.function }
+    requires legal { LegalOver core.old }
     requires callers { length callers.old.items ≡ 64 }
     ensures run { OnOk result (IsRun C.gave F.sends F.log
+        (over core.old.setting (with_records [] input.gathered.records.items)) core.new.past callers.old.items callers.new.items) }
+    ensures stopped { OnErr result (IsStopped C.gave F.sends F.log
         (over core.old.setting (with_records [] input.gathered.records.items)) core.new.past callers.old.items callers.new.items) }
     ensures ended { IfOk result (λ ending. IsEnding
         (over core.old.setting (with_records [] input.gathered.records.items)) core.new.past input.end ending) }
@@ -92,6 +97,7 @@ pub fn run_mapping<R: Wait, S: Source, K: Sink, D: Disk, C: Clock, F: Caller, L:
     requires valid { IsStreamConfig config }
     requires first_path { IsFirstPath config }
     requires callers { length world.old.callers.items ≡ 64 }
+    requires trace { world.old.trace.items ≡ [] }
     ensures run { IfOk result (λ ending. IsEndedRun C.gave F.sends F.log
         (record {
           faults_before = S.faults world.old.input;
@@ -100,6 +106,14 @@ pub fn run_mapping<R: Wait, S: Source, K: Sink, D: Disk, C: Clock, F: Caller, L:
           left = S.left world.new.input;
         })
         config calls (reverse world.new.trace.items) world.old.callers.items world.new.callers.items ending) }
+    ensures stopped { OnErr result (IsCutRun C.gave F.sends F.log
+        (record {
+          faults_before = S.faults world.old.input;
+          faults_now = S.faults world.new.input;
+          before = S.left world.old.input;
+          left = S.left world.new.input;
+        })
+        config calls (reverse world.new.trace.items) world.old.callers.items world.new.callers.items) }
     ensures out { world.new.out ≡ world.old.out }
 {
     let name = Text::from_vec(String::from_str(alloc, config.function.as_str())?);

@@ -2,7 +2,7 @@ ghost use Rattle.std.specs.Prelude.{◌≡◌, ◌≢◌, List, [], length, map,
 ghost use Rattle.std.specs.String.{string_bytes};
 ghost use Rattle.esm_cli.specs.Words.{spells};
 ghost use Rattle.esm_cli.specs.declared.command.Command.{Command};
-ghost use Rattle.esm_run.specs.Answers.{Outcome};
+ghost use Rattle.esm_run.specs.Answers.{Outcome, IsCut};
 
 use crate::commands::{finish, run};
 use crate::output::OUT_OF_MEMORY;
@@ -37,6 +37,14 @@ fn perform<R: Wait, S: Source, K: Sink, D: Disk, C: Clock, F: Caller, L: Door>(
           after = K.written world.new.out;
         })
         (reverse world.new.trace.items) world.old.callers.items world.new.callers.items result }
+    ensures want_of_memory { result ≡ 70 → IsCut C.gave F.sends F.log (map string_bytes words.now)
+        (record {
+          faults_before = S.faults world.old.input;
+          faults_now = S.faults world.new.input;
+          before = S.left world.old.input;
+          left = S.left world.new.input;
+        })
+        (reverse world.new.trace.items) world.old.callers.items world.new.callers.items }
     ensures bad_words { result ≡ 2 → (c : Command) → ¬ spells (map string_bytes words.now) c }
     ensures spelled { result ≢ 2 → result ≢ 70 → (c : Command) × spells (map string_bytes words.now) c }
 {
@@ -74,6 +82,14 @@ pub fn esm<R: Threads + Wait + Sync, S: Source, K: Sink, D: Disk, C: Clock, F: C
           after = K.written result.world.out;
         })
         (reverse result.world.trace.items) world.callers.items result.world.callers.items result.status }
+    ensures want_of_memory { result.status ≡ 70 → IsCut C.gave F.sends F.log (map string_bytes words.now)
+        (record {
+          faults_before = S.faults world.input;
+          faults_now = S.faults result.world.input;
+          before = S.left world.input;
+          left = S.left result.world.input;
+        })
+        (reverse result.world.trace.items) world.callers.items result.world.callers.items }
     ensures bad_words { result.status ≡ 2 → (c : Command) → ¬ spells (map string_bytes words.now) c }
     ensures spelled { result.status ≢ 2 → result.status ≢ 70 → (c : Command) × spells (map string_bytes words.now) c }
 {

@@ -3,6 +3,8 @@ use Rattle.esm_shard.specs.CoreView.{moment_for}
 use Rattle.esm_shard.specs.Following.{IsNext, next_entries}
 use Rattle.esm_run.proofs.Calling.{job_is}
 use Rattle.esm_run.proofs.Asking.{asked_call, asked_gave, quiet_spent, itself}
+use Rattle.esm_run.proofs.Results.{on_err}
+use Rattle.esm_run.proofs.Stops.{stopped_call}
 use Rattle.esm_run.proofs.batchers.ask.Goals as goal
 
 pub returns-in_ok-make_call-in-Call-clause-asked : goal.returns-in_ok-make_call-in-Call-clause-asked
@@ -30,3 +32,16 @@ returns-in-Spent-clause-quiet g c = λ still.
     quiet_spent c.args.batcher m c.args.core.now c.next.new.self c.next.ensures.setting
     (subst (λ n. c.next.new.self.past ≡ next_entries c.args.core.now.setting c.args.core.now.past c.args.batcher m n ++ c.args.core.now.past) c.in-Spent.is c.in_ok-job.ensures.history)
     (subst (IsNext c.args.core.now c.args.batcher m) c.in-Spent.is c.in_ok-job.ensures.answer c.args.core.now.setting.streams (itself c.args.core.now))
+
+pub returns-in_err-make_call-in-Call-clause-stopped : goal.returns-in_err-make_call-in-Call-clause-stopped
+returns-in_err-make_call-in-Call-clause-stopped g c =
+    let m = moment_for c.args.core.now.past c.now.result in
+    on_err c.from_residual-in_err-make_call-in-Call.result _
+    (stopped_call g.C.Clock.gave g.F.Caller.sends c.args.batcher c.now.result c.args.name.now c.in-Call.job c.args.core.now c.next.new.self c.make_call.new.core
+    (g.F.Caller.log c.args.caller.now) (g.F.Caller.log c.make_call.new.caller)
+    c.now.ensures
+    (subst (λ n. c.next.new.self.past ≡ next_entries c.args.core.now.setting c.args.core.now.past c.args.batcher m n ++ c.args.core.now.past) c.in-Call.is c.in_ok-job.ensures.history)
+    c.in_err-make_call-in-Call.ensures.unchanged c.requires.name
+    (job_is c.args.core.now.setting c.args.core.now.past c.args.batcher m c.in-Call.job
+    (subst (IsNext c.args.core.now c.args.batcher m) c.in-Call.is c.in_ok-job.ensures.answer c.args.core.now.setting.streams (itself c.args.core.now)))
+    c.in_err-make_call-in-Call.ensures.uncertain)

@@ -1,13 +1,9 @@
-use Rattle.std.proofs.Common.{◌≡◌, ℕ, List, ◌-◌, length, take, drop, subst, ap, Result, Ok, Err, arith}
-use Rattle.std.specs.Prelude.{OnErr}
+use Rattle.std.proofs.Common.{◌≡◌, ℕ, List, ◌-◌, length, take, drop, subst, ap, arith}
 use Rattle.std.proofs.lemmas.List.{take_rest, length-drop}
 use Rattle.esm_io.specs.Told.{Grows}
+use Rattle.esm_run.proofs.Results.{on_err}
 use Rattle.esm_run.proofs.Writing.{written_more, cut_short}
 use Rattle.esm_run.proofs.output.write_all.Goals as goal
-
-on_err : {A E : Type 0} (r : Result A E) (P : Type 0) → P → OnErr r P
-on_err (Ok a) P p = tt
-on_err (Err e) P p = p
 
 pub returns-in_err-count-clause-cut_short : goal.returns-in_err-count-clause-cut_short
 returns-in_err-count-clause-cut_short g c = on_err c.from_residual.result _
