@@ -28,6 +28,7 @@ pub fn finish<S: Source, K: Sink, D: Disk, C: Clock, F: Caller, L: Door>(
         (K.written world.old.out) (K.written world.new.out)
         (report_text s (reverse world.old.trace.items) ending.now) ending.now result }
     ensures words { result ≡ 2 → ending.now ≡ BadWords }
+    ensures untold { result ≡ 70 → world.new ≡ world.old }
     ensures same { world.new ≡ record world.old { out = world.new.out } }
 {
     let Ok(text) = report(alloc, &world.trace, ending) else {
@@ -69,7 +70,7 @@ fn run_words<R: Wait, S: Source, K: Sink, D: Disk, C: Clock, F: Caller, L: Door>
           left = S.left world.new.input;
         })
         (reverse world.new.trace.items) world.old.callers.items world.new.callers.items) }
-    ensures out { world.new.out ≡ world.old.out }
+    ensures kept { world.new ≡ record world.old { input = world.new.input; callers = world.new.callers; trace = world.new.trace } }
 {
     let calls = words.calls;
     let text = mapping_text(words.which);
@@ -112,6 +113,9 @@ pub fn run<R: Wait, S: Source, K: Sink, D: Disk, C: Clock, F: Caller, L: Door>(
         })
         (reverse world.new.trace.items) world.old.callers.items world.new.callers.items }
     ensures good_words { result ≢ 2 }
+    ensures untold { result ≡ 70 → world.new.out ≡ world.old.out }
+    ensures kept { world.new ≡ record world.old
+        { input = world.new.input; out = world.new.out; callers = world.new.callers; trace = world.new.trace } }
 {
     match run_words(rt, alloc, words, world) {
         Ok(ending) => finish(alloc, world, &ending),

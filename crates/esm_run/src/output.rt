@@ -1,4 +1,4 @@
-ghost use Rattle.std.specs.Prelude.{◌≡◌, List, Option, OnOk, OnErr};
+ghost use Rattle.std.specs.Prelude.{◌≡◌, ◌≤◌, List, Option, OnOk, OnErr};
 ghost use Rattle.esm_io.specs.Faults.{IsCount};
 ghost use Rattle.esm_io.specs.Told.{Grows};
 ghost use Rattle.esm_report.specs.declared.ending.Ending.TheVariants.{BadWords};
@@ -20,6 +20,7 @@ pub const OUT_OF_MEMORY: u8 = 70;
 fn status_of(ending: &Ending) -> u8
     ensures value { result ≡ status_of ending.now }
     ensures words { result ≡ 2 → ending.now ≡ BadWords }
+    ensures known { result ≤ 10 }
 {
     match ending {
         Ending::Done => 0,
@@ -38,6 +39,7 @@ fn status_of(ending: &Ending) -> u8
 fn failed_status_of(ending: &Ending) -> u8
     ensures value { result ≡ failed_status_of ending.now }
     ensures words { result ≡ 2 → ending.now ≡ BadWords }
+    ensures known { result ≤ 10 }
 {
     match ending {
         Ending::BadWords => BAD_WORDS,
@@ -64,6 +66,7 @@ pub fn tell<K: Sink>(out: &mut K, text: &[u8], ending: &Ending) -> u8
     ensures told { IsTold (K.faults out.old) (K.faults out.new) (K.written out.old) (K.written out.new)
         text.now ending.now result }
     ensures words { result ≡ 2 → ending.now ≡ BadWords }
+    ensures known { result ≤ 10 }
 {
     match write_all(out, text) {
         Ok(()) => status_of(ending),

@@ -114,7 +114,7 @@ pub fn run_mapping<R: Wait, S: Source, K: Sink, D: Disk, C: Clock, F: Caller, L:
           left = S.left world.new.input;
         })
         config calls (reverse world.new.trace.items) world.old.callers.items world.new.callers.items) }
-    ensures out { world.new.out ≡ world.old.out }
+    ensures kept { world.new ≡ record world.old { input = world.new.input; callers = world.new.callers; trace = world.new.trace } }
 {
     let name = Text::from_vec(String::from_str(alloc, config.function.as_str())?);
     let input = read_input(alloc, &mut world.input)?;

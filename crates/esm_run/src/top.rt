@@ -46,6 +46,9 @@ fn perform<R: Wait, S: Source, K: Sink, D: Disk, C: Clock, F: Caller, L: Door>(
         })
         (reverse world.new.trace.items) world.old.callers.items world.new.callers.items }
     ensures bad_words { result ≡ 2 → (c : Command) → ¬ spells (map string_bytes words.now) c }
+    ensures untold { result ≡ 70 → world.new.out ≡ world.old.out }
+    ensures kept { world.new ≡ record world.old
+        { input = world.new.input; out = world.new.out; callers = world.new.callers; trace = world.new.trace } }
     ensures spelled { result ≢ 2 → result ≢ 70 → (c : Command) × spells (map string_bytes words.now) c }
 {
     match read(alloc, words) {
@@ -91,6 +94,13 @@ pub fn esm<R: Threads + Wait + Sync, S: Source, K: Sink, D: Disk, C: Clock, F: C
         })
         (reverse result.world.trace.items) world.callers.items result.world.callers.items }
     ensures bad_words { result.status ≡ 2 → (c : Command) → ¬ spells (map string_bytes words.now) c }
+    ensures untold { result.status ≡ 70 → result.world.out ≡ world.out }
+    ensures kept { result.world ≡ record world {
+      input = result.world.input;
+      out = result.world.out;
+      callers = result.world.callers;
+      trace = result.world.trace;
+    } }
     ensures spelled { result.status ≢ 2 → result.status ≢ 70 → (c : Command) × spells (map string_bytes words.now) c }
 {
     let mut world = world;

@@ -1,4 +1,4 @@
-use Rattle.std.proofs.Common.{subst, sym, reverse}
+use Rattle.std.proofs.Common.{subst, sym, ap, reverse}
 use Rattle.esm_report.specs.Report.{report_text}
 use Rattle.esm_run.specs.Endings.{IsTold}
 use Rattle.esm_run.specs.Answers.{RunOutcome, IsCutOf}
@@ -17,7 +17,7 @@ returns-in-Ok-clause-outcome g c = λ known.
       ending = c.in-Ok.ending;
       ended = c.in-Ok.ensures.ended;
       told = subst (λ o. IsTold (g.K.Sink.faults o) (g.K.Sink.faults after.out) (g.K.Sink.written o) (g.K.Sink.written after.out)
-          (report_text c.in-Ok.ensures.ended.setting (reverse before.trace.items) c.in-Ok.ending) c.in-Ok.ending c.finish.result) c.run_words.ensures.out
+          (report_text c.in-Ok.ensures.ended.setting (reverse before.trace.items) c.in-Ok.ending) c.in-Ok.ending c.finish.result) (ap (λ w. w.out) c.run_words.ensures.kept)
           (c.finish.ensures.told known c.in-Ok.ensures.ended.setting c.in-Ok.ensures.ended.no_journal);
     })
 
