@@ -61,8 +61,9 @@ fn perform<R: Wait, S: Source, K: Sink, D: Disk, C: Clock, F: Caller, L: Door>(
 /// Does what the words of the command line ask for, and hands the world back with the exit status: 0 where the input
 /// was read to its end and every record has its fate, 1 where the calls allowed were spent before, 2 where the words
 /// are no command, 3 at a bad line, 4 where the input failed, 5 where the output failed, 9 where a parameter is
-/// refused, 10 past a limit, 70 for want of memory. Their causes exclude one another, so each status but 5 and 70
-/// comes exactly where its cause stands.
+/// refused, 10 past a limit, 70 for want of memory, after which nothing is told. 4 and 5 come only where the device's
+/// count of faults rose. Where the input tells its bytes and did not fail, the causes of 0, 1, 2, 3, 9 and 10 exclude one
+/// another.
 pub fn esm<R: Threads + Wait + Sync, S: Source, K: Sink, D: Disk, C: Clock, F: Caller, L: Door>(
     rt: &R,
     alloc: Global,
