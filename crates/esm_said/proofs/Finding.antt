@@ -18,7 +18,7 @@ use Rattle.esm_said.specs.Tells.{fate_of_found, tries_of_found, deletion_of_foun
 use Rattle.esm_said.specs.View.{found_fate, found_tries, found_state, found_window_tries, found_replay, found_deletion, stated}
 use Rattle.esm_said.proofs.Pairs.{is_eq-nat, same_pair}
 
-eqb-flip : (a b : ℕ) → eqb a b ≡ eqb b a
+pub eqb-flip : (a b : ℕ) → eqb a b ≡ eqb b a
 eqb-flip a b =
     elim (cases_eq a b) [
       | inl same ↦ eq-eqb a b same ∙ sym (eq-eqb b a (sym same))
@@ -30,7 +30,7 @@ eqb-flip a b =
 pub at_pair : (n i m j : ℕ) → (eqb m n && eqb j i) ≡ is_eq (pair_cmp (n, i) (m, j))
 at_pair n i m j = ap (λ b. b && eqb j i) (eqb-flip m n) ∙ ap (λ b. eqb n m && b) (eqb-flip j i) ∙ sym (same_pair n i m j)
 
-at_number : (n m : ℕ) → eqb m n ≡ is_eq (nat_cmp n m)
+pub at_number : (n m : ℕ) → eqb m n ≡ is_eq (nat_cmp n m)
 at_number n m = eqb-flip m n ∙ sym (is_eq-nat n m)
 
 -- lists made of entries

@@ -7,3 +7,5 @@ pub mod Payloads
 pub mod Pairs
 pub mod Finding
 pub mod Gathering
+pub mod Regrouping
+pub mod Joining

@@ -23,7 +23,7 @@ is_eq-nat a b =
       ])
     ]
 
-is_eq-then : (o p : Ordering) → is_eq (ordering_then o p) ≡ (is_eq o && is_eq p)
+pub is_eq-then : (o p : Ordering) → is_eq (ordering_then o p) ≡ (is_eq o && is_eq p)
 is_eq-then Less p = refl
 is_eq-then Equal p = refl
 is_eq-then Greater p = refl

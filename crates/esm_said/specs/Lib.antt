@@ -7,3 +7,5 @@ pub mod Tells
 pub mod Table
 pub mod View
 pub mod Bad
+pub mod Pieces
+pub mod Compact

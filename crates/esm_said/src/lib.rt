@@ -4,6 +4,7 @@
 #![tactic(auto)]
 
 mod add;
+mod compact;
 pub mod error;
 mod field;
 mod gather;
@@ -12,7 +13,9 @@ mod judge;
 pub mod kept;
 pub mod laws;
 mod names;
+mod piece;
 mod reading;
+mod regroup;
 pub mod said;
 mod table;
 #[cfg(test)]

@@ -45,13 +45,13 @@ pub(crate) fn empty_table(alloc: Global) -> Table
     }
 }
 
-fn copied(alloc: Global, text: &Text) -> Result<Text, OutOfMemory>
+pub(crate) fn copied(alloc: Global, text: &Text) -> Result<Text, OutOfMemory>
     ensures { IfOk result (λ t. t ≡ text.now) }
 {
     Ok(Text::from_vec(String::from_str(alloc, text.as_str())?))
 }
 
-fn copied_state(alloc: Global, text: &Bytes) -> Result<Bytes, OutOfMemory>
+pub(crate) fn copied_state(alloc: Global, text: &Bytes) -> Result<Bytes, OutOfMemory>
     ensures { IfOk result (λ t. t ≡ text.now) }
 {
     Ok(Bytes::from_vec(Vec::from_slice(alloc, text.as_slice())?))

@@ -48,7 +48,7 @@ fn push_bytes(out: &mut Vec<u8>, bytes: &[u8]) -> Result<(), OutOfMemory>
     Ok(())
 }
 
-fn fate_byte(fate: Fate) -> u8
+pub(crate) fn fate_byte(fate: Fate) -> u8
     ensures { result ≡ fate_byte fate }
 {
     match fate {

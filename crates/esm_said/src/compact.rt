@@ -1,0 +1,188 @@
+// The shorter list of payloads that says the same.
+ghost use Rattle.std.specs.Prelude.{◌≡◌, ℕ, ◌++◌, List, [], true, length, map, max, reverse, IfOk, OnOk, IfErr};
+ghost use Rattle.std.specs.List.{AllByRecursion};
+ghost use Rattle.esm_said.specs.declared.said.Said.{Said};
+ghost use Rattle.esm_said.specs.Bad.{IsFirstBad};
+ghost use Rattle.esm_said.specs.Compact.{moment_of, greatest_moment, fate_from, fates_of, tried_of, replayed_of, deleted_of, state_of_window, tried_of_window, IsCompacted};
+ghost use Rattle.esm_said.specs.Meaning.{history, are_good};
+ghost use Rattle.esm_said.specs.Payload.{IsSaid, payload_of};
+ghost use Rattle.esm_said.specs.Table.{IsTable};
+
+use crate::error::SaysError;
+use crate::history::table_of;
+use crate::piece::{Piece, pieces_of};
+use crate::reading::read_said;
+use crate::regroup::{by_deletion, by_fate, by_replay, by_tries};
+use crate::said::Said;
+use crate::table::{Table, Window, copied_state};
+use crate::writing::said_bytes;
+use esm_model::{Bytes, Fate, OutOfMemory, WindowState};
+use std::alloc::Global;
+use std::collections::BTreeMap;
+
+fn moment_of(said: &Said) -> u64
+    ensures { result ≡ moment_of said.now }
+{
+    match said {
+        Said::Fates { moment, .. }
+        | Said::Closed { moment, .. }
+        | Said::Deleted { moment, .. }
+        | Said::State { moment, .. }
+        | Said::Tried { moment, .. }
+        | Said::WindowTried { moment, .. }
+        | Said::Replayed { moment, .. } => *moment,
+    }
+}
+
+/// The greatest moment of the payloads, or 0.
+fn greatest_moment(alloc: Global, payloads: &[Bytes]) -> Result<u64, OutOfMemory>
+    ensures moment { IfOk result (λ m. m ≡ greatest_moment (history (reverse payloads.now))) }
+    ensures said { OnOk result (AllByRecursion IsSaid (history (reverse payloads.now))) }
+{
+    let mut greatest = 0;
+    for payload in payloads {
+        if let Some(said) = read_said(alloc, payload.as_slice())? {
+            greatest = greatest.max(moment_of(&said));
+        }
+    }
+    Ok(greatest)
+}
+
+fn fate_from(byte: u32) -> Fate
+    ensures { result ≡ fate_from byte }
+{
+    match byte {
+        1 => Fate::Succeeded,
+        2 => Fate::Filtered,
+        3 => Fate::Expired,
+        _ => Fate::Exhausted,
+    }
+}
+
+fn push_fates(saids: &mut Vec<Said>, moment: u64, pieces: Vec<Piece>) -> Result<(), OutOfMemory>
+    ensures { OnOk result (saids.new.items ≡ saids.old.items ++ map (fates_of moment) pieces.items) }
+{
+    for piece in pieces {
+        let (shard, byte) = piece.group();
+        let (places, texts) = piece.into_named();
+        saids.push(Said::Fates {
+            shard,
+            fate: fate_from(byte),
+            moment,
+            state: None,
+            places,
+            texts,
+        })?;
+    }
+    Ok(())
+}
+
+fn push_tries(saids: &mut Vec<Said>, moment: u64, pieces: Vec<Piece>) -> Result<(), OutOfMemory>
+    ensures { OnOk result (saids.new.items ≡ saids.old.items ++ map (tried_of moment) pieces.items) }
+{
+    for piece in pieces {
+        let (shard, tries) = piece.group();
+        let (places, texts) = piece.into_named();
+        saids.push(Said::Tried {
+            shard,
+            moment,
+            tries,
+            places,
+            texts,
+        })?;
+    }
+    Ok(())
+}
+
+fn push_replays(saids: &mut Vec<Said>, moment: u64, pieces: Vec<Piece>) -> Result<(), OutOfMemory>
+    ensures { OnOk result (saids.new.items ≡ saids.old.items ++ map (replayed_of moment) pieces.items) }
+{
+    for piece in pieces {
+        let (shard, _) = piece.group();
+        let (places, texts) = piece.into_named();
+        saids.push(Said::Replayed {
+            shard,
+            moment,
+            places,
+            texts,
+        })?;
+    }
+    Ok(())
+}
+
+fn push_deletions(saids: &mut Vec<Said>, moment: u64, pieces: Vec<Piece>) -> Result<(), OutOfMemory>
+    ensures { OnOk result (saids.new.items ≡ saids.old.items ++ map (deleted_of moment) pieces.items) }
+{
+    for piece in pieces {
+        let (_, byte) = piece.group();
+        let (places, texts) = piece.into_named();
+        saids.push(Said::Deleted {
+            fate: fate_from(byte),
+            moment,
+            places,
+            texts,
+        })?;
+    }
+    Ok(())
+}
+
+fn push_states(
+    alloc: Global,
+    saids: &mut Vec<Said>,
+    moment: u64,
+    states: &BTreeMap<Window, Bytes>,
+) -> Result<(), OutOfMemory>
+    ensures { OnOk result (saids.new.items ≡ saids.old.items ++ map (state_of_window moment) states.now.entries) }
+{
+    for (key, text) in states {
+        let text = copied_state(alloc, text)?;
+        let state = WindowState {
+            window: key.1,
+            text,
+        };
+        saids.push(Said::State {
+            shard: key.0,
+            moment,
+            state,
+        })?;
+    }
+    Ok(())
+}
+
+fn push_window_tries(
+    saids: &mut Vec<Said>,
+    moment: u64,
+    window_tries: &BTreeMap<Window, u32>,
+) -> Result<(), OutOfMemory>
+    ensures { OnOk result (saids.new.items ≡ saids.old.items ++ map (tried_of_window moment) window_tries.now.entries) }
+{
+    for (key, tries) in window_tries {
+        saids.push(Said::WindowTried {
+            shard: key.0,
+            window: key.1,
+            moment,
+            tries: *tries,
+        })?;
+    }
+    Ok(())
+}
+
+/// The shorter list, with this moment.
+fn compact_saids(alloc: Global, table: &Table, moment: u64) -> Result<Vec<Said>, OutOfMemory>
+    ensures { IfOk result (λ v. (h : List Said) → IsTable table.now h → moment ≡ greatest_moment h → IsCompacted h v.items) }
+{
+    let mut saids = Vec::new(alloc);
+    let fates = by_fate(alloc, &table.fates)?;
+    push_fates(&mut saids, moment, pieces_of(alloc, fates)?)?;
+    let tries = by_tries(alloc, &table.tries)?;
+    push_tries(&mut saids, moment, pieces_of(alloc, tries)?)?;
+    let replays = by_replay(alloc, &table.fates, &table.replays)?;
+    push_replays(&mut saids, moment, pieces_of(alloc, replays)?)?;
+    let _ = table.states.len();
+    push_states(alloc, &mut saids, moment, &table.states)?;
+    let _ = table.window_tries.len();
+    push_window_tries(&mut saids, moment, &table.window_tries)?;
+    let deletions = by_deletion(alloc, &table.deletions)?;
+    push_deletions(&mut saids, moment, pieces_of(alloc, deletions)?)?;
+    Ok(saids)
+}
