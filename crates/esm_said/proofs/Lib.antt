@@ -9,3 +9,6 @@ pub mod Finding
 pub mod Gathering
 pub mod Regrouping
 pub mod Joining
+pub mod Cutting
+pub mod Histories
+pub mod Compacting

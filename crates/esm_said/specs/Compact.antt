@@ -106,3 +106,12 @@ pub record IsCompacted (h saids : List Said) : Type 0 where
       ++ map (state_of_window (greatest_moment h)) states
       ++ map (tried_of_window (greatest_moment h)) window_tries
       ++ map (deleted_of (greatest_moment h)) (pieces deletions)
+
+-- two histories say the same of each place and each window
+pub record SameSaid (g h : List Said) : Type 0 where
+  pub fates : (n i : ℕ) → fate_said g n i ≡ fate_said h n i
+  pub tries : (n i : ℕ) → tries_said g n i ≡ tries_said h n i
+  pub states : (n w : ℕ) → state_said g n w ≡ state_said h n w
+  pub window_tries : (n w : ℕ) → window_tries_said g n w ≡ window_tries_said h n w
+  pub replays : (n i : ℕ) → replayed_said g n i ≡ replayed_said h n i
+  pub deletions : (i : ℕ) → deletion_said g i ≡ deletion_said h i

@@ -3,7 +3,7 @@ ghost use Rattle.std.specs.Prelude.{◌≡◌, ℕ, ◌++◌, List, [], true, le
 ghost use Rattle.std.specs.List.{AllByRecursion};
 ghost use Rattle.esm_said.specs.declared.said.Said.{Said};
 ghost use Rattle.esm_said.specs.Bad.{IsFirstBad};
-ghost use Rattle.esm_said.specs.Compact.{moment_of, greatest_moment, fate_from, fates_of, tried_of, replayed_of, deleted_of, state_of_window, tried_of_window, IsCompacted};
+ghost use Rattle.esm_said.specs.Compact.{moment_of, greatest_moment, fate_from, fates_of, tried_of, replayed_of, deleted_of, state_of_window, tried_of_window, IsCompacted, SameSaid};
 ghost use Rattle.esm_said.specs.Meaning.{history, are_good};
 ghost use Rattle.esm_said.specs.Payload.{IsSaid, payload_of};
 ghost use Rattle.esm_said.specs.Table.{IsTable};
@@ -185,4 +185,32 @@ fn compact_saids(alloc: Global, table: &Table, moment: u64) -> Result<Vec<Said>,
     let deletions = by_deletion(alloc, &table.deletions)?;
     push_deletions(&mut saids, moment, pieces_of(alloc, deletions)?)?;
     Ok(saids)
+}
+
+/// The payloads that say so.
+fn payloads_of(alloc: Global, saids: &[Said]) -> Result<Vec<Bytes>, OutOfMemory>
+    requires { AllByRecursion IsSaid saids.now }
+    ensures { IfOk result (λ v. v.items ≡ map payload_of saids.now) }
+{
+    let mut payloads = Vec::new(alloc);
+    for said in saids {
+        let payload = said_bytes(alloc, said)?;
+        payloads.push(Bytes::from_vec(payload))?;
+    }
+    Ok(payloads)
+}
+
+/// The shorter list of payloads that says the same as these, the oldest first: fates, tries, replays, states, windows'
+/// tries and deletions, each in order and with the greatest moment of the payloads. The refusals are those of `says`.
+pub fn compacted(alloc: Global, payloads: &[Bytes]) -> Result<Vec<Bytes>, SaysError>
+    ensures listed { IfOk result (λ v. (saids : List Said) × IsCompacted (history (reverse payloads.now)) saids × (v.items ≡ map payload_of saids)) }
+    ensures same { IfOk result (λ v. SameSaid (history (reverse v.items)) (history (reverse payloads.now))) }
+    ensures fine { IfOk result (λ v. are_good (reverse v.items) ≡ true) }
+    ensures good { OnOk result (are_good (reverse payloads.now) ≡ true) }
+    ensures bad { IfErr result (λ e. IsFirstBad payloads.now e) }
+{
+    let table = table_of(alloc, payloads)?;
+    let moment = greatest_moment(alloc, payloads)?;
+    let saids = compact_saids(alloc, &table, moment)?;
+    Ok(payloads_of(alloc, &saids)?)
 }

@@ -24,6 +24,7 @@ pub mod told;
 mod word;
 mod writing;
 
+pub use compact::compacted;
 pub use error::SaysError;
 pub use history::says;
 pub use reading::read_said;

@@ -1,7 +1,7 @@
 ghost use Rattle.std.specs.Prelude.{IfOk};
 ghost use Rattle.esm_said.specs.Payload.{IsSaid};
 
-use crate::{Said, SaysError, read_said, said_bytes, says};
+use crate::{Said, SaysError, compacted, read_said, said_bytes, says};
 use esm_model::{Bytes, Fate, OutOfMemory, Places, Text, Texts};
 use std::alloc::Global;
 use std::test::Fail;
@@ -90,5 +90,40 @@ fn one_record_said(rt: HostRuntime) -> Result<(), Fail> {
 fn named_twice(rt: HostRuntime) -> Result<(), Fail> {
     let payloads = payloads(rt.alloc(), 2)?;
     assert!(rt; matches!(says(rt.alloc(), &payloads), Err(SaysError::BadPayload(1))));
+    Ok(())
+}
+
+/// Records of the first shard with this fate's byte, at the moment 0; the record at place 0 has the sequence number 1.
+fn fates_payload(alloc: Global, fate: u8, places: &[u8]) -> Result<Bytes, OutOfMemory> {
+    let mut bytes = Vec::new(alloc);
+    bytes.extend_from_slice(&[1, 0, 0, 0, 0, 0, 0, 0, 0, fate])?;
+    bytes.extend_from_slice(&[0, 0, 0, 0, 0, 0, 0, 0, 0, 0, 0, 0])?;
+    bytes.push((places.len() % 10) as u8)?;
+    for place in places {
+        bytes.extend_from_slice(&[0, 0, 0, *place, 1, b'1' + *place % 9])?;
+    }
+    Ok(Bytes::from_vec(bytes))
+}
+
+#[test]
+fn compact_eight(rt: HostRuntime) -> Result<(), Fail> {
+    let mut old = Vec::new(rt.alloc());
+    old.push(fates_payload(rt.alloc(), 1, &[0, 1, 2, 3])?)?;
+    old.push(fates_payload(rt.alloc(), 4, &[4])?)?;
+    old.push(fates_payload(rt.alloc(), 1, &[5])?)?;
+    old.push(fates_payload(rt.alloc(), 1, &[6, 7])?)?;
+    let new = compacted(rt.alloc(), &old)?;
+    assert_eq!(rt; new.len(), 2);
+    let succeeded = fates_payload(rt.alloc(), 1, &[0, 1, 2, 3, 5, 6, 7])?;
+    assert_eq!(rt; new[0].as_slice(), succeeded.as_slice());
+    let exhausted = fates_payload(rt.alloc(), 4, &[4])?;
+    assert_eq!(rt; new[1].as_slice(), exhausted.as_slice());
+    Ok(())
+}
+
+#[test]
+fn compact_fresh(rt: HostRuntime) -> Result<(), Fail> {
+    let none: Vec<Bytes> = Vec::new(rt.alloc());
+    assert_eq!(rt; compacted(rt.alloc(), &none)?.len(), 0);
     Ok(())
 }

@@ -40,14 +40,14 @@ returns c = λ h table same. record {
   parts =
       let m = c.args.moment in
       rw (← same)
-          (joined c.new-saids.result.items c.push_fates.new.saids.items c.push_tries.new.saids.items c.push_replays.new.saids.items c.push_states.new.saids.items c.push_window_tries.new.saids.items c.push_deletions.new.saids.items
-              (map (fates_of m) (pieces c.in_ok-fates.fates.entries)) (map (tried_of m) (pieces c.in_ok-tries.tries.entries)) (map (replayed_of m) (pieces c.in_ok-replays.replays.entries))
-              (map (state_of_window m) c.args.table.now.states.entries) (map (tried_of_window m) c.args.table.now.window_tries.entries) (map (deleted_of m) (pieces c.in_ok-deletions.deletions.entries))
-              c.new-saids.ensures.items
-              (c.in_ok-push_fates.ensures ∙ ap (λ ps. c.new-saids.result.items ++ map (fates_of m) ps) c.in_ok-pieces_of.ensures)
-              (c.in_ok-push_tries.ensures ∙ ap (λ ps. c.push_fates.new.saids.items ++ map (tried_of m) ps) c.in_ok-pieces_of-2.ensures)
-              (c.in_ok-push_replays.ensures ∙ ap (λ ps. c.push_tries.new.saids.items ++ map (replayed_of m) ps) c.in_ok-pieces_of-3.ensures)
-              c.in_ok-push_states.ensures
-              c.in_ok-push_window_tries.ensures
-              (c.in_ok-push_deletions.ensures ∙ ap (λ ps. c.push_window_tries.new.saids.items ++ map (deleted_of m) ps) c.in_ok-pieces_of-4.ensures));
+      (joined c.new-saids.result.items c.push_fates.new.saids.items c.push_tries.new.saids.items c.push_replays.new.saids.items c.push_states.new.saids.items c.push_window_tries.new.saids.items c.push_deletions.new.saids.items
+      (map (fates_of m) (pieces c.in_ok-fates.fates.entries)) (map (tried_of m) (pieces c.in_ok-tries.tries.entries)) (map (replayed_of m) (pieces c.in_ok-replays.replays.entries))
+      (map (state_of_window m) c.args.table.now.states.entries) (map (tried_of_window m) c.args.table.now.window_tries.entries) (map (deleted_of m) (pieces c.in_ok-deletions.deletions.entries))
+      c.new-saids.ensures.items
+      (c.in_ok-push_fates.ensures ∙ ap (λ ps. c.new-saids.result.items ++ map (fates_of m) ps) c.in_ok-pieces_of.ensures)
+      (c.in_ok-push_tries.ensures ∙ ap (λ ps. c.push_fates.new.saids.items ++ map (tried_of m) ps) c.in_ok-pieces_of-2.ensures)
+      (c.in_ok-push_replays.ensures ∙ ap (λ ps. c.push_tries.new.saids.items ++ map (replayed_of m) ps) c.in_ok-pieces_of-3.ensures)
+      c.in_ok-push_states.ensures
+      c.in_ok-push_window_tries.ensures
+      (c.in_ok-push_deletions.ensures ∙ ap (λ ps. c.push_window_tries.new.saids.items ++ map (deleted_of m) ps) c.in_ok-pieces_of-4.ensures));
 }

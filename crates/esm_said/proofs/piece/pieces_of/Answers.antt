@@ -8,5 +8,5 @@ pub returns : goal.returns
 returns c =
     let ended : c.loop-group.group-iterator ≡ [] = c.in-None.ensures.steps.0 in
     let all : reverse c.loop-group.pieces.items ≡ pieces_after [] c.args.named.entries =
-        sym (ap (λ es. pieces_after (reverse c.loop-group.pieces.items) es) ended) ∙ c.loop-group.invariant in
+    sym (ap (λ es. pieces_after (reverse c.loop-group.pieces.items) es) ended) ∙ c.loop-group.invariant in
     sym (reverse-reverse c.loop-group.pieces.items) ∙ ap reverse all

@@ -1,0 +1,33 @@
+use Rattle.std.proofs.Common.{◌≡◌, ◌∙◌, ap, true}
+use Rattle.std.specs.Prelude.{reverse, map}
+use Rattle.esm_said.specs.Payload.{payload_of}
+use Rattle.esm_said.specs.Meaning.{history, are_good}
+use Rattle.esm_said.specs.Compact.{SameSaid}
+use Rattle.esm_said.proofs.Histories.{good_from}
+use Rattle.esm_said.proofs.Compacting.{all_may, compacts}
+use Rattle.esm_said.proofs.compact.compacted.Goals as goal
+
+pub payloads_of-requires : goal.payloads_of-requires
+payloads_of-requires c =
+    let h = history (reverse c.args.payloads.now) in
+    let listed = c.in_ok-saids.ensures h c.in_ok-table.ensures.table c.in_ok-moment.ensures.moment in
+    rw c.deref.ensures.value (all_may h c.in_ok-saids.saids.items listed c.in_ok-moment.ensures.said)
+
+pub returns-clause-listed : goal.returns-clause-listed
+returns-clause-listed c =
+    let h = history (reverse c.args.payloads.now) in
+    (c.in_ok-saids.saids.items, c.in_ok-saids.ensures h c.in_ok-table.ensures.table c.in_ok-moment.ensures.moment, c.in_ok-payloads_of.ensures ∙ ap (map payload_of) c.deref.ensures.value)
+
+pub returns-clause-same : goal.returns-clause-same
+returns-clause-same c =
+    let h = history (reverse c.args.payloads.now) in
+    let listed = c.in_ok-saids.ensures h c.in_ok-table.ensures.table c.in_ok-moment.ensures.moment in
+    (compacts h c.in_ok-saids.saids.items c.in_ok-payloads_of.field-0.items listed c.in_ok-moment.ensures.said (good_from (reverse c.args.payloads.now) c.in_ok-table.ensures.good)
+    (c.in_ok-payloads_of.ensures ∙ ap (map payload_of) c.deref.ensures.value)).1
+
+pub returns-clause-fine : goal.returns-clause-fine
+returns-clause-fine c =
+    let h = history (reverse c.args.payloads.now) in
+    let listed = c.in_ok-saids.ensures h c.in_ok-table.ensures.table c.in_ok-moment.ensures.moment in
+    (compacts h c.in_ok-saids.saids.items c.in_ok-payloads_of.field-0.items listed c.in_ok-moment.ensures.said (good_from (reverse c.args.payloads.now) c.in_ok-table.ensures.good)
+    (c.in_ok-payloads_of.ensures ∙ ap (map payload_of) c.deref.ensures.value)).0
