@@ -5,6 +5,7 @@ pub mod FreshFiles
 pub mod Heads
 pub mod Loops
 pub mod Pairs
+pub mod Replaced
 pub mod Rooms
 pub mod Runs
 pub mod States

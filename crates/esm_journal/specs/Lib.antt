@@ -8,3 +8,4 @@ pub mod Pair
 pub mod Worked
 pub mod Taken
 pub mod IsPair
+pub mod Replace

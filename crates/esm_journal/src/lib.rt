@@ -14,6 +14,7 @@ mod log;
 mod pair;
 mod pair_reading;
 mod reading;
+mod replace;
 mod room;
 mod through;
 
