@@ -76,7 +76,7 @@ file_found bytes head payloads end is fits long seal so_far shut within short = 
         ∙ ap (λ l. head.first ++ l) (sym (take-append-drop 8 (drop 8 bytes)) ∙ ap (λ l. l ++ drop 8 (drop 8 bytes)) second ∙ ap (λ l. to_be_bytes w64 head.epoch ++ l) (drop-drop 8 8 bytes ∙ last))
         ∙ simp append_assoc
 
-not_true : (b : Bool) → (b ≡ true → ⊥) → b ≡ false
+pub not_true : (b : Bool) → (b ≡ true → ⊥) → b ≡ false
 not_true true no_way = absurd (no_way refl)
 not_true false no_way = refl
 

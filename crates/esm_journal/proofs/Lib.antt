@@ -3,9 +3,11 @@ pub mod Entries
 pub mod Files
 pub mod FreshFiles
 pub mod Heads
+pub mod Lists
 pub mod Loops
 pub mod Pairs
 pub mod Replaced
+pub mod Rewrites
 pub mod Rooms
 pub mod Runs
 pub mod States

@@ -1,10 +1,12 @@
 -- What images of a pair open to.
-use Rattle.std.proofs.Common.{◌==◌, ◌≡◌, inl, inr, ℕ, ◌≤◌, ◌<◌, ◌&&◌, ◌||◌, not, Bool, true, false, List, [], ◌∷◌, ◌++◌, length, slice_index, nat_eq, nat_lt, if◌then◌else◌, arith, refl, sym, ap, ◌∙◌}
+use Rattle.std.proofs.Common.{◌==◌, ◌≡◌, inl, inr, ℕ, ◌+◌, ◌≤◌, ◌<◌, ◌&&◌, ◌||◌, not, Bool, true, false, List, [], ◌∷◌, ◌++◌, length, slice_index, nat_eq, nat_lt, if◌then◌else◌, arith, refl, sym, ap, ◌∙◌}
 use Rattle.std.proofs.lemmas.Bool.Decides.{nat_tests}
 use Rattle.std.specs.Cmp.Lexicographic.{pointwise, same_text}
+use Rattle.esm_io.specs.Images.{Only}
 use Rattle.esm_journal.specs.File.{Holding, Foreign, Damaged, IsFile, eight_at, epoch_in, opened_rest}
-use Rattle.esm_journal.specs.Pair.{is_sealed, is_taken, beside, pair_opened, IsSpare, PairOpensTo, PairOpensToEither}
+use Rattle.esm_journal.specs.Pair.{is_sealed, is_taken, beside, pair_opened, IsSpare, PairOpensTo, PairOpensToEither, PairKeeps}
 use Rattle.esm_journal.specs.Log.{IsEither}
+use Rattle.esm_journal.specs.Replace.{IsSpareOrNew, PairOpensToOldOrNew}
 use Rattle.esm_journal.proofs.Files.{opened_file, same_bytes, first_of_file, epoch_of_file, seal_of_file}
 use Rattle.esm_journal.proofs.Written.{end_within}
 use Rattle.esm_journal.proofs.Heads.{same_header}
@@ -114,12 +116,48 @@ none_taken header first second not_first not_second =
     ap (λ c. if c then beside (opened_rest first) (length second) else if is_taken header second first then beside (opened_rest second) (length first) else Foreign) not_first
     ∙ ap (λ c. if c then beside (opened_rest second) (length first) else Foreign) not_second
 
-pair_opens : (header : List ℕ) (epoch : ℕ) (payloads : List (List ℕ)) (used spare : List ℕ) → length header ≡ 8 → IsFile header epoch payloads used → IsSpare header epoch spare → PairOpensTo header epoch payloads used spare
+-- a file of these payloads beside one that does not hinder it
+pub pair_opens : (header : List ℕ) (epoch : ℕ) (payloads : List (List ℕ)) (used spare : List ℕ) → length header ≡ 8 → IsFile header epoch payloads used → IsSpare header epoch spare → PairOpensTo header epoch payloads used spare
 pair_opens header epoch payloads used spare eight file beside =
     let s = sealed_file header epoch payloads used eight file in
     (used_first header epoch payloads used spare s beside, used_second header epoch payloads used spare s beside)
+
+-- both disks are settled
+pub keeps_pair : {D : Type 0} (content : D → List ℕ) (image : D → List ℕ → Type 0) (header : List ℕ) (epoch : ℕ) (payloads : List (List ℕ)) (used spare : D) → length header ≡ 8 → IsFile header epoch payloads (content used) → Only (content used) (image used) → IsSpare header epoch (content spare) → Only (content spare) (image spare)
+    → PairKeeps content image header epoch payloads used spare
+keeps_pair content image header epoch payloads used spare eight file only harmless spare_only = record {
+  file = file;
+  durable = only;
+  beside = harmless;
+  spare_durable = spare_only;
+  opens = pair_opens header epoch payloads (content used) (content spare) eight file harmless;
+}
 
 -- while a payload is added, the images of a pair open to the payloads with it or without
 pub pair_either : (header : List ℕ) (epoch : ℕ) (payloads : List (List ℕ)) (payload used spare : List ℕ) → length header ≡ 8 → IsEither header epoch payloads (payloads ++ payload ∷ []) used → IsSpare header epoch spare → PairOpensToEither header epoch payloads payload used spare
 pair_either header epoch payloads payload used spare eight (inl file) harmless = inl (pair_opens header epoch payloads used spare eight file harmless)
 pair_either header epoch payloads payload used spare eight (inr file) harmless = inr (pair_opens header epoch (payloads ++ payload ∷ []) used spare eight file harmless)
+
+-- while a list is written to the other file, the images of a pair open to the payloads or to the list
+pub pair_old_or_new : (header : List ℕ) (epoch : ℕ) (payloads list : List (List ℕ)) (used spare : List ℕ) → length header ≡ 8 → IsFile header epoch payloads used → IsSpareOrNew header epoch header (epoch + 1) list spare → PairOpensToOldOrNew header epoch payloads list used spare
+pair_old_or_new header epoch payloads list used spare eight file (inl harmless) = inl (pair_opens header epoch payloads used spare eight file harmless)
+pair_old_or_new header epoch payloads list used spare eight file (inr new) =
+    let opens = pair_opens header (epoch + 1) list spare used eight new (old_file_beside header epoch (epoch + 1) payloads used eight file (omega arith)) in
+    inr (opens.1, opens.0)
+
+-- the order of the two does not matter
+pub old_or_new_swapped : (header : List ℕ) (epoch : ℕ) (payloads list : List (List ℕ)) (one other : List ℕ) → PairOpensToOldOrNew header epoch payloads list one other → PairOpensToOldOrNew header epoch payloads list other one
+old_or_new_swapped header epoch payloads list one other (inl opens) = inl (opens.1, opens.0)
+old_or_new_swapped header epoch payloads list one other (inr opens) = inr (opens.1, opens.0)
+
+-- images of two disks, in the order in which the disks were handed in
+module _ {D : Type 0} (moment : D → ℕ) (since : D → ℕ → List ℕ → Type 0) (used spare used' spare' : D) (P : List ℕ → List ℕ → Type 0) (swap : (one other : List ℕ) → P one other → P other one)
+    (each : (one other : List ℕ) → since used' (moment used) one → since spare' (moment spare) other → P one other) where
+  pub in_order : (swapped : Bool) (one other : List ℕ) → since (if swapped then spare' else used') (moment (if swapped then spare else used)) one → since (if swapped then used' else spare') (moment (if swapped then used else spare)) other → P one other
+  in_order true one other was_one was_other = swap other one (each other one was_other was_one)
+  in_order false one other was_one was_other = each one other was_one was_other
+
+  -- the disk in use became the spare one
+  pub in_order_after : (swapped : Bool) (one other : List ℕ) → since (if not swapped then used' else spare') (moment (if swapped then spare else used)) one → since (if not swapped then spare' else used') (moment (if swapped then used else spare)) other → P one other
+  in_order_after true one other was_one was_other = swap other one (each other one was_other was_one)
+  in_order_after false one other was_one was_other = each one other was_one was_other

@@ -1,5 +1,5 @@
 -- What is left of a file while another list is written over it.
-use Rattle.std.proofs.Common.{◌≡◌, ◌≢◌, ◌⊎◌, ◌==◌, ◌&&◌, inl, inr, ℕ, Bool, true, false, ◌+◌, ◌-◌, ◌^◌, ◌<◌, ◌≤◌, List, [], ◌∷◌, ◌++◌, length, take, drop, get_or, slice_index, nat_eq, arith, refl, sym, ap, subst, ◌∙◌, length-append, length-take, length-drop, append_assoc}
+use Rattle.std.proofs.Common.{◌≡◌, ◌⊎◌, ◌==◌, ◌&&◌, inl, inr, ℕ, Bool, true, false, ◌+◌, ◌-◌, ◌^◌, ◌<◌, ◌≤◌, List, [], ◌∷◌, ◌++◌, length, take, drop, get_or, slice_index, nat_eq, arith, refl, sym, ap, subst, ◌∙◌, length-append, length-take, length-drop, append_assoc}
 use Rattle.std.proofs.lemmas.List.{drop_more, get_or-take, get_or-drop, get_or_at, take_at, drop_at, append-nil}
 use borrow.Rule.Slice.PartMut.{put_mid}
 use Rattle.std.proofs.lemmas.Bool.{cases_eq}
@@ -7,8 +7,8 @@ use Rattle.std.proofs.lemmas.Bool.Decides.{nat_tests}
 use Rattle.std.specs.Cmp.Lexicographic.{pointwise}
 use Rattle.std.specs.Int.{w64, to_be_bytes, from_be_bytes}
 use Rattle.esm_io.specs.Images.{overwritten, Torn}
-use Rattle.esm_journal.specs.File.{entries, front, AreShort, IsFile, eight_at, epoch_in}
-use Rattle.esm_journal.specs.Pair.{is_sealed, IsSpare}
+use Rattle.esm_journal.specs.File.{entries, AreShort, IsFile, eight_at, epoch_in}
+use Rattle.esm_journal.specs.Pair.{IsSpare}
 use Rattle.esm_journal.specs.Replace.{IsClosed, IsUnsealed, IsSpareOrNew}
 use Rattle.esm_journal.proofs.Heads.{same_eight}
 use Rattle.esm_journal.proofs.Written.{torn_byte, overwritten_behind}

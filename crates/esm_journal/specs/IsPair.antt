@@ -1,9 +1,9 @@
 -- What the disks of a pair hold, beside the log of the one in use.
-use Rattle.std.specs.Prelude.{◌≡◌, ◌==◌, ◌≤◌, ℕ, Bool, true, false, List, slice_index}
+use Rattle.std.specs.Prelude.{◌≡◌, ◌≤◌, ℕ, Bool, true, false, List}
 use Rattle.esm_io.specs.Images.{Only}
 use Rattle.esm_io.specs.Faults.{MAX_FAULTS}
 use Rattle.esm_journal.specs.File.{header_of}
-use Rattle.esm_journal.specs.Pair.{IsSpare}
+use Rattle.esm_journal.specs.Pair.{IsSpare, IsOther}
 use Rattle.esm_journal.specs.declared.log.Log.{Log}
 
 -- where the spare disk is honest and no call failed, it is settled and does not hinder the one in use
@@ -11,5 +11,5 @@ pub record IsPair {D : Type 0} (honest : D → Bool) (content : D → List ℕ) 
   pub header : log.header ≡ header_of 2
   pub beside : honest log.disk ≡ true → honest spare ≡ true → log.down ≡ false → IsSpare (header_of 2) log.epoch (content spare)
   pub settled : honest spare ≡ true → log.down ≡ false → Only (content spare) (image spare)
-  pub seal : honest log.disk ≡ true → honest spare ≡ true → log.down ≡ false → spare_sealed ≡ (slice_index (content spare) 16 == 1)
+  pub other : honest spare ≡ true → log.down ≡ false → IsOther spare_sealed (content spare)
   pub faults_fit : faults spare ≤ MAX_FAULTS

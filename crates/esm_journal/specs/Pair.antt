@@ -31,6 +31,11 @@ pub record IsSpare (header : List ℕ) (epoch : ℕ) (bytes : List ℕ) : Type 0
   pub long : 18 ≤ length bytes
   pub lower : is_sealed header bytes ≡ true → epoch_in bytes < epoch
 
+-- a file that may be written over: it is long enough, and whether its seal byte is 1 is known
+pub record IsOther (sealed : Bool) (bytes : List ℕ) : Type 0 where
+  pub long : 18 ≤ length bytes
+  pub seal : sealed ≡ (slice_index bytes 16 == 1)
+
 -- a pair: its payloads in order; the epoch of the disk in use; whether a call of a disk failed; the lengths of the next
 -- payloads for which there is memory; the disk in use and the spare one; and whether the one in use is the second that
 -- was handed in
@@ -58,6 +63,11 @@ first_disk s = if s.swapped then s.spare else s.used
 abbrev pub second_disk : {D : Type 0} → PairState D → D
 second_disk s = if s.swapped then s.used else s.spare
 
+-- images of the disk in use and of the other open to these payloads, in whichever order they are handed in
+abbrev pub PairOpensTo : List ℕ → ℕ → List (List ℕ) → List ℕ → List ℕ → Type 0
+PairOpensTo header epoch payloads used spare =
+    (pair_opened header used spare ≡ Holding epoch payloads) × (pair_opened header spare used ≡ Holding epoch payloads)
+
 -- What the disks of a pair hold: the one in use exactly these payloads, the other nothing that is taken; each is its
 -- only image. So each image of the pair opens to the payloads, in whichever order the disks are handed in.
 pub record PairKeeps {D : Type 0} (content : D → List ℕ) (image : D → List ℕ → Type 0) (header : List ℕ) (epoch : ℕ) (payloads : List (List ℕ)) (used spare : D) : Type 0 where
@@ -65,11 +75,7 @@ pub record PairKeeps {D : Type 0} (content : D → List ℕ) (image : D → List
   pub durable : Only (content used) (image used)
   pub beside : IsSpare header epoch (content spare)
   pub spare_durable : Only (content spare) (image spare)
-
--- images of the disk in use and of the other open to these payloads, in whichever order they are handed in
-abbrev pub PairOpensTo : List ℕ → ℕ → List (List ℕ) → List ℕ → List ℕ → Type 0
-PairOpensTo header epoch payloads used spare =
-    (pair_opened header used spare ≡ Holding epoch payloads) × (pair_opened header spare used ≡ Holding epoch payloads)
+  pub opens : PairOpensTo header epoch payloads (content used) (content spare)
 
 -- they open to these payloads, or to these and one more
 abbrev pub PairOpensToEither : List ℕ → ℕ → List (List ℕ) → List ℕ → List ℕ → List ℕ → Type 0

@@ -1,8 +1,8 @@
 -- Writing a new list over the file of a pair that is not in use.
-use Rattle.std.specs.Prelude.{◌≢◌, ◌≡◌, ◌⊎◌, ◌≤◌, ◌<◌, ◌^◌, ◌++◌, [], ◌∷◌, ℕ, List, Option, Some, None, length, slice_index, nat_lt, if◌then◌else◌}
+use Rattle.std.specs.Prelude.{◌≢◌, ◌≡◌, ◌+◌, ◌⊎◌, ◌≤◌, ◌++◌, [], ◌∷◌, ℕ, List, Option, Some, None, length, slice_index, nat_lt, if◌then◌else◌}
 use Rattle.std.specs.Int.{w64, to_be_bytes}
-use Rattle.esm_journal.specs.File.{max_payload, entries, AreShort, IsFile}
-use Rattle.esm_journal.specs.Pair.{IsSpare}
+use Rattle.esm_journal.specs.File.{max_payload, entries, IsFile}
+use Rattle.esm_journal.specs.Pair.{IsSpare, PairOpensTo}
 
 -- the length of the first payload that is too long
 abbrev pub first_too_long : List (List ℕ) → Option ℕ
@@ -24,3 +24,8 @@ pub record IsUnsealed (header : List ℕ) (epoch : ℕ) (payloads : List (List �
 -- beside a file in use it hinders nothing, or it is the new file
 abbrev pub IsSpareOrNew : List ℕ → ℕ → List ℕ → ℕ → List (List ℕ) → List ℕ → Type 0
 IsSpareOrNew kept lower header epoch payloads bytes = IsSpare kept lower bytes ⊎ IsFile header epoch payloads bytes
+
+-- images of a pair open to the payloads of this epoch, or to the list of the next
+abbrev pub PairOpensToOldOrNew : List ℕ → ℕ → List (List ℕ) → List (List ℕ) → List ℕ → List ℕ → Type 0
+PairOpensToOldOrNew header epoch payloads list one other =
+    PairOpensTo header epoch payloads one other ⊎ PairOpensTo header (epoch + 1) list one other

@@ -10,6 +10,7 @@ mod found;
 mod fresh;
 mod head;
 mod journal;
+mod list;
 mod log;
 mod pair;
 mod pair_reading;

@@ -1,9 +1,9 @@
 // A file that is open: what is kept of it in memory, and its disk.
-ghost use Rattle.std.specs.Prelude.{◌≡◌, ◌+◌, ◌<◌, ◌≤◌, ◌^◌, ◌⊎◌, ℕ, List, [], ◌∷◌, ◌++◌, true, false, length, OnOk, OnErr, IsErrOf};
-ghost use Rattle.esm_io.specs.Faults.{IsCount, Rose};
+ghost use Rattle.std.specs.Prelude.{◌≡◌, ◌+◌, ◌<◌, ◌≤◌, ◌^◌, ◌⊎◌, ℕ, List, [], ◌∷◌, ◌++◌, true, false, length, vec_len, vec_capacity, OnOk, OnErr, IsErrOf};
+ghost use Rattle.esm_io.specs.Faults.{IsCount, Rose, MAX_FAULTS};
 ghost use Rattle.esm_io.specs.Images.{overwritten, Torn, Only, LeavesOnly};
-ghost use Rattle.esm_journal.specs.File.{max_payload};
-ghost use Rattle.esm_journal.specs.Room.{HasRoom, room_after, room_of};
+ghost use Rattle.esm_journal.specs.File.{max_payload, end_of, IsFile};
+ghost use Rattle.esm_journal.specs.Room.{HasRoom, room_after, room_of, total_room};
 
 use crate::error::AppendError;
 use crate::format::MAX_PAYLOAD;
@@ -13,6 +13,7 @@ use esm_io::{Disk, Failed};
 use esm_model::{Bytes, OutOfMemory};
 use std::alloc::Global;
 use std::collections::VecDeque;
+use std::mem;
 
 #[derive(Drop)]
 pub(crate) struct Log<D: Disk> {
@@ -109,5 +110,30 @@ impl<D: Disk> Log<D> {
         self.payloads
             .push_reserved(Bytes::from_vec(payload_of(frame)));
         Ok(())
+    }
+
+    /// Goes over to the next file, on another disk, which the disk so far takes the place of.
+    pub(crate) fn move_over(&mut self, disk: &mut D, payloads: Vec<Bytes>, end: u64)
+        requires log { IsLog D.honest D.content D.image D.faults self.old }
+        requires epoch { self.old.epoch + 1 < 2 ^ 64 }
+        requires file { D.honest disk.old ≡ true → IsFile self.old.header (self.old.epoch + 1) payloads.items (D.content disk.old) }
+        requires durable { D.honest disk.old ≡ true → Only (D.content disk.old) (D.image disk.old) }
+        requires faults { D.faults disk.old ≤ MAX_FAULTS }
+        requires end { end ≡ end_of payloads.items }
+        requires total { end + total_room self.old.spares.items < 2 ^ 64 }
+        requires places { vec_len payloads + length self.old.spares.items ≤ vec_capacity payloads }
+        ensures log { IsLog D.honest D.content D.image D.faults self.new }
+        ensures disk { self.new.disk ≡ disk.old }
+        ensures disk_before { disk.new ≡ self.old.disk }
+        ensures header { self.new.header ≡ self.old.header }
+        ensures epoch { self.new.epoch ≡ self.old.epoch + 1 }
+        ensures payloads { self.new.payloads.items ≡ payloads.items }
+        ensures spares { self.new.spares.items ≡ self.old.spares.items }
+        ensures down { self.new.down ≡ self.old.down }
+    {
+        mem::swap(&mut self.disk, disk);
+        self.epoch += 1;
+        let _ = mem::replace(&mut self.payloads, payloads);
+        self.end = end;
     }
 }

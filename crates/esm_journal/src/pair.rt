@@ -1,4 +1,4 @@
-ghost use Rattle.std.specs.Prelude.{◌≡◌, ◌≢◌, ◌⊎◌, ◌+◌, ◌<◌, ◌≤◌, ℕ, List, [], ◌∷◌, ◌++◌, true, false, length, IfOk, IfErr, OnOk, OnErr, IsErrOf};
+ghost use Rattle.std.specs.Prelude.{◌≡◌, ◌≢◌, ◌⊎◌, ◌+◌, ◌<◌, ◌≤◌, ℕ, List, [], ◌∷◌, ◌++◌, true, false, not, Some, length, IfOk, IfErr, OnOk, OnErr, IsErrOf};
 ghost use Rattle.esm_io.specs.Faults.{IsCount, Rose};
 ghost use Rattle.esm_io.specs.Images.{LeavesOnly, Only};
 ghost use Rattle.esm_journal.specs.File.{max_payload, header_of, Foreign, Damaged, Holding, eight_at, fresh_file, blank_file};
@@ -6,13 +6,16 @@ ghost use Rattle.esm_journal.specs.Reads.{IsOnlyRead, RefusedFor, NotMadeFor};
 ghost use Rattle.esm_journal.specs.Room.{HasRoom, room_after};
 ghost use Rattle.esm_journal.specs.Log.{IsEither};
 ghost use Rattle.esm_journal.specs.Pair.{pair_opened, first_disk, second_disk, PairKeeps, PairOpensToEither};
+ghost use Rattle.esm_journal.specs.Replace.{first_too_long, IsSpareOrNew, PairOpensToOldOrNew};
 
 use crate::error::{AppendError, InitError, OpenError};
 use crate::format::PAIR;
 use crate::found::Found;
 use crate::fresh::write_fresh;
+use crate::list::{Prepared, first_too_long, prepare};
 use crate::log::Log;
 use crate::pair_reading::{Taken, read_pair};
+use crate::replace::replace_file;
 use esm_io::Disk;
 use esm_model::{Bytes, OutOfMemory, Refused};
 use std::alloc::Global;
@@ -202,6 +205,60 @@ impl<D: Disk> Pair<D> {
         ensures count { IsCount (D.faults self.old.used) (D.faults self.new.used) }
     {
         self.log.append(alloc, payload)
+    }
+
+    /// Writes a new list to the disk that is not in use and goes over to it. A crash at any moment leaves a pair that
+    /// opens to the payloads from before the call or to the new list; after Ok every crash leaves the new list. After
+    /// `DiskFault` the pair is down until it is opened again; after the other errors nothing has changed.
+    pub fn rewrite(&mut self, alloc: Global, payloads: &[Bytes]) -> Result<(), AppendError>
+        requires { self.old.epoch < 18446744073709551615 }
+        ensures written { OnOk result (self.new.payloads ≡ payloads.now) }
+        ensures next_epoch { OnOk result (self.new.epoch ≡ self.old.epoch + 1) }
+        ensures up { OnOk result (self.new.down ≡ false) }
+        ensures room { OnOk result (self.new.room ≡ self.old.room) }
+        ensures replaced { OnOk result (self.new.spare ≡ self.old.used) }
+        ensures changed_over { OnOk result (self.new.swapped ≡ not self.old.swapped) }
+        ensures not_written { OnErr result (self.new ≡ record self.old { down = self.new.down; spare = self.new.spare }) }
+        ensures kept { D.honest self.new.used ≡ true → D.honest self.new.spare ≡ true → self.new.down ≡ false → PairKeeps D.content D.image (header_of 2) self.new.epoch self.new.payloads self.new.used self.new.spare }
+        ensures any_moment { D.honest self.old.used ≡ true → D.honest self.old.spare ≡ true → self.old.down ≡ false →
+            OnOk result (LeavesOnly D.moment D.image_since self.old.spare self.new.used (IsSpareOrNew (header_of 2) self.old.epoch (header_of 2) (self.old.epoch + 1) payloads.now)) }
+        ensures any_moment_err { D.honest self.old.used ≡ true → D.honest self.old.spare ≡ true → self.old.down ≡ false →
+            OnErr result (LeavesOnly D.moment D.image_since self.old.spare self.new.spare (IsSpareOrNew (header_of 2) self.old.epoch (header_of 2) (self.old.epoch + 1) payloads.now)) }
+        ensures pair_images { D.honest self.old.used ≡ true → D.honest self.old.spare ≡ true → self.old.down ≡ false → (one other : List ℕ) →
+            D.image_since (first_disk self.new) (D.moment (first_disk self.old)) one → D.image_since (second_disk self.new) (D.moment (second_disk self.old)) other →
+            PairOpensToOldOrNew (header_of 2) self.old.epoch self.old.payloads payloads.now one other }
+        ensures fault { IsErrOf result AppendError.DiskFault → self.new.down ≡ true }
+        ensures cause { IsErrOf result AppendError.DiskFault → Rose (D.faults self.old.spare) (D.faults self.new.spare) }
+        ensures down { IsErrOf result AppendError.Down → (self.new ≡ self.old) × (self.old.down ≡ true) }
+        ensures is_down { self.old.down ≡ true → IsErrOf result AppendError.Down }
+        ensures too_long { (n : ℕ) → IsErrOf result (AppendError.TooLong n) → (self.new ≡ self.old) × (self.old.down ≡ false) × (first_too_long payloads.now ≡ Some n) }
+        ensures is_too_long { self.old.down ≡ false → (n : ℕ) → first_too_long payloads.now ≡ Some n → IsErrOf result (AppendError.TooLong n) }
+        ensures no_memory { IsErrOf result AppendError.OutOfMemory → self.new ≡ self.old }
+        ensures honesty { OnOk result (D.honest self.new.used ≡ D.honest self.old.spare) }
+        ensures honesty_err { OnErr result (D.honest self.new.spare ≡ D.honest self.old.spare) }
+        ensures count { OnOk result (IsCount (D.faults self.old.spare) (D.faults self.new.used)) }
+        ensures count_err { OnErr result (IsCount (D.faults self.old.spare) (D.faults self.new.spare)) }
+    {
+        if self.log.down {
+            return Err(AppendError::Down);
+        }
+        if let Some(size) = first_too_long(payloads) {
+            return Err(AppendError::TooLong(size));
+        }
+        let Ok(list) = prepare(alloc, payloads, &self.log.spares) else {
+            return Err(AppendError::OutOfMemory);
+        };
+        let Prepared { bytes, payloads } = list;
+        let epoch = self.log.epoch + 1;
+        if replace_file(&mut self.spare, self.spare_sealed, PAIR, epoch, &bytes).is_err() {
+            self.log.down = true;
+            return Err(AppendError::DiskFault);
+        }
+        let end = 16 + bytes.len() as u64;
+        self.log.move_over(&mut self.spare, payloads, end);
+        self.spare_sealed = true;
+        self.swapped = !self.swapped;
+        Ok(())
     }
 
     /// The disks in the order in which they were handed in, as the calls on them left them.

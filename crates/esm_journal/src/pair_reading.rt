@@ -5,7 +5,7 @@ ghost use Rattle.esm_io.specs.Faults.{Rose, MAX_FAULTS};
 ghost use Rattle.esm_io.specs.Images.{Only};
 ghost use Rattle.esm_journal.specs.File.{end_of, IsFile, Foreign, Damaged, eight_at, opened_rest};
 ghost use Rattle.esm_journal.specs.Head.{IsHead};
-ghost use Rattle.esm_journal.specs.Pair.{is_sealed, is_taken, beside, pair_opened};
+ghost use Rattle.esm_journal.specs.Pair.{is_sealed, is_taken, beside, pair_opened, IsOther};
 ghost use Rattle.esm_journal.specs.Reads.{IsOnlyRead, RefusedFor};
 ghost use Rattle.esm_journal.specs.Taken.{IsTaken};
 
@@ -82,6 +82,8 @@ pub(crate) fn read_pair<D: Disk>(
     ensures taken { D.honest first.old ≡ true → D.honest second.old ≡ true → IfOk result (IsTaken header (D.content first.old) (D.content second.old)) }
     ensures first_file { D.honest first.old ≡ true → IfOk result (λ taken. taken.swapped ≡ false → IsFile header taken.found.epoch taken.found.payloads.items (D.content first.old)) }
     ensures second_file { D.honest second.old ≡ true → IfOk result (λ taken. taken.swapped ≡ true → IsFile header taken.found.epoch taken.found.payloads.items (D.content second.old)) }
+    ensures first_other { D.honest first.old ≡ true → IfOk result (λ taken. taken.swapped ≡ true → IsOther taken.spare_sealed (D.content first.old)) }
+    ensures second_other { D.honest second.old ≡ true → IfOk result (λ taken. taken.swapped ≡ false → IsOther taken.spare_sealed (D.content second.old)) }
     ensures end { IfOk result (λ taken. taken.found.end ≡ end_of taken.found.payloads.items) }
     ensures durable { D.honest first.old ≡ true → OnOk result (Only (D.content first.new) (D.image first.new)) }
     ensures spare_durable { D.honest second.old ≡ true → OnOk result (Only (D.content second.new) (D.image second.new)) }

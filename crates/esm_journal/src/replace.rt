@@ -57,12 +57,7 @@ fn head_bytes(header: [u8; 8], epoch: u64) -> [u8; 16]
 }
 
 /// Writes the header, the epoch and a list, and syncs. The seal is not touched and stays closed.
-fn write_list<D: Disk>(
-    disk: &mut D,
-    header: [u8; 8],
-    epoch: u64,
-    list: &[u8],
-) -> Result<(), Failed>
+fn write_list<D: Disk>(disk: &mut D, header: [u8; 8], epoch: u64, list: &[u8]) -> Result<(), Failed>
     requires eight { length header ≡ 8 }
     requires closed { D.honest disk.old ≡ true → IsClosed (D.content disk.old) }
     requires synced { D.honest disk.old ≡ true → Only (D.content disk.old) (D.image disk.old) }

@@ -1,4 +1,4 @@
-use Rattle.std.proofs.Common.{◌==◌, inl, inr, arith, sym, ap, subst, ◌∙◌}
+use Rattle.std.proofs.Common.{inl, inr, arith, sym, ap, subst, ◌∙◌}
 use Rattle.std.proofs.lemmas.Result.{err_from_is_err_and}
 use Rattle.esm_journal.specs.File.{IsFile, opened_rest}
 use Rattle.esm_journal.specs.Head.{IsHead}
@@ -41,7 +41,6 @@ returns-then-takes-clause-taken g c = λ h1 h2.
     record {
       file = file;
       beside = taken_beside c.args.header one_bytes two_bytes found.epoch taken (sym (c.in_ok-found.ensures.epoch ∙ one.epoch)) (omega (arith, long, size));
-      seal = ap (λ n. n == 1) two.seal;
     }
 
 pub returns-in_err-found-2-clause-refused : goal.returns-in_err-found-2-clause-refused
@@ -80,7 +79,6 @@ returns-then-takes-2-clause-taken g c = λ h1 h2.
     record {
       file = file;
       beside = taken_beside c.args.header two_bytes one_bytes found.epoch taken (sym (c.in_ok-found-2.ensures.epoch ∙ two.epoch)) (omega (arith, long, size));
-      seal = ap (λ n. n == 1) one.seal;
     }
 
 pub returns-then-takes-clause-first_file : goal.returns-then-takes-clause-first_file

@@ -1,4 +1,3 @@
-use Rattle.std.proofs.Common.{◌∙◌, sym}
 use Rattle.esm_journal.specs.Pair.{IsSpare}
 use Rattle.esm_journal.proofs.Runs.{weaker}
 use Rattle.esm_journal.proofs.Replaced.{torn_seal, is_open}

@@ -1,8 +1,9 @@
-use Rattle.std.proofs.Common.{[], ◌∷◌, ◌++◌, refl, sym, subst}
-use Rattle.esm_journal.specs.File.{header_of}
+use Rattle.std.proofs.Common.{◌≡◌, ◌∙◌, true, false, [], ◌∷◌, ◌++◌, refl, sym, subst}
+use Rattle.esm_journal.specs.File.{header_of, IsFile}
 use Rattle.esm_journal.specs.Log.{IsEither}
 use Rattle.esm_journal.specs.Pair.{IsSpare}
-use Rattle.esm_journal.proofs.Pairs.{pair_either}
+use Rattle.esm_journal.proofs.Heads.{not_true}
+use Rattle.esm_journal.proofs.Pairs.{keeps_pair, pair_either}
 use Rattle.esm_journal.proofs.pair.Pair.append.Goals as goal
 
 pub returns-clause-pair_images : goal.returns-clause-pair_images
@@ -14,3 +15,17 @@ returns-clause-pair_images g c =
     let settled = pair.settled h2 up other (g.met.D.Disk.only_now spare other h2 was_other) in
     let either = subst (λ l. IsEither l log.epoch log.payloads.items (log.payloads.items ++ c.args.payload.now ∷ []) one) pair.header ((c.append.ensures.any_moment h1 up).each one was_one) in
     pair_either (header_of 2) log.epoch log.payloads.items c.args.payload.now one other refl either (subst (IsSpare (header_of 2) log.epoch) (sym settled) (pair.beside h1 h2 up)))
+
+pub returns-clause-kept : goal.returns-clause-kept
+returns-clause-kept g c = λ h1 h2 up.
+    let pair = c.self.invariant.1 in
+    let new = c.append.new.self in
+    let is_new = c.append.ensures.log in
+    let was_up : c.self.inside.log.down ≡ false = not_true c.self.inside.log.down (λ was_down. let down = (c.append.ensures.down (c.append.ensures.is_down was_down)).0.down in clash (sym up ∙ down ∙ was_down)) in
+    let content = g.D.Disk.content new.disk in
+    keeps_pair g.D.Disk.content g.D.Disk.image (header_of 2) new.epoch new.payloads.items new.disk c.self.inside.spare refl
+    (subst (λ l. IsFile l new.epoch new.payloads.items content) (c.append.ensures.header ∙ pair.header) (is_new.file h1 up)) (is_new.synced h1 up)
+    (subst (λ n. IsSpare (header_of 2) n (g.D.Disk.content c.self.inside.spare)) (sym c.append.ensures.epoch) (pair.beside (sym c.append.ensures.honesty ∙ h1) h2 was_up)) (pair.settled h2 was_up)
+  where
+    clash : false ≡ true → ⊥
+    clash e = cc

@@ -1,0 +1,98 @@
+// The bytes of a whole list of payloads, and copies of them.
+ghost use Rattle.std.specs.Prelude.{◌≡◌, ◌+◌, ◌<◌, ◌≤◌, ◌^◌, ℕ, [], ◌∷◌, ◌++◌, length, IfOk, vec_len, vec_capacity};
+ghost use Rattle.esm_journal.specs.File.{entries, AreShort};
+ghost use Rattle.esm_journal.specs.Room.{total_room};
+ghost use Rattle.esm_journal.specs.Replace.{first_too_long};
+
+use crate::format::MAX_PAYLOAD;
+use esm_model::Bytes;
+use std::alloc::{AllocError, Global};
+use std::collections::VecDeque;
+
+/// The length of the first payload that is too long.
+pub(crate) fn first_too_long(payloads: &[Bytes]) -> Option<u64>
+    ensures { result ≡ first_too_long payloads.now }
+{
+    for payload in payloads {
+        let size = payload.as_slice().len() as u64;
+        if size > MAX_PAYLOAD {
+            return Some(size);
+        }
+    }
+    None
+}
+
+/// The entries of payloads behind open gates, and a last gate that is not open.
+pub(crate) fn list_bytes(alloc: Global, payloads: &[Bytes]) -> Result<Vec<u8>, AllocError>
+    requires { AreShort payloads.now }
+    ensures { IfOk result (λ list. list.items ≡ entries payloads.now ++ 0 ∷ []) }
+{
+    let mut list = Vec::new(alloc);
+    for payload in payloads {
+        let bytes = payload.as_slice();
+        list.push(1)?;
+        list.extend_from_slice(&(bytes.len() as u32).to_be_bytes())?;
+        list.extend_from_slice(bytes)?;
+    }
+    list.push(0)?;
+    Ok(list)
+}
+
+/// Copies of payloads, with places for so many more.
+pub(crate) fn copies(
+    alloc: Global,
+    payloads: &[Bytes],
+    more: usize,
+) -> Result<Vec<Bytes>, AllocError>
+    ensures same { IfOk result (λ copies. copies.items ≡ payloads.now) }
+    ensures places { IfOk result (λ copies. vec_len copies + more ≤ vec_capacity copies) }
+{
+    let mut copies = Vec::with_capacity(alloc, payloads.len())?;
+    for payload in payloads {
+        copies.push(Bytes::from_vec(payload.as_slice().to_vec(alloc)?))?;
+    }
+    copies.reserve(more)?;
+    Ok(copies)
+}
+
+/// What a list needs in memory: its bytes behind the seal, and its payloads.
+#[derive(Drop)]
+pub(crate) struct Prepared {
+    pub(crate) bytes: Vec<u8>,
+    pub(crate) payloads: Vec<Bytes>,
+}
+
+/// Makes a list ready to be written, with places for the payloads for which these buffers were made. A file that grows
+/// to 2^64 bytes or more with them counts as want of memory.
+pub(crate) fn prepare(
+    alloc: Global,
+    payloads: &[Bytes],
+    spares: &VecDeque<Vec<u8>>,
+) -> Result<Prepared, AllocError>
+    requires short { AreShort payloads.now }
+    requires fits { total_room spares.now.items < 2 ^ 64 }
+    ensures bytes { IfOk result (λ made. made.bytes.items ≡ entries payloads.now ++ 0 ∷ []) }
+    ensures payloads { IfOk result (λ made. made.payloads.items ≡ payloads.now) }
+    ensures places { IfOk result (λ made. vec_len made.payloads + length spares.now.items ≤ vec_capacity made.payloads) }
+    ensures total { IfOk result (λ made. 17 + vec_len made.bytes + total_room spares.now.items < 2 ^ 64) }
+{
+    let bytes = list_bytes(alloc, payloads)?;
+    let payloads = copies(alloc, payloads, spares.len())?;
+    let end = 17 + bytes.len() as u64;
+    if u64::MAX - end < room_bytes(spares) {
+        return Err(AllocError);
+    }
+    Ok(Prepared { bytes, payloads })
+}
+
+/// The bytes of all entries that fit into spare buffers.
+pub(crate) fn room_bytes(spares: &VecDeque<Vec<u8>>) -> u64
+    requires { total_room spares.now.items < 2 ^ 64 }
+    ensures { result ≡ total_room spares.now.items }
+{
+    let mut total = 0;
+    for i in 0..spares.len() {
+        total += spares[i].capacity() as u64;
+    }
+    total
+}
