@@ -1,6 +1,6 @@
 use super::*;
 use esm_io::{Dest, MemDisk};
-use esm_model::Refused;
+use esm_model::{Bytes, Refused};
 use std::alloc::Global;
 use std::test::Fail;
 
@@ -95,5 +95,59 @@ fn pair_opens_to_what_was_added(rt: HostRuntime) -> Result<(), Fail> {
     let pair = Pair::open(alloc, journal, spare)?;
     assert_eq!(rt; pair.payloads().len(), 1);
     assert_eq!(rt; pair.epoch(), 1);
+    Ok(())
+}
+
+#[test]
+fn compact_fresh(rt: HostRuntime) -> Result<(), Fail> {
+    let alloc = rt.alloc();
+    let journal = Pair::first(MemDisk::new(alloc, Vec::new(alloc), Vec::new(alloc)))?;
+    let spare = Journal::blank(MemDisk::new(alloc, Vec::new(alloc), Vec::new(alloc)))?;
+    let mut pair = Pair::open(alloc, journal, spare)?;
+    assert!(rt; pair.epoch() == 1);
+    pair.rewrite(alloc, &[])?;
+    let (_, spare) = pair.into_disks();
+    assert_eq!(rt;
+        spare.bytes(),
+        b"ESMJ0002\0\0\0\0\0\0\0\x02\x01\0".as_slice()
+    );
+    Ok(())
+}
+
+/// How many payloads a pair of one payload has after the `k`-th call of its spare disk failed while a list of two was
+/// written to it, and a crash.
+fn left_of_list(alloc: Global, k: u64, choice: u64) -> Result<usize, Fail> {
+    let used = *b"ESMJ0002\0\0\0\0\0\0\0\x02\x01\x01\0\0\0\x01a\0";
+    let spare = *b"ESMJ0002\0\0\0\0\0\0\0\x01\x01\0";
+    let used = MemDisk::new(alloc, used.to_vec(alloc)?, Vec::new(alloc));
+    let spare = MemDisk::new(alloc, spare.to_vec(alloc)?, [k].to_vec(alloc)?);
+    let mut pair = Pair::open(alloc, used, spare)?;
+    if pair.epoch() != 2 {
+        return Ok(99);
+    }
+    let first = Bytes::from_vec(b"bc".to_vec(alloc)?);
+    let second = Bytes::from_vec(b"d".to_vec(alloc)?);
+    let written = pair.rewrite(alloc, &[first, second]);
+    if !matches!(&written, Err(AppendError::DiskFault)) {
+        return Ok(99);
+    }
+    let (used, spare) = pair.into_disks();
+    let pair = Pair::open(alloc, used, spare.crash(alloc, choice)?)?;
+    Ok(pair.payloads().len())
+}
+
+/// The calls of `rewrite` are the spare disk's calls 3 to 9: the old seal, a sync, the head, the list, a sync, the new
+/// seal, a sync.
+#[test]
+fn rewrite_stopped(rt: HostRuntime) -> Result<(), Fail> {
+    let alloc = rt.alloc();
+    for k in 3..9 {
+        assert_eq!(rt; left_of_list(alloc, k, 0)?, 1);
+        assert_eq!(rt; left_of_list(alloc, k, 1)?, 1);
+        assert_eq!(rt; left_of_list(alloc, k, 165)?, 1);
+    }
+    assert_eq!(rt; left_of_list(alloc, 9, 0)?, 1);
+    assert_eq!(rt; left_of_list(alloc, 9, 1)?, 2);
+    assert_eq!(rt; left_of_list(alloc, 9, 165)?, 2);
     Ok(())
 }
