@@ -1,9 +1,9 @@
 -- From what a log holds to what its file opens to.
-use Rattle.std.proofs.Common.{◌≡◌, inl, inr, ℕ, Bool, true, false, List, [], ◌∷◌, ◌++◌, length, subst}
+use Rattle.std.proofs.Common.{◌≡◌, inl, inr, ℕ, Bool, true, false, List, [], ◌∷◌, ◌++◌, length, sym, subst, ◌∙◌}
 use Rattle.esm_io.specs.Images.{Only}
 use Rattle.esm_journal.specs.File.{IsFile}
 use Rattle.esm_journal.specs.Log.{IsLog, IsEither}
-use Rattle.esm_journal.specs.State.{OpensTo, OpensToEither, Keeps}
+use Rattle.esm_journal.specs.State.{OpensTo, OpensToEither, Keeps, StillOpens}
 use Rattle.esm_journal.specs.declared.log.Log.{Log}
 use Rattle.esm_journal.proofs.Files.{opened_file}
 
@@ -24,3 +24,9 @@ keeps honest content image faults header log is sound h up = record {
 -- a disk with this file on it, all of it synced
 pub keeps_file : {D : Type 0} (content : D → List ℕ) (image : D → List ℕ → Type 0) (header : List ℕ) (epoch : ℕ) (payloads : List (List ℕ)) (disk : D) → length header ≡ 8 → IsFile header epoch payloads (content disk) → Only (content disk) (image disk) → Keeps content image header payloads disk
 keeps_file content image header epoch payloads disk eight file only = record { opens = opens header epoch payloads (content disk) eight file; durable = only }
+
+pub still_opens : {D : Type 0} (honest : D → Bool) (content : D → List ℕ) (image : D → List ℕ → Type 0) (faults : D → ℕ) (header : List ℕ) (log : Log D) → log.header ≡ header → IsLog honest content image faults log
+    → honest log.disk ≡ true → log.down ≡ true → StillOpens image header log.payloads.items log.disk
+still_opens honest content image faults header log is sound h down =
+    let stopped = sound.stopped h down in
+    (stopped.0, λ bytes now. subst (λ l. OpensToEither l log.payloads.items stopped.0 bytes) is (opens_to_either log.header log.epoch log.payloads.items stopped.0 bytes sound.header (stopped.1 bytes now)))

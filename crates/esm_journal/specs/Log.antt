@@ -1,16 +1,27 @@
 -- A file that is open: what is kept of it in memory, and what the disk holds.
-use Rattle.std.specs.Prelude.{◌≡◌, ◌+◌, ◌≤◌, ◌<◌, ◌^◌, ◌⊎◌, ℕ, Bool, true, false, List, length, vec_len, vec_capacity}
+use Rattle.std.specs.Prelude.{◌≡◌, ◌+◌, ◌≤◌, ◌<◌, ◌^◌, ◌⊎◌, ℕ, Bool, true, false, List, [], ◌∷◌, ◌++◌, length, vec_len, vec_capacity}
 use Rattle.esm_io.specs.Images.{Only}
 use Rattle.esm_io.specs.Faults.{MAX_FAULTS}
 use Rattle.esm_journal.specs.File.{end_of, IsFile}
 use Rattle.esm_journal.specs.Room.{total_room, AreSpares}
 use Rattle.esm_journal.specs.declared.log.Log.{Log}
 
--- Where the disk is honest and no call of it failed, its file holds exactly these payloads, and is the only image.
+-- the file holds these payloads or those
+abbrev pub IsEither : List ℕ → ℕ → List (List ℕ) → List (List ℕ) → List ℕ → Type 0
+IsEither header epoch one other bytes = IsFile header epoch one bytes ⊎ IsFile header epoch other bytes
+
+-- a call failed while a payload was added: each image holds the payloads, or these and that one
+abbrev pub IsStopped : (List ℕ → Type 0) → List ℕ → ℕ → List (List ℕ) → Type 0
+IsStopped images header epoch payloads =
+    (payload : List ℕ) × ((bytes : List ℕ) → images bytes → IsEither header epoch payloads (payloads ++ payload ∷ []) bytes)
+
+-- Where the disk is honest and no call of it failed, its file holds exactly these payloads, and is the only image. After a
+-- call that failed each image holds these, or these and one more.
 pub record IsLog {D : Type 0} (honest : D → Bool) (content : D → List ℕ) (image : D → List ℕ → Type 0) (faults : D → ℕ) (log : Log D) : Type 0 where
   pub header : length log.header ≡ 8
   pub file : honest log.disk ≡ true → log.down ≡ false → IsFile log.header log.epoch log.payloads.items (content log.disk)
   pub synced : honest log.disk ≡ true → log.down ≡ false → Only (content log.disk) (image log.disk)
+  pub stopped : honest log.disk ≡ true → log.down ≡ true → IsStopped (image log.disk) log.header log.epoch log.payloads.items
   pub end : log.end ≡ end_of log.payloads.items
   pub faults_fit : faults log.disk ≤ MAX_FAULTS
   pub spares : AreSpares log.spares.items
@@ -23,7 +34,3 @@ pub record IsUnchanged {D : Type 0} (old new : Log D) : Type 0 where
   pub payloads : new.payloads.items ≡ old.payloads.items
   pub spares : new.spares.items ≡ old.spares.items
   pub down : new.down ≡ old.down
-
--- the file holds these payloads or those
-abbrev pub IsEither : List ℕ → ℕ → List (List ℕ) → List (List ℕ) → List ℕ → Type 0
-IsEither header epoch one other bytes = IsFile header epoch one bytes ⊎ IsFile header epoch other bytes

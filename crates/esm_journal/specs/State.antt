@@ -31,3 +31,7 @@ OpensToEither header payloads payload bytes = OpensTo header payloads bytes ⊎ 
 pub record Keeps {D : Type 0} (content : D → List ℕ) (image : D → List ℕ → Type 0) (header : List ℕ) (payloads : List (List ℕ)) (disk : D) : Type 0 where
   pub opens : OpensTo header payloads (content disk)
   pub durable : Only (content disk) (image disk)
+
+-- a call failed while a payload was added: each image of the disk opens to the payloads, or to these and that one
+abbrev pub StillOpens : {D : Type 0} → (D → List ℕ → Type 0) → List ℕ → List (List ℕ) → D → Type 0
+StillOpens image header payloads disk = (payload : List ℕ) × ((bytes : List ℕ) → image disk bytes → OpensToEither header payloads payload bytes)

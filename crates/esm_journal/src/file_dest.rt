@@ -4,7 +4,7 @@ ghost use Rattle.esm_io.specs.Images.{LeavesOnly};
 ghost use Rattle.esm_io.specs.Told.{Grows};
 ghost use Rattle.esm_journal.specs.File.{max_payload, header_of};
 ghost use Rattle.esm_journal.specs.Room.{HasRoom};
-ghost use Rattle.esm_journal.specs.State.{OpensToEither, Keeps};
+ghost use Rattle.esm_journal.specs.State.{OpensToEither, Keeps, StillOpens};
 
 use crate::error::AppendError;
 use crate::format::MAX_PAYLOAD;
@@ -81,6 +81,7 @@ impl<D: Disk> Dest for FileDest<D> {
         ensures down { IsErrOf result DestError.Failed → self.new.down ≡ true }
         ensures room { IsErrOf result DestError.OutOfMemory → (length line.now ≤ max_payload → HasRoom self.old.room (length line.now)) → ⊥ }
         ensures kept { D.honest self.new.disk ≡ true → self.new.down ≡ false → Keeps D.content D.image (header_of 1) self.new.payloads self.new.disk }
+        ensures stopped { D.honest self.new.disk ≡ true → self.new.down ≡ true → StillOpens D.image (header_of 1) self.new.payloads self.new.disk }
         ensures any_moment { D.honest self.old.disk ≡ true →
             LeavesOnly D.moment D.image_since self.old.disk self.new.disk (OpensToEither (header_of 1) self.old.payloads line.now) }
         ensures honesty { D.honest self.new.disk ≡ D.honest self.old.disk }

@@ -4,7 +4,7 @@ ghost use Rattle.esm_io.specs.Images.{LeavesOnly, Only};
 ghost use Rattle.esm_journal.specs.File.{max_payload, header_of, Foreign, Damaged, eight_at, opened, fresh_file, blank_file};
 ghost use Rattle.esm_journal.specs.Reads.{IsOnlyRead, RefusedFor, NotMadeFor};
 ghost use Rattle.esm_journal.specs.Room.{HasRoom, room_after};
-ghost use Rattle.esm_journal.specs.State.{OpensTo, OpensToEither, Keeps};
+ghost use Rattle.esm_journal.specs.State.{OpensTo, OpensToEither, Keeps, StillOpens};
 
 use crate::error::{AppendError, InitError, OpenError};
 use crate::format::{PAIR, SINGLE};
@@ -129,6 +129,7 @@ impl<D: Disk> Journal<D> {
     pub fn payloads(&self) -> &[Bytes]
         ensures payloads { result.now ≡ self.now.payloads }
         ensures kept { D.honest self.now.disk ≡ true → self.now.down ≡ false → Keeps D.content D.image (header_of 1) self.now.payloads self.now.disk }
+        ensures stopped { D.honest self.now.disk ≡ true → self.now.down ≡ true → StillOpens D.image (header_of 1) self.now.payloads self.now.disk }
     {
         &self.log.payloads
     }
@@ -153,6 +154,7 @@ impl<D: Disk> Journal<D> {
         ensures not_added { OnErr result (self.new.payloads ≡ self.old.payloads) }
         ensures up { OnOk result (self.new.down ≡ false) }
         ensures kept { D.honest self.new.disk ≡ true → self.new.down ≡ false → Keeps D.content D.image (header_of 1) self.new.payloads self.new.disk }
+        ensures stopped { D.honest self.new.disk ≡ true → self.new.down ≡ true → StillOpens D.image (header_of 1) self.new.payloads self.new.disk }
         ensures any_moment { D.honest self.old.disk ≡ true → self.old.down ≡ false →
             LeavesOnly D.moment D.image_since self.old.disk self.new.disk (OpensToEither (header_of 1) self.old.payloads payload.now) }
         ensures fault { IsErrOf result AppendError.DiskFault → self.new.down ≡ true }

@@ -115,6 +115,7 @@ impl<D: Disk> Log<D> {
     /// Goes over to the next file, on another disk, which the disk so far takes the place of.
     pub(crate) fn move_over(&mut self, disk: &mut D, payloads: Vec<Bytes>, end: u64)
         requires log { IsLog D.honest D.content D.image D.faults self.old }
+        requires up { self.old.down ≡ false }
         requires epoch { self.old.epoch + 1 < 2 ^ 64 }
         requires file { D.honest disk.old ≡ true → IsFile self.old.header (self.old.epoch + 1) payloads.items (D.content disk.old) }
         requires durable { D.honest disk.old ≡ true → Only (D.content disk.old) (D.image disk.old) }

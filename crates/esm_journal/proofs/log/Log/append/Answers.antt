@@ -1,4 +1,4 @@
-use Rattle.std.proofs.Common.{◌≡◌, ◌<◌, ℕ, List, [], ◌∷◌, ◌++◌, length, vec_len, rules, arith, ap, ◌∙◌, sym}
+use Rattle.std.proofs.Common.{◌≡◌, ◌<◌, ℕ, Bool, true, false, List, [], ◌∷◌, ◌++◌, length, vec_len, rules, arith, ap, ◌∙◌, sym}
 use Rattle.esm_journal.proofs.Runs.{weaker}
 use Rattle.esm_journal.proofs.Adds.{either_of_torn, file_of_added, payload_in, on_ok_told, room_for_more}
 use Rattle.esm_journal.proofs.Written.{end_push}
@@ -37,9 +37,47 @@ returns-clause-log g c =
           rw pushed (file_of_added log.header log.epoch log.payloads.items c.requires.header (g.D.Disk.content log.disk) (c.requires.file honest up) log.end c.requires.end payload c.deref.result.now
           (c.deref.ensures.value ∙ c.in-Ok.ensures.framed) (omega arith) (g.D.Disk.content c.add_entry.new.disk) (on_ok_told c.add_entry.result went_well (c.add_entry.ensures.written honest)));
       synced = λ h up. on_ok_told c.add_entry.result went_well (c.add_entry.ensures.durable (sym c.add_entry.ensures.honesty ∙ h));
+      stopped = λ h down. absurd (not_both c.if-self.false down);
       end = rw pushed (omega (arith, end_push log.payloads.items payload, c.requires.end));
       faults_fit = c.add_entry.ensures.count.greatest;
       spares = c.framed.ensures.spares;
       total = omega (arith, total);
       places = room_for_more _ _ _ _ _ _ _ _ c.requires.places c.reserve.ensures.capacity (c.reserve.ensures.len) ok size large c.framed.ensures.fewer used;
     }
+  where
+    no_way : true ≡ false → ⊥
+    no_way e = cc
+
+    not_both : {b : Bool} → b ≡ false → b ≡ true → ⊥
+    not_both up down = no_way (sym down ∙ up)
+
+pub returns-then-is_err-2-clause-log : goal.returns-then-is_err-2-clause-log
+returns-then-is_err-2-clause-log g c =
+    let log = c.args.self.now in
+    let payload = c.args.payload.now in
+    let new = c.add_entry.new.disk in
+    let total = c.in-Ok.ensures.total in
+    let fewer = c.framed.ensures.fewer in
+    let large = c.reserve.ensures.capacity in
+    let same = c.reserve.ensures.len in
+    let places = c.requires.places in
+    record {
+      header = c.requires.header;
+      file = λ h up. absurd (clash up);
+      synced = λ h up. absurd (clash up);
+      stopped = λ h down.
+          let honest = sym c.add_entry.ensures.honesty ∙ h in
+          let run = c.add_entry.ensures.any_moment honest in (
+            payload,
+            λ bytes now. rw c.reserve.ensures.items (either_of_torn log.header log.epoch log.payloads.items c.requires.header (g.D.Disk.content log.disk) (c.requires.file honest c.if-self.false) log.end c.requires.end payload c.deref.result.now
+                (c.deref.ensures.value ∙ c.in-Ok.ensures.framed) (omega arith) bytes (run.each bytes (g.met.D.Disk.counts_now new (g.D.Disk.moment log.disk) bytes h run.later now))),
+          );
+      end = rw c.reserve.ensures.items c.requires.end;
+      faults_fit = c.add_entry.ensures.count.greatest;
+      spares = c.framed.ensures.spares;
+      total = omega (arith, total);
+      places = omega (arith, fewer, large, same, places);
+    }
+  where
+    clash : true ≡ false → ⊥
+    clash e = cc

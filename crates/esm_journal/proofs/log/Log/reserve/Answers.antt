@@ -10,6 +10,7 @@ returns-clause-log g c =
       header = c.requires.header;
       file = rw c.reserve.ensures.items c.requires.file;
       synced = c.requires.synced;
+      stopped = rw c.reserve.ensures.items c.requires.stopped;
       end = rw c.reserve.ensures.items c.requires.end;
       faults_fit = c.requires.faults_fit;
       spares = c.in_ok-spares.ensures.spares;
