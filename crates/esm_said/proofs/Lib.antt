@@ -11,4 +11,6 @@ pub mod Regrouping
 pub mod Joining
 pub mod Cutting
 pub mod Histories
+pub mod KindLemmas
 pub mod Compacting
+pub mod Determined

@@ -7,6 +7,8 @@ ghost use Rattle.esm_said.specs.Compact.{moment_of, greatest_moment, fate_from, 
 ghost use Rattle.esm_said.specs.Meaning.{history, are_good};
 ghost use Rattle.esm_said.specs.Payload.{IsSaid, payload_of};
 ghost use Rattle.esm_said.specs.Table.{IsTable};
+ghost use Rattle.esm_said.specs.Tells.{Tells};
+ghost use Rattle.esm_said.specs.Told.{Told, IsInOrder};
 
 use crate::error::SaysError;
 use crate::history::table_of;
@@ -206,6 +208,9 @@ pub fn compacted(alloc: Global, payloads: &[Bytes]) -> Result<Vec<Bytes>, SaysEr
     ensures listed { IfOk result (λ v. (saids : List Said) × IsCompacted (history (reverse payloads.now)) saids × (v.items ≡ map payload_of saids)) }
     ensures same { IfOk result (λ v. SameSaid (history (reverse v.items)) (history (reverse payloads.now))) }
     ensures fine { IfOk result (λ v. are_good (reverse v.items) ≡ true) }
+    // What `says` gives of the shorter list and of these payloads is equal.
+    ensures equal { IfOk result (λ v. (t u : Told) → Tells t (history (reverse v.items)) → IsInOrder t
+        → Tells u (history (reverse payloads.now)) → IsInOrder u → t ≡ u) }
     ensures good { OnOk result (are_good (reverse payloads.now) ≡ true) }
     ensures bad { IfErr result (λ e. IsFirstBad payloads.now e) }
 {

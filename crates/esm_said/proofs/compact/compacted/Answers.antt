@@ -5,6 +5,7 @@ use Rattle.esm_said.specs.Meaning.{history, are_good}
 use Rattle.esm_said.specs.Compact.{SameSaid}
 use Rattle.esm_said.proofs.Histories.{good_from}
 use Rattle.esm_said.proofs.Compacting.{all_may, compacts}
+use Rattle.esm_said.proofs.Determined.{same_told}
 use Rattle.esm_said.proofs.compact.compacted.Goals as goal
 
 pub payloads_of-requires : goal.payloads_of-requires
@@ -31,3 +32,11 @@ returns-clause-fine c =
     let listed = c.in_ok-saids.ensures h c.in_ok-table.ensures.table c.in_ok-moment.ensures.moment in
     (compacts h c.in_ok-saids.saids.items c.in_ok-payloads_of.field-0.items listed c.in_ok-moment.ensures.said (good_from (reverse c.args.payloads.now) c.in_ok-table.ensures.good)
     (c.in_ok-payloads_of.ensures ∙ ap (map payload_of) c.deref.ensures.value)).0
+
+pub returns-clause-equal : goal.returns-clause-equal
+returns-clause-equal c = λ t u tells order told orders.
+    let h = history (reverse c.args.payloads.now) in
+    let listed = c.in_ok-saids.ensures h c.in_ok-table.ensures.table c.in_ok-moment.ensures.moment in
+    let same = (compacts h c.in_ok-saids.saids.items c.in_ok-payloads_of.field-0.items listed c.in_ok-moment.ensures.said (good_from (reverse c.args.payloads.now) c.in_ok-table.ensures.good)
+    (c.in_ok-payloads_of.ensures ∙ ap (map payload_of) c.deref.ensures.value)).1 in
+    same_told t u (history (reverse c.in_ok-payloads_of.field-0.items)) h tells told same order orders
