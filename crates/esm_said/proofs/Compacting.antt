@@ -1,40 +1,23 @@
 -- The shorter list says the same, may be said, and none of its payloads is bad.
-use Rattle.std.proofs.Common.{◌≡◌, ℕ, suc, ◌<◌, ◌≤◌, ◌&&◌, ◌||◌, Bool, true, false, cond, eqb, leb, not, List, [], ◌∷◌, ◌++◌, length, Option, Some, None, refl, sym, ap, subst, ◌∙◌, inl, inr, append_assoc, arith}
-use Rattle.std.specs.Prelude.{is_some, option_map, map, reverse, nat_eq}
-use Rattle.std.specs.List.{AllByRecursion, cons_option}
+use Rattle.std.proofs.Common.{◌≡◌, ℕ, Bool, true, false, eqb, not, List, [], ◌∷◌, ◌++◌, Option, Some, None, refl, sym, ap, subst, ◌∙◌}
+use Rattle.std.specs.Prelude.{map, reverse}
+use Rattle.std.specs.List.{cons_option}
 use Rattle.std.specs.Option.{option_or}
-use Rattle.std.specs.Ordering.{is_eq}
-use Rattle.std.specs.Cmp.Lexicographic.{pointwise}
-use Rattle.std.specs.declared.cmp.Ordering.TheVariants.{Less}
-use Rattle.std.specs.Map.{lookup, keys_of}
+use Rattle.std.specs.Map.{lookup}
 use Rattle.std.specs.BTreeMap.{is_at}
-use Rattle.std.specs.List.Sorted.{IsStrictlySortedBy}
-use Rattle.std.proofs.lemmas.Bool.{and_parts, and_from, cases_Bool, eqb-true, eq-eqb, leb-true, le-leb}
-use Rattle.std.proofs.lemmas.Cmp.{nat_list_eq_equiv}
+use Rattle.std.proofs.lemmas.Bool.{and_from}
 use Rattle.std.proofs.lemmas.List.{reverse-append, reverse-reverse, map-append, append-nil}
-use Rattle.std.proofs.lemmas.Map.{lookup-none}
-use Rattle.std.proofs.lemmas.Map.Keys.{sorted_head, sorted_tail}
-use Rattle.esm_model.specs.Entries.{holds}
-use Rattle.esm_model.specs.Limits.{MAX_TRIES}
 use Rattle.esm_model.specs.Sequence.{is_sequence}
-use Rattle.esm_model.specs.Valid.{is_between}
-use Rattle.esm_model.specs.declared.entry.Fate.{Fate}
-use Rattle.esm_model.specs.declared.entry.Fate.TheVariants.{Succeeded, Filtered, Expired, Exhausted}
-use Rattle.esm_said.specs.declared.kept.KeptFate.{KeptFate}
-use Rattle.esm_said.specs.declared.kept.KeptTries.{KeptTries}
 use Rattle.esm_said.specs.declared.said.Said.{Said}
-use Rattle.esm_said.specs.declared.said.Said.TheVariants.{Fates, Closed, Deleted, State, Tried, WindowTried, Replayed}
-use Rattle.esm_said.specs.Payload.{payload_of, is_place, fate_byte, IsShard, IsMoment, IsTries, IsState, IsSaid, AreNamed, is_message_id, is_deletion, may_keep}
-use Rattle.esm_said.specs.Meaning.{text_named, only_at, fate_kept, tries_kept, state_in, fate_after, tries_after, state_after, window_tries_after, replayed_after, deletion_after, fate_said, tries_said, state_said, window_tries_said, replayed_said, deletion_said, has_failed, known, Known, is_bad, is_spent, is_no_replay, is_deleted, any_named, fate_text, tries_text, differs, is_good, is_good_said, history, are_good}
-use Rattle.esm_said.specs.Pieces.{Key, Entry, key_cmp, Piece, pieces_after, pieces}
+use Rattle.esm_said.specs.Payload.{payload_of, IsMoment, IsSaid, is_message_id}
+use Rattle.esm_said.specs.Meaning.{only_at, fate_said, tries_said, state_said, window_tries_said, replayed_said, deletion_said, known, is_bad, is_good, is_good_said, history, are_good}
+use Rattle.esm_said.specs.Pieces.{Key, Entry, Piece, pieces_after, pieces}
 use Rattle.esm_said.specs.Told.{pair_cmp}
-use Rattle.esm_said.specs.Compact.{greatest_moment, IsListing, fate_text_of, tries_text_of, fates_look, tries_look, replays_look, deletions_look, fate_from, fates_of, tried_of, replayed_of, deleted_of, state_of_window, tried_of_window, IsCompacted, SameSaid}
-use Rattle.esm_said.proofs.Cutting.{Pair, pair_from_named, named_from_pair, text_by, Fresh, IsPiece, IsCut, cut, none_unless}
-use Rattle.esm_said.proofs.Finding.{eqb-flip}
-use Rattle.esm_said.proofs.Histories.{Good, AllSaid, holds_pair, pair_holds, none_of, first_or_before, fate_valid, tries_valid, deletion_valid, state_valid, window_tries_valid, greatest_valid, tries_without_fate, replayed_failed}
-use Rattle.esm_said.proofs.Pairs.{same_pair}
+use Rattle.esm_said.specs.Compact.{greatest_moment, IsListing, fates_look, tries_look, replays_look, deletions_look, fates_of, tried_of, replayed_of, deleted_of, state_of_window, tried_of_window, IsCompacted, SameSaid}
+use Rattle.esm_said.proofs.Cutting.{IsPiece, IsCut, cut}
+use Rattle.esm_said.proofs.Histories.{Good, AllSaid, state_valid, window_tries_valid, greatest_valid}
 use Rattle.esm_said.proofs.Payloads.{said_again}
-use Rattle.esm_said.proofs.Regrouping.{is_pair, itself, Apart, pairs_apart, lookup_pair}
+use Rattle.esm_said.proofs.Regrouping.{is_pair, itself, pairs_apart, lookup_pair}
 use Rattle.esm_said.proofs.KindLemmas.{skip_fates, skip_tries, skip_states, skip_window_tries, skip_replays, skip_deletions, one_byte, fates_same, no_tries_there, fates_good, fates_valid, fates_said, tries_same, tries_good, tries_look_valid, one_number, tried_said, replays_same, replays_good, replays_valid, replays_one_group, replayed_may, deletion_found_as, deletions_same, deletions_good, deletions_valid, deleted_may, states_are, window_tries_are, or_nothing, harmless, all_found, all_mapped, all_joined, all_turned, map_turned}
 
 -- the whole

@@ -1,5 +1,5 @@
 -- The lists that are told in order are determined by the look-ups among them.
-use Rattle.std.proofs.Common.{◌≡◌, ℕ, ◌&&◌, ◌||◌, Bool, true, false, cond, eqb, T, List, [], ◌∷◌, Option, Some, None, refl, sym, ap, subst, ◌∙◌, inl, inr}
+use Rattle.std.proofs.Common.{◌≡◌, ℕ, ◌&&◌, ◌||◌, Bool, true, false, cond, eqb, T, List, [], ◌∷◌, Option, Some, None, refl, sym, ap, subst, ◌∙◌}
 use Rattle.std.specs.Prelude.{map, find, option_map}
 use Rattle.std.specs.List.{list_any, AllByRecursion}
 use Rattle.std.specs.List.Sorted.{IsStrictlySortedBy}
@@ -14,8 +14,6 @@ use Rattle.std.proofs.lemmas.Bool.{and_from}
 use Rattle.std.proofs.lemmas.Map.Keys.{sorted_head, sorted_tail}
 use Rattle.std.proofs.lemmas.Map.Lookups.{exact_pairs, exact_unsigned}
 use Rattle.esm_model.specs.Setting.{FoundFate, FoundTries, FoundState, FoundWindowTries}
-use Rattle.esm_said.specs.declared.kept.KeptFate.{KeptFate}
-use Rattle.esm_said.specs.declared.kept.KeptTries.{KeptTries}
 use Rattle.esm_said.specs.declared.said.Said.{Said}
 use Rattle.esm_said.specs.Compact.{SameSaid}
 use Rattle.esm_said.specs.Told.{Told, FoundReplay, FoundDeletion, pair_cmp, IsInOrder}

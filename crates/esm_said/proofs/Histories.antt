@@ -1,6 +1,6 @@
 -- What holds of a history whose payloads may all be said, and none of which was bad.
-use Rattle.std.proofs.Common.{◌≡◌, ℕ, suc, ◌<◌, ◌≤◌, ◌&&◌, ◌||◌, Bool, true, false, cond, eqb, not, List, [], ◌∷◌, length, Option, Some, None, refl, sym, ap, subst, ◌∙◌, inl, inr, ◌⊎◌, arith}
-use Rattle.std.specs.Prelude.{is_some, IfSome, option_map, max}
+use Rattle.std.proofs.Common.{◌≡◌, ℕ, ◌≤◌, ◌&&◌, ◌||◌, Bool, true, false, cond, eqb, not, List, [], ◌∷◌, length, Option, Some, None, refl, sym, ap, subst, ◌∙◌, inl, inr, ◌⊎◌, arith}
+use Rattle.std.specs.Prelude.{is_some, IfSome, option_map}
 use Rattle.std.specs.List.{AllByRecursion, list_all}
 use Rattle.std.specs.Option.{option_or}
 use Rattle.std.proofs.lemmas.Bool.{and_parts, cases_Bool, eqb-true, eq-eqb, or_parts}
@@ -8,17 +8,16 @@ use Rattle.esm_model.specs.Entries.{holds}
 use Rattle.esm_model.specs.Limits.{MAX_DATA}
 use Rattle.esm_model.specs.Moment.{MAX_MOMENT}
 use Rattle.esm_model.specs.Sequence.{is_sequence}
-use Rattle.esm_model.specs.declared.entry.Fate.{Fate}
 use Rattle.esm_model.specs.declared.entry.WindowState.{WindowState}
 use Rattle.esm_said.specs.declared.kept.KeptFate.{KeptFate}
 use Rattle.esm_said.specs.declared.kept.KeptTries.{KeptTries}
 use Rattle.esm_said.specs.declared.said.Said.{Said}
 use Rattle.esm_said.specs.declared.said.Said.TheVariants.{Fates, Closed, Deleted, State, Tried, WindowTried, Replayed}
-use Rattle.esm_said.specs.Payload.{is_place, IsShard, IsMoment, IsTries, IsState, IsSaid, AreNamed, is_message_id, is_deletion}
+use Rattle.esm_said.specs.Payload.{is_place, IsShard, IsMoment, IsTries, IsState, IsSaid, is_message_id, is_deletion}
 use Rattle.esm_said.specs.Meaning.{text_named, only_at, fate_kept, tries_kept, state_in, fate_said, tries_said, state_said, window_tries_said, replayed_said, deletion_said, has_failed, known, is_bad, is_spent, is_no_replay, any_named, is_good, is_good_said, history, are_good}
 use Rattle.esm_said.specs.Reading.{said_of}
 use Rattle.esm_said.specs.Compact.{moment_of, greatest_moment}
-use Rattle.esm_said.proofs.Cutting.{Pair, pair_from_named, none_unless}
+use Rattle.esm_said.proofs.Cutting.{Pair, pair_from_named}
 
 -- none of the payloads was bad after those before it
 abbrev pub Good : List Said → Type 0

@@ -1,5 +1,5 @@
 -- The two laws of payloads: what is read is spelled so, and what is spelled so is read.
-use Rattle.std.proofs.Common.{◌≡◌, ℕ, zero, suc, ◌<◌, ◌≤◌, Bool, true, false, cond, eqb, List, [], ◌∷◌, ◌++◌, length, Option, Some, None, Result, Ok, Err, refl, sym, ap, subst, ◌∙◌, append_assoc, arith, inl, inr}
+use Rattle.std.proofs.Common.{◌≡◌, ℕ, ◌≤◌, Bool, true, cond, eqb, List, [], ◌∷◌, ◌++◌, length, Option, Some, None, refl, sym, ap, subst, ◌∙◌, inl, inr}
 use Rattle.std.specs.Prelude.{IfSome}
 use Rattle.std.proofs.lemmas.Bool.{eqb-true}
 use Rattle.std.proofs.lemmas.Option.{cond_some}
@@ -12,9 +12,9 @@ use Rattle.esm_said.specs.declared.names.Named.{Named}
 use Rattle.esm_said.specs.declared.said.Said.{Said}
 use Rattle.esm_said.specs.declared.said.Said.TheVariants.{Fates, Closed, Deleted, State, Tried, WindowTried, Replayed}
 use Rattle.esm_said.specs.Payload.{eight, four, fate_byte, text_bytes, flagged_bytes, named_bytes, payload_of, is_message_id, may_keep, is_deletion, IsShard, IsMoment, IsTries, IsState, AreNamed, IsSaid}
-use Rattle.esm_said.specs.Reading.{◌>>=◌, ◌⊗◌, only, made, byte_at, shard_at, moment_at, tries_at, fate_at, text_at, state_of, flagged_at, named_at, fates_at, closed_at, deleted_at, state_at, tried_at, window_tried_at, replayed_at, said_at, said_of}
+use Rattle.esm_said.specs.Reading.{◌⊗◌, only, byte_at, shard_at, moment_at, tries_at, fate_at, text_at, state_of, flagged_at, named_at, fates_at, closed_at, deleted_at, state_at, tried_at, window_tried_at, replayed_at, said_at, said_of}
 use Rattle.esm_said.proofs.WordLemmas.{sequence_short, id_short}
-use Rattle.esm_said.proofs.Fields.{IsBytes, IsBytes-rest, bind_some, some_is, chosen, Took, Reads, Reads-as, Reads-both, Reads-only, made_takes, made_again}
+use Rattle.esm_said.proofs.Fields.{IsBytes, IsBytes-rest, bind_some, chosen, Took, Reads, Reads-both, Reads-only, made_takes, made_again}
 use Rattle.esm_said.proofs.Values.{shard_reads, moment_reads, tries_reads, fate_reads, text_reads, flagged_reads, named_reads}
 
 -- the fields of each kind

@@ -1,5 +1,5 @@
 -- Reading a payload from left to right. A field is a value and the bytes after it.
-use Rattle.std.specs.Prelude.{◌≡◌, ℕ, zero, suc, Bool, ◌&&◌, ◌==◌, nat_lt, nat_le, List, [], ◌∷◌, length, take, drop, Option, Some, None, Result, Ok, Err, if◌then◌else◌}
+use Rattle.std.specs.Prelude.{◌≡◌, ℕ, zero, suc, Bool, ◌==◌, nat_lt, nat_le, List, [], ◌∷◌, length, take, drop, Option, Some, None, Result, Ok, Err, if◌then◌else◌}
 use Rattle.std.specs.Int.{Width, w32, w64, byte_len, from_be_bytes}
 use Rattle.esm_model.specs.Limits.{MAX_SHARD, MAX_DATA, MAX_TRIES}
 use Rattle.esm_model.specs.Moment.{MAX_MOMENT}

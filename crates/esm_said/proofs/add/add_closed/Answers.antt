@@ -2,7 +2,6 @@ use Rattle.std.proofs.Common.{None}
 use Rattle.std.specs.BTreeMap as map
 use Rattle.esm_said.specs.Table.{pair_cmp}
 use Rattle.esm_said.proofs.Pairs.{changed}
-use Rattle.esm_said.specs.Meaning.{state_said, window_tries_said}
 use Rattle.esm_said.proofs.add.add_closed.Goals as goal
 
 pub returns : goal.returns

@@ -1,4 +1,4 @@
-use Rattle.std.proofs.Common.{◌≡◌, ◌++◌, ◌&&◌, eqb, cond, None, sym, ap, ◌∙◌}
+use Rattle.std.proofs.Common.{◌++◌, ◌&&◌, eqb, cond, None, ap, ◌∙◌}
 use Rattle.std.specs.Prelude.{map}
 use Rattle.std.specs.BTreeMap as tree
 use Rattle.esm_said.specs.Table.{pair_cmp}

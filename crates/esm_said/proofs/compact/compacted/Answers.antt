@@ -1,8 +1,7 @@
-use Rattle.std.proofs.Common.{◌≡◌, ◌∙◌, ap, true}
+use Rattle.std.proofs.Common.{◌∙◌, ap}
 use Rattle.std.specs.Prelude.{reverse, map}
 use Rattle.esm_said.specs.Payload.{payload_of}
-use Rattle.esm_said.specs.Meaning.{history, are_good}
-use Rattle.esm_said.specs.Compact.{SameSaid}
+use Rattle.esm_said.specs.Meaning.{history}
 use Rattle.esm_said.proofs.Histories.{good_from}
 use Rattle.esm_said.proofs.Compacting.{all_may, compacts}
 use Rattle.esm_said.proofs.Determined.{same_told}

@@ -1,4 +1,4 @@
-use Rattle.std.proofs.Common.{[], ◌∙◌, sym, ap, get_or}
+use Rattle.std.proofs.Common.{◌∙◌, sym, ap, get_or}
 use Rattle.esm_said.specs.Meaning.{any_named, is_no_replay}
 use Rattle.esm_said.specs.Table.{known_in}
 use Rattle.esm_said.proofs.Pairs.{any_found, any_goes_on}

@@ -1,4 +1,4 @@
-use Rattle.std.proofs.Common.{◌≡◌, ◌≤◌, ◌^◌, drop}
+use Rattle.std.proofs.Common.{◌≡◌, drop}
 use Rattle.esm_said.specs.Payload.{rises, rises_from}
 use Rattle.esm_said.proofs.names.rises.Given as goal
 

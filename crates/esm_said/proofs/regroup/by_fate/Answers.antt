@@ -1,10 +1,7 @@
 use Rattle.std.proofs.Common.{◌≡◌, [], true, sym, ap, ◌∙◌}
 use Rattle.std.specs.BTreeMap as map
-use Rattle.std.specs.BTreeSet as set
-use Rattle.std.specs.Map.Iter.{deref_pair}
 use Rattle.esm_said.specs.Payload.{fate_byte}
 use Rattle.esm_said.specs.Pieces.{key_cmp}
-use Rattle.esm_said.specs.Table.{pair_cmp}
 use Rattle.esm_said.proofs.Regrouping.{regrouped, fates_regrouped}
 use Rattle.esm_said.proofs.regroup.by_fate.Goals as goal
 

@@ -1,7 +1,6 @@
-use Rattle.std.proofs.Common.{◌≡◌, ℕ, true, None}
+use Rattle.std.proofs.Common.{◌≡◌, None}
 use Rattle.std.specs.BTreeMap as map
 use Rattle.std.specs.BTreeSet as set
-use Rattle.esm_said.specs.Payload.{fate_byte}
 use Rattle.esm_said.specs.Pieces.{Key, key_cmp}
 use Rattle.esm_said.specs.Table.{pair_cmp}
 use Rattle.esm_said.proofs.Regrouping.{regrouped}
