@@ -5,6 +5,7 @@ pub mod FreshFiles
 pub mod Heads
 pub mod Lists
 pub mod Loops
+pub mod Migrations
 pub mod Pairs
 pub mod Replaced
 pub mod Rewrites

@@ -9,3 +9,4 @@ pub mod Worked
 pub mod Taken
 pub mod IsPair
 pub mod Replace
+pub mod Migrate

@@ -1,10 +1,26 @@
 -- What opening a pair finds of its disks.
-use Rattle.std.specs.Prelude.{List, ℕ, if◌then◌else◌}
-use Rattle.esm_journal.specs.File.{IsFile}
-use Rattle.esm_journal.specs.Pair.{IsSpare}
+use Rattle.std.specs.Prelude.{◌≡◌, ◌≤◌, Bool, true, false, List, ℕ, if◌then◌else◌}
+use Rattle.esm_io.specs.Faults.{MAX_FAULTS}
+use Rattle.esm_io.specs.Images.{Only}
+use Rattle.esm_journal.specs.File.{end_of, AreShort, IsFile}
+use Rattle.esm_journal.specs.Pair.{IsSpare, IsOther}
 use Rattle.esm_journal.specs.declared.pair_reading.Taken.{Taken}
 
 -- the file in use holds the payloads, and the other does not hinder it
 pub record IsTaken (header first second : List ℕ) (taken : Taken) : Type 0 where
   pub file : IsFile header taken.found.epoch taken.found.payloads.items (if taken.swapped then second else first)
   pub beside : IsSpare header taken.found.epoch (if taken.swapped then first else second)
+
+-- what is known of a pair's disks once the one in use is read: of each what it gives, and that this is its only image
+pub record IsReadPair {D : Type 0} (honest : D → Bool) (content : D → List ℕ) (image : D → List ℕ → Type 0) (faults : D → ℕ) (header : List ℕ) (first second : D) (taken : Taken) : Type 0 where
+  pub taken_is : honest first ≡ true → honest second ≡ true → IsTaken header (content first) (content second) taken
+  pub first_file : honest first ≡ true → taken.swapped ≡ false → IsFile header taken.found.epoch taken.found.payloads.items (content first)
+  pub second_file : honest second ≡ true → taken.swapped ≡ true → IsFile header taken.found.epoch taken.found.payloads.items (content second)
+  pub first_other : honest first ≡ true → taken.swapped ≡ true → IsOther taken.spare_sealed (content first)
+  pub second_other : honest second ≡ true → taken.swapped ≡ false → IsOther taken.spare_sealed (content second)
+  pub end : taken.found.end ≡ end_of taken.found.payloads.items
+  pub short : AreShort taken.found.payloads.items
+  pub durable : honest first ≡ true → Only (content first) (image first)
+  pub spare_durable : honest second ≡ true → Only (content second) (image second)
+  pub faults_fit : faults first ≤ MAX_FAULTS
+  pub spare_faults_fit : faults second ≤ MAX_FAULTS

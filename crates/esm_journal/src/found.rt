@@ -2,7 +2,7 @@
 ghost use Rattle.std.specs.Prelude.{◌≡◌, true, List, ℕ, length, IfOk, IfErr, OnOk};
 ghost use Rattle.esm_io.specs.Faults.{IsCount, Rose};
 ghost use Rattle.esm_io.specs.Images.{Only};
-ghost use Rattle.esm_journal.specs.File.{end_of, IsFile, Foreign, Damaged, eight_at, opened_rest, opened};
+ghost use Rattle.esm_journal.specs.File.{end_of, AreShort, IsFile, Foreign, Damaged, eight_at, opened_rest, opened};
 ghost use Rattle.esm_journal.specs.Reads.{IsOnlyRead, RefusedFor};
 ghost use Rattle.esm_journal.specs.Head.{IsHead};
 
@@ -32,6 +32,7 @@ pub(crate) fn read_rest<D: Disk>(
     ensures found { D.honest disk.old ≡ true → IfOk result (λ found. IsFile head.now.first found.epoch found.payloads.items (D.content disk.old)) }
     ensures epoch { IfOk result (λ found. found.epoch ≡ head.now.epoch) }
     ensures end { IfOk result (λ found. found.end ≡ end_of found.payloads.items) }
+    ensures short { IfOk result (λ found. AreShort found.payloads.items) }
     ensures only_read { IsOnlyRead D.honest D.content D.image D.moment D.image_since D.faults disk.old disk.new }
     ensures refused { IfErr result (λ e. RefusedFor (λ first. ⊥)
         (λ damage. D.honest disk.old ≡ true → opened_rest (D.content disk.old) ≡ Damaged damage)

@@ -12,6 +12,8 @@ mod head;
 mod journal;
 mod list;
 mod log;
+mod migrate;
+mod old_pair;
 mod pair;
 mod pair_reading;
 mod reading;
@@ -22,6 +24,7 @@ mod through;
 pub use error::{AppendError, InitError, OpenError};
 pub use file_dest::FileDest;
 pub use journal::Journal;
+pub use migrate::Migrated;
 pub use pair::Pair;
 
 #[cfg(test)]

@@ -26,12 +26,12 @@ use std::marker::Model;
 /// Payloads are added to the file in use.
 #[derive(Drop)]
 pub struct Pair<D: Disk> {
-    log: Log<D>,
-    spare: D,
+    pub(crate) log: Log<D>,
+    pub(crate) spare: D,
     /// The seal byte of the spare disk is 1.
-    spare_sealed: bool,
+    pub(crate) spare_sealed: bool,
     /// The disk in use is the second that was handed in.
-    swapped: bool,
+    pub(crate) swapped: bool,
 }
 
 impl<D: Disk> Model for Pair<D> {

@@ -3,7 +3,7 @@ ghost use Rattle.std.specs.Prelude.{◌≡◌, ◌⊎◌, ◌≤◌, ◌==◌, �
 ghost use Rattle.std.specs.Cmp.Lexicographic.{pointwise};
 ghost use Rattle.esm_io.specs.Faults.{Rose, MAX_FAULTS};
 ghost use Rattle.esm_io.specs.Images.{Only};
-ghost use Rattle.esm_journal.specs.File.{end_of, IsFile, Foreign, Damaged, eight_at, opened_rest};
+ghost use Rattle.esm_journal.specs.File.{end_of, AreShort, IsFile, Foreign, Damaged, eight_at, opened_rest};
 ghost use Rattle.esm_journal.specs.Head.{IsHead};
 ghost use Rattle.esm_journal.specs.Pair.{is_sealed, is_taken, beside, pair_opened, IsOther};
 ghost use Rattle.esm_journal.specs.Reads.{IsOnlyRead, RefusedFor};
@@ -25,7 +25,7 @@ pub(crate) struct Taken {
 }
 
 /// The file begins with the header and its seal is open.
-fn has_seal(head: &Head, header: [u8; 8]) -> bool
+pub(crate) fn has_seal(head: &Head, header: [u8; 8]) -> bool
     ensures sealed { result ≡ (pointwise nat_eq head.now.first header && (head.now.seal == 1)) }
     ensures headed { result ≡ true → head.now.first ≡ header }
 {
@@ -58,6 +58,7 @@ fn read_taken<D: Disk>(
     ensures found { D.honest disk.old ≡ true → IfOk result (λ found. IsFile head.now.first found.epoch found.payloads.items (D.content disk.old)) }
     ensures epoch { IfOk result (λ found. found.epoch ≡ head.now.epoch) }
     ensures end { IfOk result (λ found. found.end ≡ end_of found.payloads.items) }
+    ensures short { IfOk result (λ found. AreShort found.payloads.items) }
     ensures long { OnOk result (18 ≤ size) }
     ensures only_read { IsOnlyRead D.honest D.content D.image D.moment D.image_since D.faults disk.old disk.new }
     ensures refused { IfErr result (λ e. RefusedFor (λ first. ⊥)
@@ -85,6 +86,7 @@ pub(crate) fn read_pair<D: Disk>(
     ensures first_other { D.honest first.old ≡ true → IfOk result (λ taken. taken.swapped ≡ true → IsOther taken.spare_sealed (D.content first.old)) }
     ensures second_other { D.honest second.old ≡ true → IfOk result (λ taken. taken.swapped ≡ false → IsOther taken.spare_sealed (D.content second.old)) }
     ensures end { IfOk result (λ taken. taken.found.end ≡ end_of taken.found.payloads.items) }
+    ensures short { IfOk result (λ taken. AreShort taken.found.payloads.items) }
     ensures durable { D.honest first.old ≡ true → OnOk result (Only (D.content first.new) (D.image first.new)) }
     ensures spare_durable { D.honest second.old ≡ true → OnOk result (Only (D.content second.new) (D.image second.new)) }
     ensures first_read { IsOnlyRead D.honest D.content D.image D.moment D.image_since D.faults first.old first.new }

@@ -1,0 +1,164 @@
+-- What images of a pair of version 1 open to while its list is written anew as version 2.
+use Rattle.std.proofs.Common.{◌≡◌, ◌⊎◌, inl, inr, ◌==◌, ◌||◌, ◌&&◌, ◌≤◌, slice_index, ℕ, ◌+◌, ◌<◌, Bool, true, false, if◌then◌else◌, List, [], length, nat_eq, arith, refl, sym, ap, subst, ◌∙◌}
+use Rattle.std.proofs.lemmas.Bool.Decides.{nat_tests}
+use Rattle.std.specs.Cmp.Lexicographic.{pointwise}
+use Rattle.esm_io.specs.Images.{LeavesOnly, Only}
+use Rattle.esm_journal.specs.File.{header_of, Opening, Holding, Foreign, Damaged, IsFile, eight_at}
+use Rattle.esm_journal.specs.Pair.{is_sealed, pair_opened, IsSpare}
+use Rattle.esm_journal.specs.Replace.{IsSpareOrNew}
+use Rattle.esm_journal.specs.Migrate.{is_version_2, with_next_epoch, MigratesTo}
+use Rattle.esm_journal.specs.Taken.{IsTaken, IsReadPair}
+use Rattle.esm_journal.specs.declared.pair_reading.Taken.{Taken}
+use Rattle.esm_journal.specs.declared.found.Found.{Found}
+use Rattle.esm_journal.proofs.Files.{first_of_file}
+use Rattle.esm_journal.proofs.Heads.{not_true}
+use Rattle.esm_journal.proofs.Pairs.{pair_opens, sealed_file}
+use Rattle.esm_journal.proofs.Runs.{goes_on, weaker}
+use Rattle.esm_journal.specs.Reads.{IsOnlyRead}
+
+opened_in : (header : List ℕ) (first second : List ℕ) (epoch : ℕ) (payloads : List (List ℕ)) (swapped : Bool) → length header ≡ 8 → IsFile header epoch payloads (if swapped then second else first) → IsSpare header epoch (if swapped then first else second)
+    → pair_opened header first second ≡ Holding epoch payloads
+opened_in header first second epoch payloads true eight file beside = (pair_opens header epoch payloads second first eight file beside).1
+opened_in header first second epoch payloads false eight file beside = (pair_opens header epoch payloads first second eight file beside).0
+
+-- what was read is what the pair opens to
+pub taken_opened : (header first second : List ℕ) (taken : Taken) → length header ≡ 8 → IsTaken header first second taken → pair_opened header first second ≡ Holding taken.found.epoch taken.found.payloads.items
+taken_opened header first second taken eight is = opened_in header first second taken.found.epoch taken.found.payloads.items taken.swapped eight is.file is.beside
+
+-- no next epoch can be written
+pub greatest_epoch : (epoch : ℕ) (payloads : List (List ℕ)) → epoch ≡ 18446744073709551615 → with_next_epoch (Holding epoch payloads) ≡ Damaged 8
+greatest_epoch epoch payloads is = grind (arith, nat_tests)
+
+-- a next epoch can be written
+pub lower_epoch : (epoch : ℕ) (payloads : List (List ℕ)) → epoch < 18446744073709551615 → with_next_epoch (Holding epoch payloads) ≡ Holding epoch payloads
+lower_epoch epoch payloads lt = grind (arith, nat_tests)
+
+-- a file of version 1 is not sealed as version 2
+pub old_not_sealed : (epoch : ℕ) (payloads : List (List ℕ)) (bytes : List ℕ) → IsFile (header_of 1) epoch payloads bytes → is_sealed (header_of 2) bytes ≡ false
+old_not_sealed epoch payloads bytes file = ap (λ l. pointwise nat_eq l (header_of 2) && (slice_index bytes 16 == 1)) (first_of_file (header_of 1) epoch payloads bytes refl file)
+
+-- so it hinders no file of version 2
+pub old_beside : (epoch lower : ℕ) (payloads : List (List ℕ)) (bytes : List ℕ) → IsFile (header_of 1) epoch payloads bytes → IsSpare (header_of 2) lower bytes
+old_beside epoch lower payloads bytes file = record {
+  long = (sealed_file (header_of 1) epoch payloads bytes refl file).long;
+  lower = λ is. absurd (clash (sym (old_not_sealed epoch payloads bytes file) ∙ is));
+}
+  where
+    clash : false ≡ true → ⊥
+    clash e = cc
+
+-- a file that is not sealed as version 2 hinders none of its files
+pub not_sealed_beside : (bytes : List ℕ) → 18 ≤ length bytes → is_sealed (header_of 2) bytes ≡ false → IsSpare (header_of 2) 0 bytes
+not_sealed_beside bytes long not_sealed = record { long = long; lower = λ is. absurd (clash (sym not_sealed ∙ is)) }
+  where
+    clash : false ≡ true → ⊥
+    clash e = cc
+
+below_none : (bytes : List ℕ) → IsSpare (header_of 2) 0 bytes → is_sealed (header_of 2) bytes ≡ false
+below_none bytes spare = not_true (is_sealed (header_of 2) bytes) (λ is. absurd (omega (arith, spare.lower is)))
+
+neither : (a b : Bool) → a ≡ false → b ≡ false → (a || b) ≡ false
+neither false false one other = refl
+neither true b one other = cc
+neither false true one other = cc
+
+new_opens : (epoch : ℕ) (payloads : List (List ℕ)) (used other : List ℕ) → IsFile (header_of 1) epoch payloads used → IsFile (header_of 2) (epoch + 1) payloads other → MigratesTo epoch payloads used other × MigratesTo epoch payloads other used
+new_opens epoch payloads used other file new =
+    let opens = pair_opens (header_of 2) (epoch + 1) payloads other used refl new (old_beside epoch (epoch + 1) payloads used file) in
+    (inr opens.1, inr opens.0)
+
+-- the images of a pair while its list is written anew
+pub migrates : (epoch : ℕ) (payloads : List (List ℕ)) (used other : List ℕ) → IsFile (header_of 1) epoch payloads used → IsSpareOrNew (header_of 1) epoch (header_of 2) (epoch + 1) payloads other → IsSpareOrNew (header_of 2) 0 (header_of 2) (epoch + 1) payloads other
+    → MigratesTo epoch payloads used other × MigratesTo epoch payloads other used
+migrates epoch payloads used other file (inl harmless) (inl not_sealed) =
+    let opens = pair_opens (header_of 1) epoch payloads used other refl file harmless in
+    let here = old_not_sealed epoch payloads used file in
+    let there = below_none other not_sealed in
+    (inl (neither (is_sealed (header_of 2) used) (is_sealed (header_of 2) other) here there, opens.0), inl (neither (is_sealed (header_of 2) other) (is_sealed (header_of 2) used) there here, opens.1))
+migrates epoch payloads used other file (inr new) either = new_opens epoch payloads used other file new
+migrates epoch payloads used other file (inl harmless) (inr new) = new_opens epoch payloads used other file new
+
+either_false : (a b : Bool) → (a || b) ≡ false → (a ≡ false) × (b ≡ false)
+either_false false b is = (refl, is)
+either_false true b is = absurd (clash is)
+  where
+    clash : true ≡ false → ⊥
+    clash e = cc
+
+pub first_not_2 : (one other : List ℕ) → is_version_2 one other ≡ false → is_sealed (header_of 2) one ≡ false
+first_not_2 one other is = (either_false (is_sealed (header_of 2) one) (is_sealed (header_of 2) other) is).0
+
+pub second_not_2 : (one other : List ℕ) → is_version_2 one other ≡ false → is_sealed (header_of 2) other ≡ false
+second_not_2 one other is = (either_false (is_sealed (header_of 2) one) (is_sealed (header_of 2) other) is).1
+
+epoch_held : Opening → ℕ
+epoch_held (Holding epoch payloads) = epoch
+epoch_held Foreign = 0
+epoch_held (Damaged place) = 0
+
+payloads_held : Opening → List (List ℕ)
+payloads_held (Holding epoch payloads) = payloads
+payloads_held Foreign = []
+payloads_held (Damaged place) = []
+
+-- two ways to say what was found
+pub same_held : (a b : ℕ) (p q : List (List ℕ)) (one other : List ℕ) → Holding a p ≡ Holding b q → MigratesTo a p one other → MigratesTo b q one other
+unfolding epoch_held payloads_held
+same_held a b p q one other is m = subst (λ l. MigratesTo b l one other) (ap payloads_held is) (subst (λ e. MigratesTo e p one other) (ap epoch_held is) m)
+
+-- nothing was written
+pub untouched : (epoch : ℕ) (payloads : List (List ℕ)) (one other one_was other_was : List ℕ) → one ≡ one_was → other ≡ other_was → is_version_2 one_was other_was ≡ false → pair_opened (header_of 1) one_was other_was ≡ Holding epoch payloads → MigratesTo epoch payloads one other
+untouched epoch payloads one other one_was other_was e1 e2 version opens =
+    subst (λ l. MigratesTo epoch payloads l other) (sym e1) (subst (λ l. MigratesTo epoch payloads one_was l) (sym e2) (inl (version, opens)))
+
+module _ {D : Type 0} (honest : D → Bool) (content : D → List ℕ) (image : D → List ℕ → Type 0) (moment : D → ℕ) (since : D → ℕ → List ℕ → Type 0) (faults : D → ℕ) where
+  -- a disk that was only read
+  pub read_since : (old new : D) → IsOnlyRead honest content image moment since faults old new → honest old ≡ true → Only (content old) (image old) → (left : List ℕ) → since new (moment old) left → left ≡ content old
+  read_since old new read h only left was = only left ((read.any_moment h).each left was)
+
+  -- one that was written after it was read
+  written_since : (old mid new : D) (P : List ℕ → Type 0) → IsOnlyRead honest content image moment since faults old mid → honest old ≡ true → Only (content old) (image old) → P (content old) → LeavesOnly moment since mid new P → (left : List ℕ) → since new (moment old) left → P left
+  written_since old mid new P read h only p run =
+      (goes_on moment since old mid new P P (weaker moment since old mid (image old) P (read.any_moment h) (λ left now. subst P (sym (only left now)) p)) run (λ left q. q)).each
+
+  pub moving : (used used' other other' new : D) (epoch : ℕ) (payloads : List (List ℕ)) → IsOnlyRead honest content image moment since faults used used' → IsOnlyRead honest content image moment since faults other other' → honest used ≡ true → honest other ≡ true
+      → Only (content used) (image used) → Only (content other) (image other) → IsFile (header_of 1) epoch payloads (content used') → IsSpare (header_of 1) epoch (content other') → is_sealed (header_of 2) (content other) ≡ false
+      → ((kept : List ℕ) (lower : ℕ) → IsSpare kept lower (content other') → LeavesOnly moment since other' new (IsSpareOrNew kept lower (header_of 2) (epoch + 1) payloads))
+      → (one two : List ℕ) → since used' (moment used) one → since new (moment other) two → MigratesTo epoch payloads one two × MigratesTo epoch payloads two one
+  moving used used' other other' new epoch payloads read other_read h1 h2 only other_only file harmless not_2 run one two was_one was_two =
+      let is : one ≡ content used = read_since used used' read h1 only one was_one in
+      let held : IsFile (header_of 1) epoch payloads one = subst (IsFile (header_of 1) epoch payloads) (read.same h1 ∙ sym is) file in
+      let before : IsSpare (header_of 1) epoch (content other) = subst (IsSpare (header_of 1) epoch) (other_read.same h2) harmless in
+      let not_sealed : IsSpare (header_of 2) 0 (content other) = not_sealed_beside (content other) before.long not_2 in
+      let here = written_since other other' new (IsSpareOrNew (header_of 1) epoch (header_of 2) (epoch + 1) payloads) other_read h2 other_only (inl before) (run (header_of 1) epoch harmless) two was_two in
+      let there = written_since other other' new (IsSpareOrNew (header_of 2) 0 (header_of 2) (epoch + 1) payloads) other_read h2 other_only (inl not_sealed) (run (header_of 2) 0 (subst (IsSpare (header_of 2) 0) (sym (other_read.same h2)) not_sealed)) two was_two in
+      migrates epoch payloads one two held here there
+
+  module _ (first second first' second' new : D) (taken : Taken) (pair : IsReadPair honest content image faults (header_of 1) first' second' taken) (first_read : IsOnlyRead honest content image moment since faults first first') (second_read : IsOnlyRead honest content image moment since faults second second')
+      (h1 : honest first ≡ true) (h2 : honest second ≡ true) where
+    -- what both disks gave is what was read
+    pub opened_before : pair_opened (header_of 1) (content first) (content second) ≡ Holding taken.found.epoch taken.found.payloads.items
+    opened_before =
+        ap (λ l. pair_opened (header_of 1) l (content second)) (sym (first_read.same h1)) ∙ ap (λ l. pair_opened (header_of 1) (content first') l) (sym (second_read.same h2))
+        ∙ taken_opened (header_of 1) (content first') (content second') taken refl (pair.taken_is (first_read.honesty ∙ h1) (second_read.honesty ∙ h2))
+
+    module _ (version : is_version_2 (content first) (content second) ≡ false) (only : Only (content first) (image first)) (second_only : Only (content second) (image second)) (epoch : ℕ) (payloads : List (List ℕ)) (opens : pair_opened (header_of 1) (content first) (content second) ≡ Holding epoch payloads) (one two : List ℕ) where
+      -- the first disk is in use
+      pub moves_second : taken.swapped ≡ false → (honest second' ≡ true → (kept : List ℕ) (lower : ℕ) → IsSpare kept lower (content second') → LeavesOnly moment since second' new (IsSpareOrNew kept lower (header_of 2) (taken.found.epoch + 1) taken.found.payloads.items))
+          → since first' (moment first) one → since new (moment second) two → MigratesTo epoch payloads one two
+      moves_second is run was_one was_two =
+          let h1' = first_read.honesty ∙ h1 in
+          let h2' = second_read.honesty ∙ h2 in
+          let harmless = subst (λ (b : Bool). IsSpare (header_of 1) taken.found.epoch (if b then content first' else content second')) is (pair.taken_is h1' h2').beside in
+          same_held taken.found.epoch epoch taken.found.payloads.items payloads one two (sym opened_before ∙ opens)
+          (moving first first' second second' new taken.found.epoch taken.found.payloads.items first_read second_read h1 h2 only second_only (pair.first_file h1' is) harmless (second_not_2 (content first) (content second) version) (run h2') one two was_one was_two).0
+
+      -- the second disk is in use
+      pub moves_first : taken.swapped ≡ true → (honest first' ≡ true → (kept : List ℕ) (lower : ℕ) → IsSpare kept lower (content first') → LeavesOnly moment since first' new (IsSpareOrNew kept lower (header_of 2) (taken.found.epoch + 1) taken.found.payloads.items))
+          → since new (moment first) one → since second' (moment second) two → MigratesTo epoch payloads one two
+      moves_first is run was_one was_two =
+          let h1' = first_read.honesty ∙ h1 in
+          let h2' = second_read.honesty ∙ h2 in
+          let harmless = subst (λ (b : Bool). IsSpare (header_of 1) taken.found.epoch (if b then content first' else content second')) is (pair.taken_is h1' h2').beside in
+          same_held taken.found.epoch epoch taken.found.payloads.items payloads one two (sym opened_before ∙ opens)
+          (moving second second' first first' new taken.found.epoch taken.found.payloads.items second_read first_read h2 h1 second_only only (pair.second_file h2' is) harmless (first_not_2 (content first) (content second) version) (run h1') two one was_two was_one).1
