@@ -3,10 +3,11 @@ use Rattle.std.proofs.Common.{◌≡◌, ◌⊎◌, inl, inr, ◌==◌, ◌||◌
 use Rattle.std.proofs.lemmas.Bool.Decides.{nat_tests}
 use Rattle.std.specs.Cmp.Lexicographic.{pointwise}
 use Rattle.esm_io.specs.Images.{LeavesOnly, Only}
+use Rattle.esm_io.specs.Faults.{Rose}
 use Rattle.esm_journal.specs.File.{header_of, Opening, Holding, Foreign, Damaged, IsFile, eight_at}
 use Rattle.esm_journal.specs.Pair.{is_sealed, pair_opened, IsSpare}
 use Rattle.esm_journal.specs.Replace.{IsSpareOrNew}
-use Rattle.esm_journal.specs.Migrate.{is_version_2, with_next_epoch, MigratesTo}
+use Rattle.esm_journal.specs.Migrate.{is_version_2, with_next_epoch, migration, MigratesTo}
 use Rattle.esm_journal.specs.Taken.{IsTaken, IsReadPair}
 use Rattle.esm_journal.specs.declared.pair_reading.Taken.{Taken}
 use Rattle.esm_journal.specs.declared.found.Found.{Found}
@@ -162,3 +163,18 @@ module _ {D : Type 0} (honest : D → Bool) (content : D → List ℕ) (image : 
           let harmless = subst (λ (b : Bool). IsSpare (header_of 1) taken.found.epoch (if b then content first' else content second')) is (pair.taken_is h1' h2').beside in
           same_held taken.found.epoch epoch taken.found.payloads.items payloads one two (sym opened_before ∙ opens)
           (moving second second' first first' new taken.found.epoch taken.found.payloads.items second_read first_read h2 h1 second_only only (pair.second_file h2' is) harmless (first_not_2 (content first) (content second) version) (run h1') two one was_two was_one).1
+
+-- which of the two versions is opened
+pub as_version_2 : (one other : List ℕ) → is_version_2 one other ≡ true → migration one other ≡ pair_opened (header_of 2) one other
+as_version_2 one other is = ap (λ (b : Bool). if b then pair_opened (header_of 2) one other else with_next_epoch (pair_opened (header_of 1) one other)) is
+
+pub as_version_1 : (one other : List ℕ) → is_version_2 one other ≡ false → migration one other ≡ with_next_epoch (pair_opened (header_of 1) one other)
+as_version_1 one other is = ap (λ (b : Bool). if b then pair_opened (header_of 2) one other else with_next_epoch (pair_opened (header_of 1) one other)) is
+
+-- the same bytes
+pub same_pair : (header one other one' other' : List ℕ) → one' ≡ one → other' ≡ other → pair_opened header one other ≡ pair_opened header one' other'
+same_pair header one other one' other' e1 e2 = ap (λ l. pair_opened header l other) (sym e1) ∙ ap (λ l. pair_opened header one' l) (sym e2)
+
+pub rose_earlier : (before mid after before2 mid2 after2 : ℕ) → before ≤ mid → before2 ≤ mid2 → Rose mid after ⊎ Rose mid2 after2 → Rose before after ⊎ Rose before2 after2
+rose_earlier before mid after before2 mid2 after2 le le2 (inl rose) = inl (λ top. omega (arith, rose top, le))
+rose_earlier before mid after before2 mid2 after2 le le2 (inr rose) = inr (λ top. omega (arith, rose top, le2))

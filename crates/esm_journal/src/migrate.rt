@@ -1,9 +1,9 @@
 // From a pair of version 1 to one of version 2.
-ghost use Rattle.std.specs.Prelude.{◌≡◌, ◌⊎◌, ◌+◌, ◌<◌, ◌≤◌, ℕ, List, [], ◌∷◌, ◌++◌, true, false, min, length, IfOk, IfErr, OnErr};
+ghost use Rattle.std.specs.Prelude.{◌≡◌, ◌⊎◌, ◌==◌, if◌then◌else◌, ◌+◌, ◌<◌, ◌≤◌, ℕ, List, [], ◌∷◌, ◌++◌, true, false, min, length, IfOk, IfErr, OnErr};
 ghost use Rattle.esm_io.specs.Faults.{IsCount, Rose, MAX_FAULTS};
 ghost use Rattle.esm_io.specs.Images.{Only, LeavesOnly};
 ghost use Rattle.esm_journal.specs.File.{entries, end_of, header_of, eight_at, AreShort, IsFile, Holding, Foreign, Damaged};
-ghost use Rattle.esm_journal.specs.Migrate.{is_version_2, with_next_epoch, IsMoving};
+ghost use Rattle.esm_journal.specs.Migrate.{is_version_2, with_next_epoch, migration, IsMoving};
 ghost use Rattle.esm_journal.specs.Reads.{IsOnlyRead, RefusedFor};
 ghost use Rattle.esm_journal.specs.Pair.{IsSpare, IsOther, PairKeeps, pair_opened, first_disk, second_disk};
 ghost use Rattle.esm_journal.specs.Replace.{IsSpareOrNew};
@@ -12,7 +12,7 @@ use crate::error::OpenError;
 use crate::format::PAIR;
 use crate::found::Found;
 use crate::log::Log;
-use crate::old_pair::{OldPair, read_old_pair};
+use crate::old_pair::{OldPair, has_version_2, read_old_pair};
 use crate::pair::Pair;
 use crate::pair_reading::Taken;
 use crate::replace::replace_file;
@@ -107,8 +107,8 @@ impl<D: Disk> Pair<D> {
         ensures found { D.honest journal ≡ true → D.honest spare ≡ true → IfOk result (λ pair. (epoch : ℕ) × (with_next_epoch (pair_opened (header_of 1) (D.content journal) (D.content spare)) ≡ Holding epoch pair.payloads) × (pair.epoch ≡ epoch + 1)) }
         ensures kept { D.honest journal ≡ true → D.honest spare ≡ true → IfOk result (λ pair. PairKeeps D.content D.image (header_of 2) pair.epoch pair.payloads pair.used pair.spare) }
         ensures fresh { IfOk result (λ pair. (pair.down ≡ false) × (pair.room ≡ [])) }
-        ensures images { D.honest journal ≡ true → D.honest spare ≡ true → is_version_2 (D.content journal) (D.content spare) ≡ false → Only (D.content journal) (D.image journal) → Only (D.content spare) (D.image spare) →
-            IfOk result (λ pair. IsMoving D.moment D.image_since (D.content journal) (D.content spare) journal spare (first_disk pair) (second_disk pair)) }
+        ensures images { (first second : D) → IsOnlyRead D.honest D.content D.image D.moment D.image_since D.faults first journal → IsOnlyRead D.honest D.content D.image D.moment D.image_since D.faults second spare → D.honest first ≡ true → D.honest second ≡ true → is_version_2 (D.content first) (D.content second) ≡ false → Only (D.content first) (D.image first) → Only (D.content second) (D.image second) →
+            IfOk result (λ pair. IsMoving D.moment D.image_since (D.content first) (D.content second) first second (first_disk pair) (second_disk pair)) }
         ensures honesty { IfOk result (λ pair. (D.honest (first_disk pair) ≡ D.honest journal) × (D.honest (second_disk pair) ≡ D.honest spare)) }
         ensures count { IfOk result (λ pair. (D.faults journal ≤ D.faults (first_disk pair)) × (D.faults spare ≤ D.faults (second_disk pair))) }
         ensures refused { IfErr result (λ refused. RefusedFor
@@ -117,8 +117,8 @@ impl<D: Disk> Pair<D> {
             (Rose (D.faults journal) (D.faults refused.back.0) ⊎ Rose (D.faults spare) (D.faults refused.back.1)) refused.why) }
         ensures first_back { IfErr result (λ refused. (refused.why ≡ OpenError.DiskFault → ⊥) → IsOnlyRead D.honest D.content D.image D.moment D.image_since D.faults journal refused.back.0) }
         ensures second_back { IfErr result (λ refused. (refused.why ≡ OpenError.DiskFault → ⊥) → IsOnlyRead D.honest D.content D.image D.moment D.image_since D.faults spare refused.back.1) }
-        ensures images_back { D.honest journal ≡ true → D.honest spare ≡ true → is_version_2 (D.content journal) (D.content spare) ≡ false → Only (D.content journal) (D.image journal) → Only (D.content spare) (D.image spare) →
-            IfErr result (λ refused. IsMoving D.moment D.image_since (D.content journal) (D.content spare) journal spare refused.back.0 refused.back.1) }
+        ensures images_back { (first second : D) → IsOnlyRead D.honest D.content D.image D.moment D.image_since D.faults first journal → IsOnlyRead D.honest D.content D.image D.moment D.image_since D.faults second spare → D.honest first ≡ true → D.honest second ≡ true → is_version_2 (D.content first) (D.content second) ≡ false → Only (D.content first) (D.image first) → Only (D.content second) (D.image second) →
+            IfErr result (λ refused. IsMoving D.moment D.image_since (D.content first) (D.content second) first second refused.back.0 refused.back.1) }
         ensures honesty_back { IfErr result (λ refused. (D.honest refused.back.0 ≡ D.honest journal) × (D.honest refused.back.1 ≡ D.honest spare)) }
         ensures count_back { IfErr result (λ refused. (D.faults journal ≤ D.faults refused.back.0) × (D.faults spare ≤ D.faults refused.back.1)) }
     {
@@ -158,6 +158,57 @@ impl<D: Disk> Pair<D> {
             }
             Err(why) => Err(Refused {
                 why,
+                back: (first, second),
+            }),
+        }
+    }
+
+    /// Opens a pair of version 2 as it is, and writes nothing. A pair of version 1 it writes anew: the same list, on the
+    /// disk that was not in use, with the header `ESMJ0002` and the next epoch. The refusals are those of `open`, by the
+    /// header of version 1 where neither disk is sealed as version 2, and `Damaged(8)` where there is no next epoch. A crash
+    /// at any moment leaves a pair that opens as version 1 to its list or as version 2 to the same.
+    pub fn migrate(
+        alloc: Global,
+        journal: D,
+        spare: D,
+    ) -> Result<Migrated<D>, Refused<OpenError, (D, D)>>
+        ensures version { D.honest journal ≡ true → D.honest spare ≡ true → IfOk result (λ done. done.was ≡ (if is_version_2 (D.content journal) (D.content spare) then 2 else 1)) }
+        ensures found { D.honest journal ≡ true → D.honest spare ≡ true → IfOk result (λ done. (epoch : ℕ) × (migration (D.content journal) (D.content spare) ≡ Holding epoch done.pair.payloads) × (done.pair.epoch ≡ (if done.was == 1 then epoch + 1 else epoch))) }
+        ensures kept { D.honest journal ≡ true → D.honest spare ≡ true → IfOk result (λ done. PairKeeps D.content D.image (header_of 2) done.pair.epoch done.pair.payloads done.pair.used done.pair.spare) }
+        ensures fresh { IfOk result (λ done. (done.pair.down ≡ false) × (done.pair.room ≡ [])) }
+        ensures count { IfOk result (λ done. done.count ≡ min (length done.pair.payloads) 4294967295) }
+        ensures first_read { IfOk result (λ done. done.was ≡ 2 → IsOnlyRead D.honest D.content D.image D.moment D.image_since D.faults journal (first_disk done.pair)) }
+        ensures second_read { IfOk result (λ done. done.was ≡ 2 → IsOnlyRead D.honest D.content D.image D.moment D.image_since D.faults spare (second_disk done.pair)) }
+        ensures images { D.honest journal ≡ true → D.honest spare ≡ true → is_version_2 (D.content journal) (D.content spare) ≡ false → Only (D.content journal) (D.image journal) → Only (D.content spare) (D.image spare) →
+            IfOk result (λ done. IsMoving D.moment D.image_since (D.content journal) (D.content spare) journal spare (first_disk done.pair) (second_disk done.pair)) }
+        ensures honesty { IfOk result (λ done. (D.honest (first_disk done.pair) ≡ D.honest journal) × (D.honest (second_disk done.pair) ≡ D.honest spare)) }
+        ensures faults { IfOk result (λ done. (D.faults journal ≤ D.faults (first_disk done.pair)) × (D.faults spare ≤ D.faults (second_disk done.pair))) }
+        ensures refused { IfErr result (λ refused. RefusedFor
+            (λ first. D.honest journal ≡ true → D.honest spare ≡ true → (migration (D.content journal) (D.content spare) ≡ Foreign) × (first ≡ eight_at (D.content journal) 0))
+            (λ place. D.honest journal ≡ true → D.honest spare ≡ true → migration (D.content journal) (D.content spare) ≡ Damaged place)
+            (Rose (D.faults journal) (D.faults refused.back.0) ⊎ Rose (D.faults spare) (D.faults refused.back.1)) refused.why) }
+        ensures first_back { IfErr result (λ refused. (refused.why ≡ OpenError.DiskFault → ⊥) → IsOnlyRead D.honest D.content D.image D.moment D.image_since D.faults journal refused.back.0) }
+        ensures second_back { IfErr result (λ refused. (refused.why ≡ OpenError.DiskFault → ⊥) → IsOnlyRead D.honest D.content D.image D.moment D.image_since D.faults spare refused.back.1) }
+        ensures images_back { D.honest journal ≡ true → D.honest spare ≡ true → is_version_2 (D.content journal) (D.content spare) ≡ false → Only (D.content journal) (D.image journal) → Only (D.content spare) (D.image spare) →
+            IfErr result (λ refused. IsMoving D.moment D.image_since (D.content journal) (D.content spare) journal spare refused.back.0 refused.back.1) }
+        ensures unwritten_back { D.honest journal ≡ true → D.honest spare ≡ true → is_version_2 (D.content journal) (D.content spare) ≡ true → IfErr result (λ refused.
+            IsOnlyRead D.honest D.content D.image D.moment D.image_since D.faults journal refused.back.0 × IsOnlyRead D.honest D.content D.image D.moment D.image_since D.faults spare refused.back.1) }
+        ensures honesty_back { IfErr result (λ refused. (D.honest refused.back.0 ≡ D.honest journal) × (D.honest refused.back.1 ≡ D.honest spare)) }
+        ensures faults_back { IfErr result (λ refused. (D.faults journal ≤ D.faults refused.back.0) × (D.faults spare ≤ D.faults refused.back.1)) }
+    {
+        let mut first = journal;
+        let mut second = spare;
+        match has_version_2(&mut first, &mut second) {
+            Ok(true) => match Pair::open(alloc, first, second) {
+                Ok(pair) => Ok(Migrated::of(pair, 2)),
+                Err(refused) => Err(refused),
+            },
+            Ok(false) => match Pair::open_old(alloc, first, second) {
+                Ok(pair) => Ok(Migrated::of(pair, 1)),
+                Err(refused) => Err(refused),
+            },
+            Err(_) => Err(Refused {
+                why: OpenError::DiskFault,
                 back: (first, second),
             }),
         }
