@@ -4,13 +4,12 @@ use Rattle.std.proofs.lemmas.Bool.Decides.{nat_tests}
 use Rattle.std.specs.Cmp.Lexicographic.{pointwise}
 use Rattle.esm_io.specs.Images.{LeavesOnly, Only}
 use Rattle.esm_io.specs.Faults.{Rose}
-use Rattle.esm_journal.specs.File.{header_of, Opening, Holding, Foreign, Damaged, IsFile, eight_at}
+use Rattle.esm_journal.specs.File.{header_of, Opening, Holding, Foreign, Damaged, IsFile}
 use Rattle.esm_journal.specs.Pair.{is_sealed, pair_opened, IsSpare}
 use Rattle.esm_journal.specs.Replace.{IsSpareOrNew}
 use Rattle.esm_journal.specs.Migrate.{is_version_2, with_next_epoch, migration, MigratesTo}
 use Rattle.esm_journal.specs.Taken.{IsTaken, IsReadPair}
 use Rattle.esm_journal.specs.declared.pair_reading.Taken.{Taken}
-use Rattle.esm_journal.specs.declared.found.Found.{Found}
 use Rattle.esm_journal.proofs.Files.{first_of_file}
 use Rattle.esm_journal.proofs.Heads.{not_true}
 use Rattle.esm_journal.proofs.Pairs.{pair_opens, sealed_file}

@@ -151,3 +151,22 @@ fn rewrite_stopped(rt: HostRuntime) -> Result<(), Fail> {
     assert_eq!(rt; left_of_list(alloc, 9, 165)?, 2);
     Ok(())
 }
+
+#[test]
+fn migrate_once(rt: HostRuntime) -> Result<(), Fail> {
+    let alloc = rt.alloc();
+    let spare = *b"ESMJ0001\0\0\0\0\0\0\0\0\0\0";
+    let journal = MemDisk::new(alloc, FILE.to_vec(alloc)?, Vec::new(alloc));
+    let spare = MemDisk::new(alloc, spare.to_vec(alloc)?, Vec::new(alloc));
+    let moved = Pair::migrate(alloc, journal, spare)?;
+    assert_eq!(rt; moved.was, 1);
+    assert_eq!(rt; moved.count, 1);
+    let (journal, spare) = moved.pair.into_disks();
+    assert_eq!(rt; spare.bytes().len(), 52);
+    let (head, _) = spare.bytes().split_at(17);
+    assert_eq!(rt; head, b"ESMJ0002\0\0\0\0\0\0\0\x02\x01".as_slice());
+    let again = Pair::migrate(alloc, journal, spare)?;
+    assert_eq!(rt; again.was, 2);
+    assert_eq!(rt; again.pair.payloads().len(), 1);
+    Ok(())
+}

@@ -1,4 +1,4 @@
-use Rattle.std.proofs.Common.{refl, ap, subst, sym, ◌∙◌, ◌≡◌, true}
+use Rattle.std.proofs.Common.{refl, ap, subst, sym, ◌∙◌}
 use Rattle.esm_journal.specs.File.{header_of, IsFile}
 use Rattle.esm_journal.specs.Pair.{IsOther}
 use Rattle.esm_journal.specs.Migrate.{with_next_epoch}

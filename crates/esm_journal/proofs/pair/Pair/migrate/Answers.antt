@@ -1,6 +1,6 @@
-use Rattle.std.proofs.Common.{◌≡◌, ◌∙◌, true, false, refl, sym, ap}
+use Rattle.std.proofs.Common.{◌∙◌, refl, sym, ap}
 use Rattle.esm_journal.specs.File.{header_of, eight_at}
-use Rattle.esm_journal.specs.Pair.{first_disk, second_disk}
+use Rattle.esm_journal.specs.Pair.{first_disk}
 use Rattle.esm_journal.specs.Migrate.{with_next_epoch}
 use Rattle.esm_journal.proofs.Migrations.{as_version_1, as_version_2, same_pair, rose_earlier, read_since, untouched}
 use Rattle.esm_journal.proofs.Runs.{reads_on, refused_more}

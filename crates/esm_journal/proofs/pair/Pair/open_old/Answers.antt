@@ -1,4 +1,4 @@
-use Rattle.std.proofs.Common.{◌≡◌, ◌∙◌, Bool, true, false, if◌then◌else◌, List, ℕ, refl, sym, ap, subst}
+use Rattle.std.proofs.Common.{◌≡◌, ◌∙◌, Bool, if◌then◌else◌, sym, ap, subst}
 use Rattle.esm_journal.specs.File.{Holding}
 use Rattle.esm_journal.specs.Pair.{first_disk, second_disk}
 use Rattle.esm_journal.specs.Migrate.{with_next_epoch}
