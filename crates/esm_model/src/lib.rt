@@ -13,8 +13,10 @@ pub mod kept;
 pub mod lane;
 pub mod laws;
 pub mod memory;
+pub mod moment;
 pub mod sequence;
 pub mod setup;
+pub mod spelling;
 #[cfg(test)]
 mod tests;
 pub mod text;
@@ -30,6 +32,7 @@ pub use item::{Message, Record};
 pub use kept::Kept;
 pub use lane::{LaneId, lane_of};
 pub use memory::OutOfMemory;
+pub use moment::MAX_MOMENT;
 pub use sequence::{Seq, SeqError};
 pub use setup::{
     DeletionFound, DiskFound, FateFound, Setup, StateFound, Told, TriesFound, WindowTriesFound,

@@ -1,9 +1,8 @@
-ghost use Rattle.std.specs.Prelude.{◌≡◌, ◌≢◌, ◌==◌, ◌||◌, ◌<◌, not, true, false, length, slice_index, IfOk};
-ghost use Rattle.std.specs.List.{list_all};
-ghost use Rattle.std.specs.Char.{is_ascii_digit};
+ghost use Rattle.std.specs.Prelude.{◌≡◌, ◌≢◌, true, false, IfOk};
 ghost use Rattle.esm_model.specs.Sequence.{is_sequence, sequence_order};
 ghost use Rattle.esm_model.specs.declared.sequence.SeqError.TheVariants.{OutOfMemory};
 
+use crate::spelling::is_sequence;
 use crate::text::Text;
 use std::alloc::{AllocError, Global};
 use std::cmp::Ordering;
@@ -42,28 +41,6 @@ impl From<AllocError> for SeqError {
     fn from(_: AllocError) -> Self {
         SeqError::OutOfMemory
     }
-}
-
-fn is_sequence(text: &[u8]) -> bool
-    ensures { result ≡ is_sequence text.now }
-{
-    if text.is_empty() || text.len() > 129 || !are_digits(text) {
-        return false;
-    }
-    is_short_or_leads(text)
-}
-
-fn are_digits(text: &[u8]) -> bool
-    ensures { result ≡ list_all is_ascii_digit text.now }
-{
-    text.iter().all(|d| d.is_ascii_digit())
-}
-
-fn is_short_or_leads(text: &[u8]) -> bool
-    requires { 0 < length text.now }
-    ensures { result ≡ ((length text.now == 1) || not (slice_index text.now 0 == 48)) }
-{
-    text.len() == 1 || text[0] != b'0'
 }
 
 impl Seq {
