@@ -5,6 +5,8 @@ ghost use Rattle.esm_model.specs.Valid.{is_account, is_between, is_name_byte, is
 ghost use Rattle.std.specs.Prelude.{length};
 ghost use Rattle.esm_config.specs.Arn.{cut, strip};
 
+use esm_model::spelling::{are_digits, are_name_bytes, is_name_byte};
+
 /// The text after the prefix, where it begins with it.
 pub fn strip<'a>(text: &'a str, prefix: &str) -> Option<&'a str>
     ensures { option_map (λ s. s.now) result ≡ strip prefix.now text.entry.now }
@@ -25,12 +27,6 @@ fn is_region_byte(b: u8) -> bool
     b.is_ascii_lowercase() || b.is_ascii_digit() || b == b'-'
 }
 
-fn is_name_byte(b: u8) -> bool
-    ensures { result ≡ is_name_byte b }
-{
-    b.is_ascii_alphabetic() || b.is_ascii_digit() || b == b'-' || b == b'_'
-}
-
 fn is_stream_byte(b: u8) -> bool
     ensures { result ≡ is_stream_byte b }
 {
@@ -47,18 +43,6 @@ fn are_region_bytes(text: &[u8]) -> bool
     ensures { result ≡ list_all is_region_byte text.now }
 {
     text.iter().all(|b| is_region_byte(*b))
-}
-
-fn are_digits(text: &[u8]) -> bool
-    ensures { result ≡ list_all is_ascii_digit text.now }
-{
-    text.iter().all(|b| b.is_ascii_digit())
-}
-
-fn are_name_bytes(text: &[u8]) -> bool
-    ensures { result ≡ list_all is_name_byte text.now }
-{
-    text.iter().all(|b| is_name_byte(*b))
 }
 
 fn are_stream_bytes(text: &[u8]) -> bool

@@ -2,7 +2,7 @@
 ghost use Rattle.std.specs.Prelude.{◌≡◌, ◌≤◌, ◌+◌, ◌-◌, ◌++◌, [], All, Some, codes, length, sum_by, vec_len, OnOk, IfOk};
 ghost use Rattle.std.specs.Option.{option_copied, ForSome};
 ghost use Rattle.std.specs.List.{join_by, flat_map};
-ghost use Rattle.esm_model.specs.Moment.{MAX_MOMENT, moment_after};
+ghost use Rattle.esm_model.specs.Moment.{MAX_MOMENT as LAST_MOMENT, moment_after};
 ghost use Rattle.esm_model.specs.Valid.{IsValidRecord, IsStreamConfig};
 ghost use Rattle.esm_model.specs.ValidCall.{IsValidWindowCall};
 ghost use Rattle.esm_event.specs.Elements.{element_text, following_text};
@@ -13,11 +13,8 @@ use crate::dates::push_second;
 use crate::json::push_truth;
 use crate::length::{frame_bytes, stream_bytes};
 use crate::record::{push_record, push_shard_id, source_text};
-use esm_model::{Config, OutOfMemory, Record, WindowCall};
+use esm_model::{Config, MAX_MOMENT, OutOfMemory, Record, WindowCall};
 use std::alloc::Global;
-
-/// The last moment that a date of four digits can show: 9999-12-31T23:59:59.999Z.
-const LAST_MOMENT: u64 = 253_402_300_799_999;
 
 /// The event's text for a batch of the stream, with the window's part where the call is one of a tumbling window
 /// (Lambda Developer Guide, "Using Lambda with Kinesis").
@@ -129,7 +126,7 @@ fn push_window(
 }
 
 fn push_span(out: &mut Vec<u8>, config: &Config, call: &WindowCall) -> Result<(), OutOfMemory>
-    requires { call.now.state.window ≤ MAX_MOMENT }
+    requires { call.now.state.window ≤ LAST_MOMENT }
     ensures { OnOk result (out.new.items ≡ out.old.items ++ span_part config.now call.now) }
 {
     let start = call.state.window;
@@ -143,11 +140,11 @@ fn push_span(out: &mut Vec<u8>, config: &Config, call: &WindowCall) -> Result<()
 }
 
 fn moment_after(moment: u64, milliseconds: u64) -> u64
-    requires { moment ≤ MAX_MOMENT }
+    requires { moment ≤ LAST_MOMENT }
     ensures value { result ≡ moment_after moment milliseconds }
-    ensures bound { result ≤ MAX_MOMENT }
+    ensures bound { result ≤ LAST_MOMENT }
 {
-    moment.saturating_add(milliseconds).min(LAST_MOMENT)
+    moment.saturating_add(milliseconds).min(MAX_MOMENT)
 }
 
 fn push_state(out: &mut Vec<u8>, text: &[u8]) -> Result<(), OutOfMemory>

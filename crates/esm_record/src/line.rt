@@ -12,20 +12,13 @@ ghost use Rattle.esm_record.specs.Line as spec;
 use crate::error::{Field, LineError, Refusal};
 use base64::DecodeAllocError;
 use base64::engine::general_purpose::STANDARD;
-use esm_model::{Bytes, OutOfMemory, Record, Seq, SeqError, Text};
+use esm_model::spelling::are_digits;
+use esm_model::{Bytes, MAX_MOMENT, OutOfMemory, Record, Seq, SeqError, Text};
 use serde_json::Value;
 use std::alloc::Global;
 
-/// The greatest moment, in milliseconds: 9999-12-31T23:59:59.999Z.
-const MAX_MOMENT: u64 = 253402300799999;
 /// The bytes that a record's data has at most.
 const MAX_DATA: usize = 1048576;
-
-fn are_digits(text: &[u8]) -> bool
-    ensures { result ≡ list_all is_ascii_digit text.now }
-{
-    text.iter().all(|d| d.is_ascii_digit())
-}
 
 fn begins_as_shard_id(text: &[u8]) -> bool
     ensures { result ≡ starts_with nat_eq text.now (codes "shardId-") }

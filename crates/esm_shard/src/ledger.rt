@@ -15,9 +15,9 @@ ghost use Rattle.esm_shard.specs.Table.{group_slots};
 ghost use Rattle.esm_shard.specs.Ledger.{past_of, setting_of, view_of, lane_of_ledger, Keeps, HasRoom, rest_of, IsLaneNext, HasPlaces, begun_entries, IsJobOf, MayBeginAt};
 
 use crate::gather::gathered;
-use crate::slot::{MAX_MOMENT, Slot, cut, delay_end, fated_past, first_group, is_ready};
+use crate::slot::{Slot, cut, delay_end, fated_past, first_group, is_ready};
 use esm_event::stream_event;
-use esm_model::{Bytes, Config, Entry, Job, LaneId, Next, OutOfMemory, Places, Record};
+use esm_model::{Bytes, Config, Entry, Job, LaneId, MAX_MOMENT, Next, OutOfMemory, Places, Record};
 use std::alloc::Global;
 
 /// A history is refused where it would come to so many entries.

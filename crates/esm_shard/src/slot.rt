@@ -6,11 +6,8 @@ ghost use Rattle.esm_model.specs.Moment.{MAX_MOMENT as LAST_MOMENT};
 ghost use Rattle.esm_shard.specs.Table.{is_fated, IsPoint, group_slots, is_same_slot, fits_records, slot_at, marked_at, marked_slot, side_slot, fated_slot, AreDistinct, ready_test};
 
 use esm_event::{frame_bytes, stream_bytes};
-use esm_model::{Config, OutOfMemory, Record, Rest};
+use esm_model::{Config, MAX_MOMENT, OutOfMemory, Record, Rest};
 use std::alloc::Global;
-
-/// The greatest moment, 9999-12-31T23:59:59.999Z, in milliseconds since 1970.
-pub const MAX_MOMENT: u64 = 253402300799999;
 
 /// The greatest length of an event's text, in bytes (Lambda quotas, 6 MB for a synchronous invocation).
 pub const MAX_EVENT: u64 = 6291456;
