@@ -2,3 +2,4 @@ pub mod Fronts
 pub mod Elapsed
 pub mod DiskCalls
 pub mod Crashed
+pub mod Within

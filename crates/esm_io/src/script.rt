@@ -2,6 +2,7 @@ ghost use Rattle.std.specs.Prelude.{◌≡◌, slice_index_or, IfOk};
 ghost use Rattle.esm_io.specs.Script.{answer_of, is_within, plain_reply, error_reply};
 
 use esm_model::{Bytes, OutOfMemory, Reply};
+use memchr::memmem;
 use std::alloc::Global;
 
 /// What a scripted caller answers. It holds no `Lost`.
@@ -57,14 +58,7 @@ fn empty_reply(alloc: Global, error: bool) -> Reply
 fn contains(event: &[u8], text: &[u8]) -> bool
     ensures { result ≡ is_within text.now event.now }
 {
-    let mut rest = event;
-    while let [_, after @ ..] = rest {
-        if rest.starts_with(text) {
-            return true;
-        }
-        rest = after;
-    }
-    text.is_empty()
+    memmem::find(event, text).is_some()
 }
 
 /// A copy of a reply.
