@@ -1,4 +1,4 @@
-ghost use Rattle.std.specs.Prelude.{◌≡◌, ℕ, Some, [], ◌∷◌, ◌++◌, true, false, if◌then◌else◌, IfOk, OnOk, OnErr};
+ghost use Rattle.std.specs.Prelude.{◌≡◌, ℕ, Some, [], ◌∷◌, ◌++◌, map, true, false, if◌then◌else◌, IfOk, IfSome, OnOk, OnErr};
 ghost use Rattle.esm_io.specs.Faults.{IsCount, Rose};
 ghost use Rattle.esm_io.specs.Told.{Grows};
 ghost use Rattle.esm_io.specs.Schedule.{is_due, one_more};
@@ -11,25 +11,29 @@ use crate::script::{Script, answer, copy_reply};
 use esm_model::{Bytes, Called, OutOfMemory, Reply, Text};
 use std::alloc::Global;
 use std::marker::Model;
+use std::snapshot::Snapshot;
 
-/// A caller in memory that answers by a script, and tells the calls made.
-#[derive(Drop, Debug)]
+/// A caller in memory that answers by a script, and tells the calls made. Contracts see them all; copies that a program
+/// can read are kept only where it is made by `recording`, so a long run does not keep the events that it sent.
+#[derive(Drop)]
 pub struct ScriptCaller {
     script: Script,
     given: usize,
-    log: Vec<Called>,
+    log: Vec<Snapshot<Called>>,
+    copies: Option<Vec<Called>>,
     schedule: Schedule,
 }
 
 impl Model for ScriptCaller {
+    ghost use Rattle.std.specs.Prelude.{map, ◌≡◌, IfSome};
     ghost use Rattle.esm_io.specs.Caller.{CallerState};
     ghost use Rattle.esm_io.specs.Script.{HasNoLost};
 
     ghost Value = { CallerState };
 
-    ghost view = { λ s. record { script = s.script; given = s.given; log = s.log.items; schedule = s.schedule } };
+    ghost view = { λ s. record { script = s.script; given = s.given; log = map (λ c. c.value) s.log.items; schedule = s.schedule } };
 
-    ghost invariant = { λ s. HasNoLost s.script };
+    ghost invariant = { λ s. HasNoLost s.script × IfSome s.copies (λ c. c.items ≡ map (λ c. c.value) s.log.items) };
 }
 
 impl ScriptCaller {
@@ -45,37 +49,68 @@ impl ScriptCaller {
             script,
             given: 0,
             log: Vec::new(alloc),
+            copies: None,
             schedule: Schedule::new(fails),
         }
     }
 
-    /// The calls made, in order.
-    pub fn log(&self) -> &[Called]
-        ensures { result.now ≡ self.now.log }
+    /// The same, and it keeps copies of the calls.
+    pub fn recording(alloc: Global, script: Script, fails: Vec<u64>) -> Self
+        requires { HasNoLost script }
+        ensures script { result.script ≡ script }
+        ensures given { result.given ≡ 0 }
+        ensures log { result.log ≡ [] }
+        ensures schedule { result.schedule ≡ record { fails = fails.items; calls = 0; faults = 0 } }
     {
-        &self.log
+        ScriptCaller {
+            script,
+            given: 0,
+            log: Vec::new(alloc),
+            copies: Some(Vec::new(alloc)),
+            schedule: Schedule::new(fails),
+        }
+    }
+
+    /// The calls made, in order, where it keeps copies of them.
+    pub fn log(&self) -> Option<&[Called]>
+        ensures { IfSome result (λ log. log.now ≡ self.now.log) }
+    {
+        match &self.copies {
+            Some(copies) => Some(copies.as_slice()),
+            None => None,
+        }
     }
 }
 
-/// Puts a call at the end of the log, and gives its reply back.
-fn log_call(
-    log: &mut Vec<Called>,
-    alloc: Global,
-    name: &str,
-    event: &[u8],
-    reply: Reply,
-) -> Result<Reply, OutOfMemory>
-    ensures same { IfOk result (λ same. same ≡ reply) }
-    ensures logged { OnOk result (log.new.items ≡ log.old.items ++ record { name = name.now; event = event.now; reply = reply } ∷ []) }
-    ensures unlogged { OnErr result (log.new.items ≡ log.old.items) }
+/// A call as it is told.
+fn called(alloc: Global, name: &str, event: &[u8], reply: &Reply) -> Result<Called, OutOfMemory>
+    ensures { IfOk result (λ called. called ≡ record { name = name.now; event = event.now; reply = reply.now }) }
 {
-    let called = Called {
+    Ok(Called {
         name: Text::from_vec(String::from_str(alloc, name)?),
         event: Bytes::from_vec(Vec::from_slice(alloc, event)?),
-        reply: copy_reply(alloc, &reply)?,
-    };
-    log.push(called)?;
-    Ok(reply)
+        reply: copy_reply(alloc, reply)?,
+    })
+}
+
+/// Puts a call at the end of the log, and of the copies where there are any.
+fn log_call(
+    log: &mut Vec<Snapshot<Called>>,
+    copies: &mut Option<Vec<Called>>,
+    called: Called,
+) -> Result<(), OutOfMemory>
+    requires { IfSome copies.old (λ c. c.items ≡ map (λ c. c.value) log.old.items) }
+    ensures logged { OnOk result (map (λ c. c.value) log.new.items ≡ map (λ c. c.value) log.old.items ++ called ∷ []) }
+    ensures unlogged { OnErr result (map (λ c. c.value) log.new.items ≡ map (λ c. c.value) log.old.items) }
+    ensures copies { IfSome copies.new (λ c. c.items ≡ map (λ c. c.value) log.new.items) }
+{
+    log.reserve(1)?;
+    let told = Snapshot::of(&called);
+    if let Some(copies) = copies {
+        copies.push(called)?;
+    }
+    log.push_reserved(told);
+    Ok(())
 }
 
 impl Caller for ScriptCaller {
@@ -97,10 +132,13 @@ impl Caller for ScriptCaller {
         ensures script { self.new.script ≡ self.old.script }
     {
         if self.schedule.fails_now() {
-            return log_call(&mut self.log, alloc, name, event, Reply::Lost);
+            let called = called(alloc, name, event, &Reply::Lost)?;
+            log_call(&mut self.log, &mut self.copies, called)?;
+            return Ok(Reply::Lost);
         }
         let reply = answer(alloc, &self.script, self.given, event)?;
-        let reply = log_call(&mut self.log, alloc, name, event, reply)?;
+        let called = called(alloc, name, event, &reply)?;
+        log_call(&mut self.log, &mut self.copies, called)?;
         self.given = self.given.saturating_add(1);
         Ok(reply)
     }

@@ -103,7 +103,7 @@ fn caller(alloc: Global, key: &str) -> Result<ScriptCaller, OutOfMemory> {
     let mut text = Vec::from_slice(alloc, b"\"partitionKey\":\"")?;
     text.extend_from_slice(key.as_bytes())?;
     text.push(b'"')?;
-    Ok(ScriptCaller::new(
+    Ok(ScriptCaller::recording(
         alloc,
         Script::Poison(Bytes::from_vec(text)),
         Vec::new(alloc),
@@ -154,10 +154,14 @@ fn calls(alloc: Global, trace: &[Entry]) -> Result<Vec<(u64, usize)>, OutOfMemor
 
 fn events(alloc: Global, callers: &[ScriptCaller]) -> Result<Vec<usize>, OutOfMemory> {
     let mut events = Vec::new(alloc);
-    if let Some(caller) = callers.first() {
-        for called in caller.log() {
-            events.push(called.event.as_slice().len())?;
-        }
+    let Some(caller) = callers.first() else {
+        return Ok(events);
+    };
+    let Some(log) = caller.log() else {
+        return Ok(events);
+    };
+    for called in log {
+        events.push(called.event.as_slice().len())?;
     }
     Ok(events)
 }
