@@ -58,7 +58,7 @@ impl MemDest {
     }
 }
 
-/// Adds a line, in the room that was made for it where there is enough.
+/// Adds a line, in the room that was made for it where there is enough; or leaves the lines and at least that room.
 fn add_line(
     alloc: Global,
     lines: &mut Vec<Bytes>,
@@ -69,10 +69,13 @@ fn add_line(
     ensures added { OnOk result (lines.new.items ≡ lines.old.items ++ line.now ∷ []) }
     ensures unadded { OnErr result (lines.new.items ≡ lines.old.items) }
     ensures full { OnErr result (vec_len lines.old < vec_capacity lines.old → length line.now ≤ vec_capacity room.old → ⊥) }
+    ensures lines_room { OnErr result (vec_capacity lines.old ≤ vec_capacity lines.new) }
+    ensures line_room { OnErr result (vec_capacity room.old ≤ vec_capacity room.new) }
     ensures room { vec_len room.new ≡ 0 }
 {
-    let mut bytes = std::mem::replace(room, Vec::new(alloc));
-    bytes.extend_from_slice(line)?;
+    lines.reserve(1)?;
+    room.extend_from_slice(line)?;
+    let bytes = std::mem::replace(room, Vec::new(alloc));
     lines.push(Bytes::from_vec(bytes))?;
     Ok(())
 }
@@ -88,12 +91,13 @@ impl Dest for MemDest {
 
     ghost has_room = { λ s n. n < s.room };
 
-    /// It is not counted among the calls that are to fail.
+    /// It is not counted among the calls that are to fail. After an `Err` nothing has changed.
     fn reserve(&mut self, alloc: Global, bytes: u64) -> Result<(), OutOfMemory>
         ensures room { OnOk result ((n : ℕ) → n ≤ bytes → n < self.new.room) }
         ensures lines_kept { self.new.lines ≡ self.old.lines }
         ensures failed_kept { self.new.failed ≡ self.old.failed }
         ensures count { self.new.schedule ≡ self.old.schedule }
+        ensures room_kept { OnErr result (self.new.room ≡ self.old.room) }
     {
         let room = Vec::with_capacity(alloc, bytes as usize)?;
         self.lines.reserve(1)?;
@@ -110,6 +114,7 @@ impl Dest for MemDest {
         ensures usable_again { IsErrOf result DestError.OutOfMemory → self.new.failed ≡ false }
         ensures down { IsErrOf result DestError.Failed → self.new.failed ≡ true }
         ensures room { IsErrOf result DestError.OutOfMemory → length line.now < self.old.room → ⊥ }
+        ensures room_kept { OnErr result (self.old.room ≤ self.new.room) }
         ensures count { IsCount self.old.schedule.faults self.new.schedule.faults }
         ensures cause { IsErrOf result DestError.Failed → Rose self.old.schedule.faults self.new.schedule.faults }
         ensures due { is_due self.old.schedule ≡ true → IsErrOf result DestError.Failed }

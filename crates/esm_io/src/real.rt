@@ -1,5 +1,6 @@
-ghost use Rattle.std.specs.Prelude.{◌≡◌, IfOk, IfErr, Ok, OnErr};
+ghost use Rattle.std.specs.Prelude.{◌≡◌, IfOk, Ok, OnOk, OnErr, IsErr};
 ghost use Rattle.esm_io.specs.Faults.{IsCount, Rose};
+ghost use Rattle.esm_io.specs.Schedule.{one_more};
 
 use crate::failed::Failed;
 use std::io;
@@ -7,6 +8,9 @@ use std::io;
 /// The result of a call of the system; a failure is counted.
 pub fn counted<T>(faults: &mut u64, outcome: io::Result<T>) -> Result<T, Failed>
     ensures value { IfOk result (λ value. outcome ≡ Ok value) }
+    ensures uncounted { OnOk result (faults.new ≡ faults.old) }
+    ensures failed { OnErr result (IsErr outcome) }
+    ensures counted { OnErr result (faults.new ≡ one_more faults.old) }
     ensures count { IsCount faults.old faults.new }
     ensures cause { OnErr result (Rose faults.old faults.new) }
 {

@@ -1,7 +1,7 @@
 ghost use Rattle.std.specs.Prelude.{◌≡◌, ℕ, Some, [], ◌∷◌, ◌++◌, map, true, false, if◌then◌else◌, IfOk, IfSome, OnOk, OnErr};
 ghost use Rattle.esm_io.specs.Faults.{IsCount, Rose};
 ghost use Rattle.esm_io.specs.Told.{Grows};
-ghost use Rattle.esm_io.specs.Schedule.{is_due, one_more};
+ghost use Rattle.esm_io.specs.Schedule.{is_due, one_more, after_call};
 ghost use Rattle.esm_io.specs.Script.{answer_of, HasNoLost};
 ghost use Rattle.esm_model.specs.declared.called.Called.{Called};
 
@@ -129,7 +129,9 @@ impl Caller for ScriptCaller {
         ensures due { IfOk result (λ reply. is_due self.old.schedule ≡ true → reply ≡ Reply.Lost) }
         ensures scripted { IfOk result (λ reply. is_due self.old.schedule ≡ false → reply ≡ answer_of self.old.script self.old.given event.now) }
         ensures given { OnOk result (self.new.given ≡ (if is_due self.old.schedule then self.old.given else one_more self.old.given)) }
+        ensures given_kept { OnErr result (self.new.given ≡ self.old.given) }
         ensures script { self.new.script ≡ self.old.script }
+        ensures counted { self.new.schedule ≡ after_call self.old.schedule }
     {
         if self.schedule.fails_now() {
             let called = called(alloc, name, event, &Reply::Lost)?;
