@@ -1,12 +1,13 @@
 -- What a scripted caller holds. This product's own.
-use Rattle.std.specs.Prelude.{ℕ, List}
+use Rattle.std.specs.Prelude.{ℕ, List, Bool}
 use Rattle.esm_io.specs.Schedule.{ScheduleState}
 use Rattle.esm_io.specs.declared.script.Script.{Script}
 use Rattle.esm_model.specs.declared.called.Called.{Called}
 
--- its script, how many of the script's replies were given, and the calls made, in order
+-- its script, how many of the script's replies were given, the calls made, in order, and whether it keeps copies of them
 pub record CallerState : Type 0 where
   pub script : Script
   pub given : ℕ
   pub log : List Called
+  pub keeps_copies : Bool
   pub schedule : ScheduleState

@@ -1,4 +1,4 @@
-ghost use Rattle.std.specs.Prelude.{◌≡◌, ℕ, Some, [], ◌∷◌, ◌++◌, map, true, false, if◌then◌else◌, IfOk, IfSome, OnOk, OnErr};
+ghost use Rattle.std.specs.Prelude.{◌≡◌, ℕ, Some, [], ◌∷◌, ◌++◌, map, true, false, if◌then◌else◌, is_some, IfOk, IfSome, OnOk, OnErr};
 ghost use Rattle.esm_io.specs.Faults.{IsCount, Rose};
 ghost use Rattle.esm_io.specs.Told.{Grows};
 ghost use Rattle.esm_io.specs.Schedule.{is_due, one_more, after_call};
@@ -25,13 +25,13 @@ pub struct ScriptCaller {
 }
 
 impl Model for ScriptCaller {
-    ghost use Rattle.std.specs.Prelude.{map, ◌≡◌, IfSome};
+    ghost use Rattle.std.specs.Prelude.{map, ◌≡◌, IfSome, is_some};
     ghost use Rattle.esm_io.specs.Caller.{CallerState};
     ghost use Rattle.esm_io.specs.Script.{HasNoLost};
 
     ghost Value = { CallerState };
 
-    ghost view = { λ s. record { script = s.script; given = s.given; log = map (λ c. c.value) s.log.items; schedule = s.schedule } };
+    ghost view = { λ s. record { script = s.script; given = s.given; log = map (λ c. c.value) s.log.items; keeps_copies = is_some s.copies; schedule = s.schedule } };
 
     ghost invariant = { λ s. HasNoLost s.script × IfSome s.copies (λ c. c.items ≡ map (λ c. c.value) s.log.items) };
 }
@@ -43,6 +43,7 @@ impl ScriptCaller {
         ensures script { result.script ≡ script }
         ensures given { result.given ≡ 0 }
         ensures log { result.log ≡ [] }
+        ensures copies { result.keeps_copies ≡ false }
         ensures schedule { result.schedule ≡ record { fails = fails.items; calls = 0; faults = 0 } }
     {
         ScriptCaller {
@@ -60,6 +61,7 @@ impl ScriptCaller {
         ensures script { result.script ≡ script }
         ensures given { result.given ≡ 0 }
         ensures log { result.log ≡ [] }
+        ensures copies { result.keeps_copies ≡ true }
         ensures schedule { result.schedule ≡ record { fails = fails.items; calls = 0; faults = 0 } }
     {
         ScriptCaller {
@@ -73,7 +75,8 @@ impl ScriptCaller {
 
     /// The calls made, in order, where it keeps copies of them.
     pub fn log(&self) -> Option<&[Called]>
-        ensures { IfSome result (λ log. log.now ≡ self.now.log) }
+        ensures log { IfSome result (λ log. log.now ≡ self.now.log) }
+        ensures some { is_some result ≡ self.now.keeps_copies }
     {
         match &self.copies {
             Some(copies) => Some(copies.as_slice()),
@@ -103,6 +106,7 @@ fn log_call(
     ensures logged { OnOk result (map (λ c. c.value) log.new.items ≡ map (λ c. c.value) log.old.items ++ called ∷ []) }
     ensures unlogged { OnErr result (map (λ c. c.value) log.new.items ≡ map (λ c. c.value) log.old.items) }
     ensures copies { IfSome copies.new (λ c. c.items ≡ map (λ c. c.value) log.new.items) }
+    ensures keeps { is_some copies.new ≡ is_some copies.old }
 {
     log.reserve(1)?;
     let told = Snapshot::of(&called);
@@ -131,6 +135,7 @@ impl Caller for ScriptCaller {
         ensures given { OnOk result (self.new.given ≡ (if is_due self.old.schedule then self.old.given else one_more self.old.given)) }
         ensures given_kept { OnErr result (self.new.given ≡ self.old.given) }
         ensures script { self.new.script ≡ self.old.script }
+        ensures copies { self.new.keeps_copies ≡ self.old.keeps_copies }
         ensures counted { self.new.schedule ≡ after_call self.old.schedule }
     {
         if self.schedule.fails_now() {
