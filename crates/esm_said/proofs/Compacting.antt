@@ -8,15 +8,15 @@ use Rattle.std.specs.BTreeMap.{is_at}
 use Rattle.std.proofs.lemmas.Bool.{and_from}
 use Rattle.std.proofs.lemmas.List.{reverse-append, reverse-reverse, map-append, append-nil}
 use Rattle.esm_model.specs.Sequence.{is_sequence}
-use Rattle.esm_said.specs.declared.said.Said.{Said}
-use Rattle.esm_said.specs.Payload.{payload_of, IsMoment, IsSaid, is_message_id}
+use Rattle.esm_payload.specs.declared.said.Said.{Said}
+use Rattle.esm_payload.specs.Reading.{said_of}
+use Rattle.esm_payload.specs.Payload.{payload_of, IsMoment, IsSaid, is_message_id}
 use Rattle.esm_said.specs.Meaning.{only_at, fate_said, tries_said, state_said, window_tries_said, replayed_said, deletion_said, known, is_bad, is_good, is_good_said, history, are_good}
 use Rattle.esm_said.specs.Pieces.{Key, Entry, Piece, pieces_after, pieces}
 use Rattle.esm_said.specs.Told.{pair_cmp}
 use Rattle.esm_said.specs.Compact.{greatest_moment, IsListing, fates_look, tries_look, replays_look, deletions_look, fates_of, tried_of, replayed_of, deleted_of, state_of_window, tried_of_window, IsCompacted, SameSaid}
 use Rattle.esm_said.proofs.Cutting.{IsPiece, IsCut, cut}
 use Rattle.esm_said.proofs.Histories.{Good, AllSaid, state_valid, window_tries_valid, greatest_valid}
-use Rattle.esm_said.proofs.Payloads.{said_again}
 use Rattle.esm_said.proofs.Regrouping.{is_pair, itself, pairs_apart, lookup_pair}
 use Rattle.esm_said.proofs.KindLemmas.{skip_fates, skip_tries, skip_states, skip_window_tries, skip_replays, skip_deletions, one_byte, fates_same, no_tries_there, fates_good, fates_valid, fates_said, tries_same, tries_good, tries_look_valid, one_number, tried_said, replays_same, replays_good, replays_valid, replays_one_group, replayed_may, deletion_found_as, deletions_same, deletions_good, deletions_valid, deleted_may, states_are, window_tries_are, or_nothing, harmless, all_found, all_mapped, all_joined, all_turned, map_turned}
 
@@ -213,11 +213,15 @@ all_may h saids c said =
 
 -- as payloads
 
-pub payloads_good : (h : List Said) → AllSaid h → Good h → (are_good (map payload_of h) ≡ true) × (history (map payload_of h) ≡ h)
-payloads_good [] said good = (refl, refl)
-payloads_good (s ∷ h) said good =
-    let others = payloads_good h said.1 good.1 in
-    let read = said_again s said.0 in
+-- what may be said is read again from its own payload
+abbrev pub IsReadAgain : Type 0
+IsReadAgain = (said : Said) → IsSaid said → said_of (payload_of said) ≡ Some said
+
+pub payloads_good : IsReadAgain → (h : List Said) → AllSaid h → Good h → (are_good (map payload_of h) ≡ true) × (history (map payload_of h) ≡ h)
+payloads_good again [] said good = (refl, refl)
+payloads_good again (s ∷ h) said good =
+    let others = payloads_good again h said.1 good.1 in
+    let read = again s said.0 in
     let whole : history (payload_of s ∷ map payload_of h) ≡ s ∷ h = ap (λ o. cons_option o (history (map payload_of h))) read ∙ ap (λ x. s ∷ x) others.1 in
     let fine : is_good (history (map payload_of h)) (payload_of s) ≡ true =
     ap (λ o. is_good_said (history (map payload_of h)) o) read ∙ ap (λ x. not (is_bad (known x) s)) others.1 ∙ ap not good.0 in
@@ -230,14 +234,14 @@ map_turned_payloads (s ∷ saids) =
     ∙ sym (ap (map payload_of) (reverse-append (s ∷ []) saids) ∙ map-append payload_of (reverse saids) (s ∷ []))
 
 -- the law
-pub compacts : (h saids : List Said) (payloads : List (List ℕ)) → IsCompacted h saids → AllSaid h → Good h → payloads ≡ map payload_of saids
+pub compacts : IsReadAgain → (h saids : List Said) (payloads : List (List ℕ)) → IsCompacted h saids → AllSaid h → Good h → payloads ≡ map payload_of saids
     → (are_good (reverse payloads) ≡ true) × SameSaid (history (reverse payloads)) h
-compacts h saids payloads c said good e =
+compacts again h saids payloads c said good e =
     let k = cuts h saids c said in
     let turned = is_shorter h saids c in
     let all : AllSaid (reverse saids) = all_turned IsSaid saids (all_may h saids c said) in
     let fine : Good (reverse saids) = subst Good (sym turned) (stays_good h saids c said good k) in
-    let p = payloads_good (reverse saids) all fine in
+    let p = payloads_good again (reverse saids) all fine in
     let written : reverse payloads ≡ map payload_of (reverse saids) = ap reverse e ∙ map_turned_payloads saids in (
       ap are_good written ∙ p.0,
       subst (λ x. SameSaid x h) (sym (ap history written ∙ p.1 ∙ turned)) (says_same h saids c said good k),

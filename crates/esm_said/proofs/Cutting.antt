@@ -12,7 +12,7 @@ use Rattle.std.proofs.lemmas.Bool.{and_parts, and_from, cases_Bool, eqb-true, eq
 use Rattle.std.proofs.lemmas.List.{length-append}
 use Rattle.std.proofs.lemmas.List.Folds.{list_all-append}
 use Rattle.std.proofs.lemmas.Map.Keys.{sorted_head, sorted_tail}
-use Rattle.esm_said.specs.Payload.{AreNamed, is_place, rises_from}
+use Rattle.esm_payload.specs.Payload.{AreNamed, is_place, rises_from}
 use Rattle.esm_said.specs.Pieces.{Key, Entry, key_cmp, Piece, piece_of, has_room, grown, piece_after, pieces_after}
 use Rattle.esm_said.specs.Compact.{IsListing}
 use Rattle.esm_said.specs.Meaning.{text_named, only_at}

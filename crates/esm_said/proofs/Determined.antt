@@ -14,7 +14,7 @@ use Rattle.std.proofs.lemmas.Bool.{and_from}
 use Rattle.std.proofs.lemmas.Map.Keys.{sorted_head, sorted_tail}
 use Rattle.std.proofs.lemmas.Map.Lookups.{exact_pairs, exact_unsigned}
 use Rattle.esm_model.specs.Setting.{FoundFate, FoundTries, FoundState, FoundWindowTries}
-use Rattle.esm_said.specs.declared.said.Said.{Said}
+use Rattle.esm_payload.specs.declared.said.Said.{Said}
 use Rattle.esm_said.specs.Compact.{SameSaid}
 use Rattle.esm_said.specs.Told.{Told, FoundReplay, FoundDeletion, pair_cmp, IsInOrder}
 use Rattle.esm_said.specs.Tells.{Tells, fate_of_found, tries_of_found, deletion_of_found}

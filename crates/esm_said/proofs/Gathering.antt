@@ -7,7 +7,7 @@ use Rattle.std.specs.Ordering.{nat_cmp}
 use Rattle.std.proofs.lemmas.Bool.{eq-eqb}
 use Rattle.std.proofs.lemmas.List.Filters.{length-filter_both}
 use Rattle.esm_model.specs.Setting.{FoundFate, FoundTries, FoundState, FoundWindowTries}
-use Rattle.esm_said.specs.declared.said.Said.{Said}
+use Rattle.esm_payload.specs.declared.said.Said.{Said}
 use Rattle.esm_said.specs.declared.table.Table.{Table}
 use Rattle.esm_said.specs.declared.told.SaidState.{SaidState}
 use Rattle.esm_said.specs.Table.{IsTable, HasOrder}

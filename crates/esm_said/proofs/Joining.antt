@@ -1,6 +1,6 @@
 -- The parts of the shorter list, one after the other.
 use Rattle.std.proofs.Common.{◌≡◌, List, [], ◌++◌, ap, ◌∙◌}
-use Rattle.esm_said.specs.declared.said.Said.{Said}
+use Rattle.esm_payload.specs.declared.said.Said.{Said}
 
 pub joined : (s0 s1 s2 s3 s4 s5 s6 x1 x2 x3 x4 x5 x6 : List Said) → s0 ≡ [] → s1 ≡ s0 ++ x1 → s2 ≡ s1 ++ x2 → s3 ≡ s2 ++ x3 → s4 ≡ s3 ++ x4 → s5 ≡ s4 ++ x5 → s6 ≡ s5 ++ x6
     → s6 ≡ x1 ++ x2 ++ x3 ++ x4 ++ x5 ++ x6

@@ -19,8 +19,8 @@ use Rattle.esm_model.specs.declared.entry.Fate.{Fate}
 use Rattle.esm_model.specs.declared.entry.Fate.TheVariants.{Succeeded, Filtered, Expired, Exhausted}
 use Rattle.esm_said.specs.declared.kept.KeptFate.{KeptFate}
 use Rattle.esm_said.specs.declared.kept.KeptTries.{KeptTries}
-use Rattle.esm_said.specs.declared.said.Said.{Said}
-use Rattle.esm_said.specs.Payload.{is_place, fate_byte, IsMoment, IsSaid, is_message_id, may_keep}
+use Rattle.esm_payload.specs.declared.said.Said.{Said}
+use Rattle.esm_payload.specs.Payload.{is_place, fate_byte, IsMoment, IsSaid, is_message_id, may_keep}
 use Rattle.esm_said.specs.Meaning.{text_named, only_at, fate_kept, tries_kept, fate_after, tries_after, state_after, window_tries_after, replayed_after, deletion_after, fate_said, tries_said, state_said, window_tries_said, replayed_said, deletion_said, has_failed, known, Known, is_bad, is_spent, is_no_replay, is_deleted, fate_text, tries_text, differs}
 use Rattle.esm_said.specs.Pieces.{Key, Piece}
 use Rattle.esm_said.specs.Told.{pair_cmp}

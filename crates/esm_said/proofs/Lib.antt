@@ -1,9 +1,3 @@
-pub mod WordLemmas
-pub mod Places
-pub mod Parts
-pub mod Fields
-pub mod Values
-pub mod Payloads
 pub mod Pairs
 pub mod Finding
 pub mod Gathering

@@ -13,7 +13,7 @@ use Rattle.esm_said.specs.Pieces.{Key, key_cmp}
 use Rattle.esm_said.specs.Told.{pair_cmp}
 use Rattle.esm_said.specs.declared.kept.KeptFate.{KeptFate}
 use Rattle.esm_said.specs.declared.kept.KeptTries.{KeptTries}
-use Rattle.esm_said.specs.Payload.{fate_byte}
+use Rattle.esm_payload.specs.Payload.{fate_byte}
 use Rattle.esm_said.specs.Meaning.{fate_text}
 use Rattle.esm_said.specs.Compact.{fate_text_of, tries_text_of}
 use Rattle.esm_said.proofs.Pairs.{is_eq-nat, is_eq-then, same_pair}

@@ -1,6 +1,3 @@
-pub mod Payload
-pub mod Reading
-pub mod Words
 pub mod Meaning
 pub mod Told
 pub mod Tells

@@ -8,9 +8,9 @@ use Rattle.esm_model.specs.declared.entry.Fate.TheVariants.{Succeeded, Filtered,
 use Rattle.esm_model.specs.declared.entry.WindowState.{WindowState}
 use Rattle.esm_said.specs.declared.kept.KeptFate.{KeptFate}
 use Rattle.esm_said.specs.declared.kept.KeptTries.{KeptTries}
-use Rattle.esm_said.specs.declared.said.Said.{Said}
-use Rattle.esm_said.specs.declared.said.Said.TheVariants.{Fates, Closed, Deleted, State, Tried, WindowTried, Replayed}
-use Rattle.esm_said.specs.Reading.{said_of}
+use Rattle.esm_payload.specs.declared.said.Said.{Said}
+use Rattle.esm_payload.specs.declared.said.Said.TheVariants.{Fates, Closed, Deleted, State, Tried, WindowTried, Replayed}
+use Rattle.esm_payload.specs.Reading.{said_of}
 
 -- the text with which the places name i
 abbrev pub text_named : List ℕ → List (List ℕ) → ℕ → Option (List ℕ)

@@ -3,7 +3,7 @@ use Rattle.std.specs.Prelude.{ℕ, ◌≡◌, List}
 use Rattle.std.specs.Ordering.{nat_cmp}
 use Rattle.std.specs.BTreeMap as map
 use Rattle.std.specs.BTreeSet as set
-use Rattle.esm_said.specs.declared.said.Said.{Said}
+use Rattle.esm_payload.specs.declared.said.Said.{Said}
 use Rattle.esm_said.specs.declared.table.Table.{Table}
 pub use Rattle.esm_said.specs.Told.{pair_cmp}
 use Rattle.esm_said.specs.Meaning.{fate_said, tries_said, state_said, window_tries_said, replayed_said, deletion_said, Known}

@@ -3,7 +3,7 @@ use Rattle.std.specs.Prelude.{ℕ, ◌≡◌, List, option_map}
 use Rattle.esm_model.specs.Setting.{FoundFate, FoundTries, FoundState, FoundWindowTries}
 use Rattle.esm_said.specs.declared.kept.KeptFate.{KeptFate}
 use Rattle.esm_said.specs.declared.kept.KeptTries.{KeptTries}
-use Rattle.esm_said.specs.declared.said.Said.{Said}
+use Rattle.esm_payload.specs.declared.said.Said.{Said}
 use Rattle.esm_said.specs.Meaning.{fate_kept, tries_kept, fate_said, tries_said, state_said, window_tries_said, replayed_said, deletion_said}
 use Rattle.esm_said.specs.Told.{Told, FoundDeletion, fate_told, tries_told, state_told, window_tries_told, is_replay_told, deletion_told}
 

@@ -1,17 +1,17 @@
 // One more payload.
 ghost use Rattle.std.specs.Prelude.{◌≡◌, ℕ, List, ◌∷◌, length, OnOk};
 ghost use Rattle.esm_model.specs.declared.entry.Fate.{Fate};
-ghost use Rattle.esm_said.specs.declared.said.Said.{Said};
-ghost use Rattle.esm_said.specs.declared.said.Said.TheVariants as said;
-ghost use Rattle.esm_said.specs.Payload.{IsSaid};
+ghost use Rattle.esm_payload.specs.declared.said.Said.{Said};
+ghost use Rattle.esm_payload.specs.declared.said.Said.TheVariants as said;
+ghost use Rattle.esm_payload.specs.Payload.{IsSaid};
 ghost use Rattle.esm_said.specs.Table.{IsTable};
 
-use crate::said::Said;
 use crate::table::{
     Table, drop_tries, keep_deletions, keep_fates, keep_replays, keep_some_state, keep_state,
     keep_tries,
 };
 use esm_model::{Fate, OutOfMemory, Places, Texts, WindowState};
+use esm_payload::Said;
 use std::alloc::Global;
 
 /// Adds what one more payload says. After an `Err` a part of it may stand there.

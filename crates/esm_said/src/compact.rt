@@ -1,11 +1,11 @@
 // The shorter list of payloads that says the same.
 ghost use Rattle.std.specs.Prelude.{◌≡◌, ℕ, ◌++◌, List, [], true, length, map, max, reverse, IfOk, OnOk, IfErr};
 ghost use Rattle.std.specs.List.{AllByRecursion};
-ghost use Rattle.esm_said.specs.declared.said.Said.{Said};
+ghost use Rattle.esm_payload.specs.declared.said.Said.{Said};
 ghost use Rattle.esm_said.specs.Bad.{IsFirstBad};
 ghost use Rattle.esm_said.specs.Compact.{moment_of, greatest_moment, fate_from, fates_of, tried_of, replayed_of, deleted_of, state_of_window, tried_of_window, IsCompacted, SameSaid};
 ghost use Rattle.esm_said.specs.Meaning.{history, are_good};
-ghost use Rattle.esm_said.specs.Payload.{IsSaid, payload_of};
+ghost use Rattle.esm_payload.specs.Payload.{IsSaid, payload_of};
 ghost use Rattle.esm_said.specs.Table.{IsTable};
 ghost use Rattle.esm_said.specs.Tells.{Tells};
 ghost use Rattle.esm_said.specs.Told.{Told, IsInOrder};
@@ -13,12 +13,11 @@ ghost use Rattle.esm_said.specs.Told.{Told, IsInOrder};
 use crate::error::SaysError;
 use crate::history::table_of;
 use crate::piece::{Piece, pieces_of};
-use crate::reading::read_said;
 use crate::regroup::{by_deletion, by_fate, by_replay, by_tries};
-use crate::said::Said;
 use crate::table::{Table, Window, copied_state};
-use crate::writing::said_bytes;
 use esm_model::{Bytes, Fate, OutOfMemory, WindowState};
+use esm_payload::laws::read_again;
+use esm_payload::{Said, read_said, said_bytes};
 use std::alloc::Global;
 use std::collections::BTreeMap;
 
@@ -217,5 +216,6 @@ pub fn compacted(alloc: Global, payloads: &[Bytes]) -> Result<Vec<Bytes>, SaysEr
     let table = table_of(alloc, payloads)?;
     let moment = greatest_moment(alloc, payloads)?;
     let saids = compact_saids(alloc, &table, moment)?;
+    read_again();
     Ok(payloads_of(alloc, &saids)?)
 }

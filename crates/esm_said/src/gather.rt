@@ -7,7 +7,7 @@ ghost use Rattle.std.specs.Map.{count_at};
 ghost use Rattle.std.specs.BTreeMap as map;
 ghost use Rattle.std.specs.BTreeMap.{btree_map_len};
 ghost use Rattle.std.specs.BTreeSet as set;
-ghost use Rattle.esm_said.specs.declared.said.Said.{Said};
+ghost use Rattle.esm_payload.specs.declared.said.Said.{Said};
 ghost use Rattle.esm_said.specs.Table.{IsTable, HasOrder, pair_cmp};
 ghost use Rattle.esm_said.specs.Tells.{Tells};
 ghost use Rattle.esm_said.specs.Told.{IsInOrder};

@@ -1,6 +1,6 @@
 // A list of payloads, read one after the other.
 ghost use Rattle.std.specs.Prelude.{◌≡◌, ℕ, List, ◌∷◌, true, reverse, IfOk, OnOk, IfErr};
-ghost use Rattle.esm_said.specs.declared.said.Said.{Said};
+ghost use Rattle.esm_payload.specs.declared.said.Said.{Said};
 ghost use Rattle.esm_said.specs.Bad.{IsFirstBad, IsAt};
 ghost use Rattle.esm_said.specs.Meaning.{history, is_good, are_good};
 ghost use Rattle.esm_said.specs.Table.{IsTable};
@@ -11,10 +11,10 @@ use crate::add::add;
 use crate::error::SaysError;
 use crate::gather::gathered;
 use crate::judge::is_bad;
-use crate::reading::read_said;
 use crate::table::{Table, empty_table};
 use crate::told::Says;
 use esm_model::{Bytes, OutOfMemory};
+use esm_payload::read_said;
 use std::alloc::Global;
 
 /// Adds what one more payload says, where it is good.

@@ -3,13 +3,13 @@ ghost use Rattle.std.specs.Prelude.{◌≡◌, ℕ, List, length};
 ghost use Rattle.std.specs.Option.{option_copied, option_or};
 ghost use Rattle.std.specs.BTreeMap as map;
 ghost use Rattle.esm_said.specs.Meaning.{any_named, differs, has_failed, is_failure, known_text, is_spent, is_no_replay, is_deleted, is_bad};
-ghost use Rattle.esm_said.specs.Payload.{IsSaid};
+ghost use Rattle.esm_payload.specs.Payload.{IsSaid};
 ghost use Rattle.esm_said.specs.Table.{known_in};
 
 use crate::kept::KeptFate;
-use crate::said::Said;
 use crate::table::Table;
 use esm_model::{Fate, Text};
+use esm_payload::Said;
 
 /// Whether it is bad for a book to say so, where the table has what was said before.
 pub(crate) fn is_bad(table: &Table, said: &Said) -> bool

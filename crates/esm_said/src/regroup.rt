@@ -11,8 +11,8 @@ ghost use Rattle.esm_said.specs.Table.{pair_cmp};
 use crate::kept::{KeptFate, KeptTries};
 use crate::piece::Group;
 use crate::table::{Place, copied};
-use crate::writing::fate_byte;
 use esm_model::{OutOfMemory, Text};
+use esm_payload::fate_byte;
 use std::alloc::Global;
 use std::collections::{BTreeMap, BTreeSet};
 

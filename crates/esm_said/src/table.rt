@@ -5,13 +5,13 @@ ghost use Rattle.std.specs.Ordering.{nat_cmp};
 ghost use Rattle.std.specs.BTreeMap as map;
 ghost use Rattle.std.specs.BTreeSet as set;
 ghost use Rattle.esm_model.specs.Entries.{holds};
-ghost use Rattle.esm_said.specs.declared.said.Said.{Said};
+ghost use Rattle.esm_payload.specs.declared.said.Said.{Said};
 ghost use Rattle.esm_said.specs.Meaning.{text_named, only_at, fate_kept, tries_kept, state_in};
 ghost use Rattle.esm_said.specs.Table.{pair_cmp, IsTable};
 
 use crate::kept::{KeptFate, KeptTries};
-use crate::said::Said;
 use esm_model::{Bytes, Fate, OutOfMemory, Text, WindowState};
+use esm_payload::Said;
 use std::alloc::Global;
 use std::collections::{BTreeMap, BTreeSet};
 

@@ -1,8 +1,5 @@
-ghost use Rattle.std.specs.Prelude.{IfOk};
-ghost use Rattle.esm_said.specs.Payload.{IsSaid};
-
-use crate::{Said, SaysError, compacted, read_said, said_bytes, says};
-use esm_model::{Bytes, Fate, OutOfMemory, Places, Text, Texts};
+use crate::{SaysError, compacted, says};
+use esm_model::{Bytes, Fate, OutOfMemory};
 use std::alloc::Global;
 use std::test::Fail;
 
@@ -10,54 +7,6 @@ use std::test::Fail;
 const ONE_RECORD: [u8; 29] = [
     1, 0, 0, 0, 0, 0, 0, 0, 0, 1, 0, 0, 0, 0, 0, 0, 0, 0, 0, 0, 0, 0, 1, 0, 0, 0, 0, 1, 0x31,
 ];
-
-fn one_record(alloc: Global) -> Result<Said, OutOfMemory>
-    ensures { IfOk result (λ s. IsSaid s) }
-{
-    let mut places = Vec::new(alloc);
-    places.push(0)?;
-    let mut texts = Vec::new(alloc);
-    texts.push(Text::from_vec(String::from_str(alloc, "1")?))?;
-    Ok(Said::Fates {
-        shard: 0,
-        fate: Fate::Succeeded,
-        moment: 0,
-        state: None,
-        places: Places::from_vec(places),
-        texts: Texts::from_vec(texts),
-    })
-}
-
-#[test]
-fn payload_bytes(rt: HostRuntime) -> Result<(), Fail> {
-    let bytes = said_bytes(rt.alloc(), &one_record(rt.alloc())?)?;
-    assert_eq!(rt; bytes.as_slice(), ONE_RECORD.as_slice());
-    let said = read_said(rt.alloc(), &ONE_RECORD)?.ok_or("a payload")?;
-    let Said::Fates {
-        shard,
-        fate,
-        places,
-        texts,
-        ..
-    } = &said
-    else {
-        return Ok(assert!(rt; false, "fates"));
-    };
-    assert_eq!(rt; (*shard, *fate), (0, Fate::Succeeded));
-    assert_eq!(rt; places.as_slice(), [0].as_slice());
-    assert_eq!(rt; texts.as_slice().len(), 1);
-    Ok(())
-}
-
-#[test]
-fn no_payload(rt: HostRuntime) -> Result<(), Fail> {
-    assert!(rt;
-        read_said(rt.alloc(), &ONE_RECORD[..28])?.is_none(),
-        "cut short"
-    );
-    assert!(rt; read_said(rt.alloc(), &[9])?.is_none(), "no kind");
-    Ok(())
-}
 
 fn payloads(alloc: Global, count: u32) -> Result<Vec<Bytes>, OutOfMemory> {
     let mut payloads = Vec::new(alloc);

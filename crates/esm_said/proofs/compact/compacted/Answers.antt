@@ -1,6 +1,6 @@
 use Rattle.std.proofs.Common.{◌∙◌, ap}
 use Rattle.std.specs.Prelude.{reverse, map}
-use Rattle.esm_said.specs.Payload.{payload_of}
+use Rattle.esm_payload.specs.Payload.{payload_of}
 use Rattle.esm_said.specs.Meaning.{history}
 use Rattle.esm_said.proofs.Histories.{good_from}
 use Rattle.esm_said.proofs.Compacting.{all_may, compacts}
@@ -22,20 +22,20 @@ pub returns-clause-same : goal.returns-clause-same
 returns-clause-same c =
     let h = history (reverse c.args.payloads.now) in
     let listed = c.in_ok-saids.ensures h c.in_ok-table.ensures.table c.in_ok-moment.ensures.moment in
-    (compacts h c.in_ok-saids.saids.items c.in_ok-payloads_of.field-0.items listed c.in_ok-moment.ensures.said (good_from (reverse c.args.payloads.now) c.in_ok-table.ensures.good)
+    (compacts c.read_again.ensures h c.in_ok-saids.saids.items c.in_ok-payloads_of.field-0.items listed c.in_ok-moment.ensures.said (good_from (reverse c.args.payloads.now) c.in_ok-table.ensures.good)
     (c.in_ok-payloads_of.ensures ∙ ap (map payload_of) c.deref.ensures.value)).1
 
 pub returns-clause-fine : goal.returns-clause-fine
 returns-clause-fine c =
     let h = history (reverse c.args.payloads.now) in
     let listed = c.in_ok-saids.ensures h c.in_ok-table.ensures.table c.in_ok-moment.ensures.moment in
-    (compacts h c.in_ok-saids.saids.items c.in_ok-payloads_of.field-0.items listed c.in_ok-moment.ensures.said (good_from (reverse c.args.payloads.now) c.in_ok-table.ensures.good)
+    (compacts c.read_again.ensures h c.in_ok-saids.saids.items c.in_ok-payloads_of.field-0.items listed c.in_ok-moment.ensures.said (good_from (reverse c.args.payloads.now) c.in_ok-table.ensures.good)
     (c.in_ok-payloads_of.ensures ∙ ap (map payload_of) c.deref.ensures.value)).0
 
 pub returns-clause-equal : goal.returns-clause-equal
 returns-clause-equal c = λ t u tells order told orders.
     let h = history (reverse c.args.payloads.now) in
     let listed = c.in_ok-saids.ensures h c.in_ok-table.ensures.table c.in_ok-moment.ensures.moment in
-    let same = (compacts h c.in_ok-saids.saids.items c.in_ok-payloads_of.field-0.items listed c.in_ok-moment.ensures.said (good_from (reverse c.args.payloads.now) c.in_ok-table.ensures.good)
+    let same = (compacts c.read_again.ensures h c.in_ok-saids.saids.items c.in_ok-payloads_of.field-0.items listed c.in_ok-moment.ensures.said (good_from (reverse c.args.payloads.now) c.in_ok-table.ensures.good)
     (c.in_ok-payloads_of.ensures ∙ ap (map payload_of) c.deref.ensures.value)).1 in
     same_told t u (history (reverse c.in_ok-payloads_of.field-0.items)) h tells told same order orders

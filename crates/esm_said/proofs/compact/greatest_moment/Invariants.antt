@@ -3,7 +3,7 @@ use Rattle.std.specs.Prelude.{reverse}
 use Rattle.std.specs.List.{AllByRecursion}
 use Rattle.esm_said.specs.Compact.{greatest_moment}
 use Rattle.esm_said.specs.Meaning.{history}
-use Rattle.esm_said.specs.Payload.{IsSaid}
+use Rattle.esm_payload.specs.Payload.{IsSaid}
 use Rattle.esm_said.proofs.compact.greatest_moment.Given as goal
 
 abbrev pub invariant-loop-payload : goal.invariant-loop-payload

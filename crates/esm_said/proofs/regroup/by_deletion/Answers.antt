@@ -1,6 +1,6 @@
 use Rattle.std.proofs.Common.{◌≡◌, [], true, sym, ap, ◌∙◌}
 use Rattle.std.specs.BTreeMap as map
-use Rattle.esm_said.specs.Payload.{fate_byte}
+use Rattle.esm_payload.specs.Payload.{fate_byte}
 use Rattle.esm_said.specs.Pieces.{key_cmp}
 use Rattle.esm_said.proofs.Regrouping.{regrouped, deletions_regrouped}
 use Rattle.esm_said.proofs.regroup.by_deletion.Goals as goal

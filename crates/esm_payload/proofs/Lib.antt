@@ -1,0 +1,6 @@
+pub mod WordLemmas
+pub mod Places
+pub mod Parts
+pub mod Fields
+pub mod Values
+pub mod Payloads

@@ -1,0 +1,17 @@
+//! One payload of a mapping's journal: what it says as a value, and the bytes that say it, exact both ways.
+//! Pure: values in, values out. No device, clock or thread.
+#![tactic(auto)]
+
+mod field;
+pub mod laws;
+mod names;
+mod reading;
+pub mod said;
+#[cfg(test)]
+mod tests;
+mod word;
+mod writing;
+
+pub use reading::read_said;
+pub use said::Said;
+pub use writing::{fate_byte, said_bytes};
