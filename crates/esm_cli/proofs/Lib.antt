@@ -4,3 +4,4 @@ pub mod WordKinds
 pub mod Refusals
 pub mod Parse
 pub mod Spelled
+pub mod OneCommand

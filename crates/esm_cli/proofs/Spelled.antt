@@ -90,7 +90,7 @@ config_found : (gs : List Given) (tail : List Row) → list_all (is_listed run_o
 config_found [] tail l h = h
 config_found (g ∷ gs) tail l h = let both = all_listed g gs l in config_one g gs tail both.0 (config_found gs tail both.1 h)
 
-abbrev flag_text : Bool → Option Text → Option Text
+abbrev pub flag_text : Bool → Option Text → Option Text
 flag_text b other = cond b (Some (codes "true")) other
 
 read_one : (g : Given) (gs : List Given) (tail : List Row) → Listed g
@@ -101,7 +101,7 @@ read_one g gs tail (is_config v e) h =
 read_one g gs tail (is_read e) h =
     subst (λ x. one_of (codes "read-first") (map row (x ∷ gs) ++ tail) ≡ flag_text (is_given (codes "read-first") (x ∷ gs)) (one_of (codes "read-first") tail)) (sym e) refl
 
-read_found : (gs : List Given) (tail : List Row) → list_all (is_listed run_options) gs ≡ true
+pub read_found : (gs : List Given) (tail : List Row) → list_all (is_listed run_options) gs ≡ true
     → one_of (codes "read-first") (map row gs ++ tail) ≡ flag_text (is_given (codes "read-first") gs) (one_of (codes "read-first") tail)
 read_found [] tail l = refl
 read_found (g ∷ gs) tail l = let both = all_listed g gs l in read_one g gs tail both.0 (read_found gs tail both.1)
@@ -149,7 +149,7 @@ spelled_passes words gs o =
 
 -- the words spell one list of options, so one text and one choice
 
-same_rows : (words : List Text) (gs more : List Given) → AreOptions run_options gs (drop 1 words) → AreOptions run_options more (drop 1 words) → map row gs ≡ map row more
+pub same_rows : (words : List Text) (gs more : List Given) → AreOptions run_options gs (drop 1 words) → AreOptions run_options more (drop 1 words) → map row gs ≡ map row more
 same_rows words gs more a b =
     some_rows (map row gs) (map row more)
     (sym (complete nothing_held gs (drop 1 words) start a.spelled a.listed a.once) ∙ complete nothing_held more (drop 1 words) start b.spelled b.listed b.once)

@@ -4,6 +4,7 @@
 #![tactic(auto)]
 
 pub mod command;
+pub mod laws;
 pub mod run;
 pub mod words;
 
