@@ -3,6 +3,7 @@ pub mod Feeds
 pub mod FirstLine
 pub mod Follows
 pub mod Inputs
+pub mod Wholes
 pub mod Objects
 pub mod Splits
 pub mod Steps

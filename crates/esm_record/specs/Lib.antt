@@ -1,6 +1,7 @@
 pub mod Line
 pub mod Gives
 pub mod Input
+pub mod GoesOn
 pub mod Numbers
 pub mod Reading
 pub mod Fed

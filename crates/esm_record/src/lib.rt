@@ -5,6 +5,7 @@
 
 mod error;
 mod item;
+pub mod laws;
 mod line;
 mod lines;
 mod order;
