@@ -91,6 +91,21 @@ fn cut_reply(rt: HostRuntime) {
     );
 }
 
+/// A link fails at its next call: the request is one write, the response one read.
+#[test]
+fn no_read_behind_a_response(rt: HostRuntime) {
+    let alloc = rt.alloc();
+    let response = b"HTTP/1.1 200 OK\r\nContent-Length: 2\r\n\r\n{}";
+    assert!(rt;
+        matches!(
+            &reply_to(alloc, response, 200, &[2]),
+            Ok(Reply::Answered { status: 200, .. })
+        )
+    );
+    let unbounded = b"HTTP/1.1 200 OK\r\n\r\n{}";
+    assert!(rt; matches!(&reply_to(alloc, unbounded, 200, &[2]), Ok(Reply::Lost)));
+}
+
 #[test]
 fn two_lengths_and_another_coding(rt: HostRuntime) {
     let alloc = rt.alloc();
