@@ -179,6 +179,7 @@ impl Disk for MemDisk {
     fn read(&mut self, at: u64, into: &mut [u8]) -> Result<(), Failed>
         requires { at + length into.old ≤ length self.old.content }
         ensures bytes { OnOk result (into.new ≡ take (length into.old) (drop at self.old.content)) }
+        ensures unfilled { OnErr result (into.new ≡ into.old) }
         ensures same { self.new.content ≡ self.old.content }
         ensures steps { self.new.steps ≡ self.old.steps }
         ensures images { Within (IsImage self.old.content self.old.steps) (IsImageSince self.new.content self.new.steps (length self.old.steps)) }

@@ -73,6 +73,8 @@ impl Link for MemLink {
         ensures taken { IfOk result (λ n. Reads (Some self.old.talk) (Some self.new.talk) (take n into.new)) }
         ensures end { IfOk result (λ n. n ≡ 0 → 0 < length into.old → IsReadOut (Some self.new.talk)) }
         ensures untaken { OnErr result (self.new.talk ≡ self.old.talk) }
+        ensures beyond { IfOk result (λ n. drop n into.new ≡ drop n into.old) }
+        ensures unfilled { OnErr result (into.new ≡ into.old) }
         ensures count { IsCount self.old.schedule.faults self.new.schedule.faults }
         ensures cause { OnErr result (Rose self.old.schedule.faults self.new.schedule.faults) }
         ensures piece { IfOk result (λ n. n ≡ min (min (length into.old) self.old.piece) (length self.old.talk.left)) }

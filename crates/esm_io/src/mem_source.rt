@@ -56,6 +56,8 @@ impl Source for MemSource {
         ensures taken { IfOk result (λ n. TakesFront (Some self.old.left) (Some self.new.left) (take n into.new)) }
         ensures end { IfOk result (λ n. n ≡ 0 → 0 < length into.old → IsAtEnd (Some self.new.left)) }
         ensures untaken { OnErr result (self.new.left ≡ self.old.left) }
+        ensures beyond { IfOk result (λ n. drop n into.new ≡ drop n into.old) }
+        ensures unfilled { OnErr result (into.new ≡ into.old) }
         ensures count { IsCount self.old.schedule.faults self.new.schedule.faults }
         ensures cause { OnErr result (Rose self.old.schedule.faults self.new.schedule.faults) }
         ensures scheduled { self.new.schedule ≡ after_call self.old.schedule }

@@ -11,6 +11,7 @@ pub fn give_front(bytes: &[u8], at: &mut usize, piece: usize, into: &mut [u8]) -
     ensures within { at.new ≤ length bytes.now }
     ensures read { take at.new bytes.now ≡ take at.old bytes.now ++ take result into.new }
     ensures given { drop at.old bytes.now ≡ take result into.new ++ drop at.new bytes.now }
+    ensures beyond { drop result into.new ≡ drop result into.old }
 {
     let (_, rest) = bytes.split_at(*at);
     let count = into.len().min(piece).min(rest.len());
