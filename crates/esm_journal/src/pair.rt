@@ -5,7 +5,7 @@ ghost use Rattle.esm_journal.specs.File.{max_payload, header_of, Foreign, Damage
 ghost use Rattle.esm_journal.specs.Reads.{IsOnlyRead, RefusedFor, NotMadeFor};
 ghost use Rattle.esm_journal.specs.Room.{HasRoom, room_after};
 ghost use Rattle.esm_journal.specs.Log.{IsEither};
-ghost use Rattle.esm_journal.specs.Pair.{pair_opened, first_disk, second_disk, PairKeeps, PairOpensToEither};
+ghost use Rattle.esm_journal.specs.Pair.{pair_opened, first_disk, second_disk, PairKeeps, PairOpensTo, PairOpensToEither};
 ghost use Rattle.esm_journal.specs.Replace.{first_too_long, IsSpareOrNew, PairOpensToOldOrNew};
 
 use crate::error::{AppendError, InitError, OpenError};
@@ -134,6 +134,8 @@ impl<D: Disk> Pair<D> {
     /// has bytes, with their number; nothing is written then.
     pub fn first(disk: D) -> Result<D, Refused<InitError, D>>
         ensures bytes { D.honest disk ≡ true → IfOk result (λ made. D.content made ≡ fresh_file (header_of 2)) }
+        // Beside a fresh spare, each in whichever place, it opens to no payload.
+        ensures opens { D.honest disk ≡ true → IfOk result (λ made. PairOpensTo (header_of 2) 1 [] (D.content made) (blank_file (header_of 2) 0)) }
         ensures durable { D.honest disk ≡ true → IfOk result (λ made. Only (D.content made) (D.image made)) }
         ensures was_empty { D.honest disk ≡ true → OnOk result (length (D.content disk) ≡ 0) }
         ensures refused { IfErr result (λ refused. NotMadeFor
