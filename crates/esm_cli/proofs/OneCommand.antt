@@ -1,5 +1,5 @@
 -- Words spell one command at most.
-use Rattle.std.proofs.Common.{◌≡◌, ◌∙◌, ℕ, Bool, true, false, codes, refl, sym, ap, List, [], ◌++◌, map, drop, None, is_some}
+use Rattle.std.proofs.Common.{◌≡◌, ◌∙◌, ℕ, Bool, true, false, codes, refl, sym, ap, List, [], ◌++◌, drop, None, is_some}
 use Rattle.clap.specs.Walk.{Row, Text, one_of}
 use Rattle.esm_cli.specs.Spelling.{is_given, value_of, Given, AreOptions}
 use Rattle.esm_cli.specs.Words.{IsRun, IsWhich, spells}
@@ -9,7 +9,6 @@ use Rattle.esm_cli.specs.declared.command.RunWords.{RunWords}
 use Rattle.esm_cli.specs.declared.command.Which.{Which}
 use Rattle.esm_cli.specs.declared.command.Which.TheVariants.{Config}
 use Rattle.esm_cli.specs.Tables.{run_options}
-use Rattle.esm_cli.proofs.Uses.{row}
 use Rattle.esm_cli.proofs.Spelled.{flag_text, options_of, read_found, same_config, same_rows}
 
 flag_given : (b : Bool) → is_some (flag_text b None) ≡ b

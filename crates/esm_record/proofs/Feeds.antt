@@ -1,9 +1,9 @@
 -- What a reader was fed, seen from the call that goes on with it.
-use Rattle.std.proofs.Common.{◌≡◌, ℕ, List, [], ◌++◌, refl, sym}
+use Rattle.std.proofs.Common.{ℕ, List, [], refl, sym}
 use Rattle.std.proofs.lemmas.List.{append-nil}
 use Rattle.esm_record.specs.declared.item.Item.{Item}
 use Rattle.esm_record.specs.declared.reading.Reading.{Reading}
-use Rattle.esm_record.specs.Reading.{Stands, HasRead, IsFed}
+use Rattle.esm_record.specs.Reading.{HasRead, IsFed}
 use Rattle.esm_record.specs.Input.{input_so_far}
 
 pub fed_from : (bytes : List ℕ) (r : Reading) → IsFed bytes r → HasRead bytes (input_so_far r.kind bytes).items [] r

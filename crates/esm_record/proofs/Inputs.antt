@@ -1,14 +1,12 @@
 -- Reading more lines.
-use Rattle.std.proofs.Common.{◌≡◌, ◌≢◌, ℕ, ◌+◌, ◌<◌, ◌≤◌, Bool, true, false, cond, ltb, List, [], ◌∷◌, ◌++◌, length, Option, Some, None, Result, Ok, Err, refl, sym, ap, ◌∙◌, append_assoc}
-use Rattle.std.specs.Prelude.{fold, is_some}
+use Rattle.std.proofs.Common.{◌≡◌, ℕ, Bool, true, false, cond, ltb, List, [], ◌∷◌, ◌++◌, length, Some, refl, sym, ap, ◌∙◌, append_assoc}
+use Rattle.std.specs.Prelude.{fold}
 use Rattle.std.proofs.lemmas.List.{append-nil}
 use Rattle.std.proofs.lemmas.List.Sums.{fold-append}
-use Rattle.esm_record.specs.declared.error.LineError.{LineError}
 use Rattle.esm_record.specs.declared.error.BadLine.{BadLine}
 use Rattle.esm_record.specs.declared.item.LineKind.{LineKind}
-use Rattle.esm_record.specs.declared.item.Item.{Item}
-use Rattle.esm_record.specs.Input.{Input, nothing_read, add_line, after_line, read_after, read_lines, lines_of, ended, begun, too_long, input_so_far, input_of}
-use Rattle.esm_record.proofs.Splits.{settled, GoesOn, goes_on, long_goes_on, still_long, after_first, lines_are}
+use Rattle.esm_record.specs.Input.{Input, nothing_read, add_line, read_lines, lines_of, ended, begun, input_so_far, input_of}
+use Rattle.esm_record.proofs.Splits.{settled, goes_on, long_goes_on, still_long, after_first, lines_are}
 
 pub read_push : (kind : LineKind) (ls : List (List ℕ)) (l : List ℕ) → read_lines kind (ls ++ l ∷ []) ≡ add_line kind (read_lines kind ls) l
 read_push kind ls l = fold-append (add_line kind) nothing_read ls (l ∷ [])

@@ -1,6 +1,6 @@
 -- The lines of bytes that go on.
 use Rattle.std.proofs.Common.{◌≡◌, ℕ, ◌+◌, ◌<◌, ◌≤◌, Bool, true, false, cond, ltb, List, [], ◌∷◌, ◌++◌, length, refl, sym, ap, ◌∙◌, append_assoc, arith}
-use Rattle.std.specs.List.{slice_split, onto_first, All}
+use Rattle.std.specs.List.{onto_first, All}
 use Rattle.std.proofs.lemmas.List.{append-nil}
 use Rattle.std.proofs.lemmas.List.Splits.{slice_split_none, slice_split_at}
 use Rattle.esm_record.specs.Input.{is_line_feed, lines_of, ended, begun, too_long}

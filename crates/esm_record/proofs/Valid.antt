@@ -1,5 +1,5 @@
 -- The items of an input are valid.
-use Rattle.std.proofs.Common.{◌≡◌, ℕ, suc, ◌+◌, ◌^◌, ◌<◌, ◌≤◌, Bool, true, false, cond, leb, ltb, List, [], ◌∷◌, ◌++◌, length, take, drop, Option, Some, None, Result, Ok, Err, refl, sym, ap, ◌∙◌, subst, take_all, length-drop, arith}
+use Rattle.std.proofs.Common.{◌≡◌, ℕ, ◌^◌, ◌<◌, ◌≤◌, Bool, true, false, cond, leb, ltb, List, [], ◌∷◌, ◌++◌, length, drop, Option, Some, None, Result, Ok, Err, refl, sym, ap, ◌∙◌, subst, take_all, length-drop, arith}
 use Rattle.std.specs.Prelude.{is_some, fold, option_and_then}
 use Rattle.std.specs.List.{list_all, AllByRecursion, All}
 use Rattle.std.specs.Char.{is_ascii_digit}

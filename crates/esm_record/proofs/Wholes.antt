@@ -1,12 +1,12 @@
 -- A whole input, after the lines of it that ended.
-use Rattle.std.proofs.Common.{◌≡◌, ℕ, Bool, true, false, cond, ltb, List, [], ◌∷◌, ◌++◌, length, Option, Some, None, Result, Ok, Err, refl, sym, ap, ◌∙◌, subst}
+use Rattle.std.proofs.Common.{◌≡◌, ℕ, Bool, true, false, cond, ltb, List, [], ◌∷◌, ◌++◌, length, Option, Some, None, Result, Ok, Err, refl, sym, ap, ◌∙◌}
 use Rattle.std.specs.Prelude.{is_some, IsSome}
 use Rattle.std.proofs.lemmas.List.{append-nil}
 use Rattle.esm_record.specs.declared.error.LineError.{LineError}
 use Rattle.esm_record.specs.declared.error.BadLine.{BadLine}
 use Rattle.esm_record.specs.declared.item.LineKind.{LineKind}
 use Rattle.esm_record.specs.declared.item.Item.{Item}
-use Rattle.esm_record.specs.Input.{Input, add_line, after_line, read_after, read_lines, lines_of, ended, begun, too_long, input_so_far, input_of}
+use Rattle.esm_record.specs.Input.{Input, add_line, after_line, read_after, read_lines, lines_of, ended, begun, input_so_far, input_of}
 use Rattle.esm_record.specs.GoesOn.{GoesOnFrom}
 use Rattle.esm_record.proofs.Splits.{lines_are}
 use Rattle.esm_record.proofs.Inputs.{read_push, bad_whole}

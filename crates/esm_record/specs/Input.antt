@@ -1,6 +1,6 @@
 -- The items of an input, and its first bad line. Sources: JSON Lines for the lines; the Kinesis API Reference,
 -- `SequenceNumber` (numbers of a shard grow); the limit of a line and the names of the refusals are this product's own.
-use Rattle.std.specs.Prelude.{◌≡◌, ℕ, ◌+◌, ◌==◌, nat_lt, Bool, true, false, ◌||◌, List, [], ◌∷◌, ◌++◌, length, fold, Option, Some, None, is_some, Result, Ok, Err, if◌then◌else◌}
+use Rattle.std.specs.Prelude.{ℕ, ◌+◌, ◌==◌, nat_lt, Bool, ◌||◌, List, [], ◌∷◌, ◌++◌, length, fold, Option, Some, None, is_some, Result, Ok, Err, if◌then◌else◌}
 use Rattle.std.specs.List.{list_all, slice_split}
 use Rattle.std.specs.Ordering.{is_lt}
 use Rattle.esm_model.specs.Sequence.{sequence_order}

@@ -1,7 +1,7 @@
 -- One line of a stream's input. Sources: the Kinesis API Reference, `Record` (`SequenceNumber`, `PartitionKey` of 1 to
 -- 256 characters, `Data` of at most 1 MB in base64, `ApproximateArrivalTimestamp`) and `ShardId`; that a record stands
 -- on one line under these names is this product's own.
-use Rattle.std.specs.Prelude.{ℕ, ◌==◌, nat_eq, nat_le, Bool, true, false, ◌&&◌, ◌||◌, List, length, drop, codes, Option, Some, None, option_and_then, Result, Ok, Err, is_some, if◌then◌else◌}
+use Rattle.std.specs.Prelude.{ℕ, ◌==◌, nat_eq, nat_le, Bool, true, false, ◌&&◌, List, length, drop, codes, Option, Some, None, option_and_then, Result, Ok, Err, is_some, if◌then◌else◌}
 use Rattle.std.specs.List.{list_all, starts_with}
 use Rattle.std.specs.Char.{is_ascii_digit}
 use Rattle.std.specs.Str.{is_utf8}

@@ -1,11 +1,9 @@
 -- What a reader of lines keeps of what it has read. Only private contracts cite these.
-use Rattle.std.specs.Prelude.{◌≡◌, ℕ, ◌≤◌, nat_lt, false, List, [], ◌∷◌, ◌++◌, length, Option, IsNone}
+use Rattle.std.specs.Prelude.{◌≡◌, ℕ, ◌≤◌, false, List, [], ◌∷◌, ◌++◌, length, IsNone}
 use Rattle.std.specs.List.{All}
-use Rattle.std.specs.Ordering.{nat_cmp}
-use Rattle.std.specs.BTreeMap as map
 use Rattle.esm_record.specs.declared.item.Item.{Item}
 use Rattle.esm_record.specs.declared.reading.Reading.{Reading}
-use Rattle.esm_record.specs.Input.{MAX_LINE, Input, is_line_feed, lines_of, begun, last_number, input_so_far}
+use Rattle.esm_record.specs.Input.{MAX_LINE, Input, is_line_feed, lines_of, begun, input_so_far}
 use Rattle.esm_record.specs.Numbers.{Follows}
 
 abbrev pub NoLineFeed : List ℕ → Type 0

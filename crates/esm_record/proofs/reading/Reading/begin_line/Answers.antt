@@ -1,4 +1,4 @@
-use Rattle.std.proofs.Common.{rules, ◌≡◌, ◌++◌, ◌≤◌, ◌<◌, ◌+◌, length, length-append, refl, ap, arith}
+use Rattle.std.proofs.Common.{◌≡◌, ◌++◌, ◌≤◌, ◌<◌, ◌+◌, length, length-append, refl, ap, arith}
 use Rattle.std.proofs.lemmas.Grind.{common_steps}
 use Rattle.esm_record.proofs.Steps.{on_ok, long_read, more_read}
 use Rattle.esm_record.proofs.reading.Reading.begin_line.Goals as goal

@@ -1,4 +1,4 @@
-use Rattle.std.proofs.Common.{◌≡◌, ◌++◌, [], true, false, refl, sym, subst}
+use Rattle.std.proofs.Common.{◌≡◌, true, false, sym, subst}
 use Rattle.std.specs.Prelude.{is_some}
 use Rattle.esm_record.specs.Input.{Input, input_so_far}
 use Rattle.esm_record.specs.Reading.{Stands}
