@@ -16,3 +16,5 @@ pub mod Taking
 pub mod Mappings
 pub mod Writing
 pub mod Open
+pub mod OneReading
+pub mod OneCause

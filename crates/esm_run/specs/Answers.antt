@@ -62,6 +62,10 @@ pub record Written : Type 0 where
   pub before : Option (List ℕ)
   pub after : Option (List ℕ)
 
+-- of a sink before and after, by what sinks tell
+abbrev pub written_of : {K : Type 0} → (faults : K → ℕ) → (written : K → Option (List ℕ)) → (old new : K) → Written
+written_of faults written old new = record { faults_before = faults old; faults_now = faults new; before = written old; after = written new }
+
 -- the options of `run` ended with the status: why, and what was told
 pub record RunOutcome {F : Type 0} (gave : ℕ → Bool) (sends : List ℕ → List ℕ) (log : F → Option (List Called)) (r : RunWords) (input : Read) (output : Written) (h : List Entry) (old new : List F) (status : ℕ) : Type 0 where
   pub ending : Ending

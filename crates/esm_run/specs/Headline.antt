@@ -76,6 +76,10 @@ pub record Read : Type 0 where
   pub before : Option (List ℕ)
   pub left : Option (List ℕ)
 
+-- of a source before and after it, by what sources tell
+abbrev pub read_of : {S : Type 0} → (faults : S → ℕ) → (left : S → Option (List ℕ)) → (old new : S) → Read
+read_of faults left old new = record { faults_before = faults old; faults_now = faults new; before = left old; left = left new }
+
 -- the records were read, the run of the configuration left this history, and it ended so
 pub record IsEndedRun {F : Type 0} (gave : ℕ → Bool) (sends : List ℕ → List ℕ) (log : F → Option (List Called)) (input : Read) (config : Config) (calls : ℕ) (h : List Entry) (old new : List F) (ending : Ending) : Type 0 where
   pub end : InputEnd

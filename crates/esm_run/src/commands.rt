@@ -3,7 +3,8 @@ ghost use Rattle.esm_report.specs.declared.ending.Ending.TheVariants.{BadWords};
 ghost use Rattle.esm_model.specs.Setting.{Setting};
 ghost use Rattle.esm_report.specs.Report.{report_text};
 ghost use Rattle.esm_run.specs.Endings.{IsTold};
-ghost use Rattle.esm_run.specs.Answers.{RunEnded, RunOutcome, IsCutOf};
+ghost use Rattle.esm_run.specs.Headline.{read_of};
+ghost use Rattle.esm_run.specs.Answers.{RunEnded, written_of, RunOutcome, IsCutOf};
 
 use crate::mapping::mapping;
 use crate::output::{OUT_OF_MEMORY, tell};
@@ -55,20 +56,10 @@ fn run_words<R: Wait, S: Source, K: Sink, D: Disk, C: Clock, F: Caller, L: Door>
     requires callers { length world.old.callers.items ≡ 64 }
     requires trace { world.old.trace.items ≡ [] }
     ensures ended { IfOk result (RunEnded C.gave F.sends F.log words
-        (record {
-          faults_before = S.faults world.old.input;
-          faults_now = S.faults world.new.input;
-          before = S.left world.old.input;
-          left = S.left world.new.input;
-        })
+        (read_of S.faults S.left world.old.input world.new.input)
         (reverse world.new.trace.items) world.old.callers.items world.new.callers.items) }
     ensures stopped { OnErr result (IsCutOf C.gave F.sends F.log words
-        (record {
-          faults_before = S.faults world.old.input;
-          faults_now = S.faults world.new.input;
-          before = S.left world.old.input;
-          left = S.left world.new.input;
-        })
+        (read_of S.faults S.left world.old.input world.new.input)
         (reverse world.new.trace.items) world.old.callers.items world.new.callers.items) }
     ensures kept { world.new ≡ record world.old { input = world.new.input; callers = world.new.callers; trace = world.new.trace } }
 {
@@ -91,26 +82,11 @@ pub fn run<R: Wait, S: Source, K: Sink, D: Disk, C: Clock, F: Caller, L: Door>(
     requires callers { length world.old.callers.items ≡ 64 }
     requires trace { world.old.trace.items ≡ [] }
     ensures outcome { result ≢ 70 → RunOutcome C.gave F.sends F.log words
-        (record {
-          faults_before = S.faults world.old.input;
-          faults_now = S.faults world.new.input;
-          before = S.left world.old.input;
-          left = S.left world.new.input;
-        })
-        (record {
-          faults_before = K.faults world.old.out;
-          faults_now = K.faults world.new.out;
-          before = K.written world.old.out;
-          after = K.written world.new.out;
-        })
+        (read_of S.faults S.left world.old.input world.new.input)
+        (written_of K.faults K.written world.old.out world.new.out)
         (reverse world.new.trace.items) world.old.callers.items world.new.callers.items result }
     ensures want_of_memory { result ≡ 70 → IsCutOf C.gave F.sends F.log words
-        (record {
-          faults_before = S.faults world.old.input;
-          faults_now = S.faults world.new.input;
-          before = S.left world.old.input;
-          left = S.left world.new.input;
-        })
+        (read_of S.faults S.left world.old.input world.new.input)
         (reverse world.new.trace.items) world.old.callers.items world.new.callers.items }
     ensures good_words { result ≢ 2 }
     ensures untold { result ≡ 70 → world.new.out ≡ world.old.out }

@@ -8,7 +8,7 @@ ghost use Rattle.esm_shard.specs.CoreView.{LegalOver};
 ghost use Rattle.esm_shard.specs.Coming.{with_records};
 ghost use Rattle.esm_shard.specs.FirstPath.{IsFirstPath};
 ghost use Rattle.esm_run.specs.Reading.{IsWithin};
-ghost use Rattle.esm_run.specs.Headline.{IsRun, AllFated, HasOpen, IsEnding, IsEndedRun, IsCutRun, Laws};
+ghost use Rattle.esm_run.specs.Headline.{IsRun, AllFated, HasOpen, IsEnding, Laws, read_of, IsEndedRun, IsCutRun};
 ghost use Rattle.esm_run.specs.Stopping.{IsStopped};
 
 use crate::batchers::run_rounds;
@@ -99,20 +99,10 @@ pub fn run_mapping<R: Wait, S: Source, K: Sink, D: Disk, C: Clock, F: Caller, L:
     requires callers { length world.old.callers.items ≡ 64 }
     requires trace { world.old.trace.items ≡ [] }
     ensures run { IfOk result (λ ending. IsEndedRun C.gave F.sends F.log
-        (record {
-          faults_before = S.faults world.old.input;
-          faults_now = S.faults world.new.input;
-          before = S.left world.old.input;
-          left = S.left world.new.input;
-        })
+        (read_of S.faults S.left world.old.input world.new.input)
         config calls (reverse world.new.trace.items) world.old.callers.items world.new.callers.items ending) }
     ensures stopped { OnErr result (IsCutRun C.gave F.sends F.log
-        (record {
-          faults_before = S.faults world.old.input;
-          faults_now = S.faults world.new.input;
-          before = S.left world.old.input;
-          left = S.left world.new.input;
-        })
+        (read_of S.faults S.left world.old.input world.new.input)
         config calls (reverse world.new.trace.items) world.old.callers.items world.new.callers.items) }
     ensures kept { world.new ≡ record world.old { input = world.new.input; callers = world.new.callers; trace = world.new.trace } }
 {

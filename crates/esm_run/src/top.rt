@@ -1,14 +1,18 @@
-ghost use Rattle.std.specs.Prelude.{◌≡◌, ◌≢◌, List, [], length, map, reverse};
+ghost use Rattle.std.specs.Prelude.{◌≡◌, ◌≢◌, ℕ, List, [], length, map, reverse, IsSome};
 ghost use Rattle.std.specs.String.{string_bytes};
 ghost use Rattle.esm_cli.specs.Words.{spells};
 ghost use Rattle.esm_cli.specs.declared.command.Command.{Command};
-ghost use Rattle.esm_run.specs.Answers.{Outcome, IsCut};
+ghost use Rattle.esm_io.specs.Faults.{Rose};
+ghost use Rattle.esm_run.specs.Headline.{read_of};
+ghost use Rattle.esm_run.specs.Answers.{written_of, Outcome, IsCut};
 
 use crate::commands::{finish, run};
 use crate::output::OUT_OF_MEMORY;
 use crate::world::{Ended, World};
+use esm_cli::laws::one_command;
 use esm_cli::{Command, WordsError, read};
 use esm_io::{Caller, Clock, Disk, Door, Sink, Source};
+use esm_record::laws::whole_goes_on;
 use esm_report::Ending;
 use std::alloc::Global;
 use std::sync::Wait;
@@ -24,26 +28,11 @@ fn perform<R: Wait, S: Source, K: Sink, D: Disk, C: Clock, F: Caller, L: Door>(
     requires callers { length world.old.callers.items ≡ 64 }
     requires trace { world.old.trace.items ≡ [] }
     ensures outcome { result ≢ 70 → Outcome C.gave F.sends F.log (map string_bytes words.now)
-        (record {
-          faults_before = S.faults world.old.input;
-          faults_now = S.faults world.new.input;
-          before = S.left world.old.input;
-          left = S.left world.new.input;
-        })
-        (record {
-          faults_before = K.faults world.old.out;
-          faults_now = K.faults world.new.out;
-          before = K.written world.old.out;
-          after = K.written world.new.out;
-        })
+        (read_of S.faults S.left world.old.input world.new.input)
+        (written_of K.faults K.written world.old.out world.new.out)
         (reverse world.new.trace.items) world.old.callers.items world.new.callers.items result }
     ensures want_of_memory { result ≡ 70 → IsCut C.gave F.sends F.log (map string_bytes words.now)
-        (record {
-          faults_before = S.faults world.old.input;
-          faults_now = S.faults world.new.input;
-          before = S.left world.old.input;
-          left = S.left world.new.input;
-        })
+        (read_of S.faults S.left world.old.input world.new.input)
         (reverse world.new.trace.items) world.old.callers.items world.new.callers.items }
     ensures bad_words { result ≡ 2 → (c : Command) → ¬ spells (map string_bytes words.now) c }
     ensures untold { result ≡ 70 → world.new.out ≡ world.old.out }
@@ -62,8 +51,7 @@ fn perform<R: Wait, S: Source, K: Sink, D: Disk, C: Clock, F: Caller, L: Door>(
 /// was read to its end and every record has its fate, 1 where the calls allowed were spent before, 2 where the words
 /// are no command, 3 at a bad line, 4 where the input failed, 5 where the output failed, 9 where a parameter is
 /// refused, 10 past a limit, 70 for want of memory, after which nothing is told. 4 and 5 come only where the device's
-/// count of faults rose. Where the input tells its bytes and did not fail, the causes of 0, 1, 2, 3, 9 and 10 exclude one
-/// another.
+/// count of faults rose.
 pub fn esm<R: Threads + Wait + Sync, S: Source, K: Sink, D: Disk, C: Clock, F: Caller, L: Door>(
     rt: &R,
     alloc: Global,
@@ -73,26 +61,19 @@ pub fn esm<R: Threads + Wait + Sync, S: Source, K: Sink, D: Disk, C: Clock, F: C
     requires callers { length world.callers.items ≡ 64 }
     requires trace { world.trace.items ≡ [] }
     ensures outcome { result.status ≢ 70 → Outcome C.gave F.sends F.log (map string_bytes words.now)
-        (record {
-          faults_before = S.faults world.input;
-          faults_now = S.faults result.world.input;
-          before = S.left world.input;
-          left = S.left result.world.input;
-        })
-        (record {
-          faults_before = K.faults world.out;
-          faults_now = K.faults result.world.out;
-          before = K.written world.out;
-          after = K.written result.world.out;
-        })
+        (read_of S.faults S.left world.input result.world.input)
+        (written_of K.faults K.written world.out result.world.out)
         (reverse result.world.trace.items) world.callers.items result.world.callers.items result.status }
+    ensures exact { result.status ≢ 70 → IsSome (S.left world.input)
+        → ¬ Rose (S.faults world.input) (S.faults result.world.input)
+        → ¬ Rose (K.faults world.out) (K.faults result.world.out)
+        → (other : ℕ) → Outcome C.gave F.sends F.log (map string_bytes words.now)
+        (read_of S.faults S.left world.input result.world.input)
+        (written_of K.faults K.written world.out result.world.out)
+        (reverse result.world.trace.items) world.callers.items result.world.callers.items other
+        → other ≡ result.status }
     ensures want_of_memory { result.status ≡ 70 → IsCut C.gave F.sends F.log (map string_bytes words.now)
-        (record {
-          faults_before = S.faults world.input;
-          faults_now = S.faults result.world.input;
-          before = S.left world.input;
-          left = S.left result.world.input;
-        })
+        (read_of S.faults S.left world.input result.world.input)
         (reverse result.world.trace.items) world.callers.items result.world.callers.items }
     ensures bad_words { result.status ≡ 2 → (c : Command) → ¬ spells (map string_bytes words.now) c }
     ensures untold { result.status ≡ 70 → result.world.out ≡ world.out }
@@ -106,5 +87,7 @@ pub fn esm<R: Threads + Wait + Sync, S: Source, K: Sink, D: Disk, C: Clock, F: C
 {
     let mut world = world;
     let status = perform(rt, alloc, words, &mut world);
+    one_command();
+    whole_goes_on();
     Ended { status, world }
 }

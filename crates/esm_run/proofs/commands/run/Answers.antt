@@ -1,7 +1,8 @@
 use Rattle.std.proofs.Common.{subst, sym, ap, reverse}
 use Rattle.esm_report.specs.Report.{report_text}
 use Rattle.esm_run.specs.Endings.{IsTold}
-use Rattle.esm_run.specs.Answers.{RunOutcome, IsCutOf}
+use Rattle.esm_run.specs.Headline.{read_of}
+use Rattle.esm_run.specs.Answers.{written_of, RunOutcome, IsCutOf}
 use Rattle.esm_run.proofs.Outcomes.{whole_cut}
 use Rattle.esm_run.proofs.commands.run.Goals as goal
 
@@ -10,8 +11,8 @@ returns-in-Ok-clause-outcome g c = λ known.
     let before = c.run_words.new.world in
     let after = c.finish.new.world in
     subst (λ w. RunOutcome {F = g.row.F.Denot} g.C.Clock.gave g.F.Caller.sends g.F.Caller.log c.args.words
-    (record { faults_before = g.S.Source.faults c.args.world.now.input; faults_now = g.S.Source.faults w.input; before = g.S.Source.left c.args.world.now.input; left = g.S.Source.left w.input })
-    (record { faults_before = g.K.Sink.faults c.args.world.now.out; faults_now = g.K.Sink.faults after.out; before = g.K.Sink.written c.args.world.now.out; after = g.K.Sink.written after.out })
+    (read_of g.S.Source.faults g.S.Source.left c.args.world.now.input w.input)
+    (written_of g.K.Sink.faults g.K.Sink.written c.args.world.now.out after.out)
     (reverse w.trace.items) c.args.world.now.callers.items w.callers.items c.finish.result) (sym c.finish.ensures.same)
     (record {
       ending = c.in-Ok.ending;
@@ -25,8 +26,8 @@ pub returns-in-Ok-clause-want_of_memory : goal.returns-in-Ok-clause-want_of_memo
 returns-in-Ok-clause-want_of_memory g c = λ short.
     let before = c.run_words.new.world in
     subst (λ w. IsCutOf {F = g.row.F.Denot} g.C.Clock.gave g.F.Caller.sends g.F.Caller.log c.args.words
-    (record { faults_before = g.S.Source.faults c.args.world.now.input; faults_now = g.S.Source.faults w.input; before = g.S.Source.left c.args.world.now.input; left = g.S.Source.left w.input })
+    (read_of g.S.Source.faults g.S.Source.left c.args.world.now.input w.input)
     (reverse w.trace.items) c.args.world.now.callers.items w.callers.items) (sym c.finish.ensures.same)
     (whole_cut g.C.Clock.gave g.F.Caller.sends g.F.Caller.log c.args.words
-    (record { faults_before = g.S.Source.faults c.args.world.now.input; faults_now = g.S.Source.faults before.input; before = g.S.Source.left c.args.world.now.input; left = g.S.Source.left before.input })
+    (read_of g.S.Source.faults g.S.Source.left c.args.world.now.input before.input)
     (reverse before.trace.items) c.args.world.now.callers.items before.callers.items c.in-Ok.ending c.in-Ok.ensures.ended)

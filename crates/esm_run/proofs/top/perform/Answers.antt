@@ -2,8 +2,8 @@ use Rattle.std.proofs.Common.{[], subst, sym, ap, reverse, refl, inl, inr, Err}
 use Rattle.std.specs.Prelude.{map}
 use Rattle.std.specs.String.{string_bytes}
 use Rattle.esm_model.specs.Setup.{no_config}
-use Rattle.esm_run.specs.Answers.{Outcome}
-use Rattle.esm_run.specs.Headline.{setting_of}
+use Rattle.esm_run.specs.Answers.{written_of, Outcome}
+use Rattle.esm_run.specs.Headline.{setting_of, read_of}
 use Rattle.esm_run.proofs.top.perform.Goals as goal
 
 pub returns-in-Err-BadWords-clause-outcome : goal.returns-in-Err-BadWords-clause-outcome
@@ -11,8 +11,8 @@ returns-in-Err-BadWords-clause-outcome g c = λ known.
     let before = c.args.world.now in
     let after = c.finish.new.world in
     subst (λ w. Outcome {F = g.row.F.Denot} g.C.Clock.gave g.F.Caller.sends g.F.Caller.log (map string_bytes c.args.words.now)
-    (record { faults_before = g.S.Source.faults before.input; faults_now = g.S.Source.faults w.input; before = g.S.Source.left before.input; left = g.S.Source.left w.input })
-    (record { faults_before = g.K.Sink.faults before.out; faults_now = g.K.Sink.faults after.out; before = g.K.Sink.written before.out; after = g.K.Sink.written after.out })
+    (read_of g.S.Source.faults g.S.Source.left before.input w.input)
+    (written_of g.K.Sink.faults g.K.Sink.written before.out after.out)
     (reverse w.trace.items) before.callers.items w.callers.items c.finish.result) (sym c.finish.ensures.same)
     (inr (record {
       none_spelled = c.in-Err-BadWords.ensures.bad (ap Err c.in-Err-BadWords.field-0-is);
