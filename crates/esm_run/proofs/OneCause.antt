@@ -7,7 +7,6 @@ use Rattle.esm_io.specs.Faults.{Rose}
 use Rattle.esm_model.specs.Setup.{no_config}
 use Rattle.esm_model.specs.declared.called.Called.{Called}
 use Rattle.esm_model.specs.declared.config.Config.{Config}
-use Rattle.esm_model.specs.declared.item.Record.{Record}
 use Rattle.esm_model.specs.declared.entry.Entry.{Entry}
 use Rattle.esm_model.specs.Setting.{Setting}
 use Rattle.esm_model.specs.Fates.{fate}
@@ -27,9 +26,9 @@ use Rattle.esm_report.specs.declared.ending.Ending.{Ending}
 use Rattle.esm_report.specs.declared.ending.Ending.TheVariants as ending
 use Rattle.esm_run.specs.declared.input.InputEnd.{InputEnd}
 use Rattle.esm_run.specs.Configured.{IsConfigured, refused_field}
-use Rattle.esm_run.specs.Endings.{ending_of, status_of, failed_status_of, IsTold}
-use Rattle.esm_run.specs.Headline.{Read, AllFated, HasOpen, IsEnding, IsEndedRun, setting_of}
-use Rattle.esm_run.specs.Answers.{IsRefused, IsRunOf, RunCause, RunEnded, Written, RunOutcome, AreBadWords, Outcome}
+use Rattle.esm_run.specs.Endings.{ending_of, status_of, IsTold}
+use Rattle.esm_run.specs.Headline.{Read, AllFated, HasOpen, IsEnding, setting_of}
+use Rattle.esm_run.specs.Answers.{IsRefused, IsRunOf, RunCause, Written, RunOutcome, Outcome}
 use Rattle.esm_run.proofs.OneReading.{one_reading}
 
 -- the laws of the words and of the lines
