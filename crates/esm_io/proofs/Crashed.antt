@@ -1,5 +1,5 @@
 -- What a disk in memory is made to leave is one of its images.
-use Rattle.std.proofs.Common.{◌≡◌, ◌⊎◌, inl, inr, ℕ, suc, zero, ◌+◌, ◌<◌, ◌≤◌, ◌==◌, nat_lt, Bool, true, false, cond, List, [], ◌∷◌, ◌++◌, length, take, drop, max, arith, refl, sym, subst, ap, ◌∙◌, slice_index}
+use Rattle.std.proofs.Common.{◌≡◌, ◌⊎◌, inl, inr, ℕ, suc, zero, ◌+◌, ◌<◌, ◌≤◌, ◌==◌, Bool, true, false, cond, List, [], ◌∷◌, ◌++◌, length, take, drop, max, arith, refl, sym, subst, ap, ◌∙◌, slice_index}
 use Rattle.std.proofs.lemmas.List.{length-take, length-take-le, length-drop, length-append, append_assoc, drop-drop, drop_all}
 use Rattle.std.proofs.Math.Nat.{eq-or-lt_of_le}
 use Rattle.esm_io.specs.Images.{Torn}

@@ -1,9 +1,9 @@
 -- What a call of a disk in memory leaves, over its fields.
-use Rattle.std.proofs.Common.{◌≡◌, ℕ, ◌+◌, ◌<◌, ◌≤◌, List, [], ◌∷◌, ◌++◌, length, take, drop, min, max, reverse, arith, refl, sym, subst, ap, ◌∙◌}
+use Rattle.std.proofs.Common.{◌≡◌, ℕ, ◌≤◌, List, [], ◌∷◌, ◌++◌, length, take, drop, reverse, arith, refl, sym, subst, ap, ◌∙◌}
 use Rattle.std.proofs.lemmas.List.{length-take, length-drop, reverse-append}
 use Rattle.esm_io.specs.Schedule.{ScheduleState}
 use Rattle.esm_io.specs.Images.{Torn, Elapses, Follows, Within, overwritten}
-use Rattle.esm_io.specs.Steps.{DiskState, IsImage, IsImageSince, AreSteps, undone}
+use Rattle.esm_io.specs.Steps.{DiskState, IsImage, IsImageSince, AreSteps}
 use Rattle.esm_io.specs.declared.disk_step.DiskStep.{DiskStep}
 use Rattle.esm_io.specs.declared.disk_step.DiskStep.TheVariants.{Wrote, Synced}
 use Rattle.esm_io.proofs.Elapsed.{stayed, stayed_within, synced, synced_images, wrote, wrote_images, torn_same, undone_overwritten, length_overwritten}

@@ -1,5 +1,5 @@
 -- What a scripted caller answers. This product's own.
-use Rattle.std.specs.Prelude.{◌≡◌, ℕ, nat_eq, slice_index_or, Bool, true, false, ◌||◌, List, [], ◌∷◌}
+use Rattle.std.specs.Prelude.{◌≡◌, ℕ, nat_eq, slice_index_or, Bool, false, ◌||◌, List, [], ◌∷◌}
 use Rattle.std.specs.List.{starts_with}
 use Rattle.esm_model.specs.declared.entry.Reply.{Reply}
 use Rattle.esm_model.specs.declared.entry.Reply.TheVariants.{Answered, Lost}

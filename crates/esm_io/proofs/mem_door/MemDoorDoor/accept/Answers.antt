@@ -1,7 +1,6 @@
-use Rattle.std.proofs.Common.{rules, List}
 use Rattle.std.specs.List.{All}
 use Rattle.std.proofs.lemmas.List.Elements.{All-drop}
-use Rattle.esm_io.specs.Forms.{IsUnused, LinkState}
+use Rattle.esm_io.specs.Forms.{IsUnused}
 use Rattle.esm_io.proofs.mem_door.MemDoorDoor.accept.Goals as goal
 
 pub invariant_of-self-in-Some : goal.invariant_of-self-in-Some

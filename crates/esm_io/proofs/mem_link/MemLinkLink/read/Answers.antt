@@ -1,4 +1,4 @@
-use Rattle.std.proofs.Common.{◌≡◌, List, ◌++◌, take, drop, sym, ◌∙◌, ap}
+use Rattle.std.proofs.Common.{◌≡◌, ◌++◌, take, drop, sym, ◌∙◌, ap}
 use Rattle.esm_io.specs.Forms.{LinkState}
 use Rattle.esm_io.proofs.mem_link.MemLinkLink.read.Goals as goal
 
