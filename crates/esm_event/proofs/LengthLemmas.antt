@@ -1,7 +1,6 @@
 -- How long the texts and their parts are.
-use Rattle.std.proofs.Common.{◌≡◌, ℕ, ◌+◌, ◌-◌, ◌*◌, ◌/◌, ◌<◌, ◌≤◌, Bool, true, false, ◌&&◌, List, [], ◌∷◌, ◌++◌, length, filter, refl, sym, ap, ◌∙◌, inl, inr, arith, length-append, cond, nat_lt, ◌%◌, Option, Some}
+use Rattle.std.proofs.Common.{◌≡◌, ℕ, ◌+◌, ◌*◌, ◌/◌, ◌≤◌, Bool, true, false, List, [], ◌∷◌, ◌++◌, length, filter, refl, arith, length-append, cond, nat_lt, ◌%◌, Option, Some}
 use Rattle.std.specs.List.{flat_map}
-use Rattle.std.proofs.lemmas.Bool.{cases_lt, le-leb, leb-true}
 use Rattle.std.proofs.lemmas.Bool.Decides.{nat_tests}
 use Rattle.std.specs.Char.{encode_utf8}
 use Rattle.std.specs.Str.{IsUtf8, encode_utf8_all}
@@ -9,7 +8,7 @@ use Rattle.std.proofs.lemmas.List.{length-replicate}
 use Rattle.base64.proofs.RoundTrip.{length-encode_symbols}
 use Rattle.esm_model.specs.Numbers.{decimal}
 use Rattle.esm_model.specs.JsonText.{escaped_byte, truth_text}
-use Rattle.esm_model.specs.Valid.{is_between, is_word, begins_char, char_count, IsSource, IsKinesisSource, IsTableSource, IsStreamConfig, IsValidConfig, arn_of}
+use Rattle.esm_model.specs.Valid.{is_between, begins_char, char_count}
 use Rattle.esm_model.specs.EventText.{base64_text, record_text, event_text, window_part, state_text}
 use Rattle.esm_model.specs.Dates.{second_text, day_text}
 use Rattle.esm_model.specs.declared.event.WindowCall.{WindowCall}

@@ -2,7 +2,7 @@ use Rattle.std.proofs.Common.{◌≡◌, arith, pos}
 use Rattle.jiff_core.proofs.SignedLemmas.{signed_arith}
 use Rattle.jiff_core.proofs.DateLemmas.{civil}
 use Rattle.jiff_core.specs.Date.{epoch_day}
-use Rattle.esm_event.proofs.CalendarLemmas.{IsDateOf, IsDateOf-days_from_civil}
+use Rattle.esm_event.proofs.CalendarLemmas.{IsDateOf-days_from_civil}
 use Rattle.esm_event.proofs.dates.date_of.Goals as goal
 
 pub returns-clause-year : goal.returns-clause-year

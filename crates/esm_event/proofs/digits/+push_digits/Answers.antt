@@ -1,4 +1,4 @@
-use Rattle.std.proofs.Common.{rules, ℕ, ◌<◌, sym, arith, append-nil, append_assoc}
+use Rattle.std.proofs.Common.{rules, ◌<◌, sym, arith, append-nil, append_assoc}
 use Rattle.esm_model.proofs.NumberLemmas.{last_digits_none, last_digits_more}
 use Rattle.esm_event.proofs.digits.+push_digits.Goals as goal
 
