@@ -50,6 +50,8 @@ pub trait Dest {
         ensures usable_again { IsErrOf result DestError.OutOfMemory → failed self.new ≡ false }
         ensures down { IsErrOf result DestError.Failed → failed self.new ≡ true }
         ensures room { IsErrOf result DestError.OutOfMemory → has_room self.old (length line.now) → ⊥ }
+        ensures room_kept { IsErrOf result DestError.OutOfMemory → (n : ℕ) → has_room self.old n → has_room self.new n }
+        ensures uncounted { IsErrOf result DestError.OutOfMemory → faults self.new ≡ faults self.old }
         ensures count { IsCount (faults self.old) (faults self.new) }
         ensures cause { IsErrOf result DestError.Failed → Rose (faults self.old) (faults self.new) };
 }

@@ -114,7 +114,8 @@ impl Dest for MemDest {
         ensures usable_again { IsErrOf result DestError.OutOfMemory → self.new.failed ≡ false }
         ensures down { IsErrOf result DestError.Failed → self.new.failed ≡ true }
         ensures room { IsErrOf result DestError.OutOfMemory → length line.now < self.old.room → ⊥ }
-        ensures room_kept { OnErr result (self.old.room ≤ self.new.room) }
+        ensures room_kept { IsErrOf result DestError.OutOfMemory → (n : ℕ) → n < self.old.room → n < self.new.room }
+        ensures uncounted { IsErrOf result DestError.OutOfMemory → self.new.schedule.faults ≡ self.old.schedule.faults }
         ensures count { IsCount self.old.schedule.faults self.new.schedule.faults }
         ensures cause { IsErrOf result DestError.Failed → Rose self.old.schedule.faults self.new.schedule.faults }
         ensures due { is_due self.old.schedule ≡ true → IsErrOf result DestError.Failed }

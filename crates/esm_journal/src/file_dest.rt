@@ -80,6 +80,9 @@ impl<D: Disk> Dest for FileDest<D> {
         ensures unchanged { IsErrOf result DestError.OutOfMemory → self.new ≡ self.old }
         ensures down { IsErrOf result DestError.Failed → self.new.down ≡ true }
         ensures room { IsErrOf result DestError.OutOfMemory → (length line.now ≤ max_payload → HasRoom self.old.room (length line.now)) → ⊥ }
+        ensures room_kept { IsErrOf result DestError.OutOfMemory → (n : ℕ)
+            → (n ≤ max_payload → HasRoom self.old.room n) → n ≤ max_payload → HasRoom self.new.room n }
+        ensures uncounted { IsErrOf result DestError.OutOfMemory → D.faults self.new.disk ≡ D.faults self.old.disk }
         ensures kept { D.honest self.new.disk ≡ true → self.new.down ≡ false → Keeps D.content D.image (header_of 1) self.new.payloads self.new.disk }
         ensures stopped { D.honest self.new.disk ≡ true → self.new.down ≡ true → StillOpens D.image (header_of 1) self.new.payloads self.new.disk }
         ensures any_moment { D.honest self.old.disk ≡ true →
