@@ -2,11 +2,13 @@
 //! does what the other words ask for. All that it prints goes to standard output.
 #![tactic(auto)]
 
+mod fresh_disks;
 mod opening;
 
-use esm_io::{HostClock, MemDisk, MemDoor, StdinSource, StdoutSink};
+use esm_io::{HostClock, MemDoor, StdinSource, StdoutSink};
 use esm_model::OutOfMemory;
 use esm_run::{World, esm};
+use fresh_disks::FreshDisks;
 use opening::{Opening, read_opening};
 use std::alloc::Global;
 use std::env;
@@ -18,18 +20,6 @@ use std::thread::Threads;
 
 /// The exit status for want of memory.
 const OUT_OF_MEMORY: u8 = 70;
-
-/// What a fresh journal, its spare, and the other files hold.
-const JOURNAL: &[u8] = b"ESMJ0002\0\0\0\0\0\0\0\x01\x01\0";
-
-const SPARE: &[u8] = b"ESMJ0002\0\0\0\0\0\0\0\0\0\0";
-
-const OTHER: &[u8] = b"ESMJ0001\0\0\0\0\0\0\0\x01\x01\0";
-
-fn disk(alloc: Global, bytes: &[u8]) -> Result<MemDisk, OutOfMemory> {
-    let bytes = Vec::from_slice(alloc, bytes)?;
-    Ok(MemDisk::new(alloc, bytes, Vec::new(alloc)))
-}
 
 /// The words after the program's own name.
 fn words(rt: &HostRuntime, alloc: Global) -> Result<Vec<String>, OutOfMemory> {
@@ -51,13 +41,14 @@ fn run<R: Runtime + Threads + Wait + Net + Clone + Sync>(
     words: &[String],
 ) -> Result<u8, OutOfMemory> {
     let Opening { callers, first } = read_opening(rt, alloc, words)?;
+    let disks = FreshDisks::new(alloc)?;
     let world = World {
         input: StdinSource::new(rt)?,
         out: StdoutSink::new(rt)?,
-        journal: disk(alloc, JOURNAL)?,
-        spare: disk(alloc, SPARE)?,
-        failures: disk(alloc, OTHER)?,
-        registry: disk(alloc, OTHER)?,
+        journal: disks.journal,
+        spare: disks.spare,
+        failures: disks.failures,
+        registry: disks.registry,
         clock: HostClock::new(rt)?,
         callers,
         door: MemDoor::new(alloc, Vec::new(alloc), Vec::new(alloc)),
