@@ -12,5 +12,6 @@ pub mod Rewrites
 pub mod Rooms
 pub mod Runs
 pub mod States
+pub mod Stops
 pub mod WorkedFile
 pub mod Written

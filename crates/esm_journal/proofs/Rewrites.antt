@@ -11,6 +11,7 @@ use Rattle.esm_journal.specs.declared.log.Log.{Log}
 use Rattle.esm_journal.proofs.Files.{seal_of_file}
 use Rattle.esm_journal.proofs.Written.{end_within}
 use Rattle.esm_journal.proofs.Runs.{started}
+use Rattle.esm_journal.proofs.Stops.{clash}
 use Rattle.esm_journal.proofs.Pairs.{old_file_beside, keeps_pair, pair_old_or_new, old_or_new_swapped, in_order, in_order_after}
 
 -- a file is long enough and sealed
@@ -27,12 +28,13 @@ module _ {D : Type 0} (honest : D → Bool) (content : D → List ℕ) (image : 
     (only_now : (disk : D) (left : List ℕ) → honest disk ≡ true → since disk (moment disk) left → image disk left) (log : Log D) (spare : D) (sealed : Bool)
     (is_log : IsLog honest content image faults log) (is_pair : IsPair honest content image faults log spare sealed) where
   -- the disk in use becomes the spare one, beside the new file
-  pub is_pair_over : (new : Log D) → IsLog honest content image faults new → log.down ≡ false → new.header ≡ log.header → new.epoch ≡ log.epoch + 1 → IsPair honest content image faults new log.disk true
-  is_pair_over new is_new up headed next = record {
+  pub is_pair_over : (new : Log D) → IsLog honest content image faults new → log.down ≡ false → new.down ≡ log.down → new.header ≡ log.header → new.epoch ≡ log.epoch + 1 → IsPair honest content image faults new log.disk true
+  is_pair_over new is_new up still_up headed next = record {
     header = headed ∙ is_pair.header;
     beside = λ h1 h2 still. old_file_beside (header_of 2) log.epoch new.epoch log.payloads.items (content log.disk) refl (subst (λ l. IsFile l log.epoch log.payloads.items (content log.disk)) is_pair.header (is_log.file h2 up)) (omega (arith, next));
     settled = λ h still. is_log.synced h up;
     other = λ h still. other_of_file log.header log.epoch log.payloads.items (content log.disk) is_log.header (is_log.file h up);
+    stopped = λ h1 h2 down. absurd (clash (sym (still_up ∙ up) ∙ down));
     faults_fit = is_log.faults_fit;
   }
 

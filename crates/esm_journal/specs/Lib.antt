@@ -7,6 +7,7 @@ pub mod State
 pub mod Pair
 pub mod Worked
 pub mod Taken
-pub mod IsPair
 pub mod Replace
+pub mod Stopped
+pub mod IsPair
 pub mod Migrate

@@ -7,6 +7,7 @@ ghost use Rattle.esm_journal.specs.Room.{HasRoom, room_after};
 ghost use Rattle.esm_journal.specs.Log.{IsEither};
 ghost use Rattle.esm_journal.specs.Pair.{pair_opened, first_disk, second_disk, PairKeeps, PairOpensTo, PairOpensToEither};
 ghost use Rattle.esm_journal.specs.Replace.{first_too_long, IsSpareOrNew, PairOpensToOldOrNew};
+ghost use Rattle.esm_journal.specs.Stopped.{PairStillOpens};
 
 use crate::error::{AppendError, InitError, OpenError};
 use crate::format::PAIR;
@@ -153,10 +154,12 @@ impl<D: Disk> Pair<D> {
         }
     }
 
-    /// The payloads, in order.
+    /// The payloads, in order. While the pair is down they are those from before the call that failed; a crash leaves a
+    /// pair that opens to these, or to what that call was to leave.
     pub fn payloads(&self) -> &[Bytes]
         ensures payloads { result.now ≡ self.now.payloads }
         ensures kept { D.honest self.now.used ≡ true → D.honest self.now.spare ≡ true → self.now.down ≡ false → PairKeeps D.content D.image (header_of 2) self.now.epoch self.now.payloads self.now.used self.now.spare }
+        ensures stopped { D.honest self.now.used ≡ true → D.honest self.now.spare ≡ true → self.now.down ≡ true → PairStillOpens D.image (header_of 2) self.now.epoch self.now.payloads (first_disk self.now) (second_disk self.now) }
     {
         &self.log.payloads
     }

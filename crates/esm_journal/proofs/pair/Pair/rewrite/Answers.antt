@@ -3,6 +3,7 @@ use Rattle.esm_journal.specs.File.{header_of, IsFile}
 use Rattle.esm_journal.proofs.Adds.{on_ok_told}
 use Rattle.esm_journal.proofs.Lists.{all_short}
 use Rattle.esm_journal.proofs.Rewrites.{resting, images_before, images_after, is_pair_over, pair_keeps}
+use Rattle.esm_journal.proofs.Stops.{is_log_stopped, is_pair_stopped}
 use Rattle.esm_journal.proofs.pair.Pair.rewrite.Goals as goal
 
 pub returns-in-Some-clause-any_moment_err : goal.returns-in-Some-clause-any_moment_err
@@ -59,7 +60,7 @@ invariant_of-self-2 g c = (
   c.move_over.ensures.log,
   rw c.move_over.ensures.disk_before (is_pair_over g.D.Disk.honest g.D.Disk.content g.D.Disk.image g.D.Disk.moment g.D.Disk.image_since g.D.Disk.faults g.met.D.Disk.only_now
       c.self.inside.log c.self.inside.spare c.self.inside.spare_sealed c.self.invariant.0 c.self.invariant.1
-      c.move_over.new.self c.move_over.ensures.log c.if-self.false c.move_over.ensures.header c.move_over.ensures.epoch),
+      c.move_over.new.self c.move_over.ensures.log c.if-self.false c.move_over.ensures.down c.move_over.ensures.header c.move_over.ensures.epoch),
 )
 
 pub returns-clause-kept : goal.returns-clause-kept
@@ -67,7 +68,7 @@ returns-clause-kept g c =
     rw c.move_over.ensures.disk_before (pair_keeps g.D.Disk.honest g.D.Disk.content g.D.Disk.image g.D.Disk.moment g.D.Disk.image_since g.D.Disk.faults g.met.D.Disk.only_now
     c.move_over.new.self c.self.inside.log.disk true c.move_over.ensures.log (is_pair_over g.D.Disk.honest g.D.Disk.content g.D.Disk.image g.D.Disk.moment g.D.Disk.image_since g.D.Disk.faults g.met.D.Disk.only_now
     c.self.inside.log c.self.inside.spare c.self.inside.spare_sealed c.self.invariant.0 c.self.invariant.1
-    c.move_over.new.self c.move_over.ensures.log c.if-self.false c.move_over.ensures.header c.move_over.ensures.epoch))
+    c.move_over.new.self c.move_over.ensures.log c.if-self.false c.move_over.ensures.down c.move_over.ensures.header c.move_over.ensures.epoch))
 
 pub returns-clause-any_moment : goal.returns-clause-any_moment
 returns-clause-any_moment g c =
@@ -90,3 +91,11 @@ pub returns-in_default-prepare-clause-kept : goal.returns-in_default-prepare-cla
 returns-in_default-prepare-clause-kept g c =
     rw (← c.self.view_is) (pair_keeps g.D.Disk.honest g.D.Disk.content g.D.Disk.image g.D.Disk.moment g.D.Disk.image_since g.D.Disk.faults g.met.D.Disk.only_now
     c.self.inside.log c.self.inside.spare c.self.inside.spare_sealed c.self.invariant.0 c.self.invariant.1)
+
+pub invariant_of-self : goal.invariant_of-self
+invariant_of-self g c = (
+  is_log_stopped g.D.Disk.honest g.D.Disk.content g.D.Disk.image g.D.Disk.faults c.self.inside.log c.self.inside.spare c.self.inside.spare_sealed c.self.invariant.0 c.self.invariant.1 c.if-self.false,
+  is_pair_stopped g.D.Disk.honest g.D.Disk.content g.D.Disk.image g.D.Disk.faults c.self.inside.log c.self.inside.spare c.self.inside.spare_sealed c.self.invariant.0 c.self.invariant.1 c.if-self.false
+      g.D.Disk.moment g.D.Disk.image_since g.met.D.Disk.counts_now c.replace_file.new.disk c.replace_file.ensures.honesty c.replace_file.ensures.count.greatest c.args.payloads.now
+      (λ h. c.replace_file.ensures.any_moment h c.args.payloads.now (all_short c.args.payloads.now (sym c.first_too_long.ensures ∙ c.in_default.is)) (c.deref.ensures.value ∙ c.in-Ok.ensures.bytes)),
+)

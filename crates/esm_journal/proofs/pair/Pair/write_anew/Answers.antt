@@ -37,6 +37,7 @@ invariant_of-result g c =
         beside = λ h1 h2 up. old_beside c.args.found.epoch (c.args.found.epoch + 1) payloads (g.D.Disk.content c.args.used) (c.requires.file h2);
         settled = λ h up. c.requires.durable h;
         other = λ h up. other_of_file (header_of 1) c.args.found.epoch payloads (g.D.Disk.content c.args.used) refl (c.requires.file h);
+        stopped = λ h1 h2 down. absurd (clash down);
         faults_fit = c.requires.faults;
       },
     )
