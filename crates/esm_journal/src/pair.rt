@@ -131,11 +131,11 @@ impl<D: Disk> Pair<D> {
         }
     }
 
-    /// Makes an empty disk a fresh `journal.esm` without payloads, with all of it on the disk. `NotEmpty` where the disk
-    /// has bytes, with their number; nothing is written then.
+    /// Makes an empty disk a fresh `journal.esm` without payloads, with all of it on the disk. Beside a fresh
+    /// `spare.esm` it opens to no payload, each of the two in whichever place. `NotEmpty` where the disk has bytes, with
+    /// their number; nothing is written then.
     pub fn first(disk: D) -> Result<D, Refused<InitError, D>>
         ensures bytes { D.honest disk ≡ true → IfOk result (λ made. D.content made ≡ fresh_file (header_of 2)) }
-        // Beside a fresh spare, each in whichever place, it opens to no payload.
         ensures opens { D.honest disk ≡ true → IfOk result (λ made. PairOpensTo (header_of 2) 1 [] (D.content made) (blank_file (header_of 2) 0)) }
         ensures durable { D.honest disk ≡ true → IfOk result (λ made. Only (D.content made) (D.image made)) }
         ensures was_empty { D.honest disk ≡ true → OnOk result (length (D.content disk) ≡ 0) }
