@@ -1,11 +1,12 @@
 -- The table's functions, step by step.
-use Rattle.std.proofs.Common.{◌≡◌, ℕ, zero, suc, ◌+◌, ◌^◌, ◌<◌, ◌≤◌, Bool, true, false, List, [], ◌∷◌, ◌++◌, length, take, drop, get_or, refl, sym, ap, ◌∙◌, subst, arith, Some, None, add-one, length-append}
-use Rattle.std.specs.Prelude.{sum_by, filter, filter_map, slice_get}
+use Rattle.std.proofs.Common.{◌≡◌, ℕ, zero, suc, ◌+◌, ◌^◌, ◌<◌, ◌≤◌, Bool, true, false, List, [], ◌∷◌, ◌++◌, length, take, drop, get_or, refl, sym, ap, ◌∙◌, subst, arith, Some, None, add-one, length-append, inl, inr, Bor, ◌-◌}
+use Rattle.std.specs.Prelude.{sum_by, filter, filter_map, slice_get, Option, IfSome}
+use Rattle.std.specs.Slice.{IsGetRangeResult}
 use Rattle.std.proofs.Math.Seq.{drop-cons}
-use Rattle.std.proofs.lemmas.List.{take_more, length-take-le}
+use Rattle.std.proofs.lemmas.List.{append-nil, get_or-drop, length-drop, length-take-le, take_all, take_more}
 use Rattle.std.proofs.lemmas.List.Sums.{sum_by-append}
 use Rattle.std.proofs.lemmas.List.Elements.{filter-append, filter_map-append}
-use Rattle.std.proofs.lemmas.Option.{slice_get-get_or}
+use Rattle.std.proofs.lemmas.Option.{slice_get-get_or, slice_get_cases}
 use Rattle.std.proofs.lemmas.Bool.{and_from, and_left, and_right, le-leb, lt-leb}
 use Rattle.std.proofs.Math.Pow.{pow_mono}
 use Rattle.esm_model.specs.Limits.{MAX_EVENT}
@@ -52,6 +53,40 @@ table_more records xs i r h inside is =
     let at : slice_get records (get_or xs i 0) ≡ Some r = slice_get-get_or records (get_or xs i 0) r inside ∙ ap Some (sym is) in
     let one : filter_map (slice_get records) (get_or xs i 0 ∷ []) ≡ r ∷ [] = rw at in
     ap (table_records records) (take_more xs i 0 h) ∙ filter_map-append (slice_get records) (take i xs) (get_or xs i 0 ∷ []) ∙ ap (λ rs. table_records records (take i xs) ++ rs) one
+
+-- one more record, where the places so far follow one another
+pub run_more : (records : List Record) (xs : List ℕ) (first i : ℕ) → i < length xs → get_or xs i 0 ≡ first + i
+    → table_records records (take i xs) ≡ take i (drop first records) → table_records records (take (i + 1) xs) ≡ take (i + 1) (drop first records)
+run_more records xs first i h at so_far =
+    let long = length-drop first records in
+    let more : table_records records (take (i + 1) xs) ≡ take i (drop first records) ++ table_records records (get_or xs i 0 ∷ []) =
+    ap (table_records records) (take_more xs i 0 h) ∙ filter_map-append (slice_get records) (take i xs) (get_or xs i 0 ∷ [])
+    ∙ ap (λ rs. rs ++ table_records records (get_or xs i 0 ∷ [])) so_far in
+    elim (slice_get_cases records (first + i)).1 [
+      | inl found ↦ (
+          let is : slice_get records (get_or xs i 0) ≡ Some found.0 = ap (slice_get records) at ∙ found.2 in
+          let one : table_records records (get_or xs i 0 ∷ []) ≡ found.0 ∷ [] = rw is in
+          let within : first + i < length records = found.1 in
+          let next : take (i + 1) (drop first records) ≡ take i (drop first records) ++ found.0 ∷ [] =
+          take_more (drop first records) i found.0 (omega (arith, long, within))
+          ∙ ap (λ r. take i (drop first records) ++ r ∷ []) (get_or-drop first records i found.0 ∙ found.3) in
+          more ∙ ap (λ rs. take i (drop first records) ++ rs) one ∙ sym next)
+      | inr past ↦ (
+          let is : slice_get records (get_or xs i 0) ≡ None = ap (slice_get records) at ∙ past.1 in
+          let none : table_records records (get_or xs i 0 ∷ []) ≡ [] = rw is in
+          let low : length records ≤ first + i = past.0 in
+          let all = take_all i (drop first records) (omega (arith, long, low)) in
+          let all_more = take_all (i + 1) (drop first records) (omega (arith, long, low)) in
+          more ∙ ap (λ rs. take i (drop first records) ++ rs) none ∙ append-nil (take i (drop first records)) ∙ all ∙ sym all_more)
+    ]
+
+-- all the places follow one another, so their records are a part of the list
+pub run_end : (records : List Record) (xs : List ℕ) (first : ℕ) → table_records records (take (length xs) xs) ≡ take (length xs) (drop first records)
+    → (r : Option (Bor (List Record))) → IsGetRangeResult records first (first + length xs) r → IfSome r (λ run. run.now ≡ table_records records xs)
+run_end records xs first all None part = tt
+run_end records xs first all (Some run) part =
+    let count : first + length xs - first ≡ length xs = omega arith in
+    part.0.2 ∙ ap (λ n. take n (drop first records)) count ∙ sym all ∙ ap (table_records records) (take_all (length xs) xs (omega arith))
 
 -- the bytes of the records' elements
 abbrev pub element_bytes : Config → List Record → ℕ

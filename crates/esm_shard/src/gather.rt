@@ -1,8 +1,21 @@
-ghost use Rattle.std.specs.Prelude.{◌≡◌, ◌<◌, IfOk, All, length};
+ghost use Rattle.std.specs.Prelude.{◌≡◌, ◌<◌, IfOk, IfSome, All, length};
 ghost use Rattle.esm_shard.specs.Table.{table_records};
 
 use esm_model::{Bytes, OutOfMemory, Record, Seq, Text};
 use std::alloc::Global;
+
+/// The records at the places, as they stand there, where these follow one another.
+pub fn side_by_side<'a>(records: &'a [Record], places: &[u32]) -> Option<&'a [Record]>
+    ensures { IfSome result (λ run. run.now ≡ table_records records.entry.now places.now) }
+{
+    let first = *places.first()? as usize;
+    for (i, place) in places.iter().enumerate() {
+        if *place as usize != first + i {
+            return None;
+        }
+    }
+    records.get(first..first + places.len())
+}
 
 /// Copies of the records at the places, in order.
 pub fn gathered(

@@ -4,6 +4,7 @@ ghost use Rattle.esm_model.specs.Valid.{IsValidRecord, IsStreamConfig};
 ghost use Rattle.esm_model.specs.Setting.{over};
 ghost use Rattle.esm_model.specs.Entries.{is_shut, is_running, came_count};
 ghost use Rattle.esm_model.specs.Batches.{delay_from};
+ghost use Rattle.esm_model.specs.EventText.{event_text};
 ghost use Rattle.esm_model.specs.declared.entry.Entry.{Entry};
 ghost use Rattle.esm_model.specs.declared.item.Record.{Record};
 ghost use Rattle.esm_model.specs.declared.lane.LaneId.{LaneId};
@@ -11,10 +12,10 @@ ghost use Rattle.esm_shard.specs.FirstPath.{IsFirstPath};
 ghost use Rattle.esm_shard.specs.CoreView.{new_setting, moment_for, lane_of_batcher, checkpoint_of, spread_of};
 ghost use Rattle.esm_shard.specs.Coming.{with_records, came_entries, AreOfOneShard};
 ghost use Rattle.esm_shard.specs.Following.{IsNext, next_entries, IsFinished};
-ghost use Rattle.esm_shard.specs.Table.{group_slots};
+ghost use Rattle.esm_shard.specs.Table.{group_slots, table_records};
 ghost use Rattle.esm_shard.specs.Ledger.{past_of, setting_of, view_of, lane_of_ledger, Keeps, HasRoom, rest_of, IsLaneNext, HasPlaces, begun_entries, IsJobOf, MayBeginAt};
 
-use crate::gather::gathered;
+use crate::gather::{gathered, side_by_side};
 use crate::slot::{Slot, cut, delay_end, fated_past, first_group, is_ready};
 use esm_event::stream_event;
 use esm_model::{Bytes, Config, Entry, Job, LaneId, MAX_MOMENT, Next, OutOfMemory, Places, Record};
@@ -290,14 +291,28 @@ impl Ledger {
         requires within { All (λ p. p < length self.now.records.items) batch.now }
         ensures { IfOk result (λ job. IsJobOf self.now batch.now job) }
     {
-        let records = gathered(alloc, self.records.as_slice(), batch)?;
-        let event = stream_event(alloc, &self.config, records.as_slice(), None)?;
+        let event = self.event(alloc, batch)?;
         Ok(Job {
             lane: self.lane(),
             places: copied(alloc, batch)?,
             closing: None,
             event: Bytes::from_vec(event),
         })
+    }
+
+    /// The event of a batch. The records are copied only where their places do not follow one another.
+    fn event(&self, alloc: Global, batch: &[u32]) -> Result<Vec<u8>, OutOfMemory>
+        requires kept { Keeps self.now }
+        requires within { All (λ p. p < length self.now.records.items) batch.now }
+        ensures { IfOk result (λ text. text.items
+            ≡ event_text self.now.config (table_records self.now.records.items batch.now) None) }
+    {
+        let records = self.records.as_slice();
+        if let Some(run) = side_by_side(records, batch) {
+            return stream_event(alloc, &self.config, run, None);
+        }
+        let copies = gathered(alloc, records, batch)?;
+        stream_event(alloc, &self.config, copies.as_slice(), None)
     }
 
     /// The shard's one lane.
