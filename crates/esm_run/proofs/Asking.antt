@@ -80,8 +80,8 @@ asked_call gave sends k t name job v0 v1 v2 old new none gave_t setting began na
     record {
       rests = λ l. same.running l ∙ rests_after v0.past job.lane l job.places job.closing m n made.reply none;
       moments = λ given.
-          let begun : AreGiven gave h = (given, moment_given gave v0.past t given gave_t) in
-          let given_n : IsGiven gave h n = subst (λ p. IsGiven gave p n) began (moment_given gave v1.past made.moment (subst (AreGiven gave) (sym began) begun) made.given) in
+          let begun : AreGiven gave h = (given, moment_given gave v0.past t gave_t) in
+          let given_n : IsGiven gave h n = subst (λ p. IsGiven gave p n) began (moment_given gave v1.past made.moment made.given) in
           let at_end : AreGiven gave end = (begun, given_n) in
           same.moments gave at_end;
       came = λ i. same.came i;
@@ -159,7 +159,7 @@ asked_expired : (gave : ℕ → Bool) (sends : List ℕ → List ℕ) (k t : ℕ
 asked_expired gave sends k t v0 v1 log None none gave_t past = asked_still gave sends k v0 v1 log none past
 asked_expired gave sends k t v0 v1 log (Some lane) none gave_t past = record {
   rests = λ l. ap (λ p. is_running p l) past ∙ none l;
-  moments = λ given. subst (AreGiven gave) (sym past) (given, moment_given gave v0.past t given gave_t);
+  moments = λ given. subst (AreGiven gave) (sym past) (given, moment_given gave v0.past t gave_t);
   came = λ n. ap (λ p. came_count p n) past;
   shards = ap shards_that_came past;
   others = λ j other. ap (λ p. calls v0.setting sends p j) past;

@@ -95,7 +95,7 @@ noted_some gave n r rs t v w come all gave_t past streams =
         came = λ k. ap (λ h. came_count h k) past ∙ came_more n k (came_count v.past n) (moment_for v.past t) v.past a (r ∷ rs) (came_in gave n v come k)
             ∙ sym (ap (λ (ss : List Stream). length (records_in ss k)) streams ∙ ap (λ (l : List Record). length l) (records_for n k (a ++ r ∷ rs)));
         only = ap (λ h. list_all is_came h) past ∙ come.only;
-        moments = subst (AreGiven gave) (sym past) (come.moments, moment_given gave v.past t come.moments gave_t);
+        moments = subst (AreGiven gave) (sym past) (come.moments, moment_given gave v.past t gave_t);
       },
       here,
     )

@@ -70,7 +70,7 @@ pub run_is : {F : Type 0} (gave : ℕ → Bool) (sends : List ℕ → List ℕ) 
     → IsRun gave sends log (over v0.setting (with_records [] recs)) v3.past old new
 run_is gave sends log n t recs v0 v1 v2 v3 old new setting1 come here all gave_t past2 setting2 legal setting3 asked =
     let is : v3.setting ≡ over v0.setting (with_records [] recs) = setting_is n recs v0 v1 v2 v3 setting1 come here all setting2 setting3 in
-    let given2 : AreGiven gave v2.past = subst (AreGiven gave) (sym past2) (come.moments, moment_given gave v1.past t come.moments gave_t) in
+    let given2 : AreGiven gave v2.past = subst (AreGiven gave) (sym past2) (come.moments, moment_given gave v1.past t gave_t) in
     let none : (k : ℕ) → calls v2.setting sends v2.past k ≡ [] = λ k. ap (λ p. calls v2.setting sends p k) past2 ∙ no_calls v2.setting sends v1.past k come.only in
     subst (AtSetting gave sends log v3.past old new) is (record {
       legal_trace = legal v3.setting.streams (λ a i r at. at);

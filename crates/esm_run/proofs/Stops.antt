@@ -40,7 +40,7 @@ stopped_call gave sends k t name job v0 v1 v2 old new gave_t began same name_is 
     let h : List Entry = Began job.lane job.places job.closing m ∷ v0.past in
     let past : v2.past ≡ h = ap (λ (v : CoreView). v.past) same ∙ began in
     record {
-      moments = λ given. subst (AreGiven gave) (sym past) (given, moment_given gave v0.past t given gave_t);
+      moments = λ given. subst (AreGiven gave) (sym past) (given, moment_given gave v0.past t gave_t);
       others = λ j other. ap (λ p. calls s sends p j) past;
       mine = λ first grows. subst (λ p. HasLogged sends s p k first new) (sym past) (elim made [
         | inl unmade ↦ inl (subst (λ o. Grows first o (calls s sends v0.past k)) (sym unmade) grows)

@@ -32,7 +32,7 @@ pub record IsRun {F : Type 0} (gave : ℕ → Bool) (sends : List ℕ → List �
   pub legal_trace : Legal s h
   -- every record came
   pub came : (n : ℕ) → came_count h n ≡ length (records_of s n)
-  -- each moment is one that the clock gave, or that of the entry before it
+  -- each moment is one that the clock gave, or that of the entry before it where that is later
   pub moments : AreGiven gave h
   -- caller k's log, where told, grew by the calls of batcher k
   pub calls_made : (k : ℕ) (d : F) → k < length old → Grows (log (slice_index_or old k d)) (log (slice_index_or new k d)) (calls s sends h k)

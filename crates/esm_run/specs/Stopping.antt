@@ -44,7 +44,7 @@ pub record HaveStopped {F : Type 0} (gave : ℕ → Bool) (sends : List ℕ → 
 pub record IsStopped {F : Type 0} (gave : ℕ → Bool) (sends : List ℕ → List ℕ) (log : F → Option (List Called)) (s : Setting) (h : List Entry) (old new : List F) : Type 0 where
   -- each entry may follow those before it
   pub legal_trace : Legal s h
-  -- each moment is one that the clock gave, or that of the entry before it
+  -- each moment is one that the clock gave, or that of the entry before it where that is later
   pub moments : AreGiven gave h
   -- caller k's log, where told, grew by the calls of batcher k, and perhaps by one further call of a lane that still runs
   pub calls_made : (k : ℕ) (d : F) → k < length old → HasLogged sends s h k (log (slice_index_or old k d)) (log (slice_index_or new k d))
