@@ -13,5 +13,4 @@ pub mod Rooms
 pub mod Runs
 pub mod States
 pub mod Stops
-pub mod WorkedFile
 pub mod Written

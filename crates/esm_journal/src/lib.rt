@@ -10,6 +10,7 @@ mod found;
 mod fresh;
 mod head;
 mod journal;
+pub mod laws;
 mod list;
 mod log;
 mod migrate;
