@@ -1,5 +1,5 @@
 -- What a `Says` tells, by its maps.
-use Rattle.std.specs.Prelude.{ℕ, ◌≡◌, ◌<◌, ◌^◌, nat_eq, List, length, map}
+use Rattle.std.specs.Prelude.{ℕ, ◌≡◌, ◌<◌, ◌^◌, nat_eq, List, length, map, None, is_some, true}
 use Rattle.std.specs.List.{list_any}
 use Rattle.std.specs.List.Sorted.{IsStrictlyIncreasing}
 use Rattle.std.specs.Ordering.{nat_cmp}
@@ -10,7 +10,7 @@ use Rattle.esm_said.specs.declared.kept.KeptFate.{KeptFate}
 use Rattle.esm_said.specs.declared.kept.KeptTries.{KeptTries}
 use Rattle.esm_said.specs.declared.told.SaidState.{SaidState}
 use Rattle.esm_said.specs.declared.told.Says.TheInside.{Inside}
-use Rattle.esm_said.specs.Told.{Told, FoundReplay, FoundDeletion, fates_count, has_shard, IsInOrder}
+use Rattle.esm_said.specs.Told.{Told, FoundReplay, FoundDeletion, fate_told, fates_count, has_shard, IsInOrder}
 
 abbrev pub found_fate : (ℕ × ℕ) × KeptFate → FoundFate
 found_fate e = record { shard = e.0.0; place = e.0.1; fate = e.1.fate; text = e.1.text }
@@ -46,6 +46,8 @@ pub record IsGathered (a : Inside) : Type 0 where
   pub rising : IsStrictlyIncreasing a.shards.items
   pub shards : (n : ℕ) → list_any (nat_eq n) a.shards.items ≡ has_shard (told_of a) n
   pub counts : (n : ℕ) → count_at (map.get nat_cmp a.counts) n ≡ fates_count (told_of a) n
+  pub below : (n i : ℕ) → i < count_at (map.get nat_cmp a.frontiers) n → is_some (fate_told (told_of a) n i) ≡ true
+  pub end : (n : ℕ) → fate_told (told_of a) n (count_at (map.get nat_cmp a.frontiers) n) ≡ None
   pub fates : length (told_of a).fates < 2 ^ 32
   pub deletions : length (told_of a).deletions < 2 ^ 32
 

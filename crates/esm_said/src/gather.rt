@@ -38,6 +38,7 @@ pub(crate) fn gathered(alloc: Global, table: Table) -> Result<Says, OutOfMemory>
         return Err(OutOfMemory);
     }
     let counts = counts_of(alloc, &fates)?;
+    let frontiers = frontiers_of(alloc, &fates)?;
     let shards = shards_of(alloc, &fates, &tries, &states, &window_tries)?;
     let states = states_of(alloc, states)?;
     Ok(Says {
@@ -49,6 +50,7 @@ pub(crate) fn gathered(alloc: Global, table: Table) -> Result<Says, OutOfMemory>
         deletions,
         shards,
         counts,
+        frontiers,
     })
 }
 
@@ -65,7 +67,7 @@ fn in_order(table: &Table)
 }
 
 /// The first place of the shard without a fate.
-pub(crate) fn frontier_of(fates: &BTreeMap<Place, KeptFate>, shard: u64) -> u32
+fn frontier_of(fates: &BTreeMap<Place, KeptFate>, shard: u64) -> u32
     requires { btree_map_len fates.now < 2 ^ 32 }
     ensures below { (i : ℕ) → i < result → is_some (map.get pair_cmp fates.now (shard, i)) ≡ true }
     ensures end { map.get pair_cmp fates.now (shard, result) ≡ None }
@@ -75,6 +77,25 @@ pub(crate) fn frontier_of(fates: &BTreeMap<Place, KeptFate>, shard: u64) -> u32
         place += 1;
     }
     place
+}
+
+/// For each shard whose place 0 has a fate its first place without one; of each other shard place 0 is the first.
+fn frontiers_of(
+    alloc: Global,
+    fates: &BTreeMap<Place, KeptFate>,
+) -> Result<BTreeMap<u64, u32>, OutOfMemory>
+    requires { btree_map_len fates.now < 2 ^ 32 }
+    ensures below { IfOk result (λ frontiers. (n i : ℕ) → i < count_at (map.get nat_cmp frontiers) n
+        → is_some (map.get pair_cmp fates.now (n, i)) ≡ true) }
+    ensures end { IfOk result (λ frontiers. (n : ℕ) → map.get pair_cmp fates.now (n, count_at (map.get nat_cmp frontiers) n) ≡ None) }
+{
+    let mut frontiers = BTreeMap::new(alloc);
+    for (place, _) in fates {
+        if place.1 == 0 {
+            frontiers.insert(place.0, frontier_of(fates, place.0))?;
+        }
+    }
+    Ok(frontiers)
 }
 
 /// For each shard the number of its places that have a fate.
@@ -88,19 +109,19 @@ fn counts_of(
 {
     let mut counts = BTreeMap::new(alloc);
     for (place, _) in fates {
-        let before = count_of(&counts, place.0);
+        let before = number_at(&counts, place.0);
         counts.insert(place.0, before + 1)?;
     }
     Ok(counts)
 }
 
-/// The count of the shard, or 0.
-pub(crate) fn count_of(counts: &BTreeMap<u64, u32>, shard: u64) -> u32
-    ensures { result ≡ count_at (map.get nat_cmp counts.now) shard }
+/// The number of the shard, or 0.
+pub(crate) fn number_at(numbers: &BTreeMap<u64, u32>, shard: u64) -> u32
+    ensures { result ≡ count_at (map.get nat_cmp numbers.now) shard }
 {
-    match counts.get(&shard) {
+    match numbers.get(&shard) {
         None => 0,
-        Some(count) => *count,
+        Some(number) => *number,
     }
 }
 

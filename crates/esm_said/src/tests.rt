@@ -17,19 +17,20 @@ fn payloads(alloc: Global, count: u32) -> Result<Vec<Bytes>, OutOfMemory> {
 }
 
 #[test]
-fn one_record_said(rt: HostRuntime) -> Result<(), Fail> {
-    let payloads = payloads(rt.alloc(), 1)?;
+fn three_records_said(rt: HostRuntime) -> Result<(), Fail> {
+    let mut payloads = payloads(rt.alloc(), 1)?;
+    payloads.push(fates_payload(rt.alloc(), 1, &[1, 3])?)?;
     let said = says(rt.alloc(), &payloads)?;
     assert_eq!(rt;
         (said.count(0), said.frontier(0), said.deletions()),
-        (1, 1, 0)
+        (3, 2, 0)
     );
     assert_eq!(rt; said.shards(), [0].as_slice());
     assert_eq!(rt; said.states().len(), 0);
     let found = said.fate(0, 0).ok_or("a fate")?;
     assert_eq!(rt; (found.fate, found.text.as_str()), (Fate::Succeeded, "1"));
     assert!(rt;
-        said.fate(0, 1).is_none() && said.tries(0, 0).is_none() && said.deleted(0).is_none()
+        said.fate(0, 2).is_none() && said.tries(0, 0).is_none() && said.deleted(0).is_none()
     );
     assert!(rt; !said.replayed(0, 0) && said.window_tries(0, 0) == 0);
     Ok(())

@@ -8,7 +8,7 @@ ghost use Rattle.esm_said.specs.Told.{fate_told, tries_told, state_told, window_
 ghost use Rattle.esm_said.specs.Tells.{fate_of_found, tries_of_found, deletion_of_found};
 ghost use Rattle.esm_said.specs.View.{found_state};
 
-use crate::gather::{count_of, frontier_of};
+use crate::gather::number_at;
 use crate::kept::{KeptFate, KeptTries};
 use crate::table::{Place, Window};
 use esm_model::{Fate, Text, WindowState};
@@ -24,9 +24,10 @@ pub struct Says {
     pub(crate) window_tries: BTreeMap<Window, u32>,
     pub(crate) replays: BTreeSet<Place>,
     pub(crate) deletions: BTreeMap<u32, KeptFate>,
-    // the shards in rising order, and how many places of each have a fate
+    // the shards in rising order, how many places of each have a fate, and how many places from 0 have one in a row
     pub(crate) shards: Vec<u64>,
     pub(crate) counts: BTreeMap<u64, u32>,
+    pub(crate) frontiers: BTreeMap<u64, u32>,
 }
 
 impl Model for Says {
@@ -138,15 +139,15 @@ impl Says {
     pub fn count(&self, shard: u64) -> u32
         ensures { result ≡ fates_count self.now shard }
     {
-        count_of(&self.counts, shard)
+        number_at(&self.counts, shard)
     }
 
-    /// The length of the longest prefix of places from 0 that all have a fate. Costs as many look-ups.
+    /// The length of the longest prefix of places from 0 that all have a fate.
     pub fn frontier(&self, shard: u64) -> u32
         ensures below { (i : ℕ) → i < result → is_some (fate_told self.now shard i) ≡ true }
         ensures end { fate_told self.now shard result ≡ None }
     {
-        frontier_of(&self.fates, shard)
+        number_at(&self.frontiers, shard)
     }
 
     /// How many messages were deleted.
