@@ -1,5 +1,5 @@
 -- What a scripted caller holds. This product's own.
-use Rattle.std.specs.Prelude.{ℕ, List, Bool}
+use Rattle.std.specs.Prelude.{ℕ, List, [], Bool}
 use Rattle.esm_io.specs.Schedule.{ScheduleState}
 use Rattle.esm_io.specs.declared.script.Script.{Script}
 use Rattle.esm_model.specs.declared.called.Called.{Called}
@@ -11,3 +11,7 @@ pub record CallerState : Type 0 where
   pub log : List Called
   pub keeps_copies : Bool
   pub schedule : ScheduleState
+
+-- no call was made
+abbrev pub new_caller : Script → List ℕ → Bool → CallerState
+new_caller script fails keeps_copies = record { script = script; given = 0; log = []; keeps_copies = keeps_copies; schedule = record { fails = fails; calls = 0; faults = 0 } }

@@ -2,6 +2,7 @@ ghost use Rattle.std.specs.Prelude.{◌≡◌, ℕ, Some, [], ◌∷◌, ◌++�
 ghost use Rattle.esm_io.specs.Faults.{IsCount, Rose};
 ghost use Rattle.esm_io.specs.Told.{Grows};
 ghost use Rattle.esm_io.specs.Schedule.{is_due, one_more, after_call};
+ghost use Rattle.esm_io.specs.Caller.{new_caller};
 ghost use Rattle.esm_io.specs.Script.{answer_of, HasNoLost};
 ghost use Rattle.esm_model.specs.declared.called.Called.{Called};
 
@@ -40,35 +41,34 @@ impl ScriptCaller {
     /// `fails` are the numbers, from 0, of the calls that are to be lost.
     pub fn new(alloc: Global, script: Script, fails: Vec<u64>) -> Self
         requires { HasNoLost script }
-        ensures script { result.script ≡ script }
-        ensures given { result.given ≡ 0 }
-        ensures log { result.log ≡ [] }
-        ensures copies { result.keeps_copies ≡ false }
-        ensures schedule { result.schedule ≡ record { fails = fails.items; calls = 0; faults = 0 } }
+        ensures { result ≡ new_caller script fails.items false }
     {
-        ScriptCaller {
-            script,
-            given: 0,
-            log: Vec::new(alloc),
-            copies: None,
-            schedule: Schedule::new(fails),
-        }
+        Self::with_copies(alloc, script, fails, None)
     }
 
     /// The same, and it keeps copies of the calls.
     pub fn recording(alloc: Global, script: Script, fails: Vec<u64>) -> Self
         requires { HasNoLost script }
-        ensures script { result.script ≡ script }
-        ensures given { result.given ≡ 0 }
-        ensures log { result.log ≡ [] }
-        ensures copies { result.keeps_copies ≡ true }
-        ensures schedule { result.schedule ≡ record { fails = fails.items; calls = 0; faults = 0 } }
+        ensures { result ≡ new_caller script fails.items true }
+    {
+        Self::with_copies(alloc, script, fails, Some(Vec::new(alloc)))
+    }
+
+    fn with_copies(
+        alloc: Global,
+        script: Script,
+        fails: Vec<u64>,
+        copies: Option<Vec<Called>>,
+    ) -> Self
+        requires script { HasNoLost script }
+        requires copies { IfSome copies (λ c. c.items ≡ []) }
+        ensures { result ≡ new_caller script fails.items (is_some copies) }
     {
         ScriptCaller {
             script,
             given: 0,
             log: Vec::new(alloc),
-            copies: Some(Vec::new(alloc)),
+            copies,
             schedule: Schedule::new(fails),
         }
     }
