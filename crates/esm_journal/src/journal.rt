@@ -43,7 +43,7 @@ impl<D: Disk> Model for Journal<D> {
 
 impl<D: Disk> Journal<D> {
     /// Makes an empty disk a journal without payloads, with all of it on the disk. `NotEmpty` where the disk has bytes,
-    /// with their number; nothing is written then.
+    /// with their number. To a disk that has bytes nothing is written, whatever the answer.
     pub fn init(alloc: Global, disk: D) -> Result<Journal<D>, Refused<InitError, D>>
         ensures fresh { IfOk result (λ journal. (journal.payloads ≡ []) × (journal.down ≡ false) × (journal.room ≡ [])) }
         ensures bytes { D.honest disk ≡ true → IfOk result (λ journal. D.content journal.disk ≡ fresh_file (header_of 1)) }
@@ -52,6 +52,7 @@ impl<D: Disk> Journal<D> {
         ensures refused { IfErr result (λ refused. NotMadeFor
             (λ size. D.honest disk ≡ true → (size ≡ length (D.content disk)) × (size ≢ 0) × (D.content refused.back ≡ D.content disk))
             (Rose (D.faults disk) (D.faults refused.back)) refused.why) }
+        ensures only_read { D.honest disk ≡ true → length (D.content disk) ≢ 0 → IfErr result (λ refused. IsOnlyRead D.honest D.content D.image D.moment D.image_since D.faults disk refused.back) }
         ensures honesty { IfOk result (λ journal. D.honest journal.disk ≡ D.honest disk) }
         ensures back_honesty { IfErr result (λ refused. D.honest refused.back ≡ D.honest disk) }
         ensures count { IfOk result (λ journal. IsCount (D.faults disk) (D.faults journal.disk)) }
@@ -83,6 +84,7 @@ impl<D: Disk> Journal<D> {
         ensures refused { IfErr result (λ refused. NotMadeFor
             (λ size. D.honest disk ≡ true → (size ≡ length (D.content disk)) × (size ≢ 0) × (D.content refused.back ≡ D.content disk))
             (Rose (D.faults disk) (D.faults refused.back)) refused.why) }
+        ensures only_read { D.honest disk ≡ true → length (D.content disk) ≢ 0 → IfErr result (λ refused. IsOnlyRead D.honest D.content D.image D.moment D.image_since D.faults disk refused.back) }
         ensures honesty { IfOk result (λ made. D.honest made ≡ D.honest disk) }
         ensures back_honesty { IfErr result (λ refused. D.honest refused.back ≡ D.honest disk) }
         ensures count { IfOk result (λ made. IsCount (D.faults disk) (D.faults made)) }

@@ -133,7 +133,7 @@ impl<D: Disk> Pair<D> {
 
     /// Makes an empty disk a fresh `journal.esm` without payloads, with all of it on the disk. Beside a fresh
     /// `spare.esm` it opens to no payload, each of the two in whichever place. `NotEmpty` where the disk has bytes, with
-    /// their number; nothing is written then.
+    /// their number. To a disk that has bytes nothing is written, whatever the answer.
     pub fn first(disk: D) -> Result<D, Refused<InitError, D>>
         ensures bytes { D.honest disk ≡ true → IfOk result (λ made. D.content made ≡ fresh_file (header_of 2)) }
         ensures opens { D.honest disk ≡ true → IfOk result (λ made. PairOpensTo (header_of 2) 1 [] (D.content made) (blank_file (header_of 2) 0)) }
@@ -142,6 +142,7 @@ impl<D: Disk> Pair<D> {
         ensures refused { IfErr result (λ refused. NotMadeFor
             (λ size. D.honest disk ≡ true → (size ≡ length (D.content disk)) × (size ≢ 0) × (D.content refused.back ≡ D.content disk))
             (Rose (D.faults disk) (D.faults refused.back)) refused.why) }
+        ensures only_read { D.honest disk ≡ true → length (D.content disk) ≢ 0 → IfErr result (λ refused. IsOnlyRead D.honest D.content D.image D.moment D.image_since D.faults disk refused.back) }
         ensures honesty { IfOk result (λ made. D.honest made ≡ D.honest disk) }
         ensures back_honesty { IfErr result (λ refused. D.honest refused.back ≡ D.honest disk) }
         ensures count { IfOk result (λ made. IsCount (D.faults disk) (D.faults made)) }
