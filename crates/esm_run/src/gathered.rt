@@ -38,6 +38,7 @@ fn record_of(item: Item) -> Record
 impl Gathered {
     pub fn new(alloc: Global) -> Self
         ensures records { result.records.items ≡ [] }
+        ensures shard { result.shard ≡ 0 }
         ensures within { IsWithin result }
     {
         Gathered {
