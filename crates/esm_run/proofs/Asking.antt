@@ -13,7 +13,7 @@ use Rattle.esm_model.specs.declared.entry.Entry.{Entry}
 use Rattle.esm_model.specs.declared.entry.Entry.TheVariants.{Began, Ended}
 use Rattle.esm_model.specs.declared.entry.Reply.{Reply}
 use Rattle.esm_model.specs.Setting.{Setting, Extends}
-use Rattle.esm_model.specs.Entries.{is_running, came_count, shards_that_came, batcher}
+use Rattle.esm_model.specs.Entries.{is_running, is_shut, came_count, shards_that_came, batcher}
 use Rattle.esm_model.specs.Calls.{calls, last_event, event_of}
 use Rattle.esm_model.proofs.Steps.{same_lane-refl}
 use Rattle.esm_model.specs.declared.book.Next.TheVariants as next
@@ -86,6 +86,7 @@ asked_call gave sends k t name job v0 v1 v2 old new none gave_t setting began na
           same.moments gave at_end;
       came = λ i. same.came i;
       shards = same.shards;
+      shut = same.shut;
       others = λ j other. same.calls j ∙ calls_other s sends v0.past job.lane job.places job.closing m n k j made.reply call.batcher other;
       mine = keeps_more (calls s sends v0.past k) (calls s sends v2.past k) (called s sends job.event made.reply) old new
           (same.calls k ∙ calls_mine s sends v0.past job.lane job.places job.closing m n k made.reply job.event call.batcher call.event)
@@ -95,7 +96,7 @@ asked_call gave sends k t name job v0 v1 v2 old new none gave_t setting began na
 -- batchers one after the other
 
 pub have_none : {F : Type 0} (gave : ℕ → Bool) (sends : List ℕ → List ℕ) (log : F → Option (List Called)) (v : CoreView) (xs : List F) → NoneRuns v.past → HaveAsked gave sends log v v xs xs
-have_none gave sends log v xs none = record { rests = none; moments = λ given. given; came = λ n. refl; shards = refl; as_many = refl; logs = λ k d within first grows. grows }
+have_none gave sends log v xs none = record { rests = none; moments = λ given. given; came = λ n. refl; shards = refl; shut = refl; as_many = refl; logs = λ k d within first grows. grows }
 
 pub have_then : {F : Type 0} (gave : ℕ → Bool) (sends : List ℕ → List ℕ) (log : F → Option (List Called)) (a b c : CoreView) (xs ys zs : List F)
     → b.setting ≡ a.setting → HaveAsked gave sends log a b xs ys → HaveAsked gave sends log b c ys zs → HaveAsked gave sends log a c xs zs
@@ -104,6 +105,7 @@ have_then gave sends log a b c xs ys zs same x y = record {
   moments = λ given. y.moments (x.moments given);
   came = λ n. y.came n ∙ x.came n;
   shards = y.shards ∙ x.shards;
+  shut = y.shut ∙ x.shut;
   as_many = y.as_many ∙ x.as_many;
   logs = λ k d within first grows.
       let second : KeepsLog (calls a.setting sends b.past k) (calls a.setting sends c.past k) (log (slice_index_or ys k d)) (log (slice_index_or zs k d)) =
@@ -127,6 +129,7 @@ have_one gave sends log a b xs k x y within is asked = record {
   moments = asked.moments;
   came = asked.came;
   shards = asked.shards;
+  shut = asked.shut;
   as_many = length-set xs k y;
   logs = λ j d inside. elim (cases_Bool (j == k)) [
     | inl same ↦ (
@@ -150,6 +153,7 @@ asked_still gave sends k v0 v1 log none past = record {
   moments = λ given. subst (AreGiven gave) (sym past) given;
   came = λ n. ap (λ p. came_count p n) past;
   shards = ap shards_that_came past;
+  shut = ap is_shut past;
   others = λ j other. ap (λ p. calls v0.setting sends p j) past;
   mine = λ first grows. subst (Grows first log) (sym (ap (λ p. calls v0.setting sends p k) past)) grows;
 }
@@ -162,6 +166,7 @@ asked_expired gave sends k t v0 v1 log (Some lane) none gave_t past = record {
   moments = λ given. subst (AreGiven gave) (sym past) (given, moment_given gave v0.past t gave_t);
   came = λ n. ap (λ p. came_count p n) past;
   shards = ap shards_that_came past;
+  shut = ap is_shut past;
   others = λ j other. ap (λ p. calls v0.setting sends p j) past;
   mine = λ first grows. subst (Grows first log) (sym (ap (λ p. calls v0.setting sends p k) past)) grows;
 }

@@ -12,7 +12,7 @@ use Rattle.esm_model.specs.declared.lane.LaneId.{LaneId}
 use Rattle.esm_model.specs.declared.entry.Entry.{Entry}
 use Rattle.esm_model.specs.declared.entry.Entry.TheVariants.{Came, Shut}
 use Rattle.esm_model.specs.Setting.{Setting, Stream, over, records_in, records_of}
-use Rattle.esm_model.specs.Entries.{is_running, came_count, shards_that_came}
+use Rattle.esm_model.specs.Entries.{is_running, is_shut, came_count, shards_that_came}
 use Rattle.esm_model.specs.Calls.{calls}
 use Rattle.esm_model.specs.Checkpoint.{checkpoint}
 use Rattle.esm_model.specs.Laws.{CheckpointIsLongest}
@@ -75,6 +75,7 @@ run_is gave sends log n t recs v0 v1 v2 v3 old new setting1 come here all gave_t
     subst (AtSetting gave sends log v3.past old new) is (record {
       legal_trace = legal v3.setting.streams (λ a i r at. at);
       came = λ k. asked.came k ∙ ap (λ p. came_count p k) past2 ∙ come.came k ∙ sym (ap (λ (s : Setting). length (records_in s.streams k)) (setting3 ∙ setting2));
+      shut = asked.shut ∙ ap is_shut past2;
       moments = asked.moments given2;
       calls_made = λ k d within.
           let before : Grows (log (slice_index_or old k d)) (log (slice_index_or old k d)) (calls v2.setting sends v2.past k) = subst (Grows (log (slice_index_or old k d)) (log (slice_index_or old k d))) (sym (none k)) (grows_none (log (slice_index_or old k d))) in

@@ -1,12 +1,12 @@
 -- The headline: what a run of a stream's mapping leaves. This product's own.
-use Rattle.std.specs.Prelude.{◌≡◌, ◌<◌, ◌⊎◌, ℕ, Bool, List, [], length, slice_index_or, Option, None, IsSome}
+use Rattle.std.specs.Prelude.{◌≡◌, ◌<◌, ◌⊎◌, ℕ, Bool, true, List, [], length, slice_index_or, Option, None, IsSome}
 use Rattle.esm_io.specs.Told.{Grows}
 use Rattle.esm_model.specs.declared.called.Called.{Called}
 use Rattle.esm_model.specs.declared.config.Config.{Config}
 use Rattle.esm_model.specs.declared.item.Record.{Record}
 use Rattle.esm_model.specs.declared.entry.Entry.{Entry}
 use Rattle.esm_model.specs.Setting.{Setting, over, records_of}
-use Rattle.esm_model.specs.Entries.{came_count, calls_begun}
+use Rattle.esm_model.specs.Entries.{is_shut, came_count, calls_begun}
 use Rattle.esm_model.specs.Fates.{fate}
 use Rattle.esm_model.specs.Calls.{calls}
 use Rattle.esm_model.specs.Step.{Legal}
@@ -32,6 +32,8 @@ pub record IsRun {F : Type 0} (gave : ℕ → Bool) (sends : List ℕ → List �
   pub legal_trace : Legal s h
   -- every record came
   pub came : (n : ℕ) → came_count h n ≡ length (records_of s n)
+  -- and the end of the input was noted
+  pub shut : is_shut h ≡ true
   -- each moment is one that the clock gave, or that of the entry before it where that is later
   pub moments : AreGiven gave h
   -- caller k's log, where told, grew by the calls of batcher k

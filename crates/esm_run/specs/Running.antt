@@ -5,7 +5,7 @@ use Rattle.esm_model.specs.declared.called.Called.{Called}
 use Rattle.esm_model.specs.declared.lane.LaneId.{LaneId}
 use Rattle.esm_model.specs.declared.entry.Entry.{Entry}
 use Rattle.esm_model.specs.declared.entry.Reply.{Reply}
-use Rattle.esm_model.specs.Entries.{is_running, came_count, shards_that_came, calls_begun}
+use Rattle.esm_model.specs.Entries.{is_running, is_shut, came_count, shards_that_came, calls_begun}
 use Rattle.esm_model.specs.Calls.{calls}
 use Rattle.esm_shard.specs.CoreView.{CoreView, moment_for}
 use Rattle.esm_shard.specs.Following.{IsFinished}
@@ -34,6 +34,7 @@ pub record HasAsked (gave : ℕ → Bool) (sends : List ℕ → List ℕ) (k : �
   pub moments : AreGiven gave before.past → AreGiven gave after.past
   pub came : (n : ℕ) → came_count after.past n ≡ came_count before.past n
   pub shards : shards_that_came after.past ≡ shards_that_came before.past
+  pub shut : is_shut after.past ≡ is_shut before.past
   pub others : (j : ℕ) → j ≢ k → calls before.setting sends after.past j ≡ calls before.setting sends before.past j
   pub mine : KeepsLog (calls before.setting sends before.past k) (calls before.setting sends after.past k) old new
 
@@ -43,6 +44,7 @@ pub record HaveAsked {F : Type 0} (gave : ℕ → Bool) (sends : List ℕ → Li
   pub moments : AreGiven gave before.past → AreGiven gave after.past
   pub came : (n : ℕ) → came_count after.past n ≡ came_count before.past n
   pub shards : shards_that_came after.past ≡ shards_that_came before.past
+  pub shut : is_shut after.past ≡ is_shut before.past
   pub as_many : length new ≡ length old
   pub logs : (k : ℕ) (d : F) → k < length old → KeepsLog (calls before.setting sends before.past k) (calls before.setting sends after.past k) (log (slice_index_or old k d)) (log (slice_index_or new k d))
 
