@@ -1,4 +1,4 @@
-ghost use Rattle.std.specs.Prelude.{◌≡◌, ◌<◌, ◌≤◌, ℕ, length, OnOk, OnErr, IfOk, None, false};
+ghost use Rattle.std.specs.Prelude.{◌≡◌, ◌<◌, ◌≤◌, ℕ, length, OnOk, OnErr, IfOk, None, true, false};
 ghost use Rattle.esm_shard.specs.CoreView.{IsRunningJob, LegalOver};
 ghost use Rattle.esm_run.specs.Running.{NoneRuns, HasCalled, HasAsked, HaveAsked, IsAtRest, IsQuiet, AreQuiet};
 ghost use Rattle.esm_run.specs.Stopping.{MayHaveCalled, HasStopped, HaveStopped};
@@ -65,7 +65,7 @@ fn make_call<C: Clock, F: Caller>(
     Ok(())
 }
 
-/// Asks one batcher, and does what it says.
+/// Asks one batcher at the moment, and does what it says.
 fn ask<C: Clock, F: Caller>(
     alloc: Global,
     core: &mut Core,
@@ -73,8 +73,10 @@ fn ask<C: Clock, F: Caller>(
     caller: &mut F,
     clock: &C,
     batcher: u32,
+    moment: u64,
 ) -> Result<Round, OutOfMemory>
     requires batcher { batcher < 64 }
+    requires given { C.gave moment ≡ true }
     requires legal { LegalOver core.old }
     requires rests { NoneRuns core.old.past }
     requires name { name.now ≡ core.old.setting.config.function }
@@ -92,7 +94,7 @@ fn ask<C: Clock, F: Caller>(
         worked: false,
         until: None,
     };
-    match core.next(alloc, batcher, clock.now())? {
+    match core.next(alloc, batcher, moment)? {
         Next::Call(job) => {
             make_call(alloc, core, name, caller, clock, job)?;
             Ok(worked)
@@ -107,7 +109,16 @@ fn ask<C: Clock, F: Caller>(
     }
 }
 
-/// Asks each batcher once, in rising order.
+/// The moment after a batcher was asked: that of the asking where it did nothing.
+fn moment_after<C: Clock>(clock: &C, moment: u64, worked: bool) -> u64
+    requires { C.gave moment ≡ true }
+    ensures { C.gave result ≡ true }
+{
+    if worked { clock.now() } else { moment }
+}
+
+/// Asks each batcher once, in rising order. The clock is read at the start and after each call: most batchers have
+/// nothing to do, and a round asks them all.
 fn ask_all<C: Clock, F: Caller>(
     alloc: Global,
     core: &mut Core,
@@ -130,6 +141,7 @@ fn ask_all<C: Clock, F: Caller>(
         worked: false,
         until: None,
     };
+    let mut moment = clock.now();
     for batcher in 0..callers.len() {
         let one = ask(
             alloc,
@@ -138,7 +150,9 @@ fn ask_all<C: Clock, F: Caller>(
             &mut callers[batcher],
             clock,
             batcher as u32,
+            moment,
         )?;
+        moment = moment_after(clock, moment, one.worked);
         all = all.with(one);
     }
     Ok(all)

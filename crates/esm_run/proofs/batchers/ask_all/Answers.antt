@@ -6,7 +6,7 @@ use Rattle.esm_run.proofs.Stops.{stopped_after, stopped_one}
 use Rattle.esm_run.proofs.batchers.ask_all.Goals as goal
 
 pub loop-batcher-init : goal.loop-batcher-init
-loop-batcher-init g c = (have_none g.C.Clock.gave g.F.Caller.sends g.F.Caller.log c.args.core.now c.args.callers.now.items c.requires.rests, c.requires.legal, refl, λ still. quiet_none c.args.core.now _)
+loop-batcher-init g c = (have_none g.C.Clock.gave g.F.Caller.sends g.F.Caller.log c.args.core.now c.args.callers.now.items c.requires.rests, c.requires.legal, refl, (λ still. quiet_none c.args.core.now _), c.now-moment.ensures)
 
 pub loop-batcher-preserved : goal.loop-batcher-preserved
 loop-batcher-preserved g c = (
@@ -15,10 +15,11 @@ loop-batcher-preserved g c = (
       (have_one g.C.Clock.gave g.F.Caller.sends g.F.Caller.log c.loop-batcher.core c.ask.new.core c.loop-batcher.callers.items c.loop-batcher.batcher _ c.ask.new.caller (search rules) (search rules) c.in_ok-one.ensures.asked),
   c.ask.ensures.legal,
   c.ask.ensures.setting ∙ c.loop-batcher.invariant.2,
-  λ still.
+  (λ still.
       let parts = c.with-all.ensures.worked still in
       quiet_more c.args.core.now c.loop-batcher.core c.ask.new.core c.loop-batcher.batcher c.loop-batcher.all.until c.in_ok-one.one.until c.with-all.result.until
-      c.with-all.ensures.until (c.loop-batcher.invariant.3 parts.0) (c.in_ok-one.ensures.quiet parts.1),
+      c.with-all.ensures.until (c.loop-batcher.invariant.3 parts.0) (c.in_ok-one.ensures.quiet parts.1)),
+  c.moment_after-moment.ensures,
 )
 
 pub returns-clause-quiet : goal.returns-clause-quiet
