@@ -109,16 +109,16 @@ fn ask<C: Clock, F: Caller>(
     }
 }
 
-/// The moment after a batcher was asked: that of the asking where it did nothing.
-fn moment_after<C: Clock>(clock: &C, moment: u64, worked: bool) -> u64
+/// The moment, read anew where a batcher worked since.
+fn refreshed<C: Clock>(clock: &C, moment: u64, worked: bool) -> u64
     requires { C.gave moment ≡ true }
     ensures { C.gave result ≡ true }
 {
     if worked { clock.now() } else { moment }
 }
 
-/// Asks each batcher once, in rising order. The clock is read at the start and after each call: most batchers have
-/// nothing to do, and a round asks them all.
+/// Asks each batcher once, in rising order. The clock is read at the start and again after a batcher that worked: a
+/// round asks them all, and most have nothing to do.
 fn ask_all<C: Clock, F: Caller>(
     alloc: Global,
     core: &mut Core,
@@ -152,7 +152,7 @@ fn ask_all<C: Clock, F: Caller>(
             batcher as u32,
             moment,
         )?;
-        moment = moment_after(clock, moment, one.worked);
+        moment = refreshed(clock, moment, one.worked);
         all = all.with(one);
     }
     Ok(all)

@@ -19,7 +19,7 @@ loop-batcher-preserved g c = (
       let parts = c.with-all.ensures.worked still in
       quiet_more c.args.core.now c.loop-batcher.core c.ask.new.core c.loop-batcher.batcher c.loop-batcher.all.until c.in_ok-one.one.until c.with-all.result.until
       c.with-all.ensures.until (c.loop-batcher.invariant.3 parts.0) (c.in_ok-one.ensures.quiet parts.1)),
-  c.moment_after-moment.ensures,
+  c.refreshed-moment.ensures,
 )
 
 pub returns-clause-quiet : goal.returns-clause-quiet
