@@ -5,8 +5,8 @@
 
 pub mod command;
 pub mod laws;
-pub mod run;
-pub mod words;
+mod run;
+mod words;
 
 pub use command::{Command, RunWords, Which, WordsError};
 pub use words::read;

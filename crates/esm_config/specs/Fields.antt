@@ -4,6 +4,7 @@ use Rattle.std.specs.Prelude.{ℕ, zero, ℤ, pos, negsuc, Bool, List, codes, Op
 use Rattle.std.specs.Str.{bytes_eq}
 use Rattle.serde_json.specs.Data.{Data}
 use Rattle.serde_json.specs.Find.{get, as_null, as_number, as_i64, as_u64, as_str}
+use Rattle.esm_model.specs.declared.limits.TheConstants.{MAX_BATCH, MAX_RETRIES}
 use Rattle.esm_model.specs.Valid.{is_between, is_name_byte, is_word}
 use Rattle.esm_config.specs.Arn.{Owned, function_arn_of, stream_of}
 use Rattle.esm_model.specs.declared.config.Start.{Start}
@@ -29,11 +30,11 @@ number_in missing low high None = Some missing
 number_in missing low high (Some d) = option_and_then (bounded low high) (option_and_then as_u64 (as_number d))
 
 abbrev pub batch_size_of : Data → Option ℕ
-batch_size_of d = number_in 100 1 10000 (field (codes "BatchSize") d)
+batch_size_of d = number_in 100 1 MAX_BATCH (field (codes "BatchSize") d)
 
 -- -1 for any number
 abbrev pub attempts : ℤ → Option (Option ℕ)
-attempts (pos n) = if nat_le n 10000 then Some (Some n) else None
+attempts (pos n) = if nat_le n MAX_RETRIES then Some (Some n) else None
 attempts (negsuc zero) = Some None
 attempts (negsuc _) = None
 

@@ -5,6 +5,7 @@ ghost use Rattle.esm_config.specs.Parts.{parts_of};
 
 use crate::owned::{Owned, stream_of};
 use esm_model::config::Start;
+use esm_model::{MAX_BATCH, MAX_RETRIES};
 use serde_json::Value;
 
 /// The field of this name, where it is there and not `null`.
@@ -34,7 +35,7 @@ pub fn batch_size_of(value: &Value) -> Option<u32>
     match field(value, "BatchSize") {
         Some(found) => match found.as_u64() {
             Some(n) => {
-                if 1 <= n && n <= 10_000 {
+                if 1 <= n && n <= MAX_BATCH as u64 {
                     Some(n as u32)
                 } else {
                     None
@@ -56,7 +57,7 @@ pub fn retries_of(value: &Value) -> Option<Option<u32>>
             Some(n) => {
                 if n == -1 {
                     Some(None)
-                } else if 0 <= n && n <= 10_000 {
+                } else if 0 <= n && n <= MAX_RETRIES as i64 {
                     Some(Some(n as u32))
                 } else {
                     None

@@ -5,15 +5,15 @@
 
 mod arn;
 mod fields;
+mod from_json;
 mod function;
 mod mapping;
 mod owned;
 mod param;
-mod reading;
 mod table;
 
+pub use from_json::read;
 pub use param::{ConfigError, Param};
-pub use reading::read;
 pub use table::refused;
 
 #[cfg(test)]

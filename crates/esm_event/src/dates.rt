@@ -1,6 +1,6 @@
 // Dates and times of moments.
 ghost use Rattle.std.specs.Prelude.{◌≡◌, ◌+◌, ◌-◌, ◌≤◌, ◌++◌, pos, OnOk};
-ghost use Rattle.esm_model.specs.Moment.{MAX_MOMENT};
+ghost use Rattle.esm_model.specs.declared.moment.TheConstants.{MAX_MOMENT};
 ghost use Rattle.esm_model.specs.Dates.{new_year, days_of_months, year_of, month_of, day_text, clock_text, second_of_day_text, date_text, second_text};
 
 use crate::digits::push_padded;

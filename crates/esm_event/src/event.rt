@@ -2,7 +2,7 @@
 ghost use Rattle.std.specs.Prelude.{◌≡◌, ◌≤◌, ◌+◌, ◌-◌, ◌++◌, [], All, Some, codes, length, sum_by, vec_len, OnOk, IfOk};
 ghost use Rattle.std.specs.Option.{option_copied, ForSome};
 ghost use Rattle.std.specs.List.{join_by, flat_map};
-ghost use Rattle.esm_model.specs.Moment.{MAX_MOMENT as LAST_MOMENT, moment_after};
+ghost use Rattle.esm_model.specs.Moment.{moment_after};
 ghost use Rattle.esm_model.specs.Valid.{IsValidRecord, IsStreamConfig};
 ghost use Rattle.esm_model.specs.ValidCall.{IsValidWindowCall};
 ghost use Rattle.esm_event.specs.Elements.{element_text, following_text};
@@ -126,7 +126,7 @@ fn push_window(
 }
 
 fn push_span(out: &mut Vec<u8>, config: &Config, call: &WindowCall) -> Result<(), OutOfMemory>
-    requires { call.now.state.window ≤ LAST_MOMENT }
+    requires { call.now.state.window ≤ MAX_MOMENT }
     ensures { OnOk result (out.new.items ≡ out.old.items ++ span_part config.now call.now) }
 {
     let start = call.state.window;
@@ -140,9 +140,9 @@ fn push_span(out: &mut Vec<u8>, config: &Config, call: &WindowCall) -> Result<()
 }
 
 fn moment_after(moment: u64, milliseconds: u64) -> u64
-    requires { moment ≤ LAST_MOMENT }
+    requires { moment ≤ MAX_MOMENT }
     ensures value { result ≡ moment_after moment milliseconds }
-    ensures bound { result ≤ LAST_MOMENT }
+    ensures bound { result ≤ MAX_MOMENT }
 {
     moment.saturating_add(milliseconds).min(MAX_MOMENT)
 }

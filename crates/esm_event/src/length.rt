@@ -1,6 +1,7 @@
 // How long the texts are, without writing them.
 ghost use Rattle.std.specs.Prelude.{◌≡◌, ◌≤◌, ◌+◌, ◌*◌, [], Some, length, flat_map};
 ghost use Rattle.std.specs.Option.{option_copied, ForSome};
+ghost use Rattle.esm_model.specs.declared.limits.TheConstants.{MAX_DATA};
 ghost use Rattle.esm_model.specs.ValidCall.{IsValidWindowCall};
 ghost use Rattle.esm_model.specs.Valid.{IsValidRecord, IsStreamConfig};
 ghost use Rattle.esm_model.specs.Numbers.{decimal};
@@ -70,7 +71,7 @@ fn escaped_length(byte: u8) -> usize
 
 #[tactic(auto, using(crate::proofs::LengthLemmas::base64_length))]
 fn base64_bytes(bytes: &[u8]) -> usize
-    requires { length bytes.now ≤ 1048576 }
+    requires { length bytes.now ≤ MAX_DATA }
     ensures value { result ≡ length (base64_text bytes.now) }
     ensures bound { result ≤ 1398104 }
 {
@@ -124,15 +125,15 @@ fn window_bytes(config: &Config, call: &WindowCall) -> u32
 fn state_bytes(call: &WindowCall) -> usize
     requires { IsValidWindowCall call.now }
     ensures value { result ≡ length (state_text call.now.state.text) }
-    ensures bound { result ≤ 1048576 }
+    ensures bound { result ≤ MAX_DATA }
 {
     text_bytes(call.state.text.as_slice())
 }
 
 fn text_bytes(text: &[u8]) -> usize
-    requires { length text.now ≤ 1048576 }
+    requires { length text.now ≤ MAX_DATA }
     ensures value { result ≡ length (state_text text.now) }
-    ensures bound { result ≤ 1048576 }
+    ensures bound { result ≤ MAX_DATA }
 {
     if text.is_empty() { 2 } else { text.len() }
 }

@@ -4,12 +4,12 @@
 #![tactic(auto)]
 
 pub mod bytes;
-pub mod dates;
+mod dates;
 pub mod digits;
-pub mod event;
-pub mod failure;
-pub mod json;
-pub mod length;
+mod event;
+mod failure;
+mod json;
+mod length;
 pub mod record;
 
 pub use esm_model::{Failure, Response, WindowCall};

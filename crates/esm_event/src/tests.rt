@@ -1,5 +1,5 @@
 ghost use Rattle.std.specs.Prelude.{◌≡◌, ◌≤◌, true, length, IfOk};
-ghost use Rattle.esm_model.specs.Limits.{MAX_DATA};
+ghost use Rattle.esm_model.specs.declared.limits.TheConstants.{MAX_DATA};
 ghost use Rattle.esm_model.specs.Valid.{IsStreamConfig, IsValidRecord, is_between, char_count};
 ghost use Rattle.esm_model.specs.Worked.{plain_mapping};
 

@@ -9,7 +9,7 @@ use Rattle.esm_model.specs.Filter.{patterns_pass, in_record, in_message, passes,
 use Rattle.esm_model.specs.declared.config.Kind.{Kind}
 use Rattle.esm_model.specs.declared.item.Record.{Record}
 use Rattle.esm_model.specs.declared.item.Message.{Message}
-use Rattle.esm_filter.specs.Told.{refusal_view}
+use Rattle.esm_filter.specs.ReadOutcome.{refusal_view}
 use Rattle.esm_filter.specs.View.{fields_view}
 use Rattle.esm_filter.specs.declared.pattern.Rule.{Rule}
 use Rattle.esm_filter.specs.declared.criteria.Criteria.{Criteria}

@@ -1,4 +1,4 @@
 pub mod View
 pub mod Judged
-pub mod Told
+pub mod ReadOutcome
 pub mod Criteria

@@ -14,7 +14,7 @@ use crate::error::{FilterError, ReadError};
 use crate::judge::{Judged, fields_pass};
 use crate::pattern::Rule;
 use crate::read::read_pattern;
-use esm_model::{Kind, Message, OutOfMemory, Record, Text};
+use esm_model::{Kind, Message, OutOfMemory, Record, Text, parse_json, parse_json_text};
 use serde_json::Value;
 use std::alloc::Global;
 
@@ -62,36 +62,6 @@ fn read_all(alloc: Global, for_stream: bool, texts: &[Text]) -> Result<Criteria,
         filter += 1;
     }
     Ok(Criteria { patterns })
-}
-
-fn json_of(alloc: Global, bytes: &[u8]) -> Result<Option<Value>, OutOfMemory>
-    ensures { IfOk result (λ o. option_map view o ≡ read_json bytes.now) }
-{
-    match Value::from_slice(alloc, bytes) {
-        Ok(value) => Ok(Some(value)),
-        Err(error) => {
-            if error.is_memory() {
-                Err(OutOfMemory)
-            } else {
-                Ok(None)
-            }
-        }
-    }
-}
-
-fn json_of_text(alloc: Global, text: &str) -> Result<Option<Value>, OutOfMemory>
-    ensures { IfOk result (λ o. option_map view o ≡ read_text text.now) }
-{
-    match Value::from_str(alloc, text) {
-        Ok(value) => Ok(Some(value)),
-        Err(error) => {
-            if error.is_memory() {
-                Err(OutOfMemory)
-            } else {
-                Ok(None)
-            }
-        }
-    }
 }
 
 fn lent(json: &Option<Value>) -> Option<&Value>
@@ -169,7 +139,7 @@ impl Criteria {
         if none {
             return Ok(true);
         }
-        let json = json_of(alloc, item.payload.as_slice())?;
+        let json = parse_json(alloc, item.payload.as_slice())?;
         Ok(record_passes(self.patterns.as_slice(), item, &json))
     }
 
@@ -181,7 +151,7 @@ impl Criteria {
         if none {
             return Ok(true);
         }
-        let json = json_of_text(alloc, item.body.as_str())?;
+        let json = parse_json_text(alloc, item.body.as_str())?;
         Ok(message_passes(self.patterns.as_slice(), item, &json))
     }
 }

@@ -4,7 +4,7 @@ ghost use Rattle.std.specs.List.{list_any};
 ghost use Rattle.serde_json.specs.Data as json_data;
 ghost use Rattle.serde_json.specs.Find.{get_member};
 ghost use Rattle.serde_json.specs.View.{view};
-ghost use Rattle.esm_model.specs.Filter.{members_in, json_members, is_text_body, record_text, message_text, rule_passes, fields_pass, one_passes};
+ghost use Rattle.esm_model.specs.Filter.{members_in, json_members, is_text_body, record_field, message_text, rule_passes, fields_pass, one_passes};
 ghost use Rattle.esm_model.specs.Leaves.{is_leaf, leaf_passes, leaves, some_passes, test_passes, tests_pass};
 ghost use Rattle.esm_filter.specs.Judged.{judged_view, value_of, text_of};
 ghost use Rattle.esm_filter.specs.View.{test_view, rule_view, fields_in, fields_view, choices_view};
@@ -108,8 +108,8 @@ fn text_or_none_tests_pass(text: Option<&str>, tests: &[Test]) -> bool
     }
 }
 
-fn record_text<'r>(item: &'r Record, key: &str) -> Option<&'r str>
-    ensures { text_of result ≡ record_text item.now key.now }
+fn record_field<'r>(item: &'r Record, key: &str) -> Option<&'r str>
+    ensures { text_of result ≡ record_field item.now key.now }
 {
     if key == "kinesisSchemaVersion" {
         Some("1.0")
@@ -174,7 +174,7 @@ impl<'a> Judged<'a> {
                 if key == "data" {
                     false
                 } else {
-                    text_or_none_tests_pass(record_text(item, key), tests)
+                    text_or_none_tests_pass(record_field(item, key), tests)
                 }
             }
             Judged::OfMessage(message, json) => {

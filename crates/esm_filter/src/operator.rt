@@ -2,7 +2,7 @@
 ghost use Rattle.std.specs.Prelude.{◌≡◌, ◌∷◌, [], map};
 ghost use Rattle.serde_json.specs.View.{view, items_view, members_view};
 ghost use Rattle.esm_model.specs.Pattern.{may_follow, read_following, read_second, read_bounds, read_numeric, read_scalar, read_all, reads_map, unless_no_items, read_anything_but, read_named, read_only, read_test};
-ghost use Rattle.esm_filter.specs.Told.{Tells};
+ghost use Rattle.esm_filter.specs.ReadOutcome.{Tells};
 ghost use Rattle.esm_filter.specs.View.{bound_view, comparison_view, scalar_view, test_view};
 
 use crate::error::{PatternError, ReadError};

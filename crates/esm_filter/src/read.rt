@@ -4,12 +4,13 @@ ghost use Rattle.serde_json.specs.Read.{read as read_text};
 ghost use Rattle.serde_json.specs.View.{view};
 ghost use Rattle.esm_model.specs.Valid.{char_count};
 ghost use Rattle.esm_model.specs.Pattern.{read_object, read_pattern, read_value};
-ghost use Rattle.esm_filter.specs.Told.{Tells};
+ghost use Rattle.esm_filter.specs.ReadOutcome.{Tells};
 ghost use Rattle.esm_filter.specs.View.{fields_view};
 
 use crate::error::{PatternError, ReadError};
 use crate::pattern::Rule;
 use crate::rules::read_choice;
+use esm_model::{MAX_PATTERN, OutOfMemory, parse_json_text};
 use serde_json::Value;
 use std::alloc::Global;
 
@@ -37,15 +38,10 @@ pub(crate) fn read_value(
 ) -> Result<Vec<(String, Rule)>, ReadError>
     ensures { Tells (λ v. fields_view v.items) result (read_value for_stream (read_text text.now)) }
 {
-    match Value::from_str(alloc, text) {
-        Ok(value) => read_object(alloc, for_stream, &value),
-        Err(error) => {
-            if error.is_memory() {
-                Err(ReadError::OutOfMemory)
-            } else {
-                Err(ReadError::Refused(PatternError::NotJson))
-            }
-        }
+    match parse_json_text(alloc, text) {
+        Ok(Some(value)) => read_object(alloc, for_stream, &value),
+        Ok(None) => Err(ReadError::Refused(PatternError::NotJson)),
+        Err(OutOfMemory) => Err(ReadError::OutOfMemory),
     }
 }
 
@@ -68,7 +64,7 @@ pub(crate) fn read_pattern(
     ensures { Tells (λ v. fields_view v.items) result (read_pattern for_stream text.now) }
 {
     let count = char_count(text);
-    if count > 4096 {
+    if count > MAX_PATTERN {
         return Err(ReadError::Refused(PatternError::TooLong));
     }
     read_value(alloc, for_stream, text)

@@ -2,7 +2,7 @@
 ghost use Rattle.std.specs.Prelude.{◌≡◌, ◌==◌, if◌then◌else◌, length, Err, false, string_bytes};
 ghost use Rattle.serde_json.specs.View.{view, items_view, members_view};
 ghost use Rattle.esm_model.specs.Pattern.{bad_test, is_data, is_or, nested, one_of, tests, reads_map, read_all, read_test, read_rule, read_fields, read_choices, read_choice, unless_no_items, unless_no_members};
-ghost use Rattle.esm_filter.specs.Told.{Tells};
+ghost use Rattle.esm_filter.specs.ReadOutcome.{Tells};
 ghost use Rattle.esm_filter.specs.View.{choices_view, fields_in, fields_view, rule_view};
 
 use crate::error::{PatternError, ReadError};

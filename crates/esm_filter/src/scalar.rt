@@ -3,7 +3,7 @@ ghost use Rattle.std.specs.Prelude.{◌≡◌, ◌==◌, if◌then◌else◌, st
 ghost use Rattle.serde_json.specs.Find.{as_str};
 ghost use Rattle.serde_json.specs.View.{view};
 ghost use Rattle.esm_model.specs.Pattern.{empty, bad_test, refusal_of, read_text, read_whole, read_bool, read_scalar, read_comparison, comparison_named};
-ghost use Rattle.esm_filter.specs.Told.{refusal_view, Tells};
+ghost use Rattle.esm_filter.specs.ReadOutcome.{refusal_view, Tells};
 ghost use Rattle.esm_filter.specs.View.{scalar_view, comparison_view};
 
 use crate::error::{PatternError, ReadError};

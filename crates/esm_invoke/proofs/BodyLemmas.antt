@@ -16,7 +16,7 @@ use Rattle.esm_invoke.specs.declared.body.Step.{Step}
 use Rattle.esm_invoke.specs.declared.body.Step.TheVariants.{Data, More, Whole, Never}
 use Rattle.esm_invoke.specs.declared.head.Head.{Head}
 use Rattle.esm_invoke.specs.Response.{MAX_BODY, MAX_LINES, MAX_RESPONSE, limits}
-use Rattle.esm_invoke.specs.Reading.{Awaits, IsUnfinished, HoldsBody, NeverHoldsBody, TakesPiece, TakesStep}
+use Rattle.esm_invoke.specs.ResponseRead.{Awaits, IsUnfinished, HoldsBody, NeverHoldsBody, TakesPiece, TakesStep}
 
 -- a decoder of a body up to the link's end stays one, and no other becomes one
 stays_until_close : (old new : Decoder) (input : List ℕ) (n : ℕ) (piece : List ℕ) → Runs old input new n piece → old ≡ UntilClose → new ≡ UntilClose

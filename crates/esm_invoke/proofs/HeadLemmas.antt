@@ -14,7 +14,7 @@ use Rattle.esm_invoke.specs.declared.head.Head.{Head}
 use Rattle.esm_invoke.specs.declared.head.HeadSearch.{HeadSearch}
 use Rattle.esm_invoke.specs.declared.head.HeadSearch.TheVariants.{Found, More, Never}
 use Rattle.esm_invoke.specs.Response.{Says, BeginsWith}
-use Rattle.esm_invoke.specs.Reading.{ends_empty_line, HasNoHead, NeverBegins, ParsesHead, SaysAt}
+use Rattle.esm_invoke.specs.ResponseRead.{ends_empty_line, HasNoHead, NeverBegins, ParsesHead, SaysAt}
 
 pub list_any-map : {X Y : Type 0} (p : Y → Bool) (f : X → Y) (xs : List X) → list_any p (map f xs) ≡ list_any (λ x. p (f x)) xs
 list_any-map p f [] = refl

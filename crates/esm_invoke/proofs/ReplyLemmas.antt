@@ -19,7 +19,7 @@ use Rattle.esm_io.specs.Talks.{Talk, Reads, Writes, IsReadOut}
 use Rattle.esm_invoke.specs.declared.body.BodyReader.{BodyReader}
 use Rattle.esm_invoke.specs.declared.head.Head.{Head}
 use Rattle.esm_invoke.specs.Response.{limits, Says, BeginsWith, IsBodyWithin, HoldsResponse, HoldsNone, NeverHolds, StopsAt, IsReplyTo}
-use Rattle.esm_invoke.specs.Reading.{HasNoHead, NeverBegins, Awaits, IsUnfinished, NeverHoldsBody}
+use Rattle.esm_invoke.specs.ResponseRead.{HasNoHead, NeverBegins, Awaits, IsUnfinished, NeverHoldsBody}
 use Rattle.esm_invoke.specs.Receiving.{ReadsMore, ReadsSome, WritesPart, Replies, Settles, Stops}
 use Rattle.esm_invoke.specs.Exchange.{SendsPart, Answers}
 use Rattle.esm_invoke.specs.Request.{request_line, request_text}

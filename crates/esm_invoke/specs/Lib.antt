@@ -1,5 +1,5 @@
 pub mod Request
 pub mod Response
-pub mod Reading
+pub mod ResponseRead
 pub mod Exchange
 pub mod Receiving

@@ -6,7 +6,7 @@ use Rattle.esm_invoke.specs.declared.body.BodyReader.{BodyReader}
 use Rattle.esm_invoke.specs.declared.call.HeadReceived.{HeadReceived}
 use Rattle.esm_invoke.specs.declared.call.HeadReceived.TheVariants as Received
 use Rattle.esm_invoke.specs.Response.{BeginsWith, IsReplyTo, HoldsNone, StopsAt}
-use Rattle.esm_invoke.specs.Reading.{Awaits, IsUnfinished}
+use Rattle.esm_invoke.specs.ResponseRead.{Awaits, IsUnfinished}
 
 -- the bytes were read behind those that were there
 pub record ReadsMore (old new : Option Talk) (before after : List ℕ) : Type 0 where

@@ -2,7 +2,7 @@
 ghost use Rattle.std.specs.Prelude.{◌≡◌, ◌+◌, ◌^◌, ◌<◌, ◌≤◌, [], length, IfOk};
 ghost use Rattle.http1.specs.Decoder.{decoder_for};
 ghost use Rattle.esm_invoke.specs.Response.{limits, MAX_BODY};
-ghost use Rattle.esm_invoke.specs.Reading.{Awaits, TakesPiece, TakesStep, HasRead};
+ghost use Rattle.esm_invoke.specs.ResponseRead.{Awaits, TakesPiece, TakesStep, HasRead};
 
 use crate::head::{Head, MAX_HEAD, MAX_LINES};
 use esm_model::OutOfMemory;

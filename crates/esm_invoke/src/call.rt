@@ -6,7 +6,7 @@ ghost use Rattle.esm_invoke.specs.Request.{request_text};
 ghost use Rattle.esm_invoke.specs.Exchange.{SendsPart, Answers};
 ghost use Rattle.esm_invoke.specs.Receiving.{ReadsMore, ReadsSome, WritesPart, Replies, ReceivesHead, Settles};
 ghost use Rattle.esm_invoke.specs.Response.{BeginsWith, IsReplyTo};
-ghost use Rattle.esm_invoke.specs.Reading.{Awaits, IsUnfinished};
+ghost use Rattle.esm_invoke.specs.ResponseRead.{Awaits, IsUnfinished};
 
 use crate::body::{BodyReader, Progress};
 use crate::head::{Head, HeadSearch, find_head};

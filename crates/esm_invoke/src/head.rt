@@ -4,7 +4,7 @@ ghost use Rattle.httparse.specs.Grammar.{ResponseHead};
 ghost use Rattle.httparse.specs.Spans.{IsHeaderWithin, IsSectionWithin, IsResponseAt, header_bytes};
 ghost use Rattle.http1.specs.Fields.{is_named, known_fields};
 ghost use Rattle.esm_invoke.specs.Response.{framing_of, framing_by_coding, has_function_error};
-ghost use Rattle.esm_invoke.specs.Reading.{ends_empty_line, HasNoHead, NeverBegins, FindsHead, ParsesHead, SaysAt};
+ghost use Rattle.esm_invoke.specs.ResponseRead.{ends_empty_line, HasNoHead, NeverBegins, FindsHead, ParsesHead, SaysAt};
 
 use http::StatusCode;
 use http1::fields::{ContentLength, KnownFields, TransferEncoding};

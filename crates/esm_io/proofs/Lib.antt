@@ -3,3 +3,4 @@ pub mod Elapsed
 pub mod DiskCalls
 pub mod Crashed
 pub mod Within
+pub mod Leaving

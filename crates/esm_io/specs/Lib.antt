@@ -8,3 +8,4 @@ pub mod Script
 pub mod Caller
 pub mod Steps
 pub mod Crashes
+pub mod Meanings

@@ -19,6 +19,9 @@ pub trait Dest {
     /// How often it has failed.
     ghost faults: { Self → ℕ };
 
+    /// What it is made of keeps its own rules, where it has any: of a file, its disk is honest.
+    ghost honest: { Self → Bool };
+
     /// What a destination of this kind sends for a line.
     ghost sends: { List ℕ → List ℕ };
 
@@ -37,6 +40,7 @@ pub trait Dest {
         ensures room { OnOk result ((n : ℕ) → n ≤ bytes → has_room self.new n) }
         ensures lines_kept { lines self.new ≡ lines self.old }
         ensures failed_kept { failed self.new ≡ failed self.old }
+        ensures honesty { honest self.new ≡ honest self.old }
         ensures count { faults self.new ≡ faults self.old };
 
     /// Delivers a line. `Failed` only where the count of faults rose; the line may then stand at the destination
@@ -52,6 +56,7 @@ pub trait Dest {
         ensures room { IsErrOf result DestError.OutOfMemory → has_room self.old (length line.now) → ⊥ }
         ensures room_kept { IsErrOf result DestError.OutOfMemory → (n : ℕ) → has_room self.old n → has_room self.new n }
         ensures uncounted { IsErrOf result DestError.OutOfMemory → faults self.new ≡ faults self.old }
+        ensures honesty { honest self.new ≡ honest self.old }
         ensures count { IsCount (faults self.old) (faults self.new) }
         ensures cause { IsErrOf result DestError.Failed → Rose (faults self.old) (faults self.new) };
 }

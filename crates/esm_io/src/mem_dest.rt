@@ -83,6 +83,8 @@ fn add_line(
 impl Dest for MemDest {
     ghost faults = { λ s. s.schedule.faults };
 
+    ghost honest = { λ _. true };
+
     ghost sends = { λ line. line };
 
     ghost lines = { λ s. Some s.lines };

@@ -50,6 +50,8 @@ impl<D: Disk> FileDest<D> {
 impl<D: Disk> Dest for FileDest<D> {
     ghost faults = { λ d. D.faults d.disk };
 
+    ghost honest = { λ d. D.honest d.disk };
+
     ghost sends = { λ line. line };
 
     ghost lines = { λ d. Some d.payloads };
@@ -63,6 +65,7 @@ impl<D: Disk> Dest for FileDest<D> {
         ensures lines_kept { self.new.payloads ≡ self.old.payloads }
         ensures failed_kept { self.new.down ≡ self.old.down }
         ensures disk_kept { self.new.disk ≡ self.old.disk }
+        ensures honesty { D.honest self.new.disk ≡ D.honest self.old.disk }
         ensures count { D.faults self.new.disk ≡ D.faults self.old.disk }
     {
         self.journal

@@ -8,7 +8,7 @@ ghost use Rattle.esm_journal.specs.Head.{IsHead};
 
 use crate::error::OpenError;
 use crate::head::{Head, read_head};
-use crate::reading::read_entries;
+use crate::entry_reading::read_entries;
 use crate::through::settle;
 use esm_io::Disk;
 use esm_model::Bytes;

@@ -1,6 +1,8 @@
 //! What holds of worked files, as the contract of a function that does nothing.
-ghost use Rattle.std.specs.Prelude.{◌≡◌, [], ◌∷◌, ◌++◌, length, take};
-ghost use Rattle.esm_journal.specs.File.{header_of, Holding, Foreign, Damaged, opened};
+ghost use Rattle.std.specs.Prelude.{◌≡◌, ◌+◌, ℕ, List, [], ◌∷◌, ◌++◌, length, take};
+ghost use Rattle.esm_journal.specs.File.{header_of, IsFile, Holding, Foreign, Damaged, opened};
+ghost use Rattle.esm_journal.specs.Pair.{IsSpare, PairOpensTo};
+ghost use Rattle.esm_journal.specs.Replace.{IsSpareOrNew, PairOpensToOldOrNew};
 ghost use Rattle.esm_journal.specs.Worked.{one_record_payload, one_record_file};
 
 /// A worked example: a file of 52 bytes that opens to one payload, whatever stands after its last gate. With a byte fewer
@@ -14,4 +16,18 @@ pub fn worked_file()
     ensures too_long { opened (header_of 2) (take 18 one_record_file ++ 1 ∷ 0 ∷ 0 ∷ 1 ∷ []) ≡ Damaged 18 }
     ensures not_sealed { opened (header_of 2) (take 16 one_record_file ++ 0 ∷ 0 ∷ []) ≡ Damaged 16 }
     ensures other_header { opened (header_of 1) one_record_file ≡ Foreign }
+{}
+
+/// A file in use and one that does not hinder it open to the payloads of the one in use, in whichever order they are
+/// handed in.
+pub fn file_beside_spare()
+    ensures opens { (epoch : ℕ) (payloads : List (List ℕ)) (used spare : List ℕ) →
+        IsFile (header_of 2) epoch payloads used → IsSpare (header_of 2) epoch spare → PairOpensTo (header_of 2) epoch payloads used spare }
+{}
+
+/// A file in use and one that is being written for the next epoch open to the payloads of the one in use or to the list
+/// of the other, in whichever order they are handed in.
+pub fn file_beside_new()
+    ensures opens { (epoch : ℕ) (payloads list : List (List ℕ)) (used other : List ℕ) →
+        IsFile (header_of 2) epoch payloads used → IsSpareOrNew (header_of 2) epoch (header_of 2) (epoch + 1) list other → PairOpensToOldOrNew (header_of 2) epoch payloads list used other }
 {}

@@ -17,7 +17,7 @@ mod migrate;
 mod old_pair;
 mod pair;
 mod pair_reading;
-mod reading;
+mod entry_reading;
 mod replace;
 mod room;
 mod through;

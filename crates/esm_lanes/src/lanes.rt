@@ -1,4 +1,5 @@
 ghost use Rattle.std.specs.Prelude.{◌≡◌, ℕ, ◌+◌, ◌<◌, ◌≤◌, ◌↔◌, [], ◌∷◌, ◌++◌, length, drop, slice_set, All, replicate, OnOk, OnErr, IsOk, IfOk, IsNone, IfSome};
+ghost use Rattle.esm_model.specs.declared.limits.TheConstants.{MAX_LANES, MAX_TRIES};
 ghost use Rattle.esm_lanes.specs.declared.standing.Standing.TheVariants.{Fresh, Tried};
 ghost use Rattle.esm_lanes.specs.Piece.{empty_lane, lane_at, open_at, after_add, after_split, after_shorten, after_reserve, front_length, IsFront, HasPlaces};
 
@@ -31,7 +32,7 @@ impl Lanes {
     /// So many lanes, 1 to 64, with no place.
     pub fn new(alloc: Global, lanes: u32) -> Result<Lanes, OutOfMemory>
         requires some { 1 ≤ lanes }
-        requires most { lanes ≤ 64 }
+        requires most { lanes ≤ MAX_LANES }
         ensures { IfOk result (λ l. l ≡ replicate lanes empty_lane) }
     {
         let mut queues = Vec::new(alloc);
@@ -67,7 +68,7 @@ impl Lanes {
         requires known { lane < length self.old }
         requires few { length (open_at self.old lane) < u32.MAX }
         requires some { 1 ≤ tries }
-        requires most { tries ≤ 10001 }
+        requires most { tries ≤ MAX_TRIES }
         ensures ok { OnOk result (self.new ≡ slice_set self.old lane (after_add (Tried tries) place (lane_at self.old lane))) }
         ensures places { OnOk result (open_at self.new lane ≡ open_at self.old lane ++ place ∷ []) }
         ensures err { OnErr result (self.new ≡ self.old) }

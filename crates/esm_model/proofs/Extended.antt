@@ -2,7 +2,7 @@
 use Rattle.std.proofs.Common.{◌≡◌, ℕ, zero, suc, ◌+◌, ◌-◌, ◌<◌, ◌≤◌, Bool, true, false, cond, ◌&&◌, List, [], ◌∷◌, ◌++◌, length, take, drop, map, get_or, refl, sym, ap, ◌∙◌, subst, inl, inr, Option, Some, None, arith}
 use Rattle.std.specs.Prelude.{take_while, option_map, unwrap_or, slice_get, slice_index, ⊤}
 use Rattle.std.proofs.lemmas.Option.{slice_get_cases, slice_get_within}
-use Rattle.esm_model.specs.Limits.{MAX_EXPIRED}
+use Rattle.esm_model.specs.declared.limits.TheConstants.{MAX_EXPIRED}
 use Rattle.esm_model.specs.Lane.{same_lane}
 use Rattle.esm_model.specs.declared.item.Record.{Record}
 use Rattle.esm_model.specs.declared.lane.LaneId.{LaneId}
@@ -22,7 +22,7 @@ use Rattle.esm_model.specs.Tries.{tries_of, verdict_after}
 use Rattle.esm_model.specs.Windows.{has_windows}
 use Rattle.esm_model.specs.Calls.{window_of_call}
 use Rattle.esm_model.specs.Batches.{is_expired, group}
-use Rattle.esm_model.specs.Owed.{Due, Success, GiveUp, Try, Close, due, due_entry, state_in_reply, due_success, due_give_up, due_close, due_rest, due_by_verdict, due_of_call, due_by_end, new_state, owed, is_refused, is_unsorted, unsorted, IsOwed, Settled}
+use Rattle.esm_model.specs.Owed.{Debt, Success, GiveUp, Try, Close, debts, debt_entry, state_in_reply, success_debts, give_up_debts, close_debts, rest_debts, verdict_debts, call_debts, end_debts, new_state, owed, is_refused, is_unsorted, unsorted, IsOwed, Settled}
 use Rattle.esm_model.specs.Step.{Legal, MayFollow, MayCome, MayCall, MayExpire}
 use Rattle.esm_model.proofs.Lists.{In, In-here, In-there, In-below, In-drop, take_while_agree}
 use Rattle.esm_model.proofs.Steps.{came_grows}
@@ -60,56 +60,56 @@ line_same s after h same n places some covered expired m =
 
 -- what is given up is not empty, and came
 
-abbrev pub IsGiven : List Entry → ℕ → Due → Type 0
+abbrev pub IsGiven : List Entry → ℕ → Debt → Type 0
 IsGiven h n (GiveUp places) = (1 ≤ length places) × Covered h n places
 IsGiven h n _ = ⊤
 
-abbrev pub AllGiven : List Entry → ℕ → List Due → Type 0
+abbrev pub AllGiven : List Entry → ℕ → List Debt → Type 0
 AllGiven h n [] = ⊤
 AllGiven h n (d ∷ ds) = IsGiven h n d × AllGiven h n ds
 
-given_append : (h : List Entry) (n : ℕ) (ds es : List Due) → AllGiven h n ds → AllGiven h n es → AllGiven h n (ds ++ es)
+given_append : (h : List Entry) (n : ℕ) (ds es : List Debt) → AllGiven h n ds → AllGiven h n es → AllGiven h n (ds ++ es)
 given_append h n [] es a b = b
 given_append h n (d ∷ ds) es a b = (a.0, given_append h n ds es a.1 b)
 
-given_drop : (h : List Entry) (n : ℕ) (ds : List Due) → AllGiven h n ds → AllGiven h n (drop 1 ds)
+given_drop : (h : List Entry) (n : ℕ) (ds : List Debt) → AllGiven h n ds → AllGiven h n (drop 1 ds)
 given_drop h n [] all = tt
 given_drop h n (d ∷ ds) all = all.1
 
-given_cond : (h : List Entry) (n : ℕ) (b : Bool) (ds es : List Due) → (b ≡ true → AllGiven h n ds) → AllGiven h n es → AllGiven h n (cond b ds es)
+given_cond : (h : List Entry) (n : ℕ) (b : Bool) (ds es : List Debt) → (b ≡ true → AllGiven h n ds) → AllGiven h n es → AllGiven h n (cond b ds es)
 given_cond h n true ds es a c = a refl
 given_cond h n false ds es a c = c
 
-given_more : (e : Entry) (h : List Entry) (n : ℕ) (ds : List Due) → AllGiven h n ds → AllGiven (e ∷ h) n ds
+given_more : (e : Entry) (h : List Entry) (n : ℕ) (ds : List Debt) → AllGiven h n ds → AllGiven (e ∷ h) n ds
 given_more e h n [] all = tt
 given_more e h n (Success places state ∷ ds) all = (tt, given_more e h n ds all.1)
 given_more e h n (GiveUp places ∷ ds) all = ((all.0.0, λ i member. (let grows : came_count h n ≤ came_count (e ∷ h) n = came_grows e h n in let came : i < came_count h n = all.0.1 i member in omega arith)), given_more e h n ds all.1)
 given_more e h n (Try places closing tries ∷ ds) all = (tt, given_more e h n ds all.1)
 given_more e h n (Close window ∷ ds) all = (tt, given_more e h n ds all.1)
 
-given_success : (h : List Entry) (n : ℕ) (xs : List ℕ) (state : Option WindowState) → AllGiven h n (due_success xs state)
+given_success : (h : List Entry) (n : ℕ) (xs : List ℕ) (state : Option WindowState) → AllGiven h n (success_debts xs state)
 given_success h n [] state = tt
 given_success h n (x ∷ xs) state = (tt, tt)
 
-given_close : (h : List Entry) (n : ℕ) (closing : Option ℕ) → AllGiven h n (due_close closing)
+given_close : (h : List Entry) (n : ℕ) (closing : Option ℕ) → AllGiven h n (close_debts closing)
 given_close h n None = tt
 given_close h n (Some w) = (tt, tt)
 
-given_up : (h : List Entry) (n : ℕ) (xs : List ℕ) → Covered h n xs → AllGiven h n (due_give_up xs)
+given_up : (h : List Entry) (n : ℕ) (xs : List ℕ) → Covered h n xs → AllGiven h n (give_up_debts xs)
 given_up h n [] covered = tt
 given_up h n (x ∷ xs) covered = ((omega arith, covered), tt)
 
-given_rest : (h : List Entry) (n : ℕ) (r : Rest) (xs : List ℕ) (closing : Option ℕ) (t : ℕ) → Covered h n xs → AllGiven h n (due_rest r xs closing t)
+given_rest : (h : List Entry) (n : ℕ) (r : Rest) (xs : List ℕ) (closing : Option ℕ) (t : ℕ) → Covered h n xs → AllGiven h n (rest_debts r xs closing t)
 given_rest h n rest.Nothing xs closing t covered = given_close h n closing
 given_rest h n rest.Again xs closing t covered = tt
 given_rest h n (rest.Split k) xs closing t covered = tt
 given_rest h n rest.Counted xs closing t covered = (tt, tt)
-given_rest h n rest.Exhausted xs closing t covered = given_append h n (due_give_up xs) (due_close closing) (given_up h n xs covered) (given_close h n closing)
+given_rest h n rest.Exhausted xs closing t covered = given_append h n (give_up_debts xs) (close_debts closing) (given_up h n xs covered) (given_close h n closing)
 
-given_end : (s : Setting) (h : List Entry) (lane : LaneId) (o : Option Call) (reply : Reply) → Covered h lane.shard (batch_of o) → AllGiven h lane.shard (due_of_call s h lane o reply)
+given_end : (s : Setting) (h : List Entry) (lane : LaneId) (o : Option Call) (reply : Reply) → Covered h lane.shard (batch_of o) → AllGiven h lane.shard (call_debts s h lane o reply)
 given_end s h lane None reply covered = tt
 given_end s h lane (Some call) reply covered =
-    given_append h lane.shard (due_success (take (verdict_after s h lane reply).succeeded call.places) (new_state s lane.shard call reply)) (due_rest (verdict_after s h lane reply).rest (drop (verdict_after s h lane reply).succeeded call.places) call.closing (tries_of s h lane.shard call))
+    given_append h lane.shard (success_debts (take (verdict_after s h lane reply).succeeded call.places) (new_state s lane.shard call reply)) (rest_debts (verdict_after s h lane reply).rest (drop (verdict_after s h lane reply).succeeded call.places) call.closing (tries_of s h lane.shard call))
     (given_success h lane.shard (take (verdict_after s h lane reply).succeeded call.places) (new_state s lane.shard call reply))
     (given_rest h lane.shard (verdict_after s h lane reply).rest (drop (verdict_after s h lane reply).succeeded call.places) call.closing (tries_of s h lane.shard call) (λ i member. covered i (In-drop (verdict_after s h lane reply).succeeded call.places i member)))
 
@@ -117,70 +117,70 @@ given_end s h lane (Some call) reply covered =
 runs_too : (h : List Entry) (at lane : LaneId) → same_lane at lane ≡ true → is_running h at ≡ true → is_running h lane ≡ true
 runs_too h at lane is runs = subst (λ l. is_running h l ≡ true) (same_lane-true at lane is) runs
 
-pub due_given : (s : Setting) (h : List Entry) → Legal s h → (lane : LaneId) → AllGiven h lane.shard (due s h lane)
-due_given s [] legal lane = tt
-due_given s (Ended at reply m ∷ h) legal lane =
-    given_cond h lane.shard (same_lane at lane) (due_by_end s h lane reply) (due s h lane) (λ is. given_end s h lane (last_call h lane) reply (covered_running s h lane legal.0 (runs_too h at lane is legal.1.1))) (due_given s h legal.0 lane)
-due_given s (Began at places closing m ∷ h) legal lane = given_cond h lane.shard (same_lane at lane) [] (due s h lane) (λ is. tt) (due_given s h legal.0 lane)
-due_given s (Gave None k places f line state m ∷ h) legal lane = due_given s h legal.0 lane
-due_given s (Gave (Some at) k places f line state m ∷ h) legal lane = given_cond h lane.shard (same_lane at lane) (drop 1 (due s h lane)) (due s h lane) (λ is. given_drop h lane.shard (due s h lane) (due_given s h legal.0 lane)) (due_given s h legal.0 lane)
-due_given s (Tried at places closing t m ∷ h) legal lane = given_cond h lane.shard (same_lane at lane) (drop 1 (due s h lane)) (due s h lane) (λ is. given_drop h lane.shard (due s h lane) (due_given s h legal.0 lane)) (due_given s h legal.0 lane)
-due_given s (Closed at w m ∷ h) legal lane = given_cond h lane.shard (same_lane at lane) (drop 1 (due s h lane)) (due s h lane) (λ is. given_drop h lane.shard (due s h lane) (due_given s h legal.0 lane)) (due_given s h legal.0 lane)
-due_given s (Came k first count m ∷ h) legal lane = given_more (Came k first count m) h lane.shard (due s h lane) (due_given s h legal.0 lane)
-due_given s (Replayed k places m ∷ h) legal lane = due_given s h legal.0 lane
-due_given s (Shut m ∷ h) legal lane = due_given s h legal.0 lane
+pub debts_given : (s : Setting) (h : List Entry) → Legal s h → (lane : LaneId) → AllGiven h lane.shard (debts s h lane)
+debts_given s [] legal lane = tt
+debts_given s (Ended at reply m ∷ h) legal lane =
+    given_cond h lane.shard (same_lane at lane) (end_debts s h lane reply) (debts s h lane) (λ is. given_end s h lane (last_call h lane) reply (covered_running s h lane legal.0 (runs_too h at lane is legal.1.1))) (debts_given s h legal.0 lane)
+debts_given s (Began at places closing m ∷ h) legal lane = given_cond h lane.shard (same_lane at lane) [] (debts s h lane) (λ is. tt) (debts_given s h legal.0 lane)
+debts_given s (Gave None k places f line state m ∷ h) legal lane = debts_given s h legal.0 lane
+debts_given s (Gave (Some at) k places f line state m ∷ h) legal lane = given_cond h lane.shard (same_lane at lane) (drop 1 (debts s h lane)) (debts s h lane) (λ is. given_drop h lane.shard (debts s h lane) (debts_given s h legal.0 lane)) (debts_given s h legal.0 lane)
+debts_given s (Tried at places closing t m ∷ h) legal lane = given_cond h lane.shard (same_lane at lane) (drop 1 (debts s h lane)) (debts s h lane) (λ is. given_drop h lane.shard (debts s h lane) (debts_given s h legal.0 lane)) (debts_given s h legal.0 lane)
+debts_given s (Closed at w m ∷ h) legal lane = given_cond h lane.shard (same_lane at lane) (drop 1 (debts s h lane)) (debts s h lane) (λ is. given_drop h lane.shard (debts s h lane) (debts_given s h legal.0 lane)) (debts_given s h legal.0 lane)
+debts_given s (Came k first count m ∷ h) legal lane = given_more (Came k first count m) h lane.shard (debts s h lane) (debts_given s h legal.0 lane)
+debts_given s (Replayed k places m ∷ h) legal lane = debts_given s h legal.0 lane
+debts_given s (Shut m ∷ h) legal lane = debts_given s h legal.0 lane
 
--- what is due
+-- what is owed
 
 success_same : (s : Setting) (after : List Stream) (h : List Entry) → SameRecords s after h → (n : ℕ) (places : List ℕ) (closing : Option ℕ) (k : ℕ) (text : List ℕ) → Covered h n places
-    → due_success (take k places) (cond (has_windows s.config) (Some (record { window = window_of_call (over s after) n places closing; text = text })) None) ≡ due_success (take k places) (cond (has_windows s.config) (Some (record { window = window_of_call s n places closing; text = text })) None)
+    → success_debts (take k places) (cond (has_windows s.config) (Some (record { window = window_of_call (over s after) n places closing; text = text })) None) ≡ success_debts (take k places) (cond (has_windows s.config) (Some (record { window = window_of_call s n places closing; text = text })) None)
 success_same s after h same n [] closing zero text covered = refl
 success_same s after h same n [] closing (suc k) text covered = refl
 success_same s after h same n (x ∷ xs) (Some w) k text covered = refl
 success_same s after h same n (x ∷ xs) None k text covered =
-    ap (λ w. due_success (take k (x ∷ xs)) (cond (has_windows s.config) (Some (record { window = w; text = text })) None)) (window_same s after h same n x (covered x (In-here x xs x refl)))
+    ap (λ w. success_debts (take k (x ∷ xs)) (cond (has_windows s.config) (Some (record { window = w; text = text })) None)) (window_same s after h same n x (covered x (In-here x xs x refl)))
 
 end_same : (s : Setting) (after : List Stream) (h : List Entry) → SameRecords s after h → Legal s h → (lane : LaneId) (o : Option Call) (reply : Reply) → Covered h lane.shard (batch_of o) → verdict_after (over s after) h lane reply ≡ verdict_after s h lane reply
-    → due_of_call (over s after) h lane o reply ≡ due_of_call s h lane o reply
+    → call_debts (over s after) h lane o reply ≡ call_debts s h lane o reply
 end_same s after h same legal lane None reply covered verdict = refl
 end_same s after h same legal lane (Some call) reply covered verdict =
-    ap (λ t. due_by_verdict (over s after) lane.shard call t (verdict_after (over s after) h lane reply) reply) (tries_for_same s after h same legal lane.shard call.places call.closing)
-    ∙ ap (λ v. due_by_verdict (over s after) lane.shard call (tries_of s h lane.shard call) v reply) verdict
-    ∙ ap (λ ds. ds ++ due_rest (verdict_after s h lane reply).rest (drop (verdict_after s h lane reply).succeeded call.places) call.closing (tries_of s h lane.shard call))
+    ap (λ t. verdict_debts (over s after) lane.shard call t (verdict_after (over s after) h lane reply) reply) (tries_for_same s after h same legal lane.shard call.places call.closing)
+    ∙ ap (λ v. verdict_debts (over s after) lane.shard call (tries_of s h lane.shard call) v reply) verdict
+    ∙ ap (λ ds. ds ++ rest_debts (verdict_after s h lane reply).rest (drop (verdict_after s h lane reply).succeeded call.places) call.closing (tries_of s h lane.shard call))
     (success_same s after h same lane.shard call.places call.closing (verdict_after s h lane reply).succeeded (state_in_reply reply) covered)
 
-due_cond_same : (a : Bool) (x y v w : List Due) → (a ≡ true → x ≡ y) → v ≡ w → cond a x v ≡ cond a y w
-due_cond_same true x y v w same e = same refl
-due_cond_same false x y v w same e = e
+debts_cond_same : (a : Bool) (x y v w : List Debt) → (a ≡ true → x ≡ y) → v ≡ w → cond a x v ≡ cond a y w
+debts_cond_same true x y v w same e = same refl
+debts_cond_same false x y v w same e = e
 
-pub due_same : (s : Setting) (after : List Stream) (h : List Entry) → SameRecords s after h → Legal s h → (lane : LaneId) → due (over s after) h lane ≡ due s h lane
-due_same s after [] same legal lane = refl
-due_same s after (Ended at reply m ∷ h) same legal lane =
-    due_cond_same (same_lane at lane) (due_by_end (over s after) h lane reply) (due_by_end s h lane reply) (due (over s after) h lane) (due s h lane)
+pub debts_same : (s : Setting) (after : List Stream) (h : List Entry) → SameRecords s after h → Legal s h → (lane : LaneId) → debts (over s after) h lane ≡ debts s h lane
+debts_same s after [] same legal lane = refl
+debts_same s after (Ended at reply m ∷ h) same legal lane =
+    debts_cond_same (same_lane at lane) (end_debts (over s after) h lane reply) (end_debts s h lane reply) (debts (over s after) h lane) (debts s h lane)
     (λ is. end_same s after h same legal.0 lane (last_call h lane) reply (covered_running s h lane legal.0 (runs_too h at lane is legal.1.1)) (verdict_same s after h same legal.0 lane reply (runs_too h at lane is legal.1.1)))
-    (due_same s after h same legal.0 lane)
-due_same s after (Came k first count m ∷ h) same legal lane = due_same s after h (same_before s after (Came k first count m) h same) legal.0 lane
-due_same s after (Began at places closing m ∷ h) same legal lane = ap (cond (same_lane at lane) []) (due_same s after h same legal.0 lane)
-due_same s after (Gave None k places f line state m ∷ h) same legal lane = due_same s after h same legal.0 lane
-due_same s after (Gave (Some at) k places f line state m ∷ h) same legal lane = ap (λ ds. cond (same_lane at lane) (drop 1 ds) ds) (due_same s after h same legal.0 lane)
-due_same s after (Tried at places closing t m ∷ h) same legal lane = ap (λ ds. cond (same_lane at lane) (drop 1 ds) ds) (due_same s after h same legal.0 lane)
-due_same s after (Closed at w m ∷ h) same legal lane = ap (λ ds. cond (same_lane at lane) (drop 1 ds) ds) (due_same s after h same legal.0 lane)
-due_same s after (Replayed k places m ∷ h) same legal lane = due_same s after h same legal.0 lane
-due_same s after (Shut m ∷ h) same legal lane = due_same s after h same legal.0 lane
+    (debts_same s after h same legal.0 lane)
+debts_same s after (Came k first count m ∷ h) same legal lane = debts_same s after h (same_before s after (Came k first count m) h same) legal.0 lane
+debts_same s after (Began at places closing m ∷ h) same legal lane = ap (cond (same_lane at lane) []) (debts_same s after h same legal.0 lane)
+debts_same s after (Gave None k places f line state m ∷ h) same legal lane = debts_same s after h same legal.0 lane
+debts_same s after (Gave (Some at) k places f line state m ∷ h) same legal lane = ap (λ ds. cond (same_lane at lane) (drop 1 ds) ds) (debts_same s after h same legal.0 lane)
+debts_same s after (Tried at places closing t m ∷ h) same legal lane = ap (λ ds. cond (same_lane at lane) (drop 1 ds) ds) (debts_same s after h same legal.0 lane)
+debts_same s after (Closed at w m ∷ h) same legal lane = ap (λ ds. cond (same_lane at lane) (drop 1 ds) ds) (debts_same s after h same legal.0 lane)
+debts_same s after (Replayed k places m ∷ h) same legal lane = debts_same s after h same legal.0 lane
+debts_same s after (Shut m ∷ h) same legal lane = debts_same s after h same legal.0 lane
 
-entries_same : (s : Setting) (after : List Stream) (h : List Entry) → SameRecords s after h → (lane : LaneId) (m : ℕ) (ds : List Due) → AllGiven h lane.shard ds → map (due_entry (over s after) h lane m) ds ≡ map (due_entry s h lane m) ds
+entries_same : (s : Setting) (after : List Stream) (h : List Entry) → SameRecords s after h → (lane : LaneId) (m : ℕ) (ds : List Debt) → AllGiven h lane.shard ds → map (debt_entry (over s after) h lane m) ds ≡ map (debt_entry s h lane m) ds
 entries_same s after h same lane m [] all = refl
-entries_same s after h same lane m (Success places state ∷ ds) all = ap (λ es. due_entry s h lane m (Success places state) ∷ es) (entries_same s after h same lane m ds all.1)
+entries_same s after h same lane m (Success places state ∷ ds) all = ap (λ es. debt_entry s h lane m (Success places state) ∷ es) (entries_same s after h same lane m ds all.1)
 entries_same s after h same lane m (GiveUp places ∷ ds) all =
-    ap (λ line. Gave (Some lane) lane.shard places Exhausted line None m ∷ map (due_entry (over s after) h lane m) ds) (line_same s after h same lane.shard places all.0.0 all.0.1 false m)
-    ∙ ap (λ es. due_entry s h lane m (GiveUp places) ∷ es) (entries_same s after h same lane m ds all.1)
-entries_same s after h same lane m (Try places closing tries ∷ ds) all = ap (λ es. due_entry s h lane m (Try places closing tries) ∷ es) (entries_same s after h same lane m ds all.1)
-entries_same s after h same lane m (Close window ∷ ds) all = ap (λ es. due_entry s h lane m (Close window) ∷ es) (entries_same s after h same lane m ds all.1)
+    ap (λ line. Gave (Some lane) lane.shard places Exhausted line None m ∷ map (debt_entry (over s after) h lane m) ds) (line_same s after h same lane.shard places all.0.0 all.0.1 false m)
+    ∙ ap (λ es. debt_entry s h lane m (GiveUp places) ∷ es) (entries_same s after h same lane m ds all.1)
+entries_same s after h same lane m (Try places closing tries ∷ ds) all = ap (λ es. debt_entry s h lane m (Try places closing tries) ∷ es) (entries_same s after h same lane m ds all.1)
+entries_same s after h same lane m (Close window ∷ ds) all = ap (λ es. debt_entry s h lane m (Close window) ∷ es) (entries_same s after h same lane m ds all.1)
 
 pub owed_same : (s : Setting) (after : List Stream) (h : List Entry) → SameRecords s after h → Legal s h → (lane : LaneId) → owed (over s after) h lane ≡ owed s h lane
 owed_same s after h same legal lane =
-    ap (map (due_entry (over s after) h lane (last_moment h))) (due_same s after h same legal lane)
-    ∙ entries_same s after h same lane (last_moment h) (due s h lane) (due_given s h legal lane)
+    ap (map (debt_entry (over s after) h lane (last_moment h))) (debts_same s after h same legal lane)
+    ∙ entries_same s after h same lane (last_moment h) (debts s h lane) (debts_given s h legal lane)
 
 pub unsorted_same : (s : Setting) (after : List Stream) (h : List Entry) → SameRecords s after h → (n : ℕ) → unsorted (over s after) h n ≡ unsorted s h n
 unsorted_same s after h same n =
@@ -190,7 +190,7 @@ unsorted_same s after h same n =
 pub settled_same : (s : Setting) (after : List Stream) (h : List Entry) → SameRecords s after h → Legal s h → Settled s h → Settled (over s after) h
 settled_same s after h same legal settled = record {
   sorted = λ n. unsorted_same s after h same n ∙ settled.sorted n;
-  paid = λ lane. due_same s after h same legal lane ∙ settled.paid lane;
+  paid = λ lane. debts_same s after h same legal lane ∙ settled.paid lane;
 }
 
 -- the rows

@@ -9,7 +9,8 @@ use Rattle.esm_model.specs.declared.lane.LaneId.{LaneId}
 use Rattle.esm_model.specs.declared.entry.Fate.{Fate}
 use Rattle.esm_model.specs.declared.entry.Entry.{Entry}
 use Rattle.esm_model.specs.declared.entry.Entry.TheVariants.{Came, Began, Ended, Gave, Tried, Closed, Replayed, Shut}
-use Rattle.esm_model.specs.Setting.{Setting, FoundFate, record_at, is_in_lane, found_fate}
+use Rattle.esm_model.specs.Setting.{Setting, record_at, is_in_lane, found_fate}
+use Rattle.esm_model.specs.declared.setup.FoundFate.{FoundFate}
 use Rattle.esm_model.specs.Entries.{holds}
 use Rattle.esm_model.specs.Fates.{fate, given, names_place, open_places}
 use Rattle.esm_model.specs.Checkpoint.{checkpoint}

@@ -6,7 +6,7 @@ pub mod Lists
 pub mod Longest
 pub mod Steps
 pub mod OtherShards
-pub mod Due
+pub mod Debts
 pub mod Sound
 pub mod Paid
 pub mod WorkedFacts
@@ -23,3 +23,4 @@ pub mod Records
 pub mod Extended
 pub mod Unchanged
 pub mod NumberLemmas
+pub mod JsonLemmas

@@ -18,7 +18,7 @@ use Rattle.esm_model.specs.Entries.{Call, holds, is_running, last_call, batch_of
 use Rattle.esm_model.specs.Fates.{open_places}
 use Rattle.esm_model.specs.Tries.{tries, tries_sum, counts, counts_in_call, call_verdict, mark, side, verdict_after, same_mark}
 use Rattle.esm_model.specs.Batches.{same_piece, group_of, group, failures, last_end}
-use Rattle.esm_model.specs.Owed.{due}
+use Rattle.esm_model.specs.Owed.{debts}
 use Rattle.esm_model.specs.Step.{Legal}
 use Rattle.esm_model.proofs.Lists.{In, In-drop, In-here, not_in, apart, take_while_agree}
 use Rattle.esm_model.proofs.Steps.{same_lane-refl}
@@ -42,7 +42,7 @@ pub record IsUntouched (s : Setting) (h : List Entry) (e : Entry) (lane : LaneId
   pub call : last_call (e ∷ h) lane ≡ last_call h lane
   pub failures : failures s (e ∷ h) lane ≡ failures s h lane
   pub end : last_end (e ∷ h) lane ≡ last_end h lane
-  pub due : due s (e ∷ h) lane ≡ due s h lane
+  pub debts : debts s (e ∷ h) lane ≡ debts s h lane
 
 -- a lane's batch has no place of another lane
 not_in_batch : (s : Setting) (h : List Entry) (at lane : LaneId) → Legal s h → is_running h at ≡ true → same_lane at lane ≡ false → (i : ℕ) → at.shard ≡ lane.shard → is_in_lane s lane i ≡ true → holds (batch_of (last_call h at)) i ≡ false
@@ -92,7 +92,7 @@ ended_untouched s h at reply m lane legal runs other = record {
   call = refl;
   failures = rw other refl;
   end = rw other refl;
-  due = rw other refl;
+  debts = rw other refl;
 }
 
 gave_untouched : (s : Setting) (h : List Entry) (at : LaneId) (n : ℕ) (places : List ℕ) (f : Fate) (line : Option (List ℕ)) (state : Option WindowState) (m : ℕ) (lane : LaneId)
@@ -113,16 +113,16 @@ gave_untouched s h at n places f line state m lane legal other =
       call = refl;
       failures = refl;
       end = refl;
-      due = rw other refl;
+      debts = rw other refl;
     }
 
 pub other_untouched : (s : Setting) (h : List Entry) (e : Entry) (lane : LaneId) → Legal s (e ∷ h) → IsOfOther lane e → IsUntouched s h e lane
-other_untouched s h (Began at places closing m) lane legal other = record { opens = refl; tries = λ i here. refl; marks = λ i here. refl; runs = rw other refl; call = rw other refl; failures = refl; end = refl; due = rw other refl }
+other_untouched s h (Began at places closing m) lane legal other = record { opens = refl; tries = λ i here. refl; marks = λ i here. refl; runs = rw other refl; call = rw other refl; failures = refl; end = refl; debts = rw other refl }
 other_untouched s h (Ended at reply m) lane legal other = ended_untouched s h at reply m lane legal.0 legal.1.1 other
 other_untouched s h (Gave (Some at) n places f line state m) lane legal other = gave_untouched s h at n places f line state m lane legal other
 other_untouched s h (Gave None n places f line state m) lane legal other = absurd other
-other_untouched s h (Tried at places closing t m) lane legal other = record { opens = refl; tries = λ i here. refl; marks = λ i here. refl; runs = refl; call = refl; failures = refl; end = refl; due = rw other refl }
-other_untouched s h (Closed at w m) lane legal other = record { opens = refl; tries = λ i here. refl; marks = λ i here. refl; runs = refl; call = refl; failures = refl; end = refl; due = rw other refl }
+other_untouched s h (Tried at places closing t m) lane legal other = record { opens = refl; tries = λ i here. refl; marks = λ i here. refl; runs = refl; call = refl; failures = refl; end = refl; debts = rw other refl }
+other_untouched s h (Closed at w m) lane legal other = record { opens = refl; tries = λ i here. refl; marks = λ i here. refl; runs = refl; call = refl; failures = refl; end = refl; debts = rw other refl }
 other_untouched s h (Came n first count m) lane legal other = absurd other
 other_untouched s h (Replayed n places m) lane legal other = absurd other
 other_untouched s h (Shut m) lane legal other = absurd other

@@ -4,7 +4,7 @@ use Rattle.std.specs.Prelude.{◌==◌, filter, option_map, unwrap_or, slice_get
 use Rattle.std.proofs.lemmas.List.{reverse-append}
 use Rattle.std.proofs.lemmas.Bool.{cases_Bool}
 use Rattle.std.proofs.lemmas.List.Elements.{filter_agree}
-use Rattle.esm_model.specs.Moment.{MAX_MOMENT}
+use Rattle.esm_model.specs.declared.moment.TheConstants.{MAX_MOMENT}
 use Rattle.esm_model.specs.Lane.{same_lane}
 use Rattle.esm_model.specs.declared.lane.LaneId.{LaneId}
 use Rattle.esm_model.specs.declared.entry.Fate.{Fate}
@@ -17,54 +17,54 @@ use Rattle.esm_model.specs.Setting.{Setting, record_at}
 use Rattle.esm_model.specs.Entries.{holds, moment_of, last_moment, came_count}
 use Rattle.esm_model.specs.Fates.{below, lacks_fate}
 use Rattle.esm_model.specs.FailureLine.{failure_line}
-use Rattle.esm_model.specs.Owed.{Due, Success, GiveUp, Try, Close, due, due_entry, owed, IsOwed, is_refused, is_unsorted, unsorted, Settled}
+use Rattle.esm_model.specs.Owed.{Debt, Success, GiveUp, Try, Close, debts, debt_entry, owed, IsOwed, is_refused, is_unsorted, unsorted, Settled}
 use Rattle.esm_model.specs.Step.{Legal, MayFollow, IsLater}
 use Rattle.esm_model.proofs.Lists.{filter_both}
-use Rattle.esm_model.proofs.Steps.{due_gave, due_tried, due_closed, lacks_gave}
+use Rattle.esm_model.proofs.Steps.{debt_gave, debt_tried, debt_closed, lacks_gave}
 use Rattle.esm_model.proofs.Sound.{same_lane-true}
 
--- an entry that brings what is due
+-- an entry that pays what is owed
 
-pub moment_brought : (s : Setting) (h : List Entry) (lane : LaneId) (m : ℕ) (d : Due) → moment_of (due_entry s h lane m d) ≡ m
+pub moment_brought : (s : Setting) (h : List Entry) (lane : LaneId) (m : ℕ) (d : Debt) → moment_of (debt_entry s h lane m d) ≡ m
 moment_brought s h lane m (Success places state) = refl
 moment_brought s h lane m (GiveUp places) = refl
 moment_brought s h lane m (Try places closing tries) = refl
 moment_brought s h lane m (Close window) = refl
 
 -- it is the next of its lane
-pub due_brought : (s : Setting) (h : List Entry) (lane : LaneId) (m : ℕ) (d : Due) → due s (due_entry s h lane m d ∷ h) lane ≡ drop 1 (due s h lane)
-due_brought s h lane m (Success places state) = due_gave s lane lane.shard places Succeeded None state m h
-due_brought s h lane m (GiveUp places) = due_gave s lane lane.shard places Exhausted (failure_line s h lane.shard places false m) None m h
-due_brought s h lane m (Try places closing tries) = due_tried s lane places closing tries m h
-due_brought s h lane m (Close window) = due_closed s lane window m h
+pub debt_brought : (s : Setting) (h : List Entry) (lane : LaneId) (m : ℕ) (d : Debt) → debts s (debt_entry s h lane m d ∷ h) lane ≡ drop 1 (debts s h lane)
+debt_brought s h lane m (Success places state) = debt_gave s lane lane.shard places Succeeded None state m h
+debt_brought s h lane m (GiveUp places) = debt_gave s lane lane.shard places Exhausted (failure_line s h lane.shard places false m) None m h
+debt_brought s h lane m (Try places closing tries) = debt_tried s lane places closing tries m h
+debt_brought s h lane m (Close window) = debt_closed s lane window m h
 
 -- and leaves the other lanes
-pub due_elsewhere : (s : Setting) (h : List Entry) (lane at : LaneId) (m : ℕ) (d : Due) → same_lane lane at ≡ false → due s (due_entry s h lane m d ∷ h) at ≡ due s h at
-due_elsewhere s h lane at m (Success places state) other = rw other
-due_elsewhere s h lane at m (GiveUp places) other = rw other
-due_elsewhere s h lane at m (Try places closing tries) other = rw other
-due_elsewhere s h lane at m (Close window) other = rw other
+pub debts_elsewhere : (s : Setting) (h : List Entry) (lane at : LaneId) (m : ℕ) (d : Debt) → same_lane lane at ≡ false → debts s (debt_entry s h lane m d ∷ h) at ≡ debts s h at
+debts_elsewhere s h lane at m (Success places state) other = rw other
+debts_elsewhere s h lane at m (GiveUp places) other = rw other
+debts_elsewhere s h lane at m (Try places closing tries) other = rw other
+debts_elsewhere s h lane at m (Close window) other = rw other
 
 -- it changes no failure line
-line_brought : (s : Setting) (h : List Entry) (lane : LaneId) (m : ℕ) (d : Due) (n : ℕ) (places : List ℕ) (expired : Bool) (k : ℕ) → failure_line s (due_entry s h lane m d ∷ h) n places expired k ≡ failure_line s h n places expired k
+line_brought : (s : Setting) (h : List Entry) (lane : LaneId) (m : ℕ) (d : Debt) (n : ℕ) (places : List ℕ) (expired : Bool) (k : ℕ) → failure_line s (debt_entry s h lane m d ∷ h) n places expired k ≡ failure_line s h n places expired k
 line_brought s h lane m (Success given state) n places expired k = refl
 line_brought s h lane m (GiveUp given) n places expired k = refl
 line_brought s h lane m (Try given closing tries) n places expired k = refl
 line_brought s h lane m (Close window) n places expired k = refl
 
-entry_brought : (s : Setting) (h : List Entry) (lane : LaneId) (m : ℕ) (d : Due) (at : LaneId) (k : ℕ) (next : Due) → due_entry s (due_entry s h lane m d ∷ h) at k next ≡ due_entry s h at k next
+entry_brought : (s : Setting) (h : List Entry) (lane : LaneId) (m : ℕ) (d : Debt) (at : LaneId) (k : ℕ) (next : Debt) → debt_entry s (debt_entry s h lane m d ∷ h) at k next ≡ debt_entry s h at k next
 entry_brought s h lane m d at k (Success places state) = refl
 entry_brought s h lane m d at k (GiveUp places) = ap (λ line. Gave (Some at) at.shard places Exhausted line None k) (line_brought s h lane m d at.shard places false k)
 entry_brought s h lane m d at k (Try places closing tries) = refl
 entry_brought s h lane m d at k (Close window) = refl
 
-map_same : (f g : Due → Entry) → ((d : Due) → f d ≡ g d) → (ds : List Due) → map f ds ≡ map g ds
+map_same : (f g : Debt → Entry) → ((d : Debt) → f d ≡ g d) → (ds : List Debt) → map f ds ≡ map g ds
 map_same f g same [] = refl
 map_same f g same (d ∷ ds) = ap (λ e. e ∷ map f ds) (same d) ∙ ap (λ es. g d ∷ es) (map_same f g same ds)
 
 -- the first of what is owed
 
-next_at : (f : Due → Entry) (ds : List Due) (e : Entry) (rest : List Entry) → map f ds ≡ e ∷ rest → (d : Due) × (f d ≡ e) × (map f (drop 1 ds) ≡ rest)
+next_at : (f : Debt → Entry) (ds : List Debt) (e : Entry) (rest : List Entry) → map f ds ≡ e ∷ rest → (d : Debt) × (f d ≡ e) × (map f (drop 1 ds) ≡ rest)
 next_at f [] e rest is = cc
 next_at f (d ∷ ds) e rest is = (d, cc, cc)
 
@@ -72,15 +72,15 @@ next_at f (d ∷ ds) e rest is = (d, cc, cc)
 pub owed_goes_on : (s : Setting) (h : List Entry) (lane : LaneId) (e : Entry) (rest : List Entry) → owed s h lane ≡ e ∷ rest → owed s (e ∷ h) lane ≡ rest
 owed_goes_on s h lane e rest is =
     let m = last_moment h in
-    let found = next_at (due_entry s h lane m) (due s h lane) e rest is in
-    let brought = due_entry s h lane m found.0 in
+    let found = next_at (debt_entry s h lane m) (debts s h lane) e rest is in
+    let brought = debt_entry s h lane m found.0 in
     subst (λ x. owed s (x ∷ h) lane ≡ rest) found.1
-    (ap (λ k. map (due_entry s (brought ∷ h) lane k) (due s (brought ∷ h) lane)) (moment_brought s h lane m found.0)
-    ∙ ap (map (due_entry s (brought ∷ h) lane m)) (due_brought s h lane m found.0)
-    ∙ map_same (due_entry s (brought ∷ h) lane m) (due_entry s h lane m) (entry_brought s h lane m found.0 lane m) (drop 1 (due s h lane))
+    (ap (λ k. map (debt_entry s (brought ∷ h) lane k) (debts s (brought ∷ h) lane)) (moment_brought s h lane m found.0)
+    ∙ ap (map (debt_entry s (brought ∷ h) lane m)) (debt_brought s h lane m found.0)
+    ∙ map_same (debt_entry s (brought ∷ h) lane m) (debt_entry s h lane m) (entry_brought s h lane m found.0 lane m) (drop 1 (debts s h lane))
     ∙ found.2)
 
-may_bring : (s : Setting) (h : List Entry) (lane : LaneId) (m : ℕ) (d : Due) → IsOwed s h lane (due_entry s h lane m d) → MayFollow s h (due_entry s h lane m d)
+may_bring : (s : Setting) (h : List Entry) (lane : LaneId) (m : ℕ) (d : Debt) → IsOwed s h lane (debt_entry s h lane m d) → MayFollow s h (debt_entry s h lane m d)
 may_bring s h lane m (Success places state) is = is
 may_bring s h lane m (GiveUp places) is = is
 may_bring s h lane m (Try places closing tries) is = is
@@ -94,7 +94,7 @@ last_within s (e ∷ h) legal = legal.1.0.within
 pub owed_legal : (s : Setting) (h : List Entry) (lane : LaneId) (e : Entry) (rest : List Entry) → Legal s h → owed s h lane ≡ e ∷ rest → Legal s (e ∷ h)
 owed_legal s h lane e rest legal is =
     let m = last_moment h in
-    let found = next_at (due_entry s h lane m) (due s h lane) e rest is in
+    let found = next_at (debt_entry s h lane m) (debts s h lane) e rest is in
     let first : IsOwed s h lane e = ap (λ es. slice_get es 0) is in
     let within : last_moment h ≤ MAX_MOMENT = last_within s h legal in
     subst (λ x. Legal s (x ∷ h)) found.1 (
@@ -129,7 +129,7 @@ pub unsorted_gave : (s : Setting) (by : Option LaneId) (n : ℕ) (places : List 
     → unsorted s h k ≡ [] → unsorted s (Gave by n places f line state m ∷ h) k ≡ []
 unsorted_gave s by n places f line state m h k none = unsorted_after_gave s by n places f line state m h k ∙ ap (filter (λ i. not ((n == k) && holds places i))) none
 
-unsorted_brought : (s : Setting) (h : List Entry) (lane : LaneId) (m : ℕ) (d : Due) (n : ℕ) → unsorted s h n ≡ [] → unsorted s (due_entry s h lane m d ∷ h) n ≡ []
+unsorted_brought : (s : Setting) (h : List Entry) (lane : LaneId) (m : ℕ) (d : Debt) (n : ℕ) → unsorted s h n ≡ [] → unsorted s (debt_entry s h lane m d ∷ h) n ≡ []
 unsorted_brought s h lane m (Success places state) n none = unsorted_gave s (Some lane) lane.shard places Succeeded None state m h n none
 unsorted_brought s h lane m (GiveUp places) n none = unsorted_gave s (Some lane) lane.shard places Exhausted (failure_line s h lane.shard places false m) None m h n none
 unsorted_brought s h lane m (Try places closing tries) n none = none
@@ -137,7 +137,7 @@ unsorted_brought s h lane m (Close window) n none = none
 
 pub record SettledBut (s : Setting) (h : List Entry) (lane : LaneId) : Type 0 where
   pub sorted : (n : ℕ) → unsorted s h n ≡ []
-  pub others : (at : LaneId) → same_lane lane at ≡ false → due s h at ≡ []
+  pub others : (at : LaneId) → same_lane lane at ≡ false → debts s h at ≡ []
 
 pub settled_ended : (s : Setting) (h : List Entry) (lane : LaneId) (reply : Reply) (m : ℕ) → Settled s h → SettledBut s (Ended lane reply m ∷ h) lane
 settled_ended s h lane reply m settled = record { sorted = settled.sorted; others = λ at other. rw other (settled.paid at) }
@@ -145,21 +145,21 @@ settled_ended s h lane reply m settled = record { sorted = settled.sorted; other
 but_goes_on : (s : Setting) (h : List Entry) (lane : LaneId) (e : Entry) (rest : List Entry) → owed s h lane ≡ e ∷ rest → SettledBut s h lane → SettledBut s (e ∷ h) lane
 but_goes_on s h lane e rest is but =
     let m = last_moment h in
-    let found = next_at (due_entry s h lane m) (due s h lane) e rest is in
+    let found = next_at (debt_entry s h lane m) (debts s h lane) e rest is in
     subst (λ x. SettledBut s (x ∷ h) lane) found.1 (record {
       sorted = λ n. unsorted_brought s h lane m found.0 n (but.sorted n);
-      others = λ at other. due_elsewhere s h lane at m found.0 other ∙ but.others at other;
+      others = λ at other. debts_elsewhere s h lane at m found.0 other ∙ but.others at other;
     })
 
-none_due : (f : Due → Entry) (ds : List Due) → map f ds ≡ [] → ds ≡ []
-none_due f [] is = refl
-none_due f (d ∷ ds) is = cc
+no_debts : (f : Debt → Entry) (ds : List Debt) → map f ds ≡ [] → ds ≡ []
+no_debts f [] is = refl
+no_debts f (d ∷ ds) is = cc
 
 pub but_settled : (s : Setting) (h : List Entry) (lane : LaneId) → owed s h lane ≡ [] → SettledBut s h lane → Settled s h
 but_settled s h lane none but = record {
   sorted = but.sorted;
   paid = λ at. elim (cases_Bool (same_lane lane at)) [
-    | inl same ↦ subst (λ l. due s h l ≡ []) (same_lane-true lane at same) (none_due (due_entry s h lane (last_moment h)) (due s h lane) none)
+    | inl same ↦ subst (λ l. debts s h l ≡ []) (same_lane-true lane at same) (no_debts (debt_entry s h lane (last_moment h)) (debts s h lane) none)
     | inr other ↦ but.others at other
   ];
 }

@@ -11,10 +11,10 @@ use Rattle.esm_model.specs.declared.entry.Entry.TheVariants.{Gave}
 use Rattle.esm_model.specs.Setting.{Setting, record_at}
 use Rattle.esm_model.specs.Entries.{came_count, is_running, last_call, batch_of}
 use Rattle.esm_model.specs.Fates.{below, lacks_fate, open_places}
-use Rattle.esm_model.specs.Owed.{due, is_refused, is_unsorted, IsOwed}
+use Rattle.esm_model.specs.Owed.{debts, is_refused, is_unsorted, IsOwed}
 use Rattle.esm_model.specs.Step.{Legal, MayExpire}
 use Rattle.esm_model.proofs.Lists.{In, IsFront, In-filter, front_In, In-append_left}
-use Rattle.esm_model.proofs.Due.{due_places, gives_in_shard}
+use Rattle.esm_model.proofs.Debts.{debt_places, gives_in_shard}
 use Rattle.esm_model.proofs.Sound.{sound, paid, pending, open_In, expired_front}
 
 -- what a lane is to give is open, in the lane
@@ -23,7 +23,7 @@ pub paid_In : (s : Setting) (h : List Entry) (at : LaneId) (n : ℕ) (places : L
 paid_In s h at n places f line state m legal owed i member =
     let was = sound s h legal at in
     let is = paid s h at (Gave (Some at) n places f line state m) owed was in
-    front_In (pending s h at) (open_places s h at) i was.front (subst (λ xs. In xs i) (sym is.pend) (In-append_left places (due_places (drop 1 (due s h at))) i member))
+    front_In (pending s h at) (open_places s h at) i was.front (subst (λ xs. In xs i) (sym is.pend) (In-append_left places (debt_places (drop 1 (debts s h at))) i member))
 
 pub running_front : (s : Setting) (h : List Entry) (at : LaneId) → Legal s h → is_running h at ≡ true → IsFront (batch_of (last_call h at)) (open_places s h at)
 running_front s h at legal runs = let was = sound s h legal at in rw runs at was.front

@@ -5,7 +5,7 @@ use Rattle.std.specs.List.{list_any, list_all, prefix_len}
 use Rattle.std.specs.Option.{option_or}
 use Rattle.std.proofs.lemmas.Bool.{cases_Bool, eqb-true}
 use Rattle.std.proofs.lemmas.Option.{slice_get_cases}
-use Rattle.esm_model.specs.Limits.{MAX_EVENT}
+use Rattle.esm_model.specs.declared.limits.TheConstants.{MAX_EVENT}
 use Rattle.esm_model.specs.Moment.{moment_after}
 use Rattle.esm_model.specs.Lane.{same_lane}
 use Rattle.esm_model.specs.declared.item.Record.{Record}
@@ -20,7 +20,7 @@ use Rattle.esm_model.specs.Fates.{lacks_fate, below, open_places}
 use Rattle.esm_model.specs.Reading.{reading}
 use Rattle.esm_model.specs.Ruling.{ruling, capped_tries, is_counted}
 use Rattle.esm_model.specs.Tries.{call_verdict, counts, counts_in_call, counts_in_final_call, is_closed_by, tries_sum, tries, window_tries_sum, tries_for, tries_of, verdict_on, verdict_after, side, marked_by, mark}
-use Rattle.esm_model.specs.Windows.{has_windows, window_floor, window_from, window_of, kept_state, state_text, state_after, is_outstanding, has_open_record, has_later_record, is_due}
+use Rattle.esm_model.specs.Windows.{has_windows, window_floor, window_from, window_of, kept_state, window_state, state_after, is_outstanding, has_open_record, has_later_record, is_due}
 use Rattle.esm_model.specs.EventText.{event_text}
 use Rattle.esm_model.specs.Calls.{window_of_call, window_call, event_of}
 use Rattle.esm_model.specs.Batches.{same_piece, group_of, group, is_older, is_expired, longest, is_one_window, fits, batch, failures_by, failures, last_end, delay_from, delay_end, is_group_ready, is_ready}
@@ -258,7 +258,7 @@ window_call_agree s h now n places closing same =
 
 window_call_same : (s : Setting) (after : List Stream) (h : List Entry) (n : ℕ) (places : List ℕ) (closing : Option ℕ) → window_of_call (over s after) n places closing ≡ window_of_call s n places closing → window_call (over s after) h n places closing ≡ window_call s h n places closing
 window_call_same s after h n places closing is =
-    ap (λ w. cond (has_windows s.config) (Some (record { shard = n; state = record { window = w; text = state_text (over s after) h n w }; closing = is_some closing })) None) is
+    ap (λ w. cond (has_windows s.config) (Some (record { shard = n; state = record { window = w; text = window_state (over s after) h n w }; closing = is_some closing })) None) is
     ∙ ap (λ o. cond (has_windows s.config) (Some (record { shard = n; state = record { window = window_of_call s n places closing; text = unwrap_or o (codes "{}") }; closing = is_some closing })) None) (kept_same s after h n (window_of_call s n places closing))
 
 event_same : (s : Setting) (after : List Stream) (h : List Entry) → SameRecords s after h → (n x : ℕ) (xs : List ℕ) → Covered h n (x ∷ xs) → event_of (over s after) h n (x ∷ xs) None ≡ event_of s h n (x ∷ xs) None

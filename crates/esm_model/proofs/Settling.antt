@@ -11,20 +11,20 @@ use Rattle.esm_model.specs.declared.entry.Entry.TheVariants.{Came, Began, Gave, 
 use Rattle.esm_model.specs.Setting.{Setting}
 use Rattle.esm_model.specs.Entries.{holds, came_count}
 use Rattle.esm_model.specs.Fates.{below}
-use Rattle.esm_model.specs.Owed.{Due, due, is_unsorted, unsorted, Settled}
+use Rattle.esm_model.specs.Owed.{Debt, debts, is_unsorted, unsorted, Settled}
 use Rattle.esm_model.proofs.Lists.{filter_all, filter_none}
 use Rattle.esm_model.proofs.Owing.{unsorted_after_gave, unsorted_gave}
 
-dropped : (b : Bool) (ds : List Due) → ds ≡ [] → cond b (drop 1 ds) ds ≡ []
+dropped : (b : Bool) (ds : List Debt) → ds ≡ [] → cond b (drop 1 ds) ds ≡ []
 dropped true ds none = ap (drop 1) none
 dropped false ds none = none
 
-emptied : (b : Bool) (ds : List Due) → ds ≡ [] → cond b [] ds ≡ []
+emptied : (b : Bool) (ds : List Debt) → ds ≡ [] → cond b [] ds ≡ []
 emptied true ds none = refl
 emptied false ds none = none
 
 pub settled_began : (s : Setting) (h : List Entry) (at : LaneId) (places : List ℕ) (closing : Option ℕ) (m : ℕ) → Settled s h → Settled s (Began at places closing m ∷ h)
-settled_began s h at places closing m settled = record { sorted = settled.sorted; paid = λ lane. emptied (same_lane at lane) (due s h lane) (settled.paid lane) }
+settled_began s h at places closing m settled = record { sorted = settled.sorted; paid = λ lane. emptied (same_lane at lane) (debts s h lane) (settled.paid lane) }
 
 pub settled_shut : (s : Setting) (h : List Entry) (m : ℕ) → Settled s h → Settled s (Shut m ∷ h)
 settled_shut s h m settled = record { sorted = settled.sorted; paid = settled.paid }
@@ -33,7 +33,7 @@ settled_shut s h m settled = record { sorted = settled.sorted; paid = settled.pa
 pub settled_expired : (s : Setting) (h : List Entry) (at : LaneId) (n : ℕ) (places : List ℕ) (f : Fate) (line : Option (List ℕ)) (state : Option WindowState) (m : ℕ) → Settled s h → Settled s (Gave (Some at) n places f line state m ∷ h)
 settled_expired s h at n places f line state m settled = record {
   sorted = λ k. unsorted_gave s (Some at) n places f line state m h k (settled.sorted k);
-  paid = λ lane. dropped (same_lane at lane) (due s h lane) (settled.paid lane);
+  paid = λ lane. dropped (same_lane at lane) (debts s h lane) (settled.paid lane);
 }
 
 -- what came to one shard leaves the others sorted

@@ -1,10 +1,10 @@
--- What holds of each legal history: what a lane runs or is due is a front of its open records.
+-- What holds of each legal history: what a lane runs or owes is a front of its open records.
 use Rattle.std.proofs.Common.{◌≡◌, ℕ, ◌+◌, ◌<◌, Bool, true, false, not, cond, ◌&&◌, List, [], ◌∷◌, ◌++◌, take, drop, refl, sym, ap, ◌∙◌, subst, inl, inr, Option, Some, None, append_assoc}
 use Rattle.std.specs.Prelude.{◌==◌, filter, option_map, unwrap_or, slice_index}
 use Rattle.std.specs.List.{prefix_len}
 use Rattle.std.proofs.lemmas.List.Elements.{filter_agree}
 use Rattle.std.proofs.lemmas.Bool.{cases_Bool, and_parts, and_from, eq-eqb, eqb-true}
-use Rattle.esm_model.specs.Limits.{MAX_EXPIRED}
+use Rattle.esm_model.specs.declared.limits.TheConstants.{MAX_EXPIRED}
 use Rattle.esm_model.specs.Lane.{lane_of, same_lane}
 use Rattle.esm_model.specs.Filter.{passes}
 use Rattle.esm_model.specs.declared.item.Record.{Record}
@@ -19,15 +19,15 @@ use Rattle.esm_model.specs.Setting.{Setting, is_in_lane, record_at}
 use Rattle.esm_model.specs.Entries.{holds, came_count, is_running, last_call, batch_of}
 use Rattle.esm_model.specs.Fates.{below, lacks_fate, open_places}
 use Rattle.esm_model.specs.Batches.{is_expired, group, same_piece}
-use Rattle.esm_model.specs.Owed.{Due, due, due_by_end, is_refused, is_unsorted, unsorted, IsOwed}
+use Rattle.esm_model.specs.Owed.{Debt, debts, end_debts, is_refused, is_unsorted, unsorted, IsOwed}
 use Rattle.esm_model.specs.Step.{Legal, MayFollow, MayBegin, MayBeginFinal, MayFilter, MayExpire}
 use Rattle.esm_model.proofs.Lists.{In, IsFront, Distinct, Distinct-filter, Distinct-below, In-filter, filter-In, In-below, below-In, front_filter, front_removed, front_front, front_In, take_front, filter_all, In-append_right, In-none}
 use Rattle.esm_model.proofs.Steps.{lane_from, same_lane-refl, open_gave, open_came, batch_front, span}
-use Rattle.esm_model.proofs.Due.{due_places, gave_places, end_places, IsFirstDue, first_due, gives_in_shard}
+use Rattle.esm_model.proofs.Debts.{debt_places, gave_places, end_places, IsFirstDebt, first_debt, gives_in_shard}
 
--- what the lane runs, or is due
+-- what the lane runs, or owes
 abbrev pub pending : Setting → List Entry → LaneId → List ℕ
-pending s h lane = cond (is_running h lane) (batch_of (last_call h lane)) (due_places (due s h lane))
+pending s h lane = cond (is_running h lane) (batch_of (last_call h lane)) (debt_places (debts s h lane))
 
 abbrev pub is_sorted_place : Setting → ℕ → ℕ → Bool
 is_sorted_place s n i = unwrap_or (option_map (λ (r : Record). passes s.config.filters r) (record_at s n i)) true
@@ -35,7 +35,7 @@ is_sorted_place s n i = unwrap_or (option_map (λ (r : Record). passes s.config.
 pub record IsSoundAt (s : Setting) (h : List Entry) (lane : LaneId) : Type 0 where
   pub front : IsFront (pending s h lane) (open_places s h lane)
   pub sorted : (i : ℕ) → In (pending s h lane) i → is_sorted_place s lane.shard i ≡ true
-  pub quiet : is_running h lane ≡ true → due s h lane ≡ []
+  pub quiet : is_running h lane ≡ true → debts s h lane ≡ []
 
 abbrev pub Sound : Setting → List Entry → Type 0
 Sound s h = (lane : LaneId) → IsSoundAt s h lane
@@ -136,7 +136,7 @@ sound_ended : (s : Setting) (h : List Entry) (at : LaneId) (reply : Reply) (m : 
 sound_ended s h at reply m runs sound lane =
     let was = sound lane in
     let batch = batch_of (last_call h lane) in
-    let owes = due_places (due_by_end s h lane reply) in
+    let owes = debt_places (end_debts s h lane reply) in
     elim (cases_Bool (same_lane at lane)) [
       | inl same ↦ (
           let e : at ≡ lane = same_lane-true at lane same in
@@ -213,40 +213,40 @@ sound_filtered s h n places line state m may sound lane =
         let unsorted_too : In (unsorted s h lane.shard) i = subst (λ k. In (unsorted s h k) i) e (subst (λ xs. In xs i) may.exact inside) in
         clash_at (record_at s lane.shard i) (lacks_fate s h lane.shard i) (was_sorted i member) (In-filter (is_unsorted s h lane.shard) (below (came_count h lane.shard)) i unsorted_too).1)
 
--- a lane that is due something rests
-nothing_due : (ds : List Due) (d : Due) → ds ≡ [] → ds ≡ d ∷ drop 1 ds → ⊥
-nothing_due ds d none some = cc
+-- a lane that owes something rests
+no_debt : (ds : List Debt) (d : Debt) → ds ≡ [] → ds ≡ d ∷ drop 1 ds → ⊥
+no_debt ds d none some = cc
 
 pub record IsPaid (s : Setting) (h : List Entry) (at : LaneId) (e : Entry) : Type 0 where
-  pub first : IsFirstDue s h at e
+  pub first : IsFirstDebt s h at e
   pub rests : is_running h at ≡ false
-  pub pend : pending s h at ≡ gave_places e ++ due_places (drop 1 (due s h at))
+  pub pend : pending s h at ≡ gave_places e ++ debt_places (drop 1 (debts s h at))
 
 pub paid : (s : Setting) (h : List Entry) (at : LaneId) (e : Entry) → IsOwed s h at e → IsSoundAt s h at → IsPaid s h at e
 paid s h at e owed was =
-    let first = first_due s h at e owed in
+    let first = first_debt s h at e owed in
     let rests : is_running h at ≡ false = elim (cases_Bool (is_running h at)) [
-      | inl runs ↦ absurd (nothing_due (due s h at) first.first (was.quiet runs) first.parts)
+      | inl runs ↦ absurd (no_debt (debts s h at) first.first (was.quiet runs) first.parts)
       | inr rests ↦ rests
     ] in
     record {
       first = first;
       rests = rests;
-      pend = rw rests (ap due_places first.parts ∙ ap (λ xs. xs ++ due_places (drop 1 (due s h at))) first.places);
+      pend = rw rests (ap debt_places first.parts ∙ ap (λ xs. xs ++ debt_places (drop 1 (debts s h at))) first.places);
     }
 
--- a `Gave` that the lane is due
+-- a `Gave` that the lane owes
 sound_paid : (s : Setting) (h : List Entry) (at : LaneId) (n : ℕ) (places : List ℕ) (f : Fate) (line : Option (List ℕ)) (state : Option WindowState) (m : ℕ)
     → IsOwed s h at (Gave (Some at) n places f line state m) → Sound s h → Sound s (Gave (Some at) n places f line state m ∷ h)
 sound_paid s h at n places f line state m owed sound lane =
     let was = sound at in
     let is = paid s h at (Gave (Some at) n places f line state m) owed was in
     let in_shard : n ≡ at.shard = gives_in_shard s h at _ is.first.first (Some at) n places f line state m is.first.brings in
-    let rest = due_places (drop 1 (due s h at)) in
+    let rest = debt_places (drop 1 (debts s h at)) in
     let parts : open_places s h at ≡ places ++ (rest ++ was.front.0) = was.front.1 ∙ ap (λ xs. xs ++ was.front.0) is.pend ∙ append_assoc places rest was.front.0 in
     let self : same_lane at at ≡ true = same_lane-refl at in
-    let owes : due s (Gave (Some at) n places f line state m ∷ h) at ≡ drop 1 (due s h at) = rw self in
-    let pend : pending s (Gave (Some at) n places f line state m ∷ h) at ≡ rest = rw is.rests (ap due_places owes) in
+    let owes : debts s (Gave (Some at) n places f line state m ∷ h) at ≡ drop 1 (debts s h at) = rw self in
+    let pend : pending s (Gave (Some at) n places f line state m ∷ h) at ≡ rest = rw is.rests (ap debt_places owes) in
     let here : IsSoundAt s (Gave (Some at) n places f line state m ∷ h) at = record {
       front = subst (λ xs. IsFront xs (open_places s (Gave (Some at) n places f line state m ∷ h) at)) (sym pend) (was.front.0, fronted s h (Some at) n places f line state m at rest was.front.0 in_shard parts);
       sorted = λ i member. was.sorted i (subst (λ xs. In xs i) (sym is.pend) (In-append_right places rest i (subst (λ xs. In xs i) pend member)));
@@ -258,8 +258,8 @@ sound_paid s h at n places f line state m owed sound lane =
           let front_at : IsFront places (open_places s h at) = (rest ++ was.front.0, parts) in
           let same_open = untouched s h (Some at) n places f line state m lane (λ i k inside. elsewhere s h at lane places other front_at i (sym in_shard ∙ k) inside) in
           let there = sound lane in
-          let owes_there : due s (Gave (Some at) n places f line state m ∷ h) lane ≡ due s h lane = rw other in
-          let pend_there : pending s (Gave (Some at) n places f line state m ∷ h) lane ≡ pending s h lane = ap (λ es. cond (is_running h lane) (batch_of (last_call h lane)) (due_places es)) owes_there in
+          let owes_there : debts s (Gave (Some at) n places f line state m ∷ h) lane ≡ debts s h lane = rw other in
+          let pend_there : pending s (Gave (Some at) n places f line state m ∷ h) lane ≡ pending s h lane = ap (λ es. cond (is_running h lane) (batch_of (last_call h lane)) (debt_places es)) owes_there in
           record {
             front = (there.front.0, same_open ∙ there.front.1 ∙ ap (λ xs. xs ++ there.front.0) (sym pend_there));
             sorted = λ i member. there.sorted i (subst (λ xs. In xs i) pend_there member);
@@ -279,12 +279,12 @@ sound_expired : (s : Setting) (h : List Entry) (at : LaneId) (n : ℕ) (places :
 sound_expired s h at n places line state m may sound lane =
     let front_at : IsFront places (open_places s h at) = expired_front s h at n places line state m may in
     let there = sound lane in
-    let paid_up : due s h lane ≡ [] = may.settled.paid lane in
-    let owes : due s (Gave (Some at) n places Expired line state m ∷ h) lane ≡ [] = dropped (same_lane at lane) (due s h lane) paid_up in
+    let paid_up : debts s h lane ≡ [] = may.settled.paid lane in
+    let owes : debts s (Gave (Some at) n places Expired line state m ∷ h) lane ≡ [] = dropped (same_lane at lane) (debts s h lane) paid_up in
     elim (cases_Bool (same_lane at lane)) [
       | inl is ↦ (
           let rests : is_running h lane ≡ false = subst (λ l. is_running h l ≡ false) (same_lane-true at lane is) may.rests in
-          let pend : pending s (Gave (Some at) n places Expired line state m ∷ h) lane ≡ [] = rw rests (ap due_places owes) in
+          let pend : pending s (Gave (Some at) n places Expired line state m ∷ h) lane ≡ [] = rw rests (ap debt_places owes) in
           record {
             front = subst (λ xs. IsFront xs (open_places s (Gave (Some at) n places Expired line state m ∷ h) lane)) (sym pend) (open_places s (Gave (Some at) n places Expired line state m ∷ h) lane, refl);
             sorted = λ i member. absurd (In-none i (subst (λ xs. In xs i) pend member));
@@ -292,7 +292,7 @@ sound_expired s h at n places line state m may sound lane =
           })
       | inr other ↦ (
           let same_open = untouched s h (Some at) n places Expired line state m lane (λ i k inside. elsewhere s h at lane places other front_at i (sym may.shard ∙ k) inside) in
-          let pend_there : pending s (Gave (Some at) n places Expired line state m ∷ h) lane ≡ pending s h lane = ap (λ es. cond (is_running h lane) (batch_of (last_call h lane)) (due_places es)) (owes ∙ sym paid_up) in
+          let pend_there : pending s (Gave (Some at) n places Expired line state m ∷ h) lane ≡ pending s h lane = ap (λ es. cond (is_running h lane) (batch_of (last_call h lane)) (debt_places es)) (owes ∙ sym paid_up) in
           record {
             front = (there.front.0, same_open ∙ there.front.1 ∙ ap (λ xs. xs ++ there.front.0) (sym pend_there));
             sorted = λ i member. there.sorted i (subst (λ xs. In xs i) pend_there member);
@@ -300,14 +300,14 @@ sound_expired s h at n places line state m may sound lane =
           })
     ]
   where
-    dropped : (b : Bool) (es : List Due) → es ≡ [] → cond b (drop 1 es) es ≡ []
+    dropped : (b : Bool) (es : List Debt) → es ≡ [] → cond b (drop 1 es) es ≡ []
     dropped true es e = ap (drop 1) e
     dropped false es e = e
 
--- an entry that gives no fate, and that the lane is due
+-- an entry that gives no fate, and that the lane owes
 sound_noted_at : (s : Setting) (h : List Entry) (at : LaneId) (e : Entry) (lane : LaneId)
     → IsOwed s h at e → gave_places e ≡ [] → open_places s (e ∷ h) lane ≡ open_places s h lane → is_running (e ∷ h) lane ≡ is_running h lane → batch_of (last_call (e ∷ h) lane) ≡ batch_of (last_call h lane)
-    → due s (e ∷ h) lane ≡ cond (same_lane at lane) (drop 1 (due s h lane)) (due s h lane)
+    → debts s (e ∷ h) lane ≡ cond (same_lane at lane) (drop 1 (debts s h lane)) (debts s h lane)
     → Sound s h → IsSoundAt s (e ∷ h) lane
 sound_noted_at s h at e lane owed none same_open same_run same_batch owes sound =
     let there = sound lane in
@@ -315,17 +315,17 @@ sound_noted_at s h at e lane owed none same_open same_run same_batch owes sound 
       | inl same ↦ (
           let k : at ≡ lane = same_lane-true at lane same in
           let is = paid s h lane e (subst (λ l. IsOwed s h l e) k owed) there in
-          let left : due s (e ∷ h) lane ≡ drop 1 (due s h lane) = rw same at owes in
+          let left : debts s (e ∷ h) lane ≡ drop 1 (debts s h lane) = rw same at owes in
           let rests : is_running (e ∷ h) lane ≡ false = same_run ∙ is.rests in
-          let pend : pending s (e ∷ h) lane ≡ pending s h lane = ap (λ b. cond b (batch_of (last_call (e ∷ h) lane)) (due_places (due s (e ∷ h) lane))) rests ∙ ap due_places left ∙ ap (λ xs. xs ++ due_places (drop 1 (due s h lane))) (sym none) ∙ sym is.pend in
+          let pend : pending s (e ∷ h) lane ≡ pending s h lane = ap (λ b. cond b (batch_of (last_call (e ∷ h) lane)) (debt_places (debts s (e ∷ h) lane))) rests ∙ ap debt_places left ∙ ap (λ xs. xs ++ debt_places (drop 1 (debts s h lane))) (sym none) ∙ sym is.pend in
           record {
             front = (there.front.0, same_open ∙ there.front.1 ∙ ap (λ xs. xs ++ there.front.0) (sym pend));
             sorted = λ i member. there.sorted i (subst (λ xs. In xs i) pend member);
             quiet = λ runs. (let clash : true ≡ false = sym runs ∙ rests in cc);
           })
       | inr other ↦ (
-          let left : due s (e ∷ h) lane ≡ due s h lane = rw other at owes in
-          let pend : pending s (e ∷ h) lane ≡ pending s h lane = pend_at (is_running (e ∷ h) lane) (is_running h lane) (batch_of (last_call (e ∷ h) lane)) (batch_of (last_call h lane)) (due s (e ∷ h) lane) (due s h lane) same_run same_batch left in
+          let left : debts s (e ∷ h) lane ≡ debts s h lane = rw other at owes in
+          let pend : pending s (e ∷ h) lane ≡ pending s h lane = pend_at (is_running (e ∷ h) lane) (is_running h lane) (batch_of (last_call (e ∷ h) lane)) (batch_of (last_call h lane)) (debts s (e ∷ h) lane) (debts s h lane) same_run same_batch left in
           record {
             front = (there.front.0, same_open ∙ there.front.1 ∙ ap (λ xs. xs ++ there.front.0) (sym pend));
             sorted = λ i member. there.sorted i (subst (λ xs. In xs i) pend member);
@@ -333,7 +333,7 @@ sound_noted_at s h at e lane owed none same_open same_run same_batch owes sound 
           })
     ]
   where
-    pend_at : (a b : Bool) (xs ys : List ℕ) (es fs : List Due) → a ≡ b → xs ≡ ys → es ≡ fs → cond a xs (due_places es) ≡ cond b ys (due_places fs)
+    pend_at : (a b : Bool) (xs ys : List ℕ) (es fs : List Debt) → a ≡ b → xs ≡ ys → es ≡ fs → cond a xs (debt_places es) ≡ cond b ys (debt_places fs)
     pend_at a b xs ys es fs p q r = cc
 
 -- each legal history is sound

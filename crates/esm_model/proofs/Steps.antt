@@ -14,14 +14,15 @@ use Rattle.esm_model.specs.declared.entry.Reply.{Reply}
 use Rattle.esm_model.specs.declared.entry.WindowState.{WindowState}
 use Rattle.esm_model.specs.declared.entry.Entry.{Entry}
 use Rattle.esm_model.specs.declared.entry.Entry.TheVariants.{Came, Began, Ended, Gave, Tried, Closed, Replayed, Shut}
-use Rattle.esm_model.specs.Setting.{Setting, FoundFate, is_in_lane, found_fate}
+use Rattle.esm_model.specs.Setting.{Setting, is_in_lane, found_fate}
+use Rattle.esm_model.specs.declared.setup.FoundFate.{FoundFate}
 use Rattle.esm_model.specs.Entries.{holds, came_count, is_running, last_call, batch_of}
 use Rattle.esm_model.specs.Fates.{given, fate, has_fate, lacks_fate, below, open_places}
 use Rattle.esm_model.specs.Checkpoint.{checkpoint}
 use Rattle.esm_model.specs.Ruling.{is_failure}
 use Rattle.esm_model.specs.Tries.{tries, tries_sum, counts_in_call, mark, side, verdict_after}
 use Rattle.esm_model.specs.Batches.{failures, delay_end, batch, group, longest, fits, same_piece}
-use Rattle.esm_model.specs.Owed.{due, due_by_end}
+use Rattle.esm_model.specs.Owed.{debts, end_debts}
 use Rattle.esm_model.specs.Step.{MayBegin}
 use Rattle.esm_model.proofs.Lists.{In, filter_both, take_while_longer, front_closed}
 
@@ -166,7 +167,7 @@ pub mark_kept : (s : Setting) (lane : LaneId) (reply : Reply) (m : ℕ) (h : Lis
     → mark s (Ended lane reply m ∷ h) lane.shard i ≡ mark s h lane.shard i
 mark_kept s lane reply m h i no_side = rw (eq-eqb lane.shard lane.shard refl, no_side)
 
--- running, delay and what is due
+-- running, delay and what is owed
 
 pub running_began : (lane : LaneId) (places : List ℕ) (closing : Option ℕ) (m : ℕ) (h : List Entry) → is_running (Began lane places closing m ∷ h) lane ≡ true
 running_began lane places closing m h = rw (same_lane-refl lane)
@@ -188,18 +189,18 @@ pub no_delay_ended : (s : Setting) (lane : LaneId) (reply : Reply) (m : ℕ) (h 
     → delay_end s (Ended lane reply m ∷ h) lane ≡ 0
 no_delay_ended s lane reply m h good = rw (same_lane-refl lane, good)
 
-pub due_ended : (s : Setting) (lane : LaneId) (reply : Reply) (m : ℕ) (h : List Entry) → due s (Ended lane reply m ∷ h) lane ≡ due_by_end s h lane reply
-due_ended s lane reply m h = rw (same_lane-refl lane)
+pub debts_ended : (s : Setting) (lane : LaneId) (reply : Reply) (m : ℕ) (h : List Entry) → debts s (Ended lane reply m ∷ h) lane ≡ end_debts s h lane reply
+debts_ended s lane reply m h = rw (same_lane-refl lane)
 
-pub due_gave : (s : Setting) (lane : LaneId) (n : ℕ) (places : List ℕ) (f : Fate) (line : Option (List ℕ)) (state : Option WindowState) (m : ℕ) (h : List Entry)
-    → due s (Gave (Some lane) n places f line state m ∷ h) lane ≡ drop 1 (due s h lane)
-due_gave s lane n places f line state m h = rw (same_lane-refl lane)
+pub debt_gave : (s : Setting) (lane : LaneId) (n : ℕ) (places : List ℕ) (f : Fate) (line : Option (List ℕ)) (state : Option WindowState) (m : ℕ) (h : List Entry)
+    → debts s (Gave (Some lane) n places f line state m ∷ h) lane ≡ drop 1 (debts s h lane)
+debt_gave s lane n places f line state m h = rw (same_lane-refl lane)
 
-pub due_tried : (s : Setting) (lane : LaneId) (places : List ℕ) (closing : Option ℕ) (t m : ℕ) (h : List Entry) → due s (Tried lane places closing t m ∷ h) lane ≡ drop 1 (due s h lane)
-due_tried s lane places closing t m h = rw (same_lane-refl lane)
+pub debt_tried : (s : Setting) (lane : LaneId) (places : List ℕ) (closing : Option ℕ) (t m : ℕ) (h : List Entry) → debts s (Tried lane places closing t m ∷ h) lane ≡ drop 1 (debts s h lane)
+debt_tried s lane places closing t m h = rw (same_lane-refl lane)
 
-pub due_closed : (s : Setting) (lane : LaneId) (window m : ℕ) (h : List Entry) → due s (Closed lane window m ∷ h) lane ≡ drop 1 (due s h lane)
-due_closed s lane window m h = rw (same_lane-refl lane)
+pub debt_closed : (s : Setting) (lane : LaneId) (window m : ℕ) (h : List Entry) → debts s (Closed lane window m ∷ h) lane ≡ drop 1 (debts s h lane)
+debt_closed s lane window m h = rw (same_lane-refl lane)
 
 -- the checkpoint never falls
 

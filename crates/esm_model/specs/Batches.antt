@@ -3,7 +3,7 @@
 -- This product's own: groups by mark and tries, and the delay after a failure.
 use Rattle.std.specs.Prelude.{ℕ, suc, zero, ◌-◌, ◌*◌, ◌^◌, ◌==◌, nat_lt, nat_le, min, Bool, false, not, ◌&&◌, ◌||◌, List, [], ◌∷◌, ◌++◌, length, Option, Some, None, option_map, unwrap_or, slice_index, take_while, if◌then◌else◌}
 use Rattle.std.specs.List.{list_all}
-use Rattle.esm_model.specs.Limits.{MAX_EVENT}
+use Rattle.esm_model.specs.declared.limits.TheConstants.{MAX_EVENT}
 use Rattle.esm_model.specs.Moment.{moment_after}
 use Rattle.esm_model.specs.Lane.{same_lane}
 use Rattle.esm_model.specs.declared.item.Record.{Record}

@@ -9,7 +9,7 @@ use Rattle.esm_model.specs.declared.event.WindowCall.{WindowCall}
 use Rattle.esm_model.specs.declared.called.Called.{Called}
 use Rattle.esm_model.specs.Setting.{Setting, records_at}
 use Rattle.esm_model.specs.Entries.{batcher}
-use Rattle.esm_model.specs.Windows.{has_windows, window_of, state_text}
+use Rattle.esm_model.specs.Windows.{has_windows, window_of, window_state}
 use Rattle.esm_model.specs.EventText.{event_text}
 
 -- the window of a call: the one that it closes, else that of its first record
@@ -22,7 +22,7 @@ window_call s h n places closing =
     if has_windows s.config
     then Some (record {
       shard = n;
-      state = record { window = window_of_call s n places closing; text = state_text s h n (window_of_call s n places closing) };
+      state = record { window = window_of_call s n places closing; text = window_state s h n (window_of_call s n places closing) };
       closing = is_some closing;
     })
     else None

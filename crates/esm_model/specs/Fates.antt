@@ -7,7 +7,8 @@ use Rattle.esm_model.specs.declared.entry.Fate.{Fate}
 use Rattle.esm_model.specs.declared.entry.Fate.TheVariants.{Succeeded, Filtered, Expired, Exhausted}
 use Rattle.esm_model.specs.declared.entry.Entry.{Entry}
 use Rattle.esm_model.specs.declared.entry.Entry.TheVariants.{Gave}
-use Rattle.esm_model.specs.Setting.{Setting, FoundFate, is_in_lane, found_fate}
+use Rattle.esm_model.specs.Setting.{Setting, is_in_lane, found_fate}
+use Rattle.esm_model.specs.declared.setup.FoundFate.{FoundFate}
 use Rattle.esm_model.specs.Entries.{holds, came_count}
 
 -- the entry is a `Gave` that names the place

@@ -40,14 +40,14 @@ in_object ms key = plain (get_member key ms)
 abbrev pub json_members : Option Data → Option Members
 json_members d = option_map (λ v. members_in (Some v)) d
 
-abbrev pub record_text : Record → List ℕ → Option Data
-record_text r key =
+abbrev pub record_field : Record → List ℕ → Option Data
+record_field r key =
     if bytes_eq key (codes "kinesisSchemaVersion") then Some (string (codes "1.0"))
     else (if bytes_eq key (codes "partitionKey") then Some (string r.key) else (if bytes_eq key (codes "sequenceNumber") then Some (string r.seq) else None))
 
 -- The fields of a stream's record, and its data as JSON: only an object pattern sees that.
 abbrev pub in_record : Record → Option Data → List ℕ → Seen
-in_record r json key = if bytes_eq key (codes "data") then record { leaves = None; members = json_members json } else plain (record_text r key)
+in_record r json key = if bytes_eq key (codes "data") then record { leaves = None; members = json_members json } else plain (record_field r key)
 
 -- neither an object nor a list
 abbrev pub is_text_body : Option Data → Bool

@@ -1,7 +1,6 @@
 pub mod Sequence
 pub mod Lane
 pub mod Moment
-pub mod Limits
 pub mod Valid
 pub mod Numbers
 pub mod JsonText
@@ -30,4 +29,5 @@ pub mod Step
 pub mod Laws
 pub mod Worked
 pub mod Kept
+pub mod Device
 pub mod Setup

@@ -1,9 +1,7 @@
 -- Moments: milliseconds since 1970-01-01T00:00:00Z. The end is this product's own: the last that a date of four
 -- digits can show, 9999-12-31T23:59:59.999Z.
 use Rattle.std.specs.Prelude.{ℕ, ◌+◌, min}
-
-abbrev pub MAX_MOMENT : ℕ
-MAX_MOMENT = 253402300799999
+use Rattle.esm_model.specs.declared.moment.TheConstants.{MAX_MOMENT}
 
 -- a moment that is handed in
 abbrev pub capped_moment : ℕ → ℕ

@@ -39,18 +39,18 @@ unsorted s h n = filter (is_unsorted s h n) (came_places h n)
 
 -- one thing that the end of a call calls for: an entry without its moment and its failure line, which it has of the
 -- moment at which it is added
-pub data Due : Type 0 where
-  Success : (places : List ℕ) (state : Option WindowState) → Due
-  GiveUp : (places : List ℕ) → Due
-  Try : (places : List ℕ) (closing : Option ℕ) (tries : ℕ) → Due
-  Close : (window : ℕ) → Due
+pub data Debt : Type 0 where
+  Success : (places : List ℕ) (state : Option WindowState) → Debt
+  GiveUp : (places : List ℕ) → Debt
+  Try : (places : List ℕ) (closing : Option ℕ) (tries : ℕ) → Debt
+  Close : (window : ℕ) → Debt
 
 -- the entry of the lane that brings it, after the history
-abbrev pub due_entry : Setting → List Entry → LaneId → ℕ → Due → Entry
-due_entry s h lane m (Success places state) = Gave (Some lane) lane.shard places Succeeded None state m
-due_entry s h lane m (GiveUp places) = Gave (Some lane) lane.shard places Exhausted (failure_line s h lane.shard places false m) None m
-due_entry s h lane m (Try places closing tries) = Tried lane places closing tries m
-due_entry s h lane m (Close window) = Closed lane window m
+abbrev pub debt_entry : Setting → List Entry → LaneId → ℕ → Debt → Entry
+debt_entry s h lane m (Success places state) = Gave (Some lane) lane.shard places Succeeded None state m
+debt_entry s h lane m (GiveUp places) = Gave (Some lane) lane.shard places Exhausted (failure_line s h lane.shard places false m) None m
+debt_entry s h lane m (Try places closing tries) = Tried lane places closing tries m
+debt_entry s h lane m (Close window) = Closed lane window m
 
 -- the state that a call leaves to its window, where windows are configured
 
@@ -67,42 +67,42 @@ new_state s n call reply =
     else None
 
 -- the records that succeeded, where there are any
-abbrev pub due_success : List ℕ → Option WindowState → List Due
-due_success [] state = []
-due_success (i ∷ places) state = Success (i ∷ places) state ∷ []
+abbrev pub success_debts : List ℕ → Option WindowState → List Debt
+success_debts [] state = []
+success_debts (i ∷ places) state = Success (i ∷ places) state ∷ []
 
 -- the records that are given up, where there are any
-abbrev pub due_give_up : List ℕ → List Due
-due_give_up [] = []
-due_give_up (i ∷ places) = GiveUp (i ∷ places) ∷ []
+abbrev pub give_up_debts : List ℕ → List Debt
+give_up_debts [] = []
+give_up_debts (i ∷ places) = GiveUp (i ∷ places) ∷ []
 
 -- the window of a final call
-abbrev pub due_close : Option ℕ → List Due
-due_close None = []
-due_close (Some window) = Close window ∷ []
+abbrev pub close_debts : Option ℕ → List Debt
+close_debts None = []
+close_debts (Some window) = Close window ∷ []
 
 -- by the rest of the verdict; the tries are those before the end
-abbrev pub due_rest : Rest → List ℕ → Option ℕ → ℕ → List Due
-due_rest rest.Nothing places closing tries = due_close closing
-due_rest rest.Again places closing tries = []
-due_rest (rest.Split k) places closing tries = []
-due_rest rest.Counted places closing tries = Try places closing (capped_tries (tries + 1)) ∷ []
-due_rest rest.Exhausted places closing tries = due_give_up places ++ due_close closing
+abbrev pub rest_debts : Rest → List ℕ → Option ℕ → ℕ → List Debt
+rest_debts rest.Nothing places closing tries = close_debts closing
+rest_debts rest.Again places closing tries = []
+rest_debts (rest.Split k) places closing tries = []
+rest_debts rest.Counted places closing tries = Try places closing (capped_tries (tries + 1)) ∷ []
+rest_debts rest.Exhausted places closing tries = give_up_debts places ++ close_debts closing
 
 -- what the verdict calls for: the records that succeeded, then the rest
-abbrev pub due_by_verdict : Setting → ℕ → Call → ℕ → Verdict → Reply → List Due
-due_by_verdict s n call tries v reply =
-    due_success (take v.succeeded call.places) (new_state s n call reply)
-    ++ due_rest v.rest (drop v.succeeded call.places) call.closing tries
+abbrev pub verdict_debts : Setting → ℕ → Call → ℕ → Verdict → Reply → List Debt
+verdict_debts s n call tries v reply =
+    success_debts (take v.succeeded call.places) (new_state s n call reply)
+    ++ rest_debts v.rest (drop v.succeeded call.places) call.closing tries
 
 -- of the lane's last call
-abbrev pub due_of_call : Setting → List Entry → LaneId → Option Call → Reply → List Due
-due_of_call s h lane None reply = []
-due_of_call s h lane (Some call) reply = due_by_verdict s lane.shard call (tries_of s h lane.shard call) (verdict_after s h lane reply) reply
+abbrev pub call_debts : Setting → List Entry → LaneId → Option Call → Reply → List Debt
+call_debts s h lane None reply = []
+call_debts s h lane (Some call) reply = verdict_debts s lane.shard call (tries_of s h lane.shard call) (verdict_after s h lane reply) reply
 
 -- what an `Ended` of the lane that follows the history calls for
-abbrev pub due_by_end : Setting → List Entry → LaneId → Reply → List Due
-due_by_end s h lane reply = due_of_call s h lane (last_call h lane) reply
+abbrev pub end_debts : Setting → List Entry → LaneId → Reply → List Debt
+end_debts s h lane reply = call_debts s h lane (last_call h lane) reply
 
 -- the lane that an entry is of, where it is one that a lane may owe
 abbrev pub giver : Entry → Option LaneId
@@ -115,19 +115,19 @@ giver _ = None
 abbrev pub is_by : LaneId → Entry → Bool
 is_by lane e = unwrap_or (option_map (λ (at : LaneId). same_lane at lane) (giver e)) false
 
-abbrev pub due_after : Setting → List Entry → LaneId → List Due → Entry → List Due
-due_after s h lane before (Began at places closing moment) = if same_lane at lane then [] else before
-due_after s h lane before (Ended at reply moment) = if same_lane at lane then due_by_end s h lane reply else before
-due_after s h lane before e = if is_by lane e then drop 1 before else before
+abbrev pub debts_after : Setting → List Entry → LaneId → List Debt → Entry → List Debt
+debts_after s h lane before (Began at places closing moment) = if same_lane at lane then [] else before
+debts_after s h lane before (Ended at reply moment) = if same_lane at lane then end_debts s h lane reply else before
+debts_after s h lane before e = if is_by lane e then drop 1 before else before
 
 -- what the lane's last `Ended` calls for and does not yet stand after it, where no `Began` of the lane follows it
-abbrev pub due : Setting → List Entry → LaneId → List Due
-due s [] lane = []
-due s (e ∷ h) lane = due_after s h lane (due s h lane) e
+abbrev pub debts : Setting → List Entry → LaneId → List Debt
+debts s [] lane = []
+debts s (e ∷ h) lane = debts_after s h lane (debts s h lane) e
 
 -- as entries, at the moment of the last entry
 abbrev pub owed : Setting → List Entry → LaneId → List Entry
-owed s h lane = map (due_entry s h lane (last_moment h)) (due s h lane)
+owed s h lane = map (debt_entry s h lane (last_moment h)) (debts s h lane)
 
 -- it is the first of them
 abbrev pub IsOwed : Setting → List Entry → LaneId → Entry → Type 0
@@ -136,4 +136,4 @@ IsOwed s h lane e = slice_get (owed s h lane) 0 ≡ Some e
 -- each open record passes the filter, and no lane is owed anything
 pub record Settled (s : Setting) (h : List Entry) : Type 0 where
   pub sorted : (n : ℕ) → unsorted s h n ≡ []
-  pub paid : (lane : LaneId) → due s h lane ≡ []
+  pub paid : (lane : LaneId) → debts s h lane ≡ []

@@ -7,6 +7,7 @@ use Rattle.std.specs.Str.{bytes_eq}
 use Rattle.serde_json.specs.Data.{Data, null, boolean, number, string, array, object, Items, no_items, item, Members, no_members, member}
 use Rattle.serde_json.specs.Read.{read}
 use Rattle.serde_json.specs.Find.{as_str, as_bool, as_number, as_i64}
+use Rattle.esm_model.specs.declared.limits.TheConstants.{MAX_PATTERN}
 use Rattle.esm_model.specs.Valid.{char_count}
 
 -- ---- the tree of a pattern
@@ -242,10 +243,6 @@ read_object outer (object ms) = read_choice outer (object ms)
 abbrev pub read_value : Bool → Option Data → Reads Fields
 read_value outer None = Err not_json
 read_value outer (Some d) = read_object outer d
-
--- characters of a pattern's text
-abbrev pub MAX_PATTERN : ℕ
-MAX_PATTERN = 4096
 
 -- the pattern that a text is, for a stream's records or for a queue's messages
 unfoldable pub read_pattern : Bool → List ℕ → Reads Fields

@@ -2,7 +2,7 @@
 -- `BisectBatchOnFunctionError`, `ReportBatchItemFailures`). This product's own: a call that was not run adds no try, a
 -- failed batch is split after its first `count - count / 2` records, and a split adds no try.
 use Rattle.std.specs.Prelude.{ℕ, ◌+◌, ◌-◌, ◌/◌, nat_lt, min, Bool, true, false, ◌&&◌, Option, Some, None, if◌then◌else◌}
-use Rattle.esm_model.specs.Limits.{MAX_TRIES}
+use Rattle.esm_model.specs.declared.limits.TheConstants.{MAX_TRIES}
 use Rattle.esm_model.specs.declared.config.Config.{Config}
 use Rattle.esm_model.specs.declared.verdict.Reading.{Reading}
 use Rattle.esm_model.specs.declared.verdict.Reading.TheVariants.{Whole, NotRun, Failed, UpTo}

@@ -3,39 +3,16 @@ use Rattle.std.specs.Prelude.{ℕ, ◌≡◌, ◌==◌, Bool, false, ◌&&◌, L
 use Rattle.esm_model.specs.Lane.{lane_of}
 use Rattle.esm_model.specs.declared.config.Config.{Config}
 use Rattle.esm_model.specs.declared.item.Record.{Record}
-use Rattle.esm_model.specs.declared.entry.Fate.{Fate}
 use Rattle.esm_model.specs.declared.lane.LaneId.{LaneId}
+use Rattle.esm_model.specs.declared.setup.FoundFate.{FoundFate}
+use Rattle.esm_model.specs.declared.setup.FoundTries.{FoundTries}
+use Rattle.esm_model.specs.declared.setup.FoundState.{FoundState}
+use Rattle.esm_model.specs.declared.setup.FoundWindowTries.{FoundWindowTries}
 
 -- a shard's records by place: those of the stream from the mapping's starting position on
 pub record Stream : Type 0 where
   pub shard : ℕ
   pub records : List Record
-
--- a fate that the journal told of at opening, with the sequence number that it kept of the record
-pub record FoundFate : Type 0 where
-  pub shard : ℕ
-  pub place : ℕ
-  pub fate : Fate
-  pub text : List ℕ
-
--- failed tries of a record that the journal told of at opening, with the sequence number that it kept
-pub record FoundTries : Type 0 where
-  pub shard : ℕ
-  pub place : ℕ
-  pub tries : ℕ
-  pub text : List ℕ
-
--- a window's state that the journal told of at opening
-pub record FoundState : Type 0 where
-  pub shard : ℕ
-  pub window : ℕ
-  pub text : List ℕ
-
--- failed tries of a window's final call that the journal told of at opening
-pub record FoundWindowTries : Type 0 where
-  pub shard : ℕ
-  pub window : ℕ
-  pub tries : ℕ
 
 -- the configuration, the calls allowed, the records of each shard, and what the journal told of at opening
 pub record Setting : Type 0 where

@@ -3,7 +3,7 @@ use Rattle.std.specs.Prelude.{[], None, false}
 use Rattle.esm_model.specs.declared.config.Config.{Config}
 use Rattle.esm_model.specs.declared.config.Kind.TheVariants.{Stream}
 use Rattle.esm_model.specs.declared.config.Start.TheVariants.{TrimHorizon}
-use Rattle.esm_model.specs.declared.setup.DiskFound.{DiskFound}
+use base.Stored.{Gv, gnil}
 use Rattle.esm_model.specs.declared.setup.Setup.{Setup}
 
 abbrev pub no_config : Config
@@ -29,8 +29,8 @@ no_config = record {
   enabled = false;
 }
 
-abbrev pub no_disk : DiskFound
-no_disk = record { faults = 0; moment = 0 }
+abbrev pub no_device : Gv
+no_device = gnil
 
 abbrev pub no_setup : Setup
 no_setup = record {
@@ -43,8 +43,7 @@ no_setup = record {
   window_tries = [];
   deletions = [];
   payloads = [];
-  journal = no_disk;
-  spare = no_disk;
+  pair = no_device;
   lines = [];
-  line_faults = 0;
+  dest = no_device;
 }

@@ -7,7 +7,7 @@ use Rattle.std.specs.Str.{bytes_eq}
 use Rattle.serde_json.specs.Data.{Data, null, string, object}
 use Rattle.serde_json.specs.Find.{get_member}
 use Rattle.esm_model.specs.Json.{read_json}
-use Rattle.esm_model.specs.Limits.{MAX_DATA}
+use Rattle.esm_model.specs.declared.limits.TheConstants.{MAX_DATA}
 use Rattle.esm_model.specs.declared.verdict.StateRead.{StateRead}
 use Rattle.esm_model.specs.declared.verdict.StateRead.TheVariants.{Empty, Span, Bad}
 

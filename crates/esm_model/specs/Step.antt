@@ -2,8 +2,8 @@
 -- Developer Guide, event source mappings for Kinesis.
 use Rattle.std.specs.Prelude.{◌≡◌, ℕ, ◌+◌, ◌<◌, ◌≤◌, Bool, true, false, IsTrue, List, [], ◌∷◌, length, take, Option, Some, None, take_while, ⊤}
 use Rattle.std.specs.List.{list_any}
-use Rattle.esm_model.specs.Limits.{MAX_EXPIRED}
-use Rattle.esm_model.specs.Moment.{MAX_MOMENT}
+use Rattle.esm_model.specs.declared.limits.TheConstants.{MAX_EXPIRED}
+use Rattle.esm_model.specs.declared.moment.TheConstants.{MAX_MOMENT}
 use Rattle.esm_model.specs.declared.item.Record.{Record}
 use Rattle.esm_model.specs.declared.lane.LaneId.{LaneId}
 use Rattle.esm_model.specs.declared.entry.Fate.{Fate}
@@ -11,7 +11,9 @@ use Rattle.esm_model.specs.declared.entry.Fate.TheVariants.{Succeeded, Filtered,
 use Rattle.esm_model.specs.declared.entry.WindowState.{WindowState}
 use Rattle.esm_model.specs.declared.entry.Entry.{Entry}
 use Rattle.esm_model.specs.declared.entry.Entry.TheVariants.{Came, Began, Ended, Gave, Tried, Closed, Replayed, Shut}
-use Rattle.esm_model.specs.Setting.{Setting, FoundFate, FoundTries, records_of, record_at, found_fate, found_try}
+use Rattle.esm_model.specs.Setting.{Setting, records_of, record_at, found_fate, found_try}
+use Rattle.esm_model.specs.declared.setup.FoundFate.{FoundFate}
+use Rattle.esm_model.specs.declared.setup.FoundTries.{FoundTries}
 use Rattle.esm_model.specs.Entries.{moment_of, last_moment, came_count, is_shut, calls_begun, is_running}
 use Rattle.esm_model.specs.Fates.{open_places}
 use Rattle.esm_model.specs.Batches.{group, batch, is_expired, is_ready, delay_end}

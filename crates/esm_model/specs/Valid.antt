@@ -3,8 +3,8 @@
 use Rattle.std.specs.Prelude.{◌≡◌, ℕ, ◌-◌, ◌/◌, ◌%◌, ◌==◌, nat_eq, nat_lt, nat_le, ◌≤◌, Bool, true, false, ◌&&◌, ◌||◌, List, ◌++◌, length, take, filter, Option, Some, None, codes, ◌⊎◌}
 use Rattle.std.specs.List.{list_all, starts_with, ends_with}
 use Rattle.std.specs.Char.{is_ascii_digit}
-use Rattle.esm_model.specs.Moment.{MAX_MOMENT}
-use Rattle.esm_model.specs.Limits.{MAX_SHARD, MAX_DATA}
+use Rattle.esm_model.specs.declared.moment.TheConstants.{MAX_MOMENT}
+use Rattle.esm_model.specs.declared.limits.TheConstants.{MAX_SHARD, MAX_DATA, MAX_KEY, MAX_BATCH, MAX_FILTERS, MAX_RETRIES}
 use Rattle.esm_model.specs.Sequence.{is_sequence}
 use Rattle.esm_model.specs.declared.config.Kind.{Kind}
 use Rattle.esm_model.specs.declared.config.Kind.TheVariants.{Stream, Standard, Fifo}
@@ -51,7 +51,7 @@ is_word passes low high text = is_between low high (length text) && list_all pas
 pub record IsValidRecord (r : Record) : Type 0 where
   pub shard : r.shard ≤ MAX_SHARD
   pub seq : is_sequence r.seq ≡ true
-  pub key : is_between 1 256 (char_count r.key) ≡ true
+  pub key : is_between 1 MAX_KEY (char_count r.key) ≡ true
   pub payload : length r.payload ≤ MAX_DATA
   pub arrival : r.arrival ≤ MAX_MOMENT
 
@@ -116,7 +116,7 @@ is_seconds low high ms = (ms % 1000 == 0) && is_between low high (ms / 1000)
 
 abbrev pub is_batch_size : Kind → ℕ → Bool
 is_batch_size Fifo n = is_between 1 10 n
-is_batch_size _ n = is_between 1 10000 n
+is_batch_size _ n = is_between 1 MAX_BATCH n
 
 -- a FIFO queue has no batching window; a standard queue's batch above 10 needs one
 abbrev pub is_window : Kind → ℕ → ℕ → Bool
@@ -140,7 +140,7 @@ is_destination (Some text) = starts_with nat_eq text (codes "arn:aws:sqs:") && n
 -- the fields that only a stream's mapping has
 pub record HasStreamFields (c : Config) : Type 0 where
   pub factor : is_between 1 10 c.factor ≡ true
-  pub retries : none_or (λ n. nat_le n 10000) c.retries ≡ true
+  pub retries : none_or (λ n. nat_le n MAX_RETRIES) c.retries ≡ true
   pub age : none_or (is_seconds 60 604800) c.age_ms ≡ true
   pub tumbling : is_seconds 0 900 c.tumbling_ms ≡ true
   pub one_lane : ((c.tumbling_ms == 0) || (c.factor == 1)) ≡ true
@@ -173,7 +173,7 @@ pub record IsValidConfig (c : Config) : Type 0 where
   pub function_arn : IsFunctionArn c.function c.function_arn
   pub batch_size : is_batch_size c.kind c.batch_size ≡ true
   pub window : is_window c.kind c.batch_size c.window_ms ≡ true
-  pub filters : length c.filters ≤ 10
+  pub filters : length c.filters ≤ MAX_FILTERS
   pub fields : HasFieldsOf c.kind c
 
 -- of a stream's mapping

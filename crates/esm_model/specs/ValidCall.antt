@@ -1,7 +1,7 @@
 -- Which windows' calls and which failures are valid: their numbers are within the bounds of what the journal keeps.
 use Rattle.std.specs.Prelude.{◌≤◌, length}
-use Rattle.esm_model.specs.Moment.{MAX_MOMENT}
-use Rattle.esm_model.specs.Limits.{MAX_SHARD, MAX_DATA}
+use Rattle.esm_model.specs.declared.moment.TheConstants.{MAX_MOMENT}
+use Rattle.esm_model.specs.declared.limits.TheConstants.{MAX_SHARD, MAX_DATA}
 use Rattle.esm_model.specs.declared.event.WindowCall.{WindowCall}
 use Rattle.esm_model.specs.declared.event.Failure.{Failure}
 

@@ -47,8 +47,8 @@ kept_state s [] n w = found_state s n w
 kept_state s (e ∷ h) n w = state_after n w (kept_state s h n w) e
 
 -- the window's state; a window begins with `{}`
-abbrev pub state_text : Setting → List Entry → ℕ → ℕ → List ℕ
-state_text s h n w = unwrap_or (kept_state s h n w) (codes "{}")
+abbrev pub window_state : Setting → List Entry → ℕ → ℕ → List ℕ
+window_state s h n w = unwrap_or (kept_state s h n w) (codes "{}")
 
 -- a window of a shard that came is outstanding while it has a state
 abbrev pub is_outstanding : Setting → List Entry → ℕ → ℕ → Bool

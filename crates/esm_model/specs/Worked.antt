@@ -15,7 +15,7 @@ use Rattle.esm_model.specs.declared.entry.WindowState.{WindowState}
 use Rattle.esm_model.specs.Setting.{Setting}
 use Rattle.esm_model.specs.Fates.{fate_count}
 use Rattle.esm_model.specs.Batches.{group, batch, delay_end}
-use Rattle.esm_model.specs.Windows.{is_due, state_text}
+use Rattle.esm_model.specs.Windows.{is_due, window_state}
 use Rattle.esm_model.specs.Owed.{owed}
 use Rattle.esm_model.specs.Checkpoint.{checkpoint}
 use Rattle.esm_model.specs.Step.{Legal, is_front_expired}
@@ -212,10 +212,10 @@ pub record TumblingWindows : Type 0 where
   pub batch_is : batch windowed three_came lane_0 120000 ≡ 0 ∷ 1 ∷ []
   pub first_due : is_due windowed after_window_call 0 0 ≡ true
   pub second_not_due : is_due windowed after_window_call 0 120000 ≡ false
-  pub state_is : state_text windowed after_window_call 0 0 ≡ codes "{\"n\":2}"
+  pub state_is : window_state windowed after_window_call 0 0 ≡ codes "{\"n\":2}"
   pub closes : owed windowed (ended succeeds 120000 ∷ Began lane_0 [] (Some 0) 120000 ∷ after_window_call) lane_0 ≡ Closed lane_0 0 120000 ∷ []
   pub closed : is_due windowed after_final_call 0 0 ≡ false
-  pub begins_anew : state_text windowed after_final_call 0 0 ≡ codes "{}"
+  pub begins_anew : window_state windowed after_final_call 0 0 ≡ codes "{}"
   pub next_batch : batch windowed after_final_call lane_0 120000 ≡ 2 ∷ []
 
 -- `record-age`: a record may be a minute old, and no older

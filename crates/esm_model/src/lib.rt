@@ -6,12 +6,15 @@
 pub mod book;
 pub mod called;
 pub mod config;
+pub mod device;
 pub mod entry;
 pub mod event;
 pub mod item;
+mod json_value;
 pub mod kept;
 pub mod lane;
 pub mod laws;
+pub mod limits;
 pub mod memory;
 pub mod moment;
 pub mod sequence;
@@ -26,16 +29,21 @@ pub mod worked;
 pub use book::{BookError, BookOpen, CameError, Change, Job, Next, Refused, Trouble};
 pub use called::Called;
 pub use config::{Config, Kind, Start};
+pub use device::DeviceFound;
 pub use entry::{Entry, Fate, Reply, WindowState};
 pub use event::{Failure, Response, WindowCall};
 pub use item::{Message, Record};
+pub use json_value::{parse_json, parse_json_text};
 pub use kept::Kept;
 pub use lane::{LaneId, lane_of};
+pub use limits::{
+    MAX_BATCH, MAX_BODY, MAX_DATA, MAX_EVENT, MAX_EXPIRED, MAX_FILTERS, MAX_HEAD, MAX_HEADER_LINES,
+    MAX_INPUT, MAX_KEY, MAX_LANES, MAX_LINE, MAX_PATTERN, MAX_PAYLOAD, MAX_RECORDS, MAX_RESPONSE,
+    MAX_RETRIES, MAX_SHARD, MAX_SHARDS, MAX_TRIES,
+};
 pub use memory::OutOfMemory;
 pub use moment::MAX_MOMENT;
 pub use sequence::{Seq, SeqError};
-pub use setup::{
-    DeletionFound, DiskFound, FateFound, Setup, StateFound, Told, TriesFound, WindowTriesFound,
-};
+pub use setup::{FoundDeletion, FoundFate, FoundState, FoundTries, FoundWindowTries, Setup, Told};
 pub use text::{Bytes, Places, Text, Texts};
 pub use verdict::{Answer, QueueReading, Reading, Rest, StateRead, Verdict};

@@ -1,7 +1,8 @@
 ghost use Rattle.std.specs.Prelude.{◌≡◌, ◌≢◌, true, false, IfOk};
 ghost use Rattle.esm_model.specs.Sequence.{is_sequence, sequence_order};
-ghost use Rattle.esm_model.specs.declared.sequence.SeqError.TheVariants.{OutOfMemory};
+ghost use Rattle.esm_model.specs.declared.sequence.SeqError.TheVariants as seq_error;
 
+use crate::memory::OutOfMemory;
 use crate::spelling::is_sequence;
 use crate::text::Text;
 use std::alloc::{AllocError, Global};
@@ -36,7 +37,7 @@ pub enum SeqError {
 }
 
 impl From<AllocError> for SeqError {
-    ghost from_gives = { λ _ e. e ≡ OutOfMemory };
+    ghost from_gives = { λ _ e. e ≡ seq_error.OutOfMemory };
 
     fn from(_: AllocError) -> Self {
         SeqError::OutOfMemory
@@ -58,6 +59,15 @@ impl Seq {
         let digits = String::from_str(alloc, text)?;
         Ok(Seq {
             digits: Text::from_vec(digits),
+        })
+    }
+
+    /// A copy of the number.
+    pub fn copy(&self, alloc: Global) -> Result<Seq, OutOfMemory>
+        ensures { IfOk result (λ copy. copy ≡ self.now) }
+    {
+        Ok(Seq {
+            digits: self.digits.copy(alloc)?,
         })
     }
 

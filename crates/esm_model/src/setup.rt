@@ -1,4 +1,5 @@
 use crate::config::Config;
+use crate::device::DeviceFound;
 use crate::entry::{Entry, Fate};
 use crate::item::{Message, Record};
 use crate::text::{Bytes, Text};
@@ -13,7 +14,7 @@ pub struct Told {
 }
 
 /// A record whose fate the journal told at opening, with the sequence number that it kept.
-pub struct FateFound {
+pub struct FoundFate {
     pub shard: u64,
     pub place: u32,
     pub fate: Fate,
@@ -21,7 +22,7 @@ pub struct FateFound {
 }
 
 /// A record without a fate whose failed tries the journal told at opening, with the sequence number that it kept.
-pub struct TriesFound {
+pub struct FoundTries {
     pub shard: u64,
     pub place: u32,
     pub tries: u32,
@@ -29,30 +30,24 @@ pub struct TriesFound {
 }
 
 /// A tumbling window's state that the journal told at opening. The window is its start in milliseconds.
-pub struct StateFound {
+pub struct FoundState {
     pub shard: u64,
     pub window: u64,
     pub text: Bytes,
 }
 
 /// A tumbling window whose failed final calls the journal told at opening.
-pub struct WindowTriesFound {
+pub struct FoundWindowTries {
     pub shard: u64,
     pub window: u64,
     pub tries: u32,
 }
 
 /// A message whose deletion the journal told at opening, with the message id that it kept.
-pub struct DeletionFound {
+pub struct FoundDeletion {
     pub place: u32,
     pub fate: Fate,
     pub text: Text,
-}
-
-/// A disk as it stood at opening: its count of faults, and the moment of its own clock.
-pub struct DiskFound {
-    pub faults: u64,
-    pub moment: u64,
 }
 
 /// What a book was opened with: its mapping, what its journal said, and how its devices stood.
@@ -63,17 +58,16 @@ pub struct Setup {
     pub calls: u32,
     /// The visibility timeout of a queue in milliseconds; 0 for a stream.
     pub visibility_ms: u64,
-    pub fates: LinkedList<FateFound>,
-    pub tries: LinkedList<TriesFound>,
-    pub states: LinkedList<StateFound>,
-    pub window_tries: LinkedList<WindowTriesFound>,
-    pub deletions: LinkedList<DeletionFound>,
+    pub fates: LinkedList<FoundFate>,
+    pub tries: LinkedList<FoundTries>,
+    pub states: LinkedList<FoundState>,
+    pub window_tries: LinkedList<FoundWindowTries>,
+    pub deletions: LinkedList<FoundDeletion>,
     /// The payloads of the journal, in order.
     pub payloads: LinkedList<Bytes>,
-    /// The two disks of the journal, in the order in which they were handed in.
-    pub journal: DiskFound,
-    pub spare: DiskFound,
-    /// The lines of the failure destination, as it sends them, and its count of faults.
+    /// The pair of the journal, with its two disks.
+    pub pair: DeviceFound,
+    /// The lines of the failure destination, as it sends them, and the destination.
     pub lines: LinkedList<Bytes>,
-    pub line_faults: u64,
+    pub dest: DeviceFound,
 }

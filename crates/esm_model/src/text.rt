@@ -1,6 +1,8 @@
-ghost use Rattle.std.specs.Prelude.{◌≡◌};
+ghost use Rattle.std.specs.Prelude.{◌≡◌, IfOk};
 ghost use Rattle.std.specs.String.{string_bytes};
 
+use crate::memory::OutOfMemory;
+use std::alloc::Global;
 use std::marker::Model;
 
 /// UTF-8 text, seen as the list of its bytes.
@@ -37,6 +39,13 @@ impl Text {
     {
         self.chars.as_bytes()
     }
+
+    /// A copy of the text.
+    pub fn copy(&self, alloc: Global) -> Result<Text, OutOfMemory>
+        ensures { IfOk result (λ copy. copy ≡ self.now) }
+    {
+        Ok(Text::from_vec(String::from_str(alloc, self.as_str())?))
+    }
 }
 
 /// Bytes, seen as a list.
@@ -66,6 +75,13 @@ impl Bytes {
     {
         self.bytes.as_slice()
     }
+
+    /// A copy of the bytes.
+    pub fn copy(&self, alloc: Global) -> Result<Bytes, OutOfMemory>
+        ensures { IfOk result (λ copy. copy ≡ self.now) }
+    {
+        Ok(Bytes::from_vec(Vec::from_slice(alloc, self.as_slice())?))
+    }
 }
 
 /// Places of records in their shard's list, counted from 0; seen as a list.
@@ -94,6 +110,13 @@ impl Places {
         ensures { result.now ≡ self.now }
     {
         self.places.as_slice()
+    }
+
+    /// A copy of the places.
+    pub fn copy(&self, alloc: Global) -> Result<Places, OutOfMemory>
+        ensures { IfOk result (λ copy. copy ≡ self.now) }
+    {
+        Ok(Places::from_vec(Vec::from_slice(alloc, self.as_slice())?))
     }
 }
 

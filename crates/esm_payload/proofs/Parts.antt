@@ -4,7 +4,7 @@ use Rattle.std.proofs.lemmas.List.{append-nil}
 use Rattle.esm_payload.specs.declared.field.ReadError.{ReadError}
 use Rattle.esm_payload.specs.declared.field.ReadError.TheVariants.{Memory, NoPayload}
 use Rattle.esm_payload.specs.declared.names.Named.{Named}
-use Rattle.esm_payload.specs.Reading.{◌>>=◌, Fails, name_at, names_at}
+use Rattle.esm_payload.specs.Parsing.{◌>>=◌, Fails, name_at, names_at}
 
 -- what was read before, and what is still read
 abbrev pub with_front : List ℕ → List (List ℕ) → Option (Named × List ℕ) → Option (Named × List ℕ)

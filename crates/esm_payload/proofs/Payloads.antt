@@ -4,7 +4,7 @@ use Rattle.std.specs.Prelude.{IfSome}
 use Rattle.std.proofs.lemmas.Bool.{eqb-true}
 use Rattle.std.proofs.lemmas.Option.{cond_some}
 use Rattle.std.proofs.lemmas.List.{append-nil, nil_from_length}
-use Rattle.esm_model.specs.Limits.{MAX_DATA}
+use Rattle.esm_model.specs.declared.limits.TheConstants.{MAX_DATA}
 use Rattle.esm_model.specs.Sequence.{is_sequence}
 use Rattle.esm_model.specs.declared.entry.Fate.{Fate}
 use Rattle.esm_model.specs.declared.entry.WindowState.{WindowState}
@@ -12,7 +12,7 @@ use Rattle.esm_payload.specs.declared.names.Named.{Named}
 use Rattle.esm_payload.specs.declared.said.Said.{Said}
 use Rattle.esm_payload.specs.declared.said.Said.TheVariants.{Fates, Closed, Deleted, State, Tried, WindowTried, Replayed}
 use Rattle.esm_payload.specs.Payload.{eight, four, fate_byte, text_bytes, flagged_bytes, named_bytes, payload_of, is_message_id, may_keep, is_deletion, IsShard, IsMoment, IsTries, IsState, AreNamed, IsSaid}
-use Rattle.esm_payload.specs.Reading.{◌⊗◌, only, byte_at, shard_at, moment_at, tries_at, fate_at, text_at, state_of, flagged_at, named_at, fates_at, closed_at, deleted_at, state_at, tried_at, window_tried_at, replayed_at, said_at, said_of}
+use Rattle.esm_payload.specs.Parsing.{◌⊗◌, only, byte_at, shard_at, moment_at, tries_at, fate_at, text_at, state_of, flagged_at, named_at, fates_at, closed_at, deleted_at, state_at, tried_at, window_tried_at, replayed_at, said_at, said_of}
 use Rattle.esm_payload.proofs.WordLemmas.{sequence_short, id_short}
 use Rattle.esm_payload.proofs.Fields.{IsBytes, IsBytes-rest, bind_some, chosen, Took, Reads, Reads-both, Reads-only, made_takes, made_again}
 use Rattle.esm_payload.proofs.Values.{shard_reads, moment_reads, tries_reads, fate_reads, text_reads, flagged_reads, named_reads}

@@ -5,15 +5,15 @@ use Rattle.std.specs.List.{list_all}
 use Rattle.std.specs.Int.{w32, w64}
 use Rattle.std.proofs.lemmas.Bool.{and_parts, and_from, leb-true, le-leb, ltb-true, lt-ltb, eqb-true}
 use Rattle.std.proofs.lemmas.Option.{cond_some}
-use Rattle.esm_model.specs.Limits.{MAX_SHARD, MAX_DATA, MAX_TRIES}
-use Rattle.esm_model.specs.Moment.{MAX_MOMENT}
+use Rattle.esm_model.specs.declared.limits.TheConstants.{MAX_SHARD, MAX_DATA, MAX_TRIES}
+use Rattle.esm_model.specs.declared.moment.TheConstants.{MAX_MOMENT}
 use Rattle.esm_model.specs.Valid.{is_between}
 use Rattle.esm_model.specs.declared.entry.Fate.{Fate}
 use Rattle.esm_model.specs.declared.entry.Fate.TheVariants.{Succeeded, Filtered, Expired, Exhausted}
 use Rattle.esm_model.specs.declared.entry.WindowState.{WindowState}
 use Rattle.esm_payload.specs.declared.names.Named.{Named}
 use Rattle.esm_payload.specs.Payload.{eight, four, fate_byte, text_bytes, flagged_bytes, name_bytes, names_bytes, named_bytes, rises, is_place, IsShard, IsMoment, IsTries, IsState, AreNamed}
-use Rattle.esm_payload.specs.Reading.{◌>>=◌, ◌⊗◌, only, made, number_at, byte_at, taken, shard_at, moment_at, tries_at, fate_of, fate_at, text_at, state_of, flagged_at, name_at, names_at, named_at}
+use Rattle.esm_payload.specs.Parsing.{◌>>=◌, ◌⊗◌, only, made, number_at, byte_at, taken, shard_at, moment_at, tries_at, fate_of, fate_at, text_at, state_of, flagged_at, name_at, names_at, named_at}
 use Rattle.esm_payload.proofs.Fields.{IsBytes, IsBytes-rest, bind_some, some_is, chosen, Took, Took-then, Reads, Reads-as, Reads-both, Reads-only, wide32, wide64, number_reads, byte_reads, taken_takes, taken_again}
 
 -- numbers

@@ -1,3 +1,3 @@
 pub mod Payload
-pub mod Reading
+pub mod Parsing
 pub mod Words

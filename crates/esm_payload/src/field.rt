@@ -2,17 +2,10 @@
 ghost use Rattle.std.specs.Prelude.{◌≡◌};
 ghost use Rattle.std.specs.Int.{w32, w64};
 ghost use Rattle.esm_payload.specs.declared.field.ReadError.TheVariants.{Memory};
-ghost use Rattle.esm_payload.specs.Reading.{Gives, number_at, byte_at, shard_at, moment_at, tries_at, fate_at, taken, text_at, flagged_at, fate_of};
+ghost use Rattle.esm_payload.specs.Parsing.{Gives, number_at, byte_at, shard_at, moment_at, tries_at, fate_at, taken, text_at, flagged_at, fate_of};
 
-use esm_model::{Bytes, Fate, MAX_MOMENT, WindowState};
+use esm_model::{Bytes, Fate, MAX_DATA, MAX_MOMENT, MAX_SHARD, MAX_TRIES, WindowState};
 use std::alloc::{AllocError, AllocFailed, Global};
-
-/// The greatest number of a shard: twelve digits.
-const MAX_SHARD: u64 = 999999999999;
-/// More failed tries than this count as this.
-const MAX_TRIES: u32 = 10001;
-/// The bytes that a window's state has at most.
-const MAX_STATE: u32 = 1048576;
 
 /// Why a field could not be read.
 #[derive(Drop, Debug)]
@@ -37,7 +30,7 @@ impl<T: Drop> From<AllocFailed<T>> for ReadError {
     }
 }
 
-#[tactic(auto, unfolding(crate::specs::Reading::number_at))]
+#[tactic(auto, unfolding(crate::specs::Parsing::number_at))]
 fn read_u64(bytes: &[u8]) -> Result<(u64, &[u8]), ReadError>
     ensures { Gives (λ x. (x.0, x.1.now)) result (number_at w64 bytes.now) }
 {
@@ -51,7 +44,7 @@ fn read_u64(bytes: &[u8]) -> Result<(u64, &[u8]), ReadError>
     Ok((number, rest))
 }
 
-#[tactic(auto, unfolding(crate::specs::Reading::number_at))]
+#[tactic(auto, unfolding(crate::specs::Parsing::number_at))]
 pub(crate) fn read_u32(bytes: &[u8]) -> Result<(u32, &[u8]), ReadError>
     ensures { Gives (λ x. (x.0, x.1.now)) result (number_at w32 bytes.now) }
 {
@@ -63,7 +56,7 @@ pub(crate) fn read_u32(bytes: &[u8]) -> Result<(u32, &[u8]), ReadError>
     Ok((number, rest))
 }
 
-#[tactic(auto, unfolding(crate::specs::Reading::byte_at))]
+#[tactic(auto, unfolding(crate::specs::Parsing::byte_at))]
 pub(crate) fn read_byte(bytes: &[u8]) -> Result<(u8, &[u8]), ReadError>
     ensures { Gives (λ x. (x.0, x.1.now)) result (byte_at bytes.now) }
 {
@@ -73,7 +66,7 @@ pub(crate) fn read_byte(bytes: &[u8]) -> Result<(u8, &[u8]), ReadError>
     }
 }
 
-#[tactic(auto, unfolding(crate::specs::Reading::shard_at))]
+#[tactic(auto, unfolding(crate::specs::Parsing::shard_at))]
 pub(crate) fn read_shard(bytes: &[u8]) -> Result<(u64, &[u8]), ReadError>
     ensures { Gives (λ x. (x.0, x.1.now)) result (shard_at bytes.now) }
 {
@@ -85,7 +78,7 @@ pub(crate) fn read_shard(bytes: &[u8]) -> Result<(u64, &[u8]), ReadError>
 }
 
 /// A moment, or the start of a window.
-#[tactic(auto, unfolding(crate::specs::Reading::moment_at))]
+#[tactic(auto, unfolding(crate::specs::Parsing::moment_at))]
 pub(crate) fn read_moment(bytes: &[u8]) -> Result<(u64, &[u8]), ReadError>
     ensures { Gives (λ x. (x.0, x.1.now)) result (moment_at bytes.now) }
 {
@@ -96,7 +89,7 @@ pub(crate) fn read_moment(bytes: &[u8]) -> Result<(u64, &[u8]), ReadError>
     Ok((moment, rest))
 }
 
-#[tactic(auto, unfolding(crate::specs::Reading::tries_at))]
+#[tactic(auto, unfolding(crate::specs::Parsing::tries_at))]
 pub(crate) fn read_tries(bytes: &[u8]) -> Result<(u32, &[u8]), ReadError>
     ensures { Gives (λ x. (x.0, x.1.now)) result (tries_at bytes.now) }
 {
@@ -119,7 +112,7 @@ fn fate_of(byte: u8) -> Option<Fate>
     }
 }
 
-#[tactic(auto, unfolding(crate::specs::Reading::fate_at))]
+#[tactic(auto, unfolding(crate::specs::Parsing::fate_at))]
 pub(crate) fn read_fate(bytes: &[u8]) -> Result<(Fate, &[u8]), ReadError>
     ensures { Gives (λ x. (x.0, x.1.now)) result (fate_at bytes.now) }
 {
@@ -131,7 +124,7 @@ pub(crate) fn read_fate(bytes: &[u8]) -> Result<(Fate, &[u8]), ReadError>
 }
 
 /// So many bytes, and those behind them.
-#[tactic(auto, unfolding(crate::specs::Reading::taken))]
+#[tactic(auto, unfolding(crate::specs::Parsing::taken))]
 pub(crate) fn take(count: usize, bytes: &[u8]) -> Result<(&[u8], &[u8]), ReadError>
     ensures { Gives (λ x. (x.0.now, x.1.now)) result (taken count bytes.now) }
 {
@@ -142,12 +135,12 @@ pub(crate) fn take(count: usize, bytes: &[u8]) -> Result<(&[u8], &[u8]), ReadErr
 }
 
 /// The text of a state behind its length.
-#[tactic(auto, unfolding(crate::specs::Reading::text_at))]
+#[tactic(auto, unfolding(crate::specs::Parsing::text_at))]
 pub(crate) fn read_text(alloc: Global, bytes: &[u8]) -> Result<(Bytes, &[u8]), ReadError>
     ensures { Gives (λ x. (x.0, x.1.now)) result (text_at bytes.now) }
 {
     let (count, rest) = read_u32(bytes)?;
-    if count > MAX_STATE {
+    if count as usize > MAX_DATA {
         return Err(ReadError::NoPayload);
     }
     let (text, rest) = take(count as usize, rest)?;
@@ -156,7 +149,7 @@ pub(crate) fn read_text(alloc: Global, bytes: &[u8]) -> Result<(Bytes, &[u8]), R
 }
 
 /// A flag, and where it is 1 a window and its state.
-#[tactic(auto, unfolding(crate::specs::Reading::flagged_at))]
+#[tactic(auto, unfolding(crate::specs::Parsing::flagged_at))]
 pub(crate) fn read_flagged(
     alloc: Global,
     bytes: &[u8],

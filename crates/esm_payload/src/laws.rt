@@ -4,7 +4,7 @@ ghost use Rattle.esm_model.specs.declared.entry.Fate.TheVariants.{Succeeded};
 ghost use Rattle.esm_payload.specs.declared.said.Said.{Said};
 ghost use Rattle.esm_payload.specs.declared.said.Said.TheVariants.{Fates};
 ghost use Rattle.esm_payload.specs.Payload.{payload_of, IsSaid};
-ghost use Rattle.esm_payload.specs.Reading.{said_of};
+ghost use Rattle.esm_payload.specs.Parsing.{said_of};
 
 /// What may be said is read again from its own payload.
 pub fn read_again()

@@ -5,13 +5,13 @@
 mod field;
 pub mod laws;
 mod names;
-mod reading;
+mod parsing;
 pub mod said;
 #[cfg(test)]
 mod tests;
 mod word;
 mod writing;
 
-pub use reading::read_said;
+pub use parsing::read_said;
 pub use said::Said;
 pub use writing::{fate_byte, said_bytes};

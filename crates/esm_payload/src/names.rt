@@ -4,7 +4,7 @@ ghost use Rattle.std.specs.Str.{IsUtf8};
 ghost use Rattle.esm_payload.specs.declared.field.ReadError.TheVariants.{Memory};
 ghost use Rattle.esm_payload.specs.Payload.{rises};
 ghost use Rattle.esm_payload.specs.Words.{test_of};
-ghost use Rattle.esm_payload.specs.Reading.{Gives, name_at, names_at, named_at};
+ghost use Rattle.esm_payload.specs.Parsing.{Gives, name_at, names_at, named_at};
 
 use crate::field::{ReadError, read_byte, read_u32, take};
 use crate::word::{Word, is_word};
@@ -31,7 +31,7 @@ fn copied(alloc: Global, bytes: &[u8]) -> Result<Text, ReadError>
     }
 }
 
-#[tactic(auto, unfolding(crate::specs::Reading::name_at))]
+#[tactic(auto, unfolding(crate::specs::Parsing::name_at))]
 fn read_name(alloc: Global, word: Word, bytes: &[u8]) -> Result<((u32, Text), &[u8]), ReadError>
     ensures { Gives (λ x. ((x.0.0, x.0.1), x.1.now)) result (name_at (test_of word) bytes.now) }
 {
@@ -83,7 +83,7 @@ fn rises(places: &[u32]) -> bool
 }
 
 /// At least one place, in rising order, with their texts.
-#[tactic(auto, unfolding(crate::specs::Reading::named_at))]
+#[tactic(auto, unfolding(crate::specs::Parsing::named_at))]
 pub(crate) fn read_named(
     alloc: Global,
     word: Word,

@@ -15,8 +15,8 @@ use Rattle.std.proofs.lemmas.Bool.Decides.{nat_tests}
 use Rattle.std.proofs.lemmas.List.Elements.{All-from_recursion}
 use Rattle.serde_json.specs.Data.{Data}
 use Rattle.serde_json.specs.Find.{get, as_str, as_number, as_u64}
-use Rattle.esm_model.specs.Moment.{MAX_MOMENT}
-use Rattle.esm_model.specs.Limits.{MAX_DATA}
+use Rattle.esm_model.specs.declared.moment.TheConstants.{MAX_MOMENT}
+use Rattle.esm_model.specs.declared.limits.TheConstants.{MAX_DATA}
 use Rattle.esm_model.specs.Valid.{IsValidRecord, is_between, char_count}
 use Rattle.esm_model.specs.declared.item.Record.{Record}
 use Rattle.esm_record.specs.declared.error.Field.{Field}

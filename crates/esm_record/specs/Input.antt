@@ -23,11 +23,11 @@ abbrev pub is_line_feed : ℕ → Bool
 is_line_feed b = b == 10
 
 -- space, tab, carriage return
-abbrev pub is_space : ℕ → Bool
-is_space b = (b == 32) || (b == 9) || (b == 13)
+abbrev pub is_blank_byte : ℕ → Bool
+is_blank_byte b = (b == 32) || (b == 9) || (b == 13)
 
 abbrev pub is_blank : List ℕ → Bool
-is_blank line = list_all is_space line
+is_blank line = list_all is_blank_byte line
 
 -- the parts between line feeds; the last one has none behind it
 abbrev pub lines_of : List ℕ → List (List ℕ)

@@ -3,5 +3,5 @@ pub mod Gives
 pub mod Input
 pub mod GoesOn
 pub mod Numbers
-pub mod Reading
+pub mod Splitting
 pub mod Fed

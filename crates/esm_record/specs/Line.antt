@@ -13,8 +13,8 @@ use Rattle.base64.specs.GeneralPurpose.{decode_of}
 use Rattle.serde_json.specs.Data.{Data}
 use Rattle.serde_json.specs.Read.{read}
 use Rattle.serde_json.specs.Find.{get, as_object, as_str, as_number, as_u64}
-use Rattle.esm_model.specs.Limits.{MAX_DATA}
-use Rattle.esm_model.specs.Moment.{MAX_MOMENT}
+use Rattle.esm_model.specs.declared.limits.TheConstants.{MAX_DATA}
+use Rattle.esm_model.specs.declared.moment.TheConstants.{MAX_MOMENT}
 use Rattle.esm_model.specs.Sequence.{is_sequence}
 use Rattle.esm_model.specs.Valid.{is_between, char_count}
 use Rattle.esm_model.specs.declared.item.Record.{Record}

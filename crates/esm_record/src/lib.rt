@@ -9,7 +9,7 @@ pub mod laws;
 mod line;
 mod lines;
 mod order;
-mod reading;
+mod splitter;
 
 pub use error::{BadLine, Field, LineError};
 pub use item::{Fed, Item, Items, LineKind};

@@ -1,11 +1,11 @@
 ghost use Rattle.std.specs.Prelude.{◌≡◌, ◌≤◌, ℕ, List, ◌++◌, [], length, true, false, Ok, IsErr, OnOk, IfOk, OnErr, IsNone, All};
 ghost use Rattle.esm_record.specs.declared.item.Item.{Item};
 ghost use Rattle.esm_record.specs.Input.{IsValidItem, input_so_far, input_of};
-ghost use Rattle.esm_record.specs.Reading.{HasRead, Stands};
+ghost use Rattle.esm_record.specs.Splitting.{HasRead, Stands};
 ghost use Rattle.esm_record.specs.Fed.{fed_bytes};
 
 use crate::item::{Fed, Items, LineKind};
-use crate::reading::Reading;
+use crate::splitter::Splitter;
 use esm_model::OutOfMemory;
 use std::alloc::Global;
 use std::marker::Model;
@@ -19,7 +19,7 @@ pub struct Lines {
     /// The pieces so far, which clauses alone see.
     fed: Vec<Snapshot<Vec<u8>>>,
     piece: Vec<u8>,
-    reading: Reading,
+    reading: Splitter,
     failed: bool,
     finished: bool,
 }
@@ -28,7 +28,7 @@ impl Model for Lines {
     ghost use Rattle.std.specs.Prelude.{◌≡◌, false};
     ghost use Rattle.esm_record.specs.Input.{Feeding};
     ghost use Rattle.esm_record.specs.Fed.{fed_bytes};
-    ghost use Rattle.esm_record.specs.Reading.{IsFed};
+    ghost use Rattle.esm_record.specs.Splitting.{IsFed};
 
     ghost Value = { Feeding };
 
@@ -51,7 +51,7 @@ fn note(
     Ok(())
 }
 
-fn read_piece(alloc: Global, reading: &mut Reading, piece: &[u8]) -> Result<Fed, OutOfMemory>
+fn feed_piece(alloc: Global, reading: &mut Splitter, piece: &[u8]) -> Result<Fed, OutOfMemory>
     requires { IsNone reading.old.bad → length reading.old.begun.items ≤ 8388608 }
     ensures read { IfOk result (λ fed. (bytes : List ℕ) (before : List Item) → HasRead bytes before [] reading.old
         → HasRead (bytes ++ piece.now) before fed.items reading.new) }
@@ -67,7 +67,7 @@ fn read_piece(alloc: Global, reading: &mut Reading, piece: &[u8]) -> Result<Fed,
     })
 }
 
-fn read_end(alloc: Global, reading: &mut Reading) -> Result<Fed, OutOfMemory>
+fn read_end(alloc: Global, reading: &mut Splitter) -> Result<Fed, OutOfMemory>
     requires { IsNone reading.old.bad → length reading.old.begun.items ≤ 8388608 }
     ensures read { IfOk result (λ fed. (bytes : List ℕ) (before : List Item) → HasRead bytes before [] reading.old
         → Stands (input_of reading.old.kind bytes) before fed.items reading.new) }
@@ -93,7 +93,7 @@ impl Lines {
             alloc,
             fed: Vec::new(alloc),
             piece: Vec::new(alloc),
-            reading: Reading::new(alloc, kind),
+            reading: Splitter::new(alloc, kind),
             failed: false,
             finished: false,
         })
@@ -120,7 +120,7 @@ impl Lines {
         }
         self.failed = true;
         note(&mut self.fed, &mut self.piece, piece)?;
-        let fed = read_piece(self.alloc, &mut self.reading, piece)?;
+        let fed = feed_piece(self.alloc, &mut self.reading, piece)?;
         self.failed = false;
         Ok(fed)
     }

@@ -2,7 +2,7 @@ ghost use Rattle.std.specs.Prelude.{◌≡◌, ℕ, List, ◌++◌, ◌∷◌, [
 ghost use Rattle.std.specs.Ordering.{nat_cmp};
 ghost use Rattle.std.specs.BTreeMap as map;
 ghost use Rattle.esm_record.specs.Gives.{Gives, Fails};
-ghost use Rattle.esm_record.specs.Input.{is_space, is_blank, number_after, in_order, next_record, read_after};
+ghost use Rattle.esm_record.specs.Input.{is_blank_byte, is_blank, number_after, in_order, next_record, read_after};
 ghost use Rattle.esm_record.specs.Numbers.{Follows};
 
 use crate::error::{LineError, Refusal};
@@ -79,8 +79,8 @@ fn read_record(alloc: Global, last: &mut BTreeMap<u64, Seq>, line: &[u8]) -> Res
     Ok(record)
 }
 
-fn is_space(byte: u8) -> bool
-    ensures { result ≡ is_space byte }
+fn is_blank_byte(byte: u8) -> bool
+    ensures { result ≡ is_blank_byte byte }
 {
     byte == b' ' || byte == b'\t' || byte == b'\r'
 }
@@ -89,7 +89,7 @@ fn is_space(byte: u8) -> bool
 pub fn is_blank(line: &[u8]) -> bool
     ensures { result ≡ is_blank line.now }
 {
-    line.iter().all(|b| is_space(*b))
+    line.iter().all(|b| is_blank_byte(*b))
 }
 
 /// What a line says: its item, and nothing where it is blank.

@@ -5,7 +5,7 @@
 
 pub mod ending;
 mod fates;
-pub mod output;
+mod output;
 #[cfg(test)]
 mod tests;
 mod totals;

@@ -6,7 +6,7 @@ use Rattle.esm_record.specs.declared.item.Item.{Item}
 use Rattle.esm_record.specs.declared.item.Item.TheVariants.{Stream}
 use Rattle.esm_report.specs.declared.ending.LimitName.{LimitName}
 use Rattle.esm_run.specs.Limits.{data_bytes, passed, Limited, stop_at, limited_after}
-use Rattle.esm_run.specs.Reading.{records_in_items}
+use Rattle.esm_run.specs.InputRead.{records_in_items}
 
 -- which limit a record passes
 

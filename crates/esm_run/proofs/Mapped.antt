@@ -12,7 +12,7 @@ use Rattle.esm_shard.specs.CoreView.{CoreView, new_setting}
 use Rattle.esm_shard.specs.Coming.{with_records}
 use Rattle.esm_report.specs.declared.ending.Ending.{Ending}
 use Rattle.esm_run.specs.declared.input.InputEnd.{InputEnd}
-use Rattle.esm_run.specs.Reading.{IsRead}
+use Rattle.esm_run.specs.InputRead.{IsRead}
 use Rattle.esm_run.specs.Stopping.{IsStopped}
 use Rattle.esm_run.specs.Headline.{IsRun, IsEnding, IsEndedRun, IsCutRun, Laws, Read, setting_of}
 

@@ -14,7 +14,7 @@ use Rattle.esm_report.specs.declared.ending.LimitName.{LimitName}
 use Rattle.esm_run.specs.declared.input.InputEnd.{InputEnd}
 use Rattle.esm_run.specs.declared.input.InputEnd.TheVariants as ends
 use Rattle.esm_run.specs.Limits.{passed, Limited, stop_at, limited_after}
-use Rattle.esm_run.specs.Reading.{records_in_items, input_read, records_read, EndsBy, IsRead}
+use Rattle.esm_run.specs.InputRead.{records_in_items, input_read, records_read, EndsBy, IsRead}
 use Rattle.esm_run.proofs.Limiting.{items_more}
 
 -- which bytes were read

@@ -9,7 +9,7 @@ use Rattle.esm_model.specs.declared.entry.Reply.{Reply}
 use Rattle.esm_model.specs.Setting.{Setting}
 use Rattle.esm_model.specs.Entries.{moment_of, last_moment, is_running, is_shut, came_count, shards_that_came}
 use Rattle.esm_model.specs.Calls.{calls}
-use Rattle.esm_model.specs.Owed.{Due, Success, GiveUp, Try, Close, due_entry, due}
+use Rattle.esm_model.specs.Owed.{Debt, Success, GiveUp, Try, Close, debt_entry, debts}
 use Rattle.esm_shard.specs.Ending.{history_ended}
 use Rattle.esm_run.specs.Given.{AreGiven}
 use Rattle.esm_run.proofs.Moments.{moment_again}
@@ -24,11 +24,11 @@ pub record Same (s : Setting) (sends : List ℕ → List ℕ) (h more : List Ent
   pub moments : (gave : ℕ → Bool) → AreGiven gave h → AreGiven gave more
   pub last : last_moment more ≡ last_moment h
 
-same_due : (s at : Setting) (sends : List ℕ → List ℕ) (x : Entry) (h before : List Entry) (lane : LaneId) (m : ℕ) (d : Due) → m ≡ moment_of x → Same s sends (x ∷ h) (due_entry at before lane m d ∷ x ∷ h)
-same_due s at sends x h before lane m (Success places state) is = record { running = λ l. refl; came = λ n. refl; shards = refl; shut = refl; calls = λ k. refl; moments = λ gave given. (given, moment_again gave x h m given is); last = is }
-same_due s at sends x h before lane m (GiveUp places) is = record { running = λ l. refl; came = λ n. refl; shards = refl; shut = refl; calls = λ k. refl; moments = λ gave given. (given, moment_again gave x h m given is); last = is }
-same_due s at sends x h before lane m (Try places closing tries) is = record { running = λ l. refl; came = λ n. refl; shards = refl; shut = refl; calls = λ k. refl; moments = λ gave given. (given, moment_again gave x h m given is); last = is }
-same_due s at sends x h before lane m (Close window) is = record { running = λ l. refl; came = λ n. refl; shards = refl; shut = refl; calls = λ k. refl; moments = λ gave given. (given, moment_again gave x h m given is); last = is }
+same_debts : (s at : Setting) (sends : List ℕ → List ℕ) (x : Entry) (h before : List Entry) (lane : LaneId) (m : ℕ) (d : Debt) → m ≡ moment_of x → Same s sends (x ∷ h) (debt_entry at before lane m d ∷ x ∷ h)
+same_debts s at sends x h before lane m (Success places state) is = record { running = λ l. refl; came = λ n. refl; shards = refl; shut = refl; calls = λ k. refl; moments = λ gave given. (given, moment_again gave x h m given is); last = is }
+same_debts s at sends x h before lane m (GiveUp places) is = record { running = λ l. refl; came = λ n. refl; shards = refl; shut = refl; calls = λ k. refl; moments = λ gave given. (given, moment_again gave x h m given is); last = is }
+same_debts s at sends x h before lane m (Try places closing tries) is = record { running = λ l. refl; came = λ n. refl; shards = refl; shut = refl; calls = λ k. refl; moments = λ gave given. (given, moment_again gave x h m given is); last = is }
+same_debts s at sends x h before lane m (Close window) is = record { running = λ l. refl; came = λ n. refl; shards = refl; shut = refl; calls = λ k. refl; moments = λ gave given. (given, moment_again gave x h m given is); last = is }
 
 same_then : (s : Setting) (sends : List ℕ → List ℕ) (a b c : List Entry) → Same s sends a b → Same s sends b c → Same s sends a c
 same_then s sends a b c x y = record {
@@ -44,13 +44,13 @@ same_then s sends a b c x y = record {
 one_more : (e : Entry) (es h : List Entry) → reverse es ++ e ∷ h ≡ reverse (e ∷ es) ++ h
 one_more e es h = sym (ap (λ xs. xs ++ h) (reverse-append (e ∷ []) es) ∙ append_assoc (reverse es) (e ∷ []) h)
 
-same_dues : (s at : Setting) (sends : List ℕ → List ℕ) (x : Entry) (h before : List Entry) (lane : LaneId) (m : ℕ) (ds : List Due) → m ≡ moment_of x → Same s sends (x ∷ h) (reverse (map (due_entry at before lane m) ds) ++ x ∷ h)
-same_dues s at sends x h before lane m [] is = record { running = λ l. refl; came = λ n. refl; shards = refl; shut = refl; calls = λ k. refl; moments = λ gave given. given; last = refl }
-same_dues s at sends x h before lane m (d ∷ ds) is =
-    let e : Entry = due_entry at before lane m d in
-    let first = same_due s at sends x h before lane m d is in
-    let rest = same_dues s at sends e (x ∷ h) before lane m ds (is ∙ sym first.last) in
-    subst (Same s sends (x ∷ h)) (one_more e (map (due_entry at before lane m) ds) (x ∷ h)) (same_then s sends (x ∷ h) (e ∷ x ∷ h) (reverse (map (due_entry at before lane m) ds) ++ e ∷ x ∷ h) first rest)
+same_debt_entries : (s at : Setting) (sends : List ℕ → List ℕ) (x : Entry) (h before : List Entry) (lane : LaneId) (m : ℕ) (ds : List Debt) → m ≡ moment_of x → Same s sends (x ∷ h) (reverse (map (debt_entry at before lane m) ds) ++ x ∷ h)
+same_debt_entries s at sends x h before lane m [] is = record { running = λ l. refl; came = λ n. refl; shards = refl; shut = refl; calls = λ k. refl; moments = λ gave given. given; last = refl }
+same_debt_entries s at sends x h before lane m (d ∷ ds) is =
+    let e : Entry = debt_entry at before lane m d in
+    let first = same_debts s at sends x h before lane m d is in
+    let rest = same_debt_entries s at sends e (x ∷ h) before lane m ds (is ∙ sym first.last) in
+    subst (Same s sends (x ∷ h)) (one_more e (map (debt_entry at before lane m) ds) (x ∷ h)) (same_then s sends (x ∷ h) (e ∷ x ∷ h) (reverse (map (debt_entry at before lane m) ds) ++ e ∷ x ∷ h) first rest)
 
 pub same_ended : (s : Setting) (sends : List ℕ → List ℕ) (h : List Entry) (lane : LaneId) (reply : Reply) (m : ℕ) → Same s sends (Ended lane reply m ∷ h) (history_ended s h lane reply m)
-same_ended s sends h lane reply m = same_dues s s sends (Ended lane reply m) h (Ended lane reply m ∷ h) lane m (due s (Ended lane reply m ∷ h) lane) refl
+same_ended s sends h lane reply m = same_debt_entries s s sends (Ended lane reply m) h (Ended lane reply m ∷ h) lane m (debts s (Ended lane reply m ∷ h) lane) refl

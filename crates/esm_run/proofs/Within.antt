@@ -10,7 +10,7 @@ use Rattle.esm_model.specs.declared.item.Record.{Record}
 use Rattle.esm_report.specs.declared.ending.LimitName.TheVariants.{Records, Bytes, Shards}
 use Rattle.esm_run.specs.declared.gathered.Gathered.{Gathered}
 use Rattle.esm_run.specs.Limits.{data_bytes, is_of_other_shard, passed}
-use Rattle.esm_run.specs.Reading.{IsWithin}
+use Rattle.esm_run.specs.InputRead.{IsWithin}
 use Rattle.esm_run.proofs.Limiting.{data_more}
 use Rattle.esm_run.proofs.Noting.{OfShard}
 

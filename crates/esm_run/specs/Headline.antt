@@ -18,7 +18,7 @@ use Rattle.esm_shard.specs.Coming.{with_records}
 use Rattle.esm_run.specs.declared.input.InputEnd.{InputEnd}
 use Rattle.esm_run.specs.Endings.{ending_of}
 use Rattle.esm_run.specs.Given.{AreGiven}
-use Rattle.esm_run.specs.Reading.{IsRead}
+use Rattle.esm_run.specs.InputRead.{IsRead}
 use Rattle.esm_run.specs.Running.{NoneRuns}
 use Rattle.esm_run.specs.Stopping.{IsStopped}
 

@@ -1,5 +1,5 @@
 pub mod Limits
-pub mod Reading
+pub mod InputRead
 pub mod Given
 pub mod Coming
 pub mod Running

@@ -1,16 +1,9 @@
 -- The limits of an input, and the records up to the first that passes one. This product's own.
 use Rattle.std.specs.Prelude.{ℕ, ◌+◌, ◌==◌, nat_le, nat_lt, Bool, false, not, List, [], ◌∷◌, ◌++◌, length, Option, Some, None, if◌then◌else◌}
+use Rattle.esm_model.specs.declared.limits.TheConstants.{MAX_RECORDS, MAX_INPUT}
 use Rattle.esm_model.specs.declared.item.Record.{Record}
 use Rattle.esm_report.specs.declared.ending.LimitName.{LimitName}
 use Rattle.esm_report.specs.declared.ending.LimitName.TheVariants.{Records, Bytes, Shards}
-
--- records in an input
-abbrev pub MAX_RECORDS : ℕ
-MAX_RECORDS = 1000000
-
--- bytes of their data together
-abbrev pub MAX_BYTES : ℕ
-MAX_BYTES = 536870912
 
 -- the bytes of the records' data together
 abbrev pub data_bytes : List Record → ℕ
@@ -26,7 +19,7 @@ is_of_other_shard (q ∷ rs) r = not (q.shard == r.shard)
 abbrev pub passed : List Record → Record → Option LimitName
 passed rs r =
     if nat_le MAX_RECORDS (length rs) then Some Records
-    else if nat_lt MAX_BYTES (data_bytes rs + length r.payload) then Some Bytes
+    else if nat_lt MAX_INPUT (data_bytes rs + length r.payload) then Some Bytes
     else if is_of_other_shard rs r then Some Shards
     else None
 

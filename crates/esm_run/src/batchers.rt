@@ -1,4 +1,5 @@
 ghost use Rattle.std.specs.Prelude.{◌≡◌, ◌<◌, ◌≤◌, ℕ, length, OnOk, OnErr, IfOk, None, true, false};
+ghost use Rattle.esm_model.specs.declared.limits.TheConstants.{MAX_LANES};
 ghost use Rattle.esm_shard.specs.CoreView.{IsRunningJob, LegalOver};
 ghost use Rattle.esm_run.specs.Running.{NoneRuns, HasCalled, HasAsked, HaveAsked, IsAtRest, IsQuiet, AreQuiet};
 ghost use Rattle.esm_run.specs.Stopping.{MayHaveCalled, HasStopped, HaveStopped};
@@ -75,7 +76,7 @@ fn ask<C: Clock, F: Caller>(
     batcher: u32,
     moment: u64,
 ) -> Result<Round, OutOfMemory>
-    requires batcher { batcher < 64 }
+    requires batcher { batcher < MAX_LANES }
     requires given { C.gave moment ≡ true }
     requires legal { LegalOver core.old }
     requires rests { NoneRuns core.old.past }
@@ -126,7 +127,7 @@ fn ask_all<C: Clock, F: Caller>(
     callers: &mut Vec<F>,
     clock: &C,
 ) -> Result<Round, OutOfMemory>
-    requires callers { length callers.old.items ≤ 64 }
+    requires callers { length callers.old.items ≤ MAX_LANES }
     requires legal { LegalOver core.old }
     requires rests { NoneRuns core.old.past }
     requires name { name.now ≡ core.old.setting.config.function }
@@ -168,7 +169,7 @@ pub fn run_rounds<R: Wait, C: Clock, F: Caller>(
     callers: &mut Vec<F>,
     clock: &C,
 ) -> Result<(), OutOfMemory>
-    requires callers { length callers.old.items ≤ 64 }
+    requires callers { length callers.old.items ≤ MAX_LANES }
     requires legal { LegalOver core.old }
     requires rests { NoneRuns core.old.past }
     requires name { name.now ≡ core.old.setting.config.function }

@@ -3,17 +3,14 @@ ghost use Rattle.esm_model.specs.Valid.{IsValidRecord};
 ghost use Rattle.esm_model.specs.Setting.{over, records_in};
 ghost use Rattle.esm_model.specs.declared.item.Record.{Record};
 ghost use Rattle.esm_shard.specs.CoreView.{LegalOver};
-ghost use Rattle.esm_run.specs.Reading.{IsWithin};
+ghost use Rattle.esm_run.specs.InputRead.{IsWithin};
 ghost use Rattle.esm_run.specs.Coming.{HasCome};
 
 use crate::gathered::Gathered;
 use esm_io::Clock;
-use esm_model::{OutOfMemory, Record};
+use esm_model::{MAX_BATCH, MAX_RECORDS, OutOfMemory, Record};
 use esm_shard::Core;
 use std::alloc::Global;
-
-/// The greatest number of records that come at once.
-const LIST: usize = 10000;
 
 /// Notes a list of records of the shard.
 fn note<C: Clock>(
@@ -23,11 +20,11 @@ fn note<C: Clock>(
     shard: u64,
     clock: &C,
 ) -> Result<(), OutOfMemory>
-    requires few { length list.items ≤ 10000 }
+    requires few { length list.items ≤ MAX_BATCH }
     requires valid { All IsValidRecord list.items }
     requires shard { All (λ (r : Record). r.shard ≡ shard) list.items }
     requires come { HasCome C.gave shard core.old }
-    requires room { length (records_in core.old.setting.streams shard) ≤ 1000000 }
+    requires room { length (records_in core.old.setting.streams shard) ≤ MAX_RECORDS }
     ensures come { HasCome C.gave shard core.new }
     ensures unchanged { OnErr result (core.new ≡ core.old) }
     ensures legal { LegalOver core.new }
@@ -65,7 +62,7 @@ pub fn hand_on<C: Clock>(
     let mut list = Vec::new(alloc);
     while let Some(next) = rest.pop() {
         list.push(next)?;
-        if list.len() == LIST {
+        if list.len() == MAX_BATCH {
             note(alloc, core, list, shard, clock)?;
             list = Vec::new(alloc);
         }

@@ -1,4 +1,5 @@
 ghost use Rattle.std.specs.Prelude.{◌≡◌, ◌≢◌, List, Option, [], length, reverse, IfOk, OnErr};
+ghost use Rattle.esm_model.specs.declared.limits.TheConstants.{MAX_LANES};
 ghost use Rattle.esm_report.specs.declared.ending.Ending.TheVariants.{BadWords};
 ghost use Rattle.esm_model.specs.Setting.{Setting};
 ghost use Rattle.esm_report.specs.Report.{report_text};
@@ -53,7 +54,7 @@ fn run_words<R: Wait, S: Source, K: Sink, D: Disk, C: Clock, F: Caller, L: Door>
     words: RunWords,
     world: &mut World<S, K, D, C, F, L>,
 ) -> Result<Ending, OutOfMemory>
-    requires callers { length world.old.callers.items ≡ 64 }
+    requires callers { length world.old.callers.items ≡ MAX_LANES }
     requires trace { world.old.trace.items ≡ [] }
     ensures ended { IfOk result (RunEnded C.gave F.sends F.log words
         (read_of S.faults S.left world.old.input world.new.input)
@@ -79,7 +80,7 @@ pub fn run<R: Wait, S: Source, K: Sink, D: Disk, C: Clock, F: Caller, L: Door>(
     words: RunWords,
     world: &mut World<S, K, D, C, F, L>,
 ) -> u8
-    requires callers { length world.old.callers.items ≡ 64 }
+    requires callers { length world.old.callers.items ≡ MAX_LANES }
     requires trace { world.old.trace.items ≡ [] }
     ensures outcome { result ≢ 70 → RunOutcome C.gave F.sends F.log words
         (read_of S.faults S.left world.old.input world.new.input)

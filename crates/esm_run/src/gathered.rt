@@ -3,18 +3,12 @@ ghost use Rattle.esm_model.specs.Valid.{IsValidRecord};
 ghost use Rattle.esm_record.specs.Input.{IsValidItem};
 ghost use Rattle.esm_report.specs.declared.ending.LimitName.{LimitName};
 ghost use Rattle.esm_run.specs.Limits.{passed, limited_after};
-ghost use Rattle.esm_run.specs.Reading.{IsWithin, records_in_items};
+ghost use Rattle.esm_run.specs.InputRead.{IsWithin, records_in_items};
 
-use esm_model::{OutOfMemory, Record};
+use esm_model::{MAX_INPUT, MAX_RECORDS, OutOfMemory, Record};
 use esm_record::{Item, Items};
 use esm_report::LimitName;
 use std::alloc::Global;
-
-/// The greatest number of records in an input.
-const MAX_RECORDS: usize = 1000000;
-
-/// The greatest number of bytes of the records' data together.
-const MAX_BYTES: usize = 536870912;
 
 /// The records of an input so far, all of one shard.
 #[derive(Drop)]
@@ -56,7 +50,7 @@ impl Gathered {
         if self.records.len() >= MAX_RECORDS {
             return Some(LimitName::Records);
         }
-        if next.payload.as_slice().len() > MAX_BYTES - self.bytes {
+        if next.payload.as_slice().len() > MAX_INPUT - self.bytes {
             return Some(LimitName::Bytes);
         }
         if !self.records.is_empty() && next.shard != self.shard {

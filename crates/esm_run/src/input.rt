@@ -2,7 +2,7 @@ ghost use Rattle.std.specs.Prelude.{◌≡◌, ◌<◌, ℕ, List, [], Option, l
 ghost use Rattle.esm_io.specs.Faults.{IsCount};
 ghost use Rattle.esm_io.specs.Told.{TakesFront, IsAtEnd};
 ghost use Rattle.esm_record.specs.Input.{IsValidItem};
-ghost use Rattle.esm_run.specs.Reading.{IsWithin, IsRead, HasTaken, IsTaken, AfterPiece};
+ghost use Rattle.esm_run.specs.InputRead.{IsWithin, IsRead, HasTaken, IsTaken, AfterPiece};
 
 use crate::gathered::Gathered;
 use esm_io::Source;

@@ -1,17 +1,17 @@
 //! The top call: what a command's words do to the world. It composes the crates below by their public contracts.
 #![tactic(auto)]
 
-pub mod batchers;
-pub mod coming;
-pub mod commands;
-pub mod gathered;
-pub mod input;
-pub mod mapping;
-pub mod output;
-pub mod refusal;
-pub mod running;
-pub mod top;
-pub mod world;
+mod batchers;
+mod coming;
+mod commands;
+mod gathered;
+mod input;
+mod mapping;
+mod output;
+mod refusal;
+mod running;
+mod top;
+mod world;
 
 pub use top::esm;
 pub use world::{Ended, World};

@@ -8,7 +8,7 @@ ghost use Rattle.esm_shard.specs.FirstPath.{IsFirstPath};
 ghost use Rattle.esm_run.specs.Configured.{IsConfigured, refused_field, refused_start};
 
 use esm_config::{ConfigError, Param, read};
-use esm_model::{Config, Start, Text};
+use esm_model::{Config, OutOfMemory, Start, Text, parse_json_text};
 use serde_json::Value;
 use std::alloc::Global;
 
@@ -17,15 +17,10 @@ fn value_of(alloc: Global, text: &str) -> Result<Value, ConfigError>
     ensures read { IfOk result (λ v. read_json text.now ≡ Some (view v)) }
     ensures refused { (param : Param) → result ≡ Err (error.BadParam param) → refused_field text.now ≡ Some param }
 {
-    match Value::from_str(alloc, text) {
-        Ok(value) => Ok(value),
-        Err(error) => {
-            if error.is_memory() {
-                Err(ConfigError::OutOfMemory)
-            } else {
-                Err(ConfigError::BadParam(Param::Body))
-            }
-        }
+    match parse_json_text(alloc, text) {
+        Ok(Some(value)) => Ok(value),
+        Ok(None) => Err(ConfigError::BadParam(Param::Body)),
+        Err(OutOfMemory) => Err(ConfigError::OutOfMemory),
     }
 }
 

@@ -1,4 +1,5 @@
 ghost use Rattle.std.specs.Prelude.{◌≡◌, ◌≢◌, ◌≤◌, ◌<◌, ℕ, List, Ok, [], IfOk, OnOk, OnErr, length, reverse, true, false, if◌then◌else◌, ◌==◌};
+ghost use Rattle.esm_model.specs.declared.limits.TheConstants.{MAX_LANES, MAX_RECORDS};
 ghost use Rattle.esm_model.specs.declared.entry.Entry.{Entry};
 ghost use Rattle.esm_model.specs.Valid.{IsStreamConfig};
 ghost use Rattle.esm_model.specs.Setting.{Setting, over};
@@ -7,7 +8,7 @@ ghost use Rattle.esm_model.specs.Step.{Legal};
 ghost use Rattle.esm_shard.specs.CoreView.{LegalOver};
 ghost use Rattle.esm_shard.specs.Coming.{with_records};
 ghost use Rattle.esm_shard.specs.FirstPath.{IsFirstPath};
-ghost use Rattle.esm_run.specs.Reading.{IsWithin};
+ghost use Rattle.esm_run.specs.InputRead.{IsWithin};
 ghost use Rattle.esm_run.specs.Headline.{IsRun, AllFated, HasOpen, IsEnding, Laws, read_of, IsEndedRun, IsCutRun};
 ghost use Rattle.esm_run.specs.Stopping.{IsStopped};
 
@@ -26,7 +27,7 @@ use std::sync::Wait;
 
 /// Whether each of so many records, all of the shard, has a fate.
 fn has_all_fates(core: &Core, shard: u64, count: usize) -> bool
-    requires few { count ≤ 1000000 }
+    requires few { count ≤ MAX_RECORDS }
     requires came { (n : ℕ) → came_count core.now.past n ≡ (if shard == n then count else 0) }
     ensures all { result ≡ true → AllFated core.now.setting core.now.past }
     ensures some { result ≡ false → HasOpen core.now.setting core.now.past }
@@ -57,7 +58,7 @@ fn run_core<R: Wait, C: Clock, F: Caller>(
     requires none_came { core.old.setting.streams ≡ [] }
     requires name { name.now ≡ core.old.setting.config.function }
     requires legal { LegalOver core.old }
-    requires callers { length callers.old.items ≡ 64 }
+    requires callers { length callers.old.items ≡ MAX_LANES }
     ensures run { OnOk result (IsRun C.gave F.sends F.log
         (over core.old.setting (with_records [] input.gathered.records.items)) core.new.past callers.old.items callers.new.items) }
     ensures stopped { OnErr result (IsStopped C.gave F.sends F.log
@@ -96,7 +97,7 @@ pub fn run_mapping<R: Wait, S: Source, K: Sink, D: Disk, C: Clock, F: Caller, L:
 ) -> Result<Ending, OutOfMemory>
     requires valid { IsStreamConfig config }
     requires first_path { IsFirstPath config }
-    requires callers { length world.old.callers.items ≡ 64 }
+    requires callers { length world.old.callers.items ≡ MAX_LANES }
     requires trace { world.old.trace.items ≡ [] }
     ensures run { IfOk result (λ ending. IsEndedRun C.gave F.sends F.log
         (read_of S.faults S.left world.old.input world.new.input)

@@ -1,5 +1,6 @@
 ghost use Rattle.std.specs.Prelude.{◌≡◌, ◌≢◌, ℕ, List, [], length, map, reverse, IsSome};
 ghost use Rattle.std.specs.String.{string_bytes};
+ghost use Rattle.esm_model.specs.declared.limits.TheConstants.{MAX_LANES};
 ghost use Rattle.esm_cli.specs.Words.{spells};
 ghost use Rattle.esm_cli.specs.declared.command.Command.{Command};
 ghost use Rattle.esm_io.specs.Faults.{Rose};
@@ -25,7 +26,7 @@ fn perform<R: Wait, S: Source, K: Sink, D: Disk, C: Clock, F: Caller, L: Door>(
     words: &[String],
     world: &mut World<S, K, D, C, F, L>,
 ) -> u8
-    requires callers { length world.old.callers.items ≡ 64 }
+    requires callers { length world.old.callers.items ≡ MAX_LANES }
     requires trace { world.old.trace.items ≡ [] }
     ensures outcome { result ≢ 70 → Outcome C.gave F.sends F.log (map string_bytes words.now)
         (read_of S.faults S.left world.old.input world.new.input)
@@ -58,7 +59,7 @@ pub fn esm<R: Threads + Wait + Sync, S: Source, K: Sink, D: Disk, C: Clock, F: C
     words: &[String],
     world: World<S, K, D, C, F, L>,
 ) -> Ended<S, K, D, C, F, L>
-    requires callers { length world.callers.items ≡ 64 }
+    requires callers { length world.callers.items ≡ MAX_LANES }
     requires trace { world.trace.items ≡ [] }
     ensures outcome { result.status ≢ 70 → Outcome C.gave F.sends F.log (map string_bytes words.now)
         (read_of S.faults S.left world.input result.world.input)

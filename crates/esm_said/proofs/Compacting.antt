@@ -9,11 +9,11 @@ use Rattle.std.proofs.lemmas.Bool.{and_from}
 use Rattle.std.proofs.lemmas.List.{reverse-append, reverse-reverse, map-append, append-nil}
 use Rattle.esm_model.specs.Sequence.{is_sequence}
 use Rattle.esm_payload.specs.declared.said.Said.{Said}
-use Rattle.esm_payload.specs.Reading.{said_of}
+use Rattle.esm_payload.specs.Parsing.{said_of}
 use Rattle.esm_payload.specs.Payload.{payload_of, IsMoment, IsSaid, is_message_id}
 use Rattle.esm_said.specs.Meaning.{only_at, fate_said, tries_said, state_said, window_tries_said, replayed_said, deletion_said, known, is_bad, is_good, is_good_said, history, are_good}
 use Rattle.esm_said.specs.Pieces.{Key, Entry, Piece, pieces_after, pieces}
-use Rattle.esm_said.specs.Told.{pair_cmp}
+use Rattle.esm_said.specs.SaidLists.{pair_cmp}
 use Rattle.esm_said.specs.Compact.{greatest_moment, IsListing, fates_look, tries_look, replays_look, deletions_look, fates_of, tried_of, replayed_of, deleted_of, state_of_window, tried_of_window, IsCompacted, SameSaid}
 use Rattle.esm_said.proofs.Cutting.{IsPiece, IsCut, cut}
 use Rattle.esm_said.proofs.Histories.{Good, AllSaid, state_valid, window_tries_valid, greatest_valid}

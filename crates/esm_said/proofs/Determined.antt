@@ -13,10 +13,14 @@ use Rattle.std.specs.FinMap.Entries as entries
 use Rattle.std.proofs.lemmas.Bool.{and_from}
 use Rattle.std.proofs.lemmas.Map.Keys.{sorted_head, sorted_tail}
 use Rattle.std.proofs.lemmas.Map.Lookups.{exact_pairs, exact_unsigned}
-use Rattle.esm_model.specs.Setting.{FoundFate, FoundTries, FoundState, FoundWindowTries}
+use Rattle.esm_model.specs.declared.setup.FoundFate.{FoundFate}
+use Rattle.esm_model.specs.declared.setup.FoundTries.{FoundTries}
+use Rattle.esm_model.specs.declared.setup.FoundState.{FoundState}
+use Rattle.esm_model.specs.declared.setup.FoundWindowTries.{FoundWindowTries}
 use Rattle.esm_payload.specs.declared.said.Said.{Said}
 use Rattle.esm_said.specs.Compact.{SameSaid}
-use Rattle.esm_said.specs.Told.{Told, FoundReplay, FoundDeletion, pair_cmp, IsInOrder}
+use Rattle.esm_model.specs.declared.setup.FoundDeletion.{FoundDeletion}
+use Rattle.esm_said.specs.SaidLists.{SaidLists, FoundReplay, pair_cmp, IsInOrder}
 use Rattle.esm_said.specs.Tells.{Tells, fate_of_found, tries_of_found, deletion_of_found}
 use Rattle.esm_said.proofs.Finding.{at_pair, at_number, keys-made}
 
@@ -102,7 +106,7 @@ there_is test [] = refl
 there_is test (a ∷ xs) = there_more (test a) a (find test xs) (list_any test xs) (there_is test xs)
 
 -- what tells of histories that say the same is the same
-pub same_told : (t u : Told) (g h : List Said) → Tells t g → Tells u h → SameSaid g h → IsInOrder t → IsInOrder u → t ≡ u
+pub same_told : (t u : SaidLists) (g h : List Said) → Tells t g → Tells u h → SameSaid g h → IsInOrder t → IsInOrder u → t ≡ u
 same_told t u g h tells told same order orders =
     let fates : t.fates ≡ u.fates =
     same_list (λ (f : FoundFate). (f.shard, f.place)) fate_of_found (λ e. record { shard = e.0.0; place = e.0.1; fate = e.1.fate; text = e.1.text }) (λ f. refl) t.fates u.fates order.fates orders.fates

@@ -9,10 +9,14 @@ use Rattle.std.proofs.lemmas.Bool.{cases_eq, cases_Bool, eq-eqb, ne_eqb, and_par
 use Rattle.std.proofs.lemmas.Iterator.Adapters.{option_map_id}
 use Rattle.std.proofs.lemmas.List.{length-map}
 use Rattle.std.proofs.lemmas.Map.Steps.{le-length_from_below}
-use Rattle.esm_model.specs.Setting.{FoundFate, FoundTries, FoundState, FoundWindowTries}
+use Rattle.esm_model.specs.declared.setup.FoundFate.{FoundFate}
+use Rattle.esm_model.specs.declared.setup.FoundTries.{FoundTries}
+use Rattle.esm_model.specs.declared.setup.FoundState.{FoundState}
+use Rattle.esm_model.specs.declared.setup.FoundWindowTries.{FoundWindowTries}
 use Rattle.esm_said.specs.declared.kept.KeptFate.{KeptFate}
 use Rattle.esm_said.specs.declared.kept.KeptTries.{KeptTries}
-use Rattle.esm_said.specs.Told.{FoundReplay, FoundDeletion, pair_cmp}
+use Rattle.esm_model.specs.declared.setup.FoundDeletion.{FoundDeletion}
+use Rattle.esm_said.specs.SaidLists.{FoundReplay, pair_cmp}
 use Rattle.esm_said.specs.Tells.{fate_of_found, tries_of_found, deletion_of_found}
 use Rattle.esm_said.specs.View.{found_fate, found_tries, found_state, found_window_tries, found_replay, found_deletion, stated}
 use Rattle.esm_said.proofs.Pairs.{is_eq-nat, same_pair}

@@ -6,18 +6,22 @@ use Rattle.std.specs.List.Sorted.{IsStrictlySortedBy}
 use Rattle.std.specs.Ordering.{nat_cmp}
 use Rattle.std.proofs.lemmas.Bool.{eq-eqb}
 use Rattle.std.proofs.lemmas.List.Filters.{length-filter_both}
-use Rattle.esm_model.specs.Setting.{FoundFate, FoundTries, FoundState, FoundWindowTries}
+use Rattle.esm_model.specs.declared.setup.FoundFate.{FoundFate}
+use Rattle.esm_model.specs.declared.setup.FoundTries.{FoundTries}
+use Rattle.esm_model.specs.declared.setup.FoundState.{FoundState}
+use Rattle.esm_model.specs.declared.setup.FoundWindowTries.{FoundWindowTries}
 use Rattle.esm_payload.specs.declared.said.Said.{Said}
 use Rattle.esm_said.specs.declared.table.Table.{Table}
-use Rattle.esm_said.specs.declared.told.SaidState.{SaidState}
+use Rattle.esm_said.specs.declared.lookup.SaidState.{SaidState}
 use Rattle.esm_said.specs.Table.{IsTable, HasOrder}
 use Rattle.esm_said.specs.Tells.{Tells}
-use Rattle.esm_said.specs.Told.{Told, FoundReplay, FoundDeletion, IsInOrder, has_shard, pair_cmp}
+use Rattle.esm_model.specs.declared.setup.FoundDeletion.{FoundDeletion}
+use Rattle.esm_said.specs.SaidLists.{SaidLists, FoundReplay, IsInOrder, has_shard, pair_cmp}
 use Rattle.esm_said.specs.View.{found_fate, found_tries, found_state, found_window_tries, found_replay, found_deletion, stated}
 use Rattle.esm_said.proofs.Finding.{keys-made, any_of-made, found_states, fate_found, tries_found, state_found, window_tries_found, replay_found, deletion_found}
 
 -- what is told by the maps, with these states
-abbrev pub told_by : Table → List SaidState → Told
+abbrev pub told_by : Table → List SaidState → SaidLists
 told_by t states = record {
   fates = map found_fate t.fates.entries;
   tries = map found_tries t.tries.entries;

@@ -5,8 +5,8 @@ use Rattle.std.specs.List.{AllByRecursion, list_all}
 use Rattle.std.specs.Option.{option_or}
 use Rattle.std.proofs.lemmas.Bool.{and_parts, cases_Bool, eqb-true, eq-eqb, or_parts}
 use Rattle.esm_model.specs.Entries.{holds}
-use Rattle.esm_model.specs.Limits.{MAX_DATA}
-use Rattle.esm_model.specs.Moment.{MAX_MOMENT}
+use Rattle.esm_model.specs.declared.limits.TheConstants.{MAX_DATA}
+use Rattle.esm_model.specs.declared.moment.TheConstants.{MAX_MOMENT}
 use Rattle.esm_model.specs.Sequence.{is_sequence}
 use Rattle.esm_model.specs.declared.entry.WindowState.{WindowState}
 use Rattle.esm_said.specs.declared.kept.KeptFate.{KeptFate}
@@ -15,7 +15,7 @@ use Rattle.esm_payload.specs.declared.said.Said.{Said}
 use Rattle.esm_payload.specs.declared.said.Said.TheVariants.{Fates, Closed, Deleted, State, Tried, WindowTried, Replayed}
 use Rattle.esm_payload.specs.Payload.{is_place, IsShard, IsMoment, IsTries, IsState, IsSaid, is_message_id, is_deletion}
 use Rattle.esm_said.specs.Meaning.{text_named, only_at, fate_kept, tries_kept, state_in, fate_said, tries_said, state_said, window_tries_said, replayed_said, deletion_said, has_failed, known, is_bad, is_spent, is_no_replay, any_named, is_good, is_good_said, history, are_good}
-use Rattle.esm_payload.specs.Reading.{said_of}
+use Rattle.esm_payload.specs.Parsing.{said_of}
 use Rattle.esm_said.specs.Compact.{moment_of, greatest_moment}
 use Rattle.esm_said.proofs.Cutting.{Pair, pair_from_named}
 

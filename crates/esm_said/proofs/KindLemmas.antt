@@ -23,7 +23,7 @@ use Rattle.esm_payload.specs.declared.said.Said.{Said}
 use Rattle.esm_payload.specs.Payload.{is_place, fate_byte, IsMoment, IsSaid, is_message_id, may_keep}
 use Rattle.esm_said.specs.Meaning.{text_named, only_at, fate_kept, tries_kept, fate_after, tries_after, state_after, window_tries_after, replayed_after, deletion_after, fate_said, tries_said, state_said, window_tries_said, replayed_said, deletion_said, has_failed, known, Known, is_bad, is_spent, is_no_replay, is_deleted, fate_text, tries_text, differs}
 use Rattle.esm_said.specs.Pieces.{Key, Piece}
-use Rattle.esm_said.specs.Told.{pair_cmp}
+use Rattle.esm_said.specs.SaidLists.{pair_cmp}
 use Rattle.esm_said.specs.Compact.{fate_text_of, tries_text_of, fates_look, tries_look, replays_look, deletions_look, fate_from, fates_of, tried_of, replayed_of, deleted_of, state_of_window, tried_of_window}
 use Rattle.esm_said.proofs.Cutting.{Pair, pair_from_named, named_from_pair, text_by, Fresh, IsPiece, IsCut}
 use Rattle.esm_said.proofs.Finding.{eqb-flip}

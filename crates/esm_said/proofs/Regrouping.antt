@@ -10,7 +10,7 @@ use Rattle.std.proofs.lemmas.Bool.{cases_Bool, and_parts, eqb-true}
 use Rattle.std.proofs.lemmas.Map.{NonePasses, lookup-none}
 use Rattle.std.proofs.lemmas.Map.Keys.{sorted_head, sorted_tail}
 use Rattle.esm_said.specs.Pieces.{Key, key_cmp}
-use Rattle.esm_said.specs.Told.{pair_cmp}
+use Rattle.esm_said.specs.SaidLists.{pair_cmp}
 use Rattle.esm_said.specs.declared.kept.KeptFate.{KeptFate}
 use Rattle.esm_said.specs.declared.kept.KeptTries.{KeptTries}
 use Rattle.esm_payload.specs.Payload.{fate_byte}

@@ -11,7 +11,7 @@ use Rattle.esm_said.specs.declared.kept.KeptTries.{KeptTries}
 use Rattle.esm_payload.specs.declared.said.Said.{Said}
 use Rattle.esm_payload.specs.declared.said.Said.TheVariants.{Fates, Closed, Deleted, State, Tried, WindowTried, Replayed}
 use Rattle.esm_payload.specs.Payload.{fate_byte}
-use Rattle.esm_said.specs.Told.{pair_cmp}
+use Rattle.esm_said.specs.SaidLists.{pair_cmp}
 use Rattle.esm_said.specs.Pieces.{Piece, Key, Entry, key_cmp, pieces}
 use Rattle.esm_said.specs.Meaning.{fate_said, tries_said, state_said, window_tries_said, replayed_said, deletion_said, fate_text}
 

@@ -1,5 +1,5 @@
 pub mod Meaning
-pub mod Told
+pub mod SaidLists
 pub mod Tells
 pub mod Table
 pub mod View

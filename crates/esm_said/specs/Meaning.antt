@@ -10,7 +10,7 @@ use Rattle.esm_said.specs.declared.kept.KeptFate.{KeptFate}
 use Rattle.esm_said.specs.declared.kept.KeptTries.{KeptTries}
 use Rattle.esm_payload.specs.declared.said.Said.{Said}
 use Rattle.esm_payload.specs.declared.said.Said.TheVariants.{Fates, Closed, Deleted, State, Tried, WindowTried, Replayed}
-use Rattle.esm_payload.specs.Reading.{said_of}
+use Rattle.esm_payload.specs.Parsing.{said_of}
 
 -- the text with which the places name i
 abbrev pub text_named : List ℕ → List (List ℕ) → ℕ → Option (List ℕ)

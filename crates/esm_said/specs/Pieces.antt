@@ -2,7 +2,8 @@
 use Rattle.std.specs.Prelude.{ℕ, ◌==◌, nat_lt, Bool, ◌&&◌, List, [], ◌∷◌, ◌++◌, length, reverse, if◌then◌else◌}
 use Rattle.std.specs.Ordering.{nat_cmp, ordering_then}
 use Rattle.std.specs.declared.cmp.Ordering.{Ordering}
-use Rattle.esm_said.specs.Told.{pair_cmp}
+use Rattle.esm_model.specs.declared.limits.TheConstants.{MAX_BATCH}
+use Rattle.esm_said.specs.SaidLists.{pair_cmp}
 
 -- a group and a place; the group of a fate is its shard and the byte of the fate, that of tries the shard and the number
 abbrev pub Key : Type 0
@@ -28,7 +29,7 @@ piece_of e = record { group = e.0.0; places = e.0.1 ∷ []; texts = e.1 ∷ [] }
 
 -- the place is of the piece's group, and the piece is not full
 abbrev pub has_room : Piece → ℕ × ℕ → Bool
-has_room p group = (p.group.0 == group.0) && (p.group.1 == group.1) && nat_lt (length p.places) 10000
+has_room p group = (p.group.0 == group.0) && (p.group.1 == group.1) && nat_lt (length p.places) MAX_BATCH
 
 abbrev pub grown : Piece → Entry → Piece
 grown p e = record { group = p.group; places = p.places ++ e.0.1 ∷ []; texts = p.texts ++ e.1 ∷ [] }

@@ -5,7 +5,7 @@ use Rattle.std.specs.BTreeMap as map
 use Rattle.std.specs.BTreeSet as set
 use Rattle.esm_payload.specs.declared.said.Said.{Said}
 use Rattle.esm_said.specs.declared.table.Table.{Table}
-pub use Rattle.esm_said.specs.Told.{pair_cmp}
+pub use Rattle.esm_said.specs.SaidLists.{pair_cmp}
 use Rattle.esm_said.specs.Meaning.{fate_said, tries_said, state_said, window_tries_said, replayed_said, deletion_said, Known}
 
 -- the maps have what the history says

@@ -1,11 +1,15 @@
 -- The lists tell what a history says.
 use Rattle.std.specs.Prelude.{ℕ, ◌≡◌, List, option_map}
-use Rattle.esm_model.specs.Setting.{FoundFate, FoundTries, FoundState, FoundWindowTries}
+use Rattle.esm_model.specs.declared.setup.FoundFate.{FoundFate}
+use Rattle.esm_model.specs.declared.setup.FoundTries.{FoundTries}
+use Rattle.esm_model.specs.declared.setup.FoundState.{FoundState}
+use Rattle.esm_model.specs.declared.setup.FoundWindowTries.{FoundWindowTries}
 use Rattle.esm_said.specs.declared.kept.KeptFate.{KeptFate}
 use Rattle.esm_said.specs.declared.kept.KeptTries.{KeptTries}
 use Rattle.esm_payload.specs.declared.said.Said.{Said}
 use Rattle.esm_said.specs.Meaning.{fate_kept, tries_kept, fate_said, tries_said, state_said, window_tries_said, replayed_said, deletion_said}
-use Rattle.esm_said.specs.Told.{Told, FoundDeletion, fate_told, tries_told, state_told, window_tries_told, is_replay_told, deletion_told}
+use Rattle.esm_model.specs.declared.setup.FoundDeletion.{FoundDeletion}
+use Rattle.esm_said.specs.SaidLists.{SaidLists, fate_told, tries_told, state_told, window_tries_told, is_replay_told, deletion_told}
 
 abbrev pub fate_of_found : FoundFate → KeptFate
 fate_of_found f = fate_kept f.fate f.text
@@ -17,7 +21,7 @@ abbrev pub deletion_of_found : FoundDeletion → KeptFate
 deletion_of_found f = fate_kept f.fate f.text
 
 -- of each place and each window what the history says
-pub record Tells (t : Told) (h : List Said) : Type 0 where
+pub record Tells (t : SaidLists) (h : List Said) : Type 0 where
   pub fates : (n i : ℕ) → option_map fate_of_found (fate_told t n i) ≡ fate_said h n i
   pub tries : (n i : ℕ) → option_map tries_of_found (tries_told t n i) ≡ tries_said h n i
   pub states : (n w : ℕ) → option_map (λ (f : FoundState). f.text) (state_told t n w) ≡ state_said h n w

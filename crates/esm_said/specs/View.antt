@@ -5,12 +5,16 @@ use Rattle.std.specs.List.Sorted.{IsStrictlyIncreasing}
 use Rattle.std.specs.Ordering.{nat_cmp}
 use Rattle.std.specs.Map.{count_at}
 use Rattle.std.specs.BTreeMap as map
-use Rattle.esm_model.specs.Setting.{FoundFate, FoundTries, FoundState, FoundWindowTries}
+use Rattle.esm_model.specs.declared.setup.FoundFate.{FoundFate}
+use Rattle.esm_model.specs.declared.setup.FoundTries.{FoundTries}
+use Rattle.esm_model.specs.declared.setup.FoundState.{FoundState}
+use Rattle.esm_model.specs.declared.setup.FoundWindowTries.{FoundWindowTries}
 use Rattle.esm_said.specs.declared.kept.KeptFate.{KeptFate}
 use Rattle.esm_said.specs.declared.kept.KeptTries.{KeptTries}
-use Rattle.esm_said.specs.declared.told.SaidState.{SaidState}
-use Rattle.esm_said.specs.declared.told.Says.TheInside.{Inside}
-use Rattle.esm_said.specs.Told.{Told, FoundReplay, FoundDeletion, fate_told, fates_count, has_shard, IsInOrder}
+use Rattle.esm_said.specs.declared.lookup.SaidState.{SaidState}
+use Rattle.esm_said.specs.declared.lookup.Says.TheInside.{Inside}
+use Rattle.esm_model.specs.declared.setup.FoundDeletion.{FoundDeletion}
+use Rattle.esm_said.specs.SaidLists.{SaidLists, FoundReplay, fate_told, fates_count, has_shard, IsInOrder}
 
 abbrev pub found_fate : (ℕ × ℕ) × KeptFate → FoundFate
 found_fate e = record { shard = e.0.0; place = e.0.1; fate = e.1.fate; text = e.1.text }
@@ -30,7 +34,7 @@ found_replay k = record { shard = k.0; place = k.1 }
 abbrev pub found_deletion : ℕ × KeptFate → FoundDeletion
 found_deletion e = record { place = e.0; fate = e.1.fate; text = e.1.text }
 
-abbrev pub told_of : Inside → Told
+abbrev pub told_of : Inside → SaidLists
 told_of a = record {
   fates = map found_fate a.fates.entries;
   tries = map found_tries a.tries.entries;

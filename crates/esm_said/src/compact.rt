@@ -8,13 +8,13 @@ ghost use Rattle.esm_said.specs.Meaning.{history, are_good};
 ghost use Rattle.esm_payload.specs.Payload.{IsSaid, payload_of};
 ghost use Rattle.esm_said.specs.Table.{IsTable};
 ghost use Rattle.esm_said.specs.Tells.{Tells};
-ghost use Rattle.esm_said.specs.Told.{Told, IsInOrder};
+ghost use Rattle.esm_said.specs.SaidLists.{SaidLists, IsInOrder};
 
 use crate::error::SaysError;
 use crate::history::table_of;
 use crate::piece::{Piece, pieces_of};
 use crate::regroup::{by_deletion, by_fate, by_replay, by_tries};
-use crate::table::{Table, Window, copied_state};
+use crate::table::{Table, Window};
 use esm_model::{Bytes, Fate, OutOfMemory, WindowState};
 use esm_payload::laws::read_again;
 use esm_payload::{Said, read_said, said_bytes};
@@ -136,7 +136,7 @@ fn push_states(
     ensures { OnOk result (saids.new.items ≡ saids.old.items ++ map (state_of_window moment) states.now.entries) }
 {
     for (key, text) in states {
-        let text = copied_state(alloc, text)?;
+        let text = text.copy(alloc)?;
         let state = WindowState {
             window: key.1,
             text,
@@ -208,7 +208,7 @@ pub fn compacted(alloc: Global, payloads: &[Bytes]) -> Result<Vec<Bytes>, SaysEr
     ensures same { IfOk result (λ v. SameSaid (history (reverse v.items)) (history (reverse payloads.now))) }
     ensures fine { IfOk result (λ v. are_good (reverse v.items) ≡ true) }
     // What `says` gives of the shorter list and of these payloads is equal.
-    ensures equal { IfOk result (λ v. (t u : Told) → Tells t (history (reverse v.items)) → IsInOrder t
+    ensures equal { IfOk result (λ v. (t u : SaidLists) → Tells t (history (reverse v.items)) → IsInOrder t
         → Tells u (history (reverse payloads.now)) → IsInOrder u → t ≡ u) }
     ensures good { OnOk result (are_good (reverse payloads.now) ≡ true) }
     ensures bad { IfErr result (λ e. IsFirstBad payloads.now e) }

@@ -10,12 +10,12 @@ ghost use Rattle.std.specs.BTreeSet as set;
 ghost use Rattle.esm_payload.specs.declared.said.Said.{Said};
 ghost use Rattle.esm_said.specs.Table.{IsTable, HasOrder, pair_cmp};
 ghost use Rattle.esm_said.specs.Tells.{Tells};
-ghost use Rattle.esm_said.specs.Told.{IsInOrder};
+ghost use Rattle.esm_said.specs.SaidLists.{IsInOrder};
 ghost use Rattle.esm_said.specs.View.{stated};
 
 use crate::kept::{KeptFate, KeptTries};
+use crate::lookup::{SaidState, Says};
 use crate::table::{Place, Table, Window};
-use crate::told::{SaidState, Says};
 use esm_model::{Bytes, OutOfMemory, WindowState};
 use std::alloc::Global;
 use std::collections::{BTreeMap, BTreeSet};

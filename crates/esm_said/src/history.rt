@@ -5,14 +5,14 @@ ghost use Rattle.esm_said.specs.Bad.{IsFirstBad, IsAt};
 ghost use Rattle.esm_said.specs.Meaning.{history, is_good, are_good};
 ghost use Rattle.esm_said.specs.Table.{IsTable};
 ghost use Rattle.esm_said.specs.Tells.{Tells};
-ghost use Rattle.esm_said.specs.Told.{IsInOrder};
+ghost use Rattle.esm_said.specs.SaidLists.{IsInOrder};
 
 use crate::add::add;
 use crate::error::SaysError;
 use crate::gather::gathered;
 use crate::judge::is_bad;
+use crate::lookup::Says;
 use crate::table::{Table, empty_table};
-use crate::told::Says;
 use esm_model::{Bytes, OutOfMemory};
 use esm_payload::read_said;
 use std::alloc::Global;

@@ -5,20 +5,20 @@
 
 mod add;
 mod compact;
-pub mod error;
+mod error;
 mod gather;
 mod history;
 mod judge;
 pub mod kept;
 pub mod laws;
+mod lookup;
 mod piece;
 mod regroup;
 mod table;
 #[cfg(test)]
 mod tests;
-pub mod told;
 
 pub use compact::compacted;
 pub use error::SaysError;
 pub use history::says;
-pub use told::{Found, FoundTries, SaidState, Says};
+pub use lookup::{Found, FoundTries, SaidState, Says};

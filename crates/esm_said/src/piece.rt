@@ -2,7 +2,7 @@
 ghost use Rattle.std.specs.Prelude.{◌≡◌, ◌<◌, ◌∷◌, [], reverse, IfOk, OnOk};
 ghost use Rattle.esm_said.specs.Pieces.{piece_of, has_room, grown, piece_after, pieces};
 
-use esm_model::{OutOfMemory, Places, Text, Texts};
+use esm_model::{MAX_BATCH, OutOfMemory, Places, Text, Texts};
 use std::alloc::Global;
 use std::collections::BTreeMap;
 use std::marker::Model;
@@ -44,7 +44,7 @@ impl Piece {
     fn has_room(&self, group: Group) -> bool
         ensures { result ≡ has_room self.now group }
     {
-        self.group.0 == group.0 && self.group.1 == group.1 && self.places.len() < 10000
+        self.group.0 == group.0 && self.group.1 == group.1 && self.places.len() < MAX_BATCH
     }
 
     fn grow(&mut self, place: u32, text: Text) -> Result<(), OutOfMemory>

@@ -10,7 +10,7 @@ ghost use Rattle.esm_said.specs.Table.{pair_cmp};
 
 use crate::kept::{KeptFate, KeptTries};
 use crate::piece::Group;
-use crate::table::{Place, copied};
+use crate::table::Place;
 use esm_model::{OutOfMemory, Text};
 use esm_payload::fate_byte;
 use std::alloc::Global;
@@ -30,7 +30,7 @@ fn put(
     ensures { OnOk result ((q : Key) → map.get key_cmp named.new q
         ≡ (if is_eq (key_cmp (group, place) q) then Some text.now else map.get key_cmp named.old q)) }
 {
-    let text = copied(alloc, text)?;
+    let text = text.copy(alloc)?;
     named.insert((group, place), text)?;
     Ok(())
 }

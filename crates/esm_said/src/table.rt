@@ -45,18 +45,6 @@ pub(crate) fn empty_table(alloc: Global) -> Table
     }
 }
 
-pub(crate) fn copied(alloc: Global, text: &Text) -> Result<Text, OutOfMemory>
-    ensures { IfOk result (λ t. t ≡ text.now) }
-{
-    Ok(Text::from_vec(String::from_str(alloc, text.as_str())?))
-}
-
-pub(crate) fn copied_state(alloc: Global, text: &Bytes) -> Result<Bytes, OutOfMemory>
-    ensures { IfOk result (λ t. t ≡ text.now) }
-{
-    Ok(Bytes::from_vec(Vec::from_slice(alloc, text.as_slice())?))
-}
-
 pub(crate) fn keep_fates(
     alloc: Global,
     fates: &mut BTreeMap<Place, KeptFate>,
@@ -72,7 +60,7 @@ pub(crate) fn keep_fates(
     let mut index = places.len();
     while index > 0 {
         index -= 1;
-        let text = copied(alloc, &texts[index])?;
+        let text = texts[index].copy(alloc)?;
         fates.insert((shard, places[index]), KeptFate { fate, text })?;
     }
     Ok(())
@@ -93,7 +81,7 @@ pub(crate) fn keep_tries(
     let mut index = places.len();
     while index > 0 {
         index -= 1;
-        let text = copied(alloc, &texts[index])?;
+        let text = texts[index].copy(alloc)?;
         kept.insert((shard, places[index]), KeptTries { tries, text })?;
     }
     Ok(())
@@ -113,7 +101,7 @@ pub(crate) fn keep_deletions(
     let mut index = places.len();
     while index > 0 {
         index -= 1;
-        let text = copied(alloc, &texts[index])?;
+        let text = texts[index].copy(alloc)?;
         deletions.insert(places[index], KeptFate { fate, text })?;
     }
     Ok(())
@@ -151,7 +139,7 @@ pub(crate) fn keep_state(
     ensures { OnOk result ((n w : ℕ) → map.get pair_cmp states.new (n, w)
         ≡ option_or (only_at (shard == n) (state_in (Some state.now) w)) (map.get pair_cmp states.old (n, w))) }
 {
-    let text = copied_state(alloc, &state.text)?;
+    let text = state.text.copy(alloc)?;
     states.insert((shard, state.window), text)?;
     Ok(())
 }

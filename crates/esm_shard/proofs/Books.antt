@@ -6,7 +6,7 @@ use Rattle.std.proofs.Math.ListN.{get_or-append}
 use Rattle.std.proofs.lemmas.List.{get_or-append_right, get_or-replicate, length-replicate, get_or_past}
 use Rattle.std.proofs.lemmas.Option.{slice_get_within, slice_get-get_or}
 use Rattle.std.proofs.lemmas.Bool.{cases_Bool, and_right, le-leb, lt-leb, lt-ltb, eq-eqb, cases_lt}
-use Rattle.esm_model.specs.Moment.{MAX_MOMENT}
+use Rattle.esm_model.specs.declared.moment.TheConstants.{MAX_MOMENT}
 use Rattle.esm_model.specs.Lane.{same_lane}
 use Rattle.esm_model.specs.Filter.{passes}
 use Rattle.esm_model.specs.Valid.{IsValidRecord}
@@ -20,7 +20,9 @@ use Rattle.esm_model.specs.declared.entry.Entry.TheVariants.{Came, Began, Ended,
 use Rattle.esm_model.specs.declared.verdict.Rest.{Rest}
 use Rattle.esm_model.specs.declared.verdict.Rest.TheVariants as rest
 use Rattle.esm_model.specs.declared.verdict.Verdict.{Verdict}
-use Rattle.esm_model.specs.Setting.{Setting, FoundFate, FoundTries, record_at, found_fate, found_try, records_of}
+use Rattle.esm_model.specs.Setting.{Setting, record_at, found_fate, found_try, records_of}
+use Rattle.esm_model.specs.declared.setup.FoundFate.{FoundFate}
+use Rattle.esm_model.specs.declared.setup.FoundTries.{FoundTries}
 use Rattle.esm_model.specs.Entries.{Call, holds, last_moment, last_call, batch_of, came_count, came_moment, is_running}
 use Rattle.esm_model.specs.Fates.{fate, given, below, lacks_fate}
 use Rattle.esm_model.specs.Ruling.{capped_tries, is_counted}
@@ -28,15 +30,15 @@ use Rattle.esm_model.specs.Tries.{tries, tries_sum, mark, verdict_after, verdict
 use Rattle.esm_model.specs.Batches.{failures, failures_by}
 use Rattle.esm_model.specs.FailureLine.{failure_line, failure_of}
 use Rattle.esm_model.specs.FailureText.{failure_text}
-use Rattle.esm_model.specs.Owed.{Due, Success, GiveUp, Try, due, due_entry, due_by_end, IsOwed, is_unsorted, unsorted, Settled}
+use Rattle.esm_model.specs.Owed.{Debt, Success, GiveUp, Try, debts, debt_entry, end_debts, IsOwed, is_unsorted, unsorted, Settled}
 use Rattle.esm_model.specs.Step.{Legal, MayGive, MayBegin, IsLater}
 use Rattle.esm_model.proofs.Lists.{filter_none}
-use Rattle.esm_model.proofs.Steps.{same_lane-refl, due_gave, due_tried, due_ended}
+use Rattle.esm_model.proofs.Steps.{same_lane-refl, debt_gave, debt_tried, debts_ended}
 use Rattle.esm_model.proofs.Sound.{same_lane-true}
 use Rattle.esm_shard.specs.declared.slot.Slot.{Slot}
 use Rattle.esm_shard.specs.Table.{slot_at, mark_of, nothing, marked_slot, marked_at, fated_slot}
 use Rattle.esm_shard.specs.Book.{Table, IsBook, IsSlot, Runs, lane_id, named_shards}
-use Rattle.esm_shard.specs.Ledger.{IsAnswered, due_fate}
+use Rattle.esm_shard.specs.Ledger.{IsAnswered, fate_debt}
 
 -- without patterns each record passes
 passes_nothing : (r : Record) → passes [] r ≡ true
@@ -55,7 +57,7 @@ pub book_settled : (s : Setting) (h : List Entry) (t : Table) → IsBook s h t [
 book_settled s h t b = record {
   sorted = λ n. unsorted_none s h n b.plain.no_filter;
   paid = λ lane. elim (cases_Bool (same_lane (lane_id t.shard) lane)) [
-    | inl same ↦ subst (λ l. due s h l ≡ []) (same_lane-true (lane_id t.shard) lane same) b.owes
+    | inl same ↦ subst (λ l. debts s h l ≡ []) (same_lane-true (lane_id t.shard) lane same) b.owes
     | inr other ↦ b.others lane other
   ];
 }
@@ -63,7 +65,7 @@ book_settled s h t b = record {
 same_slot : (s : Setting) (h g : List Entry) (n i : ℕ) (slot : Slot) → fate s g n i ≡ fate s h n i → tries s g n i ≡ tries s h n i → mark s g n i ≡ mark s h n i → IsSlot s h n i slot → IsSlot s g n i slot
 same_slot s h g n i slot a b c is = record { fated = is.fated ∙ ap is_some (sym a); tries = is.tries ∙ sym b; mark = is.mark ∙ sym c }
 
-later : (s : Setting) (h : List Entry) (t : Table) (ds : List Due) (m : ℕ) → IsBook s h t ds → t.last ≤ m → m ≤ MAX_MOMENT → IsLater h m
+later : (s : Setting) (h : List Entry) (t : Table) (ds : List Debt) (m : ℕ) → IsBook s h t ds → t.last ≤ m → m ≤ MAX_MOMENT → IsLater h m
 later s h t ds m b back end = record { not_back = subst (λ k. k ≤ m) b.last back; within = end }
 
 pub true_false : {A : Type 0} (b : Bool) → b ≡ true → b ≡ false → A
@@ -102,15 +104,15 @@ book_shut s h t m b going back end = record {
 }
 
 -- the first of what is owed
-owed_first : (s : Setting) (h : List Entry) (lane : LaneId) (d : Due) (ds : List Due) (m : ℕ) → due s h lane ≡ d ∷ ds → m ≡ last_moment h → IsOwed s h lane (due_entry s h lane m d)
-owed_first s h lane d ds m is at = ap (λ (es : List Due). slice_get (map (due_entry s h lane (last_moment h)) es) 0) is ∙ ap (λ (k : ℕ). Some (due_entry s h lane k d)) (sym at)
+owed_first : (s : Setting) (h : List Entry) (lane : LaneId) (d : Debt) (ds : List Debt) (m : ℕ) → debts s h lane ≡ d ∷ ds → m ≡ last_moment h → IsOwed s h lane (debt_entry s h lane m d)
+owed_first s h lane d ds m is at = ap (λ (es : List Debt). slice_get (map (debt_entry s h lane (last_moment h)) es) 0) is ∙ ap (λ (k : ℕ). Some (debt_entry s h lane k d)) (sym at)
 
 -- an empty history owes nothing
-none_owed : {A : Type 0} (s : Setting) (h : List Entry) (lane : LaneId) (d : Due) (ds : List Due) → h ≡ [] → due s h lane ≡ d ∷ ds → A
-none_owed s h lane d ds none is = (let e : [] ≡ d ∷ ds = subst (λ (g : List Entry). due s g lane ≡ d ∷ ds) none is in absurd cc)
+none_owed : {A : Type 0} (s : Setting) (h : List Entry) (lane : LaneId) (d : Debt) (ds : List Debt) → h ≡ [] → debts s h lane ≡ d ∷ ds → A
+none_owed s h lane d ds none is = (let e : [] ≡ d ∷ ds = subst (λ (g : List Entry). debts s g lane ≡ d ∷ ds) none is in absurd cc)
 
 -- the lane notes a try that it owes
-pub book_tried : (s : Setting) (h : List Entry) (t : Table) (places : List ℕ) (n : ℕ) (ds : List Due)
+pub book_tried : (s : Setting) (h : List Entry) (t : Table) (places : List ℕ) (n : ℕ) (ds : List Debt)
     → IsBook s h t (Try places None n ∷ ds) → IsBook s (Tried (lane_id t.shard) places None n t.last ∷ h) t ds
 book_tried s h t places n ds b = record {
   config = b.config;
@@ -118,7 +120,7 @@ book_tried s h t places n ds b = record {
   found_fates = b.found_fates;
   found_tries = b.found_tries;
   legal = (b.legal, (later s h t _ t.last b (omega arith) b.in_time, owed_first s h (lane_id t.shard) (Try places None n) ds t.last b.owes b.last));
-  owes = due_tried s (lane_id t.shard) places None n t.last h ∙ ap (drop 1) b.owes;
+  owes = debt_tried s (lane_id t.shard) places None n t.last h ∙ ap (drop 1) b.owes;
   others = λ lane other. rw other (b.others lane other);
   shards = b.shards;
   first = λ unnamed open'. none_owed s h (lane_id t.shard) (Try places None n) ds (b.first unnamed open') b.owes;
@@ -147,7 +149,7 @@ book_tried s h t places n ds b = record {
 pub no_line : (s : Setting) (h : List Entry) (n : ℕ) (places : List ℕ) (m : ℕ) → s.config.destination ≡ None → failure_line s h n places false m ≡ None
 no_line s h n places m none = ap (λ (o : Option (List ℕ)). option_map (λ (d : List ℕ). failure_text s.config (failure_of s h n places false m)) o) none
 
-may_give : (s : Setting) (h : List Entry) (t : Table) (places : List ℕ) (f : Fate) (ds : List Due) → IsAnswered f → IsBook s h t (due_fate f places ∷ ds)
+may_give : (s : Setting) (h : List Entry) (t : Table) (places : List ℕ) (f : Fate) (ds : List Debt) → IsAnswered f → IsBook s h t (fate_debt f places ∷ ds)
     → MayGive s h (Some (lane_id t.shard)) t.shard places f None None t.last
 may_give s h t places Succeeded ds a b = owed_first s h (lane_id t.shard) (Success places None) ds t.last b.owes b.last
 may_give s h t places Exhausted ds a b =
@@ -156,15 +158,15 @@ may_give s h t places Exhausted ds a b =
 may_give s h t places Filtered ds a b = absurd a
 may_give s h t places Expired ds a b = absurd a
 
-pub legal_gave : (s : Setting) (h : List Entry) (t : Table) (places : List ℕ) (f : Fate) (ds : List Due) → IsAnswered f → IsBook s h t (due_fate f places ∷ ds)
+pub legal_gave : (s : Setting) (h : List Entry) (t : Table) (places : List ℕ) (f : Fate) (ds : List Debt) → IsAnswered f → IsBook s h t (fate_debt f places ∷ ds)
     → Legal s (Gave (Some (lane_id t.shard)) t.shard places f None None t.last ∷ h)
 legal_gave s h t places f ds answered b = (b.legal, (later s h t _ t.last b (omega arith) b.in_time, may_give s h t places f ds answered b))
 
 -- the lane gives a fate that it owes
-pub book_gave : (s : Setting) (h : List Entry) (t : Table) (places : List ℕ) (f : Fate) (ds : List Due) (slots : List Slot)
+pub book_gave : (s : Setting) (h : List Entry) (t : Table) (places : List ℕ) (f : Fate) (ds : List Debt) (slots : List Slot)
     → IsAnswered f
     → ((i : ℕ) → slot_at slots i ≡ fated_slot places i (slot_at t.slots i)) → length slots ≡ length t.slots
-    → IsBook s h t (due_fate f places ∷ ds)
+    → IsBook s h t (fate_debt f places ∷ ds)
     → IsBook s (Gave (Some (lane_id t.shard)) t.shard places f None None t.last ∷ h) (record t { slots = slots }) ds
 book_gave s h t places f ds slots answered each same_length b = record {
   config = b.config;
@@ -172,10 +174,10 @@ book_gave s h t places f ds slots answered each same_length b = record {
   found_fates = b.found_fates;
   found_tries = b.found_tries;
   legal = legal_gave s h t places f ds answered b;
-  owes = due_gave s (lane_id t.shard) t.shard places f None None t.last h ∙ ap (drop 1) b.owes;
+  owes = debt_gave s (lane_id t.shard) t.shard places f None None t.last h ∙ ap (drop 1) b.owes;
   others = λ lane other. rw other (b.others lane other);
   shards = b.shards;
-  first = λ unnamed open'. none_owed s h (lane_id t.shard) (due_fate f places) ds (b.first unnamed open') b.owes;
+  first = λ unnamed open'. none_owed s h (lane_id t.shard) (fate_debt f places) ds (b.first unnamed open') b.owes;
   some = b.some;
   came = b.came;
   long = same_length ∙ b.long;
@@ -286,14 +288,14 @@ pub book_ended : (s : Setting) (h : List Entry) (t : Table) (reply : Reply) (m :
     → IsBook s h t [] → t.running ≡ true → v ≡ verdict_after s h (lane_id t.shard) reply
     → ((i : ℕ) → slot_at slots i ≡ marked_slot (length h) v.rest (drop v.succeeded (batch_of (last_call h (lane_id t.shard)))) i (slot_at t.slots i)) → length slots ≡ length t.slots
     → n ≡ failures_by v.rest t.failures → t.last ≤ m → m ≤ MAX_MOMENT
-    → IsBook s (Ended (lane_id t.shard) reply m ∷ h) (record t { running = false; slots = slots; failures = n; last_end = m; last = m }) (due_by_end s h (lane_id t.shard) reply)
+    → IsBook s (Ended (lane_id t.shard) reply m ∷ h) (record t { running = false; slots = slots; failures = n; last_end = m; last = m }) (end_debts s h (lane_id t.shard) reply)
 book_ended s h t reply m v slots n b runs verdict each same_length fails back end = record {
   config = b.config;
   plain = b.plain;
   found_fates = b.found_fates;
   found_tries = b.found_tries;
   legal = (b.legal, (later s h t [] m b back end, b.runs ∙ runs));
-  owes = due_ended s (lane_id t.shard) reply m h;
+  owes = debts_ended s (lane_id t.shard) reply m h;
   others = λ lane other. rw other (b.others lane other);
   shards = b.shards;
   first = λ unnamed open'. none_runs (b.first unnamed open');

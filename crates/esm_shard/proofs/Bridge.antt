@@ -4,11 +4,12 @@ use Rattle.std.specs.Prelude.{All, ◌==◌, slice_get, slice_index, option_map,
 use Rattle.std.specs.List.{prefix_len, list_all}
 use Rattle.std.proofs.lemmas.Option.{slice_get_cases}
 use Rattle.std.proofs.lemmas.Bool.{and_from, eq-eqb, or_left}
-use Rattle.esm_model.specs.Limits.{MAX_EVENT}
+use Rattle.esm_model.specs.declared.limits.TheConstants.{MAX_EVENT}
 use Rattle.esm_model.specs.declared.item.Record.{Record}
 use Rattle.esm_model.specs.declared.event.WindowCall.{WindowCall}
 use Rattle.esm_model.specs.declared.entry.Entry.{Entry}
-use Rattle.esm_model.specs.Setting.{Setting, FoundTries, record_at, records_at, is_in_lane, found_try}
+use Rattle.esm_model.specs.Setting.{Setting, record_at, records_at, is_in_lane, found_try}
+use Rattle.esm_model.specs.declared.setup.FoundTries.{FoundTries}
 use Rattle.esm_model.specs.Entries.{came_count}
 use Rattle.esm_model.specs.Fates.{below, lacks_fate, open_places}
 use Rattle.esm_model.specs.Tries.{tries, mark, same_mark, is_fresh}
@@ -16,7 +17,7 @@ use Rattle.esm_model.specs.Windows.{has_windows, window_of, is_due, is_outstandi
 use Rattle.esm_model.specs.Calls.{window_call, event_of}
 use Rattle.esm_model.specs.EventText.{event_text}
 use Rattle.esm_model.specs.Batches.{group, group_of, batch, longest, fits, same_piece, is_expired, is_older, is_one_window}
-use Rattle.esm_model.specs.Owed.{Due}
+use Rattle.esm_model.specs.Owed.{Debt}
 use Rattle.esm_model.proofs.Lists.{In, In-none, In-cases, In-here, In-there, In-below, In-filter, In-take}
 use Rattle.esm_model.proofs.Records.{filter_same, longest_same}
 use Rattle.esm_model.proofs.OneLane.{in_only_lane}
@@ -57,7 +58,7 @@ never_due s h n w none = (let off : has_windows s.config ≡ false = no_windows 
 pub no_window_call : (s : Setting) (h : List Entry) (n : ℕ) (places : List ℕ) (closing : Option ℕ) → s.config.tumbling_ms ≡ 0 → window_call s h n places closing ≡ None
 no_window_call s h n places closing none = (let off : has_windows s.config ≡ false = no_windows s none in rw off)
 
-module _ (s : Setting) (h : List Entry) (t : Table) (ds : List Due) (b : IsBook s h t ds) where
+module _ (s : Setting) (h : List Entry) (t : Table) (ds : List Debt) (b : IsBook s h t ds) where
   -- the record at a place
   pub record_here : (i : ℕ) → i < length t.records → (r : Record) × (slice_get t.records i ≡ Some r) × (record_at s t.shard i ≡ Some r)
   record_here i low = elim ((slice_get_cases t.records i).1) [

@@ -161,7 +161,7 @@ flipped a false e = rw e refl
 -- a call that comes next may begin
 
 -- what the answer `Call` tells
-pub record Told (s : Setting) (h : List Entry) (lane : LaneId) (m : ℕ) (job : Job) : Type 0 where
+pub record JobTold (s : Setting) (h : List Entry) (lane : LaneId) (m : ℕ) (job : Job) : Type 0 where
   pub calls_left : calls_begun h < s.calls
   pub delay : delay_end s h lane ≤ m
   pub ready : is_group_ready s h lane m (group s h lane) (batch s h lane m) ≡ true
@@ -170,7 +170,7 @@ pub record Told (s : Setting) (h : List Entry) (lane : LaneId) (m : ℕ) (job : 
 same_call : (a b : Job) → next.Call a ≡ next.Call b → a ≡ b
 same_call a b e = cc
 
-told_open : (s : Setting) (h : List Entry) (lane : LaneId) (m : ℕ) (job : Job) → next.Call job ≡ next_open s h lane m → Told s h lane m job
+told_open : (s : Setting) (h : List Entry) (lane : LaneId) (m : ℕ) (job : Job) → next.Call job ≡ next_open s h lane m → JobTold s h lane m job
 told_open s h lane m job is =
     elim (cases_Bool (nat_le s.calls (calls_begun h))) [
       | inl spent ↦ absurd (call_spent job (rw spent at is))
@@ -194,18 +194,18 @@ told_open s h lane m job is =
     call_idle : (job : Job) (k : ℕ) → next.Call job ≡ next.Idle k → ⊥
     call_idle job k e = cc
 
-pub told : (s : Setting) (h : List Entry) (t : Table) (m : ℕ) (job : Job) → IsBook s h t [] → next.Call job ≡ next_of s h (lane_id t.shard) m → Told s h (lane_id t.shard) m job
+pub told : (s : Setting) (h : List Entry) (t : Table) (m : ℕ) (job : Job) → IsBook s h t [] → next.Call job ≡ next_of s h (lane_id t.shard) m → JobTold s h (lane_id t.shard) m job
 told s h t m job b is = by_open (open_places s h (lane_id t.shard)) (is ∙ next_is_plain s h t m b)
   where
     call_rest : (job : Job) (shut : Bool) → next.Call job ≡ rest_of shut m → ⊥
     call_rest job true e = cc
     call_rest job false e = cc
 
-    by_open : (xs : List ℕ) → next.Call job ≡ next_with s h (lane_id t.shard) m xs → Told s h (lane_id t.shard) m job
+    by_open : (xs : List ℕ) → next.Call job ≡ next_with s h (lane_id t.shard) m xs → JobTold s h (lane_id t.shard) m job
     by_open [] is = absurd (call_rest job (is_shut h) is)
     by_open (i ∷ xs) is = told_open s h (lane_id t.shard) m job is
 
-pub may_begin : (s : Setting) (h : List Entry) (t : Table) (m : ℕ) (job : Job) → IsBook s h t [] → t.running ≡ false → t.named ≡ true → 1 ≤ length job.places → Told s h (lane_id t.shard) m job → MayBegin s h (lane_id t.shard) job.places m
+pub may_begin : (s : Setting) (h : List Entry) (t : Table) (m : ℕ) (job : Job) → IsBook s h t [] → t.running ≡ false → t.named ≡ true → 1 ≤ length job.places → JobTold s h (lane_id t.shard) m job → MayBegin s h (lane_id t.shard) job.places m
 may_begin s h t m job b rests named some say = record {
   call = record {
     settled = book_settled s h t b;

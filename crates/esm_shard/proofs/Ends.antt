@@ -4,7 +4,7 @@ use Rattle.std.specs.Prelude.{◌==◌, slice_index, nat_lt, count_by}
 use Rattle.std.proofs.lemmas.Bool.{cases_Bool, cases_lt}
 use Rattle.std.proofs.lemmas.List.{append-nil, get_or_past, reverse-append, length-reverse}
 use Rattle.std.proofs.lemmas.List.Sums.{length-filter, count_by-le-length}
-use Rattle.esm_model.specs.Moment.{MAX_MOMENT}
+use Rattle.esm_model.specs.declared.moment.TheConstants.{MAX_MOMENT}
 use Rattle.esm_model.specs.Lane.{same_lane}
 use Rattle.esm_model.specs.declared.lane.LaneId.{LaneId}
 use Rattle.esm_model.specs.declared.config.Config.{Config}
@@ -29,12 +29,12 @@ use Rattle.esm_model.specs.Ruling.{ruling}
 use Rattle.esm_model.specs.Tries.{tries, tries_of, verdict_after, verdict_on, side}
 use Rattle.esm_model.specs.Calls.{window_of_call}
 use Rattle.esm_model.specs.Batches.{failures, failures_by}
-use Rattle.esm_model.specs.Owed.{Due, due_entry, due_success, due_give_up, due_rest, due_by_verdict, due_of_call, due_by_end, new_state, state_in_reply}
+use Rattle.esm_model.specs.Owed.{Debt, debt_entry, success_debts, give_up_debts, rest_debts, verdict_debts, call_debts, end_debts, new_state, state_in_reply}
 use Rattle.esm_model.proofs.Lists.{In, In-here, In-drop, not_in}
 use Rattle.esm_model.proofs.Sound.{open_In, same_lane-true}
 use Rattle.esm_model.proofs.Paid.{running_In, running_front}
 use Rattle.esm_model.proofs.Counts.{length-below}
-use Rattle.esm_model.proofs.Steps.{due_ended}
+use Rattle.esm_model.proofs.Steps.{debts_ended}
 use Rattle.esm_shard.specs.declared.slot.Slot.{Slot}
 use Rattle.esm_shard.specs.declared.ledger.Ledger.{Ledger}
 use Rattle.esm_shard.specs.CoreView.{CoreView, IsRunningJob}
@@ -42,7 +42,7 @@ use Rattle.esm_shard.specs.Plain.{plain_reading, UpToWithin}
 use Rattle.esm_shard.specs.Table.{slot_at, is_fated, marked_slot, marked_at, nothing, IsPoint}
 use Rattle.esm_shard.specs.Book.{Table, IsBook, lane_id}
 use Rattle.esm_shard.specs.Ending.{HasEnded, given_count, owed_entries}
-use Rattle.esm_shard.specs.Ledger.{Owing, Keeps, past_of, setting_of, table_of, view_of, lane_of_ledger, running_places, RunsPlaces, IsVerdictOf, first_tries, plain_due, success_entries, exhausted_entries, rest_entries, left_given}
+use Rattle.esm_shard.specs.Ledger.{Owing, Keeps, past_of, setting_of, table_of, view_of, lane_of_ledger, running_places, RunsPlaces, IsVerdictOf, first_tries, plain_debts, success_entries, exhausted_entries, rest_entries, left_given}
 use Rattle.esm_shard.proofs.Bridge.{no_windows}
 use Rattle.esm_shard.proofs.Books.{book_ended, no_line, true_false}
 use Rattle.esm_shard.proofs.Kept.{pushed}
@@ -90,19 +90,19 @@ verdict_is s h t places reply b runs is =
     ∙ ap (ruling s.config (length ran.places) (tries s h t.shard (slice_index ran.places 0))) (sym (reading_plain s.config (sequences_at s t.shard ran.places) reply b.plain.no_window b.plain.no_item_failures))
     ∙ sym (ap (λ (o : Option Call). verdict_on s h t.shard o reply) ran.call)
 
--- what the end makes due, by the table
-pub due_is : (s : Setting) (h : List Entry) (t : Table) (places : List ℕ) (reply : Reply) (v : Verdict) → IsBook s h t [] → t.running ≡ true → places ≡ batch_of (last_call h (lane_id t.shard)) → v ≡ verdict_after s h (lane_id t.shard) reply
-    → due_by_end s h (lane_id t.shard) reply ≡ plain_due v places (slot_at t.slots (slice_index places 0)).tries
-due_is s h t places reply v b runs is verdict =
+-- what the end makes the lane owe, by the table
+pub debts_are : (s : Setting) (h : List Entry) (t : Table) (places : List ℕ) (reply : Reply) (v : Verdict) → IsBook s h t [] → t.running ≡ true → places ≡ batch_of (last_call h (lane_id t.shard)) → v ≡ verdict_after s h (lane_id t.shard) reply
+    → end_debts s h (lane_id t.shard) reply ≡ plain_debts v places (slot_at t.slots (slice_index places 0)).tries
+debts_are s h t places reply v b runs is verdict =
     let ran = b.batch runs in
     let call : Call = record { places = ran.places; closing = None; moment = ran.moment } in
     let batch_is : places ≡ ran.places = is ∙ ap batch_of ran.call in
     let none : new_state s t.shard call reply ≡ None = ap (λ (w : Bool). cond w (Some (record { window = window_of_call s t.shard ran.places None; text = state_in_reply reply })) None) (no_windows s b.plain.no_window) in
-    ap (λ (o : Option Call). due_of_call s h (lane_id t.shard) o reply) ran.call
-    ∙ ap (λ (w : Verdict). due_by_verdict s t.shard call (tries_of s h t.shard call) w reply) (sym verdict)
-    ∙ ap (λ (state : Option WindowState). due_success (take v.succeeded ran.places) state ++ due_rest v.rest (drop v.succeeded ran.places) None (tries s h t.shard (slice_index ran.places 0))) none
-    ∙ ap (plain_due v ran.places) (sym (b.slots (slice_index ran.places 0)).tries)
-    ∙ ap (λ (xs : List ℕ). plain_due v xs (slot_at t.slots (slice_index xs 0)).tries) (sym batch_is)
+    ap (λ (o : Option Call). call_debts s h (lane_id t.shard) o reply) ran.call
+    ∙ ap (λ (w : Verdict). verdict_debts s t.shard call (tries_of s h t.shard call) w reply) (sym verdict)
+    ∙ ap (λ (state : Option WindowState). success_debts (take v.succeeded ran.places) state ++ rest_debts v.rest (drop v.succeeded ran.places) None (tries s h t.shard (slice_index ran.places 0))) none
+    ∙ ap (plain_debts v ran.places) (sym (b.slots (slice_index ran.places 0)).tries)
+    ∙ ap (λ (xs : List ℕ). plain_debts v xs (slot_at t.slots (slice_index xs 0)).tries) (sym batch_is)
 
 -- no lane failed more often than there are entries
 pub failures_le : (s : Setting) (h : List Entry) (lane : LaneId) → failures s h lane ≤ length h
@@ -181,7 +181,7 @@ pub owing_ended : (c : Ledger) (slots : Vec Slot Global) (history : Vec Entry Gl
     → ((i : ℕ) → i < length c.slots.items → slot_at slots.items i ≡ marked_slot at v.rest left i (slot_at c.slots.items i)) → length slots.items ≡ length c.slots.items
     → history.items ≡ c.history.items ++ Ended (lane_of_ledger c) reply m ∷ []
     → c.running ≡ true → IsVerdictOf c reply v → c.last ≤ m → m ≤ MAX_MOMENT
-    → Keeps c → Owing (record c { slots = slots; running = false; failures = n; last_end = m; history = history; last = m }) (plain_due v (running_places c) (first_tries c (running_places c)))
+    → Keeps c → Owing (record c { slots = slots; running = false; failures = n; last_end = m; history = history; last = m }) (plain_debts v (running_places c) (first_tries c (running_places c)))
 owing_ended c slots history n v reply left at m fails at_is left_is each same is runs verdict back end k = record {
   book = λ ts ext.
       (let s = over (setting_of c) ts in
@@ -194,9 +194,9 @@ owing_ended c slots history n v reply left at m fails at_is left_is each same is
       λ i. each' i ∙ ap (λ (k : ℕ). marked_slot k v.rest left i (slot_at c.slots.items i)) here ∙ ap (λ (xs : List ℕ). marked_slot (length (past_of c)) v.rest xs i (slot_at c.slots.items i)) left_is in
       let new = book_ended s (past_of c) (table_of c) reply m v slots.items n b runs (verdict ts ext) marks same fails back end in
       let t : Table = record (table_of c) { slots = slots.items; running = false; failures = n; last_end = m; last = m } in
-      subst (λ (h : List Entry). IsBook (over (setting_of c) ts) h (record (table_of c) { slots = slots.items; running = false; failures = n; last_end = m; last = m }) (plain_due v (running_places c) (first_tries c (running_places c)))) (sym (pushed c.history.items history.items (Ended (lane_of_ledger c) reply m) is))
-      (subst (λ (es : List Due). IsBook (over (setting_of c) ts) (Ended (lane_of_ledger c) reply m ∷ past_of c) (record (table_of c) { slots = slots.items; running = false; failures = n; last_end = m; last = m }) es) (due_is s (past_of c) (table_of c) places reply v b runs refl (verdict ts ext)) new));
-  point = marked_point at v.rest c.slots.items slots.items left c.front same each k.point;
+      subst (λ (h : List Entry). IsBook (over (setting_of c) ts) h (record (table_of c) { slots = slots.items; running = false; failures = n; last_end = m; last = m }) (plain_debts v (running_places c) (first_tries c (running_places c)))) (sym (pushed c.history.items history.items (Ended (lane_of_ledger c) reply m) is))
+      (subst (λ (es : List Debt). IsBook (over (setting_of c) ts) (Ended (lane_of_ledger c) reply m ∷ past_of c) (record (table_of c) { slots = slots.items; running = false; failures = n; last_end = m; last = m }) es) (debts_are s (past_of c) (table_of c) places reply v b runs refl (verdict ts ext)) new));
+  point = marked_point at v.rest c.slots.items slots.items left c.checkpoint same each k.point;
 }
 
 pub first_In : (xs : List ℕ) → 1 ≤ length xs → In xs (get_or xs 0 0)
@@ -213,7 +213,7 @@ slot_read (x ∷ slots) (suc i) slot low is = slot_read slots i slot (omega arit
 
 -- the entries that the end calls for
 
-map_append : (f : Due → Entry) (xs ys : List Due) → map f (xs ++ ys) ≡ map f xs ++ map f ys
+map_append : (f : Debt → Entry) (xs ys : List Debt) → map f (xs ++ ys) ≡ map f xs ++ map f ys
 map_append f [] ys = refl
 map_append f (x ∷ xs) ys = ap (λ es. f x ∷ es) (map_append f xs ys)
 
@@ -221,21 +221,21 @@ abbrev pub plain_entries : LaneId → Verdict → List ℕ → ℕ → ℕ → L
 plain_entries lane v places tries m = success_entries lane (take v.succeeded places) m ++ rest_entries lane v.rest (drop v.succeeded places) tries m
 
 entries_are : (s : Setting) (h : List Entry) (lane : LaneId) (v : Verdict) (places : List ℕ) (tries m : ℕ) → s.config.destination ≡ None
-    → map (due_entry s h lane m) (plain_due v places tries) ≡ plain_entries lane v places tries m
+    → map (debt_entry s h lane m) (plain_debts v places tries) ≡ plain_entries lane v places tries m
 entries_are s h lane v places n m none =
-    map_append (due_entry s h lane m) (due_success (take v.succeeded places) None) (due_rest v.rest (drop v.succeeded places) None n)
-    ∙ ap (λ es. es ++ map (due_entry s h lane m) (due_rest v.rest (drop v.succeeded places) None n)) (success (take v.succeeded places))
+    map_append (debt_entry s h lane m) (success_debts (take v.succeeded places) None) (rest_debts v.rest (drop v.succeeded places) None n)
+    ∙ ap (λ es. es ++ map (debt_entry s h lane m) (rest_debts v.rest (drop v.succeeded places) None n)) (success (take v.succeeded places))
     ∙ ap (λ es. success_entries lane (take v.succeeded places) m ++ es) (left v.rest (drop v.succeeded places))
   where
-    success : (xs : List ℕ) → map (due_entry s h lane m) (due_success xs None) ≡ success_entries lane xs m
+    success : (xs : List ℕ) → map (debt_entry s h lane m) (success_debts xs None) ≡ success_entries lane xs m
     success [] = refl
     success (x ∷ xs) = refl
 
-    given_up : (xs : List ℕ) → map (due_entry s h lane m) (due_give_up xs ++ []) ≡ exhausted_entries lane xs m
+    given_up : (xs : List ℕ) → map (debt_entry s h lane m) (give_up_debts xs ++ []) ≡ exhausted_entries lane xs m
     given_up [] = refl
     given_up (x ∷ xs) = ap (λ (line : Option (List ℕ)). Gave (Some lane) lane.shard (x ∷ xs) Exhausted line None m ∷ []) (no_line s h lane.shard (x ∷ xs) m none)
 
-    left : (r : Rest) (xs : List ℕ) → map (due_entry s h lane m) (due_rest r xs None n) ≡ rest_entries lane r xs n m
+    left : (r : Rest) (xs : List ℕ) → map (debt_entry s h lane m) (rest_debts r xs None n) ≡ rest_entries lane r xs n m
     left rest.Nothing xs = refl
     left rest.Again xs = refl
     left (rest.Split k) xs = refl
@@ -245,7 +245,7 @@ entries_are s h lane v places n m none =
 pub owed_are : (s : Setting) (h : List Entry) (t : Table) (places : List ℕ) (reply : Reply) (v : Verdict) (m : ℕ) → IsBook s h t [] → t.running ≡ true → places ≡ batch_of (last_call h (lane_id t.shard)) → v ≡ verdict_after s h (lane_id t.shard) reply
     → owed_entries s h (lane_id t.shard) reply m ≡ plain_entries (lane_id t.shard) v places (slot_at t.slots (slice_index places 0)).tries m
 owed_are s h t places reply v m b runs is verdict =
-    ap (map (due_entry s (Ended (lane_id t.shard) reply m ∷ h) (lane_id t.shard) m)) (due_ended s (lane_id t.shard) reply m h ∙ due_is s h t places reply v b runs is verdict)
+    ap (map (debt_entry s (Ended (lane_id t.shard) reply m ∷ h) (lane_id t.shard) m)) (debts_ended s (lane_id t.shard) reply m h ∙ debts_are s h t places reply v b runs is verdict)
     ∙ entries_are s (Ended (lane_id t.shard) reply m ∷ h) (lane_id t.shard) v places (slot_at t.slots (slice_index places 0)).tries m b.plain.no_destination
 
 reverse_success : (lane : LaneId) (xs : List ℕ) (m : ℕ) → reverse (success_entries lane xs m) ≡ success_entries lane xs m
@@ -287,9 +287,9 @@ plain_given lane v places n m = good (take v.succeeded places) (rest_entries lan
 
 -- the parts as they are handed on
 
-pub dues : (v : Verdict) (places xs good left : List ℕ) (tries t : ℕ) → places ≡ xs → good ≡ take v.succeeded places → left ≡ drop v.succeeded places → tries ≡ t
-    → plain_due v xs t ≡ due_success good None ++ (due_rest v.rest left None tries ++ [])
-dues v places xs good left tries t a b c d = rw (append-nil (due_rest v.rest left None tries)) (cc)
+pub debts_equal : (v : Verdict) (places xs good left : List ℕ) (tries t : ℕ) → places ≡ xs → good ≡ take v.succeeded places → left ≡ drop v.succeeded places → tries ≡ t
+    → plain_debts v xs t ≡ success_debts good None ++ (rest_debts v.rest left None tries ++ [])
+debts_equal v places xs good left tries t a b c d = rw (append-nil (rest_debts v.rest left None tries)) (cc)
 
 pub pasts : (la lb lc : LaneId) (v : Verdict) (places good left : List ℕ) (tries t l1 l2 now : ℕ) (past : List Entry) → lb ≡ la → lc ≡ la → good ≡ take v.succeeded places → left ≡ drop v.succeeded places → tries ≡ t → l1 ≡ now → l2 ≡ now
     → rest_entries lc v.rest left tries l2 ++ (success_entries lb good l1 ++ past) ≡ reverse (plain_entries la v places t now) ++ past

@@ -5,7 +5,8 @@ use Rattle.std.proofs.lemmas.List.Elements.{All-append}
 use Rattle.std.proofs.lemmas.List.{reverse-append, get_or_past, get_or-append_right, get_or-replicate, length-replicate}
 use Rattle.std.proofs.Math.ListN.{get_or-append}
 use Rattle.std.proofs.lemmas.Bool.{cases_Bool, eq-eqb, cases_lt}
-use Rattle.esm_model.specs.Moment.{MAX_MOMENT, capped_moment}
+use Rattle.esm_model.specs.Moment.{capped_moment}
+use Rattle.esm_model.specs.declared.moment.TheConstants.{MAX_MOMENT}
 use Rattle.esm_model.specs.Valid.{IsValidRecord}
 use Rattle.esm_model.specs.declared.item.Record.{Record}
 use Rattle.esm_model.specs.declared.entry.Fate.{Fate}
@@ -14,7 +15,7 @@ use Rattle.esm_model.specs.declared.entry.Entry.TheVariants.{Came, Began, Tried,
 use Rattle.esm_model.specs.Setting.{Setting, Stream, over, Extends, record_at}
 use Rattle.esm_model.specs.Entries.{holds}
 use Rattle.esm_model.specs.Ruling.{capped_tries}
-use Rattle.esm_model.specs.Owed.{Due, Success, GiveUp, Try, due_success, due_give_up}
+use Rattle.esm_model.specs.Owed.{Debt, Success, GiveUp, Try, success_debts, give_up_debts}
 use Rattle.esm_model.proofs.Lists.{In, not_in}
 use Rattle.esm_model.proofs.Sound.{open_In}
 use Rattle.esm_model.proofs.Paid.{gave_In}
@@ -23,7 +24,7 @@ use Rattle.esm_shard.specs.declared.ledger.Ledger.{Ledger}
 use Rattle.esm_shard.specs.CoreView.{moment_for, LegalOver, SettledOver}
 use Rattle.esm_shard.specs.Table.{slot_at, is_fated, fated_slot, nothing, IsPoint}
 use Rattle.esm_shard.specs.Book.{Table, IsBook, lane_id}
-use Rattle.esm_shard.specs.Ledger.{Keeps, Owing, past_of, setting_of, table_of, view_of, streams_of, lane_of_ledger, MayBeginAt, IsAnswered, due_fate, gave}
+use Rattle.esm_shard.specs.Ledger.{Keeps, Owing, past_of, setting_of, table_of, view_of, streams_of, lane_of_ledger, MayBeginAt, IsAnswered, fate_debt, gave}
 use Rattle.esm_shard.proofs.Books.{book_shut, book_came, book_began, book_gave, book_tried, book_named, book_settled, legal_gave, fresh_slot, true_false}
 
 pub own : (c : Ledger) → Keeps c → IsBook (setting_of c) (past_of c) (table_of c) []
@@ -74,7 +75,7 @@ keeps_lists c records slots history e f g k =
           (subst (λ (rs : List Record). IsBook (over (setting_of c) ts) (past_of c) (record (table_of c) { records = rs; slots = slots.items }) []) (sym e)
           (subst (λ (ss : List Slot). IsBook (over (setting_of c) ts) (past_of c) (record (table_of c) { slots = ss }) []) (sym f)
           (k.book ts (subst (λ (rs : List Record). Extends (streams_of c.shard rs) ts) e ext))));
-      point = subst (λ (ss : List Slot). IsPoint ss c.front) (sym f) k.point;
+      point = subst (λ (ss : List Slot). IsPoint ss c.checkpoint) (sym f) k.point;
     }
 
 -- the shard that comes is the table's, or the table has none
@@ -135,7 +136,7 @@ keeps_came c records slots history n m items e f g named going some few valid ba
           subst (λ (h : List Entry). IsBook (over (setting_of c) ts) h (table_of (record c { records = records; slots = slots; history = history; shard = Some n; last = m })) []) (sym (pushed c.history.items history.items (Came n (length c.records.items) (length items) m) g))
           (subst (λ (rs : List Record). IsBook (over (setting_of c) ts) (Came n (length c.records.items) (length items) m ∷ past_of c) (record (table_of c) { named = true; shard = n; records = rs; slots = slots.items; last = m }) []) (sym e)
           (subst (λ (ss : List Slot). IsBook (over (setting_of c) ts) (Came n (length c.records.items) (length items) m ∷ past_of c) (record (table_of c) { named = true; shard = n; records = c.records.items ++ items; slots = ss; last = m }) []) (sym f) new)));
-      point = subst (λ (ss : List Slot). IsPoint ss c.front) (sym f) (came_point c.slots.items c.front (length items) m k.point);
+      point = subst (λ (ss : List Slot). IsPoint ss c.checkpoint) (sym f) (came_point c.slots.items c.checkpoint (length items) m k.point);
     }
 
 pub keeps_began : (c : Ledger) (places : List ℕ) (history : Vec Entry Global) (m begun : ℕ)
@@ -182,25 +183,25 @@ gave_point slots new k front places each moves point = record {
     still false slot is = is
 
 -- the places that are given a fate are in the table
-gave_low : (s : Setting) (h : List Entry) (t : Table) (places : List ℕ) (f : Fate) (ds : List Due) → IsAnswered f → IsBook s h t (due_fate f places ∷ ds) → (i : ℕ) → In places i → i < length t.slots
+gave_low : (s : Setting) (h : List Entry) (t : Table) (places : List ℕ) (f : Fate) (ds : List Debt) → IsAnswered f → IsBook s h t (fate_debt f places ∷ ds) → (i : ℕ) → In places i → i < length t.slots
 gave_low s h t places f ds answered b i member =
     let there = (gave_In s h (lane_id t.shard) t.shard places f None None t.last (legal_gave s h t places f ds answered b)).1 i member in
     let came = (open_In s h (lane_id t.shard) i there).0 in
     omega (arith, came, b.came, b.long)
 
-pub owing_gave : (c : Ledger) (slots : Vec Slot Global) (front : ℕ) (history : Vec Entry Global) (places : List ℕ) (f : Fate) (ds : List Due)
+pub owing_gave : (c : Ledger) (slots : Vec Slot Global) (front : ℕ) (history : Vec Entry Global) (places : List ℕ) (f : Fate) (ds : List Debt)
     → IsAnswered f
     → ((i : ℕ) → i < length c.slots.items → slot_at slots.items i ≡ fated_slot places i (slot_at c.slots.items i)) → length slots.items ≡ length c.slots.items
     → history.items ≡ c.history.items ++ gave c places f ∷ []
-    → MovesFrom slots.items c.front front
-    → Owing c (due_fate f places ∷ ds) → Owing (record c { slots = slots; front = front; history = history }) ds
+    → MovesFrom slots.items c.checkpoint front
+    → Owing c (fate_debt f places ∷ ds) → Owing (record c { slots = slots; checkpoint = front; history = history }) ds
 owing_gave c slots front history places f ds answered each same is moves k = record {
   book = λ ts ext.
       (let b = k.book ts ext in
       let low : (i : ℕ) → In places i → i < length c.slots.items = λ i member. gave_low (over (setting_of c) ts) (past_of c) (table_of c) places f ds answered b i member in
-      subst (λ (h : List Entry). IsBook (over (setting_of c) ts) h (table_of (record c { slots = slots; front = front; history = history })) ds) (sym (pushed c.history.items history.items (gave c places f) is))
+      subst (λ (h : List Entry). IsBook (over (setting_of c) ts) h (table_of (record c { slots = slots; checkpoint = front; history = history })) ds) (sym (pushed c.history.items history.items (gave c places f) is))
       (book_gave (over (setting_of c) ts) (past_of c) (table_of c) places f ds slots.items answered (gave_all c.slots.items slots.items places same low each) same b));
-  point = gave_point c.slots.items slots.items c.front front places each moves k.point;
+  point = gave_point c.slots.items slots.items c.checkpoint front places each moves k.point;
 }
 
 -- what is written through a whole slice of a vector
@@ -211,7 +212,7 @@ written n new old same all = ap (λ k. take k (new ++ drop (length new) old)) (a
     seam [] ys = refl
     seam (x ∷ xs) ys = ap (λ zs. x ∷ zs) (seam xs ys)
 
-pub owing_tried : (c : Ledger) (history : Vec Entry Global) (places : List ℕ) (n : ℕ) (ds : List Due)
+pub owing_tried : (c : Ledger) (history : Vec Entry Global) (places : List ℕ) (n : ℕ) (ds : List Debt)
     → history.items ≡ c.history.items ++ Tried (lane_of_ledger c) places None n c.last ∷ []
     → Owing c (Try places None n ∷ ds) → Owing (record c { history = history }) ds
 owing_tried c history places n ds is k = record {
@@ -221,11 +222,11 @@ owing_tried c history places n ds is k = record {
   point = k.point;
 }
 
-pub success_some : (places : List ℕ) → (length places ≡ 0 → ⊥) → due_success places None ≡ Success places None ∷ []
+pub success_some : (places : List ℕ) → (length places ≡ 0 → ⊥) → success_debts places None ≡ Success places None ∷ []
 success_some [] h = absurd (h refl)
 success_some (i ∷ places) h = refl
 
-pub give_up_some : (places : List ℕ) → (length places ≡ 0 → ⊥) → due_give_up places ++ [] ≡ GiveUp places ∷ []
+pub give_up_some : (places : List ℕ) → (length places ≡ 0 → ⊥) → give_up_debts places ++ [] ≡ GiveUp places ∷ []
 give_up_some [] h = absurd (h refl)
 give_up_some (i ∷ places) h = refl
 

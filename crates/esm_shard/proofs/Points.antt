@@ -89,19 +89,19 @@ elsewhere_spread c n k is =
     let b = own c k in
     none_spread (setting_of c) (past_of c) (table_of c) b n (elsewhere_none (setting_of c) (past_of c) (table_of c) b n (other_shard c.shard n is))
 
-pub here_point : (c : Ledger) (n : ℕ) → Keeps c → false ≡ not (option_eq eqb c.shard (Some n)) → Some c.front ≡ checkpoint_of (setting_of c) (past_of c) n
+pub here_point : (c : Ledger) (n : ℕ) → Keeps c → false ≡ not (option_eq eqb c.shard (Some n)) → Some c.checkpoint ≡ checkpoint_of (setting_of c) (past_of c) n
 here_point c n kept is =
     let b = own c kept in
     let named = this_shard c.shard n is in
     let p = kept.point in
-    some_point (setting_of c) (past_of c) (table_of c) b c.front (ap (λ (o : Option ℕ). is_some o) named) (point_is (setting_of c) (past_of c) (table_of c) b c.front p.before p.open' p.within)
+    some_point (setting_of c) (past_of c) (table_of c) b c.checkpoint (ap (λ (o : Option ℕ). is_some o) named) (point_is (setting_of c) (past_of c) (table_of c) b c.checkpoint p.before p.open' p.within)
     ∙ ap (λ (o : Option ℕ). checkpoint_of (setting_of c) (past_of c) (unwrap_or o 0)) named
 
 pub here_spread : (c : Ledger) (n count : ℕ) → Keeps c → false ≡ not (option_eq eqb c.shard (Some n))
-    → count ≡ length (filter (is_fated c.slots.items) (drop c.front (below (length c.slots.items)))) → Some count ≡ spread_of (setting_of c) (past_of c) n
+    → count ≡ length (filter (is_fated c.slots.items) (drop c.checkpoint (below (length c.slots.items)))) → Some count ≡ spread_of (setting_of c) (past_of c) n
 here_spread c n count kept is counted =
     let b = own c kept in
     let named = this_shard c.shard n is in
     let p = kept.point in
-    some_spread (setting_of c) (past_of c) (table_of c) b count (ap (λ (o : Option ℕ). is_some o) named) (counted ∙ spread_is (setting_of c) (past_of c) (table_of c) b c.front p.before p.open' p.within)
+    some_spread (setting_of c) (past_of c) (table_of c) b count (ap (λ (o : Option ℕ). is_some o) named) (counted ∙ spread_is (setting_of c) (past_of c) (table_of c) b c.checkpoint p.before p.open' p.within)
     ∙ ap (λ (o : Option ℕ). spread_of (setting_of c) (past_of c) (unwrap_or o 0)) named

@@ -1,6 +1,6 @@
 -- A core's table agrees with its history.
 use Rattle.std.specs.Prelude.{◌≡◌, ℕ, ◌<◌, ◌≤◌, ◌^◌, Bool, true, false, List, [], ◌∷◌, length, Some, None, slice_get, All, is_some, if◌then◌else◌}
-use Rattle.esm_model.specs.Moment.{MAX_MOMENT}
+use Rattle.esm_model.specs.declared.moment.TheConstants.{MAX_MOMENT}
 use Rattle.esm_model.specs.Lane.{same_lane}
 use Rattle.esm_model.specs.Valid.{IsValidRecord, IsStreamConfig}
 use Rattle.esm_model.specs.declared.item.Record.{Record}
@@ -11,7 +11,7 @@ use Rattle.esm_model.specs.Entries.{last_moment, came_count, came_moment, is_shu
 use Rattle.esm_model.specs.Fates.{fate}
 use Rattle.esm_model.specs.Tries.{tries, mark}
 use Rattle.esm_model.specs.Batches.{failures, last_end}
-use Rattle.esm_model.specs.Owed.{Due, due}
+use Rattle.esm_model.specs.Owed.{Debt, debts}
 use Rattle.esm_model.specs.Step.{Legal}
 use Rattle.esm_shard.specs.declared.slot.Slot.{Slot}
 use Rattle.esm_shard.specs.FirstPath.{IsFirstPath}
@@ -50,14 +50,14 @@ pub record Runs (h : List Entry) (lane : LaneId) : Type 0 where
   pub some : 1 ≤ length places
 
 -- the table agrees with the history, whose lane is owed these entries
-pub record IsBook (s : Setting) (h : List Entry) (t : Table) (owed : List Due) : Type 0 where
+pub record IsBook (s : Setting) (h : List Entry) (t : Table) (owed : List Debt) : Type 0 where
   pub config : IsStreamConfig s.config
   pub plain : IsFirstPath s.config
   pub found_fates : s.fates ≡ []
   pub found_tries : s.tries ≡ []
   pub legal : Legal s h
-  pub owes : due s h (lane_id t.shard) ≡ owed
-  pub others : (lane : LaneId) → same_lane (lane_id t.shard) lane ≡ false → due s h lane ≡ []
+  pub owes : debts s h (lane_id t.shard) ≡ owed
+  pub others : (lane : LaneId) → same_lane (lane_id t.shard) lane ≡ false → debts s h lane ≡ []
   pub shards : shards_that_came h ≡ named_shards t.named t.shard
   pub some : t.named ≡ true → 1 ≤ length t.records
   pub first : t.named ≡ false → t.shut ≡ false → h ≡ []

@@ -1,7 +1,7 @@
 -- What a batcher does next: the first rule that holds. Source: the Lambda Developer Guide, event source mappings for
 -- Kinesis; the order of the rules and the pause of 20 milliseconds are this product's own.
 use Rattle.std.specs.Prelude.{◌≡◌, ℕ, ◌==◌, nat_lt, nat_le, min, Bool, true, false, ◌&&◌, List, [], ◌∷◌, length, map, filter, take, take_while, Option, Some, None, slice_index, if◌then◌else◌}
-use Rattle.esm_model.specs.Limits.{MAX_EXPIRED}
+use Rattle.esm_model.specs.declared.limits.TheConstants.{MAX_EXPIRED}
 use Rattle.esm_model.specs.Moment.{moment_after}
 use Rattle.esm_model.specs.declared.lane.LaneId.{LaneId}
 use Rattle.esm_model.specs.declared.book.Job.{Job}
@@ -10,7 +10,8 @@ use Rattle.esm_model.specs.declared.book.Next.TheVariants as next
 use Rattle.esm_model.specs.declared.entry.Fate.TheVariants.{Expired}
 use Rattle.esm_model.specs.declared.entry.Entry.{Entry}
 use Rattle.esm_model.specs.declared.entry.Entry.TheVariants.{Began, Gave}
-use Rattle.esm_model.specs.Setting.{Setting, Stream, FoundState, Extends, over}
+use Rattle.esm_model.specs.Setting.{Setting, Stream, Extends, over}
+use Rattle.esm_model.specs.declared.setup.FoundState.{FoundState}
 use Rattle.esm_model.specs.Entries.{is_shut, came_moment, calls_begun}
 use Rattle.esm_model.specs.Fates.{open_places}
 use Rattle.esm_model.specs.Windows.{is_outstanding, is_due}

@@ -1,5 +1,5 @@
 -- The view of a core, and what is true of each.
-use Rattle.esm_shard.specs.declared.decisions.Core.TheInside.{Inside}
+use Rattle.esm_shard.specs.declared.stream_core.Core.TheInside.{Inside}
 use Rattle.esm_shard.specs.CoreView.{CoreView}
 use Rattle.esm_shard.specs.Ledger.{Keeps, HasRoom, view_of}
 

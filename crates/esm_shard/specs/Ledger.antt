@@ -20,7 +20,7 @@ use Rattle.esm_model.specs.Fates.{open_places}
 use Rattle.esm_model.specs.Batches.{delay_end}
 use Rattle.esm_model.specs.Ruling.{capped_tries}
 use Rattle.esm_model.specs.Tries.{verdict_after}
-use Rattle.esm_model.specs.Owed.{Due, Success, GiveUp, due_success, due_rest}
+use Rattle.esm_model.specs.Owed.{Debt, Success, GiveUp, success_debts, rest_debts}
 use Rattle.esm_model.specs.Step.{MayBegin}
 use Rattle.esm_shard.specs.declared.ledger.Ledger.{Ledger}
 use Rattle.esm_shard.specs.CoreView.{CoreView}
@@ -71,13 +71,13 @@ table_of c = record {
 abbrev pub lane_of_ledger : Ledger → LaneId
 lane_of_ledger c = lane_id (shard_of c)
 
--- over all lists of records that go on from its own, the table agrees with the history, and so much is due; the front is
+-- over all lists of records that go on from its own, the table agrees with the history, and so much is owed; the checkpoint is
 -- where the first record without a fate stands
-pub record Owing (c : Ledger) (owed : List Due) : Type 0 where
+pub record Owing (c : Ledger) (owed : List Debt) : Type 0 where
   pub book : (streams : List Stream) → Extends (setting_of c).streams streams → IsBook (over (setting_of c) streams) (past_of c) (table_of c) owed
-  pub point : IsPoint c.slots.items c.front
+  pub point : IsPoint c.slots.items c.checkpoint
 
--- nothing is due
+-- nothing is owed
 abbrev pub Keeps : Ledger → Type 0
 Keeps c = Owing c []
 
@@ -133,16 +133,16 @@ IsAnswered Succeeded = ⊤
 IsAnswered Exhausted = ⊤
 IsAnswered _ = ⊥
 
-abbrev pub due_fate : Fate → List ℕ → Due
-due_fate Succeeded places = Success places None
-due_fate _ places = GiveUp places
+abbrev pub fate_debt : Fate → List ℕ → Debt
+fate_debt Succeeded places = Success places None
+fate_debt _ places = GiveUp places
 
 abbrev pub gave : Ledger → List ℕ → Fate → Entry
 gave c places fate = Gave (Some (lane_of_ledger c)) (shard_of c) places fate None None c.last
 
--- what an end makes due where there are no windows
-abbrev pub plain_due : Verdict → List ℕ → ℕ → List Due
-plain_due v places tries = due_success (take v.succeeded places) None ++ due_rest v.rest (drop v.succeeded places) None tries
+-- what an end makes the lane owe where there are no windows
+abbrev pub plain_debts : Verdict → List ℕ → ℕ → List Debt
+plain_debts v places tries = success_debts (take v.succeeded places) None ++ rest_debts v.rest (drop v.succeeded places) None tries
 
 -- the ruling of an answer to the running call, over all lists that go on from the ledger's own
 abbrev pub IsVerdictOf : Ledger → Reply → Verdict → Type 0

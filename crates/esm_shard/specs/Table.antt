@@ -1,6 +1,6 @@
 -- What a core keeps of its shard's records, as a table.
 use Rattle.std.specs.Prelude.{◌≡◌, ℕ, ◌<◌, ◌≤◌, ◌+◌, ◌==◌, nat_le, Bool, true, false, not, ◌&&◌, ◌||◌, nat_lt, List, [], ◌∷◌, length, ⊤, Option, Some, None, filter, filter_map, option_map, slice_get, slice_index, slice_index_or, take_while, if◌then◌else◌}
-use Rattle.esm_model.specs.Limits.{MAX_EVENT}
+use Rattle.esm_model.specs.declared.limits.TheConstants.{MAX_EVENT}
 use Rattle.esm_model.specs.declared.config.Config.{Config}
 use Rattle.esm_model.specs.declared.item.Record.{Record}
 use Rattle.esm_model.specs.declared.verdict.Rest.{Rest}

@@ -1,7 +1,7 @@
 ghost use Rattle.std.specs.Prelude.{◌≡◌, ◌<◌, IfOk, IfSome, All, length};
 ghost use Rattle.esm_shard.specs.Table.{table_records};
 
-use esm_model::{Bytes, OutOfMemory, Record, Seq, Text};
+use esm_model::{OutOfMemory, Record};
 use std::alloc::Global;
 
 /// The records at the places, as they stand there, where these follow one another.
@@ -37,23 +37,11 @@ pub fn gathered(
 fn record_copy(alloc: Global, item: &Record) -> Result<Record, OutOfMemory>
     ensures { IfOk result (λ copy. copy ≡ item.now) }
 {
-    let seq = sequence_copy(alloc, &item.seq)?;
-    let key = String::from_str(alloc, item.key.as_str())?;
-    let payload = Vec::from_slice(alloc, item.payload.as_slice())?;
     Ok(Record {
         shard: item.shard,
-        seq,
-        key: Text::from_vec(key),
-        payload: Bytes::from_vec(payload),
+        seq: item.seq.copy(alloc)?,
+        key: item.key.copy(alloc)?,
+        payload: item.payload.copy(alloc)?,
         arrival: item.arrival,
     })
-}
-
-fn sequence_copy(alloc: Global, seq: &Seq) -> Result<Seq, OutOfMemory>
-    ensures { IfOk result (λ copy. copy ≡ seq.now) }
-{
-    match Seq::read(alloc, seq.text()) {
-        Ok(copy) => Ok(copy),
-        Err(_) => Err(OutOfMemory),
-    }
 }

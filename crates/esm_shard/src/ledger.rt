@@ -1,5 +1,4 @@
 ghost use Rattle.std.specs.Prelude.{◌≡◌, ℕ, min, max, ◌+◌, ◌<◌, ◌≤◌, ◌^◌, ◌++◌, ◌∷◌, [], IfOk, OnErr, OnOk, IsSome, All, Some, None, Ok, length, take, vec_len, false, reverse, unwrap_or};
-ghost use Rattle.esm_model.specs.Moment.{MAX_MOMENT as LAST_MOMENT};
 ghost use Rattle.esm_model.specs.Valid.{IsValidRecord, IsStreamConfig};
 ghost use Rattle.esm_model.specs.Setting.{over};
 ghost use Rattle.esm_model.specs.Entries.{is_shut, is_running, came_count};
@@ -33,7 +32,7 @@ pub struct Ledger {
     pub shard: Option<u64>,
     pub records: Vec<Record>,
     pub slots: Vec<Slot>,
-    pub front: usize,
+    pub checkpoint: usize,
     pub running: bool,
     pub failures: u64,
     pub last_end: u64,
@@ -45,10 +44,10 @@ pub struct Ledger {
 
 /// The moment that is noted: not before the last one.
 pub fn raised_to(last: u64, moment: u64) -> u64
-    requires { last ≤ LAST_MOMENT }
-    ensures value { result ≡ min (max moment last) LAST_MOMENT }
+    requires { last ≤ MAX_MOMENT }
+    ensures value { result ≡ min (max moment last) MAX_MOMENT }
     ensures goes_on { last ≤ result }
-    ensures in_time { result ≤ LAST_MOMENT }
+    ensures in_time { result ≤ MAX_MOMENT }
 {
     moment.max(last).min(MAX_MOMENT)
 }
@@ -70,7 +69,7 @@ impl Ledger {
             shard: None,
             records: Vec::new(alloc),
             slots: Vec::new(alloc),
-            front: 0,
+            checkpoint: 0,
             running: false,
             failures: 0,
             last_end: 0,
@@ -135,7 +134,7 @@ impl Ledger {
         requires named { shard ≡ unwrap_or self.old.shard shard }
         requires places { length self.old.records.items + length items.items < 2 ^ 32 }
         requires goes_on { self.old.last ≤ now }
-        requires in_time { now ≤ LAST_MOMENT }
+        requires in_time { now ≤ MAX_MOMENT }
         ensures kept { Keeps self.new }
         ensures room { HasRoom self.new }
         ensures history { OnOk result (past_of self.new
@@ -221,7 +220,7 @@ impl Ledger {
         requires named { IsSome self.old.shard }
         requires rests { self.old.running ≡ false }
         requires goes_on { self.old.last ≤ now }
-        requires in_time { now ≤ LAST_MOMENT }
+        requires in_time { now ≤ MAX_MOMENT }
         ensures kept { Keeps self.new }
         ensures room { HasRoom self.new }
         ensures answer { IfOk result (λ next. IsLaneNext self.old now next) }
@@ -242,11 +241,11 @@ impl Ledger {
     /// What the shard's lane does next, where it does not run.
     fn decide(&self, alloc: Global, now: u64) -> Result<Next, OutOfMemory>
         requires kept { Keeps self.now }
-        requires in_time { now ≤ LAST_MOMENT }
+        requires in_time { now ≤ MAX_MOMENT }
         ensures answer { IfOk result (λ next. IsLaneNext self.now now next) }
         ensures some { IfOk result HasPlaces }
     {
-        if self.front == self.slots.len() {
+        if self.checkpoint == self.slots.len() {
             return Ok(rest(self.shut, now));
         }
         if self.begun >= self.calls as u64 {
@@ -257,23 +256,23 @@ impl Ledger {
             return Ok(Next::Idle { until });
         }
         let most = self.config.batch_size as usize + 1;
-        let group = first_group(alloc, self.slots.as_slice(), self.front, most)?;
+        let group = first_group(alloc, self.slots.as_slice(), self.checkpoint, most)?;
         self.decide_open(alloc, group.as_slice(), now)
     }
 
     /// What the lane does next with its group, where it may call. A batch takes one place less at most.
     fn decide_open(&self, alloc: Global, group: &[u32], now: u64) -> Result<Next, OutOfMemory>
         requires kept { Keeps self.now }
-        requires in_time { now ≤ LAST_MOMENT }
+        requires in_time { now ≤ MAX_MOMENT }
         requires group { group.now ≡ take (self.now.config.batch_size + 1) (group_slots self.now.slots.items) }
-        requires some { self.now.front < vec_len self.now.slots }
+        requires some { self.now.checkpoint < vec_len self.now.slots }
         requires left { self.now.begun < self.now.calls }
-        requires due { delay_from self.now.failures self.now.last_end ≤ now }
+        requires debts { delay_from self.now.failures self.now.last_end ≤ now }
         ensures answer { IfOk result (λ next. IsLaneNext self.now now next) }
         ensures some { IfOk result HasPlaces }
     {
         let count = cut(&self.config, self.records.as_slice(), group);
-        let first = self.slots[self.front];
+        let first = self.slots[self.checkpoint];
         let waited = (first.came + self.config.window_ms).min(MAX_MOMENT);
         let fresh = first.mark.is_none();
         let size = self.config.batch_size;
@@ -332,7 +331,7 @@ impl Ledger {
         requires calls { self.old.begun < self.old.calls }
         requires may { MayBeginAt self.old noted now }
         requires goes_on { self.old.last ≤ now }
-        requires in_time { now ≤ LAST_MOMENT }
+        requires in_time { now ≤ MAX_MOMENT }
         ensures kept { Keeps self.new }
         ensures room { HasRoom self.new }
         ensures history { OnOk result (past_of self.new ≡ Entry.Began (lane_of_ledger self.old) noted None now ∷ past_of self.old) }
@@ -364,7 +363,7 @@ impl Ledger {
         if self.shard != Some(shard) {
             return None;
         }
-        Some(self.front as u32)
+        Some(self.checkpoint as u32)
     }
 
     /// How many records have a fate and stand past the checkpoint.
@@ -375,7 +374,7 @@ impl Ledger {
         if self.shard != Some(shard) {
             return None;
         }
-        Some(fated_past(self.slots.as_slice(), self.front) as u32)
+        Some(fated_past(self.slots.as_slice(), self.checkpoint) as u32)
     }
 
     /// The number of entries.
@@ -395,7 +394,7 @@ impl Ledger {
 }
 
 fn rest(shut: bool, now: u64) -> Next
-    requires { now ≤ LAST_MOMENT }
+    requires { now ≤ MAX_MOMENT }
     ensures { result ≡ rest_of shut now }
 {
     if shut {

@@ -3,14 +3,14 @@
 //! Pure: values in, values out. No device, clock or thread.
 #![tactic(auto)]
 
-pub mod decisions;
+mod stream_core;
 mod gather;
 mod ledger;
 mod settling;
 mod slot;
 mod verdict;
 
-pub use decisions::Core;
+pub use stream_core::Core;
 pub use esm_model::{CameError, Job, Next};
 
 #[cfg(test)]

@@ -1,17 +1,17 @@
 ghost use Rattle.std.specs.Prelude.{◌≡◌, ◌+◌, ◌<◌, ◌≤◌, ◌^◌, ◌++◌, ◌∷◌, List, IfOk, OnErr, OnOk, All, None, length, vec_len, true, drop, take};
 ghost use Rattle.std.specs.Vec.{vec_capacity};
-ghost use Rattle.esm_model.specs.Moment.{MAX_MOMENT as LAST_MOMENT};
+ghost use Rattle.esm_model.specs.declared.moment.TheConstants.{MAX_MOMENT};
 ghost use Rattle.esm_model.specs.Batches.{failures_by};
-ghost use Rattle.esm_model.specs.Owed.{Due, Try, due_success, due_rest};
+ghost use Rattle.esm_model.specs.Owed.{Debt, Try, success_debts, rest_debts};
 ghost use Rattle.esm_model.specs.declared.entry.Entry.{Entry};
 ghost use Rattle.esm_shard.specs.CoreView.{moment_for, IsRunningJob};
 ghost use Rattle.esm_shard.specs.Ending.{HasEnded, owed_entries, given_count};
-ghost use Rattle.esm_shard.specs.Ledger.{past_of, setting_of, view_of, lane_of_ledger, Keeps, Owing, HasRoom, IsAnswered, due_fate, gave, plain_due, IsVerdictOf, RunsPlaces, running_places, first_tries, success_entries, rest_entries, left_given};
+ghost use Rattle.esm_shard.specs.Ledger.{past_of, setting_of, view_of, lane_of_ledger, Keeps, Owing, HasRoom, IsAnswered, fate_debt, gave, plain_debts, IsVerdictOf, RunsPlaces, running_places, first_tries, success_entries, rest_entries, left_given};
 
 use crate::ledger::{Ledger, MAX_ENTRIES, copied, raised_to};
 use crate::slot::{fate_slots, fated_from, mark_slots};
 use crate::verdict::{judge, read};
-use esm_model::{Entry, Fate, Job, OutOfMemory, Places, Reply, Rest, Verdict};
+use esm_model::{Entry, Fate, Job, MAX_TRIES, OutOfMemory, Places, Reply, Rest, Verdict};
 use std::alloc::Global;
 
 /// What an answer makes of a batch.
@@ -66,7 +66,7 @@ impl Ledger {
         requires room { vec_len self.old.history + 4 ≤ vec_capacity self.old.history }
         requires short { vec_len self.old.history + 3 < 2 ^ 40 }
         requires goes_on { self.old.last ≤ now }
-        requires in_time { now ≤ LAST_MOMENT }
+        requires in_time { now ≤ MAX_MOMENT }
         ensures kept { Keeps self.new }
         ensures room { HasRoom self.new }
         ensures history { OnOk result
@@ -138,8 +138,8 @@ impl Ledger {
         requires room { vec_len self.old.history < vec_capacity self.old.history }
         requires long { vec_len self.old.history < 2 ^ 40 }
         requires goes_on { self.old.last ≤ now }
-        requires in_time { now ≤ LAST_MOMENT }
-        ensures owing { Owing self.new (plain_due verdict (running_places self.old)
+        requires in_time { now ≤ MAX_MOMENT }
+        ensures owing { Owing self.new (plain_debts verdict (running_places self.old)
             (first_tries self.old (running_places self.old))) }
         ensures history { past_of self.new ≡ Entry.Ended (lane_of_ledger self.old) reply now ∷ past_of self.old }
         ensures rooms { vec_capacity self.new.history ≡ vec_capacity self.old.history }
@@ -169,7 +169,7 @@ impl Ledger {
         requires answered { IsAnswered fate }
         requires room { vec_len self.old.history < vec_capacity self.old.history }
         requires within { All (λ p. p < vec_len self.old.slots) places }
-        ensures owing { (ds : List Due) → Owing self.old (due_fate fate places ∷ ds) → Owing self.new ds }
+        ensures owing { (ds : List Debt) → Owing self.old (fate_debt fate places ∷ ds) → Owing self.new ds }
         ensures history { past_of self.new ≡ gave self.old places fate ∷ past_of self.old }
         ensures rooms { vec_capacity self.new.history ≡ vec_capacity self.old.history }
         ensures more { vec_len self.new.history ≡ vec_len self.old.history + 1 }
@@ -180,7 +180,7 @@ impl Ledger {
         ensures slots { vec_len self.new.slots ≡ vec_len self.old.slots }
     {
         fate_slots(self.slots.as_mut_slice(), places.as_slice());
-        self.front = fated_from(self.slots.as_slice(), self.front);
+        self.checkpoint = fated_from(self.slots.as_slice(), self.checkpoint);
         let lane = self.lane();
         self.history.push_reserved(Entry::Gave {
             by: Some(lane),
@@ -196,7 +196,7 @@ impl Ledger {
     /// Notes a failed try that counts.
     fn note_try(&mut self, places: Places, tries: u32)
         requires room { vec_len self.old.history < vec_capacity self.old.history }
-        ensures owing { (ds : List Due) → Owing self.old (Try places None tries ∷ ds) → Owing self.new ds }
+        ensures owing { (ds : List Debt) → Owing self.old (Try places None tries ∷ ds) → Owing self.new ds }
         ensures history { past_of self.new ≡ Entry.Tried (lane_of_ledger self.old) places None tries self.old.last ∷ past_of self.old }
         ensures rooms { vec_capacity self.new.history ≡ vec_capacity self.old.history }
         ensures more { vec_len self.new.history ≡ vec_len self.old.history + 1 }
@@ -217,7 +217,7 @@ impl Ledger {
     fn pay_good(&mut self, good: Places)
         requires room { vec_len self.old.history < vec_capacity self.old.history }
         requires within { All (λ p. p < vec_len self.old.slots) good }
-        ensures owing { (ds : List Due) → Owing self.old (due_success good None ++ ds) → Owing self.new ds }
+        ensures owing { (ds : List Debt) → Owing self.old (success_debts good None ++ ds) → Owing self.new ds }
         ensures history { past_of self.new ≡ success_entries (lane_of_ledger self.old) good self.old.last ++ past_of self.old }
         ensures rooms { vec_capacity self.new.history ≡ vec_capacity self.old.history }
         ensures more { vec_len self.new.history ≤ vec_len self.old.history + 1 }
@@ -236,7 +236,7 @@ impl Ledger {
     fn pay_rest(&mut self, rest: Rest, left: Places, tries: u32)
         requires room { vec_len self.old.history < vec_capacity self.old.history }
         requires within { All (λ p. p < vec_len self.old.slots) left }
-        ensures owing { (ds : List Due) → Owing self.old (due_rest rest left None tries ++ ds) → Owing self.new ds }
+        ensures owing { (ds : List Debt) → Owing self.old (rest_debts rest left None tries ++ ds) → Owing self.new ds }
         ensures history { past_of self.new ≡ rest_entries (lane_of_ledger self.old) rest left tries self.old.last ++ past_of self.old }
         ensures rooms { vec_capacity self.new.history ≡ vec_capacity self.old.history }
         ensures more { vec_len self.new.history ≤ vec_len self.old.history + 1 }
@@ -244,7 +244,7 @@ impl Ledger {
         ensures shut { self.new.shut ≡ self.old.shut }
     {
         match rest {
-            Rest::Counted => self.note_try(left, tries.min(10000) + 1),
+            Rest::Counted => self.note_try(left, tries.min(MAX_TRIES - 1) + 1),
             Rest::Exhausted => {
                 if !left.as_slice().is_empty() {
                     self.give(left, Fate::Exhausted);

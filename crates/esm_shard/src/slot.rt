@@ -2,15 +2,11 @@ ghost use Rattle.std.specs.Prelude.{◌≡◌, ◌<◌, ◌≤◌, ◌^◌, IfOk
 ghost use Rattle.esm_model.specs.Fates.{below};
 ghost use Rattle.esm_model.specs.Batches.{longest, delay_from};
 ghost use Rattle.esm_model.specs.Valid.{IsValidRecord, IsStreamConfig};
-ghost use Rattle.esm_model.specs.Moment.{MAX_MOMENT as LAST_MOMENT};
 ghost use Rattle.esm_shard.specs.Table.{is_fated, IsPoint, group_slots, is_same_slot, fits_records, slot_at, marked_at, marked_slot, side_slot, fated_slot, AreDistinct, ready_test};
 
 use esm_event::{frame_bytes, stream_bytes};
-use esm_model::{Config, MAX_MOMENT, OutOfMemory, Record, Rest};
+use esm_model::{Config, MAX_EVENT, MAX_MOMENT, MAX_TRIES, OutOfMemory, Record, Rest};
 use std::alloc::Global;
-
-/// The greatest length of an event's text, in bytes (Lambda quotas, 6 MB for a synchronous invocation).
-pub const MAX_EVENT: u64 = 6291456;
 
 /// Which end marked a record, by the number of entries before it, and on which side of its split.
 #[derive(Clone, Copy, Debug, PartialEq, Eq)]
@@ -83,7 +79,7 @@ pub fn cut(config: &Config, records: &[Record], places: &[u32]) -> usize
         let record = &records[*place as usize];
         let more = bytes + stream_bytes(config, record) as u64;
         let event = frame + more + i as u64;
-        if i >= full || event > MAX_EVENT {
+        if i >= full || event > MAX_EVENT as u64 {
             return i;
         }
         bytes = more;
@@ -97,7 +93,7 @@ pub fn marked(slot: &Slot, rest: Rest, mark: Mark) -> Slot
 {
     let counted = rest == Rest::Counted;
     let tries = if counted {
-        slot.tries.min(10000) + 1
+        slot.tries.min(MAX_TRIES - 1) + 1
     } else {
         slot.tries
     };
@@ -150,7 +146,7 @@ pub fn fate_slots(slots: &mut [Slot], places: &[u32])
 
 /// The moment at which the delay runs out that so many failures in a row began at `end`; 0 where there are none.
 pub fn delay_end(failures: u64, end: u64) -> u64
-    requires { end ≤ LAST_MOMENT }
+    requires { end ≤ MAX_MOMENT }
     ensures { result ≡ delay_from failures end }
 {
     if failures == 0 {

@@ -1,4 +1,5 @@
 ghost use Rattle.std.specs.Prelude.{◌≡◌, ◌≤◌};
+ghost use Rattle.esm_model.specs.declared.limits.TheConstants.{MAX_TRIES};
 ghost use Rattle.esm_model.specs.Ruling.{ruling, after_try as after_try_of};
 ghost use Rattle.esm_shard.specs.Plain.{plain_reading, UpToWithin};
 
@@ -27,7 +28,7 @@ pub fn read(reply: &Reply) -> Reading
 
 /// The ruling on a batch.
 pub fn judge(config: &Config, count: u32, tries: u32, reading: Reading) -> Verdict
-    requires few { tries ≤ 10001 }
+    requires few { tries ≤ MAX_TRIES }
     requires up_to { UpToWithin count reading }
     ensures { result ≡ ruling config.now count tries reading }
 {
@@ -70,7 +71,7 @@ pub fn judge(config: &Config, count: u32, tries: u32, reading: Reading) -> Verdi
 }
 
 fn after_try(retries: Option<u32>, tries: u32) -> Rest
-    requires { tries ≤ 10001 }
+    requires { tries ≤ MAX_TRIES }
     ensures { result ≡ after_try_of retries tries }
 {
     match retries {

@@ -3,7 +3,7 @@ use Rattle.serde_json.specs.View.{view}
 use Rattle.serde_json.specs.declared.value.Value.{Value}
 use Rattle.serde_json.proofs.Views.{view-Array, view-Object}
 use Rattle.esm_model.specs.Pattern.{empty, bad_test, refusal_of}
-use Rattle.esm_filter.specs.Told.{refusal_view}
+use Rattle.esm_filter.specs.ReadOutcome.{refusal_view}
 use Rattle.esm_filter.proofs.ReadLemmas.{list_refusal, object_refusal}
 use Rattle.esm_filter.proofs.scalar.refusal_of.Goals as goal
 

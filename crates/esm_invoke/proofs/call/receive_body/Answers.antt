@@ -2,7 +2,7 @@ use Rattle.std.proofs.Common.{◌≡◌, ◌≤◌, ◌+◌, true, false, length
 use Rattle.std.proofs.lemmas.Bool.{false≢true}
 use Rattle.std.proofs.lemmas.List.{length-take-le, take_all}
 use Rattle.esm_invoke.specs.Response.{BeginsWith}
-use Rattle.esm_invoke.specs.Reading.{Awaits, IsUnfinished}
+use Rattle.esm_invoke.specs.ResponseRead.{Awaits, IsUnfinished}
 use Rattle.esm_invoke.specs.Receiving.{ReadsMore}
 use Rattle.esm_invoke.proofs.ReplyLemmas.{no_more, more_then, begins_on, awaits_more, awaits_start, none_unfinished, garbled_if, replies_if, goes_on_here, front_stays}
 use Rattle.esm_invoke.proofs.call.receive_body.Goals as goal

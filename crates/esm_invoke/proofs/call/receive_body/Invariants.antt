@@ -2,7 +2,7 @@ use Rattle.std.proofs.Common.{◌≤◌, ◌-◌, length, take, drop}
 use Rattle.esm_io.specs.Faults.{MAX_FAULTS}
 use Rattle.esm_invoke.specs.Receiving.{ReadsMore}
 use Rattle.esm_invoke.specs.Response.{BeginsWith}
-use Rattle.esm_invoke.specs.Reading.{Awaits}
+use Rattle.esm_invoke.specs.ResponseRead.{Awaits}
 use Rattle.esm_invoke.proofs.call.receive_body.Given as goal
 
 abbrev pub invariant-loop-body : goal.invariant-loop-body

@@ -2,7 +2,7 @@ use Rattle.std.proofs.Common.{◌≡◌, ◌+◌, true, false, length, take, dro
 use Rattle.std.proofs.lemmas.Bool.{false≢true}
 use Rattle.std.proofs.lemmas.List.{length-take-le}
 use Rattle.esm_invoke.specs.Response.{BeginsWith, NeverHolds}
-use Rattle.esm_invoke.specs.Reading.{HasNoHead, NeverBegins}
+use Rattle.esm_invoke.specs.ResponseRead.{HasNoHead, NeverBegins}
 use Rattle.esm_invoke.proofs.TalkLemmas.{Reads_none}
 use Rattle.esm_invoke.proofs.ReplyLemmas.{no_head_in_none, none_without_head, never_without_head, never_none, reads_on}
 use Rattle.esm_invoke.proofs.call.receive_head.Goals as goal

@@ -1,7 +1,7 @@
 use Rattle.std.proofs.Common.{◌≤◌, ◌-◌, length, take}
 use Rattle.esm_io.specs.Faults.{MAX_FAULTS}
 use Rattle.esm_io.specs.Talks.{Reads}
-use Rattle.esm_invoke.specs.Reading.{HasNoHead}
+use Rattle.esm_invoke.specs.ResponseRead.{HasNoHead}
 use Rattle.esm_invoke.proofs.call.receive_head.Given as goal
 
 abbrev pub invariant-loop-filled : goal.invariant-loop-filled

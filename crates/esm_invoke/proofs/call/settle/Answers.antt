@@ -1,6 +1,6 @@
 use Rattle.std.proofs.Common.{false, sym, refl, inr, subst}
 use Rattle.esm_invoke.specs.Response.{IsReplyTo}
-use Rattle.esm_invoke.specs.Reading.{HasRead, NeverHoldsBody}
+use Rattle.esm_invoke.specs.ResponseRead.{HasRead, NeverHoldsBody}
 use Rattle.esm_invoke.proofs.ReplyLemmas.{never_none, never_without_body}
 use Rattle.esm_invoke.proofs.call.settle.Goals as goal
 

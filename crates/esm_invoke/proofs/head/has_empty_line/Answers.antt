@@ -1,5 +1,5 @@
 use Rattle.std.proofs.Common.{◌≡◌, ℕ, ◌<◌, ◌≤◌, ◌+◌, false, sym, ◌∙◌, below_more}
-use Rattle.esm_invoke.specs.Reading.{ends_empty_line}
+use Rattle.esm_invoke.specs.ResponseRead.{ends_empty_line}
 use Rattle.esm_invoke.proofs.head.has_empty_line.Goals as goal
 
 pub loop-at-preserved : goal.loop-at-preserved

@@ -1,5 +1,5 @@
 use Rattle.std.proofs.Common.{◌≡◌, ℕ, ◌<◌, ◌≤◌, false}
-use Rattle.esm_invoke.specs.Reading.{ends_empty_line}
+use Rattle.esm_invoke.specs.ResponseRead.{ends_empty_line}
 use Rattle.esm_invoke.proofs.head.has_empty_line.Given as goal
 
 abbrev pub invariant-loop-at : goal.invariant-loop-at

@@ -1,6 +1,6 @@
 use Rattle.std.proofs.Common.{◌≡◌, ◌++◌, length, min, ◌∙◌, subst}
 use Rattle.std.proofs.lemmas.List.{take-append-drop}
-use Rattle.esm_invoke.specs.Reading.{ParsesHead}
+use Rattle.esm_invoke.specs.ResponseRead.{ParsesHead}
 use Rattle.esm_invoke.proofs.HeadLemmas.{no_head_without_empty_line, ParsesHead-append}
 use Rattle.esm_invoke.proofs.head.look.Goals as goal
 

@@ -1,6 +1,6 @@
 use Rattle.std.proofs.Common.{◌≡◌, ◌++◌, ◌∷◌, []}
 use Rattle.std.proofs.lemmas.Result.{err_from_is_err_and}
-use Rattle.esm_payload.specs.Reading.{names_at}
+use Rattle.esm_payload.specs.Parsing.{names_at}
 use Rattle.esm_payload.specs.Words.{test_of}
 use Rattle.esm_payload.proofs.Parts.{goes_on, ends, is_done}
 use Rattle.esm_payload.proofs.names.read_names.Goals as goal

@@ -1,5 +1,5 @@
 use Rattle.std.proofs.Common.{◌≡◌, ◌-◌}
-use Rattle.esm_payload.specs.Reading.{names_at}
+use Rattle.esm_payload.specs.Parsing.{names_at}
 use Rattle.esm_payload.specs.Words.{test_of}
 use Rattle.esm_payload.proofs.Parts.{with_front}
 use Rattle.esm_payload.proofs.names.read_names.Given as goal

@@ -1,5 +1,5 @@
 use Rattle.std.proofs.Common.{◌<◌, ◌≤◌, length}
-use Rattle.esm_run.specs.Reading.{IsWithin, HasTaken}
+use Rattle.esm_run.specs.InputRead.{IsWithin, HasTaken}
 use Rattle.esm_run.proofs.input.read_pieces.Given as goal
 
 abbrev pub invariant-loop : goal.invariant-loop

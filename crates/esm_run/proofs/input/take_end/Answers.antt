@@ -1,5 +1,5 @@
 use Rattle.std.proofs.Common.{subst}
-use Rattle.esm_run.specs.Reading.{IsTaken}
+use Rattle.esm_run.specs.InputRead.{IsTaken}
 use Rattle.esm_run.proofs.Taking.{after_end, after_good_end}
 use Rattle.esm_run.proofs.input.take_end.Goals as goal
 

@@ -4,7 +4,7 @@ use Rattle.std.specs.Map.{count_at}
 use Rattle.std.specs.Ordering.{nat_cmp}
 use Rattle.std.specs.BTreeMap as map
 use Rattle.std.proofs.lemmas.List.{length-map}
-use Rattle.esm_model.specs.Setting.{FoundFate}
+use Rattle.esm_model.specs.declared.setup.FoundFate.{FoundFate}
 use Rattle.esm_said.specs.Tells.{fate_of_found}
 use Rattle.esm_said.specs.View.{found_fate, found_deletion}
 use Rattle.esm_said.proofs.Finding.{count-made, fate_found, is_some-option_map, None-from_option_map}

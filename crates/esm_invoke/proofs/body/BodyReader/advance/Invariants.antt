@@ -1,5 +1,5 @@
 use Rattle.std.proofs.Common.{◌≡◌, ◌-◌, length}
-use Rattle.esm_invoke.specs.Reading.{Awaits}
+use Rattle.esm_invoke.specs.ResponseRead.{Awaits}
 use Rattle.esm_invoke.proofs.body.BodyReader.advance.Given as goal
 
 abbrev pub invariant-loop : goal.invariant-loop

@@ -2,7 +2,7 @@ use Rattle.std.proofs.Common.{◌+◌, refl, sym, subst, arith, append-nil}
 use Rattle.std.specs.Prelude.{IfOk}
 use Rattle.httparse.specs.Spans.{span_bytes}
 use Rattle.http1.specs.Decoder.{Continues, Starves, Ends}
-use Rattle.esm_invoke.specs.Reading.{TakesPiece}
+use Rattle.esm_invoke.specs.ResponseRead.{TakesPiece}
 use Rattle.esm_invoke.proofs.BodyLemmas.{step_more, step_piece, holds_body, never_past_limit}
 use Rattle.esm_invoke.proofs.body.BodyReader.step.Goals as goal
 

@@ -2,7 +2,7 @@ use Rattle.std.proofs.Common.{rules, ◌≡◌, ◌∙◌, ◌++◌, ℕ, List, 
 use Rattle.esm_record.specs.declared.item.LineKind.{LineKind}
 use Rattle.esm_record.specs.Fed.{fed_bytes}
 use Rattle.esm_record.specs.Input.{input_so_far}
-use Rattle.esm_record.specs.Reading.{HasRead}
+use Rattle.esm_record.specs.Splitting.{HasRead}
 use Rattle.esm_record.proofs.Feeds.{fed_from, fed_to}
 use Rattle.esm_record.proofs.Valid.{so_far_valid}
 use Rattle.esm_record.proofs.lines.Lines.feed.Goals as goal

@@ -2,7 +2,7 @@ use Rattle.std.proofs.Common.{◌≡◌, length, reverse}
 use Rattle.std.specs.Prelude.{All}
 use Rattle.esm_record.specs.Input.{IsValidItem}
 use Rattle.esm_run.specs.Limits.{limited_after}
-use Rattle.esm_run.specs.Reading.{IsWithin, records_in_items}
+use Rattle.esm_run.specs.InputRead.{IsWithin, records_in_items}
 use Rattle.esm_run.proofs.gathered.Gathered.take.Given as goal
 
 abbrev pub invariant-loop-item : goal.invariant-loop-item

@@ -43,10 +43,10 @@ overflow_add-first c =
     let self = c.args.self.now in
     let b = own self c.requires.kept in
     let all : vec_len self.slots ≡ length self.slots.items = search rules in
-    let read = slot_read self.slots.items self.front c.index.result.now (omega (arith, all, c.requires.some)) c.index.ensures in
+    let read = slot_read self.slots.items self.checkpoint c.index.result.now (omega (arith, all, c.requires.some)) c.index.ensures in
     let came = ap (λ (slot : Slot). slot.came) read in
     let w = stream_window self.config b.config in
-    omega (arith, came, b.came_in_time self.front, w)
+    omega (arith, came, b.came_in_time self.checkpoint, w)
 
 pub job-requires-clause-within : goal.job-requires-clause-within
 job-requires-clause-within c =
@@ -58,7 +58,7 @@ pub returns-then-not-ready-clause-answer : goal.returns-then-not-ready-clause-an
 returns-then-not-ready-clause-answer c = λ ts ext.
     let self = c.args.self.now in
     let group = c.args.group.now in
-    let k = self.front in
+    let k = self.checkpoint in
     let count = c.cut-count.result in
     let all : vec_len self.slots ≡ length self.slots.items = search rules in
     let some : k < length self.slots.items = omega (arith, all, c.requires.some) in
@@ -69,13 +69,13 @@ returns-then-not-ready-clause-answer c = λ ts ext.
     let tested : ready_test c.is_none-fresh.result self.config.batch_size count (length group) self.shut c.min-waited.result c.args.now ≡ false = sym c.is_ready-ready.ensures ∙ c.if-not-ready.true in
     let ready = tested_as c.is_none-fresh.result (is_none (slot_at self.slots.items k).mark) self.config.batch_size count (length group) self.shut c.min-waited.result (moment_after (slot_at self.slots.items k).came self.config.window_ms) c.args.now false fresh waited tested in
     ap next.Idle waited
-    ∙ idles_is (over (setting_of self) ts) (past_of self) (table_of self) (c.requires.kept.book ts ext) k c.requires.kept.point c.args.now some group count c.requires.group c.cut-count.ensures.within cut_is c.requires.left c.requires.due ready
+    ∙ idles_is (over (setting_of self) ts) (past_of self) (table_of self) (c.requires.kept.book ts ext) k c.requires.kept.point c.args.now some group count c.requires.group c.cut-count.ensures.within cut_is c.requires.left c.requires.debts ready
 
 pub returns-clause-answer : goal.returns-clause-answer
 returns-clause-answer c = λ ts ext.
     let self = c.args.self.now in
     let group = c.args.group.now in
-    let k = self.front in
+    let k = self.checkpoint in
     let count = c.cut-count.result in
     let all : vec_len self.slots ≡ length self.slots.items = search rules in
     let some : k < length self.slots.items = omega (arith, all, c.requires.some) in
@@ -86,7 +86,7 @@ returns-clause-answer c = λ ts ext.
     let tested : ready_test c.is_none-fresh.result self.config.batch_size count (length group) self.shut c.min-waited.result c.args.now ≡ true = sym c.is_ready-ready.ensures ∙ c.if-not-ready.false in
     let ready = tested_as c.is_none-fresh.result (is_none (slot_at self.slots.items k).mark) self.config.batch_size count (length group) self.shut c.min-waited.result (moment_after (slot_at self.slots.items k).came self.config.window_ms) c.args.now true fresh waited tested in
     ap next.Call (c.in_ok-job.ensures ts ext)
-    ∙ calls_is (over (setting_of self) ts) (past_of self) (table_of self) (c.requires.kept.book ts ext) k c.requires.kept.point c.args.now some group count c.requires.group c.cut-count.ensures.within cut_is c.requires.left c.requires.due ready
+    ∙ calls_is (over (setting_of self) ts) (past_of self) (table_of self) (c.requires.kept.book ts ext) k c.requires.kept.point c.args.now some group count c.requires.group c.cut-count.ensures.within cut_is c.requires.left c.requires.debts ready
 
 pub returns-clause-some : goal.returns-clause-some
 returns-clause-some c =
@@ -94,7 +94,7 @@ returns-clause-some c =
     let group = c.args.group.now in
     let count = c.cut-count.result in
     let all : vec_len self.slots ≡ length self.slots.items = search rules in
-    let any = group_some self.slots.items self.front (self.config.batch_size + 1) c.requires.kept.point (omega (arith, all, c.requires.some)) (omega arith) in
+    let any = group_some self.slots.items self.checkpoint (self.config.batch_size + 1) c.requires.kept.point (omega (arith, all, c.requires.some)) (omega arith) in
     let job : c.in_ok-job.job.places ≡ take count group = ap (λ (j : Job). j.places) (c.in_ok-job.ensures (setting_of self).streams (λ n i r h. h)) in
     let long : length (take count group) ≡ count = length-take-le count group c.cut-count.ensures.within in
     let some : 1 ≤ count = c.cut-count.ensures.some (subst (λ (xs : List ℕ). 1 ≤ length xs) (sym c.requires.group) any) in

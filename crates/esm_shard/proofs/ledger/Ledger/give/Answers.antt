@@ -21,8 +21,8 @@ returns-clause-owing c = λ ds k.
     c.push_reserved.ensures.items ∙ ap (λ (l : LaneId). c.args.self.now.history.items ++ Gave (Some l) l.shard c.args.places c.args.fate None None c.args.self.now.last ∷ []) c.lane-lane.ensures in
     let found = c.fated_from-self.ensures in
     let front = c.fated_from-self.result in
-    let moves : MovesFrom (with_items old new).items c.args.self.now.front front =
-    subst (λ (ss : List Slot). MovesFrom ss c.args.self.now.front front) c.as_slice-2.ensures.value (record { before = found.before; open' = found.at; within = found.within }) in
+    let moves : MovesFrom (with_items old new).items c.args.self.now.checkpoint front =
+    subst (λ (ss : List Slot). MovesFrom ss c.args.self.now.checkpoint front) c.as_slice-2.ensures.value (record { before = found.before; open' = found.at; within = found.within }) in
     owing_gave c.args.self.now (with_items old new) front c.push_reserved.new.self c.args.places c.args.fate ds c.requires.answered
     (λ i low. subst (λ (xs : List Slot). slot_at xs i ≡ fated_slot c.args.places i (slot_at old.items i)) (sym w) (each i low))
     (ap length w ∙ same) e moves k

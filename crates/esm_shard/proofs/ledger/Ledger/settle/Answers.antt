@@ -2,13 +2,13 @@ use Rattle.std.proofs.Common.{◌≡◌, ◌∙◌, sym, ap, subst, arith, ℕ, 
 use Rattle.esm_model.specs.declared.entry.Entry.{Entry}
 use Rattle.esm_model.specs.declared.entry.Entry.TheVariants.{Ended}
 use Rattle.esm_model.specs.Setting.{over}
-use Rattle.esm_model.specs.Owed.{Due}
+use Rattle.esm_model.specs.Owed.{Debt}
 use Rattle.esm_shard.specs.Ending.{given_count}
 use Rattle.esm_shard.specs.Ledger.{Owing, setting_of, past_of, table_of, lane_of_ledger, first_tries, running_places, left_given, success_entries, rest_entries}
 use Rattle.esm_shard.specs.Book.{lane_id}
 use Rattle.std.specs.Prelude.{unwrap_or, Option}
 use Rattle.esm_shard.proofs.Kept.{own}
-use Rattle.esm_shard.proofs.Ends.{dues, pasts, owed_are, plain_given, batch_few, parts_length}
+use Rattle.esm_shard.proofs.Ends.{debts_equal, pasts, owed_are, plain_given, batch_few, parts_length}
 use Rattle.esm_shard.proofs.Marks.{good_within, left_within}
 use Rattle.esm_shard.proofs.ledger.Ledger.settle.Goals as goal
 
@@ -17,9 +17,9 @@ returns-clause-kept c =
     let self = c.args.self.now in
     let parts = c.in_ok-verdict.field-0 in
     let after = c.end.new.self in
-    let due = dues parts.verdict c.args.places.now (running_places self) parts.good parts.left parts.tries (first_tries self (running_places self)) c.requires.runs.batch
+    let debts = debts_equal parts.verdict c.args.places.now (running_places self) parts.good parts.left parts.tries (first_tries self (running_places self)) c.requires.runs.batch
     c.in_ok-verdict.ensures.good c.in_ok-verdict.ensures.left (c.in_ok-verdict.ensures.tries ∙ ap (first_tries self) c.requires.runs.batch) in
-    c.pay_rest.ensures.owing [] (c.pay_good.ensures.owing _ (subst (λ (ds : List Due). Owing after ds) due c.end.ensures.owing))
+    c.pay_rest.ensures.owing [] (c.pay_good.ensures.owing _ (subst (λ (ds : List Debt). Owing after ds) debts c.end.ensures.owing))
 
 pub returns-clause-history : goal.returns-clause-history
 returns-clause-history c = λ ts ext.

@@ -17,4 +17,4 @@ overflow_cast-result c =
 pub returns : goal.returns
 returns c =
     here_spread c.args.self.now c.args.shard c.fated_past.result c.requires.kept c.if-ne.ensures
-    (c.fated_past.ensures.value ∙ ap (λ (ss : List Slot). length (filter (is_fated ss) (drop c.args.self.now.front (below (length ss))))) c.as_slice.ensures.value)
+    (c.fated_past.ensures.value ∙ ap (λ (ss : List Slot). length (filter (is_fated ss) (drop c.args.self.now.checkpoint (below (length ss))))) c.as_slice.ensures.value)

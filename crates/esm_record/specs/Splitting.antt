@@ -1,0 +1,31 @@
+-- What a reader of lines keeps of what it has read. Only private contracts cite these.
+use Rattle.std.specs.Prelude.{◌≡◌, ℕ, ◌≤◌, false, List, [], ◌∷◌, ◌++◌, length, IsNone}
+use Rattle.std.specs.List.{All}
+use Rattle.esm_record.specs.declared.item.Item.{Item}
+use Rattle.esm_record.specs.declared.splitter.Splitter.{Splitter}
+use Rattle.esm_record.specs.Input.{MAX_LINE, Input, is_line_feed, lines_of, begun, input_so_far}
+use Rattle.esm_record.specs.Numbers.{Follows}
+
+abbrev pub NoLineFeed : List ℕ → Type 0
+NoLineFeed bytes = All (λ b. is_line_feed b ≡ false) bytes
+
+-- the bytes up to the first line feed, and what follows it
+pub record IsFirstLine (bytes line after : List ℕ) : Type 0 where
+  pub parts : bytes ≡ line ++ 10 ∷ after
+  pub none : NoLineFeed line
+
+-- the reader stands at the end of this input, whose items are those before the call and the call's
+pub record Stands (input : Input) (before given : List Item) (r : Splitter) : Type 0 where
+  pub items : input.items ≡ before ++ given
+  pub bad : input.bad ≡ r.bad
+  pub lines : IsNone r.bad → input.lines ≡ r.good
+  pub last : IsNone r.bad → Follows input.items r.last
+
+-- the reader was fed these bytes
+pub record HasRead (bytes : List ℕ) (before given : List Item) (r : Splitter) : Type 0 where
+  pub stands : Stands (input_so_far r.kind bytes) before given r
+  pub line : IsNone r.bad → begun (lines_of bytes) ≡ r.begun.items
+  pub short : IsNone r.bad → length r.begun.items ≤ MAX_LINE
+
+abbrev pub IsFed : List ℕ → Splitter → Type 0
+IsFed bytes r = HasRead bytes [] (input_so_far r.kind bytes).items r
