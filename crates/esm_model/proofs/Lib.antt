@@ -13,6 +13,7 @@ pub mod WorkedFacts
 pub mod Counts
 pub mod Fits
 pub mod Histories
+pub mod Earning
 pub mod Owing
 pub mod OtherLanes
 pub mod CallsMade

@@ -26,6 +26,7 @@ pub mod Batches
 pub mod FailureLine
 pub mod Owed
 pub mod Step
+pub mod Earned
 pub mod Laws
 pub mod Worked
 pub mod Kept

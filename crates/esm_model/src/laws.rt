@@ -5,6 +5,7 @@ ghost use Rattle.esm_model.specs.declared.lane.LaneId.{LaneId};
 ghost use Rattle.esm_model.specs.declared.entry.Entry.{Entry};
 ghost use Rattle.esm_model.specs.Setting.{Setting, Stream, Extends, over};
 ghost use Rattle.esm_model.specs.Step.{Legal};
+ghost use Rattle.esm_model.specs.Earned.{FateIsEarned};
 ghost use Rattle.esm_model.specs.Laws.{OrderPerKey, OneFate, NoRepeat, EveryRecordCounted, CheckpointKept, CheckpointIsLongest, BatchIsLongest};
 
 /// In a legal history no batch overtakes an earlier record of one of its keys.
@@ -15,6 +16,11 @@ pub fn order_per_key()
 /// A legal history gives each place one fate at most, and none where one was found.
 pub fn one_fate()
     ensures { (s : Setting) (h : List Entry) → Legal s h → OneFate s h }
+{}
+
+/// In a legal history each fate is earned: by the end of a call, by the age or by the filter.
+pub fn fate_is_earned()
+    ensures { (s : Setting) (h : List Entry) → Legal s h → FateIsEarned s h }
 {}
 
 /// A legal history never calls with a record that has a found fate or was given one.
