@@ -1,5 +1,5 @@
 -- The calls of a batcher stay when the history goes on, and so does the number of a lane's batcher.
-use Rattle.std.proofs.Common.{◌≡◌, ℕ, ◌+◌, ◌*◌, ◌≤◌, Bool, true, false, not, cond, List, [], ◌∷◌, ◌++◌, refl, sym, ap, ◌∙◌, subst, inl, inr, arith, append_assoc}
+use Rattle.std.proofs.Common.{◌≡◌, ℕ, ◌+◌, ◌*◌, ◌≤◌, Bool, true, false, not, cond, ◌||◌, List, [], ◌∷◌, ◌++◌, refl, sym, ap, ◌∙◌, subst, inl, inr, arith, append_assoc}
 use Rattle.std.specs.Prelude.{◌==◌}
 use Rattle.std.specs.List.{prefix_len}
 use Rattle.std.proofs.lemmas.List.{append-nil}
@@ -9,32 +9,59 @@ use Rattle.esm_model.specs.declared.entry.Entry.{Entry}
 use Rattle.esm_model.specs.declared.entry.Entry.TheVariants.{Came, Began, Ended, Gave, Tried, Closed, Replayed, Shut}
 use Rattle.esm_model.specs.Setting.{Setting}
 use Rattle.esm_model.specs.Entries.{holds, came_count, shards_that_came, batcher}
-use Rattle.esm_model.specs.Calls.{calls, last_event}
+use Rattle.esm_model.specs.Calls.{calls, calls_after, calls_since, is_end_of, has_end_of, last_event}
 use Rattle.esm_model.specs.declared.called.Called.{Called}
+use Rattle.esm_model.specs.Laws.{CallsKept}
 use Rattle.esm_model.proofs.Lists.{In, In-append_left, In-append_right, In-here}
 
--- one more entry adds at most one call
-calls_more : (s : Setting) (sends : List ℕ → List ℕ) (e : Entry) (h : List Entry) (k : ℕ) → (rest : List Called) × (calls s sends (e ∷ h) k ≡ calls s sends h k ++ rest)
-calls_more s sends (Ended lane reply m) h k =
+-- a call is added behind those that stand
+adds_behind : (s : Setting) (sends : List ℕ → List ℕ) (h : List Entry) (k : ℕ) (xs ys : List Called) (e : Entry) → calls_after s sends h k (xs ++ ys) e ≡ xs ++ calls_after s sends h k ys e
+adds_behind s sends h k xs ys (Ended lane reply m) =
     elim (cases_Bool (batcher s h lane == k)) [
-      | inl same ↦ (record { name = s.config.function; event = sends (last_event s h lane); reply = reply } ∷ [], rw same)
-      | inr other ↦ ([], rw other (sym (append-nil (calls s sends h k))))
+      | inl same ↦ rw same (append_assoc xs ys (record { name = s.config.function; event = sends (last_event s h lane); reply = reply } ∷ []))
+      | inr other ↦ rw other refl
     ]
-calls_more s sends (Came n first count m) h k = ([], sym (append-nil (calls s sends h k)))
-calls_more s sends (Began lane places closing m) h k = ([], sym (append-nil (calls s sends h k)))
-calls_more s sends (Gave by n places f line state m) h k = ([], sym (append-nil (calls s sends h k)))
-calls_more s sends (Tried lane places closing t m) h k = ([], sym (append-nil (calls s sends h k)))
-calls_more s sends (Closed lane w m) h k = ([], sym (append-nil (calls s sends h k)))
-calls_more s sends (Replayed n places m) h k = ([], sym (append-nil (calls s sends h k)))
-calls_more s sends (Shut m) h k = ([], sym (append-nil (calls s sends h k)))
+adds_behind s sends h k xs ys (Came n first count m) = refl
+adds_behind s sends h k xs ys (Began lane places closing m) = refl
+adds_behind s sends h k xs ys (Gave by n places f line state m) = refl
+adds_behind s sends h k xs ys (Tried lane places closing t m) = refl
+adds_behind s sends h k xs ys (Closed lane w m) = refl
+adds_behind s sends h k xs ys (Replayed n places m) = refl
+adds_behind s sends h k xs ys (Shut m) = refl
 
 -- the calls of a history begin those of each history that goes on from it
-pub calls_kept : (s : Setting) (sends : List ℕ → List ℕ) (later before : List Entry) (k : ℕ) → (rest : List Called) × (calls s sends (later ++ before) k ≡ calls s sends before k ++ rest)
-calls_kept s sends [] before k = ([], sym (append-nil (calls s sends before k)))
-calls_kept s sends (e ∷ later) before k =
-    let so_far = calls_kept s sends later before k in
-    let more = calls_more s sends e (later ++ before) k in
-    (so_far.0 ++ more.0, more.1 ∙ ap (λ cs. cs ++ more.0) so_far.1 ∙ append_assoc (calls s sends before k) so_far.0 more.0)
+calls_front : (s : Setting) (sends : List ℕ → List ℕ) (later before : List Entry) (k : ℕ) → calls s sends (later ++ before) k ≡ calls s sends before k ++ calls_since s sends later before k
+calls_front s sends [] before k = sym (append-nil (calls s sends before k))
+calls_front s sends (e ∷ later) before k =
+    ap (λ cs. calls_after s sends (later ++ before) k cs e) (calls_front s sends later before k)
+    ∙ adds_behind s sends (later ++ before) k (calls s sends before k) (calls_since s sends later before k) e
+
+either_false : (a b : Bool) → (a || b) ≡ false → (a ≡ false) × (b ≡ false)
+either_false true b is = cc
+either_false false b is = (refl, is)
+
+-- an entry that ends no call of the batcher adds none
+adds_none : (s : Setting) (sends : List ℕ → List ℕ) (h : List Entry) (k : ℕ) (xs : List Called) (e : Entry) → is_end_of s h k e ≡ false → calls_after s sends h k xs e ≡ xs
+adds_none s sends h k xs (Ended lane reply m) none = rw none refl
+adds_none s sends h k xs (Came n first count m) none = refl
+adds_none s sends h k xs (Began lane places closing m) none = refl
+adds_none s sends h k xs (Gave by n places f line state m) none = refl
+adds_none s sends h k xs (Tried lane places closing t m) none = refl
+adds_none s sends h k xs (Closed lane w m) none = refl
+adds_none s sends h k xs (Replayed n places m) none = refl
+adds_none s sends h k xs (Shut m) none = refl
+
+none_since : (s : Setting) (sends : List ℕ → List ℕ) (later before : List Entry) (k : ℕ) → has_end_of s later before k ≡ false → calls_since s sends later before k ≡ []
+none_since s sends [] before k none = refl
+none_since s sends (e ∷ later) before k none =
+    let parts = either_false (is_end_of s (later ++ before) k e) (has_end_of s later before k) none in
+    adds_none s sends (later ++ before) k (calls_since s sends later before k) e parts.0 ∙ none_since s sends later before k parts.1
+
+pub calls_go_on : (s : Setting) (sends : List ℕ → List ℕ) (later before : List Entry) (k : ℕ) → CallsKept s sends later before k
+calls_go_on s sends later before k = record {
+  kept = calls_front s sends later before k;
+  same = λ none. calls_front s sends later before k ∙ ap (λ cs. calls s sends before k ++ cs) (none_since s sends later before k none) ∙ append-nil (calls s sends before k);
+}
 
 -- a shard that came stands in the list of those that did
 pub came_shard : (h : List Entry) (n : ℕ) → 1 ≤ came_count h n → In (shards_that_came h) n

@@ -11,6 +11,7 @@ pub mod Sound
 pub mod Paid
 pub mod WorkedFacts
 pub mod Counts
+pub mod Coming
 pub mod Fits
 pub mod Histories
 pub mod Earning
@@ -21,6 +22,7 @@ pub mod Settling
 pub mod OneLane
 pub mod Growing
 pub mod Records
+pub mod CallsOver
 pub mod Extended
 pub mod Unchanged
 pub mod NumberLemmas

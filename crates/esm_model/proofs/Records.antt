@@ -256,12 +256,12 @@ pub window_call_agree : (s : Setting) (h now : List Entry) (n : ℕ) (places : L
 window_call_agree s h now n places closing same =
     ap (λ o. cond (has_windows s.config) (Some (record { shard = n; state = record { window = window_of_call s n places closing; text = unwrap_or o (codes "{}") }; closing = is_some closing })) None) same
 
-window_call_same : (s : Setting) (after : List Stream) (h : List Entry) (n : ℕ) (places : List ℕ) (closing : Option ℕ) → window_of_call (over s after) n places closing ≡ window_of_call s n places closing → window_call (over s after) h n places closing ≡ window_call s h n places closing
+pub window_call_same : (s : Setting) (after : List Stream) (h : List Entry) (n : ℕ) (places : List ℕ) (closing : Option ℕ) → window_of_call (over s after) n places closing ≡ window_of_call s n places closing → window_call (over s after) h n places closing ≡ window_call s h n places closing
 window_call_same s after h n places closing is =
     ap (λ w. cond (has_windows s.config) (Some (record { shard = n; state = record { window = w; text = window_state (over s after) h n w }; closing = is_some closing })) None) is
     ∙ ap (λ o. cond (has_windows s.config) (Some (record { shard = n; state = record { window = window_of_call s n places closing; text = unwrap_or o (codes "{}") }; closing = is_some closing })) None) (kept_same s after h n (window_of_call s n places closing))
 
-event_same : (s : Setting) (after : List Stream) (h : List Entry) → SameRecords s after h → (n x : ℕ) (xs : List ℕ) → Covered h n (x ∷ xs) → event_of (over s after) h n (x ∷ xs) None ≡ event_of s h n (x ∷ xs) None
+pub event_same : (s : Setting) (after : List Stream) (h : List Entry) → SameRecords s after h → (n x : ℕ) (xs : List ℕ) → Covered h n (x ∷ xs) → event_of (over s after) h n (x ∷ xs) None ≡ event_of s h n (x ∷ xs) None
 event_same s after h same n x xs covered =
     ap (λ rs. event_text s.config rs (window_call (over s after) h n (x ∷ xs) None)) (records_same s after h same n (x ∷ xs) covered)
     ∙ ap (event_text s.config (records_at s n (x ∷ xs))) (window_call_same s after h n (x ∷ xs) None (window_same s after h same n x (covered x (In-here x xs x refl))))

@@ -1,6 +1,6 @@
 -- The event of a call, and the calls of a batcher. Source of the event: the Lambda Developer Guide, event source
 -- mappings for Kinesis (the record event, and `window`, `state` and `isFinalInvokeForWindow` of tumbling windows).
-use Rattle.std.specs.Prelude.{ℕ, ◌==◌, List, [], ◌∷◌, ◌++◌, Option, Some, None, unwrap_or, slice_index, is_some, if◌then◌else◌}
+use Rattle.std.specs.Prelude.{ℕ, ◌==◌, Bool, false, ◌||◌, List, [], ◌∷◌, ◌++◌, Option, Some, None, unwrap_or, slice_index, is_some, if◌then◌else◌}
 use Rattle.esm_model.specs.Lane.{same_lane}
 use Rattle.esm_model.specs.declared.lane.LaneId.{LaneId}
 use Rattle.esm_model.specs.declared.entry.Entry.{Entry}
@@ -54,3 +54,20 @@ calls_after s sends h k before _ = before
 abbrev pub calls : Setting → (List ℕ → List ℕ) → List Entry → ℕ → List Called
 calls s sends [] k = []
 calls s sends (e ∷ h) k = calls_after s sends h k (calls s sends h k) e
+
+-- what a history adds to the one that it follows
+
+-- the calls of the batcher that end in `later`, oldest first
+abbrev pub calls_since : Setting → (List ℕ → List ℕ) → (later before : List Entry) → ℕ → List Called
+calls_since s sends [] before k = []
+calls_since s sends (e ∷ later) before k = calls_after s sends (later ++ before) k (calls_since s sends later before k) e
+
+-- the entry, which follows the history, ends a call of the batcher
+abbrev pub is_end_of : Setting → List Entry → ℕ → Entry → Bool
+is_end_of s h k (Ended lane reply moment) = batcher s h lane == k
+is_end_of s h k _ = false
+
+-- some entry of `later` does
+abbrev pub has_end_of : Setting → (later before : List Entry) → ℕ → Bool
+has_end_of s [] before k = false
+has_end_of s (e ∷ later) before k = is_end_of s (later ++ before) k e || has_end_of s later before k

@@ -34,13 +34,22 @@ abbrev pub came_after : ℕ → ℕ → Entry → ℕ
 came_after n before (Came shard first count moment) = if shard == n then count + before else before
 came_after n before _ = before
 
--- how many records of the shard came: those at the places below this number
+-- how many records of the shard came; in a legal history they are those at the places below this number
 abbrev pub came_count : List Entry → ℕ → ℕ
 came_count [] n = 0
 came_count (e ∷ h) n = came_after n (came_count h n) e
 
+-- the entry is a `Came` that covers the place
+abbrev pub covers : ℕ → ℕ → Entry → Bool
+covers n i (Came shard first count moment) = (shard == n) && (nat_le first i && nat_lt i (first + count))
+covers n i _ = false
+
+-- the record at the place came: a `Came` covers it
+abbrev pub has_come : List Entry → ℕ → ℕ → Bool
+has_come h n i = list_any (covers n i) h
+
 abbrev pub came_moment_after : ℕ → ℕ → ℕ → Entry → ℕ
-came_moment_after n i before (Came shard first count moment) = if (shard == n) && (nat_le first i && nat_lt i (first + count)) then moment else before
+came_moment_after n i before (Came shard first count moment) = if covers n i (Came shard first count moment) then moment else before
 came_moment_after n i before _ = before
 
 -- the moment of the `Came` that covers the place

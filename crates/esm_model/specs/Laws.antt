@@ -8,10 +8,11 @@ use Rattle.esm_model.specs.declared.entry.Fate.TheVariants.{Succeeded, Filtered,
 use Rattle.esm_model.specs.declared.entry.WindowState.{WindowState}
 use Rattle.esm_model.specs.declared.entry.Entry.{Entry}
 use Rattle.esm_model.specs.declared.entry.Entry.TheVariants.{Began, Gave}
-use Rattle.esm_model.specs.Setting.{Setting, record_at, found_fate}
-use Rattle.esm_model.specs.Entries.{holds, came_count}
+use Rattle.esm_model.specs.Setting.{Setting, Stream, over, record_at, found_fate}
+use Rattle.esm_model.specs.Entries.{holds, came_count, has_come}
 use Rattle.esm_model.specs.Fates.{fate, names_place, fate_count, open_count}
 use Rattle.esm_model.specs.Checkpoint.{checkpoint}
+use Rattle.esm_model.specs.Calls.{calls, calls_since, has_end_of}
 use Rattle.esm_model.specs.Batches.{group, batch, fits}
 
 -- no batch begins before every earlier record of a key in it has its fate, or is in it too
@@ -44,6 +45,11 @@ EveryRecordCounted s h =
 abbrev pub CheckpointKept : Setting → List Entry → List Entry → Type 0
 CheckpointKept s later before = (n : ℕ) → checkpoint s before n ≤ checkpoint s (later ++ before) n
 
+-- a record of the shard came where its place is below the number of those that did
+pub record HasComeBelow (h : List Entry) (n i : ℕ) : Type 0 where
+  pub below : IsTrue (has_come h n i) → i < came_count h n
+  pub covered : i < came_count h n → IsTrue (has_come h n i)
+
 -- each record before the checkpoint has a fate, and the checkpoint is the greatest number of the records that came of
 -- which this holds
 pub record CheckpointIsLongest (s : Setting) (h : List Entry) (n : ℕ) : Type 0 where
@@ -61,3 +67,12 @@ pub record IsLongestPrefix (meets : List ℕ → Bool) (xs prefix : List ℕ) : 
 -- the batch is the longest prefix of the group that meets the four limits
 abbrev pub BatchIsLongest : Setting → List Entry → LaneId → ℕ → Type 0
 BatchIsLongest s h lane m = IsLongestPrefix (fits s h lane.shard m) (group s h lane) (batch s h lane m)
+
+-- what follows a history adds to the calls of a batcher those that end in it, and leaves them where none does
+pub record CallsKept (s : Setting) (sends : List ℕ → List ℕ) (later before : List Entry) (k : ℕ) : Type 0 where
+  pub kept : calls s sends (later ++ before) k ≡ calls s sends before k ++ calls_since s sends later before k
+  pub same : has_end_of s later before k ≡ false → calls s sends (later ++ before) k ≡ calls s sends before k
+
+-- lists of records that go on from the setting's own leave the calls of a batcher
+abbrev pub CallsKeptOver : Setting → (List ℕ → List ℕ) → List Entry → ℕ → List Stream → Type 0
+CallsKeptOver s sends h k after = calls (over s after) sends h k ≡ calls s sends h k

@@ -26,6 +26,8 @@ pub mod Batches
 pub mod FailureLine
 pub mod Owed
 pub mod Step
+pub mod Settings
+pub mod CallBound
 pub mod Earned
 pub mod Laws
 pub mod Worked

@@ -6,7 +6,7 @@ ghost use Rattle.esm_model.specs.declared.entry.Entry.{Entry};
 ghost use Rattle.esm_model.specs.Setting.{Setting, Stream, Extends, over};
 ghost use Rattle.esm_model.specs.Step.{Legal};
 ghost use Rattle.esm_model.specs.Earned.{FateIsEarned};
-ghost use Rattle.esm_model.specs.Laws.{OrderPerKey, OneFate, NoRepeat, EveryRecordCounted, CheckpointKept, CheckpointIsLongest, BatchIsLongest};
+ghost use Rattle.esm_model.specs.Laws.{OrderPerKey, OneFate, NoRepeat, EveryRecordCounted, CheckpointKept, CheckpointIsLongest, HasComeBelow, BatchIsLongest, CallsKept, CallsKeptOver};
 
 /// In a legal history no batch overtakes an earlier record of one of its keys.
 pub fn order_per_key()
@@ -43,6 +43,11 @@ pub fn checkpoint_is_longest()
     ensures { (s : Setting) (h : List Entry) (n : ℕ) → CheckpointIsLongest s h n }
 {}
 
+/// In a legal history records came in order: the places that came are those below the number of records that did.
+pub fn has_come_below()
+    ensures { (s : Setting) (h : List Entry) (n i : ℕ) → Legal s h → HasComeBelow h n i }
+{}
+
 /// A batch is the longest prefix of its lane's group that meets the four limits.
 pub fn batch_is_longest()
     ensures { (s : Setting) (h : List Entry) (lane : LaneId) (m : ℕ) → BatchIsLongest s h lane m }
@@ -51,4 +56,14 @@ pub fn batch_is_longest()
 /// A history that is legal over some lists of records is legal over all lists that go on from them.
 pub fn legal_over_more_records()
     ensures { (s : Setting) (h : List Entry) (after : List Stream) → Extends s.streams after → Legal s h → Legal (over s after) h }
+{}
+
+/// The calls of a batcher, with their event texts, stay when the history goes on.
+pub fn calls_kept()
+    ensures { (s : Setting) (sends : List ℕ → List ℕ) (later before : List Entry) (batcher : ℕ) → CallsKept s sends later before batcher }
+{}
+
+/// In a legal history they stay when the lists of records go on.
+pub fn calls_kept_over_more_records()
+    ensures { (s : Setting) (sends : List ℕ → List ℕ) (h : List Entry) (batcher : ℕ) (after : List Stream) → Extends s.streams after → Legal s h → CallsKeptOver s sends h batcher after }
 {}
