@@ -1,10 +1,11 @@
 -- How many calls suffice for a history's records and windows, where the retries are finite: each call gives a fate, adds
 -- a try, cuts a batch between two records, closes a window, or was not run. This product's own.
-use Rattle.std.specs.Prelude.{ℕ, suc, ◌+◌, ◌*◌, ◌==◌, Bool, true, false, ◌&&◌, List, [], ◌∷◌, ◌++◌, length, map, Option, Some, None, unwrap_or, is_some, if◌then◌else◌}
+use Rattle.std.specs.Prelude.{◌≡◌, ℕ, suc, ◌+◌, ◌*◌, ◌==◌, Bool, true, false, ◌&&◌, List, [], ◌∷◌, ◌++◌, length, map, Option, Some, None, unwrap_or, is_some, if◌then◌else◌}
 use Rattle.std.specs.List.{list_any, flat_map}
 use Rattle.esm_model.specs.declared.entry.Reply.{Reply}
+use Rattle.esm_model.specs.declared.entry.Reply.TheVariants.{Answered}
 use Rattle.esm_model.specs.declared.entry.Entry.{Entry}
-use Rattle.esm_model.specs.declared.entry.Entry.TheVariants.{Came, Ended}
+use Rattle.esm_model.specs.declared.entry.Entry.TheVariants.{Came, Began, Ended}
 use Rattle.esm_model.specs.declared.verdict.Reading.{Reading}
 use Rattle.esm_model.specs.declared.verdict.Reading.TheVariants.{NotRun}
 use Rattle.esm_model.specs.declared.setup.FoundState.{FoundState}
@@ -82,3 +83,17 @@ calls_needed retries records windows not_run = records * (retries + 3) + windows
 -- of a history
 abbrev pub call_bound : Setting → List Entry → ℕ
 call_bound s h = calls_needed (unwrap_or s.config.retries 0) (record_count h) (window_count s h) (not_run_count s h)
+
+-- a worked number
+
+-- three records of one shard came, and the first call of them was throttled
+abbrev pub throttled_once : List Entry
+throttled_once =
+    Ended (record { shard = 0; lane = 0 }) (Answered 429 false []) 1
+    ∷ Began (record { shard = 0; lane = 0 }) (0 ∷ 1 ∷ 2 ∷ []) None 0
+    ∷ Came 0 0 3 0
+    ∷ []
+
+-- with two retry attempts and no tumbling windows: five calls a record, and the one that was not run
+abbrev pub BoundOfThree : Type 0
+BoundOfThree = (s : Setting) → s.config.retries ≡ Some 2 → s.config.tumbling_ms ≡ 0 → call_bound s throttled_once ≡ 16

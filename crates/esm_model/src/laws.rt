@@ -5,6 +5,7 @@ ghost use Rattle.esm_model.specs.declared.lane.LaneId.{LaneId};
 ghost use Rattle.esm_model.specs.declared.entry.Entry.{Entry};
 ghost use Rattle.esm_model.specs.Setting.{Setting, Stream, Extends, over};
 ghost use Rattle.esm_model.specs.Step.{Legal};
+ghost use Rattle.esm_model.specs.CallBound.{BoundOfThree};
 ghost use Rattle.esm_model.specs.Earned.{FateIsEarned};
 ghost use Rattle.esm_model.specs.Laws.{OrderPerKey, OneFate, NoRepeat, EveryRecordCounted, CheckpointKept, CheckpointIsLongest, HasComeBelow, BatchIsLongest, CallsKept, CallsKeptOver};
 
@@ -66,4 +67,9 @@ pub fn calls_kept()
 /// In a legal history they stay when the lists of records go on.
 pub fn calls_kept_over_more_records()
     ensures { (s : Setting) (sends : List ℕ → List ℕ) (h : List Entry) (batcher : ℕ) (after : List Stream) → Extends s.streams after → Legal s h → CallsKeptOver s sends h batcher after }
+{}
+
+/// Three records with two retry attempts need at most fifteen calls, and one more for a reply that was not run.
+pub fn calls_for_three_records()
+    ensures { BoundOfThree }
 {}
