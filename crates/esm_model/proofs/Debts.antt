@@ -1,6 +1,9 @@
 -- The places of what a lane owes, and the entries that pay it.
-use Rattle.std.proofs.Common.{◌≡◌, ℕ, List, [], ◌∷◌, ◌++◌, take, drop, map, refl, sym, ap, ◌∙◌, Option, Some, None, append_assoc}
-use Rattle.std.specs.Prelude.{slice_get}
+use Rattle.std.proofs.Common.{◌≡◌, ℕ, true, List, [], ◌∷◌, ◌++◌, take, drop, map, refl, sym, ap, ◌∙◌, subst, Option, Some, None, append_assoc}
+use Rattle.std.specs.Prelude.{◌==◌, nat_eq, slice_get}
+use Rattle.std.specs.Option.{option_eq}
+use Rattle.std.proofs.lemmas.Bool.{eq-eqb}
+use Rattle.std.proofs.lemmas.Slice.Eq.{bytes_eq-Decides}
 use Rattle.std.proofs.lemmas.List.{append-nil, take-append-drop}
 use Rattle.esm_model.specs.declared.entry.Fate.{Fate}
 use Rattle.esm_model.specs.declared.lane.LaneId.{LaneId}
@@ -14,8 +17,9 @@ use Rattle.esm_model.specs.declared.verdict.Verdict.{Verdict}
 use Rattle.esm_model.specs.Setting.{Setting}
 use Rattle.esm_model.specs.Entries.{Call, last_moment, last_call, batch_of}
 use Rattle.esm_model.specs.Tries.{tries_of, verdict_after}
-use Rattle.esm_model.specs.Owed.{Debt, Success, GiveUp, Try, Close, debts, debt_entry, success_debts, give_up_debts, close_debts, rest_debts, verdict_debts, call_debts, end_debts, new_state, IsOwed}
+use Rattle.esm_model.specs.Owed.{Debt, Success, GiveUp, Try, Close, debts, debt_entry, success_debts, give_up_debts, close_debts, rest_debts, verdict_debts, call_debts, end_debts, new_state, same_places, pays, IsOwed}
 use Rattle.esm_model.proofs.Lists.{IsFront}
+use Rattle.esm_model.proofs.Steps.{same_lane-refl}
 
 -- the places that an entry gives a fate
 abbrev pub gave_places : Entry → List ℕ
@@ -62,6 +66,37 @@ pub first_debt : (s : Setting) (h : List Entry) (lane : LaneId) (e : Entry) → 
 first_debt s h lane e is =
     let found = first_at (debt_entry s h lane (last_moment h)) (debts s h lane) e is in
     record { first = found.0; parts = found.1; brings = found.2; places = sym (gives_places s h lane (last_moment h) found.0) ∙ ap gave_places found.2 }
+
+-- the entry of the first debt pays it
+
+option_eq-refl : (o : Option ℕ) → option_eq nat_eq o o ≡ true
+option_eq-refl None = refl
+option_eq-refl (Some x) = eq-eqb x x refl
+
+same_places-refl : (xs : List ℕ) → same_places xs xs ≡ true
+same_places-refl xs = (bytes_eq-Decides xs xs).1 refl
+
+pub pays_own : (s : Setting) (h : List Entry) (lane : LaneId) (m : ℕ) (d : Debt) (ds rest : List Debt) → ds ≡ d ∷ rest → pays lane ds (debt_entry s h lane m d) ≡ true
+pays_own s h lane m (Success places state) ds rest is = rw (is, same_lane-refl lane, same_places-refl places) (eq-eqb lane.shard lane.shard refl)
+pays_own s h lane m (GiveUp places) ds rest is = rw (is, same_lane-refl lane, same_places-refl places) (eq-eqb lane.shard lane.shard refl)
+pays_own s h lane m (Try places closing tries) ds rest is = rw (is, same_lane-refl lane, same_places-refl places, option_eq-refl closing) (eq-eqb tries tries refl)
+pays_own s h lane m (Close window) ds rest is = rw (is, same_lane-refl lane) (eq-eqb window window refl)
+
+-- and takes it from what the lane owes
+pub debt_brought : (s : Setting) (h : List Entry) (lane : LaneId) (m : ℕ) (d : Debt) (rest : List Debt) → debts s h lane ≡ d ∷ rest → debts s (debt_entry s h lane m d ∷ h) lane ≡ drop 1 (debts s h lane)
+debt_brought s h lane m d rest is = pay d (pays_own s h lane m d (debts s h lane) rest is)
+  where
+    pay : (d : Debt) → pays lane (debts s h lane) (debt_entry s h lane m d) ≡ true → debts s (debt_entry s h lane m d ∷ h) lane ≡ drop 1 (debts s h lane)
+    pay (Success places state) pays_it = rw pays_it refl
+    pay (GiveUp places) pays_it = rw pays_it refl
+    pay (Try places closing tries) pays_it = rw pays_it refl
+    pay (Close window) pays_it = rw pays_it refl
+
+-- so does the first entry that is owed
+pub debt_paid : (s : Setting) (h : List Entry) (lane : LaneId) (e : Entry) → IsOwed s h lane e → debts s (e ∷ h) lane ≡ drop 1 (debts s h lane)
+debt_paid s h lane e owed =
+    let first = first_debt s h lane e owed in
+    subst (λ x. debts s (x ∷ h) lane ≡ drop 1 (debts s h lane)) first.brings (debt_brought s h lane (last_moment h) first.first (drop 1 (debts s h lane)) first.parts)
 
 -- what an end makes the lane owe is a front of its batch
 

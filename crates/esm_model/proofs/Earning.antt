@@ -28,7 +28,7 @@ use Rattle.esm_model.specs.Reading.{reading}
 use Rattle.esm_model.specs.Ruling.{ruling, after_try}
 use Rattle.esm_model.specs.Tries.{tries_of, call_verdict, verdict_on, verdict_after}
 use Rattle.esm_model.specs.Batches.{is_expired, is_older, group}
-use Rattle.esm_model.specs.Owed.{Debt, Success, GiveUp, Try, Close, debts, debt_entry, success_debts, give_up_debts, close_debts, rest_debts, verdict_debts, call_debts, new_state, is_refused, is_unsorted, IsOwed}
+use Rattle.esm_model.specs.Owed.{Debt, Success, GiveUp, Try, Close, debts, debt_entry, success_debts, give_up_debts, close_debts, rest_debts, verdict_debts, call_debts, new_state, pays, is_refused, is_unsorted, IsOwed}
 use Rattle.esm_model.specs.Step.{Legal, MayFilter, MayExpire, MayGive}
 use Rattle.esm_model.specs.Earned.{is_call_of, LastEnd, verdict_at, tries_at, HaveSucceeded, AreExhausted, IsTooOld, IsFilteredOut, HaveExpired, IsEarned, FateIsEarned}
 use Rattle.esm_model.proofs.Lists.{In, In-none, In-cases, In-filter, In-take}
@@ -104,9 +104,9 @@ comes s (Ended at reply m ∷ h) lane =
       | inr other ↦ rw other (goes_on s (Ended at reply m) h lane (debts s h lane) other (comes s h lane))
     ]
 comes s (Gave None n places f line state m ∷ h) lane = goes_on s (Gave None n places f line state m) h lane (debts s h lane) refl (comes s h lane)
-comes s (Gave (Some at) n places f line state m ∷ h) lane = goes_on s (Gave (Some at) n places f line state m) h lane (debts s (Gave (Some at) n places f line state m ∷ h) lane) refl (less s h lane (same_lane at lane) (debts s h lane) (comes s h lane))
-comes s (Tried at places closing t m ∷ h) lane = goes_on s (Tried at places closing t m) h lane (debts s (Tried at places closing t m ∷ h) lane) refl (less s h lane (same_lane at lane) (debts s h lane) (comes s h lane))
-comes s (Closed at w m ∷ h) lane = goes_on s (Closed at w m) h lane (debts s (Closed at w m ∷ h) lane) refl (less s h lane (same_lane at lane) (debts s h lane) (comes s h lane))
+comes s (Gave (Some at) n places f line state m ∷ h) lane = goes_on s (Gave (Some at) n places f line state m) h lane (debts s (Gave (Some at) n places f line state m ∷ h) lane) refl (less s h lane (pays lane (debts s h lane) (Gave (Some at) n places f line state m)) (debts s h lane) (comes s h lane))
+comes s (Tried at places closing t m ∷ h) lane = goes_on s (Tried at places closing t m) h lane (debts s (Tried at places closing t m ∷ h) lane) refl (less s h lane (pays lane (debts s h lane) (Tried at places closing t m)) (debts s h lane) (comes s h lane))
+comes s (Closed at w m ∷ h) lane = goes_on s (Closed at w m) h lane (debts s (Closed at w m ∷ h) lane) refl (less s h lane (pays lane (debts s h lane) (Closed at w m)) (debts s h lane) (comes s h lane))
 comes s (Came n first count m ∷ h) lane = goes_on s (Came n first count m) h lane (debts s h lane) refl (comes s h lane)
 comes s (Replayed n places m ∷ h) lane = goes_on s (Replayed n places m) h lane (debts s h lane) refl (comes s h lane)
 comes s (Shut m ∷ h) lane = goes_on s (Shut m) h lane (debts s h lane) refl (comes s h lane)

@@ -22,7 +22,7 @@ use Rattle.esm_model.specs.Tries.{tries_of, verdict_after}
 use Rattle.esm_model.specs.Windows.{has_windows}
 use Rattle.esm_model.specs.Calls.{window_of_call}
 use Rattle.esm_model.specs.Batches.{is_expired, group}
-use Rattle.esm_model.specs.Owed.{Debt, Success, GiveUp, Try, Close, debts, debt_entry, state_in_reply, success_debts, give_up_debts, close_debts, rest_debts, verdict_debts, call_debts, end_debts, new_state, owed, is_refused, is_unsorted, unsorted, IsOwed, Settled}
+use Rattle.esm_model.specs.Owed.{Debt, Success, GiveUp, Try, Close, debts, debt_entry, state_in_reply, success_debts, give_up_debts, close_debts, rest_debts, verdict_debts, call_debts, end_debts, new_state, pays, owed, is_refused, is_unsorted, unsorted, IsOwed, Settled}
 use Rattle.esm_model.specs.Step.{Legal, MayFollow, MayCome, MayCall, MayExpire}
 use Rattle.esm_model.proofs.Lists.{In, In-here, In-there, In-below, In-drop, take_while_agree}
 use Rattle.esm_model.proofs.Steps.{came_grows}
@@ -123,9 +123,9 @@ debts_given s (Ended at reply m ∷ h) legal lane =
     given_cond h lane.shard (same_lane at lane) (end_debts s h lane reply) (debts s h lane) (λ is. given_end s h lane (last_call h lane) reply (covered_running s h lane legal.0 (runs_too h at lane is legal.1.1))) (debts_given s h legal.0 lane)
 debts_given s (Began at places closing m ∷ h) legal lane = given_cond h lane.shard (same_lane at lane) [] (debts s h lane) (λ is. tt) (debts_given s h legal.0 lane)
 debts_given s (Gave None k places f line state m ∷ h) legal lane = debts_given s h legal.0 lane
-debts_given s (Gave (Some at) k places f line state m ∷ h) legal lane = given_cond h lane.shard (same_lane at lane) (drop 1 (debts s h lane)) (debts s h lane) (λ is. given_drop h lane.shard (debts s h lane) (debts_given s h legal.0 lane)) (debts_given s h legal.0 lane)
-debts_given s (Tried at places closing t m ∷ h) legal lane = given_cond h lane.shard (same_lane at lane) (drop 1 (debts s h lane)) (debts s h lane) (λ is. given_drop h lane.shard (debts s h lane) (debts_given s h legal.0 lane)) (debts_given s h legal.0 lane)
-debts_given s (Closed at w m ∷ h) legal lane = given_cond h lane.shard (same_lane at lane) (drop 1 (debts s h lane)) (debts s h lane) (λ is. given_drop h lane.shard (debts s h lane) (debts_given s h legal.0 lane)) (debts_given s h legal.0 lane)
+debts_given s (Gave (Some at) k places f line state m ∷ h) legal lane = given_cond h lane.shard (pays lane (debts s h lane) (Gave (Some at) k places f line state m)) (drop 1 (debts s h lane)) (debts s h lane) (λ is. given_drop h lane.shard (debts s h lane) (debts_given s h legal.0 lane)) (debts_given s h legal.0 lane)
+debts_given s (Tried at places closing t m ∷ h) legal lane = given_cond h lane.shard (pays lane (debts s h lane) (Tried at places closing t m)) (drop 1 (debts s h lane)) (debts s h lane) (λ is. given_drop h lane.shard (debts s h lane) (debts_given s h legal.0 lane)) (debts_given s h legal.0 lane)
+debts_given s (Closed at w m ∷ h) legal lane = given_cond h lane.shard (pays lane (debts s h lane) (Closed at w m)) (drop 1 (debts s h lane)) (debts s h lane) (λ is. given_drop h lane.shard (debts s h lane) (debts_given s h legal.0 lane)) (debts_given s h legal.0 lane)
 debts_given s (Came k first count m ∷ h) legal lane = given_more (Came k first count m) h lane.shard (debts s h lane) (debts_given s h legal.0 lane)
 debts_given s (Replayed k places m ∷ h) legal lane = debts_given s h legal.0 lane
 debts_given s (Shut m ∷ h) legal lane = debts_given s h legal.0 lane
@@ -162,9 +162,9 @@ debts_same s after (Ended at reply m ∷ h) same legal lane =
 debts_same s after (Came k first count m ∷ h) same legal lane = debts_same s after h (same_before s after (Came k first count m) h same) legal.0 lane
 debts_same s after (Began at places closing m ∷ h) same legal lane = ap (cond (same_lane at lane) []) (debts_same s after h same legal.0 lane)
 debts_same s after (Gave None k places f line state m ∷ h) same legal lane = debts_same s after h same legal.0 lane
-debts_same s after (Gave (Some at) k places f line state m ∷ h) same legal lane = ap (λ ds. cond (same_lane at lane) (drop 1 ds) ds) (debts_same s after h same legal.0 lane)
-debts_same s after (Tried at places closing t m ∷ h) same legal lane = ap (λ ds. cond (same_lane at lane) (drop 1 ds) ds) (debts_same s after h same legal.0 lane)
-debts_same s after (Closed at w m ∷ h) same legal lane = ap (λ ds. cond (same_lane at lane) (drop 1 ds) ds) (debts_same s after h same legal.0 lane)
+debts_same s after (Gave (Some at) k places f line state m ∷ h) same legal lane = ap (λ ds. cond (pays lane ds (Gave (Some at) k places f line state m)) (drop 1 ds) ds) (debts_same s after h same legal.0 lane)
+debts_same s after (Tried at places closing t m ∷ h) same legal lane = ap (λ ds. cond (pays lane ds (Tried at places closing t m)) (drop 1 ds) ds) (debts_same s after h same legal.0 lane)
+debts_same s after (Closed at w m ∷ h) same legal lane = ap (λ ds. cond (pays lane ds (Closed at w m)) (drop 1 ds) ds) (debts_same s after h same legal.0 lane)
 debts_same s after (Replayed k places m ∷ h) same legal lane = debts_same s after h same legal.0 lane
 debts_same s after (Shut m ∷ h) same legal lane = debts_same s after h same legal.0 lane
 

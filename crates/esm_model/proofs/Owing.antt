@@ -20,7 +20,8 @@ use Rattle.esm_model.specs.FailureLine.{failure_line}
 use Rattle.esm_model.specs.Owed.{Debt, Success, GiveUp, Try, Close, debts, debt_entry, owed, IsOwed, is_refused, is_unsorted, unsorted, Settled}
 use Rattle.esm_model.specs.Step.{Legal, MayFollow, IsLater}
 use Rattle.esm_model.proofs.Lists.{filter_both}
-use Rattle.esm_model.proofs.Steps.{debt_gave, debt_tried, debt_closed, lacks_gave}
+use Rattle.esm_model.proofs.Steps.{lacks_gave}
+use Rattle.esm_model.proofs.Debts.{debt_brought}
 use Rattle.esm_model.proofs.Sound.{same_lane-true}
 
 -- an entry that pays what is owed
@@ -31,14 +32,7 @@ moment_brought s h lane m (GiveUp places) = refl
 moment_brought s h lane m (Try places closing tries) = refl
 moment_brought s h lane m (Close window) = refl
 
--- it is the next of its lane
-pub debt_brought : (s : Setting) (h : List Entry) (lane : LaneId) (m : ℕ) (d : Debt) → debts s (debt_entry s h lane m d ∷ h) lane ≡ drop 1 (debts s h lane)
-debt_brought s h lane m (Success places state) = debt_gave s lane lane.shard places Succeeded None state m h
-debt_brought s h lane m (GiveUp places) = debt_gave s lane lane.shard places Exhausted (failure_line s h lane.shard places false m) None m h
-debt_brought s h lane m (Try places closing tries) = debt_tried s lane places closing tries m h
-debt_brought s h lane m (Close window) = debt_closed s lane window m h
-
--- and leaves the other lanes
+-- it leaves the other lanes
 pub debts_elsewhere : (s : Setting) (h : List Entry) (lane at : LaneId) (m : ℕ) (d : Debt) → same_lane lane at ≡ false → debts s (debt_entry s h lane m d ∷ h) at ≡ debts s h at
 debts_elsewhere s h lane at m (Success places state) other = rw other
 debts_elsewhere s h lane at m (GiveUp places) other = rw other
@@ -64,9 +58,9 @@ map_same f g same (d ∷ ds) = ap (λ e. e ∷ map f ds) (same d) ∙ ap (λ es.
 
 -- the first of what is owed
 
-next_at : (f : Debt → Entry) (ds : List Debt) (e : Entry) (rest : List Entry) → map f ds ≡ e ∷ rest → (d : Debt) × (f d ≡ e) × (map f (drop 1 ds) ≡ rest)
+next_at : (f : Debt → Entry) (ds : List Debt) (e : Entry) (rest : List Entry) → map f ds ≡ e ∷ rest → (d : Debt) × (f d ≡ e) × (map f (drop 1 ds) ≡ rest) × (ds ≡ d ∷ drop 1 ds)
 next_at f [] e rest is = cc
-next_at f (d ∷ ds) e rest is = (d, cc, cc)
+next_at f (d ∷ ds) e rest is = (d, cc, cc, refl)
 
 -- where it is added, the rest is owed
 pub owed_goes_on : (s : Setting) (h : List Entry) (lane : LaneId) (e : Entry) (rest : List Entry) → owed s h lane ≡ e ∷ rest → owed s (e ∷ h) lane ≡ rest
@@ -76,7 +70,7 @@ owed_goes_on s h lane e rest is =
     let brought = debt_entry s h lane m found.0 in
     subst (λ x. owed s (x ∷ h) lane ≡ rest) found.1
     (ap (λ k. map (debt_entry s (brought ∷ h) lane k) (debts s (brought ∷ h) lane)) (moment_brought s h lane m found.0)
-    ∙ ap (map (debt_entry s (brought ∷ h) lane m)) (debt_brought s h lane m found.0)
+    ∙ ap (map (debt_entry s (brought ∷ h) lane m)) (debt_brought s h lane m found.0 (drop 1 (debts s h lane)) found.3)
     ∙ map_same (debt_entry s (brought ∷ h) lane m) (debt_entry s h lane m) (entry_brought s h lane m found.0 lane m) (drop 1 (debts s h lane))
     ∙ found.2)
 

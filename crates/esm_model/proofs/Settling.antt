@@ -11,7 +11,7 @@ use Rattle.esm_model.specs.declared.entry.Entry.TheVariants.{Came, Began, Gave, 
 use Rattle.esm_model.specs.Setting.{Setting}
 use Rattle.esm_model.specs.Entries.{holds, came_count}
 use Rattle.esm_model.specs.Fates.{below}
-use Rattle.esm_model.specs.Owed.{Debt, debts, is_unsorted, unsorted, Settled}
+use Rattle.esm_model.specs.Owed.{Debt, debts, pays, is_unsorted, unsorted, Settled}
 use Rattle.esm_model.proofs.Lists.{filter_all, filter_none}
 use Rattle.esm_model.proofs.Owing.{unsorted_after_gave, unsorted_gave}
 
@@ -33,7 +33,7 @@ settled_shut s h m settled = record { sorted = settled.sorted; paid = settled.pa
 pub settled_expired : (s : Setting) (h : List Entry) (at : LaneId) (n : ℕ) (places : List ℕ) (f : Fate) (line : Option (List ℕ)) (state : Option WindowState) (m : ℕ) → Settled s h → Settled s (Gave (Some at) n places f line state m ∷ h)
 settled_expired s h at n places f line state m settled = record {
   sorted = λ k. unsorted_gave s (Some at) n places f line state m h k (settled.sorted k);
-  paid = λ lane. dropped (same_lane at lane) (debts s h lane) (settled.paid lane);
+  paid = λ lane. dropped (pays lane (debts s h lane) (Gave (Some at) n places f line state m)) (debts s h lane) (settled.paid lane);
 }
 
 -- what came to one shard leaves the others sorted

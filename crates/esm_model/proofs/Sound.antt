@@ -19,11 +19,11 @@ use Rattle.esm_model.specs.Setting.{Setting, is_in_lane, record_at}
 use Rattle.esm_model.specs.Entries.{holds, came_count, is_running, last_call, batch_of}
 use Rattle.esm_model.specs.Fates.{below, lacks_fate, open_places}
 use Rattle.esm_model.specs.Batches.{is_expired, group, same_piece}
-use Rattle.esm_model.specs.Owed.{Debt, debts, end_debts, is_refused, is_unsorted, unsorted, IsOwed}
+use Rattle.esm_model.specs.Owed.{Debt, debts, end_debts, is_refused, is_unsorted, unsorted, pays, IsOwed}
 use Rattle.esm_model.specs.Step.{Legal, MayFollow, MayBegin, MayBeginFinal, MayFilter, MayExpire}
 use Rattle.esm_model.proofs.Lists.{In, IsFront, Distinct, Distinct-filter, Distinct-below, In-filter, filter-In, In-below, below-In, front_filter, front_removed, front_front, front_In, take_front, filter_all, In-append_right, In-none}
 use Rattle.esm_model.proofs.Steps.{lane_from, same_lane-refl, open_gave, open_came, batch_front, span}
-use Rattle.esm_model.proofs.Debts.{debt_places, gave_places, end_places, IsFirstDebt, first_debt, gives_in_shard}
+use Rattle.esm_model.proofs.Debts.{debt_places, gave_places, end_places, IsFirstDebt, first_debt, debt_paid, gives_in_shard}
 
 -- what the lane runs, or owes
 abbrev pub pending : Setting → List Entry → LaneId → List ℕ
@@ -244,8 +244,7 @@ sound_paid s h at n places f line state m owed sound lane =
     let in_shard : n ≡ at.shard = gives_in_shard s h at _ is.first.first (Some at) n places f line state m is.first.brings in
     let rest = debt_places (drop 1 (debts s h at)) in
     let parts : open_places s h at ≡ places ++ (rest ++ was.front.0) = was.front.1 ∙ ap (λ xs. xs ++ was.front.0) is.pend ∙ append_assoc places rest was.front.0 in
-    let self : same_lane at at ≡ true = same_lane-refl at in
-    let owes : debts s (Gave (Some at) n places f line state m ∷ h) at ≡ drop 1 (debts s h at) = rw self in
+    let owes : debts s (Gave (Some at) n places f line state m ∷ h) at ≡ drop 1 (debts s h at) = debt_paid s h at (Gave (Some at) n places f line state m) owed in
     let pend : pending s (Gave (Some at) n places f line state m ∷ h) at ≡ rest = rw is.rests (ap debt_places owes) in
     let here : IsSoundAt s (Gave (Some at) n places f line state m ∷ h) at = record {
       front = subst (λ xs. IsFront xs (open_places s (Gave (Some at) n places f line state m ∷ h) at)) (sym pend) (was.front.0, fronted s h (Some at) n places f line state m at rest was.front.0 in_shard parts);
@@ -280,7 +279,7 @@ sound_expired s h at n places line state m may sound lane =
     let front_at : IsFront places (open_places s h at) = expired_front s h at n places line state m may in
     let there = sound lane in
     let paid_up : debts s h lane ≡ [] = may.settled.paid lane in
-    let owes : debts s (Gave (Some at) n places Expired line state m ∷ h) lane ≡ [] = dropped (same_lane at lane) (debts s h lane) paid_up in
+    let owes : debts s (Gave (Some at) n places Expired line state m ∷ h) lane ≡ [] = dropped (pays lane (debts s h lane) (Gave (Some at) n places Expired line state m)) (debts s h lane) paid_up in
     elim (cases_Bool (same_lane at lane)) [
       | inl is ↦ (
           let rests : is_running h lane ≡ false = subst (λ l. is_running h l ≡ false) (same_lane-true at lane is) may.rests in
@@ -307,15 +306,16 @@ sound_expired s h at n places line state m may sound lane =
 -- an entry that gives no fate, and that the lane owes
 sound_noted_at : (s : Setting) (h : List Entry) (at : LaneId) (e : Entry) (lane : LaneId)
     → IsOwed s h at e → gave_places e ≡ [] → open_places s (e ∷ h) lane ≡ open_places s h lane → is_running (e ∷ h) lane ≡ is_running h lane → batch_of (last_call (e ∷ h) lane) ≡ batch_of (last_call h lane)
-    → debts s (e ∷ h) lane ≡ cond (same_lane at lane) (drop 1 (debts s h lane)) (debts s h lane)
+    → (same_lane at lane ≡ false → debts s (e ∷ h) lane ≡ debts s h lane)
     → Sound s h → IsSoundAt s (e ∷ h) lane
 sound_noted_at s h at e lane owed none same_open same_run same_batch owes sound =
     let there = sound lane in
     elim (cases_Bool (same_lane at lane)) [
       | inl same ↦ (
           let k : at ≡ lane = same_lane-true at lane same in
-          let is = paid s h lane e (subst (λ l. IsOwed s h l e) k owed) there in
-          let left : debts s (e ∷ h) lane ≡ drop 1 (debts s h lane) = rw same at owes in
+          let here : IsOwed s h lane e = subst (λ l. IsOwed s h l e) k owed in
+          let is = paid s h lane e here there in
+          let left : debts s (e ∷ h) lane ≡ drop 1 (debts s h lane) = debt_paid s h lane e here in
           let rests : is_running (e ∷ h) lane ≡ false = same_run ∙ is.rests in
           let pend : pending s (e ∷ h) lane ≡ pending s h lane = ap (λ b. cond b (batch_of (last_call (e ∷ h) lane)) (debt_places (debts s (e ∷ h) lane))) rests ∙ ap debt_places left ∙ ap (λ xs. xs ++ debt_places (drop 1 (debts s h lane))) (sym none) ∙ sym is.pend in
           record {
@@ -324,7 +324,7 @@ sound_noted_at s h at e lane owed none same_open same_run same_batch owes sound 
             quiet = λ runs. (let clash : true ≡ false = sym runs ∙ rests in cc);
           })
       | inr other ↦ (
-          let left : debts s (e ∷ h) lane ≡ debts s h lane = rw other at owes in
+          let left : debts s (e ∷ h) lane ≡ debts s h lane = owes other in
           let pend : pending s (e ∷ h) lane ≡ pending s h lane = pend_at (is_running (e ∷ h) lane) (is_running h lane) (batch_of (last_call (e ∷ h) lane)) (batch_of (last_call h lane)) (debts s (e ∷ h) lane) (debts s h lane) same_run same_batch left in
           record {
             front = (there.front.0, same_open ∙ there.front.1 ∙ ap (λ xs. xs ++ there.front.0) (sym pend));
@@ -350,8 +350,8 @@ sound_step s h (Gave (Some at) n places Filtered line state m) may sound = absur
 sound_step s h (Gave (Some at) n places Succeeded line state m) may sound = sound_paid s h at n places Succeeded line state m may sound
 sound_step s h (Gave (Some at) n places Expired line state m) may sound = sound_expired s h at n places line state m may sound
 sound_step s h (Gave (Some at) n places Exhausted line state m) may sound = sound_paid s h at n places Exhausted line state m may sound
-sound_step s h (Tried at places c t m) may sound = λ lane. sound_noted_at s h at (Tried at places c t m) lane may refl refl refl refl refl sound
-sound_step s h (Closed at w m) may sound = λ lane. sound_noted_at s h at (Closed at w m) lane may refl refl refl refl refl sound
+sound_step s h (Tried at places c t m) may sound = λ lane. sound_noted_at s h at (Tried at places c t m) lane may refl refl refl refl (λ other. rw other refl) sound
+sound_step s h (Closed at w m) may sound = λ lane. sound_noted_at s h at (Closed at w m) lane may refl refl refl refl (λ other. rw other refl) sound
 sound_step s h (Replayed n places m) may sound = absurd may
 sound_step s h (Shut m) may sound = sound_shut s h m sound
 

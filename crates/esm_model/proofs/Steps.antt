@@ -192,16 +192,6 @@ no_delay_ended s lane reply m h good = rw (same_lane-refl lane, good)
 pub debts_ended : (s : Setting) (lane : LaneId) (reply : Reply) (m : ℕ) (h : List Entry) → debts s (Ended lane reply m ∷ h) lane ≡ end_debts s h lane reply
 debts_ended s lane reply m h = rw (same_lane-refl lane)
 
-pub debt_gave : (s : Setting) (lane : LaneId) (n : ℕ) (places : List ℕ) (f : Fate) (line : Option (List ℕ)) (state : Option WindowState) (m : ℕ) (h : List Entry)
-    → debts s (Gave (Some lane) n places f line state m ∷ h) lane ≡ drop 1 (debts s h lane)
-debt_gave s lane n places f line state m h = rw (same_lane-refl lane)
-
-pub debt_tried : (s : Setting) (lane : LaneId) (places : List ℕ) (closing : Option ℕ) (t m : ℕ) (h : List Entry) → debts s (Tried lane places closing t m ∷ h) lane ≡ drop 1 (debts s h lane)
-debt_tried s lane places closing t m h = rw (same_lane-refl lane)
-
-pub debt_closed : (s : Setting) (lane : LaneId) (window m : ℕ) (h : List Entry) → debts s (Closed lane window m ∷ h) lane ≡ drop 1 (debts s h lane)
-debt_closed s lane window m h = rw (same_lane-refl lane)
-
 -- the checkpoint never falls
 
 came_longer : (e : Entry) (h : List Entry) (n : ℕ) → (k : ℕ) × (came_count (e ∷ h) n ≡ k + came_count h n)

@@ -1,8 +1,11 @@
 -- What the end of a call calls for, and which entries still owe it. This product's own.
-use Rattle.std.specs.Prelude.{◌≡◌, ℕ, ◌+◌, Bool, false, not, ◌&&◌, List, [], ◌∷◌, ◌++◌, take, drop, map, Option, Some, None, filter, option_map, unwrap_or, slice_get, codes, if◌then◌else◌}
+use Rattle.std.specs.Prelude.{◌≡◌, ℕ, ◌+◌, ◌==◌, nat_eq, Bool, false, not, ◌&&◌, List, [], ◌∷◌, ◌++◌, take, drop, map, Option, Some, None, filter, option_map, unwrap_or, slice_get, codes, if◌then◌else◌}
+use Rattle.std.specs.Option.{option_eq}
+use Rattle.std.specs.Str.{bytes_eq}
 use Rattle.esm_model.specs.Lane.{same_lane}
 use Rattle.esm_model.specs.declared.item.Record.{Record}
 use Rattle.esm_model.specs.declared.lane.LaneId.{LaneId}
+use Rattle.esm_model.specs.declared.entry.Fate.{Fate}
 use Rattle.esm_model.specs.declared.entry.Fate.TheVariants.{Succeeded, Exhausted}
 use Rattle.esm_model.specs.declared.entry.Reply.{Reply}
 use Rattle.esm_model.specs.declared.entry.Reply.TheVariants.{Answered}
@@ -104,21 +107,45 @@ call_debts s h lane (Some call) reply = verdict_debts s lane.shard call (tries_o
 abbrev pub end_debts : Setting → List Entry → LaneId → Reply → List Debt
 end_debts s h lane reply = call_debts s h lane (last_call h lane) reply
 
--- the lane that an entry is of, where it is one that a lane may owe
-abbrev pub giver : Entry → Option LaneId
-giver (Gave by shard places fate line state moment) = by
-giver (Tried lane places closing tries moment) = Some lane
-giver (Closed lane window moment) = Some lane
-giver _ = None
+-- the entries that bring it: by their kind and what they name, their state, line and moment aside
 
--- the entry is of the lane
-abbrev pub is_by : LaneId → Entry → Bool
-is_by lane e = unwrap_or (option_map (λ (at : LaneId). same_lane at lane) (giver e)) false
+-- the same places in the same order
+abbrev pub same_places : List ℕ → List ℕ → Bool
+same_places xs ys = bytes_eq xs ys
 
+-- the debt is that these places get this fate
+abbrev pub owes_fate : Fate → List ℕ → Debt → Bool
+owes_fate Succeeded places (Success owed state) = same_places owed places
+owes_fate Exhausted places (GiveUp owed) = same_places owed places
+owes_fate _ places _ = false
+
+-- it is this number of tries of these places, or of the window's final call
+abbrev pub owes_try : List ℕ → Option ℕ → ℕ → Debt → Bool
+owes_try places closing tries (Try owed window number) = same_places owed places && option_eq nat_eq window closing && (number == tries)
+owes_try places closing tries _ = false
+
+-- it is that this window is closed
+abbrev pub owes_close : ℕ → Debt → Bool
+owes_close window (Close owed) = owed == window
+owes_close window _ = false
+
+-- the first of the debts, if there is one, passes
+abbrev pub is_first : (Debt → Bool) → List Debt → Bool
+is_first passes [] = false
+is_first passes (d ∷ ds) = passes d
+
+-- the entry is one of the lane, and brings the first of the debts
+abbrev pub pays : LaneId → List Debt → Entry → Bool
+pays lane debts (Gave (Some at) shard places fate line state moment) = same_lane at lane && is_first (owes_fate fate places) debts && (shard == lane.shard)
+pays lane debts (Tried at places closing tries moment) = same_lane at lane && is_first (owes_try places closing tries) debts
+pays lane debts (Closed at window moment) = same_lane at lane && is_first (owes_close window) debts
+pays lane debts _ = false
+
+-- a call of the lane that begins or ends makes all anew, and an entry that brings the first of them takes it away
 abbrev pub debts_after : Setting → List Entry → LaneId → List Debt → Entry → List Debt
 debts_after s h lane before (Began at places closing moment) = if same_lane at lane then [] else before
 debts_after s h lane before (Ended at reply moment) = if same_lane at lane then end_debts s h lane reply else before
-debts_after s h lane before e = if is_by lane e then drop 1 before else before
+debts_after s h lane before e = if pays lane before e then drop 1 before else before
 
 -- what the lane's last `Ended` calls for and does not yet stand after it, where no `Began` of the lane follows it
 abbrev pub debts : Setting → List Entry → LaneId → List Debt

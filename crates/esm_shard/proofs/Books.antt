@@ -33,7 +33,8 @@ use Rattle.esm_model.specs.FailureText.{failure_text}
 use Rattle.esm_model.specs.Owed.{Debt, Success, GiveUp, Try, debts, debt_entry, end_debts, IsOwed, is_unsorted, unsorted, Settled}
 use Rattle.esm_model.specs.Step.{Legal, MayGive, MayBegin, IsLater}
 use Rattle.esm_model.proofs.Lists.{filter_none}
-use Rattle.esm_model.proofs.Steps.{same_lane-refl, debt_gave, debt_tried, debts_ended}
+use Rattle.esm_model.proofs.Steps.{same_lane-refl, debts_ended}
+use Rattle.esm_model.proofs.Debts.{debt_paid}
 use Rattle.esm_model.proofs.Sound.{same_lane-true}
 use Rattle.esm_shard.specs.declared.slot.Slot.{Slot}
 use Rattle.esm_shard.specs.Table.{slot_at, mark_of, nothing, marked_slot, marked_at, fated_slot}
@@ -120,7 +121,7 @@ book_tried s h t places n ds b = record {
   found_fates = b.found_fates;
   found_tries = b.found_tries;
   legal = (b.legal, (later s h t _ t.last b (omega arith) b.in_time, owed_first s h (lane_id t.shard) (Try places None n) ds t.last b.owes b.last));
-  owes = debt_tried s (lane_id t.shard) places None n t.last h ∙ ap (drop 1) b.owes;
+  owes = debt_paid s h (lane_id t.shard) (Tried (lane_id t.shard) places None n t.last) (owed_first s h (lane_id t.shard) (Try places None n) ds t.last b.owes b.last) ∙ ap (drop 1) b.owes;
   others = λ lane other. rw other (b.others lane other);
   shards = b.shards;
   first = λ unnamed open'. none_owed s h (lane_id t.shard) (Try places None n) ds (b.first unnamed open') b.owes;
@@ -158,6 +159,14 @@ may_give s h t places Exhausted ds a b =
 may_give s h t places Filtered ds a b = absurd a
 may_give s h t places Expired ds a b = absurd a
 
+-- what it may give, it owes
+gave_owed : (s : Setting) (h : List Entry) (t : Table) (places : List ℕ) (f : Fate) → IsAnswered f → MayGive s h (Some (lane_id t.shard)) t.shard places f None None t.last
+    → IsOwed s h (lane_id t.shard) (Gave (Some (lane_id t.shard)) t.shard places f None None t.last)
+gave_owed s h t places Succeeded a may = may
+gave_owed s h t places Exhausted a may = may
+gave_owed s h t places Filtered a may = absurd a
+gave_owed s h t places Expired a may = absurd a
+
 pub legal_gave : (s : Setting) (h : List Entry) (t : Table) (places : List ℕ) (f : Fate) (ds : List Debt) → IsAnswered f → IsBook s h t (fate_debt f places ∷ ds)
     → Legal s (Gave (Some (lane_id t.shard)) t.shard places f None None t.last ∷ h)
 legal_gave s h t places f ds answered b = (b.legal, (later s h t _ t.last b (omega arith) b.in_time, may_give s h t places f ds answered b))
@@ -174,7 +183,7 @@ book_gave s h t places f ds slots answered each same_length b = record {
   found_fates = b.found_fates;
   found_tries = b.found_tries;
   legal = legal_gave s h t places f ds answered b;
-  owes = debt_gave s (lane_id t.shard) t.shard places f None None t.last h ∙ ap (drop 1) b.owes;
+  owes = debt_paid s h (lane_id t.shard) (Gave (Some (lane_id t.shard)) t.shard places f None None t.last) (gave_owed s h t places f answered (may_give s h t places f ds answered b)) ∙ ap (drop 1) b.owes;
   others = λ lane other. rw other (b.others lane other);
   shards = b.shards;
   first = λ unnamed open'. none_owed s h (lane_id t.shard) (fate_debt f places) ds (b.first unnamed open') b.owes;
