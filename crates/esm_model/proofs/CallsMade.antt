@@ -3,7 +3,7 @@ use Rattle.std.proofs.Common.{◌≡◌, ℕ, ◌+◌, ◌*◌, ◌≤◌, Bool,
 use Rattle.std.specs.Prelude.{◌==◌}
 use Rattle.std.specs.List.{prefix_len}
 use Rattle.std.proofs.lemmas.List.{append-nil}
-use Rattle.std.proofs.lemmas.Bool.{cases_Bool, eqb-true}
+use Rattle.std.proofs.lemmas.Bool.{cases_Bool, eqb-true, eq-eqb}
 use Rattle.esm_model.specs.declared.lane.LaneId.{LaneId}
 use Rattle.esm_model.specs.declared.entry.Entry.{Entry}
 use Rattle.esm_model.specs.declared.entry.Entry.TheVariants.{Came, Began, Ended, Gave, Tried, Closed, Replayed, Shut}
@@ -11,6 +11,7 @@ use Rattle.esm_model.specs.Setting.{Setting}
 use Rattle.esm_model.specs.Entries.{holds, came_count, shards_that_came, batcher}
 use Rattle.esm_model.specs.Calls.{calls, calls_after, calls_since, is_end_of, has_end_of, last_event}
 use Rattle.esm_model.specs.declared.called.Called.{Called}
+use Rattle.esm_model.specs.Earned.{LastEnd, IsLogged}
 use Rattle.esm_model.specs.Laws.{CallsKept}
 use Rattle.esm_model.proofs.Lists.{In, In-append_left, In-append_right, In-here}
 
@@ -62,6 +63,21 @@ calls_go_on s sends later before k = record {
   kept = calls_front s sends later before k;
   same = λ none. calls_front s sends later before k ∙ ap (λ cs. calls s sends before k ++ cs) (none_since s sends later before k none) ∙ append-nil (calls s sends before k);
 }
+
+-- the call of a lane's last end is among them
+pub end_logged : (s : Setting) (sends : List ℕ → List ℕ) (h : List Entry) (lane : LaneId) (end : LastEnd s h lane) → IsLogged sends end
+end_logged s sends h lane end =
+    let k = batcher s end.earlier lane in
+    let logged : Called = record { name = s.config.function; event = sends (last_event s end.earlier lane); reply = end.reply } in
+    let upto = Ended lane end.reply end.moment ∷ end.earlier in
+    let here : calls s sends upto k ≡ calls s sends end.earlier k ++ logged ∷ [] = rw (eq-eqb (batcher s end.earlier lane) (batcher s end.earlier lane) refl) refl in (
+      calls s sends end.earlier k,
+      calls_since s sends end.since upto k,
+      ap (λ g. calls s sends g k) end.ended
+          ∙ calls_front s sends end.since upto k
+          ∙ ap (λ cs. cs ++ calls_since s sends end.since upto k) here
+          ∙ append_assoc (calls s sends end.earlier k) (logged ∷ []) (calls_since s sends end.since upto k),
+    )
 
 -- a shard that came stands in the list of those that did
 pub came_shard : (h : List Entry) (n : ℕ) → 1 ≤ came_count h n → In (shards_that_came h) n

@@ -1,6 +1,6 @@
 -- The places of what a lane owes, and the entries that pay it.
 use Rattle.std.proofs.Common.{◌≡◌, ℕ, true, List, [], ◌∷◌, ◌++◌, take, drop, map, refl, sym, ap, ◌∙◌, subst, Option, Some, None, append_assoc}
-use Rattle.std.specs.Prelude.{◌==◌, nat_eq, slice_get}
+use Rattle.std.specs.Prelude.{nat_eq, slice_get}
 use Rattle.std.specs.Option.{option_eq}
 use Rattle.std.proofs.lemmas.Bool.{eq-eqb}
 use Rattle.std.proofs.lemmas.Slice.Eq.{bytes_eq-Decides}

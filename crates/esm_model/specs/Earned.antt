@@ -7,7 +7,6 @@ use Rattle.esm_model.specs.Lane.{same_lane}
 use Rattle.esm_model.specs.Filter.{passes}
 use Rattle.esm_model.specs.declared.item.Record.{Record}
 use Rattle.esm_model.specs.declared.lane.LaneId.{LaneId}
-use Rattle.esm_model.specs.declared.verdict.Rest.{Rest}
 use Rattle.esm_model.specs.declared.verdict.Rest.TheVariants as rest
 use Rattle.esm_model.specs.declared.verdict.Verdict.{Verdict}
 use Rattle.esm_model.specs.declared.entry.Fate.{Fate}
@@ -17,7 +16,9 @@ use Rattle.esm_model.specs.declared.entry.WindowState.{WindowState}
 use Rattle.esm_model.specs.declared.entry.Entry.{Entry}
 use Rattle.esm_model.specs.declared.entry.Entry.TheVariants.{Began, Ended, Gave}
 use Rattle.esm_model.specs.Setting.{Setting, record_at}
-use Rattle.esm_model.specs.Entries.{Call, holds, last_call}
+use Rattle.esm_model.specs.declared.called.Called.{Called}
+use Rattle.esm_model.specs.Entries.{Call, holds, last_call, batcher}
+use Rattle.esm_model.specs.Calls.{calls, last_event}
 use Rattle.esm_model.specs.Tries.{tries_of, verdict_after}
 
 -- the end of a call
@@ -47,6 +48,12 @@ verdict_at {s = s} {lane = lane} end = verdict_after s end.earlier lane end.repl
 -- the tries of its call before it
 abbrev pub tries_at : {s : Setting} {h : List Entry} {lane : LaneId} → LastEnd s h lane → ℕ
 tries_at {s = s} {lane = lane} end = tries_of s end.earlier lane.shard end.call
+
+-- the call that ended is one of those of the lane's batcher, as its caller logs it
+abbrev pub IsLogged : (List ℕ → List ℕ) → {s : Setting} {h : List Entry} {lane : LaneId} → LastEnd s h lane → Type 0
+IsLogged sends {s = s} {h = h} {lane = lane} end =
+    (earlier later : List Called)
+    × (calls s sends h (batcher s end.earlier lane) ≡ earlier ++ record { name = s.config.function; event = sends (last_event s end.earlier lane); reply = end.reply } ∷ later)
 
 -- records succeed: by the last end of their lane, whose ruling counts exactly these as succeeded
 pub record HaveSucceeded (s : Setting) (h : List Entry) (lane : LaneId) (n : ℕ) (places : List ℕ) : Type 0 where

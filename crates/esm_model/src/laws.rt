@@ -6,7 +6,7 @@ ghost use Rattle.esm_model.specs.declared.entry.Entry.{Entry};
 ghost use Rattle.esm_model.specs.Setting.{Setting, Stream, Extends, over};
 ghost use Rattle.esm_model.specs.Step.{Legal};
 ghost use Rattle.esm_model.specs.CallBound.{BoundOfThree};
-ghost use Rattle.esm_model.specs.Earned.{FateIsEarned};
+ghost use Rattle.esm_model.specs.Earned.{FateIsEarned, LastEnd, IsLogged};
 ghost use Rattle.esm_model.specs.Laws.{OrderPerKey, OneFate, NoRepeat, EveryRecordCounted, CheckpointKept, CheckpointIsLongest, HasComeBelow, BatchIsLongest, CallsKept, CallsKeptOver};
 
 /// In a legal history no batch overtakes an earlier record of one of its keys.
@@ -22,6 +22,11 @@ pub fn one_fate()
 /// In a legal history each fate is earned: by the end of a call, by the age or by the filter.
 pub fn fate_is_earned()
     ensures { (s : Setting) (h : List Entry) → Legal s h → FateIsEarned s h }
+{}
+
+/// The answer by which a fate is earned stands in the log of the lane's caller.
+pub fn answer_is_logged()
+    ensures { (s : Setting) (sends : List ℕ → List ℕ) (h : List Entry) (lane : LaneId) (end : LastEnd s h lane) → IsLogged sends end }
 {}
 
 /// A legal history never calls with a record that has a found fate or was given one.
