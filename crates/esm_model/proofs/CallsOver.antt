@@ -9,9 +9,9 @@ use Rattle.esm_model.specs.declared.entry.Entry.TheVariants.{Came, Began, Ended,
 use Rattle.esm_model.specs.Setting.{Setting, Stream, over, Extends}
 use Rattle.esm_model.specs.Entries.{batcher}
 use Rattle.esm_model.specs.EventText.{event_text}
-use Rattle.esm_model.specs.Calls.{event_of, last_event, calls}
+use Rattle.esm_model.specs.Calls.{event_of, last_event, calls, calls_since}
 use Rattle.esm_model.specs.Step.{Legal, MayBegin, MayBeginFinal}
-use Rattle.esm_model.specs.Laws.{CallsKeptOver}
+use Rattle.esm_model.specs.Laws.{CallsKeptOver, CallsSinceKeptOver}
 use Rattle.esm_model.proofs.Sound.{same_lane-true}
 use Rattle.esm_model.proofs.Histories.{began_In}
 use Rattle.esm_model.proofs.Records.{SameRecords, same_records, same_before, covered_open, window_call_same, event_same}
@@ -63,3 +63,16 @@ calls_as s sends after (Shut m ∷ h) k same legal = calls_as s sends after h k 
 
 pub calls_same : (s : Setting) (sends : List ℕ → List ℕ) (h : List Entry) (k : ℕ) (after : List Stream) → Extends s.streams after → Legal s h → CallsKeptOver s sends h k after
 calls_same s sends h k after extends legal = calls_as s sends after h k (same_records s after h extends legal) legal
+
+pub since_same : (s : Setting) (sends : List ℕ → List ℕ) (later before : List Entry) (k : ℕ) (after : List Stream) → Extends s.streams after → Legal s (later ++ before) → CallsSinceKeptOver s sends later before k after
+since_same s sends [] before k after extends legal = refl
+since_same s sends (Ended lane reply m ∷ later) before k after extends legal =
+    ap (λ text. cond (batcher s (later ++ before) lane == k) (calls_since (over s after) sends later before k ++ record { name = s.config.function; event = sends text; reply = reply } ∷ []) (calls_since (over s after) sends later before k)) (last_event_same s after (later ++ before) (same_records s after (later ++ before) extends legal.0) legal.0 lane)
+    ∙ ap (λ (cs : List Called). cond (batcher s (later ++ before) lane == k) (cs ++ record { name = s.config.function; event = sends (last_event s (later ++ before) lane); reply = reply } ∷ []) cs) (since_same s sends later before k after extends legal.0)
+since_same s sends (Came n first count m ∷ later) before k after extends legal = since_same s sends later before k after extends legal.0
+since_same s sends (Began lane places closing m ∷ later) before k after extends legal = since_same s sends later before k after extends legal.0
+since_same s sends (Gave by n places f line state m ∷ later) before k after extends legal = since_same s sends later before k after extends legal.0
+since_same s sends (Tried lane places closing t m ∷ later) before k after extends legal = since_same s sends later before k after extends legal.0
+since_same s sends (Closed lane w m ∷ later) before k after extends legal = since_same s sends later before k after extends legal.0
+since_same s sends (Replayed n places m ∷ later) before k after extends legal = since_same s sends later before k after extends legal.0
+since_same s sends (Shut m ∷ later) before k after extends legal = since_same s sends later before k after extends legal.0

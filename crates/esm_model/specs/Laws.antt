@@ -76,3 +76,7 @@ pub record CallsKept (s : Setting) (sends : List ℕ → List ℕ) (later before
 -- lists of records that go on from the setting's own leave the calls of a batcher
 abbrev pub CallsKeptOver : Setting → (List ℕ → List ℕ) → List Entry → ℕ → List Stream → Type 0
 CallsKeptOver s sends h k after = calls (over s after) sends h k ≡ calls s sends h k
+
+-- and those that end in what follows a history
+abbrev pub CallsSinceKeptOver : Setting → (List ℕ → List ℕ) → (later before : List Entry) → ℕ → List Stream → Type 0
+CallsSinceKeptOver s sends later before k after = calls_since (over s after) sends later before k ≡ calls_since s sends later before k

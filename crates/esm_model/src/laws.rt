@@ -1,13 +1,13 @@
 //! What holds of every legal history, each as the contract of a function that does nothing.
 //! A history is written newest entry first.
-ghost use Rattle.std.specs.Prelude.{ℕ, List};
+ghost use Rattle.std.specs.Prelude.{ℕ, List, ◌++◌};
 ghost use Rattle.esm_model.specs.declared.lane.LaneId.{LaneId};
 ghost use Rattle.esm_model.specs.declared.entry.Entry.{Entry};
 ghost use Rattle.esm_model.specs.Setting.{Setting, Stream, Extends, over};
 ghost use Rattle.esm_model.specs.Step.{Legal};
 ghost use Rattle.esm_model.specs.CallBound.{BoundOfThree};
 ghost use Rattle.esm_model.specs.Earned.{FateIsEarned, LastEnd, IsLogged};
-ghost use Rattle.esm_model.specs.Laws.{OrderPerKey, OneFate, NoRepeat, EveryRecordCounted, CheckpointKept, CheckpointIsLongest, HasComeBelow, BatchIsLongest, CallsKept, CallsKeptOver};
+ghost use Rattle.esm_model.specs.Laws.{OrderPerKey, OneFate, NoRepeat, EveryRecordCounted, CheckpointKept, CheckpointIsLongest, HasComeBelow, BatchIsLongest, CallsKept, CallsKeptOver, CallsSinceKeptOver};
 
 /// In a legal history no batch overtakes an earlier record of one of its keys.
 pub fn order_per_key()
@@ -72,6 +72,11 @@ pub fn calls_kept()
 /// In a legal history they stay when the lists of records go on.
 pub fn calls_kept_over_more_records()
     ensures { (s : Setting) (sends : List ℕ → List ℕ) (h : List Entry) (batcher : ℕ) (after : List Stream) → Extends s.streams after → Legal s h → CallsKeptOver s sends h batcher after }
+{}
+
+/// And so do those that end in what follows a history.
+pub fn calls_since_kept_over_more_records()
+    ensures { (s : Setting) (sends : List ℕ → List ℕ) (later before : List Entry) (batcher : ℕ) (after : List Stream) → Extends s.streams after → Legal s (later ++ before) → CallsSinceKeptOver s sends later before batcher after }
 {}
 
 /// Three records with two retry attempts need at most fifteen calls, and one more for a reply that was not run.
