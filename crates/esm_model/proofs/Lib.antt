@@ -27,3 +27,6 @@ pub mod Extended
 pub mod Unchanged
 pub mod NumberLemmas
 pub mod JsonLemmas
+pub mod TellingFacts
+pub mod Agreeing
+pub mod BookLaws

@@ -34,3 +34,4 @@ pub mod Worked
 pub mod Kept
 pub mod Device
 pub mod Setup
+pub mod Books

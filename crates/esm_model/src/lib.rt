@@ -4,6 +4,7 @@
 #![tactic(auto)]
 
 pub mod book;
+pub mod book_laws;
 pub mod called;
 pub mod config;
 pub mod device;
