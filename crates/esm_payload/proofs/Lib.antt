@@ -4,3 +4,4 @@ pub mod Parts
 pub mod Fields
 pub mod Values
 pub mod Payloads
+pub mod EntryFacts

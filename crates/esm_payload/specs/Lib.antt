@@ -1,3 +1,5 @@
 pub mod Payload
 pub mod Parsing
 pub mod Words
+pub mod EntryPayload
+pub mod WorkedPayloads

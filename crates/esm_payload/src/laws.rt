@@ -1,6 +1,10 @@
 // Laws of payloads that no single call says.
-ghost use Rattle.std.specs.Prelude.{◌≡◌, ◌∷◌, [], Some, None};
+ghost use Rattle.std.specs.Prelude.{◌≡◌, ◌∷◌, [], List, Some, None};
 ghost use Rattle.esm_model.specs.declared.entry.Fate.TheVariants.{Succeeded};
+ghost use Rattle.esm_model.specs.declared.entry.Entry.{Entry};
+ghost use Rattle.esm_model.specs.Setting.{Setting, Stream, Extends, over};
+ghost use Rattle.esm_payload.specs.EntryPayload.{entry_payload, NamesStand};
+ghost use Rattle.esm_payload.specs.WorkedPayloads.{of_one_record, first_succeeds, first_fails_again};
 ghost use Rattle.esm_payload.specs.declared.said.Said.{Said};
 ghost use Rattle.esm_payload.specs.declared.said.Said.TheVariants.{Fates};
 ghost use Rattle.esm_payload.specs.Payload.{payload_of, IsSaid};
@@ -15,4 +19,21 @@ pub fn read_again()
 pub fn one_record_bytes()
     ensures { payload_of (Fates 0 Succeeded 0 None (0 ∷ []) ((49 ∷ []) ∷ []))
         ≡ 1 ∷ 0 ∷ 0 ∷ 0 ∷ 0 ∷ 0 ∷ 0 ∷ 0 ∷ 0 ∷ 1 ∷ 0 ∷ 0 ∷ 0 ∷ 0 ∷ 0 ∷ 0 ∷ 0 ∷ 0 ∷ 0 ∷ 0 ∷ 0 ∷ 0 ∷ 1 ∷ 0 ∷ 0 ∷ 0 ∷ 0 ∷ 1 ∷ 49 ∷ [] }
+{}
+
+/// The same bytes as the payload of the entry.
+pub fn first_record_succeeds()
+    ensures { entry_payload of_one_record first_succeeds
+        ≡ Some (1 ∷ 0 ∷ 0 ∷ 0 ∷ 0 ∷ 0 ∷ 0 ∷ 0 ∷ 0 ∷ 1 ∷ 0 ∷ 0 ∷ 0 ∷ 0 ∷ 0 ∷ 0 ∷ 0 ∷ 0 ∷ 0 ∷ 0 ∷ 0 ∷ 0 ∷ 1 ∷ 0 ∷ 0 ∷ 0 ∷ 0 ∷ 1 ∷ 49 ∷ []) }
+{}
+
+/// A worked example: the same record failed for the second time at the moment 250.
+pub fn first_record_fails()
+    ensures { entry_payload of_one_record first_fails_again
+        ≡ Some (5 ∷ 0 ∷ 0 ∷ 0 ∷ 0 ∷ 0 ∷ 0 ∷ 0 ∷ 0 ∷ 0 ∷ 0 ∷ 0 ∷ 0 ∷ 0 ∷ 0 ∷ 0 ∷ 250 ∷ 0 ∷ 0 ∷ 0 ∷ 2 ∷ 0 ∷ 0 ∷ 0 ∷ 1 ∷ 0 ∷ 0 ∷ 0 ∷ 0 ∷ 1 ∷ 49 ∷ []) }
+{}
+
+/// The payload of an entry stays when the lists of records go on, where the places that it names stand in them.
+pub fn payload_stays()
+    ensures { (s : Setting) (after : List Stream) (e : Entry) → Extends s.streams after → NamesStand s e → entry_payload (over s after) e ≡ entry_payload s e }
 {}
