@@ -1,6 +1,6 @@
 -- What a book's journal keeps of an entry. This product's own: of a fate, a counted try, a window's end and a replay one
 -- payload each, of every other entry nothing.
-use Rattle.std.specs.Prelude.{ℕ, ◌<◌, List, map, reverse, length, Option, Some, None, option_map, filter_map, slice_get}
+use Rattle.std.specs.Prelude.{ℕ, ◌<◌, List, map, reverse, length, Option, Some, None, option_map, filter_map, slice_get, IfSome, [], ◌∷◌}
 use Rattle.std.specs.List.{All}
 use Rattle.esm_model.specs.declared.item.Message.{Message}
 use Rattle.esm_model.specs.declared.entry.Entry.{Entry}
@@ -8,7 +8,7 @@ use Rattle.esm_model.specs.declared.entry.Entry.TheVariants as entry
 use Rattle.esm_model.specs.Setting.{Setting, records_of, sequences_at}
 use Rattle.esm_payload.specs.declared.said.Said.{Said}
 use Rattle.esm_payload.specs.declared.said.Said.TheVariants.{Fates, Closed, Deleted, Tried, WindowTried, Replayed}
-use Rattle.esm_payload.specs.Payload.{payload_of}
+use Rattle.esm_payload.specs.Payload.{payload_of, IsSaid}
 
 -- a stream's book
 
@@ -27,6 +27,11 @@ entry_payload s e = option_map payload_of (entry_said s e)
 -- the payloads of a history, oldest first
 abbrev pub history_payloads : Setting → List Entry → List (List ℕ)
 history_payloads s h = filter_map (entry_payload s) (reverse h)
+
+-- each entry that the journal keeps may be said
+abbrev pub AllMayBeSaid : Setting → List Entry → Type 0
+AllMayBeSaid s [] = Unit {0}
+AllMayBeSaid s (e ∷ h) = AllMayBeSaid s h × IfSome (entry_said s e) IsSaid
 
 -- a queue's book
 

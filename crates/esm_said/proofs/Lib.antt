@@ -8,3 +8,4 @@ pub mod Histories
 pub mod KindLemmas
 pub mod Compacting
 pub mod Determined
+pub mod KeptFates
