@@ -30,3 +30,4 @@ pub mod JsonLemmas
 pub mod TellingFacts
 pub mod Agreeing
 pub mod BookLaws
+pub mod NamedPlaces

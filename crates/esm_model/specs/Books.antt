@@ -1,7 +1,7 @@
 -- The history of a stream's book, as threads hand it on: what it is as a setting and as entries, whose each entry is,
 -- and which entry may come next. This product's own. A list of `Told` has its oldest entry first, a list of entries
 -- its newest.
-use Rattle.std.specs.Prelude.{◌≡◌, ℕ, suc, ◌==◌, List, [], ◌∷◌, ◌++◌, length, map, reverse, filter_map, Option, Some, None, if◌then◌else◌}
+use Rattle.std.specs.Prelude.{◌≡◌, ℕ, suc, ◌<◌, ◌==◌, IsTrue, List, [], ◌∷◌, ◌++◌, length, map, reverse, filter_map, Option, Some, None, if◌then◌else◌}
 use Rattle.std.specs.List.{All}
 use Rattle.esm_model.specs.declared.item.Record.{Record}
 use Rattle.esm_model.specs.declared.lane.LaneId.{LaneId}
@@ -10,7 +10,7 @@ use Rattle.esm_model.specs.declared.entry.Entry.TheVariants.{Came, Began, Ended,
 use Rattle.esm_model.specs.declared.setup.Told.{Told}
 use Rattle.esm_model.specs.declared.setup.Setup.{Setup}
 use Rattle.esm_model.specs.Setting.{Setting, Stream, Extends, over}
-use Rattle.esm_model.specs.Entries.{moment_of, shards_that_came, batcher}
+use Rattle.esm_model.specs.Entries.{moment_of, holds, came_count, shards_that_came, batcher}
 use Rattle.esm_model.specs.Step.{IsLater, MayFollow}
 use Rattle.esm_model.specs.Valid.{IsValidRecord}
 
@@ -84,6 +84,20 @@ seat_of s h (Some lane) = suc (batcher s h lane)
 -- the seat that adds an entry after the history
 abbrev pub author : Setup → List Told → Told → ℕ
 author setup history t = seat_of (setting_told setup history) (entries_told history) (lane_of_entry t.entry)
+
+-- named places
+
+-- the places are of records of the shard that came
+abbrev pub HaveCome : List Entry → ℕ → List ℕ → Type 0
+HaveCome h n places = (i : ℕ) → IsTrue (holds places i) → i < came_count h n
+
+-- the places that the entry names came
+abbrev pub NamesCame : List Entry → Entry → Type 0
+NamesCame h (Began lane places closing moment) = HaveCome h lane.shard places
+NamesCame h (Gave by shard places fate line state moment) = HaveCome h shard places
+NamesCame h (Tried lane places closing tries moment) = HaveCome h lane.shard places
+NamesCame h (Replayed shard places moment) = HaveCome h shard places
+NamesCame h _ = Unit {0}
 
 -- which entry may come next
 

@@ -1,13 +1,14 @@
 //! How the history of a stream's book, as threads hand it on, and its entries are tied: each law is the contract of a
 //! function that does nothing.
-ghost use Rattle.std.specs.Prelude.{◌≡◌, List};
+ghost use Rattle.std.specs.Prelude.{◌≡◌, List, ◌∷◌};
 ghost use Rattle.std.specs.List.{All};
 ghost use Rattle.esm_model.specs.declared.setup.Setup.{Setup};
 ghost use Rattle.esm_model.specs.declared.setup.Told.{Told};
-ghost use Rattle.esm_model.specs.Setting.{Stream, Extends, over};
+ghost use Rattle.esm_model.specs.declared.entry.Entry.{Entry};
+ghost use Rattle.esm_model.specs.Setting.{Setting, Stream, Extends, over};
 ghost use Rattle.esm_model.specs.Step.{Legal};
 ghost use Rattle.esm_model.specs.Kept.{IsLegal};
-ghost use Rattle.esm_model.specs.Books.{entries_told, streams_told, setting_told, lines_told, lines_of, IsOfStream, stream_may_follow};
+ghost use Rattle.esm_model.specs.Books.{entries_told, streams_told, setting_told, lines_told, lines_of, NamesCame, IsOfStream, stream_may_follow};
 
 /// What threads hand on as legal is legal over every list of records that goes on from those told, so over the
 /// lists of the whole input. For the top, which is given a kept history and speaks of entries.
@@ -32,4 +33,9 @@ pub fn kept_is_of_stream()
 /// A history has the failure lines of its entries.
 pub fn lines_are_told()
     ensures { (history : List Told) → lines_of (entries_told history) ≡ lines_told history }
+{}
+
+/// The places that an entry of a legal history names are of records that came before it.
+pub fn named_places_came()
+    ensures { (s : Setting) (h : List Entry) (e : Entry) → Legal s (e ∷ h) → NamesCame h e }
 {}
