@@ -5,6 +5,9 @@ use Rattle.std.specs.List.{All}
 use Rattle.esm_model.specs.declared.item.Message.{Message}
 use Rattle.esm_model.specs.declared.entry.Entry.{Entry}
 use Rattle.esm_model.specs.declared.entry.Entry.TheVariants as entry
+use Rattle.esm_model.specs.declared.setup.Told.{Told}
+use Rattle.esm_model.specs.declared.setup.Setup.{Setup}
+use Rattle.esm_model.specs.Books.{setting_told}
 use Rattle.esm_model.specs.Setting.{Setting, records_of, sequences_at}
 use Rattle.esm_payload.specs.declared.said.Said.{Said}
 use Rattle.esm_payload.specs.declared.said.Said.TheVariants.{Fates, Closed, Deleted, Tried, WindowTried, Replayed}
@@ -27,6 +30,10 @@ entry_payload s e = option_map payload_of (entry_said s e)
 -- the payloads of a history, oldest first
 abbrev pub history_payloads : Setting → List Entry → List (List ℕ)
 history_payloads s h = filter_map (entry_payload s) (reverse h)
+
+-- of a history as threads hand it on, over the setting that it tells
+abbrev pub payloads_told : Setup → List Told → List (List ℕ)
+payloads_told setup history = filter_map (λ (t : Told). entry_payload (setting_told setup history) t.entry) history
 
 -- each entry that the journal keeps may be said
 abbrev pub AllMayBeSaid : Setting → List Entry → Type 0

@@ -1,9 +1,14 @@
 // Laws of payloads that no single call says.
-ghost use Rattle.std.specs.Prelude.{◌≡◌, ◌∷◌, [], List, Some, None};
+ghost use Rattle.std.specs.Prelude.{◌≡◌, ◌∷◌, ◌++◌, [], List, Some, None, filter_map};
 ghost use Rattle.esm_model.specs.declared.entry.Fate.TheVariants.{Succeeded};
 ghost use Rattle.esm_model.specs.declared.entry.Entry.{Entry};
+ghost use Rattle.esm_model.specs.declared.setup.Setup.{Setup};
+ghost use Rattle.esm_model.specs.declared.setup.Told.{Told};
 ghost use Rattle.esm_model.specs.Setting.{Setting, Stream, Extends, over};
-ghost use Rattle.esm_payload.specs.EntryPayload.{entry_payload, NamesStand};
+ghost use Rattle.esm_model.specs.Step.{Legal};
+ghost use Rattle.esm_model.specs.Kept.{IsLegal};
+ghost use Rattle.esm_model.specs.Books.{entries_told, setting_told, stream_may_follow};
+ghost use Rattle.esm_payload.specs.EntryPayload.{entry_payload, history_payloads, payloads_told, NamesStand};
 ghost use Rattle.esm_payload.specs.WorkedPayloads.{of_one_record, first_succeeds, first_fails_again};
 ghost use Rattle.esm_payload.specs.declared.said.Said.{Said};
 ghost use Rattle.esm_payload.specs.declared.said.Said.TheVariants.{Fates};
@@ -36,4 +41,21 @@ pub fn first_record_fails()
 /// The payload of an entry stays when the lists of records go on, where the places that it names stand in them.
 pub fn payload_stays()
     ensures { (s : Setting) (after : List Stream) (e : Entry) → Extends s.streams after → NamesStand s e → entry_payload (over s after) e ≡ entry_payload s e }
+{}
+
+/// The payloads of a legal history stay when the lists of records go on.
+pub fn history_payloads_stay()
+    ensures { (s : Setting) (after : List Stream) (h : List Entry) → Extends s.streams after → Legal s h → history_payloads (over s after) h ≡ history_payloads s h }
+{}
+
+/// What a history of threads tells of the journal is what its entries do.
+pub fn payloads_are_told()
+    ensures { (setup : Setup) (history : List Told) → history_payloads (setting_told setup history) (entries_told history) ≡ payloads_told setup history }
+{}
+
+/// When such a history goes on, its payloads stay, and those of the entries that follow come behind them.
+pub fn payloads_go_on()
+    ensures { (setup : Setup) (history more : List Told) → IsLegal (stream_may_follow setup) history →
+        payloads_told setup (history ++ more)
+        ≡ payloads_told setup history ++ filter_map (λ (t : Told). entry_payload (setting_told setup (history ++ more)) t.entry) more }
 {}
