@@ -3,34 +3,30 @@ use Rattle.std.proofs.Common.{◌≡◌, ℕ, ◌<◌, ◌≤◌, Bool, true, fa
 use Rattle.std.specs.Prelude.{◌==◌, take_while, filter_map, reverse, option_map, is_some, is_none, IfSome}
 use Rattle.std.specs.List.{cons_option}
 use Rattle.std.specs.Option.{option_or}
-use Rattle.std.proofs.lemmas.List.{append-nil, reverse-append, reverse-reverse}
+use Rattle.std.proofs.lemmas.List.{reverse-append, reverse-reverse}
 use Rattle.std.proofs.lemmas.List.Elements.{filter_map-append}
-use Rattle.std.proofs.lemmas.Grind.{reverse_onto}
-use Rattle.std.proofs.lemmas.Bool.{cases_Bool, and_parts, eqb-true}
+use Rattle.std.proofs.lemmas.Bool.{and_parts, eqb-true}
 use Rattle.std.proofs.lemmas.Option.{slice_get_cases}
-use Rattle.esm_model.specs.declared.lane.LaneId.{LaneId}
 use Rattle.esm_model.specs.declared.item.Record.{Record}
 use Rattle.esm_model.specs.declared.setup.FoundFate.{FoundFate}
 use Rattle.esm_model.specs.declared.entry.Fate.{Fate}
-use Rattle.esm_model.specs.declared.entry.Fate.TheVariants.{Succeeded, Filtered, Expired, Exhausted}
-use Rattle.esm_model.specs.declared.entry.WindowState.{WindowState}
 use Rattle.esm_model.specs.declared.entry.Entry.{Entry}
 use Rattle.esm_model.specs.declared.entry.Entry.TheVariants.{Came, Began, Ended, Gave, Tried, Closed, Replayed, Shut}
 use Rattle.esm_model.specs.Setting.{Setting, record_at, records_of, records_at, sequences_at, found_fate}
 use Rattle.esm_model.specs.Entries.{holds, came_count}
-use Rattle.esm_model.specs.Fates.{below, fate, given, has_fate, came_places}
+use Rattle.esm_model.specs.Fates.{fate, given, has_fate, came_places}
 use Rattle.esm_model.specs.Checkpoint.{checkpoint}
-use Rattle.esm_model.specs.Owed.{is_unsorted}
 use Rattle.esm_model.specs.Step.{Legal}
-use Rattle.esm_model.proofs.Lists.{In, In-here, In-there, In-below, In-filter, take_while_agree}
+use Rattle.esm_model.proofs.Lists.{In, In-here, In-there, take_while_agree}
 use Rattle.esm_model.proofs.Records.{came_within}
-use Rattle.esm_model.proofs.Sound.{open_In}
-use Rattle.esm_model.proofs.Paid.{gave_In, gave_open}
+use Rattle.esm_model.proofs.Paid.{gave_open}
+use Rattle.esm_model.proofs.NamedPlaces.{names_came}
 use Rattle.esm_payload.specs.declared.said.Said.{Said}
 use Rattle.esm_payload.specs.Payload.{payload_of, IsSaid}
 use Rattle.esm_payload.specs.Parsing.{said_of}
 use Rattle.esm_payload.specs.EntryPayload.{entry_said, entry_payload, history_payloads, AllMayBeSaid}
 use Rattle.esm_payload.proofs.Payloads.{said_again}
+use Rattle.esm_payload.proofs.EntryFacts.{reversed}
 use Rattle.esm_said.specs.declared.kept.KeptFate.{KeptFate}
 use Rattle.esm_said.specs.Meaning.{text_named, only_at, fate_kept, fate_said, history}
 use Rattle.esm_said.specs.SaidLists.{SaidLists, fate_told}
@@ -39,17 +35,7 @@ use Rattle.esm_said.specs.Tells.{Tells, fate_of_found}
 abbrev fate_only : Option KeptFate → Option Fate
 fate_only o = option_map (λ (k : KeptFate). k.fate) o
 
--- the places of a legal `Gave` came, so their sequence numbers are there
-
-gave_came : (s : Setting) (h : List Entry) (by : Option LaneId) (n : ℕ) (places : List ℕ) (f : Fate) (line : Option (List ℕ)) (state : Option WindowState) (m : ℕ) → Legal s (Gave by n places f line state m ∷ h) → (i : ℕ) → In places i → i < came_count h n
-gave_came s h None n places Filtered line state m legal i member =
-    In-below (came_count h n) i (In-filter (is_unsorted s h n) (below (came_count h n)) i (subst (λ xs. In xs i) legal.1.1.exact member)).0
-gave_came s h None n places Succeeded line state m legal i member = absurd legal.1.1
-gave_came s h None n places Expired line state m legal i member = absurd legal.1.1
-gave_came s h None n places Exhausted line state m legal i member = absurd legal.1.1
-gave_came s h (Some at) n places f line state m legal i member =
-    let facts = gave_In s h at n places f line state m legal in
-    subst (λ k. i < came_count h k) (sym facts.0) (open_In s h at i (facts.1 i member)).0
+-- the sequence numbers of places that stand in the list
 
 text_there : (s : Setting) (n : ℕ) (places : List ℕ) → ((i : ℕ) → In places i → i < length (records_of s n)) → (i : ℕ) → is_some (text_named places (sequences_at s n places) i) ≡ holds places i
 text_there s n [] stand i = refl
@@ -95,7 +81,7 @@ fate_stands : (s : Setting) (old : List Said) (h : List Entry) → Legal s h →
 fate_stands s old [] legal found n i = found n i ∙ sym (or_nothing (option_map (λ (f : FoundFate). f.fate) (found_fate s n i)))
 fate_stands s old (Gave by k places f line state m ∷ h) legal found n i =
     one_fate_more (k == n) (text_named places (sequences_at s k places) i) (holds places i) (fate_said (filter_map (entry_said s) h ++ old) n i) (option_map (λ (f : FoundFate). f.fate) (found_fate s n i)) (given h n i) f
-    (text_there s k places (λ j member. (let came : j < came_count h k = gave_came s h by k places f line state m legal j member in let within : came_count h k ≤ length (records_of s k) = came_within s h legal.0 k in omega (arith, came, within))) i)
+    (text_there s k places (λ j member. (let came : j < came_count h k = names_came s h (Gave by k places f line state m) legal j member in let within : came_count h k ≤ length (records_of s k) = came_within s h legal.0 k in omega (arith, came, within))) i)
     (fate_stands s old h legal.0 found n i)
     (λ both. (let parts = and_parts (k == n) (holds places i) both in subst (λ j. is_none (fate s h j i) ≡ true) (eqb-true k n parts.0) (gave_open s h by k places f line state m legal i parts.1)))
 fate_stands s old (Came k first count m ∷ h) legal found n i = fate_stands s old h legal.0 found n i
@@ -108,18 +94,6 @@ fate_stands s old (Replayed k places m ∷ h) legal found n i = fate_stands s ol
 fate_stands s old (Shut m ∷ h) legal found n i = fate_stands s old h legal.0 found n i
 
 -- payloads
-
-reversed : (f : Entry → Option (List ℕ)) (h : List Entry) → filter_map f (reverse h) ≡ reverse (filter_map f h)
-reversed f [] = refl
-reversed f (e ∷ h) =
-    ap (filter_map f) (reverse_onto h e [])
-    ∙ filter_map-append f (reverse h) (e ∷ [])
-    ∙ ap (λ xs. xs ++ cons_option (f e) []) (reversed f h)
-    ∙ one (f e) (filter_map f h)
-  where
-    one : (o : Option (List ℕ)) (xs : List (List ℕ)) → reverse xs ++ cons_option o [] ≡ reverse (cons_option o xs)
-    one None xs = append-nil (reverse xs)
-    one (Some x) xs = sym (reverse_onto xs x [])
 
 one_again : (o : Option Said) (payloads : List (List ℕ)) → IfSome o IsSaid → filter_map said_of (cons_option (option_map payload_of o) payloads) ≡ cons_option o (filter_map said_of payloads)
 one_again None payloads may = refl
