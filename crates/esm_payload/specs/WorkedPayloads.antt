@@ -1,6 +1,7 @@
--- Worked payloads: a stream of one record, and entries that name it.
-use Rattle.std.specs.Prelude.{[], ◌∷◌, codes, Some, None}
+-- Worked payloads: a stream of one record, a queue of one message, and entries that name them.
+use Rattle.std.specs.Prelude.{List, [], ◌∷◌, codes, Some, None}
 use Rattle.esm_model.specs.Setup.{no_config}
+use Rattle.esm_model.specs.declared.item.Message.{Message}
 use Rattle.esm_model.specs.declared.lane.LaneId.{LaneId}
 use Rattle.esm_model.specs.declared.entry.Fate.TheVariants.{Succeeded}
 use Rattle.esm_model.specs.declared.entry.Entry.{Entry}
@@ -29,3 +30,11 @@ first_succeeds = Gave (Some first_lane) 0 (0 ∷ []) Succeeded None None 0
 -- it failed for the second time at the moment 250
 abbrev pub first_fails_again : Entry
 first_fails_again = Tried first_lane (0 ∷ []) None 2 250
+
+-- the final call of the window of the minutes 2 and 3 failed for the first time at the moment 120500
+abbrev pub final_call_fails : Entry
+final_call_fails = Tried first_lane [] (Some 120000) 1 120500
+
+-- the only message has the id `m`
+abbrev pub one_message : List Message
+one_message = record { id = codes "m"; group = None; body = codes "Hello"; sent = 0 } ∷ []

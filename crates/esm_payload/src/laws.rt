@@ -8,8 +8,8 @@ ghost use Rattle.esm_model.specs.Setting.{Setting, Stream, Extends, over};
 ghost use Rattle.esm_model.specs.Step.{Legal};
 ghost use Rattle.esm_model.specs.Kept.{IsLegal};
 ghost use Rattle.esm_model.specs.Books.{entries_told, setting_told, stream_may_follow};
-ghost use Rattle.esm_payload.specs.EntryPayload.{entry_payload, history_payloads, payloads_told, NamesStand};
-ghost use Rattle.esm_payload.specs.WorkedPayloads.{of_one_record, first_succeeds, first_fails_again};
+ghost use Rattle.esm_payload.specs.EntryPayload.{entry_payload, queue_payload, history_payloads, payloads_told, NamesStand};
+ghost use Rattle.esm_payload.specs.WorkedPayloads.{of_one_record, one_message, first_succeeds, first_fails_again, final_call_fails};
 ghost use Rattle.esm_payload.specs.declared.said.Said.{Said};
 ghost use Rattle.esm_payload.specs.declared.said.Said.TheVariants.{Fates};
 ghost use Rattle.esm_payload.specs.Payload.{payload_of, IsSaid};
@@ -36,6 +36,18 @@ pub fn first_record_succeeds()
 pub fn first_record_fails()
     ensures { entry_payload of_one_record first_fails_again
         ≡ Some (5 ∷ 0 ∷ 0 ∷ 0 ∷ 0 ∷ 0 ∷ 0 ∷ 0 ∷ 0 ∷ 0 ∷ 0 ∷ 0 ∷ 0 ∷ 0 ∷ 0 ∷ 0 ∷ 250 ∷ 0 ∷ 0 ∷ 0 ∷ 2 ∷ 0 ∷ 0 ∷ 0 ∷ 1 ∷ 0 ∷ 0 ∷ 0 ∷ 0 ∷ 1 ∷ 49 ∷ []) }
+{}
+
+/// A worked example: the final call of a tumbling window failed, which names the window and no record.
+pub fn window_fails()
+    ensures { entry_payload of_one_record final_call_fails
+        ≡ Some (6 ∷ 0 ∷ 0 ∷ 0 ∷ 0 ∷ 0 ∷ 0 ∷ 0 ∷ 0 ∷ 0 ∷ 0 ∷ 0 ∷ 0 ∷ 0 ∷ 1 ∷ 212 ∷ 192 ∷ 0 ∷ 0 ∷ 0 ∷ 0 ∷ 0 ∷ 1 ∷ 214 ∷ 180 ∷ 0 ∷ 0 ∷ 0 ∷ 1 ∷ []) }
+{}
+
+/// A worked example: in a queue's book the same fate is the deletion of the message.
+pub fn first_message_deleted()
+    ensures { queue_payload one_message first_succeeds
+        ≡ Some (3 ∷ 1 ∷ 0 ∷ 0 ∷ 0 ∷ 0 ∷ 0 ∷ 0 ∷ 0 ∷ 0 ∷ 0 ∷ 0 ∷ 0 ∷ 1 ∷ 0 ∷ 0 ∷ 0 ∷ 0 ∷ 1 ∷ 109 ∷ []) }
 {}
 
 /// The payload of an entry stays when the lists of records go on, where the places that it names stand in them.
