@@ -31,6 +31,7 @@ pub mod CallBound
 pub mod Earned
 pub mod Laws
 pub mod Worked
+pub mod WorkedLegal
 pub mod Kept
 pub mod Device
 pub mod Setup
