@@ -10,7 +10,7 @@ pub mod Debts
 pub mod Sound
 pub mod Paid
 pub mod WorkedLegal
-pub mod WorkedFacts
+pub mod WorkedSplits
 pub mod Counts
 pub mod Coming
 pub mod Fits

@@ -32,6 +32,7 @@ pub mod Earned
 pub mod Laws
 pub mod Worked
 pub mod WorkedLegal
+pub mod WorkedSplits
 pub mod Kept
 pub mod Device
 pub mod Setup
