@@ -11,6 +11,9 @@ pub mod Sound
 pub mod Paid
 pub mod WorkedLegal
 pub mod WorkedSplits
+pub mod WorkedRetries
+pub mod WorkedAges
+pub mod WorkedLanes
 pub mod Counts
 pub mod Coming
 pub mod Fits

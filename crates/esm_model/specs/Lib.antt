@@ -33,6 +33,9 @@ pub mod Laws
 pub mod Worked
 pub mod WorkedLegal
 pub mod WorkedSplits
+pub mod WorkedRetries
+pub mod WorkedAges
+pub mod WorkedLanes
 pub mod Kept
 pub mod Device
 pub mod Setup
