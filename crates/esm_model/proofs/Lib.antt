@@ -9,6 +9,7 @@ pub mod OtherShards
 pub mod Debts
 pub mod Sound
 pub mod Paid
+pub mod WorkedWords
 pub mod WorkedLegal
 pub mod WorkedSplits
 pub mod WorkedRetries
