@@ -15,6 +15,9 @@ pub mod WorkedSplits
 pub mod WorkedRetries
 pub mod WorkedAges
 pub mod WorkedLanes
+pub mod WorkedBatches
+pub mod WorkedAnswers
+pub mod WorkedWindows
 pub mod Counts
 pub mod Coming
 pub mod Fits

@@ -1,9 +1,9 @@
 -- A history that passes the tests is legal.
-use Rattle.std.proofs.Common.{◌≡◌, ℕ, ◌+◌, ◌<◌, ◌≤◌, Bool, true, false, not, cond, ◌&&◌, ◌||◌, List, [], ◌∷◌, ◌++◌, length, map, drop, refl, sym, ap, ◌∙◌, subst, ◌⊎◌, inl, inr, arith, Option, Some, None}
-use Rattle.std.specs.Prelude.{◌==◌, nat_le, nat_lt, filter, find, option_map, is_some, is_none, slice_get, if◌then◌else◌}
+use Rattle.std.proofs.Common.{◌≡◌, ℕ, ◌+◌, ◌<◌, ◌≤◌, Bool, true, false, not, cond, ◌&&◌, List, [], ◌∷◌, ◌++◌, map, drop, refl, sym, ap, ◌∙◌, subst, inl, inr, Option, Some, None}
+use Rattle.std.specs.Prelude.{◌==◌, nat_le, filter, find, option_map, is_none, slice_get}
 use Rattle.std.specs.List.{list_any, list_all}
 use Rattle.std.specs.Str.{bytes_eq}
-use Rattle.std.proofs.lemmas.Bool.{cases_Bool, and_parts, and_left, and_right, or_parts, eqb-true, leb-true, ltb-true, not-true}
+use Rattle.std.proofs.lemmas.Bool.{cases_Bool, and_parts, and_right, or_parts, eqb-true, leb-true, ltb-true}
 use Rattle.std.proofs.lemmas.List.Folds.{list_any-append}
 use Rattle.std.proofs.lemmas.Slice.Eq.{bytes_eq-Decides}
 use Rattle.esm_model.specs.Lane.{same_lane}
@@ -11,15 +11,14 @@ use Rattle.esm_model.specs.declared.item.Record.{Record}
 use Rattle.esm_model.specs.declared.lane.LaneId.{LaneId}
 use Rattle.esm_model.specs.declared.entry.Fate.{Fate}
 use Rattle.esm_model.specs.declared.entry.Fate.TheVariants.{Succeeded, Filtered, Expired, Exhausted}
-use Rattle.esm_model.specs.declared.entry.Reply.{Reply}
 use Rattle.esm_model.specs.declared.entry.WindowState.{WindowState}
 use Rattle.esm_model.specs.declared.entry.Entry.{Entry}
 use Rattle.esm_model.specs.declared.entry.Entry.TheVariants.{Came, Began, Ended, Gave, Tried, Closed, Replayed, Shut}
 use Rattle.esm_model.specs.declared.setup.FoundFate.{FoundFate}
 use Rattle.esm_model.specs.declared.setup.FoundTries.{FoundTries}
 use Rattle.esm_model.specs.declared.setup.FoundState.{FoundState}
-use Rattle.esm_model.specs.Setting.{Setting, record_at, found_fate, found_try, found_state}
-use Rattle.esm_model.specs.Entries.{holds, moment_of, came_count, shards_that_came, is_running}
+use Rattle.esm_model.specs.Setting.{Setting, record_at, found_fate, found_try}
+use Rattle.esm_model.specs.Entries.{holds, moment_of, came_count, shards_that_came}
 use Rattle.esm_model.specs.Fates.{below, same_fate}
 use Rattle.esm_model.specs.Windows.{kept_state, is_due}
 use Rattle.esm_model.specs.Owed.{Debt, debts, unsorted, is_unsorted, is_by, owed, IsOwed, Settled}
@@ -27,7 +26,7 @@ use Rattle.esm_model.specs.Step.{Legal, IsLater, IsKept, MayCome, MayFilter, May
 use Rattle.esm_model.specs.Checkpoint.{checkpoint}
 use Rattle.esm_model.specs.Worked.{calls_in, fates_in, all_have, lines_in, Runs}
 use Rattle.esm_model.specs.WorkedLegal.{same_option, same_state, same_number, same_entry, lanes_that_ended, with_window, windows_seen, is_text_of, is_kept, is_sorted, no_debts, is_settled, is_later, may_come, may_filter, may_call, may_begin, is_not_before, may_begin_final, may_expire, is_first, is_owed, may_give, may_follow, is_legal}
-use Rattle.esm_model.proofs.Lists.{In, In-cases, below-In}
+use Rattle.esm_model.proofs.Lists.{In, below-In}
 use Rattle.esm_model.proofs.Sound.{same_lane-true}
 
 -- ---- one value is another

@@ -1,5 +1,5 @@
 -- Worked examples, computed: tries, and the delays between them.
-use Rattle.std.proofs.Common.{◌≡◌, ◌≤◌, List, [], ◌∷◌, true, false, refl}
+use Rattle.std.proofs.Common.{◌≡◌, false, refl}
 use Rattle.esm_model.specs.Batches.{is_ready}
 use Rattle.esm_model.specs.Worked.{lane_0}
 use Rattle.esm_model.specs.WorkedRetries.{retrying, after_try_1, RetryDelays, EarlyCallIsNotLegal, once, ThrottledCall, ladder, DelayLadder, TriesOutlast}

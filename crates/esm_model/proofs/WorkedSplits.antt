@@ -1,8 +1,8 @@
 -- Worked examples, computed: batches that fail, whole or halved.
-use Rattle.std.proofs.Common.{◌≡◌, ℕ, List, [], ◌∷◌, refl}
+use Rattle.std.proofs.Common.{◌≡◌, [], ◌∷◌, refl}
 use Rattle.esm_model.specs.Batches.{batch}
 use Rattle.esm_model.specs.Worked.{lane_0, all_came}
-use Rattle.esm_model.specs.WorkedSplits.{bisecting, after_call_1, after_call_7, BisectEight, ShortBatchIsNotLegal, LaterHalfIsNotLegal, exhausting, exhausted_history, ExhaustEight, BisectItemFailures}
+use Rattle.esm_model.specs.WorkedSplits.{bisecting, after_call_1, BisectEight, ShortBatchIsNotLegal, LaterHalfIsNotLegal, ExhaustEight, BisectItemFailures, BudgetAndRestart}
 use Rattle.esm_model.proofs.WorkedWords.{worked_on_literals}
 use Rattle.esm_model.proofs.WorkedLegal.{runs}
 
@@ -31,3 +31,7 @@ exhaust_eight = runs _ _ _ _ _ _ refl refl refl refl refl
 pub bisect_item_failures : BisectItemFailures
 unfolding worked_on_literals
 bisect_item_failures = runs _ _ _ _ _ _ refl refl refl refl refl
+
+pub budget_and_restart : BudgetAndRestart
+unfolding worked_on_literals
+budget_and_restart = record { runs = runs _ _ _ _ _ _ refl refl refl refl refl; checkpoint_before = refl }

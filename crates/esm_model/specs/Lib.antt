@@ -36,6 +36,9 @@ pub mod WorkedSplits
 pub mod WorkedRetries
 pub mod WorkedAges
 pub mod WorkedLanes
+pub mod WorkedBatches
+pub mod WorkedAnswers
+pub mod WorkedWindows
 pub mod Kept
 pub mod Device
 pub mod Setup

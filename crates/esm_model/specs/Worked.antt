@@ -11,7 +11,10 @@ use Rattle.esm_model.specs.declared.entry.Entry.{Entry}
 use Rattle.esm_model.specs.declared.entry.Entry.TheVariants.{Came, Began, Ended, Gave, Shut}
 use Rattle.esm_model.specs.declared.entry.Reply.{Reply}
 use Rattle.esm_model.specs.declared.entry.Reply.TheVariants.{Answered}
+use Rattle.esm_model.specs.declared.called.Called.{Called}
+use Rattle.esm_model.specs.declared.setup.FoundFate.{FoundFate}
 use Rattle.esm_model.specs.Setting.{Setting}
+use Rattle.esm_model.specs.Calls.{calls}
 use Rattle.esm_model.specs.Fates.{fate, came_places}
 use Rattle.esm_model.specs.Checkpoint.{checkpoint}
 use Rattle.esm_model.specs.Step.{Legal}
@@ -88,6 +91,10 @@ good_call places moment h = gave places Succeeded moment ∷ ended succeeds mome
 abbrev pub all_came : ℕ → ℕ → List Entry
 all_came count moment = Shut moment ∷ Came 0 0 count moment ∷ []
 
+-- the journal tells that the record of shard 0 at the place succeeded
+abbrev pub found_success : ℕ → List ℕ → FoundFate
+found_success place text = record { shard = 0; place = place; fate = Succeeded; text = text }
+
 -- ---- what is said of a history
 
 abbrev pub is_call : Entry → Bool
@@ -97,6 +104,10 @@ is_call _ = false
 -- its calls, oldest first: lanes, places and moments
 abbrev pub calls_in : List Entry → List Entry
 calls_in h = filter is_call (reverse h)
+
+-- the events of the calls of the batcher that ended, oldest first
+abbrev pub events_in : Setting → List Entry → ℕ → List (List ℕ)
+events_in s h k = map (λ (c : Called). c.event) (calls s (λ event. event) h k)
 
 abbrev pub with_line : List (List ℕ) → Option (List ℕ) → List (List ℕ)
 with_line before None = before

@@ -1,5 +1,5 @@
 -- Worked examples: the greatest age of a record.
-use Rattle.std.specs.Prelude.{◌≡◌, ℕ, List, [], ◌∷◌, codes, Some, None}
+use Rattle.std.specs.Prelude.{ℕ, List, [], ◌∷◌, codes, Some, None}
 use Rattle.esm_model.specs.declared.config.Config.{Config}
 use Rattle.esm_model.specs.declared.entry.Fate.TheVariants.{Succeeded, Expired}
 use Rattle.esm_model.specs.declared.entry.Entry.{Entry}

@@ -1,5 +1,5 @@
 -- Worked examples: batches that fail, whole or halved.
-use Rattle.std.specs.Prelude.{ℕ, List, [], ◌∷◌, codes, Some, None, true, false}
+use Rattle.std.specs.Prelude.{◌≡◌, ℕ, List, [], ◌∷◌, codes, Some, None, true, false}
 use Rattle.esm_model.specs.declared.item.Record.{Record}
 use Rattle.esm_model.specs.declared.entry.Fate.TheVariants.{Succeeded, Exhausted}
 use Rattle.esm_model.specs.declared.entry.Reply.{Reply}
@@ -7,8 +7,9 @@ use Rattle.esm_model.specs.declared.entry.Reply.TheVariants.{Answered}
 use Rattle.esm_model.specs.declared.entry.Entry.{Entry}
 use Rattle.esm_model.specs.declared.entry.Entry.TheVariants.{Gave}
 use Rattle.esm_model.specs.Setting.{Setting}
+use Rattle.esm_model.specs.Checkpoint.{checkpoint}
 use Rattle.esm_model.specs.Step.{Legal}
-use Rattle.esm_model.specs.Worked.{plain_mapping, setting_over, records_with, lane_0, began, ended, gave, failed_call, good_call, all_came, Runs}
+use Rattle.esm_model.specs.Worked.{plain_mapping, setting_over, records_with, lane_0, began, ended, gave, failed_call, good_call, all_came, found_success, Runs}
 
 -- `bisect-eight`: eight records, halving, no retries; every call that holds the fifth record fails
 
@@ -84,3 +85,19 @@ BisectItemFailures =
     Runs halving_reports (good_call (2 ∷ 3 ∷ []) 0 (good_call (1 ∷ []) 0 first_given_up))
     (began (0 ∷ 1 ∷ 2 ∷ 3 ∷ []) 0 ∷ began (0 ∷ 1 ∷ []) 0 ∷ began (0 ∷ []) 0 ∷ began (1 ∷ []) 0 ∷ began (2 ∷ 3 ∷ []) 0 ∷ [])
     (Exhausted ∷ Succeeded ∷ Succeeded ∷ Succeeded ∷ []) [] 4
+
+-- `budget-and-restart`: after three calls of `bisect-eight` a second run finds the first four fates in the journal, and no
+-- trace of the halving
+
+abbrev pub bisecting_again : Setting
+bisecting_again = record bisecting { fates = found_success 0 (codes "1") ∷ found_success 1 (codes "2") ∷ found_success 2 (codes "3") ∷ found_success 3 (codes "4") ∷ [] }
+
+abbrev pub fifth_given_up : List Entry
+fifth_given_up = gave (4 ∷ []) Exhausted 0 ∷ failed_call (4 ∷ []) 0 (failed_call (4 ∷ 5 ∷ []) 0 (failed_call (4 ∷ 5 ∷ 6 ∷ 7 ∷ []) 0 (all_came 8 0)))
+
+-- the five calls of the second run; the checkpoint was 4, and is 8
+pub record BudgetAndRestart : Type 0 where
+  pub runs : Runs bisecting_again (good_call (6 ∷ 7 ∷ []) 0 (good_call (5 ∷ []) 0 fifth_given_up))
+    (began (4 ∷ 5 ∷ 6 ∷ 7 ∷ []) 0 ∷ began (4 ∷ 5 ∷ []) 0 ∷ began (4 ∷ []) 0 ∷ began (5 ∷ []) 0 ∷ began (6 ∷ 7 ∷ []) 0 ∷ [])
+    (Succeeded ∷ Succeeded ∷ Succeeded ∷ Succeeded ∷ Exhausted ∷ Succeeded ∷ Succeeded ∷ Succeeded ∷ []) [] 8
+  pub checkpoint_before : checkpoint bisecting_again (all_came 8 0) 0 ≡ 4
