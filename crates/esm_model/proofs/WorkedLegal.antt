@@ -1,7 +1,8 @@
 -- A history that passes the tests is legal.
 use Rattle.std.proofs.Common.{◌≡◌, ℕ, ◌+◌, ◌<◌, ◌≤◌, Bool, true, false, not, cond, ◌&&◌, List, [], ◌∷◌, ◌++◌, map, drop, refl, sym, ap, ◌∙◌, subst, inl, inr, Option, Some, None}
-use Rattle.std.specs.Prelude.{◌==◌, nat_le, filter, find, option_map, is_none, slice_get}
+use Rattle.std.specs.Prelude.{◌==◌, nat_eq, nat_le, filter, find, option_map, is_none, slice_get}
 use Rattle.std.specs.List.{list_any, list_all}
+use Rattle.std.specs.Option.{option_eq}
 use Rattle.std.specs.Str.{bytes_eq}
 use Rattle.std.proofs.lemmas.Bool.{cases_Bool, and_parts, and_right, or_parts, eqb-true, leb-true, ltb-true}
 use Rattle.std.proofs.lemmas.List.Folds.{list_any-append}
@@ -21,11 +22,11 @@ use Rattle.esm_model.specs.Setting.{Setting, record_at, found_fate, found_try}
 use Rattle.esm_model.specs.Entries.{holds, moment_of, came_count, shards_that_came}
 use Rattle.esm_model.specs.Fates.{below, same_fate}
 use Rattle.esm_model.specs.Windows.{kept_state, is_due}
-use Rattle.esm_model.specs.Owed.{Debt, debts, unsorted, is_unsorted, is_by, owed, IsOwed, Settled}
+use Rattle.esm_model.specs.Owed.{Debt, debts, unsorted, is_unsorted, owed, IsOwed, Settled}
 use Rattle.esm_model.specs.Step.{Legal, IsLater, IsKept, MayCome, MayFilter, MayCall, MayBegin, MayBeginFinal, MayExpire, MayGive, MayFollow}
 use Rattle.esm_model.specs.Checkpoint.{checkpoint}
 use Rattle.esm_model.specs.Worked.{calls_in, fates_in, all_have, lines_in, Runs}
-use Rattle.esm_model.specs.WorkedLegal.{same_option, same_state, same_number, same_entry, lanes_that_ended, with_window, windows_seen, is_text_of, is_kept, is_sorted, no_debts, is_settled, is_later, may_come, may_filter, may_call, may_begin, is_not_before, may_begin_final, may_expire, is_first, is_owed, may_give, may_follow, is_legal}
+use Rattle.esm_model.specs.WorkedLegal.{same_state, same_entry, lanes_that_ended, with_window, windows_seen, is_text_of, is_kept, is_sorted, no_debts, is_settled, is_later, may_come, may_filter, may_call, may_begin, is_not_before, may_begin_final, may_expire, is_entry, is_owed, may_give, may_follow, is_legal}
 use Rattle.esm_model.proofs.Lists.{In, below-In}
 use Rattle.esm_model.proofs.Sound.{same_lane-true}
 
@@ -34,7 +35,7 @@ use Rattle.esm_model.proofs.Sound.{same_lane-true}
 bytes_same : (xs ys : List ℕ) → bytes_eq xs ys ≡ true → xs ≡ ys
 bytes_same xs ys t = (bytes_eq-Decides xs ys).0 t
 
-option_same : {A : Type 0} (same : A → A → Bool) → ((a b : A) → same a b ≡ true → a ≡ b) → (x y : Option A) → same_option same x y ≡ true → x ≡ y
+option_same : {A : Type 0} (same : A → A → Bool) → ((a b : A) → same a b ≡ true → a ≡ b) → (x y : Option A) → option_eq same x y ≡ true → x ≡ y
 option_same same sound None None t = refl
 option_same same sound (Some a) (Some b) t = ap Some (sound a b t)
 option_same same sound None (Some b) t = cc
@@ -46,9 +47,6 @@ state_same a b t =
     let first : ℕ → WindowState = λ x. record { window = x; text = a.text } in
     let second : List ℕ → WindowState = λ y. record { window = b.window; text = y } in
     ap first (eqb-true a.window b.window parts.0) ∙ ap second (bytes_same a.text b.text parts.1)
-
-number_same : (a b : ℕ) → same_number a b ≡ true → a ≡ b
-number_same a b t = eqb-true a b t
 
 fate_same : (a b : Fate) → same_fate a b ≡ true → a ≡ b
 fate_same Succeeded Succeeded t = refl
@@ -95,7 +93,7 @@ entry_same (Tried lane places closing tries m) (Tried lane2 places2 closing2 tri
     let p4 = and_parts _ _ p3.1 in
     let e1 = same_lane-true lane lane2 p1.0 in
     let e2 = bytes_same places places2 p2.0 in
-    let e3 = option_same same_number number_same closing closing2 p3.0 in
+    let e3 = option_same nat_eq eqb-true closing closing2 p3.0 in
     let e4 = eqb-true tries tries2 p4.0 in
     let e5 = eqb-true m m2 p4.1 in
     cc
@@ -174,9 +172,9 @@ not_ended s (Ended at reply m ∷ h) lane none =
     ]
 not_ended s (Came shard first count m ∷ h) lane none = not_ended s h lane none
 not_ended s (Began at places closing m ∷ h) lane none = emptied (same_lane at lane) (debts s h lane) (not_ended s h lane none)
-not_ended s (Gave by shard places f line state m ∷ h) lane none = dropped (is_by lane (Gave by shard places f line state m)) (debts s h lane) (not_ended s h lane none)
-not_ended s (Tried at places closing tries m ∷ h) lane none = dropped (is_by lane (Tried at places closing tries m)) (debts s h lane) (not_ended s h lane none)
-not_ended s (Closed at window m ∷ h) lane none = dropped (is_by lane (Closed at window m)) (debts s h lane) (not_ended s h lane none)
+not_ended s (Gave by shard places f line state m ∷ h) lane none = dropped _ (debts s h lane) (not_ended s h lane none)
+not_ended s (Tried at places closing tries m ∷ h) lane none = dropped _ (debts s h lane) (not_ended s h lane none)
+not_ended s (Closed at window m ∷ h) lane none = dropped _ (debts s h lane) (not_ended s h lane none)
 not_ended s (Replayed shard places m ∷ h) lane none = not_ended s h lane none
 not_ended s (Shut m ∷ h) lane none = not_ended s h lane none
 
@@ -276,9 +274,9 @@ text_kept o p text r t e1 e2 =
 are_kept : (s : Setting) (n first count : ℕ) → list_all (is_kept s n) (below (first + count)) ≡ true → IsKept s n first count
 are_kept s n first count all = record {
   fates = λ i f r low high record_is fate_is.
-    text_kept (option_map (λ (f : FoundFate). f.text) (found_fate s n i)) (record_at s n i) f.text r (parts i high).0 (ap (option_map (λ (f : FoundFate). f.text)) fate_is) record_is;
+      text_kept (option_map (λ (f : FoundFate). f.text) (found_fate s n i)) (record_at s n i) f.text r (parts i high).0 (ap (option_map (λ (f : FoundFate). f.text)) fate_is) record_is;
   tries = λ i f r low high record_is tries_are.
-    text_kept (option_map (λ (f : FoundTries). f.text) (found_try s n i)) (record_at s n i) f.text r (parts i high).1 (ap (option_map (λ (f : FoundTries). f.text)) tries_are) record_is;
+      text_kept (option_map (λ (f : FoundTries). f.text) (found_try s n i)) (record_at s n i) f.text r (parts i high).1 (ap (option_map (λ (f : FoundTries). f.text)) tries_are) record_is;
 }
   where
     parts : (i : ℕ) → i < first + count
@@ -351,7 +349,7 @@ expires s h lane n places line state m t =
     let p6 = and_parts _ _ p5.1 in
     record { settled = settled s h p1.0; rests = is_false _ p2.0; shard = eqb-true _ _ p3.0; exact = bytes_same _ _ p4.0; some = leb-true _ _ p5.0; line_is = option_same bytes_eq bytes_same _ _ p6.0; no_state = none_from state p6.1 }
 
-first_is : (o : Option Entry) (e : Entry) → is_first o e ≡ true → o ≡ Some e
+first_is : (o : Option Entry) (e : Entry) → is_entry o e ≡ true → o ≡ Some e
 first_is None e t = cc
 first_is (Some first) e t = ap Some (entry_same first e t)
 

@@ -1,10 +1,10 @@
 -- Worked examples, computed: batches that fail, whole or halved.
-use Rattle.std.proofs.Common.{◌≡◌, [], ◌∷◌, refl}
+use Rattle.std.proofs.Common.{◌<◌, arith, ◌≡◌, [], ◌∷◌, refl}
 use Rattle.esm_model.specs.Batches.{batch}
 use Rattle.esm_model.specs.Worked.{lane_0, all_came}
-use Rattle.esm_model.specs.WorkedSplits.{bisecting, after_call_1, BisectEight, ShortBatchIsNotLegal, LaterHalfIsNotLegal, ExhaustEight, BisectItemFailures, BudgetAndRestart}
+use Rattle.esm_model.specs.WorkedSplits.{bisecting, after_call_1, after_call_3, BisectEight, ShortBatchIsNotLegal, LaterHalfIsNotLegal, ExhaustEight, BisectItemFailures, bisecting_thrice, BudgetAndRestart, FourthCallIsNotLegal}
 use Rattle.esm_model.proofs.WorkedWords.{worked_on_literals}
-use Rattle.esm_model.proofs.WorkedLegal.{runs}
+use Rattle.esm_model.proofs.WorkedLegal.{is_legal_sound, runs}
 
 pub bisect_eight : BisectEight
 unfolding worked_on_literals
@@ -34,4 +34,12 @@ bisect_item_failures = runs _ _ _ _ _ _ refl refl refl refl refl
 
 pub budget_and_restart : BudgetAndRestart
 unfolding worked_on_literals
-budget_and_restart = record { runs = runs _ _ _ _ _ _ refl refl refl refl refl; checkpoint_before = refl }
+budget_and_restart = record {
+  first_run = is_legal_sound bisecting_thrice after_call_3 refl;
+  checkpoint_left = refl;
+  runs = runs _ _ _ _ _ _ refl refl refl refl refl;
+  checkpoint_found = refl;
+}
+
+pub fourth_call : FourthCallIsNotLegal
+fourth_call legal = let three : 3 < 3 = legal.1.1.call.calls_left in absurd (omega arith)

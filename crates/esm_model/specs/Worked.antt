@@ -62,6 +62,14 @@ record_with seq arrival = record { shard = 0; seq = seq; key = codes "1"; payloa
 abbrev pub records_with : List (List ℕ) → List Record
 records_with seqs = map (λ (seq : List ℕ). record_with seq 0) seqs
 
+-- such a record as an event of the plain mapping shows it, by its sequence number and its arrival in seconds
+abbrev pub shown : List ℕ → List ℕ → List ℕ
+shown seq seconds =
+    codes "{\"kinesis\":{\"kinesisSchemaVersion\":\"1.0\",\"partitionKey\":\"1\",\"sequenceNumber\":\"" ++ seq
+    ++ codes "\",\"data\":\"SGVsbG8=\",\"approximateArrivalTimestamp\":" ++ seconds
+    ++ codes "},\"eventSource\":\"aws:kinesis\",\"eventVersion\":\"1.0\",\"eventID\":\"shardId-000000000000:" ++ seq
+    ++ codes "\",\"eventName\":\"aws:kinesis:record\",\"invokeIdentityArn\":\"arn:aws:iam::123456789012:role/esm\",\"awsRegion\":\"us-east-1\",\"eventSourceARN\":\"arn:aws:kinesis:us-east-1:123456789012:stream/s\"}"
+
 abbrev pub lane_0 : LaneId
 lane_0 = record { shard = 0; lane = 0 }
 

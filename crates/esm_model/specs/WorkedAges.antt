@@ -1,5 +1,5 @@
 -- Worked examples: the greatest age of a record.
-use Rattle.std.specs.Prelude.{ℕ, List, [], ◌∷◌, codes, Some, None}
+use Rattle.std.specs.Prelude.{ℕ, List, [], ◌∷◌, ◌++◌, codes, Some, None}
 use Rattle.esm_model.specs.declared.config.Config.{Config}
 use Rattle.esm_model.specs.declared.entry.Fate.TheVariants.{Succeeded, Expired}
 use Rattle.esm_model.specs.declared.entry.Entry.{Entry}
@@ -19,7 +19,13 @@ aging = setting_over aging_mapping (record_with (codes "1") 0 ∷ [])
 
 -- the line of the first record where it expires at 60001
 abbrev pub expired_line : List ℕ
-expired_line = codes "{\"requestContext\":{\"requestId\":\"00000000-0000-8000-8000-000000000000\",\"functionArn\":\"arn:aws:lambda:us-east-1:123456789012:function:f\",\"condition\":\"RecordAgeExceeded\",\"approximateInvokeCount\":0},\"version\":\"1.0\",\"timestamp\":\"1970-01-01T00:01:00.001Z\",\"KinesisBatchInfo\":{\"shardId\":\"shardId-000000000000\",\"startSequenceNumber\":\"1\",\"endSequenceNumber\":\"1\",\"approximateArrivalOfFirstRecord\":\"1970-01-01T00:00:00.000Z\",\"approximateArrivalOfLastRecord\":\"1970-01-01T00:00:00.000Z\",\"batchSize\":1,\"streamArn\":\"arn:aws:kinesis:us-east-1:123456789012:stream/s\"}}"
+expired_line =
+    codes "{\"requestContext\":{\"requestId\":\"00000000-0000-8000-8000-000000000000\",\"functionArn\":\"arn:aws:lambda:us-east-1:123456789012:function:f\","
+    ++ codes "\"condition\":\"RecordAgeExceeded\",\"approximateInvokeCount\":0},"
+    ++ codes "\"version\":\"1.0\",\"timestamp\":\"1970-01-01T00:01:00.001Z\","
+    ++ codes "\"KinesisBatchInfo\":{\"shardId\":\"shardId-000000000000\",\"startSequenceNumber\":\"1\",\"endSequenceNumber\":\"1\","
+    ++ codes "\"approximateArrivalOfFirstRecord\":\"1970-01-01T00:00:00.000Z\",\"approximateArrivalOfLastRecord\":\"1970-01-01T00:00:00.000Z\","
+    ++ codes "\"batchSize\":1,\"streamArn\":\"arn:aws:kinesis:us-east-1:123456789012:stream/s\"}}"
 
 abbrev pub expired_at : ℕ → List Entry → List Entry
 expired_at moment h = Gave (Some lane_0) 0 (0 ∷ []) Expired (Some expired_line) None moment ∷ h

@@ -1,5 +1,5 @@
 -- Worked examples: which records make a call, and when.
-use Rattle.std.specs.Prelude.{◌≡◌, ℕ, List, [], ◌∷◌, codes, None, false}
+use Rattle.std.specs.Prelude.{◌≡◌, ℕ, List, [], ◌∷◌, ◌++◌, codes, None, false}
 use Rattle.esm_model.specs.declared.config.Config.{Config}
 use Rattle.esm_model.specs.declared.entry.Fate.TheVariants.{Succeeded, Filtered}
 use Rattle.esm_model.specs.declared.entry.Entry.{Entry}
@@ -14,9 +14,16 @@ use Rattle.esm_model.specs.Worked.{plain_mapping, setting_over, record_with, rec
 abbrev pub one_record : Setting
 one_record = setting_over plain_mapping (record_with (codes "1") 0 ∷ [])
 
+-- its 415 bytes
+abbrev pub one_record_event : List ℕ
+one_record_event =
+    codes "{\"Records\":[{\"kinesis\":{\"kinesisSchemaVersion\":\"1.0\",\"partitionKey\":\"1\",\"sequenceNumber\":\"1\",\"data\":\"SGVsbG8=\",\"approximateArrivalTimestamp\":0.000},"
+    ++ codes "\"eventSource\":\"aws:kinesis\",\"eventVersion\":\"1.0\",\"eventID\":\"shardId-000000000000:1\",\"eventName\":\"aws:kinesis:record\","
+    ++ codes "\"invokeIdentityArn\":\"arn:aws:iam::123456789012:role/esm\",\"awsRegion\":\"us-east-1\",\"eventSourceARN\":\"arn:aws:kinesis:us-east-1:123456789012:stream/s\"}]}"
+
 pub record OneRecord : Type 0 where
   pub runs : Runs one_record (good_call (0 ∷ []) 0 (all_came 1 0)) (began (0 ∷ []) 0 ∷ []) (Succeeded ∷ []) [] 1
-  pub events : events_in one_record (good_call (0 ∷ []) 0 (all_came 1 0)) 0 ≡ codes "{\"Records\":[{\"kinesis\":{\"kinesisSchemaVersion\":\"1.0\",\"partitionKey\":\"1\",\"sequenceNumber\":\"1\",\"data\":\"SGVsbG8=\",\"approximateArrivalTimestamp\":0.000},\"eventSource\":\"aws:kinesis\",\"eventVersion\":\"1.0\",\"eventID\":\"shardId-000000000000:1\",\"eventName\":\"aws:kinesis:record\",\"invokeIdentityArn\":\"arn:aws:iam::123456789012:role/esm\",\"awsRegion\":\"us-east-1\",\"eventSourceARN\":\"arn:aws:kinesis:us-east-1:123456789012:stream/s\"}]}" ∷ []
+  pub events : events_in one_record (good_call (0 ∷ []) 0 (all_came 1 0)) 0 ≡ one_record_event ∷ []
 
 -- `batching-window`: a batch size of two and a window of a second
 

@@ -1,7 +1,8 @@
 -- Legality by tests that compute: each row of a history is judged over the shards, lanes and windows that occur in it.
 -- A history that passes is legal; the worked histories are judged so.
-use Rattle.std.specs.Prelude.{ℕ, ◌+◌, ◌==◌, nat_le, nat_lt, Bool, true, false, not, ◌&&◌, List, [], ◌∷◌, length, map, take, take_while, Option, Some, None, option_map, is_none, slice_get, if◌then◌else◌}
+use Rattle.std.specs.Prelude.{ℕ, ◌+◌, ◌==◌, nat_eq, nat_le, nat_lt, Bool, true, false, not, ◌&&◌, List, [], ◌∷◌, length, map, take, take_while, Option, Some, None, option_map, is_none, slice_get, if◌then◌else◌}
 use Rattle.std.specs.List.{list_any, list_all}
+use Rattle.std.specs.Option.{option_eq}
 use Rattle.std.specs.Str.{bytes_eq}
 use Rattle.esm_model.specs.declared.limits.TheConstants.{MAX_EXPIRED}
 use Rattle.esm_model.specs.declared.moment.TheConstants.{MAX_MOMENT}
@@ -27,23 +28,15 @@ use Rattle.esm_model.specs.Step.{is_front_expired}
 
 -- ---- one value is another
 
-abbrev pub same_option : {A : Type 0} → (A → A → Bool) → Option A → Option A → Bool
-same_option same None None = true
-same_option same (Some a) (Some b) = same a b
-same_option same _ _ = false
-
 abbrev pub same_state : WindowState → WindowState → Bool
 same_state a b = (a.window == b.window) && bytes_eq a.text b.text
-
-abbrev pub same_number : ℕ → ℕ → Bool
-same_number a b = a == b
 
 -- two entries of the kinds that a lane may owe
 abbrev pub same_entry : Entry → Entry → Bool
 same_entry (Gave by n places f line state m) (Gave by2 n2 places2 f2 line2 state2 m2) =
-    same_option same_lane by by2 && ((n == n2) && (bytes_eq places places2 && (same_fate f f2 && (same_option bytes_eq line line2 && (same_option same_state state state2 && (m == m2))))))
+    option_eq same_lane by by2 && ((n == n2) && (bytes_eq places places2 && (same_fate f f2 && (option_eq bytes_eq line line2 && (option_eq same_state state state2 && (m == m2))))))
 same_entry (Tried lane places closing tries m) (Tried lane2 places2 closing2 tries2 m2) =
-    same_lane lane lane2 && (bytes_eq places places2 && (same_option same_number closing closing2 && ((tries == tries2) && (m == m2))))
+    same_lane lane lane2 && (bytes_eq places places2 && (option_eq nat_eq closing closing2 && ((tries == tries2) && (m == m2))))
 same_entry (Closed lane window m) (Closed lane2 window2 m2) = same_lane lane lane2 && ((window == window2) && (m == m2))
 same_entry _ _ = false
 
@@ -127,15 +120,15 @@ may_expire s h lane n places line state m =
     && (not (is_running h lane)
     && ((n == lane.shard)
     && (bytes_eq places (take MAX_EXPIRED (take_while (is_expired s lane.shard m) (group s h lane)))
-    && (nat_le 1 (length places) && (same_option bytes_eq line (failure_line s h lane.shard places true m) && is_none state)))))
+    && (nat_le 1 (length places) && (option_eq bytes_eq line (failure_line s h lane.shard places true m) && is_none state)))))
 
-abbrev pub is_first : Option Entry → Entry → Bool
-is_first None e = false
-is_first (Some first) e = same_entry first e
+abbrev pub is_entry : Option Entry → Entry → Bool
+is_entry None e = false
+is_entry (Some first) e = same_entry first e
 
 -- the lane owes the entry first
 abbrev pub is_owed : Setting → List Entry → LaneId → Entry → Bool
-is_owed s h lane e = is_first (slice_get (owed s h lane) 0) e
+is_owed s h lane e = is_entry (slice_get (owed s h lane) 0) e
 
 abbrev pub may_give : Setting → List Entry → Option LaneId → ℕ → List ℕ → Fate → Option (List ℕ) → Option WindowState → ℕ → Bool
 may_give s h None n places Filtered line state m = may_filter s h n places line state m

@@ -5,7 +5,6 @@ use Rattle.esm_model.specs.declared.entry.Reply.{Reply}
 use Rattle.esm_model.specs.declared.entry.Reply.TheVariants.{Answered}
 use Rattle.esm_model.specs.declared.entry.Entry.{Entry}
 use Rattle.esm_model.specs.declared.entry.Entry.TheVariants.{Tried}
-
 use Rattle.esm_model.specs.Setting.{Setting}
 use Rattle.esm_model.specs.Batches.{delay_end}
 use Rattle.esm_model.specs.Tries.{tries}

@@ -1,5 +1,5 @@
 -- Worked examples: batches that fail, whole or halved.
-use Rattle.std.specs.Prelude.{◌≡◌, ℕ, List, [], ◌∷◌, codes, Some, None, true, false}
+use Rattle.std.specs.Prelude.{◌≡◌, ℕ, List, [], ◌∷◌, ◌++◌, codes, Some, None, true, false}
 use Rattle.esm_model.specs.declared.item.Record.{Record}
 use Rattle.esm_model.specs.declared.entry.Fate.TheVariants.{Succeeded, Exhausted}
 use Rattle.esm_model.specs.declared.entry.Reply.{Reply}
@@ -54,7 +54,13 @@ exhausting = setting_over (record plain_mapping { retries = Some 0; destination 
 
 abbrev pub exhausted_line : List ℕ
 exhausted_line =
-    codes "{\"requestContext\":{\"requestId\":\"00000000-0000-8000-8000-000000000000\",\"functionArn\":\"arn:aws:lambda:us-east-1:123456789012:function:f\",\"condition\":\"RetryAttemptsExhausted\",\"approximateInvokeCount\":1},\"responseContext\":{\"statusCode\":200,\"executedVersion\":\"$LATEST\",\"functionError\":\"Unhandled\"},\"version\":\"1.0\",\"timestamp\":\"1970-01-01T00:00:00.000Z\",\"KinesisBatchInfo\":{\"shardId\":\"shardId-000000000000\",\"startSequenceNumber\":\"1\",\"endSequenceNumber\":\"8\",\"approximateArrivalOfFirstRecord\":\"1970-01-01T00:00:00.000Z\",\"approximateArrivalOfLastRecord\":\"1970-01-01T00:00:00.000Z\",\"batchSize\":8,\"streamArn\":\"arn:aws:kinesis:us-east-1:123456789012:stream/s\"}}"
+    codes "{\"requestContext\":{\"requestId\":\"00000000-0000-8000-8000-000000000000\",\"functionArn\":\"arn:aws:lambda:us-east-1:123456789012:function:f\","
+    ++ codes "\"condition\":\"RetryAttemptsExhausted\",\"approximateInvokeCount\":1},"
+    ++ codes "\"responseContext\":{\"statusCode\":200,\"executedVersion\":\"$LATEST\",\"functionError\":\"Unhandled\"},"
+    ++ codes "\"version\":\"1.0\",\"timestamp\":\"1970-01-01T00:00:00.000Z\","
+    ++ codes "\"KinesisBatchInfo\":{\"shardId\":\"shardId-000000000000\",\"startSequenceNumber\":\"1\",\"endSequenceNumber\":\"8\","
+    ++ codes "\"approximateArrivalOfFirstRecord\":\"1970-01-01T00:00:00.000Z\",\"approximateArrivalOfLastRecord\":\"1970-01-01T00:00:00.000Z\","
+    ++ codes "\"batchSize\":8,\"streamArn\":\"arn:aws:kinesis:us-east-1:123456789012:stream/s\"}}"
 
 abbrev pub exhausted_history : List Entry
 exhausted_history = Gave (Some lane_0) 0 (0 ∷ 1 ∷ 2 ∷ 3 ∷ 4 ∷ 5 ∷ 6 ∷ 7 ∷ []) Exhausted (Some exhausted_line) None 0 ∷ after_call_1
@@ -95,9 +101,19 @@ bisecting_again = record bisecting { fates = found_success 0 (codes "1") ∷ fou
 abbrev pub fifth_given_up : List Entry
 fifth_given_up = gave (4 ∷ []) Exhausted 0 ∷ failed_call (4 ∷ []) 0 (failed_call (4 ∷ 5 ∷ []) 0 (failed_call (4 ∷ 5 ∷ 6 ∷ 7 ∷ []) 0 (all_came 8 0)))
 
--- the five calls of the second run; the checkpoint was 4, and is 8
+-- the first run may make three calls
+abbrev pub bisecting_thrice : Setting
+bisecting_thrice = record bisecting { calls = 3 }
+
+-- the first run leaves the checkpoint 4; the second goes on there, and makes five calls
 pub record BudgetAndRestart : Type 0 where
+  pub first_run : Legal bisecting_thrice after_call_3
+  pub checkpoint_left : checkpoint bisecting_thrice after_call_3 0 ≡ 4
   pub runs : Runs bisecting_again (good_call (6 ∷ 7 ∷ []) 0 (good_call (5 ∷ []) 0 fifth_given_up))
-    (began (4 ∷ 5 ∷ 6 ∷ 7 ∷ []) 0 ∷ began (4 ∷ 5 ∷ []) 0 ∷ began (4 ∷ []) 0 ∷ began (5 ∷ []) 0 ∷ began (6 ∷ 7 ∷ []) 0 ∷ [])
-    (Succeeded ∷ Succeeded ∷ Succeeded ∷ Succeeded ∷ Exhausted ∷ Succeeded ∷ Succeeded ∷ Succeeded ∷ []) [] 8
-  pub checkpoint_before : checkpoint bisecting_again (all_came 8 0) 0 ≡ 4
+      (began (4 ∷ 5 ∷ 6 ∷ 7 ∷ []) 0 ∷ began (4 ∷ 5 ∷ []) 0 ∷ began (4 ∷ []) 0 ∷ began (5 ∷ []) 0 ∷ began (6 ∷ 7 ∷ []) 0 ∷ [])
+      (Succeeded ∷ Succeeded ∷ Succeeded ∷ Succeeded ∷ Exhausted ∷ Succeeded ∷ Succeeded ∷ Succeeded ∷ []) [] 8
+  pub checkpoint_found : checkpoint bisecting_again (all_came 8 0) 0 ≡ 4
+
+-- the first run may make no fourth call
+abbrev pub FourthCallIsNotLegal : Type 0
+FourthCallIsNotLegal = ¬ Legal bisecting_thrice (began (4 ∷ 5 ∷ []) 0 ∷ after_call_3)

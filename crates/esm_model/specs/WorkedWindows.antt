@@ -1,5 +1,5 @@
 -- Worked examples: tumbling windows, their states and their final calls.
-use Rattle.std.specs.Prelude.{◌≡◌, ℕ, List, [], ◌∷◌, codes, Some, None, false}
+use Rattle.std.specs.Prelude.{◌≡◌, ℕ, List, [], ◌∷◌, ◌++◌, codes, Some, None, false}
 use Rattle.esm_model.specs.declared.entry.Fate.TheVariants.{Succeeded}
 use Rattle.esm_model.specs.declared.entry.Reply.{Reply}
 use Rattle.esm_model.specs.declared.entry.Reply.TheVariants.{Answered}
@@ -10,7 +10,7 @@ use Rattle.esm_model.specs.declared.verdict.StateRead.TheVariants.{Empty, Span, 
 use Rattle.esm_model.specs.Setting.{Setting}
 use Rattle.esm_model.specs.State.{state_read}
 use Rattle.esm_model.specs.Step.{Legal}
-use Rattle.esm_model.specs.Worked.{plain_mapping, setting_over, record_with, lane_0, succeeds, began, ended, all_came, found_success, events_in, Runs}
+use Rattle.esm_model.specs.Worked.{plain_mapping, setting_over, record_with, lane_0, succeeds, began, ended, all_came, found_success, shown, events_in, Runs}
 
 -- `tumbling-windows`: windows of two minutes; two records of the first window and one of the second
 
@@ -39,17 +39,26 @@ second_call h = stateful_call (2 ∷ []) (Answered 200 false (codes "{\"state\":
 abbrev pub windows_history : List Entry
 windows_history = final_call 120000 (second_call (final_call 0 (first_call three_came)))
 
+-- what stands behind the state in an event
+abbrev pub call_end : List ℕ
+call_end = codes "\"shardId\":\"shardId-000000000000\",\"eventSourceARN\":\"arn:aws:kinesis:us-east-1:123456789012:stream/s\",\"isFinalInvokeForWindow\":false,\"isWindowTerminatedEarly\":false}"
+
+abbrev pub final_call_end : List ℕ
+final_call_end = codes "\"shardId\":\"shardId-000000000000\",\"eventSourceARN\":\"arn:aws:kinesis:us-east-1:123456789012:stream/s\",\"isFinalInvokeForWindow\":true,\"isWindowTerminatedEarly\":false}"
+
 abbrev pub first_event : List ℕ
-first_event = codes "{\"Records\":[{\"kinesis\":{\"kinesisSchemaVersion\":\"1.0\",\"partitionKey\":\"1\",\"sequenceNumber\":\"1\",\"data\":\"SGVsbG8=\",\"approximateArrivalTimestamp\":1.000},\"eventSource\":\"aws:kinesis\",\"eventVersion\":\"1.0\",\"eventID\":\"shardId-000000000000:1\",\"eventName\":\"aws:kinesis:record\",\"invokeIdentityArn\":\"arn:aws:iam::123456789012:role/esm\",\"awsRegion\":\"us-east-1\",\"eventSourceARN\":\"arn:aws:kinesis:us-east-1:123456789012:stream/s\"},{\"kinesis\":{\"kinesisSchemaVersion\":\"1.0\",\"partitionKey\":\"1\",\"sequenceNumber\":\"2\",\"data\":\"SGVsbG8=\",\"approximateArrivalTimestamp\":119.999},\"eventSource\":\"aws:kinesis\",\"eventVersion\":\"1.0\",\"eventID\":\"shardId-000000000000:2\",\"eventName\":\"aws:kinesis:record\",\"invokeIdentityArn\":\"arn:aws:iam::123456789012:role/esm\",\"awsRegion\":\"us-east-1\",\"eventSourceARN\":\"arn:aws:kinesis:us-east-1:123456789012:stream/s\"}],\"window\":{\"start\":\"1970-01-01T00:00:00Z\",\"end\":\"1970-01-01T00:02:00Z\"},\"state\":{},\"shardId\":\"shardId-000000000000\",\"eventSourceARN\":\"arn:aws:kinesis:us-east-1:123456789012:stream/s\",\"isFinalInvokeForWindow\":false,\"isWindowTerminatedEarly\":false}"
+first_event =
+    codes "{\"Records\":[" ++ shown (codes "1") (codes "1.000") ++ codes "," ++ shown (codes "2") (codes "119.999")
+    ++ codes "],\"window\":{\"start\":\"1970-01-01T00:00:00Z\",\"end\":\"1970-01-01T00:02:00Z\"},\"state\":{}," ++ call_end
 
 abbrev pub first_final_event : List ℕ
-first_final_event = codes "{\"Records\":[],\"window\":{\"start\":\"1970-01-01T00:00:00Z\",\"end\":\"1970-01-01T00:02:00Z\"},\"state\":{\"n\":2},\"shardId\":\"shardId-000000000000\",\"eventSourceARN\":\"arn:aws:kinesis:us-east-1:123456789012:stream/s\",\"isFinalInvokeForWindow\":true,\"isWindowTerminatedEarly\":false}"
+first_final_event = codes "{\"Records\":[],\"window\":{\"start\":\"1970-01-01T00:00:00Z\",\"end\":\"1970-01-01T00:02:00Z\"},\"state\":{\"n\":2}," ++ final_call_end
 
 abbrev pub second_event : List ℕ
-second_event = codes "{\"Records\":[{\"kinesis\":{\"kinesisSchemaVersion\":\"1.0\",\"partitionKey\":\"1\",\"sequenceNumber\":\"3\",\"data\":\"SGVsbG8=\",\"approximateArrivalTimestamp\":120.000},\"eventSource\":\"aws:kinesis\",\"eventVersion\":\"1.0\",\"eventID\":\"shardId-000000000000:3\",\"eventName\":\"aws:kinesis:record\",\"invokeIdentityArn\":\"arn:aws:iam::123456789012:role/esm\",\"awsRegion\":\"us-east-1\",\"eventSourceARN\":\"arn:aws:kinesis:us-east-1:123456789012:stream/s\"}],\"window\":{\"start\":\"1970-01-01T00:02:00Z\",\"end\":\"1970-01-01T00:04:00Z\"},\"state\":{},\"shardId\":\"shardId-000000000000\",\"eventSourceARN\":\"arn:aws:kinesis:us-east-1:123456789012:stream/s\",\"isFinalInvokeForWindow\":false,\"isWindowTerminatedEarly\":false}"
+second_event = codes "{\"Records\":[" ++ shown (codes "3") (codes "120.000") ++ codes "],\"window\":{\"start\":\"1970-01-01T00:02:00Z\",\"end\":\"1970-01-01T00:04:00Z\"},\"state\":{}," ++ call_end
 
 abbrev pub second_final_event : List ℕ
-second_final_event = codes "{\"Records\":[],\"window\":{\"start\":\"1970-01-01T00:02:00Z\",\"end\":\"1970-01-01T00:04:00Z\"},\"state\":{\"n\":1},\"shardId\":\"shardId-000000000000\",\"eventSourceARN\":\"arn:aws:kinesis:us-east-1:123456789012:stream/s\",\"isFinalInvokeForWindow\":true,\"isWindowTerminatedEarly\":false}"
+second_final_event = codes "{\"Records\":[],\"window\":{\"start\":\"1970-01-01T00:02:00Z\",\"end\":\"1970-01-01T00:04:00Z\"},\"state\":{\"n\":1}," ++ final_call_end
 
 -- four calls, with the states of their windows
 pub record TumblingWindows : Type 0 where

@@ -4,7 +4,7 @@ ghost use Rattle.esm_model.specs.declared.entry.Entry.{Entry};
 ghost use Rattle.esm_model.specs.Setting.{Setting};
 ghost use Rattle.esm_model.specs.Step.{Legal};
 ghost use Rattle.esm_model.specs.WorkedLegal.{is_legal};
-ghost use Rattle.esm_model.specs.WorkedSplits.{BisectEight, ShortBatchIsNotLegal, LaterHalfIsNotLegal, ExhaustEight, BisectItemFailures, BudgetAndRestart};
+ghost use Rattle.esm_model.specs.WorkedSplits.{BisectEight, ShortBatchIsNotLegal, LaterHalfIsNotLegal, ExhaustEight, BisectItemFailures, BudgetAndRestart, FourthCallIsNotLegal};
 ghost use Rattle.esm_model.specs.WorkedRetries.{RetryDelays, EarlyCallIsNotLegal, ThrottledCall, DelayLadder, TriesOutlast};
 ghost use Rattle.esm_model.specs.WorkedAges.{RecordAge, LateCallIsNotLegal, AgeEdge};
 ghost use Rattle.esm_model.specs.WorkedLanes.{TwoLanes};
@@ -18,8 +18,9 @@ pub fn legal_by_tests()
 {}
 
 /// Eight records of which the fifth fails are halved down to it in seven calls, or given up as a whole with one
-/// failure line; item failures halve a batch too, and a second run goes on from the fates that it finds. A batch that leaves out a record that fits may not begin, and
-/// the later half of a halved batch may not go first.
+/// failure line; item failures halve a batch too, and a second run goes on from the fates that it finds. A batch
+/// that leaves out a record that fits may not begin, the later half of a halved batch may not go first, and no
+/// call goes beyond those allowed.
 pub fn splits()
     ensures bisect_eight { BisectEight }
     ensures exhaust_eight { ExhaustEight }
@@ -27,6 +28,7 @@ pub fn splits()
     ensures budget_and_restart { BudgetAndRestart }
     ensures short_batch { ShortBatchIsNotLegal }
     ensures later_half { LaterHalfIsNotLegal }
+    ensures fourth_call { FourthCallIsNotLegal }
 {}
 
 /// A record that fails is called again after a delay, which doubles up to a minute, until its retries are spent; a

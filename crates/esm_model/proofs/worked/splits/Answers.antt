@@ -9,4 +9,5 @@ returns c = record {
   budget_and_restart = facts.budget_and_restart;
   short_batch = facts.short_batch;
   later_half = facts.later_half;
+  fourth_call = facts.fourth_call;
 }
