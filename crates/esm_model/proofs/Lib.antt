@@ -25,6 +25,10 @@ pub mod Histories
 pub mod Earning
 pub mod Owing
 pub mod OtherLanes
+pub mod TellingFacts
+pub mod Agreeing
+pub mod BookLaws
+pub mod NamedPlaces
 pub mod CallsMade
 pub mod Settling
 pub mod OneLane
@@ -35,7 +39,3 @@ pub mod Extended
 pub mod Unchanged
 pub mod NumberLemmas
 pub mod JsonLemmas
-pub mod TellingFacts
-pub mod Agreeing
-pub mod BookLaws
-pub mod NamedPlaces

@@ -25,7 +25,8 @@ use Rattle.esm_model.specs.Windows.{kept_state, is_due}
 use Rattle.esm_model.specs.Owed.{Debt, debts, unsorted, is_unsorted, owed, IsOwed, Settled}
 use Rattle.esm_model.specs.Step.{Legal, IsLater, IsKept, MayCome, MayFilter, MayCall, MayBegin, MayBeginFinal, MayExpire, MayGive, MayFollow}
 use Rattle.esm_model.specs.Checkpoint.{checkpoint}
-use Rattle.esm_model.specs.Worked.{calls_in, fates_in, all_have, lines_in, Runs}
+use Rattle.esm_model.specs.Books.{lines_of}
+use Rattle.esm_model.specs.Worked.{calls_in, fates_in, all_have, Runs}
 use Rattle.esm_model.specs.WorkedLegal.{same_state, same_entry, lanes_that_ended, with_window, windows_seen, is_text_of, is_kept, is_sorted, no_debts, is_settled, is_later, may_come, may_filter, may_call, may_begin, is_not_before, may_begin_final, may_expire, is_entry, is_owed, may_give, may_follow, is_legal}
 use Rattle.esm_model.proofs.Lists.{In, below-In}
 use Rattle.esm_model.proofs.Sound.{same_lane-true}
@@ -386,7 +387,7 @@ is_legal_sound s (e ∷ h) t =
 
 -- a worked history, by computing
 pub runs : (s : Setting) (h begun : List Entry) (fates : List Fate) (lines : List (List ℕ)) (point : ℕ)
-    → is_legal s h ≡ true → calls_in h ≡ begun → fates_in s h 0 ≡ all_have fates → lines_in h ≡ lines → checkpoint s h 0 ≡ point
+    → is_legal s h ≡ true → calls_in h ≡ begun → fates_in s h 0 ≡ all_have fates → lines_of h ≡ lines → checkpoint s h 0 ≡ point
     → Runs s h begun fates lines point
 runs s h begun fates lines point legal are_calls are_fates are_lines is_point =
     record { is_legal = is_legal_sound s h legal; calls_are = are_calls; fates_are = are_fates; lines_are = are_lines; checkpoint_is = is_point }

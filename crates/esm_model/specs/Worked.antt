@@ -17,6 +17,7 @@ use Rattle.esm_model.specs.Setting.{Setting}
 use Rattle.esm_model.specs.Calls.{calls}
 use Rattle.esm_model.specs.Fates.{fate, came_places}
 use Rattle.esm_model.specs.Checkpoint.{checkpoint}
+use Rattle.esm_model.specs.Books.{lines_of}
 use Rattle.esm_model.specs.Step.{Legal}
 
 -- a mapping of the stream `s` to the function `f`, each field at its default
@@ -117,19 +118,6 @@ calls_in h = filter is_call (reverse h)
 abbrev pub events_in : Setting → List Entry → ℕ → List (List ℕ)
 events_in s h k = map (λ (c : Called). c.event) (calls s (λ event. event) h k)
 
-abbrev pub with_line : List (List ℕ) → Option (List ℕ) → List (List ℕ)
-with_line before None = before
-with_line before (Some line) = before ++ line ∷ []
-
-abbrev pub lines_after : List (List ℕ) → Entry → List (List ℕ)
-lines_after before (Gave by shard places fate line state moment) = with_line before line
-lines_after before _ = before
-
--- its failure lines, oldest first
-abbrev pub lines_in : List Entry → List (List ℕ)
-lines_in [] = []
-lines_in (e ∷ h) = lines_after (lines_in h) e
-
 -- the fate of each record of the shard that came, in order of places
 abbrev pub fates_in : Setting → List Entry → ℕ → List (Option Fate)
 fates_in s h n = map (fate s h n) (came_places h n)
@@ -142,5 +130,5 @@ pub record Runs (s : Setting) (h calls : List Entry) (fates : List Fate) (lines 
   pub is_legal : Legal s h
   pub calls_are : calls_in h ≡ calls
   pub fates_are : fates_in s h 0 ≡ all_have fates
-  pub lines_are : lines_in h ≡ lines
+  pub lines_are : lines_of h ≡ lines
   pub checkpoint_is : checkpoint s h 0 ≡ point

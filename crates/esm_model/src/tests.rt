@@ -1,20 +1,7 @@
-use crate::{Seq, SeqError, Text, lane_of};
+use crate::{Seq, SeqError};
 use std::alloc::Global;
 use std::cmp::Ordering;
 use std::test::Fail;
-
-fn key(alloc: Global, text: &str) -> Result<Text, Fail> {
-    Ok(Text::from_vec(String::from_str(alloc, text)?))
-}
-
-// The MD5 of `1` ends in 9b and that of `2` in 2c.
-#[test]
-fn two_lanes(rt: HostRuntime) -> Result<(), Fail> {
-    let alloc = rt.alloc();
-    assert_eq!(rt; lane_of(&key(alloc, "1")?, 2), 1);
-    assert_eq!(rt; lane_of(&key(alloc, "2")?, 2), 0);
-    Ok(())
-}
 
 fn refusal(alloc: Global, text: &str) -> Option<SeqError> {
     Seq::read(alloc, text).err()

@@ -3,15 +3,15 @@
 //! Pure: values in, values out. No device, clock or thread.
 #![tactic(auto)]
 
-mod stream_core;
 mod gather;
 mod ledger;
 mod settling;
 mod slot;
+mod stream_core;
 mod verdict;
 
-pub use stream_core::Core;
 pub use esm_model::{CameError, Job, Next};
+pub use stream_core::Core;
 
 #[cfg(test)]
 mod tests;

@@ -1,6 +1,6 @@
 use Rattle.std.proofs.Common.{◌∙◌, length}
 use Rattle.esm_journal.specs.Replace.{IsClosed}
-use Rattle.esm_journal.proofs.Runs.{called}
+use Rattle.esm_io.proofs.Leaving.{called}
 use Rattle.esm_journal.proofs.Replaced.{torn_apart}
 use Rattle.esm_journal.proofs.replace.write_apart.Goals as goal
 
