@@ -18,6 +18,7 @@ pub mod laws;
 pub mod limits;
 pub mod memory;
 pub mod moment;
+pub mod received;
 pub mod sequence;
 pub mod setup;
 pub mod spelling;
@@ -44,6 +45,7 @@ pub use limits::{
 };
 pub use memory::OutOfMemory;
 pub use moment::MAX_MOMENT;
+pub use received::Received;
 pub use sequence::{Seq, SeqError};
 pub use setup::{FoundDeletion, FoundFate, FoundState, FoundTries, FoundWindowTries, Setup, Told};
 pub use text::{Bytes, Places, Text, Texts};
