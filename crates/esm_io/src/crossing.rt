@@ -1,6 +1,6 @@
 use crate::{
     FileDisk, FileSource, HostClock, MemDest, MemDisk, MemDoor, MemLink, MemSink, MemSource,
-    ScriptCaller, StdinSource, StdoutSink, StepClock, TcpLink,
+    ScriptCaller, StdinSource, StdoutSink, StepClock, TcpDoor, TcpLink,
 };
 
 fn crosses<T: Send>() {}
@@ -22,5 +22,6 @@ pub fn forms_cross() {
     crosses::<StdoutSink<HostRuntime>>();
     crosses::<StdinSource<HostRuntime>>();
     crosses::<TcpLink<HostRuntime>>();
+    crosses::<TcpDoor<HostRuntime>>();
     is_shared::<HostClock<HostRuntime>>();
 }

@@ -2,7 +2,7 @@ ghost use Rattle.std.specs.Prelude.{◌≡◌, ◌≤◌, ℕ, List, [], ◌∷�
 ghost use Rattle.esm_io.specs.Faults.{IsCount, Rose};
 ghost use Rattle.esm_io.specs.Told.{Grows};
 
-use esm_model::OutOfMemory;
+use esm_model::{MAX_PAYLOAD, OutOfMemory};
 use std::alloc::Global;
 
 /// Why a line was not delivered.
@@ -46,7 +46,7 @@ pub trait Dest {
     /// Delivers a line. `Failed` only where the count of faults rose; the line may then stand at the destination
     /// though it is not among the lines told.
     fn deliver(&mut self, alloc: Global, line: &[u8]) -> Result<(), DestError>
-        requires short { length line.now ≤ 16777216 }
+        requires short { length line.now ≤ MAX_PAYLOAD }
         requires usable { failed self.old ≡ false }
         ensures sent { OnOk result (Grows (lines self.old) (lines self.new) (sends line.now ∷ [])) }
         ensures unsent { OnErr result (lines self.new ≡ lines self.old) }

@@ -1,62 +1,154 @@
-ghost use Rattle.std.specs.Prelude.{[], false};
+ghost use Rattle.std.specs.Prelude.{◌≡◌, [], true, false, IfOk, IsErr, OnErr};
+ghost use Rattle.esm_io.specs.Faults.{IsCount, Rose};
 
 use crate::disk::Disk;
 use crate::failed::Failed;
 use crate::real::counted;
 use esm_model::{OutOfMemory, Text};
-use std::fs::{OpenFile, OpenOptions};
-use std::io;
+use std::fs::{File, OpenOptions};
 use std::io::{Read, Seek, SeekFrom, Write};
+use std::marker::Model;
+use std::path::Path;
 use std::rt::Files;
+use std::{fs, io};
 
-/// A file as a disk. The first call opens it, and makes a missing one with length 0. It may be any disk, so nothing
-/// is said of what it holds.
+/// A file as a disk. It may be any disk, so nothing is said of what it holds.
+///
+/// The first call opens the file, makes a missing one with length 0, and takes an exclusive advisory lock (`flock`)
+/// that stands until this value is dropped. Where that fails, as in a missing folder or at a file that another open
+/// has locked, the call is a fault and the next one tries again.
+///
+/// The first `sync` syncs the file's folder too, so that a file that was made is still found there after a crash.
+/// After a `write_at` or a `sync` that failed every later call is a fault: what the system still holds of the bytes
+/// is then unknown, and a further sync could answer Ok without them.
 #[derive(Drop)]
-pub struct FileDisk<R: Files + Clone> {
+pub struct FileDisk<R: Files<File = File> + Clone> {
     rt: R,
     path: Text,
-    file: Option<R::File>,
+    file: Option<File>,
+    folder_synced: bool,
+    down: bool,
     faults: u64,
 }
 
-impl<R: Files + Clone> FileDisk<R> {
-    pub fn new(rt: &R, path: Text) -> Result<Self, OutOfMemory> {
-        Ok(FileDisk {
-            rt: rt.clone()?,
-            path,
-            file: None,
-            faults: 0,
-        })
+impl<R: Files<File = File> + Clone> Model for FileDisk<R> {
+    ghost use Rattle.esm_io.specs.Forms.{FileDiskState};
+
+    ghost Value = { FileDiskState };
+
+    ghost view = { λ s. record { down = s.down; faults = s.faults } };
+}
+
+/// Opens and locks the file; makes a missing one.
+fn open_locked<R: Files<File = File>>(rt: &R, path: &str) -> io::Result<File> {
+    let file = OpenOptions::new()
+        .read(true)
+        .write(true)
+        .create(true)
+        .open(rt, path)?;
+    file.try_lock()?;
+    Ok(file)
+}
+
+/// The folder that a path's last name stands in.
+fn folder_of(path: &str) -> &str {
+    match Path::new(path).parent() {
+        Some(folder) if !folder.as_str().is_empty() => folder.as_str(),
+        _ => ".",
     }
 }
 
-/// The file, opened by the first call.
-fn opened<R: Files>(rt: &R, path: &Text, file: Option<R::File>) -> io::Result<R::File> {
-    match file {
-        Some(file) => Ok(file),
-        None => OpenOptions::new()
-            .read(true)
-            .write(true)
-            .create(true)
-            .open(rt, path.as_str()),
-    }
+fn sync_folder<R: Files<File = File>>(rt: &R, path: &str) -> io::Result<()> {
+    fs::open(rt, folder_of(path))?.sync_all()
 }
 
-fn length_of<F: OpenFile>(file: &F) -> io::Result<u64> {
-    Ok(file.metadata()?.len())
-}
-
-fn read_at<F: Read + Seek>(file: &mut F, at: u64, into: &mut [u8]) -> io::Result<()> {
+fn read_at(file: &mut File, at: u64, into: &mut [u8]) -> io::Result<()> {
     file.seek(SeekFrom::Start(at))?;
     file.read_exact(into)
 }
 
-fn write_at<F: Write + Seek>(file: &mut F, at: u64, from: &[u8]) -> io::Result<()> {
+fn write_at(file: &mut File, at: u64, from: &[u8]) -> io::Result<()> {
     file.seek(SeekFrom::Start(at))?;
     file.write_all(from)
 }
 
-impl<R: Files + Clone> Disk for FileDisk<R> {
+impl<R: Files<File = File> + Clone> FileDisk<R> {
+    /// A disk over the file at this path. It opens nothing.
+    pub fn new(rt: &R, path: Text) -> Result<Self, OutOfMemory>
+        ensures faultless { IfOk result (λ disk. disk.faults ≡ 0) }
+        ensures up { IfOk result (λ disk. disk.down ≡ false) }
+    {
+        Ok(FileDisk {
+            rt: rt.clone()?,
+            path,
+            file: None,
+            folder_synced: false,
+            down: false,
+            faults: 0,
+        })
+    }
+
+    /// The open file, taken out for one call; `file` is to be set again.
+    fn take_file(&mut self) -> io::Result<File>
+        ensures same { self.new ≡ self.old }
+        ensures down { self.old.down ≡ true → IsErr result }
+    {
+        if self.down {
+            return Err(io::Error::from(io::ErrorKind::Other));
+        }
+        match self.file.take() {
+            Some(file) => Ok(file),
+            None => open_locked(&self.rt, self.path.as_str()),
+        }
+    }
+
+    fn length(&mut self) -> io::Result<u64>
+        ensures same { self.new ≡ self.old }
+        ensures down { self.old.down ≡ true → IsErr result }
+    {
+        let file = self.take_file()?;
+        let metadata = file.metadata();
+        self.file = Some(file);
+        Ok(metadata?.len())
+    }
+
+    fn read_bytes(&mut self, at: u64, into: &mut [u8]) -> io::Result<()>
+        ensures same { self.new ≡ self.old }
+        ensures down { self.old.down ≡ true → IsErr result }
+    {
+        let mut file = self.take_file()?;
+        let done = read_at(&mut file, at, into);
+        self.file = Some(file);
+        done
+    }
+
+    fn write_bytes(&mut self, at: u64, from: &[u8]) -> io::Result<()>
+        ensures same { self.new ≡ self.old }
+        ensures down { self.old.down ≡ true → IsErr result }
+    {
+        let mut file = self.take_file()?;
+        let done = write_at(&mut file, at, from);
+        self.file = Some(file);
+        done
+    }
+
+    fn sync_file_and_folder(&mut self) -> io::Result<()>
+        ensures same { self.new ≡ self.old }
+        ensures down { self.old.down ≡ true → IsErr result }
+    {
+        let file = self.take_file()?;
+        let done = file.sync_all();
+        self.file = Some(file);
+        done?;
+        if !self.folder_synced {
+            sync_folder(&self.rt, self.path.as_str())?;
+            self.folder_synced = true;
+        }
+        Ok(())
+    }
+}
+
+impl<R: Files<File = File> + Clone> Disk for FileDisk<R> {
     ghost faults = { λ s. s.faults };
 
     ghost honest = { λ s. false };
@@ -75,35 +167,45 @@ impl<R: Files + Clone> Disk for FileDisk<R> {
 
     ghost only_now = { λ s left h since. tt };
 
-    fn len(&mut self) -> Result<u64, Failed> {
-        let file = opened(&self.rt, &self.path, self.file.take());
-        let file = counted(&mut self.faults, file)?;
-        let length = counted(&mut self.faults, length_of(&file));
-        self.file = Some(file);
-        length
+    fn len(&mut self) -> Result<u64, Failed>
+        ensures count { IsCount self.old.faults self.new.faults }
+        ensures cause { OnErr result (Rose self.old.faults self.new.faults) }
+        ensures down { self.old.down ≡ true → IsErr result }
+        ensures down_kept { self.new.down ≡ self.old.down }
+    {
+        let length = self.length();
+        counted(&mut self.faults, length)
     }
 
-    fn read(&mut self, at: u64, into: &mut [u8]) -> Result<(), Failed> {
-        let file = opened(&self.rt, &self.path, self.file.take());
-        let mut file = counted(&mut self.faults, file)?;
-        let done = counted(&mut self.faults, read_at(&mut file, at, into));
-        self.file = Some(file);
-        done
+    fn read(&mut self, at: u64, into: &mut [u8]) -> Result<(), Failed>
+        ensures count { IsCount self.old.faults self.new.faults }
+        ensures cause { OnErr result (Rose self.old.faults self.new.faults) }
+        ensures down { self.old.down ≡ true → IsErr result }
+        ensures down_kept { self.new.down ≡ self.old.down }
+    {
+        let done = self.read_bytes(at, into);
+        counted(&mut self.faults, done)
     }
 
-    fn write_at(&mut self, at: u64, from: &[u8]) -> Result<(), Failed> {
-        let file = opened(&self.rt, &self.path, self.file.take());
-        let mut file = counted(&mut self.faults, file)?;
-        let done = counted(&mut self.faults, write_at(&mut file, at, from));
-        self.file = Some(file);
-        done
+    fn write_at(&mut self, at: u64, from: &[u8]) -> Result<(), Failed>
+        ensures count { IsCount self.old.faults self.new.faults }
+        ensures cause { OnErr result (Rose self.old.faults self.new.faults) }
+        ensures down { self.old.down ≡ true → IsErr result }
+        ensures goes_down { OnErr result (self.new.down ≡ true) }
+    {
+        let done = self.write_bytes(at, from);
+        self.down = done.is_err();
+        counted(&mut self.faults, done)
     }
 
-    fn sync(&mut self) -> Result<(), Failed> {
-        let file = opened(&self.rt, &self.path, self.file.take());
-        let file = counted(&mut self.faults, file)?;
-        let done = counted(&mut self.faults, file.sync_all());
-        self.file = Some(file);
-        done
+    fn sync(&mut self) -> Result<(), Failed>
+        ensures count { IsCount self.old.faults self.new.faults }
+        ensures cause { OnErr result (Rose self.old.faults self.new.faults) }
+        ensures down { self.old.down ≡ true → IsErr result }
+        ensures goes_down { OnErr result (self.new.down ≡ true) }
+    {
+        let done = self.sync_file_and_folder();
+        self.down = done.is_err();
+        counted(&mut self.faults, done)
     }
 }

@@ -1,4 +1,4 @@
-ghost use Rattle.std.specs.Prelude.{None};
+ghost use Rattle.std.specs.Prelude.{◌≡◌, None, IfOk};
 
 use crate::failed::Failed;
 use crate::real::counted;
@@ -6,6 +6,7 @@ use crate::source::Source;
 use esm_model::{OutOfMemory, Text};
 use std::fs;
 use std::io::Read;
+use std::marker::Model;
 use std::rt::Files;
 
 /// A file that is read from its front. A missing one is a fault of the first read.
@@ -17,8 +18,19 @@ pub struct FileSource<R: Files + Clone> {
     faults: u64,
 }
 
+impl<R: Files + Clone> Model for FileSource<R> {
+    ghost use Rattle.esm_io.specs.Forms.{RealState};
+
+    ghost Value = { RealState };
+
+    ghost view = { λ s. record { faults = s.faults } };
+}
+
 impl<R: Files + Clone> FileSource<R> {
-    pub fn new(rt: &R, path: Text) -> Result<Self, OutOfMemory> {
+    /// The bytes of the file at this path. It opens nothing.
+    pub fn new(rt: &R, path: Text) -> Result<Self, OutOfMemory>
+        ensures faultless { IfOk result (λ source. source.faults ≡ 0) }
+    {
         Ok(FileSource {
             rt: rt.clone()?,
             path,

@@ -3,36 +3,37 @@
 //! real forms, a few lines each.
 #![tactic(auto)]
 
-pub mod caller;
-pub mod clock;
-pub mod crash;
-pub mod dest;
-pub mod disk;
-pub mod disk_step;
-pub mod door;
-pub mod failed;
-pub mod file_disk;
-pub mod file_source;
-pub mod host_clock;
-pub mod link;
-pub mod mem_dest;
-pub mod mem_disk;
-pub mod mem_door;
-pub mod mem_link;
-pub mod mem_sink;
-pub mod mem_source;
-pub mod pieces;
-pub mod put_byte;
-pub mod real;
-pub mod schedule;
-pub mod script;
-pub mod script_caller;
-pub mod sink;
-pub mod source;
-pub mod stdin_source;
-pub mod stdout_sink;
-pub mod step_clock;
-pub mod tcp_link;
+mod caller;
+mod clock;
+mod crash;
+mod dest;
+mod disk;
+mod disk_step;
+mod door;
+mod failed;
+mod file_disk;
+mod file_source;
+mod host_clock;
+mod link;
+mod mem_dest;
+mod mem_disk;
+mod mem_door;
+mod mem_link;
+mod mem_sink;
+mod mem_source;
+mod pieces;
+mod put_byte;
+mod real;
+mod schedule;
+mod script;
+mod script_caller;
+mod sink;
+mod source;
+mod stdin_source;
+mod stdout_sink;
+mod step_clock;
+mod tcp_door;
+mod tcp_link;
 
 pub use caller::Caller;
 pub use clock::Clock;
@@ -58,6 +59,7 @@ pub use source::Source;
 pub use stdin_source::StdinSource;
 pub use stdout_sink::StdoutSink;
 pub use step_clock::StepClock;
+pub use tcp_door::TcpDoor;
 pub use tcp_link::TcpLink;
 
 #[cfg(test)]

@@ -5,7 +5,7 @@ ghost use Rattle.esm_io.specs.Schedule.{is_due, after_call};
 
 use crate::dest::{Dest, DestError};
 use crate::schedule::Schedule;
-use esm_model::{Bytes, OutOfMemory};
+use esm_model::{Bytes, MAX_PAYLOAD, OutOfMemory};
 use std::alloc::{AllocError, Global};
 use std::marker::Model;
 
@@ -108,7 +108,7 @@ impl Dest for MemDest {
     }
 
     fn deliver(&mut self, alloc: Global, line: &[u8]) -> Result<(), DestError>
-        requires short { length line.now ≤ 16777216 }
+        requires short { length line.now ≤ MAX_PAYLOAD }
         requires usable { self.old.failed ≡ false }
         ensures sent { OnOk result (Grows (Some self.old.lines) (Some self.new.lines) (line.now ∷ [])) }
         ensures unsent { OnErr result (self.new.lines ≡ self.old.lines) }

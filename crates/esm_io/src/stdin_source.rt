@@ -1,10 +1,11 @@
-ghost use Rattle.std.specs.Prelude.{None};
+ghost use Rattle.std.specs.Prelude.{◌≡◌, None, IfOk};
 
 use crate::failed::Failed;
 use crate::real::counted;
 use crate::source::Source;
 use esm_model::OutOfMemory;
 use std::io::Read;
+use std::marker::Model;
 
 /// Standard input.
 #[derive(Drop)]
@@ -14,8 +15,18 @@ pub struct StdinSource<R: Input + Clone> {
     faults: u64,
 }
 
+impl<R: Input + Clone> Model for StdinSource<R> {
+    ghost use Rattle.esm_io.specs.Forms.{RealState};
+
+    ghost Value = { RealState };
+
+    ghost view = { λ s. record { faults = s.faults } };
+}
+
 impl<R: Input + Clone> StdinSource<R> {
-    pub fn new(rt: &R) -> Result<Self, OutOfMemory> {
+    pub fn new(rt: &R) -> Result<Self, OutOfMemory>
+        ensures faultless { IfOk result (λ source. source.faults ≡ 0) }
+    {
         Ok(StdinSource {
             rt: rt.clone()?,
             reader: None,

@@ -1,10 +1,11 @@
-ghost use Rattle.std.specs.Prelude.{◌<◌, ◌≤◌, None, IfOk, length};
+ghost use Rattle.std.specs.Prelude.{◌≡◌, ◌<◌, ◌≤◌, None, IfOk, length};
 
 use crate::failed::Failed;
 use crate::real::counted;
 use crate::sink::Sink;
 use esm_model::OutOfMemory;
 use std::io;
+use std::marker::Model;
 
 /// Standard output.
 #[derive(Drop)]
@@ -13,8 +14,18 @@ pub struct StdoutSink<R: Print + Clone> {
     faults: u64,
 }
 
+impl<R: Print + Clone> Model for StdoutSink<R> {
+    ghost use Rattle.esm_io.specs.Forms.{RealState};
+
+    ghost Value = { RealState };
+
+    ghost view = { λ s. record { faults = s.faults } };
+}
+
 impl<R: Print + Clone> StdoutSink<R> {
-    pub fn new(rt: &R) -> Result<Self, OutOfMemory> {
+    pub fn new(rt: &R) -> Result<Self, OutOfMemory>
+        ensures faultless { IfOk result (λ sink. sink.faults ≡ 0) }
+    {
         Ok(StdoutSink {
             rt: rt.clone()?,
             faults: 0,
@@ -34,7 +45,7 @@ impl<R: Print + Clone> Sink for StdoutSink<R> {
 }
 
 /// Writes bytes from the front, at least one where there are any.
-pub fn write_some<R: Print>(rt: &R, from: &[u8]) -> io::Result<usize>
+fn write_some<R: Print>(rt: &R, from: &[u8]) -> io::Result<usize>
     ensures within { IfOk result (λ n. n ≤ length from.now) }
     ensures some { IfOk result (λ n. 0 < length from.now → 0 < n) }
 {

@@ -1,4 +1,4 @@
-ghost use Rattle.std.specs.Prelude.{◌<◌, ◌≤◌, None, IfOk, length};
+ghost use Rattle.std.specs.Prelude.{◌≡◌, ◌<◌, ◌≤◌, None, IfOk, length};
 
 use crate::failed::Failed;
 use crate::link::Link;
@@ -6,33 +6,71 @@ use crate::real::counted;
 use esm_model::OutOfMemory;
 use std::io;
 use std::io::{Read, Write};
+use std::marker::Model;
 use std::net::{Ipv4Addr, Net, TcpStream};
 
-/// A connection to a port on 127.0.0.1. The first call makes it; where that fails, the next call tries again.
+/// A connection over TCP. One to a port of 127.0.0.1 is made by its first call; where that fails, the next call tries
+/// again. One that a door accepted is there from the start.
 #[derive(Drop)]
 pub struct TcpLink<R: Net + Clone> {
-    rt: R,
-    port: u16,
+    /// Where to connect to; none for a connection that was accepted.
+    peer: Option<Peer<R>>,
     stream: Option<R::Stream>,
     faults: u64,
 }
 
+/// A port of 127.0.0.1.
+#[derive(Drop)]
+struct Peer<R: Net + Clone> {
+    rt: R,
+    port: u16,
+}
+
+impl<R: Net + Clone> Model for TcpLink<R> {
+    ghost use Rattle.esm_io.specs.Forms.{RealState};
+
+    ghost Value = { RealState };
+
+    ghost view = { λ s. record { faults = s.faults } };
+}
+
 impl<R: Net + Clone> TcpLink<R> {
-    pub fn new(rt: &R, port: u16) -> Result<Self, OutOfMemory> {
-        Ok(TcpLink {
+    /// A connection to this port. It opens nothing.
+    pub fn new(rt: &R, port: u16) -> Result<Self, OutOfMemory>
+        ensures faultless { IfOk result (λ link. link.faults ≡ 0) }
+    {
+        let peer = Peer {
             rt: rt.clone()?,
             port,
+        };
+        Ok(TcpLink {
+            peer: Some(peer),
             stream: None,
             faults: 0,
         })
     }
+
+    /// A connection that a listener has accepted.
+    pub fn accepted(stream: R::Stream) -> Self
+        ensures faultless { result.faults ≡ 0 }
+    {
+        TcpLink {
+            peer: None,
+            stream: Some(stream),
+            faults: 0,
+        }
+    }
 }
 
 /// The connection, made by the first call.
-fn connected<R: Net>(rt: &R, port: u16, stream: Option<R::Stream>) -> io::Result<R::Stream> {
-    match stream {
-        Some(stream) => Ok(stream),
-        None => TcpStream::connect(rt, (Ipv4Addr::LOCALHOST, port)),
+fn connected<R: Net + Clone>(
+    peer: &Option<Peer<R>>,
+    stream: Option<R::Stream>,
+) -> io::Result<R::Stream> {
+    match (stream, peer) {
+        (Some(stream), _) => Ok(stream),
+        (None, Some(peer)) => TcpStream::connect(&peer.rt, (Ipv4Addr::LOCALHOST, peer.port)),
+        (None, None) => Err(io::Error::from(io::ErrorKind::NotConnected)),
     }
 }
 
@@ -54,7 +92,7 @@ impl<R: Net + Clone> Link for TcpLink<R> {
     ghost told = { λ s. None };
 
     fn read(&mut self, into: &mut [u8]) -> Result<usize, Failed> {
-        let stream = connected(&self.rt, self.port, self.stream.take());
+        let stream = connected(&self.peer, self.stream.take());
         let mut stream = counted(&mut self.faults, stream)?;
         let count = counted(&mut self.faults, stream.read(into));
         self.stream = Some(stream);
@@ -63,7 +101,7 @@ impl<R: Net + Clone> Link for TcpLink<R> {
 
     /// What takes nothing of bytes that are there has failed.
     fn write(&mut self, from: &[u8]) -> Result<usize, Failed> {
-        let stream = connected(&self.rt, self.port, self.stream.take());
+        let stream = connected(&self.peer, self.stream.take());
         let mut stream = counted(&mut self.faults, stream)?;
         let count = counted(&mut self.faults, write_front(&mut stream, from));
         self.stream = Some(stream);
