@@ -1,6 +1,6 @@
 -- How runs of device calls go on.
 use Rattle.std.proofs.Common.{◌≤◌, ℕ, List, inl, inr, ⊎_elim, arith}
-use Rattle.esm_io.specs.Images.{LeavesOnly}
+use Rattle.esm_io.specs.Images.{LeavesOnly, Elapses}
 
 module _ {D : Type 0} (moment : D → ℕ) (since : D → ℕ → List ℕ → Type 0) where
   -- before the first call
@@ -24,4 +24,20 @@ module _ {D : Type 0} (moment : D → ℕ) (since : D → ℕ → List ℕ → T
     later = run.later;
     each = λ image was. fits image (run.each image was);
     before = λ t image le was. ⊎_elim (λ p. inl p) (λ p. inr (fits image p)) (run.before t image le was);
+  }
+
+  -- one run, of which two things are said
+  pub both : (old new : D) (P Q R : List ℕ → Type 0) → LeavesOnly moment since old new P → LeavesOnly moment since old new Q → ((image : List ℕ) → P image → Q image → R image) → LeavesOnly moment since old new R
+  both old new P Q R one two fits = record {
+    later = one.later;
+    each = λ image was. fits image (one.each image was) (two.each image was);
+    before = λ t image le was. ⊎_elim (λ p. inl p) (λ p. ⊎_elim (λ q. inl q) (λ q. inr (fits image p q)) (two.before t image le was)) (one.before t image le was);
+  }
+
+  -- one call, after which each image has P
+  pub called : (old new : D) (P : List ℕ → Type 0) → Elapses (moment old) (moment new) (since old) (since new) → ((image : List ℕ) → since new (moment old) image → P image) → LeavesOnly moment since old new P
+  called old new P time each = record {
+    later = time.later;
+    each = each;
+    before = λ t image le was. ⊎_elim (λ p. inl p) (λ s. inr (each image s)) (time.no_other t image le was);
   }

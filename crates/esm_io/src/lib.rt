@@ -65,4 +65,6 @@ pub use tcp_link::TcpLink;
 #[cfg(test)]
 mod crossing;
 #[cfg(test)]
+mod real_tests;
+#[cfg(test)]
 mod tests;
