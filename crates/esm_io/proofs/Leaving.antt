@@ -1,5 +1,5 @@
 -- How runs of device calls go on.
-use Rattle.std.proofs.Common.{◌≤◌, ℕ, List, inl, inr, ⊎_elim, arith}
+use Rattle.std.proofs.Common.{ℕ, List, inl, inr, ⊎_elim, arith}
 use Rattle.esm_io.specs.Images.{LeavesOnly, Elapses}
 
 module _ {D : Type 0} (moment : D → ℕ) (since : D → ℕ → List ℕ → Type 0) where

@@ -48,14 +48,18 @@ pub trait Dest {
     fn deliver(&mut self, alloc: Global, line: &[u8]) -> Result<(), DestError>
         requires short { length line.now ≤ MAX_PAYLOAD }
         requires usable { failed self.old ≡ false }
+        // The lines.
         ensures sent { OnOk result (Grows (lines self.old) (lines self.new) (sends line.now ∷ [])) }
         ensures unsent { OnErr result (lines self.new ≡ lines self.old) }
+        // Whether it takes a further line.
         ensures usable_still { OnOk result (failed self.new ≡ false) }
         ensures usable_again { IsErrOf result DestError.OutOfMemory → failed self.new ≡ false }
         ensures down { IsErrOf result DestError.Failed → failed self.new ≡ true }
+        // Want of memory.
         ensures room { IsErrOf result DestError.OutOfMemory → has_room self.old (length line.now) → ⊥ }
         ensures room_kept { IsErrOf result DestError.OutOfMemory → (n : ℕ) → has_room self.old n → has_room self.new n }
         ensures uncounted { IsErrOf result DestError.OutOfMemory → faults self.new ≡ faults self.old }
+        // Honesty and faults.
         ensures honesty { honest self.new ≡ honest self.old }
         ensures count { IsCount (faults self.old) (faults self.new) }
         ensures cause { IsErrOf result DestError.Failed → Rose (faults self.old) (faults self.new) };

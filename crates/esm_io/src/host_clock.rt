@@ -11,6 +11,7 @@ pub struct HostClock<R: std::rt::Clock + Clone> {
 }
 
 impl<R: std::rt::Clock + Clone> HostClock<R> {
+    /// The clock of this host. It reads nothing.
     pub fn new(rt: &R) -> Result<Self, OutOfMemory> {
         Ok(HostClock { rt: rt.clone()? })
     }

@@ -110,16 +110,21 @@ impl Dest for MemDest {
     fn deliver(&mut self, alloc: Global, line: &[u8]) -> Result<(), DestError>
         requires short { length line.now ≤ MAX_PAYLOAD }
         requires usable { self.old.failed ≡ false }
+        // The lines.
         ensures sent { OnOk result (Grows (Some self.old.lines) (Some self.new.lines) (line.now ∷ [])) }
         ensures unsent { OnErr result (self.new.lines ≡ self.old.lines) }
+        // Whether it takes a further line.
         ensures usable_still { OnOk result (self.new.failed ≡ false) }
         ensures usable_again { IsErrOf result DestError.OutOfMemory → self.new.failed ≡ false }
         ensures down { IsErrOf result DestError.Failed → self.new.failed ≡ true }
+        // Want of memory.
         ensures room { IsErrOf result DestError.OutOfMemory → length line.now < self.old.room → ⊥ }
         ensures room_kept { IsErrOf result DestError.OutOfMemory → (n : ℕ) → n < self.old.room → n < self.new.room }
         ensures uncounted { IsErrOf result DestError.OutOfMemory → self.new.schedule.faults ≡ self.old.schedule.faults }
+        // Faults.
         ensures count { IsCount self.old.schedule.faults self.new.schedule.faults }
         ensures cause { IsErrOf result DestError.Failed → Rose self.old.schedule.faults self.new.schedule.faults }
+        // Which deliveries fail.
         ensures due { is_due self.old.schedule ≡ true → IsErrOf result DestError.Failed }
         ensures not_due { is_due self.old.schedule ≡ false → IsErrOf result DestError.Failed → ⊥ }
         ensures counted { self.new.schedule ≡ after_call self.old.schedule }

@@ -178,12 +178,15 @@ impl Disk for MemDisk {
 
     fn read(&mut self, at: u64, into: &mut [u8]) -> Result<(), Failed>
         requires { at + length into.old ≤ length self.old.content }
+        // What a read gives.
         ensures bytes { OnOk result (into.new ≡ take (length into.old) (drop at self.old.content)) }
         ensures unfilled { OnErr result (into.new ≡ into.old) }
         ensures same { self.new.content ≡ self.old.content }
         ensures steps { self.new.steps ≡ self.old.steps }
+        // What a crash may leave.
         ensures images { Within (IsImage self.old.content self.old.steps) (IsImageSince self.new.content self.new.steps (length self.old.steps)) }
         ensures time { Elapses (length self.old.steps) (length self.new.steps) (IsImageSince self.old.content self.old.steps) (IsImageSince self.new.content self.new.steps) }
+        // Faults, and which calls fail.
         ensures count { IsCount self.old.schedule.faults self.new.schedule.faults }
         ensures cause { OnErr result (Rose self.old.schedule.faults self.new.schedule.faults) }
         ensures due { is_due self.old.schedule ≡ true → IsErr result }
@@ -202,13 +205,16 @@ impl Disk for MemDisk {
     /// A write that finds no memory fails too, and has changed nothing.
     fn write_at(&mut self, at: u64, from: &[u8]) -> Result<(), Failed>
         requires { at ≤ length self.old.content }
+        // What a read gives, and the record of the write.
         ensures written { OnOk result (self.new.content ≡ overwritten self.old.content at from.now) }
         ensures recorded { OnOk result (self.new.steps ≡ DiskStep.Wrote at (length from.now) (take (length from.now) (drop at self.old.content)) ∷ self.old.steps) }
         ensures torn { OnErr result (Torn at (length from.now) self.old.content self.new.content) }
         ensures unwritten { OnErr result (self.new.content ≡ self.old.content) }
         ensures unrecorded { OnErr result (self.new.steps ≡ self.old.steps) }
+        // What a crash may leave.
         ensures images { Follows (Torn at (length from.now)) (IsImage self.old.content self.old.steps) (IsImageSince self.new.content self.new.steps (length self.old.steps)) }
         ensures time { Elapses (length self.old.steps) (length self.new.steps) (IsImageSince self.old.content self.old.steps) (IsImageSince self.new.content self.new.steps) }
+        // Faults, and which calls fail.
         ensures count { IsCount self.old.schedule.faults self.new.schedule.faults }
         ensures cause { OnErr result (Rose self.old.schedule.faults self.new.schedule.faults) }
         ensures due { is_due self.old.schedule ≡ true → IsErr result }
@@ -235,12 +241,15 @@ impl Disk for MemDisk {
 
     /// A sync that finds no memory fails too.
     fn sync(&mut self) -> Result<(), Failed>
+        // What a crash leaves, and the record of the sync.
         ensures durable { OnOk result (Only self.old.content (IsImage self.new.content self.new.steps)) }
         ensures recorded { OnOk result (self.new.steps ≡ DiskStep.Synced ∷ self.old.steps) }
         ensures same { self.new.content ≡ self.old.content }
         ensures unrecorded { OnErr result (self.new.steps ≡ self.old.steps) }
+        // What a crash may leave meanwhile.
         ensures images { Within (IsImage self.old.content self.old.steps) (IsImageSince self.new.content self.new.steps (length self.old.steps)) }
         ensures time { Elapses (length self.old.steps) (length self.new.steps) (IsImageSince self.old.content self.old.steps) (IsImageSince self.new.content self.new.steps) }
+        // Faults, and which calls fail.
         ensures count { IsCount self.old.schedule.faults self.new.schedule.faults }
         ensures cause { OnErr result (Rose self.old.schedule.faults self.new.schedule.faults) }
         ensures due { is_due self.old.schedule ≡ true → IsErr result }

@@ -65,13 +65,16 @@ impl Door for MemDoor {
 
     /// Fails too where no connection is left. A call that is to fail takes none.
     fn accept(&mut self) -> Result<MemLink, Failed>
+        // As of any door.
         ensures fresh { IfOk result (λ conn. IsFresh (Some conn.talk)) }
         ensures faultless { IfOk result (λ conn. conn.schedule.faults ≡ 0) }
         ensures kept { self.new.closed ≡ self.old.closed }
         ensures count { IsCount self.old.schedule.faults self.new.schedule.faults }
         ensures cause { OnErr result (Rose self.old.schedule.faults self.new.schedule.faults) }
+        // Which connection it gives.
         ensures in_order { IfOk result (λ conn. self.old.links ≡ conn ∷ self.new.links) }
         ensures untaken { OnErr result (self.new.links ≡ self.old.links) }
+        // Which calls fail.
         ensures due { is_due self.old.schedule ≡ true → IsErr result }
         ensures not_due { is_due self.old.schedule ≡ false → 0 < length self.old.links → IsOk result }
         ensures counted { OnOk result (self.new.schedule ≡ after_call self.old.schedule) }

@@ -24,6 +24,7 @@ impl<R: Input + Clone> Model for StdinSource<R> {
 }
 
 impl<R: Input + Clone> StdinSource<R> {
+    /// Standard input from where it stands. It reads nothing.
     pub fn new(rt: &R) -> Result<Self, OutOfMemory>
         ensures faultless { IfOk result (λ source. source.faults ≡ 0) }
     {

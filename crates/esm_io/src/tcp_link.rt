@@ -51,7 +51,7 @@ impl<R: Net + Clone> TcpLink<R> {
     }
 
     /// A connection that a listener has accepted.
-    pub fn accepted(stream: R::Stream) -> Self
+    pub(crate) fn accepted(stream: R::Stream) -> Self
         ensures faultless { result.faults ≡ 0 }
     {
         TcpLink {

@@ -3,10 +3,9 @@ ghost use Rattle.std.specs.Prelude.{◌≡◌, ℕ, [], ◌∷◌, false, IfOk};
 
 use crate::put_byte::put_byte;
 use crate::{
-    Caller, Clock, Dest, DestError, Disk, Door, Failed, Link, MemDest, MemDisk, MemDoor, MemLink,
-    MemSink, MemSource, Script, ScriptCaller, Sink, Source, StepClock,
+    Clock, Dest, DestError, Disk, Door, Failed, Link, MemDest, MemDisk, MemDoor, MemLink, MemSink,
+    MemSource, Sink, Source, StepClock,
 };
-use esm_model::{Bytes, Reply};
 use std::alloc::{AllocError, Global};
 use std::process::Abort;
 
@@ -54,29 +53,6 @@ fn clock_steps(rt: HostRuntime) {
     let clock = StepClock::new(5);
     let moments = [clock.now(), clock.pause(9), clock.pause(7), clock.now()];
     assert_eq!(rt; moments, [5, 9, 9, 9]);
-}
-
-/// The call has the function error; none: it was lost, or there was no memory.
-fn has_error(caller: &mut ScriptCaller, alloc: Global, event: &[u8]) -> Option<bool> {
-    match caller.call(alloc, "f", event) {
-        Ok(Reply::Answered { error, .. }) => Some(error),
-        _ => None,
-    }
-}
-
-#[test]
-fn poison_fails_and_one_call_is_lost(rt: HostRuntime) {
-    let alloc = rt.alloc();
-    let text = [2, 3].to_vec(alloc).expect(&rt, "memory");
-    let fails = [1].to_vec(alloc).expect(&rt, "memory");
-    let mut caller = ScriptCaller::recording(alloc, Script::Poison(Bytes::from_vec(text)), fails);
-    let errors = [
-        has_error(&mut caller, alloc, &[1, 2, 3]),
-        has_error(&mut caller, alloc, &[1]),
-        has_error(&mut caller, alloc, &[3, 2]),
-    ];
-    assert!(rt; errors == [Some(true), None, Some(false)]);
-    assert_eq!(rt; caller.log().map(|log| log.len()), Some(3));
 }
 
 /// What a crash leaves of bytes 1 to 4, all synced, over which 7, 8 and 9 were written from the last of them on.
