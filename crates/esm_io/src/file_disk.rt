@@ -1,4 +1,4 @@
-ghost use Rattle.std.specs.Prelude.{◌≡◌, [], true, false, IfOk, IsErr, OnErr};
+ghost use Rattle.std.specs.Prelude.{◌≡◌, [], true, false, IfOk, IsErr, OnOk, OnErr};
 ghost use Rattle.esm_io.specs.Faults.{IsCount, Rose};
 
 use crate::disk::Disk;
@@ -73,7 +73,7 @@ fn write_at(file: &mut File, at: u64, from: &[u8]) -> io::Result<()> {
 }
 
 impl<R: Files<File = File> + Clone> FileDisk<R> {
-    /// A disk over the file at this path. It opens nothing.
+    /// A disk over the file at this path. It opens nothing. `OutOfMemory` where the runtime's handle cannot be copied.
     pub fn new(rt: &R, path: Text) -> Result<Self, OutOfMemory>
         ensures faultless { IfOk result (λ disk. disk.faults ≡ 0) }
         ensures up { IfOk result (λ disk. disk.down ≡ false) }
@@ -192,6 +192,7 @@ impl<R: Files<File = File> + Clone> Disk for FileDisk<R> {
         ensures cause { OnErr result (Rose self.old.faults self.new.faults) }
         ensures down { self.old.down ≡ true → IsErr result }
         ensures goes_down { OnErr result (self.new.down ≡ true) }
+        ensures stays_up { OnOk result (self.new.down ≡ false) }
     {
         let done = self.write_bytes(at, from);
         self.down = done.is_err();
@@ -203,6 +204,7 @@ impl<R: Files<File = File> + Clone> Disk for FileDisk<R> {
         ensures cause { OnErr result (Rose self.old.faults self.new.faults) }
         ensures down { self.old.down ≡ true → IsErr result }
         ensures goes_down { OnErr result (self.new.down ≡ true) }
+        ensures stays_up { OnOk result (self.new.down ≡ false) }
     {
         let done = self.sync_file_and_folder();
         self.down = done.is_err();

@@ -27,7 +27,7 @@ impl<R: Files + Clone> Model for FileSource<R> {
 }
 
 impl<R: Files + Clone> FileSource<R> {
-    /// The bytes of the file at this path. It opens nothing.
+    /// The bytes of the file at this path. It opens nothing. `OutOfMemory` where the runtime's handle cannot be copied.
     pub fn new(rt: &R, path: Text) -> Result<Self, OutOfMemory>
         ensures faultless { IfOk result (λ source. source.faults ≡ 0) }
     {

@@ -11,7 +11,7 @@ pub struct HostClock<R: std::rt::Clock + Clone> {
 }
 
 impl<R: std::rt::Clock + Clone> HostClock<R> {
-    /// The clock of this host. It reads nothing.
+    /// The clock of this host. It reads nothing. `OutOfMemory` where the runtime's handle cannot be copied.
     pub fn new(rt: &R) -> Result<Self, OutOfMemory> {
         Ok(HostClock { rt: rt.clone()? })
     }

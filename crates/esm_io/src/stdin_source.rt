@@ -24,7 +24,7 @@ impl<R: Input + Clone> Model for StdinSource<R> {
 }
 
 impl<R: Input + Clone> StdinSource<R> {
-    /// Standard input from where it stands. It reads nothing.
+    /// Standard input from where it stands. It reads nothing. `OutOfMemory` where the runtime's handle cannot be copied.
     pub fn new(rt: &R) -> Result<Self, OutOfMemory>
         ensures faultless { IfOk result (λ source. source.faults ≡ 0) }
     {

@@ -23,7 +23,7 @@ impl<R: Print + Clone> Model for StdoutSink<R> {
 }
 
 impl<R: Print + Clone> StdoutSink<R> {
-    /// Standard output. It writes nothing.
+    /// Standard output. It writes nothing. `OutOfMemory` where the runtime's handle cannot be copied.
     pub fn new(rt: &R) -> Result<Self, OutOfMemory>
         ensures faultless { IfOk result (λ sink. sink.faults ≡ 0) }
     {

@@ -30,7 +30,7 @@ impl<R: Net + Clone> Model for TcpDoor<R> {
 }
 
 impl<R: Net + Clone> TcpDoor<R> {
-    /// A door at this port. It opens nothing.
+    /// A door at this port. It opens nothing. `OutOfMemory` where the runtime's handle cannot be copied.
     pub fn new(rt: &R, port: u16) -> Result<Self, OutOfMemory>
         ensures faultless { IfOk result (λ door. door.faults ≡ 0) }
     {

@@ -35,7 +35,7 @@ impl<R: Net + Clone> Model for TcpLink<R> {
 }
 
 impl<R: Net + Clone> TcpLink<R> {
-    /// A connection to this port. It opens nothing.
+    /// A connection to this port. It opens nothing. `OutOfMemory` where the runtime's handle cannot be copied.
     pub fn new(rt: &R, port: u16) -> Result<Self, OutOfMemory>
         ensures faultless { IfOk result (λ link. link.faults ≡ 0) }
     {
