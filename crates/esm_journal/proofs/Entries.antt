@@ -4,18 +4,19 @@ use Rattle.std.proofs.lemmas.List.{drop_more, drop-drop}
 use Rattle.std.proofs.lemmas.Bool.Decides.{nat_tests}
 use Rattle.std.proofs.lemmas.Nat.{be_bytes_4}
 use Rattle.std.specs.Int.{w32, to_be_bytes, from_be_bytes}
-use Rattle.esm_journal.specs.File.{max_payload, entry, Opening, Damaged, preceded, number_in, read_from}
+use Rattle.esm_model.specs.declared.limits.TheConstants.{MAX_PAYLOAD}
+use Rattle.esm_journal.specs.File.{entry, Opening, Damaged, preceded, number_in, read_from}
 use Rattle.esm_journal.proofs.Files.{whole, read_short}
 
 pub open_gate : (content : List ℕ) (place : ℕ) → place < length content → slice_index content place ≡ 1 → drop place content ≡ 1 ∷ drop (place + 1) content
 open_gate content place within is = drop_more content place 0 within ∙ ap (λ (gate : ℕ). gate ∷ drop (place + 1) content) is
 
 -- the length is above the limit
-above : (place size count : ℕ) (payload : List ℕ) (rest : Opening) → 4 ≤ size → max_payload < count
-    → (if nat_lt size 4 then Damaged (place + 1 + size) else if nat_lt max_payload count then Damaged (place + 1) else preceded payload rest) ≡ Damaged (place + 1)
+above : (place size count : ℕ) (payload : List ℕ) (rest : Opening) → 4 ≤ size → MAX_PAYLOAD < count
+    → (if nat_lt size 4 then Damaged (place + 1 + size) else if nat_lt MAX_PAYLOAD count then Damaged (place + 1) else preceded payload rest) ≡ Damaged (place + 1)
 above place size count payload rest enough long = grind (arith, nat_tests)
 
-pub too_long : (content : List ℕ) (place count : ℕ) → place + 5 ≤ length content → slice_index content place ≡ 1 → count ≡ number_in (drop (place + 1) content) → max_payload < count
+pub too_long : (content : List ℕ) (place count : ℕ) → place + 5 ≤ length content → slice_index content place ≡ 1 → count ≡ number_in (drop (place + 1) content) → MAX_PAYLOAD < count
     → (epoch : ℕ) → read_from epoch place 0 (drop place content) ≡ Damaged (place + 1)
 too_long content place count within is number long epoch =
     let behind = drop (place + 1) content in
@@ -24,7 +25,7 @@ too_long content place count within is number long epoch =
     (omega (arith, length-drop (place + 1) content)) (omega (arith, number))
 
 -- the payload or the next gate is cut short
-pub cut_short : (content : List ℕ) (place count : ℕ) → place + 5 ≤ length content → slice_index content place ≡ 1 → count ≡ number_in (drop (place + 1) content) → count ≤ max_payload → length content ≤ place + 5 + count
+pub cut_short : (content : List ℕ) (place count : ℕ) → place + 5 ≤ length content → slice_index content place ≡ 1 → count ≡ number_in (drop (place + 1) content) → count ≤ MAX_PAYLOAD → length content ≤ place + 5 + count
     → (epoch : ℕ) → read_from epoch place 0 (drop place content) ≡ Damaged (length content)
 cut_short content place count within is number short ends epoch =
     let behind = drop (place + 1) content in

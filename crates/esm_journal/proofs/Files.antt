@@ -6,7 +6,8 @@ use Rattle.std.proofs.lemmas.Nat.{from_be_bytes-to_be_bytes_4, from_be_bytes-to_
 use Rattle.std.specs.List.{starts_with}
 use Rattle.std.specs.Cmp.Lexicographic.{pointwise}
 use Rattle.std.specs.Int.{w64, to_be_bytes, from_be_bytes}
-use Rattle.esm_journal.specs.File.{max_payload, entry, entries, front, end_of, AreShort, IsFile, Opening, Holding, Foreign, Damaged, preceded, number_in, read_from, eight_at, epoch_in, opened}
+use Rattle.esm_model.specs.declared.limits.TheConstants.{MAX_PAYLOAD}
+use Rattle.esm_journal.specs.File.{entry, entries, front, end_of, AreShort, IsFile, Opening, Holding, Foreign, Damaged, preceded, number_in, read_from, eight_at, epoch_in, opened}
 
 -- bytes are passed
 pub read_past : (epoch place : ℕ) (bytes more : List ℕ) → read_from epoch place (length bytes) (bytes ++ more) ≡ read_from epoch (place + length bytes) 0 more
@@ -28,15 +29,15 @@ all_preceded (payload ∷ payloads) rest = preceded payload (all_preceded payloa
 pub read_closed : (epoch place gate : ℕ) (rest : List ℕ) → gate ≢ 1 → read_from epoch place 0 (gate ∷ rest) ≡ Holding epoch []
 read_closed epoch place gate rest shut = grind (arith, nat_tests)
 
-pub number_in_entry : (payload more : List ℕ) → length payload ≤ max_payload → number_in (entry payload ++ more) ≡ length payload
+pub number_in_entry : (payload more : List ℕ) → length payload ≤ MAX_PAYLOAD → number_in (entry payload ++ more) ≡ length payload
 number_in_entry payload more short = from_be_bytes-to_be_bytes_4 (length payload) (omega arith)
 
 -- an entry that is not cut short
-pub whole : (place size count : ℕ) (payload : List ℕ) (rest : Opening) → 4 ≤ size → count ≤ max_payload
-    → (if nat_lt size 4 then Damaged (place + 1 + size) else if nat_lt max_payload count then Damaged (place + 1) else preceded payload rest) ≡ preceded payload rest
+pub whole : (place size count : ℕ) (payload : List ℕ) (rest : Opening) → 4 ≤ size → count ≤ MAX_PAYLOAD
+    → (if nat_lt size 4 then Damaged (place + 1 + size) else if nat_lt MAX_PAYLOAD count then Damaged (place + 1) else preceded payload rest) ≡ preceded payload rest
 whole place size count payload rest enough short = grind (arith, nat_tests)
 
-entry_of_bytes : (epoch place a b c d count : ℕ) (payload more : List ℕ) → number_in (a ∷ b ∷ c ∷ d ∷ []) ≡ count → count ≡ length payload → count ≤ max_payload
+entry_of_bytes : (epoch place a b c d count : ℕ) (payload more : List ℕ) → number_in (a ∷ b ∷ c ∷ d ∷ []) ≡ count → count ≡ length payload → count ≤ MAX_PAYLOAD
     → read_from epoch place 0 (1 ∷ a ∷ b ∷ c ∷ d ∷ (payload ++ more)) ≡ preceded payload (read_from epoch (place + 5 + length payload) 0 more)
 entry_of_bytes epoch place a b c d count payload more is counts short =
     let behind = a ∷ b ∷ c ∷ d ∷ (payload ++ more) in
@@ -50,7 +51,7 @@ entry_of_bytes epoch place a b c d count payload more is counts short =
     ∙ ap (λ p. preceded p rest) taken ∙ ap (preceded payload) passed
 
 -- an open entry that is whole
-pub read_entry : (epoch place : ℕ) (payload more : List ℕ) → length payload ≤ max_payload
+pub read_entry : (epoch place : ℕ) (payload more : List ℕ) → length payload ≤ MAX_PAYLOAD
     → read_from epoch place 0 (1 ∷ [] ++ entry payload ++ more) ≡ preceded payload (read_from epoch (place + 5 + length payload) 0 more)
 read_entry epoch place payload more short =
     let n = length payload in

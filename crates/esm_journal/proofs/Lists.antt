@@ -4,7 +4,8 @@ use Rattle.std.proofs.lemmas.List.{take_more}
 use Rattle.std.proofs.lemmas.Bool.Decides.{nat_tests}
 use Rattle.std.specs.Int.{w32, to_be_bytes}
 use Rattle.std.specs.declared.alloc.Global.{Global}
-use Rattle.esm_journal.specs.File.{max_payload, entry, entries, AreShort}
+use Rattle.esm_model.specs.declared.limits.TheConstants.{MAX_PAYLOAD}
+use Rattle.esm_journal.specs.File.{entry, entries, AreShort}
 use Rattle.esm_journal.specs.Room.{total_room}
 use Rattle.esm_journal.specs.Replace.{first_too_long}
 use Rattle.esm_journal.proofs.Written.{entries_push}
@@ -33,14 +34,14 @@ total_take [] (suc i) = omega arith
 total_take (spare ∷ spares) zero = omega arith
 total_take (spare ∷ spares) (suc i) = omega (arith, total_take spares i)
 
-one_more : (payload : List ℕ) (payloads : List (List ℕ)) (rest : Option ℕ) → (if nat_lt max_payload (length payload) then Some (length payload) else rest) ≡ None → (rest ≡ None → AreShort payloads) → AreShort (payload ∷ payloads)
-one_more payload payloads rest none short = short_ahead payload payloads (first_short (nat_lt max_payload (length payload)) (length payload) rest none refl).0 (short (first_short (nat_lt max_payload (length payload)) (length payload) rest none refl).1)
+one_more : (payload : List ℕ) (payloads : List (List ℕ)) (rest : Option ℕ) → (if nat_lt MAX_PAYLOAD (length payload) then Some (length payload) else rest) ≡ None → (rest ≡ None → AreShort payloads) → AreShort (payload ∷ payloads)
+one_more payload payloads rest none short = short_ahead payload payloads (first_short (nat_lt MAX_PAYLOAD (length payload)) (length payload) rest none refl).0 (short (first_short (nat_lt MAX_PAYLOAD (length payload)) (length payload) rest none refl).1)
   where
-    first_short : (test : Bool) (n : ℕ) (rest : Option ℕ) → (if test then Some n else rest) ≡ None → test ≡ nat_lt max_payload n → (n ≤ max_payload) × (rest ≡ None)
+    first_short : (test : Bool) (n : ℕ) (rest : Option ℕ) → (if test then Some n else rest) ≡ None → test ≡ nat_lt MAX_PAYLOAD n → (n ≤ MAX_PAYLOAD) × (rest ≡ None)
     first_short true n rest none is = cc
     first_short false n rest none is = (grind (arith, nat_tests), none)
 
-    short_ahead : (payload : List ℕ) (payloads : List (List ℕ)) → length payload ≤ max_payload → AreShort payloads → AreShort (payload ∷ payloads)
+    short_ahead : (payload : List ℕ) (payloads : List (List ℕ)) → length payload ≤ MAX_PAYLOAD → AreShort payloads → AreShort (payload ∷ payloads)
     short_ahead payload payloads le short zero d lt = le
     short_ahead payload payloads le short (suc k) d lt = short k d (omega (arith, lt))
 

@@ -1,17 +1,19 @@
 -- The loop that reads the entries of a file.
 use Rattle.std.proofs.Common.{◌≡◌, ℕ, ◌+◌, ◌<◌, ◌≤◌, Bool, true, List, [], ◌∷◌, ◌++◌, length, drop, arith, refl, sym, ap, ◌∙◌, append_assoc}
-use Rattle.esm_journal.specs.File.{max_payload, entry, entries, end_of, AreShort, Damaged, read_from}
+use Rattle.esm_model.specs.declared.limits.TheConstants.{MAX_PAYLOAD}
+use Rattle.esm_io.specs.Meanings.{DiskMeaning}
+use Rattle.esm_journal.specs.File.{entry, entries, end_of, AreShort, Damaged, read_from}
 use Rattle.esm_journal.specs.Reads.{IsOnlyRead}
 use Rattle.esm_journal.proofs.Files.{all_preceded, read_entries}
 use Rattle.esm_journal.proofs.Runs.{still, reads_on}
 use Rattle.esm_journal.proofs.Written.{entries_push, end_push, short_push}
 
 -- so many payloads are read, up to this place
-pub record HasRead {D : Type 0} (honest : D → Bool) (content : D → List ℕ) (image : D → List ℕ → Type 0) (moment : D → ℕ) (since : D → ℕ → List ℕ → Type 0) (faults : D → ℕ) (size : ℕ) (start now : D) (payloads : List (List ℕ)) (place : ℕ) : Type 0 where
+pub record HasRead {D : Type 0} (m : DiskMeaning D) (size : ℕ) (start now : D) (payloads : List (List ℕ)) (place : ℕ) : Type 0 where
   pub end : place ≡ end_of payloads
   pub within : place < size
-  pub only_read : IsOnlyRead honest content image moment since faults start now
-  pub so_far : honest start ≡ true → drop 17 (content start) ≡ entries payloads ++ drop place (content start)
+  pub only_read : IsOnlyRead m start now
+  pub so_far : m.honest start ≡ true → drop 17 (m.content start) ≡ entries payloads ++ drop place (m.content start)
   pub short : AreShort payloads
 
 all_damaged : (payloads : List (List ℕ)) (place : ℕ) → all_preceded payloads (Damaged place) ≡ Damaged place
@@ -21,49 +23,49 @@ all_damaged (payload ∷ payloads) place = ap (λ o. all_preceded (payload ∷ [
 none_short : AreShort []
 none_short k d lt = absurd (omega (arith, lt))
 
-module _ {D : Type 0} (honest : D → Bool) (content : D → List ℕ) (image : D → List ℕ → Type 0) (moment : D → ℕ) (since : D → ℕ → List ℕ → Type 0) (faults : D → ℕ) (size : ℕ) (start : D) where
-  pub none_read : ((disk : D) (left : List ℕ) → honest disk ≡ true → since disk (moment disk) left → image disk left) → 18 ≤ size → HasRead honest content image moment since faults size start start [] 17
+module _ {D : Type 0} (m : DiskMeaning D) (size : ℕ) (start : D) where
+  pub none_read : ((disk : D) (left : List ℕ) → m.honest disk ≡ true → m.since disk (m.moment disk) left → m.image disk left) → 18 ≤ size → HasRead m size start start [] 17
   none_read only_now long = record {
     end = refl;
     within = omega (arith, long);
-    only_read = still honest content image moment since faults only_now start;
+    only_read = still m only_now start;
     so_far = λ h. refl;
     short = none_short;
   }
 
   -- one entry more
-  pub one_read : (now new : D) (payloads : List (List ℕ)) (payload : List ℕ) (place next : ℕ) → HasRead honest content image moment since faults size start now payloads place
-      → IsOnlyRead honest content image moment since faults now new
-      → (honest now ≡ true → drop place (content now) ≡ 1 ∷ [] ++ entry payload ++ drop (place + 5 + length payload) (content now))
-      → next ≡ place + 5 + length payload → place + 5 + length payload < size → length payload ≤ max_payload
-      → HasRead honest content image moment since faults size start new (payloads ++ payload ∷ []) next
+  pub one_read : (now new : D) (payloads : List (List ℕ)) (payload : List ℕ) (place next : ℕ) → HasRead m size start now payloads place
+      → IsOnlyRead m now new
+      → (m.honest now ≡ true → drop place (m.content now) ≡ 1 ∷ [] ++ entry payload ++ drop (place + 5 + length payload) (m.content now))
+      → next ≡ place + 5 + length payload → place + 5 + length payload < size → length payload ≤ MAX_PAYLOAD
+      → HasRead m size start new (payloads ++ payload ∷ []) next
   one_read now new payloads payload place next so_far read whole is_next within short = record {
     end = omega (arith, is_next, so_far.end, end_push payloads payload);
     within = omega (arith, is_next, within);
-    only_read = reads_on honest content image moment since faults start now new so_far.only_read read;
+    only_read = reads_on m start now new so_far.only_read read;
     so_far = λ h. more h;
     short = short_push payloads payload so_far.short short;
   }
     where
-      more : honest start ≡ true → drop 17 (content start) ≡ entries (payloads ++ payload ∷ []) ++ drop next (content start)
+      more : m.honest start ≡ true → drop 17 (m.content start) ≡ entries (payloads ++ payload ∷ []) ++ drop next (m.content start)
       more h =
           let same = so_far.only_read.same h in
-          let behind : drop place (content start) ≡ 1 ∷ [] ++ entry payload ++ drop next (content start) =
+          let behind : drop place (m.content start) ≡ 1 ∷ [] ++ entry payload ++ drop next (m.content start) =
           ap (drop place) (sym same) ∙ whole (so_far.only_read.honesty ∙ h) ∙ ap (λ l. 1 ∷ [] ++ entry payload ++ drop (place + 5 + length payload) l) same
-          ∙ ap (λ n. 1 ∷ [] ++ entry payload ++ drop n (content start)) (sym is_next) in
+          ∙ ap (λ n. 1 ∷ [] ++ entry payload ++ drop n (m.content start)) (sym is_next) in
           so_far.so_far h ∙ ap (λ l. entries payloads ++ l) behind
-          ∙ sym (append_assoc (entries payloads) (1 ∷ [] ++ entry payload) (drop next (content start)))
-          ∙ ap (λ l. l ++ drop next (content start)) (sym (entries_push payloads payload ∙ append_assoc (entries payloads) (1 ∷ []) (entry payload)))
+          ∙ sym (append_assoc (entries payloads) (1 ∷ [] ++ entry payload) (drop next (m.content start)))
+          ∙ ap (λ l. l ++ drop next (m.content start)) (sym (entries_push payloads payload ∙ append_assoc (entries payloads) (1 ∷ []) (entry payload)))
 
   -- the entry that comes next is damaged, and so is the file
-  pub damaged_next : (now : D) (payloads : List (List ℕ)) (place damage : ℕ) → HasRead honest content image moment since faults size start now payloads place
-      → (honest now ≡ true → (epoch : ℕ) → read_from epoch place 0 (drop place (content now)) ≡ Damaged damage)
-      → honest start ≡ true → (epoch : ℕ) → read_from epoch 17 0 (drop 17 (content start)) ≡ Damaged damage
+  pub damaged_next : (now : D) (payloads : List (List ℕ)) (place damage : ℕ) → HasRead m size start now payloads place
+      → (m.honest now ≡ true → (epoch : ℕ) → read_from epoch place 0 (drop place (m.content now)) ≡ Damaged damage)
+      → m.honest start ≡ true → (epoch : ℕ) → read_from epoch 17 0 (drop 17 (m.content start)) ≡ Damaged damage
   damaged_next now payloads place damage so_far bad h epoch =
       ap (read_from epoch 17 0) (so_far.so_far h)
-      ∙ read_entries epoch 17 payloads (drop place (content start)) so_far.short
+      ∙ read_entries epoch 17 payloads (drop place (m.content start)) so_far.short
       ∙ ap (all_preceded payloads)
-      (ap (λ n. read_from epoch n 0 (drop place (content start))) (sym so_far.end)
+      (ap (λ n. read_from epoch n 0 (drop place (m.content start))) (sym so_far.end)
       ∙ ap (λ l. read_from epoch place 0 (drop place l)) (sym (so_far.only_read.same h))
       ∙ bad (so_far.only_read.honesty ∙ h) epoch)
       ∙ all_damaged payloads damage

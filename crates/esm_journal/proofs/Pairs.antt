@@ -2,6 +2,7 @@
 use Rattle.std.proofs.Common.{◌==◌, ◌≡◌, inl, inr, ℕ, ◌+◌, ◌≤◌, ◌<◌, ◌&&◌, ◌||◌, not, Bool, true, false, List, [], ◌∷◌, ◌++◌, length, slice_index, nat_eq, nat_lt, if◌then◌else◌, arith, refl, sym, ap, ◌∙◌}
 use Rattle.std.proofs.lemmas.Bool.Decides.{nat_tests}
 use Rattle.std.specs.Cmp.Lexicographic.{pointwise, same_text}
+use Rattle.esm_io.specs.Meanings.{DiskMeaning}
 use Rattle.esm_io.specs.Images.{Only}
 use Rattle.esm_journal.specs.File.{Holding, Foreign, Damaged, IsFile, eight_at, epoch_in, opened_rest}
 use Rattle.esm_journal.specs.Pair.{is_sealed, is_taken, beside, pair_opened, IsSpare, PairOpensTo, PairOpensToEither, PairKeeps}
@@ -123,14 +124,14 @@ pair_opens header epoch payloads used spare eight file beside =
     (used_first header epoch payloads used spare s beside, used_second header epoch payloads used spare s beside)
 
 -- both disks are settled
-pub keeps_pair : {D : Type 0} (content : D → List ℕ) (image : D → List ℕ → Type 0) (header : List ℕ) (epoch : ℕ) (payloads : List (List ℕ)) (used spare : D) → length header ≡ 8 → IsFile header epoch payloads (content used) → Only (content used) (image used) → IsSpare header epoch (content spare) → Only (content spare) (image spare)
-    → PairKeeps content image header epoch payloads used spare
-keeps_pair content image header epoch payloads used spare eight file only harmless spare_only = record {
+pub keeps_pair : {D : Type 0} (m : DiskMeaning D) (header : List ℕ) (epoch : ℕ) (payloads : List (List ℕ)) (used spare : D) → length header ≡ 8 → IsFile header epoch payloads (m.content used) → Only (m.content used) (m.image used) → IsSpare header epoch (m.content spare) → Only (m.content spare) (m.image spare)
+    → PairKeeps m header epoch payloads used spare
+keeps_pair m header epoch payloads used spare eight file only harmless spare_only = record {
   file = file;
   durable = only;
   beside = harmless;
   spare_durable = spare_only;
-  opens = pair_opens header epoch payloads (content used) (content spare) eight file harmless;
+  opens = pair_opens header epoch payloads (m.content used) (m.content spare) eight file harmless;
 }
 
 -- while a payload is added, the images of a pair open to the payloads with it or without

@@ -1,13 +1,14 @@
 -- What is left of a file while another list is written over it.
 use Rattle.std.proofs.Common.{◌≡◌, ◌⊎◌, ◌==◌, ◌&&◌, inl, inr, ℕ, Bool, true, false, ◌+◌, ◌-◌, ◌^◌, ◌<◌, ◌≤◌, List, [], ◌∷◌, ◌++◌, length, take, drop, get_or, slice_index, nat_eq, arith, refl, sym, ap, subst, ◌∙◌, length-append, length-take, length-drop, append_assoc}
-use Rattle.std.proofs.lemmas.List.{drop_more, get_or-take, get_or-drop, get_or_at, take_at, drop_at, append-nil}
+use Rattle.std.proofs.lemmas.List.{drop_more, get_or-take, get_or-drop, get_or_at, take_at, drop_at, drop-drop, append-nil}
 use borrow.Rule.Slice.PartMut.{put_mid}
 use Rattle.std.proofs.lemmas.Bool.{cases_eq}
 use Rattle.std.proofs.lemmas.Bool.Decides.{nat_tests}
 use Rattle.std.specs.Cmp.Lexicographic.{pointwise}
 use Rattle.std.specs.Int.{w64, to_be_bytes, from_be_bytes}
 use Rattle.esm_io.specs.Images.{overwritten, Torn}
-use Rattle.esm_journal.specs.File.{entries, AreShort, IsFile, eight_at, epoch_in}
+use Rattle.esm_journal.specs.File.{entries, front, AreShort, IsFile, eight_at, epoch_in}
+use Rattle.esm_journal.specs.Bytes.{rewritten}
 use Rattle.esm_journal.specs.Pair.{IsSpare}
 use Rattle.esm_journal.specs.Replace.{IsClosed, IsUnsealed, IsSpareOrNew}
 use Rattle.esm_journal.proofs.Heads.{same_eight}
@@ -73,6 +74,10 @@ closed_seal bytes long = record {
         ap (λ (l : List ℕ). get_or l 16 0) (append_assoc (take 16 bytes) (0 ∷ []) (drop 17 bytes))
         ∙ get_or_at (take 16 bytes) 0 (drop 17 bytes) 0 16 front_size
 
+-- what stands behind the seal stays
+pub behind_seal : (bytes : List ℕ) → 18 ≤ length bytes → drop 17 (overwritten bytes 16 (0 ∷ [])) ≡ drop 17 bytes
+behind_seal bytes long = drop_at (take 16 bytes ++ 0 ∷ []) (drop 17 bytes) 17 (length-append (take 16 bytes) (0 ∷ []) ∙ omega (arith, length-take 16 bytes, long))
+
 -- a write on one side of the seal leaves it closed
 pub torn_apart : (at n : ℕ) (bytes image : List ℕ) → (at + n ≤ 16) ⊎ (17 ≤ at) → IsClosed bytes → Torn at n bytes image → IsClosed image
 torn_apart at n bytes image (inl before) closed torn = record {
@@ -84,15 +89,15 @@ torn_apart at n bytes image (inr behind) closed torn = record {
   seal = λ is. closed.seal (sym (before_torn at n bytes image torn 16 behind) ∙ is);
 }
 
--- header, epoch and list are written
-pub listed : (header : List ℕ) (epoch : ℕ) (payloads : List (List ℕ)) (bytes head list : List ℕ) → length header ≡ 8 → head ≡ header ++ to_be_bytes w64 epoch → list ≡ entries payloads ++ 0 ∷ [] → IsClosed bytes
-    → IsUnsealed header epoch payloads (overwritten (overwritten bytes 0 head) 17 list)
-listed header epoch payloads bytes head list eight is_head is_list closed = record {
-  seal = slice_index bytes 16;
-  rest = drop (length list) (drop 17 bytes);
-  closed = closed.seal;
-  bytes_are = whole;
-}
+-- header, epoch and list are written: these are the bytes
+pub listed_bytes : (header : List ℕ) (epoch : ℕ) (bytes head list : List ℕ) → length header ≡ 8 → head ≡ header ++ to_be_bytes w64 epoch → 18 ≤ length bytes
+    → overwritten (overwritten bytes 0 head) 17 list ≡ (header ++ to_be_bytes w64 epoch) ++ slice_index bytes 16 ∷ (list ++ drop (length list) (drop 17 bytes))
+listed_bytes header epoch bytes head list eight is_head long =
+    ap (λ l. overwritten l 17 list) started
+    ∙ overwritten_behind 17 (head ++ slice_index bytes 16 ∷ []) (drop 17 bytes) list behind
+    ∙ append_assoc (head ++ slice_index bytes 16 ∷ []) list (drop (length list) (drop 17 bytes))
+    ∙ append_assoc head (slice_index bytes 16 ∷ []) (list ++ drop (length list) (drop 17 bytes))
+    ∙ ap (λ l. l ++ slice_index bytes 16 ∷ (list ++ drop (length list) (drop 17 bytes))) is_head
   where
     size : length head ≡ 16
     size = ap (λ (l : List ℕ). length l) is_head ∙ length-append header (to_be_bytes w64 epoch) ∙ omega (arith, eight)
@@ -103,21 +108,49 @@ listed header epoch payloads bytes head list eight is_head is_list closed = reco
     started : overwritten bytes 0 head ≡ (head ++ slice_index bytes 16 ∷ []) ++ drop 17 bytes
     started =
         ap (λ n. head ++ drop n bytes) no_more
-        ∙ ap (λ l. head ++ l) (drop_more bytes 16 0 (omega (arith, closed.long)))
+        ∙ ap (λ l. head ++ l) (drop_more bytes 16 0 (omega (arith, long)))
         ∙ sym (append_assoc head (slice_index bytes 16 ∷ []) (drop 17 bytes))
 
     behind : length (head ++ slice_index bytes 16 ∷ []) ≡ 17
     behind = length-append head (slice_index bytes 16 ∷ []) ∙ ap (λ n. n + 1) size
 
+-- a whole file but for its seal
+pub listed : (header : List ℕ) (epoch : ℕ) (payloads : List (List ℕ)) (bytes head list : List ℕ) → length header ≡ 8 → head ≡ header ++ to_be_bytes w64 epoch → list ≡ entries payloads ++ 0 ∷ [] → IsClosed bytes
+    → IsUnsealed header epoch payloads (overwritten (overwritten bytes 0 head) 17 list)
+listed header epoch payloads bytes head list eight is_head is_list closed = record {
+  seal = slice_index bytes 16;
+  rest = drop (length list) (drop 17 bytes);
+  closed = closed.seal;
+  bytes_are = whole;
+}
+  where
     whole : overwritten (overwritten bytes 0 head) 17 list ≡ (header ++ to_be_bytes w64 epoch) ++ slice_index bytes 16 ∷ (entries payloads ++ 0 ∷ drop (length list) (drop 17 bytes))
     whole =
-        ap (λ l. overwritten l 17 list) started
-        ∙ overwritten_behind 17 (head ++ slice_index bytes 16 ∷ []) (drop 17 bytes) list behind
-        ∙ append_assoc (head ++ slice_index bytes 16 ∷ []) list (drop (length list) (drop 17 bytes))
-        ∙ append_assoc head (slice_index bytes 16 ∷ []) (list ++ drop (length list) (drop 17 bytes))
-        ∙ ap (λ l. l ++ slice_index bytes 16 ∷ (list ++ drop (length list) (drop 17 bytes))) is_head
+        listed_bytes header epoch bytes head list eight is_head closed.long
         ∙ ap (λ l. (header ++ to_be_bytes w64 epoch) ++ slice_index bytes 16 ∷ (l ++ drop (length list) (drop 17 bytes))) is_list
         ∙ ap (λ l. (header ++ to_be_bytes w64 epoch) ++ slice_index bytes 16 ∷ l) (append_assoc (entries payloads) (0 ∷ []) (drop (length list) (drop 17 bytes)))
+
+-- once its seal is open, the list is written over the file as it was
+pub whole_list : (header : List ℕ) (epoch : ℕ) (payloads : List (List ℕ)) (bytes closed list : List ℕ) (seal : ℕ) → length header ≡ 8 → list ≡ entries payloads ++ 0 ∷ [] → drop 17 closed ≡ drop 17 bytes
+    → overwritten ((header ++ to_be_bytes w64 epoch) ++ seal ∷ (list ++ drop (length list) (drop 17 closed))) 16 (1 ∷ []) ≡ rewritten header epoch payloads bytes
+whole_list header epoch payloads bytes closed list seal eight is_list same =
+    overwritten_behind 16 (header ++ to_be_bytes w64 epoch) (seal ∷ (list ++ drop (length list) (drop 17 closed))) (1 ∷ []) head_size
+    ∙ ap (λ l. ((header ++ to_be_bytes w64 epoch) ++ 1 ∷ []) ++ (list ++ drop (length list) l)) same
+    ∙ sym (append_assoc ((header ++ to_be_bytes w64 epoch) ++ 1 ∷ []) list (drop (length list) (drop 17 bytes)))
+    ∙ ap (λ l. (((header ++ to_be_bytes w64 epoch) ++ 1 ∷ []) ++ list) ++ l) (drop-drop (length list) 17 bytes ∙ ap (λ n. drop n bytes) size)
+    ∙ ap (λ l. l ++ drop (0 + length (front header epoch payloads ++ 0 ∷ [])) bytes) is_front
+  where
+    head_size : length (header ++ to_be_bytes w64 epoch) ≡ 16
+    head_size = length-append header (to_be_bytes w64 epoch) ∙ omega (arith, eight)
+
+    is_front : ((header ++ to_be_bytes w64 epoch) ++ 1 ∷ []) ++ list ≡ front header epoch payloads ++ 0 ∷ []
+    is_front = ap (λ l. ((header ++ to_be_bytes w64 epoch) ++ 1 ∷ []) ++ l) is_list ∙ sym (append_assoc ((header ++ to_be_bytes w64 epoch) ++ 1 ∷ []) (entries payloads) (0 ∷ []))
+
+    size : 17 + length list ≡ 0 + length (front header epoch payloads ++ 0 ∷ [])
+    size =
+        let behind = length-append ((header ++ to_be_bytes w64 epoch) ++ 1 ∷ []) list in
+        let before = length-append (header ++ to_be_bytes w64 epoch) (1 ∷ []) in
+        omega (arith, ap (λ (l : List ℕ). length l) is_front, behind, before, head_size)
 
 module _ (header : List ℕ) (epoch : ℕ) (payloads : List (List ℕ)) (eight : length header ≡ 8) (fits : epoch < 2 ^ 64) (short : AreShort payloads) where
   head_size : length (header ++ to_be_bytes w64 epoch) ≡ 16

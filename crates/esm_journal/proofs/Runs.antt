@@ -1,21 +1,40 @@
 -- How runs of device calls go on.
 use Rattle.std.proofs.Common.{◌≡◌, ℕ, Bool, true, List, inl, inr, ⊎_elim, arith, refl, ◌∙◌}
+use Rattle.esm_io.specs.Meanings.{DiskMeaning}
 use Rattle.esm_io.specs.Images.{LeavesOnly, Elapses}
+use Rattle.esm_io.proofs.Leaving.{started, goes_on}
 use Rattle.esm_journal.specs.Reads.{IsOnlyRead, RefusedFor}
 use Rattle.esm_journal.specs.declared.error.OpenError.{OpenError}
 use Rattle.esm_journal.specs.declared.error.OpenError.TheVariants.{NotAJournal, Damaged, DiskFault, OutOfMemory}
 
+module _ {D : Type 0} (moment : D → ℕ) (since : D → ℕ → List ℕ → Type 0) where
+  -- one run, of which two things are said
+  pub both : (old new : D) (P Q R : List ℕ → Type 0) → LeavesOnly moment since old new P → LeavesOnly moment since old new Q → ((image : List ℕ) → P image → Q image → R image) → LeavesOnly moment since old new R
+  both old new P Q R one two fits = record {
+    later = one.later;
+    each = λ image was. fits image (one.each image was) (two.each image was);
+    before = λ t image le was. ⊎_elim (λ p. inl p) (λ p. ⊎_elim (λ q. inl q) (λ q. inr (fits image p q)) (two.before t image le was)) (one.before t image le was);
+  }
+
+  -- one call, after which each image has P
+  pub called : (old new : D) (P : List ℕ → Type 0) → Elapses (moment old) (moment new) (since old) (since new) → ((image : List ℕ) → since new (moment old) image → P image) → LeavesOnly moment since old new P
+  called old new P time each = record {
+    later = time.later;
+    each = each;
+    before = λ t image le was. ⊎_elim (λ p. inl p) (λ s. inr (each image s)) (time.no_other t image le was);
+  }
+
 module _ {D : Type 0} (m : DiskMeaning D) where
   abbrev pub Reads : D → D → Type 0
-  Reads old new = IsOnlyRead honest content image moment since faults old new
+  Reads old new = IsOnlyRead m old new
 
   -- no call
-  pub still : ((disk : D) (left : List ℕ) → honest disk ≡ true → since disk (moment disk) left → image disk left) → (disk : D) → Reads disk disk
+  pub still : ((disk : D) (left : List ℕ) → m.honest disk ≡ true → m.since disk (m.moment disk) left → m.image disk left) → (disk : D) → Reads disk disk
   still only_now disk = record {
     honesty = refl;
     same = λ h. refl;
     images = λ h left now. now;
-    any_moment = λ h. started moment since disk (image disk) (λ left was. only_now disk left h was);
+    any_moment = λ h. started m.moment m.since disk (m.image disk) (λ left was. only_now disk left h was);
     never_falls = omega arith;
     greatest = λ le. le;
   }
@@ -26,7 +45,7 @@ module _ {D : Type 0} (m : DiskMeaning D) where
     honesty = second.honesty ∙ first.honesty;
     same = λ h. second.same (first.honesty ∙ h) ∙ first.same h;
     images = λ h left now. first.images h left (second.images (first.honesty ∙ h) left now);
-    any_moment = λ h. goes_on moment since old mid new (image old) (image mid) (first.any_moment h) (second.any_moment (first.honesty ∙ h)) (λ left now. first.images h left now);
+    any_moment = λ h. goes_on m.moment m.since old mid new (m.image old) (m.image mid) (m.image old) (first.any_moment h) (second.any_moment (first.honesty ∙ h)) (λ left now. now) (λ left now. first.images h left now);
     never_falls = omega (arith, first.never_falls, second.never_falls);
     greatest = λ le. second.greatest (first.greatest le);
   }

@@ -1,5 +1,6 @@
 -- From what a log holds to what its file opens to.
 use Rattle.std.proofs.Common.{◌≡◌, inl, inr, ℕ, Bool, true, false, List, [], ◌∷◌, ◌++◌, length, subst}
+use Rattle.esm_io.specs.Meanings.{DiskMeaning}
 use Rattle.esm_io.specs.Images.{Only}
 use Rattle.esm_journal.specs.File.{IsFile}
 use Rattle.esm_journal.specs.Log.{IsLog, IsEither}
@@ -14,19 +15,19 @@ pub opens_to_either : (header : List ℕ) (epoch : ℕ) (payloads : List (List �
 opens_to_either header epoch payloads payload bytes eight (inl file) = inl (opens header epoch payloads bytes eight file)
 opens_to_either header epoch payloads payload bytes eight (inr file) = inr (opens header epoch (payloads ++ payload ∷ []) bytes eight file)
 
-pub keeps : {D : Type 0} (honest : D → Bool) (content : D → List ℕ) (image : D → List ℕ → Type 0) (faults : D → ℕ) (header : List ℕ) (log : Log D) → log.header ≡ header → IsLog honest content image faults log
-    → honest log.disk ≡ true → log.down ≡ false → Keeps content image header log.payloads.items log.disk
-keeps honest content image faults header log is sound h up = record {
-  opens = subst (λ l. OpensTo l log.payloads.items (content log.disk)) is (opens log.header log.epoch log.payloads.items (content log.disk) sound.header (sound.file h up));
+pub keeps : {D : Type 0} (m : DiskMeaning D) (header : List ℕ) (log : Log D) → log.header ≡ header → IsLog m log
+    → m.honest log.disk ≡ true → log.down ≡ false → Keeps m header log.payloads.items log.disk
+keeps m header log is sound h up = record {
+  opens = subst (λ l. OpensTo l log.payloads.items (m.content log.disk)) is (opens log.header log.epoch log.payloads.items (m.content log.disk) sound.header (sound.file h up));
   durable = sound.synced h up;
 }
 
 -- a disk with this file on it, all of it synced
-pub keeps_file : {D : Type 0} (content : D → List ℕ) (image : D → List ℕ → Type 0) (header : List ℕ) (epoch : ℕ) (payloads : List (List ℕ)) (disk : D) → length header ≡ 8 → IsFile header epoch payloads (content disk) → Only (content disk) (image disk) → Keeps content image header payloads disk
-keeps_file content image header epoch payloads disk eight file only = record { opens = opens header epoch payloads (content disk) eight file; durable = only }
+pub keeps_file : {D : Type 0} (m : DiskMeaning D) (header : List ℕ) (epoch : ℕ) (payloads : List (List ℕ)) (disk : D) → length header ≡ 8 → IsFile header epoch payloads (m.content disk) → Only (m.content disk) (m.image disk) → Keeps m header payloads disk
+keeps_file m header epoch payloads disk eight file only = record { opens = opens header epoch payloads (m.content disk) eight file; durable = only }
 
-pub still_opens : {D : Type 0} (honest : D → Bool) (content : D → List ℕ) (image : D → List ℕ → Type 0) (faults : D → ℕ) (header : List ℕ) (log : Log D) → log.header ≡ header → IsLog honest content image faults log
-    → honest log.disk ≡ true → log.down ≡ true → StillOpens image header log.payloads.items log.disk
-still_opens honest content image faults header log is sound h down =
+pub still_opens : {D : Type 0} (m : DiskMeaning D) (header : List ℕ) (log : Log D) → log.header ≡ header → IsLog m log
+    → m.honest log.disk ≡ true → log.down ≡ true → StillOpens m header log.payloads.items log.disk
+still_opens m header log is sound h down =
     let stopped = sound.stopped h down in
     (stopped.0, λ bytes now. subst (λ l. OpensToEither l log.payloads.items stopped.0 bytes) is (opens_to_either log.header log.epoch log.payloads.items stopped.0 bytes sound.header (stopped.1 bytes now)))

@@ -5,8 +5,9 @@ use Rattle.std.proofs.lemmas.List.Elements.{All-append}
 use Rattle.std.proofs.lemmas.Bool.{cases_eq}
 use Rattle.std.proofs.Math.Seq.{drop-append-add}
 use Rattle.std.specs.Int.{w64, to_be_bytes}
+use Rattle.esm_model.specs.declared.limits.TheConstants.{MAX_PAYLOAD}
 use Rattle.esm_io.specs.Images.{overwritten, Torn}
-use Rattle.esm_journal.specs.File.{max_payload, entry, entries, front, end_of, AreShort, IsFile}
+use Rattle.esm_journal.specs.File.{entry, entries, front, end_of, AreShort, IsFile}
 
 -- a write behind the first bytes leaves them
 pub torn_behind : (at n : ℕ) (before rest new : List ℕ) → length before ≡ at → Torn at n (before ++ rest) new → new ≡ before ++ drop at new
@@ -51,10 +52,10 @@ front_push header epoch payloads payload more =
     ap (λ l. header ++ to_be_bytes w64 epoch ++ 1 ∷ [] ++ l ++ more) (entries_push payloads payload)
     ∙ simp append_assoc
 
-pub short_push : (payloads : List (List ℕ)) (payload : List ℕ) → AreShort payloads → length payload ≤ max_payload → AreShort (payloads ++ payload ∷ [])
-short_push payloads payload short le = All-append (λ p. length p ≤ max_payload) payloads (payload ∷ []) short (one payload le)
+pub short_push : (payloads : List (List ℕ)) (payload : List ℕ) → AreShort payloads → length payload ≤ MAX_PAYLOAD → AreShort (payloads ++ payload ∷ [])
+short_push payloads payload short le = All-append (λ p. length p ≤ MAX_PAYLOAD) payloads (payload ∷ []) short (one payload le)
   where
-    one : (payload : List ℕ) → length payload ≤ max_payload → AreShort (payload ∷ [])
+    one : (payload : List ℕ) → length payload ≤ MAX_PAYLOAD → AreShort (payload ∷ [])
     one payload le zero d lt = le
     one payload le (suc k) d lt = absurd (omega arith)
 
@@ -98,7 +99,7 @@ module _ (header : List ℕ) (epoch : ℕ) (payloads : List (List ℕ)) (eight :
   staged_file payload gate rest shut fits short = record { gate = gate; rest = entry payload ++ 0 ∷ rest; closed = shut; bytes_are = refl; epoch_fits = fits; short = short }
 
   -- the gate is open
-  pub opened_gate : (payload rest : List ℕ) → epoch < 2 ^ 64 → AreShort payloads → length payload ≤ max_payload → IsFile header epoch (payloads ++ payload ∷ []) (staged header epoch payloads payload 1 rest)
+  pub opened_gate : (payload rest : List ℕ) → epoch < 2 ^ 64 → AreShort payloads → length payload ≤ MAX_PAYLOAD → IsFile header epoch (payloads ++ payload ∷ []) (staged header epoch payloads payload 1 rest)
   opened_gate payload rest fits short le = record {
     gate = 0;
     rest = rest;
@@ -109,7 +110,7 @@ module _ (header : List ℕ) (epoch : ℕ) (payloads : List (List ℕ)) (eight :
   }
 
   -- while the gate is written, the file holds the payload whole or not at all
-  pub torn_gate : (payload : List ℕ) (gate : ℕ) (rest image : List ℕ) → epoch < 2 ^ 64 → AreShort payloads → length payload ≤ max_payload
+  pub torn_gate : (payload : List ℕ) (gate : ℕ) (rest image : List ℕ) → epoch < 2 ^ 64 → AreShort payloads → length payload ≤ MAX_PAYLOAD
       → Torn (end_of payloads) 1 (staged header epoch payloads payload gate rest) image
       → IsFile header epoch payloads image ⊎ IsFile header epoch (payloads ++ payload ∷ []) image
   torn_gate payload gate rest image fits short le torn =

@@ -3,10 +3,7 @@
 use Rattle.std.specs.Prelude.{◌≢◌, ◌≡◌, ℕ, ◌+◌, ◌^◌, ◌<◌, ◌≤◌, ◌==◌, List, [], ◌∷◌, ◌++◌, length, take, drop, slice_index, nat_eq, nat_lt, if◌then◌else◌, zero, suc}
 use Rattle.std.specs.List.{All, starts_with}
 use Rattle.std.specs.Int.{w32, w64, to_be_bytes, from_be_bytes}
-
--- the greatest length of a payload, in bytes
-abbrev pub max_payload : ℕ
-max_payload = 16777216
+use Rattle.esm_model.specs.declared.limits.TheConstants.{MAX_PAYLOAD}
 
 -- the text "ESMJ000" and a digit: "ESMJ0001" of a single journal, "ESMJ0002" of a pair
 abbrev pub header_of : ℕ → List ℕ
@@ -31,7 +28,7 @@ end_of payloads = 17 + length (entries payloads)
 
 -- no payload is too long
 abbrev pub AreShort : List (List ℕ) → Type 0
-AreShort payloads = All (λ payload. length payload ≤ max_payload) payloads
+AreShort payloads = All (λ payload. length payload ≤ MAX_PAYLOAD) payloads
 
 -- The grammar of a file that holds these payloads: their entries behind open gates, then a gate that is not open, and
 -- anything after it.
@@ -67,7 +64,7 @@ number_in bytes = from_be_bytes w32 (take 4 bytes)
 abbrev pub opened_entry : ℕ → List ℕ → Opening → Opening
 opened_entry place behind rest =
     if nat_lt (length behind) 4 then Damaged (place + 1 + length behind)
-    else if nat_lt max_payload (number_in behind) then Damaged (place + 1)
+    else if nat_lt MAX_PAYLOAD (number_in behind) then Damaged (place + 1)
     else preceded (take (number_in behind) (drop 4 behind)) rest
 
 -- What the part of a file from this place on says. So many bytes are to be passed before the next gate; where the file

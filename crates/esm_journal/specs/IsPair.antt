@@ -1,5 +1,6 @@
 -- What the disks of a pair hold, beside the log of the one in use.
 use Rattle.std.specs.Prelude.{◌≡◌, ◌≤◌, ℕ, Bool, true, false, List}
+use Rattle.esm_io.specs.Meanings.{DiskMeaning}
 use Rattle.esm_io.specs.Images.{Only}
 use Rattle.esm_io.specs.Faults.{MAX_FAULTS}
 use Rattle.esm_journal.specs.File.{header_of}
@@ -9,10 +10,10 @@ use Rattle.esm_journal.specs.declared.log.Log.{Log}
 
 -- Where the spare disk is honest and no call failed, it is settled and does not hinder the one in use. After a call that
 -- failed each image of both opens to the payloads, or to what the call was to leave.
-pub record IsPair {D : Type 0} (honest : D → Bool) (content : D → List ℕ) (image : D → List ℕ → Type 0) (faults : D → ℕ) (log : Log D) (spare : D) (spare_sealed : Bool) : Type 0 where
+pub record IsPair {D : Type 0} (m : DiskMeaning D) (log : Log D) (spare : D) (spare_sealed : Bool) : Type 0 where
   pub header : log.header ≡ header_of 2
-  pub beside : honest log.disk ≡ true → honest spare ≡ true → log.down ≡ false → IsSpare (header_of 2) log.epoch (content spare)
-  pub settled : honest spare ≡ true → log.down ≡ false → Only (content spare) (image spare)
-  pub other : honest spare ≡ true → log.down ≡ false → IsOther spare_sealed (content spare)
-  pub stopped : honest log.disk ≡ true → honest spare ≡ true → log.down ≡ true → PairStillOpens image (header_of 2) log.epoch log.payloads.items log.disk spare
-  pub faults_fit : faults spare ≤ MAX_FAULTS
+  pub beside : m.honest log.disk ≡ true → m.honest spare ≡ true → log.down ≡ false → IsSpare (header_of 2) log.epoch (m.content spare)
+  pub settled : m.honest spare ≡ true → log.down ≡ false → Only (m.content spare) (m.image spare)
+  pub other : m.honest spare ≡ true → log.down ≡ false → IsOther spare_sealed (m.content spare)
+  pub stopped : m.honest log.disk ≡ true → m.honest spare ≡ true → log.down ≡ true → PairStillOpens m (header_of 2) log.epoch log.payloads.items log.disk spare
+  pub faults_fit : m.faults spare ≤ MAX_FAULTS

@@ -1,4 +1,6 @@
 pub mod File
+pub mod Bytes
+pub mod Fresh
 pub mod Reads
 pub mod Head
 pub mod Room

@@ -1,5 +1,6 @@
 -- A file that is open: what is kept of it in memory, and what the disk holds.
 use Rattle.std.specs.Prelude.{◌≡◌, ◌+◌, ◌≤◌, ◌<◌, ◌^◌, ◌⊎◌, ℕ, Bool, true, false, List, [], ◌∷◌, ◌++◌, length, vec_len, vec_capacity}
+use Rattle.esm_io.specs.Meanings.{DiskMeaning}
 use Rattle.esm_io.specs.Images.{Only}
 use Rattle.esm_io.specs.Faults.{MAX_FAULTS}
 use Rattle.esm_journal.specs.File.{end_of, IsFile}
@@ -17,13 +18,13 @@ IsStopped images header epoch payloads =
 
 -- Where the disk is honest and no call of it failed, its file holds exactly these payloads, and is the only image. After a
 -- call that failed each image holds these, or these and one more.
-pub record IsLog {D : Type 0} (honest : D → Bool) (content : D → List ℕ) (image : D → List ℕ → Type 0) (faults : D → ℕ) (log : Log D) : Type 0 where
+pub record IsLog {D : Type 0} (m : DiskMeaning D) (log : Log D) : Type 0 where
   pub header : length log.header ≡ 8
-  pub file : honest log.disk ≡ true → log.down ≡ false → IsFile log.header log.epoch log.payloads.items (content log.disk)
-  pub synced : honest log.disk ≡ true → log.down ≡ false → Only (content log.disk) (image log.disk)
-  pub stopped : honest log.disk ≡ true → log.down ≡ true → IsStopped (image log.disk) log.header log.epoch log.payloads.items
+  pub file : m.honest log.disk ≡ true → log.down ≡ false → IsFile log.header log.epoch log.payloads.items (m.content log.disk)
+  pub synced : m.honest log.disk ≡ true → log.down ≡ false → Only (m.content log.disk) (m.image log.disk)
+  pub stopped : m.honest log.disk ≡ true → log.down ≡ true → IsStopped (m.image log.disk) log.header log.epoch log.payloads.items
   pub end : log.end ≡ end_of log.payloads.items
-  pub faults_fit : faults log.disk ≤ MAX_FAULTS
+  pub faults_fit : m.faults log.disk ≤ MAX_FAULTS
   pub spares : AreSpares log.spares.items
   pub total : log.end + total_room log.spares.items < 2 ^ 64
   pub places : vec_len log.payloads + length log.spares.items ≤ vec_capacity log.payloads

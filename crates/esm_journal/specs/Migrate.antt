@@ -1,7 +1,9 @@
 -- Bringing a pair of version 1, whose files begin with "ESMJ0001", to version 2, whose files begin with "ESMJ0002".
 use Rattle.std.specs.Prelude.{◌≡◌, ◌⊎◌, ◌+◌, ◌==◌, ◌||◌, ℕ, Bool, false, List, if◌then◌else◌}
+use Rattle.esm_io.specs.Meanings.{DiskMeaning}
 use Rattle.esm_journal.specs.File.{header_of, Opening, Holding, Foreign, Damaged}
-use Rattle.esm_journal.specs.Pair.{is_sealed, pair_opened}
+use Rattle.esm_journal.specs.Bytes.{rewritten}
+use Rattle.esm_journal.specs.Pair.{PairState, is_sealed, pair_opened}
 
 -- one of two files is sealed with the header of version 2
 abbrev pub is_version_2 : List ℕ → List ℕ → Bool
@@ -26,7 +28,13 @@ MigratesTo epoch payloads one other =
 
 -- Two disks of version 1 gave these bytes. Where they hold a list that can be written anew, each image since then opens to
 -- it as version 1, or to the same list as version 2.
-abbrev pub IsMoving : {D : Type 0} → (D → ℕ) → (D → ℕ → List ℕ → Type 0) → List ℕ → List ℕ → D → D → D → D → Type 0
-IsMoving moment since one_was other_was first second first' second' =
+abbrev pub IsMoving : {D : Type 0} → DiskMeaning D → List ℕ → List ℕ → D → D → D → D → Type 0
+IsMoving m one_was other_was first second first' second' =
     (epoch : ℕ) (payloads : List (List ℕ)) → pair_opened (header_of 1) one_was other_was ≡ Holding epoch payloads →
-    (one other : List ℕ) → since first' (moment first) one → since second' (moment second) other → MigratesTo epoch payloads one other
+    (one other : List ℕ) → m.since first' (m.moment first) one → m.since second' (m.moment second) other → MigratesTo epoch payloads one other
+
+-- The list of a pair of version 1 was written over the disk that was not in use, which is now in use; the other holds what
+-- it held.
+pub record IsWrittenAnew {D : Type 0} (content : D → List ℕ) (first second : D) (pair : PairState D) : Type 0 where
+  pub written : content pair.used ≡ rewritten (header_of 2) pair.epoch pair.payloads (content (if pair.swapped then second else first))
+  pub kept : content pair.spare ≡ content (if pair.swapped then first else second)

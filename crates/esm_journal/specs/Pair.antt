@@ -2,6 +2,7 @@
 use Rattle.std.specs.Prelude.{◌++◌, ◌∷◌, [], ◌⊎◌, ◌≡◌, ◌≤◌, ◌<◌, ◌==◌, ◌&&◌, ◌||◌, not, ℕ, Bool, true, List, length, slice_index, nat_eq, nat_lt, if◌then◌else◌, refl}
 use Rattle.std.specs.Cmp.Lexicographic.{pointwise}
 use Rattle.std.specs.Coded.{Coded, code_by, coded×, coded_ℕ, coded_bool, coded_list}
+use Rattle.esm_io.specs.Meanings.{DiskMeaning}
 use Rattle.esm_io.specs.Images.{Only}
 use Rattle.esm_journal.specs.File.{Opening, Holding, Foreign, Damaged, IsFile, eight_at, epoch_in, opened_rest}
 
@@ -70,12 +71,12 @@ PairOpensTo header epoch payloads used spare =
 
 -- What the disks of a pair hold: the one in use exactly these payloads, the other nothing that is taken; each is its
 -- only image. So each image of the pair opens to the payloads, in whichever order the disks are handed in.
-pub record PairKeeps {D : Type 0} (content : D → List ℕ) (image : D → List ℕ → Type 0) (header : List ℕ) (epoch : ℕ) (payloads : List (List ℕ)) (used spare : D) : Type 0 where
-  pub file : IsFile header epoch payloads (content used)
-  pub durable : Only (content used) (image used)
-  pub beside : IsSpare header epoch (content spare)
-  pub spare_durable : Only (content spare) (image spare)
-  pub opens : PairOpensTo header epoch payloads (content used) (content spare)
+pub record PairKeeps {D : Type 0} (m : DiskMeaning D) (header : List ℕ) (epoch : ℕ) (payloads : List (List ℕ)) (used spare : D) : Type 0 where
+  pub file : IsFile header epoch payloads (m.content used)
+  pub durable : Only (m.content used) (m.image used)
+  pub beside : IsSpare header epoch (m.content spare)
+  pub spare_durable : Only (m.content spare) (m.image spare)
+  pub opens : PairOpensTo header epoch payloads (m.content used) (m.content spare)
 
 -- they open to these payloads, or to these and one more
 abbrev pub PairOpensToEither : List ℕ → ℕ → List (List ℕ) → List ℕ → List ℕ → List ℕ → Type 0

@@ -1,5 +1,6 @@
 -- What calls of a disk that write nothing leave, and why a file was refused.
 use Rattle.std.specs.Prelude.{◌≡◌, ℕ, ◌≤◌, Bool, true, List}
+use Rattle.esm_io.specs.Meanings.{DiskMeaning}
 use Rattle.esm_io.specs.Images.{Within, LeavesOnly}
 use Rattle.esm_io.specs.Faults.{MAX_FAULTS}
 use Rattle.esm_journal.specs.declared.error.InitError.{InitError}
@@ -8,13 +9,13 @@ use Rattle.esm_journal.specs.declared.error.OpenError.{OpenError}
 use Rattle.esm_journal.specs.declared.error.OpenError.TheVariants.{NotAJournal, Damaged, DiskFault, OutOfMemory}
 
 -- The disk reads as before, and each image now or since the first call is one from before.
-pub record IsOnlyRead {D : Type 0} (honest : D → Bool) (content : D → List ℕ) (image : D → List ℕ → Type 0) (moment : D → ℕ) (since : D → ℕ → List ℕ → Type 0) (faults : D → ℕ) (old new : D) : Type 0 where
-  pub honesty : honest new ≡ honest old
-  pub same : honest old ≡ true → content new ≡ content old
-  pub images : honest old ≡ true → Within (image old) (image new)
-  pub any_moment : honest old ≡ true → LeavesOnly moment since old new (image old)
-  pub never_falls : faults old ≤ faults new
-  pub greatest : faults old ≤ MAX_FAULTS → faults new ≤ MAX_FAULTS
+pub record IsOnlyRead {D : Type 0} (m : DiskMeaning D) (old new : D) : Type 0 where
+  pub honesty : m.honest new ≡ m.honest old
+  pub same : m.honest old ≡ true → m.content new ≡ m.content old
+  pub images : m.honest old ≡ true → Within (m.image old) (m.image new)
+  pub any_moment : m.honest old ≡ true → LeavesOnly m.moment m.since old new (m.image old)
+  pub never_falls : m.faults old ≤ m.faults new
+  pub greatest : m.faults old ≤ MAX_FAULTS → m.faults new ≤ MAX_FAULTS
 
 -- why a file was refused: it does not begin with the header, and these are its first eight bytes; it is damaged at a
 -- place; or the disk's faults rose

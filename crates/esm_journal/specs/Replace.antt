@@ -1,13 +1,14 @@
 -- Writing a new list over the file of a pair that is not in use.
 use Rattle.std.specs.Prelude.{◌≢◌, ◌≡◌, ◌+◌, ◌⊎◌, ◌≤◌, ◌++◌, [], ◌∷◌, ℕ, List, Option, Some, None, length, slice_index, nat_lt, if◌then◌else◌}
 use Rattle.std.specs.Int.{w64, to_be_bytes}
-use Rattle.esm_journal.specs.File.{max_payload, entries, IsFile}
+use Rattle.esm_model.specs.declared.limits.TheConstants.{MAX_PAYLOAD}
+use Rattle.esm_journal.specs.File.{entries, IsFile}
 use Rattle.esm_journal.specs.Pair.{IsSpare, PairOpensTo}
 
 -- the length of the first payload that is too long
 abbrev pub first_too_long : List (List ℕ) → Option ℕ
 first_too_long [] = None
-first_too_long (payload ∷ payloads) = if nat_lt max_payload (length payload) then Some (length payload) else first_too_long payloads
+first_too_long (payload ∷ payloads) = if nat_lt MAX_PAYLOAD (length payload) then Some (length payload) else first_too_long payloads
 
 -- a file whose seal is not open, whatever else it holds
 pub record IsClosed (bytes : List ℕ) : Type 0 where

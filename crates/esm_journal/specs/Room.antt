@@ -1,11 +1,16 @@
 -- Memory that was made for the next payloads.
 use Rattle.std.specs.Prelude.{◌≡◌, ◌+◌, ◌-◌, ◌≤◌, ℕ, List, [], ◌∷◌, length, nat_le, if◌then◌else◌, Vec, vec_len, vec_capacity}
 use Rattle.std.specs.declared.alloc.Global.{Global}
+use Rattle.esm_model.specs.declared.limits.TheConstants.{MAX_PAYLOAD}
 
 -- the next payload is not longer than the first of these lengths
 abbrev pub HasRoom : List ℕ → ℕ → Type 0
 HasRoom [] n = ⊥
 HasRoom (length ∷ lengths) n = n ≤ length
+
+-- and so it is where it is not too long for any file
+abbrev pub HasRoomIfShort : List ℕ → ℕ → Type 0
+HasRoomIfShort lengths n = n ≤ MAX_PAYLOAD → HasRoom lengths n
 
 -- the lengths that are left after a payload; one that is longer than was made room for ends the promise
 abbrev pub room_after : List ℕ → ℕ → List ℕ

@@ -1,6 +1,7 @@
 -- What contracts see of a journal.
 use Rattle.std.specs.Prelude.{◌≡◌, ◌⊎◌, ℕ, Bool, List, [], ◌∷◌, ◌++◌, refl}
 use Rattle.std.specs.Coded.{Coded, code_by, coded×, coded_ℕ, coded_bool, coded_list}
+use Rattle.esm_io.specs.Meanings.{DiskMeaning}
 use Rattle.esm_io.specs.Images.{Only}
 use Rattle.esm_journal.specs.File.{Holding, opened}
 
@@ -28,10 +29,10 @@ abbrev pub OpensToEither : List ℕ → List (List ℕ) → List ℕ → List �
 OpensToEither header payloads payload bytes = OpensTo header payloads bytes ⊎ OpensTo header (payloads ++ payload ∷ []) bytes
 
 -- a disk reads as these payloads, and so does each image
-pub record Keeps {D : Type 0} (content : D → List ℕ) (image : D → List ℕ → Type 0) (header : List ℕ) (payloads : List (List ℕ)) (disk : D) : Type 0 where
-  pub opens : OpensTo header payloads (content disk)
-  pub durable : Only (content disk) (image disk)
+pub record Keeps {D : Type 0} (m : DiskMeaning D) (header : List ℕ) (payloads : List (List ℕ)) (disk : D) : Type 0 where
+  pub opens : OpensTo header payloads (m.content disk)
+  pub durable : Only (m.content disk) (m.image disk)
 
 -- a call failed while a payload was added: each image of the disk opens to the payloads, or to these and that one
-abbrev pub StillOpens : {D : Type 0} → (D → List ℕ → Type 0) → List ℕ → List (List ℕ) → D → Type 0
-StillOpens image header payloads disk = (payload : List ℕ) × ((bytes : List ℕ) → image disk bytes → OpensToEither header payloads payload bytes)
+abbrev pub StillOpens : {D : Type 0} → DiskMeaning D → List ℕ → List (List ℕ) → D → Type 0
+StillOpens m header payloads disk = (payload : List ℕ) × ((bytes : List ℕ) → m.image disk bytes → OpensToEither header payloads payload bytes)

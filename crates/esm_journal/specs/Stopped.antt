@@ -1,11 +1,12 @@
 -- What a crash may leave of a pair once a call of a disk failed.
 use Rattle.std.specs.Prelude.{◌⊎◌, ℕ, List}
+use Rattle.esm_io.specs.Meanings.{DiskMeaning}
 use Rattle.esm_journal.specs.Pair.{PairOpensToEither}
 use Rattle.esm_journal.specs.Replace.{PairOpensToOldOrNew}
 
 -- A call failed while a payload was added, or while a list was written to the file that is not in use. In the first case
 -- images of both disks open to the payloads, or to these and that one; in the other to the payloads, or to that list.
-abbrev pub PairStillOpens : {D : Type 0} → (D → List ℕ → Type 0) → List ℕ → ℕ → List (List ℕ) → D → D → Type 0
-PairStillOpens image header epoch payloads first second =
-    ((payload : List ℕ) × ((one other : List ℕ) → image first one → image second other → PairOpensToEither header epoch payloads payload one other))
-    ⊎ ((list : List (List ℕ)) × ((one other : List ℕ) → image first one → image second other → PairOpensToOldOrNew header epoch payloads list one other))
+abbrev pub PairStillOpens : {D : Type 0} → DiskMeaning D → List ℕ → ℕ → List (List ℕ) → D → D → Type 0
+PairStillOpens m header epoch payloads first second =
+    ((payload : List ℕ) × ((one other : List ℕ) → m.image first one → m.image second other → PairOpensToEither header epoch payloads payload one other))
+    ⊎ ((list : List (List ℕ)) × ((one other : List ℕ) → m.image first one → m.image second other → PairOpensToOldOrNew header epoch payloads list one other))

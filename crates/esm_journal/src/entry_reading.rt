@@ -4,21 +4,21 @@ ghost use Rattle.std.specs.List.{All};
 ghost use Rattle.esm_io.specs.Faults.{IsCount, Rose};
 ghost use Rattle.esm_io.specs.Images.{Only, LeavesOnly};
 ghost use Rattle.std.specs.Int.{w32, to_be_bytes, from_be_bytes};
-ghost use Rattle.esm_journal.specs.File.{max_payload, number_in, entry, entries, end_of, AreShort, Damaged, read_from};
+ghost use Rattle.esm_io.specs.Meanings.{disk as meaning};
+ghost use Rattle.esm_journal.specs.File.{number_in, entry, entries, end_of, AreShort, Damaged, read_from};
 ghost use Rattle.esm_journal.specs.Reads.{IsOnlyRead, RefusedFor};
 
 use crate::error::OpenError;
-use crate::format::MAX_PAYLOAD;
 use crate::through::{read_at, settle, size_of};
 use esm_io::{Disk, Failed};
-use esm_model::Bytes;
+use esm_model::{Bytes, MAX_PAYLOAD};
 use std::alloc::Global;
 
 /// The gate byte at a place.
 fn byte_at<D: Disk>(disk: &mut D, place: u64) -> Result<u8, Failed>
     requires within { D.honest disk.old ≡ true → place < length (D.content disk.old) }
     ensures byte { D.honest disk.old ≡ true → IfOk result (λ byte. byte ≡ slice_index (D.content disk.old) place) }
-    ensures only_read { IsOnlyRead D.honest D.content D.image D.moment D.image_since D.faults disk.old disk.new }
+    ensures only_read { IsOnlyRead (meaning D.honest D.content D.image D.moment D.image_since D.faults) disk.old disk.new }
     ensures cause { OnErr result (Rose (D.faults disk.old) (D.faults disk.new)) }
 {
     let mut byte = [0];
@@ -40,7 +40,7 @@ fn number_at<D: Disk>(disk: &mut D, place: u64) -> Result<u32, Failed>
     requires within { D.honest disk.old ≡ true → place + 4 ≤ length (D.content disk.old) }
     ensures number { D.honest disk.old ≡ true → IfOk result (λ n. n ≡ number_in (drop place (D.content disk.old))) }
     ensures written { D.honest disk.old ≡ true → IfOk result (λ n. to_be_bytes w32 n ≡ take 4 (drop place (D.content disk.old))) }
-    ensures only_read { IsOnlyRead D.honest D.content D.image D.moment D.image_since D.faults disk.old disk.new }
+    ensures only_read { IsOnlyRead (meaning D.honest D.content D.image D.moment D.image_since D.faults) disk.old disk.new }
     ensures cause { OnErr result (Rose (D.faults disk.old) (D.faults disk.new)) }
 {
     let mut four = [0; 4];
@@ -58,7 +58,7 @@ fn bytes_at<D: Disk>(
     requires within { D.honest disk.old ≡ true → place + count ≤ length (D.content disk.old) }
     ensures bytes { D.honest disk.old ≡ true → IfOk result (λ bytes. bytes ≡ take count (drop place (D.content disk.old))) }
     ensures size { IfOk result (λ bytes. length bytes ≡ count) }
-    ensures only_read { IsOnlyRead D.honest D.content D.image D.moment D.image_since D.faults disk.old disk.new }
+    ensures only_read { IsOnlyRead (meaning D.honest D.content D.image D.moment D.image_since D.faults) disk.old disk.new }
     ensures refused { IfErr result (λ e. RefusedFor (λ first. ⊥) (λ place. ⊥) (Rose (D.faults disk.old) (D.faults disk.new)) e) }
 {
     let mut bytes = vec![in alloc; 0; count]?;
@@ -79,8 +79,8 @@ fn read_entry<D: Disk>(
     ensures whole { D.honest disk.old ≡ true → IfOk result (λ found. IfSome found (λ payload.
         drop place (D.content disk.old) ≡ 1 ∷ [] ++ entry payload ++ drop (place + 5 + length payload) (D.content disk.old))) }
     ensures next { IfOk result (λ found. IfSome found (λ payload. place + 5 + length payload < size)) }
-    ensures short { IfOk result (λ found. IfSome found (λ payload. length payload ≤ max_payload)) }
-    ensures only_read { IsOnlyRead D.honest D.content D.image D.moment D.image_since D.faults disk.old disk.new }
+    ensures short { IfOk result (λ found. IfSome found (λ payload. length payload ≤ MAX_PAYLOAD)) }
+    ensures only_read { IsOnlyRead (meaning D.honest D.content D.image D.moment D.image_since D.faults) disk.old disk.new }
     ensures refused { IfErr result (λ e. RefusedFor (λ first. ⊥)
         (λ damage. D.honest disk.old ≡ true → (epoch : ℕ) → read_from epoch place 0 (drop place (D.content disk.old)) ≡ Damaged damage)
         (Rose (D.faults disk.old) (D.faults disk.new)) e) }
@@ -93,7 +93,7 @@ fn read_entry<D: Disk>(
         return Err(OpenError::Damaged(size));
     }
     let count = number_at(disk, place + 1)?;
-    if u64::from(count) > MAX_PAYLOAD {
+    if count as usize > MAX_PAYLOAD {
         return Err(OpenError::Damaged(place + 1));
     }
     if left - 5 <= u64::from(count) {
@@ -117,7 +117,7 @@ pub(crate) fn read_entries<D: Disk>(
     ensures end { IfOk result (λ found. found.1 ≡ end_of found.0.items) }
     ensures within { IfOk result (λ found. found.1 < size) }
     ensures short { IfOk result (λ found. AreShort found.0.items) }
-    ensures only_read { IsOnlyRead D.honest D.content D.image D.moment D.image_since D.faults disk.old disk.new }
+    ensures only_read { IsOnlyRead (meaning D.honest D.content D.image D.moment D.image_since D.faults) disk.old disk.new }
     ensures refused { IfErr result (λ e. RefusedFor (λ first. ⊥)
         (λ damage. D.honest disk.old ≡ true → (epoch : ℕ) → read_from epoch 17 0 (drop 17 (D.content disk.old)) ≡ Damaged damage)
         (Rose (D.faults disk.old) (D.faults disk.new)) e) }

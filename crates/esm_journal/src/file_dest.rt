@@ -2,15 +2,15 @@ ghost use Rattle.std.specs.Prelude.{◌≡◌, ◌≤◌, ◌++◌, ℕ, List, [
 ghost use Rattle.esm_io.specs.Faults.{IsCount, Rose};
 ghost use Rattle.esm_io.specs.Images.{LeavesOnly};
 ghost use Rattle.esm_io.specs.Told.{Grows};
-ghost use Rattle.esm_journal.specs.File.{max_payload, header_of};
-ghost use Rattle.esm_journal.specs.Room.{HasRoom};
+ghost use Rattle.esm_io.specs.Meanings.{disk as meaning};
+ghost use Rattle.esm_journal.specs.File.{header_of};
+ghost use Rattle.esm_journal.specs.Room.{HasRoomIfShort};
 ghost use Rattle.esm_journal.specs.State.{OpensToEither, Keeps, StillOpens};
 
 use crate::error::AppendError;
-use crate::format::MAX_PAYLOAD;
 use crate::journal::Journal;
 use esm_io::{Dest, DestError, Disk};
-use esm_model::OutOfMemory;
+use esm_model::{MAX_PAYLOAD, OutOfMemory};
 use std::alloc::Global;
 use std::marker::Model;
 
@@ -58,10 +58,10 @@ impl<D: Disk> Dest for FileDest<D> {
 
     ghost failed = { λ d. d.down };
 
-    ghost has_room = { λ d n. n ≤ max_payload → HasRoom d.room n };
+    ghost has_room = { λ d n. HasRoomIfShort d.room n };
 
     fn reserve(&mut self, alloc: Global, bytes: u64) -> Result<(), OutOfMemory>
-        ensures room { OnOk result ((n : ℕ) → n ≤ bytes → n ≤ max_payload → HasRoom self.new.room n) }
+        ensures room { OnOk result ((n : ℕ) → n ≤ bytes → HasRoomIfShort self.new.room n) }
         ensures lines_kept { self.new.payloads ≡ self.old.payloads }
         ensures failed_kept { self.new.down ≡ self.old.down }
         ensures disk_kept { self.new.disk ≡ self.old.disk }
@@ -69,12 +69,12 @@ impl<D: Disk> Dest for FileDest<D> {
         ensures count { D.faults self.new.disk ≡ D.faults self.old.disk }
     {
         self.journal
-            .reserve(alloc, &[bytes.min(MAX_PAYLOAD) as u32])
+            .reserve(alloc, &[bytes.min(MAX_PAYLOAD as u64) as u32])
     }
 
     /// After Ok every image of the disk has the line. After `Failed` an image may have it whole, or not at all.
     fn deliver(&mut self, alloc: Global, line: &[u8]) -> Result<(), DestError>
-        requires short { length line.now ≤ 16777216 }
+        requires short { length line.now ≤ MAX_PAYLOAD }
         requires usable { self.old.down ≡ false }
         ensures sent { OnOk result (Grows (Some self.old.payloads) (Some self.new.payloads) (line.now ∷ [])) }
         ensures unsent { OnErr result (self.new.payloads ≡ self.old.payloads) }
@@ -82,12 +82,12 @@ impl<D: Disk> Dest for FileDest<D> {
         ensures usable_again { IsErrOf result DestError.OutOfMemory → self.new.down ≡ false }
         ensures unchanged { IsErrOf result DestError.OutOfMemory → self.new ≡ self.old }
         ensures down { IsErrOf result DestError.Failed → self.new.down ≡ true }
-        ensures room { IsErrOf result DestError.OutOfMemory → (length line.now ≤ max_payload → HasRoom self.old.room (length line.now)) → ⊥ }
+        ensures room { IsErrOf result DestError.OutOfMemory → HasRoomIfShort self.old.room (length line.now) → ⊥ }
         ensures room_kept { IsErrOf result DestError.OutOfMemory → (n : ℕ)
-            → (n ≤ max_payload → HasRoom self.old.room n) → n ≤ max_payload → HasRoom self.new.room n }
+            → HasRoomIfShort self.old.room n → HasRoomIfShort self.new.room n }
         ensures uncounted { IsErrOf result DestError.OutOfMemory → D.faults self.new.disk ≡ D.faults self.old.disk }
-        ensures kept { D.honest self.new.disk ≡ true → self.new.down ≡ false → Keeps D.content D.image (header_of 1) self.new.payloads self.new.disk }
-        ensures stopped { D.honest self.new.disk ≡ true → self.new.down ≡ true → StillOpens D.image (header_of 1) self.new.payloads self.new.disk }
+        ensures kept { D.honest self.new.disk ≡ true → self.new.down ≡ false → Keeps (meaning D.honest D.content D.image D.moment D.image_since D.faults) (header_of 1) self.new.payloads self.new.disk }
+        ensures stopped { D.honest self.new.disk ≡ true → self.new.down ≡ true → StillOpens (meaning D.honest D.content D.image D.moment D.image_since D.faults) (header_of 1) self.new.payloads self.new.disk }
         ensures any_moment { D.honest self.old.disk ≡ true →
             LeavesOnly D.moment D.image_since self.old.disk self.new.disk (OpensToEither (header_of 1) self.old.payloads line.now) }
         ensures honesty { D.honest self.new.disk ≡ D.honest self.old.disk }

@@ -2,8 +2,10 @@
 ghost use Rattle.std.specs.Prelude.{◌≡◌, ◌≢◌, ◌++◌, [], ◌∷◌, true, ℕ, length, IfErr, OnOk, OnErr};
 ghost use Rattle.std.specs.Int.{w64, to_be_bytes};
 ghost use Rattle.esm_io.specs.Faults.{IsCount, Rose};
-ghost use Rattle.esm_io.specs.Images.{Only};
+ghost use Rattle.esm_io.specs.Images.{LeavesOnly, Only};
+ghost use Rattle.esm_io.specs.Meanings.{disk as meaning};
 ghost use Rattle.esm_journal.specs.File.{blank_file, fresh_file};
+ghost use Rattle.esm_journal.specs.Fresh.{WasOrHoldsNone};
 ghost use Rattle.esm_journal.specs.Reads.{IsOnlyRead, NotMadeFor};
 
 use crate::error::InitError;
@@ -34,7 +36,9 @@ pub(crate) fn write_blank<D: Disk>(
     ensures refused { IfErr result (λ e. NotMadeFor
         (λ size. D.honest disk.old ≡ true → (size ≡ length (D.content disk.old)) × (size ≢ 0) × (D.content disk.new ≡ D.content disk.old))
         (Rose (D.faults disk.old) (D.faults disk.new)) e) }
-    ensures only_read { D.honest disk.old ≡ true → length (D.content disk.old) ≢ 0 → OnErr result (IsOnlyRead D.honest D.content D.image D.moment D.image_since D.faults disk.old disk.new) }
+    ensures only_read { D.honest disk.old ≡ true → length (D.content disk.old) ≢ 0 → OnErr result (IsOnlyRead (meaning D.honest D.content D.image D.moment D.image_since D.faults) disk.old disk.new) }
+    ensures unchanged { IfErr result (λ e. (e ≡ InitError.DiskFault → ⊥) → IsOnlyRead (meaning D.honest D.content D.image D.moment D.image_since D.faults) disk.old disk.new) }
+    ensures any_moment { D.honest disk.old ≡ true → LeavesOnly D.moment D.image_since disk.old disk.new (WasOrHoldsNone (D.image disk.old)) }
     ensures honesty { D.honest disk.new ≡ D.honest disk.old }
     ensures count { IsCount (D.faults disk.old) (D.faults disk.new) }
 {
@@ -56,7 +60,9 @@ pub(crate) fn write_fresh<D: Disk>(disk: &mut D, header: [u8; 8]) -> Result<(), 
     ensures refused { IfErr result (λ e. NotMadeFor
         (λ size. D.honest disk.old ≡ true → (size ≡ length (D.content disk.old)) × (size ≢ 0) × (D.content disk.new ≡ D.content disk.old))
         (Rose (D.faults disk.old) (D.faults disk.new)) e) }
-    ensures only_read { D.honest disk.old ≡ true → length (D.content disk.old) ≢ 0 → OnErr result (IsOnlyRead D.honest D.content D.image D.moment D.image_since D.faults disk.old disk.new) }
+    ensures only_read { D.honest disk.old ≡ true → length (D.content disk.old) ≢ 0 → OnErr result (IsOnlyRead (meaning D.honest D.content D.image D.moment D.image_since D.faults) disk.old disk.new) }
+    ensures unchanged { IfErr result (λ e. (e ≡ InitError.DiskFault → ⊥) → IsOnlyRead (meaning D.honest D.content D.image D.moment D.image_since D.faults) disk.old disk.new) }
+    ensures any_moment { D.honest disk.old ≡ true → LeavesOnly D.moment D.image_since disk.old disk.new (WasOrHoldsNone (D.image disk.old)) }
     ensures honesty { D.honest disk.new ≡ D.honest disk.old }
     ensures count { IsCount (D.faults disk.old) (D.faults disk.new) }
 {

@@ -2,6 +2,7 @@
 ghost use Rattle.std.specs.Prelude.{◌≡◌, ◌+◌, ◌<◌, ◌≤◌, true, ℕ, length, slice_index, IfOk, OnErr};
 ghost use Rattle.std.specs.Int.{w64, to_be_bytes, from_be_bytes};
 ghost use Rattle.esm_io.specs.Faults.{Rose};
+ghost use Rattle.esm_io.specs.Meanings.{disk as meaning};
 ghost use Rattle.esm_journal.specs.File.{eight_at};
 ghost use Rattle.esm_journal.specs.Reads.{IsOnlyRead};
 ghost use Rattle.esm_journal.specs.Head.{IsHead};
@@ -50,7 +51,7 @@ fn epoch_of(bytes: &[u8]) -> u64
 fn first_bytes<D: Disk>(disk: &mut D, size: u64) -> Result<[u8; 17], Failed>
     requires { D.honest disk.old ≡ true → size ≡ length (D.content disk.old) }
     ensures bytes { D.honest disk.old ≡ true → IfOk result (λ bytes. (k : ℕ) → k < 17 → slice_index bytes k ≡ slice_index (D.content disk.old) k) }
-    ensures only_read { IsOnlyRead D.honest D.content D.image D.moment D.image_since D.faults disk.old disk.new }
+    ensures only_read { IsOnlyRead (meaning D.honest D.content D.image D.moment D.image_since D.faults) disk.old disk.new }
     ensures cause { OnErr result (Rose (D.faults disk.old) (D.faults disk.new)) }
 {
     let mut bytes = [0; 17];
@@ -62,7 +63,7 @@ fn first_bytes<D: Disk>(disk: &mut D, size: u64) -> Result<[u8; 17], Failed>
 /// Reads the front of a file.
 pub(crate) fn read_head<D: Disk>(disk: &mut D) -> Result<Head, Failed>
     ensures head { D.honest disk.old ≡ true → IfOk result (IsHead (D.content disk.old)) }
-    ensures only_read { IsOnlyRead D.honest D.content D.image D.moment D.image_since D.faults disk.old disk.new }
+    ensures only_read { IsOnlyRead (meaning D.honest D.content D.image D.moment D.image_since D.faults) disk.old disk.new }
     ensures cause { OnErr result (Rose (D.faults disk.old) (D.faults disk.new)) }
 {
     let size = size_of(disk)?;

@@ -1,7 +1,10 @@
 ghost use Rattle.std.specs.Prelude.{◌≡◌, ◌≢◌, ◌+◌, ◌<◌, ◌≤◌, ℕ, List, [], ◌∷◌, ◌++◌, true, false, length, IfOk, IfErr, OnOk, OnErr, IsErrOf};
 ghost use Rattle.esm_io.specs.Faults.{IsCount, Rose};
 ghost use Rattle.esm_io.specs.Images.{LeavesOnly, Only};
-ghost use Rattle.esm_journal.specs.File.{max_payload, header_of, Foreign, Damaged, eight_at, opened, fresh_file, blank_file};
+ghost use Rattle.esm_io.specs.Meanings.{disk as meaning};
+ghost use Rattle.esm_journal.specs.File.{header_of, Foreign, Damaged, eight_at, opened, fresh_file, blank_file};
+ghost use Rattle.esm_journal.specs.Bytes.{with_payload};
+ghost use Rattle.esm_journal.specs.Fresh.{WasOrHoldsNone};
 ghost use Rattle.esm_journal.specs.Reads.{IsOnlyRead, RefusedFor, NotMadeFor};
 ghost use Rattle.esm_journal.specs.Room.{HasRoom, room_after};
 ghost use Rattle.esm_journal.specs.State.{OpensTo, OpensToEither, Keeps, StillOpens};
@@ -12,7 +15,7 @@ use crate::found::read_file;
 use crate::fresh::{write_blank, write_fresh};
 use crate::log::Log;
 use esm_io::Disk;
-use esm_model::{Bytes, OutOfMemory, Refused};
+use esm_model::{Bytes, MAX_PAYLOAD, OutOfMemory, Refused};
 use std::alloc::Global;
 use std::collections::VecDeque;
 use std::marker::Model;
@@ -32,13 +35,14 @@ impl<D: Disk> Model for Journal<D> {
 
     ghost coded = { state_code D.code };
 
+    ghost use Rattle.esm_io.specs.Meanings.{disk as meaning};
     ghost use Rattle.esm_journal.specs.File.{header_of};
     ghost use Rattle.esm_journal.specs.Room.{room_of};
     ghost use Rattle.esm_journal.specs.Log.{IsLog};
 
     ghost view = { λ j. record { payloads = j.log.payloads.items; down = j.log.down; room = room_of j.log.spares.items; disk = j.log.disk } };
 
-    ghost invariant = { λ j. IsLog D.honest D.content D.image D.faults j.log × (j.log.header ≡ header_of 1) };
+    ghost invariant = { λ j. IsLog (meaning D.honest D.content D.image D.moment D.image_since D.faults) j.log × (j.log.header ≡ header_of 1) };
 }
 
 impl<D: Disk> Journal<D> {
@@ -47,12 +51,15 @@ impl<D: Disk> Journal<D> {
     pub fn init(alloc: Global, disk: D) -> Result<Journal<D>, Refused<InitError, D>>
         ensures fresh { IfOk result (λ journal. (journal.payloads ≡ []) × (journal.down ≡ false) × (journal.room ≡ [])) }
         ensures bytes { D.honest disk ≡ true → IfOk result (λ journal. D.content journal.disk ≡ fresh_file (header_of 1)) }
-        ensures kept { D.honest disk ≡ true → IfOk result (λ journal. Keeps D.content D.image (header_of 1) [] journal.disk) }
+        ensures kept { D.honest disk ≡ true → IfOk result (λ journal. Keeps (meaning D.honest D.content D.image D.moment D.image_since D.faults) (header_of 1) [] journal.disk) }
         ensures was_empty { D.honest disk ≡ true → OnOk result (length (D.content disk) ≡ 0) }
         ensures refused { IfErr result (λ refused. NotMadeFor
             (λ size. D.honest disk ≡ true → (size ≡ length (D.content disk)) × (size ≢ 0) × (D.content refused.back ≡ D.content disk))
             (Rose (D.faults disk) (D.faults refused.back)) refused.why) }
-        ensures only_read { D.honest disk ≡ true → length (D.content disk) ≢ 0 → IfErr result (λ refused. IsOnlyRead D.honest D.content D.image D.moment D.image_since D.faults disk refused.back) }
+        ensures only_read { D.honest disk ≡ true → length (D.content disk) ≢ 0 → IfErr result (λ refused. IsOnlyRead (meaning D.honest D.content D.image D.moment D.image_since D.faults) disk refused.back) }
+        ensures unchanged { IfErr result (λ refused. (refused.why ≡ InitError.DiskFault → ⊥) → IsOnlyRead (meaning D.honest D.content D.image D.moment D.image_since D.faults) disk refused.back) }
+        ensures any_moment { D.honest disk ≡ true → IfOk result (λ journal. LeavesOnly D.moment D.image_since disk journal.disk (WasOrHoldsNone (D.image disk))) }
+        ensures any_moment_err { D.honest disk ≡ true → IfErr result (λ refused. LeavesOnly D.moment D.image_since disk refused.back (WasOrHoldsNone (D.image disk))) }
         ensures honesty { IfOk result (λ journal. D.honest journal.disk ≡ D.honest disk) }
         ensures back_honesty { IfErr result (λ refused. D.honest refused.back ≡ D.honest disk) }
         ensures count { IfOk result (λ journal. IsCount (D.faults disk) (D.faults journal.disk)) }
@@ -84,7 +91,10 @@ impl<D: Disk> Journal<D> {
         ensures refused { IfErr result (λ refused. NotMadeFor
             (λ size. D.honest disk ≡ true → (size ≡ length (D.content disk)) × (size ≢ 0) × (D.content refused.back ≡ D.content disk))
             (Rose (D.faults disk) (D.faults refused.back)) refused.why) }
-        ensures only_read { D.honest disk ≡ true → length (D.content disk) ≢ 0 → IfErr result (λ refused. IsOnlyRead D.honest D.content D.image D.moment D.image_since D.faults disk refused.back) }
+        ensures only_read { D.honest disk ≡ true → length (D.content disk) ≢ 0 → IfErr result (λ refused. IsOnlyRead (meaning D.honest D.content D.image D.moment D.image_since D.faults) disk refused.back) }
+        ensures unchanged { IfErr result (λ refused. (refused.why ≡ InitError.DiskFault → ⊥) → IsOnlyRead (meaning D.honest D.content D.image D.moment D.image_since D.faults) disk refused.back) }
+        ensures any_moment { D.honest disk ≡ true → IfOk result (λ made. LeavesOnly D.moment D.image_since disk made (WasOrHoldsNone (D.image disk))) }
+        ensures any_moment_err { D.honest disk ≡ true → IfErr result (λ refused. LeavesOnly D.moment D.image_since disk refused.back (WasOrHoldsNone (D.image disk))) }
         ensures honesty { IfOk result (λ made. D.honest made ≡ D.honest disk) }
         ensures back_honesty { IfErr result (λ refused. D.honest refused.back ≡ D.honest disk) }
         ensures count { IfOk result (λ made. IsCount (D.faults disk) (D.faults made)) }
@@ -101,14 +111,14 @@ impl<D: Disk> Journal<D> {
     /// header, with its first eight bytes; `Damaged` where it does and is damaged, with the place; nothing is written.
     pub fn open(alloc: Global, disk: D) -> Result<Journal<D>, Refused<OpenError, D>>
         ensures opened { D.honest disk ≡ true → IfOk result (λ journal. OpensTo (header_of 1) journal.payloads (D.content disk)) }
-        ensures kept { D.honest disk ≡ true → IfOk result (λ journal. Keeps D.content D.image (header_of 1) journal.payloads journal.disk) }
+        ensures kept { D.honest disk ≡ true → IfOk result (λ journal. Keeps (meaning D.honest D.content D.image D.moment D.image_since D.faults) (header_of 1) journal.payloads journal.disk) }
         ensures fresh { IfOk result (λ journal. (journal.down ≡ false) × (journal.room ≡ [])) }
-        ensures only_read { IfOk result (λ journal. IsOnlyRead D.honest D.content D.image D.moment D.image_since D.faults disk journal.disk) }
+        ensures only_read { IfOk result (λ journal. IsOnlyRead (meaning D.honest D.content D.image D.moment D.image_since D.faults) disk journal.disk) }
         ensures refused { IfErr result (λ refused. RefusedFor
             (λ first. D.honest disk ≡ true → (opened (header_of 1) (D.content disk) ≡ Foreign) × (first ≡ eight_at (D.content disk) 0))
             (λ place. D.honest disk ≡ true → opened (header_of 1) (D.content disk) ≡ Damaged place)
             (Rose (D.faults disk) (D.faults refused.back)) refused.why) }
-        ensures back { IfErr result (λ refused. IsOnlyRead D.honest D.content D.image D.moment D.image_since D.faults disk refused.back) }
+        ensures back { IfErr result (λ refused. IsOnlyRead (meaning D.honest D.content D.image D.moment D.image_since D.faults) disk refused.back) }
     {
         let mut disk = disk;
         match read_file(alloc, &mut disk, SINGLE) {
@@ -130,8 +140,8 @@ impl<D: Disk> Journal<D> {
     /// The payloads, in order.
     pub fn payloads(&self) -> &[Bytes]
         ensures payloads { result.now ≡ self.now.payloads }
-        ensures kept { D.honest self.now.disk ≡ true → self.now.down ≡ false → Keeps D.content D.image (header_of 1) self.now.payloads self.now.disk }
-        ensures stopped { D.honest self.now.disk ≡ true → self.now.down ≡ true → StillOpens D.image (header_of 1) self.now.payloads self.now.disk }
+        ensures kept { D.honest self.now.disk ≡ true → self.now.down ≡ false → Keeps (meaning D.honest D.content D.image D.moment D.image_since D.faults) (header_of 1) self.now.payloads self.now.disk }
+        ensures stopped { D.honest self.now.disk ≡ true → self.now.down ≡ true → StillOpens (meaning D.honest D.content D.image D.moment D.image_since D.faults) (header_of 1) self.now.payloads self.now.disk }
     {
         &self.log.payloads
     }
@@ -153,10 +163,11 @@ impl<D: Disk> Journal<D> {
     /// journal is down until it is opened again; after the other errors nothing has changed.
     pub fn append(&mut self, alloc: Global, payload: &[u8]) -> Result<(), AppendError>
         ensures added { OnOk result (self.new.payloads ≡ self.old.payloads ++ payload.now ∷ []) }
+        ensures bytes { D.honest self.old.disk ≡ true → OnOk result (D.content self.new.disk ≡ with_payload self.old.payloads payload.now (D.content self.old.disk)) }
         ensures not_added { OnErr result (self.new.payloads ≡ self.old.payloads) }
         ensures up { OnOk result (self.new.down ≡ false) }
-        ensures kept { D.honest self.new.disk ≡ true → self.new.down ≡ false → Keeps D.content D.image (header_of 1) self.new.payloads self.new.disk }
-        ensures stopped { D.honest self.new.disk ≡ true → self.new.down ≡ true → StillOpens D.image (header_of 1) self.new.payloads self.new.disk }
+        ensures kept { D.honest self.new.disk ≡ true → self.new.down ≡ false → Keeps (meaning D.honest D.content D.image D.moment D.image_since D.faults) (header_of 1) self.new.payloads self.new.disk }
+        ensures stopped { D.honest self.new.disk ≡ true → self.new.down ≡ true → StillOpens (meaning D.honest D.content D.image D.moment D.image_since D.faults) (header_of 1) self.new.payloads self.new.disk }
         ensures any_moment { D.honest self.old.disk ≡ true → self.old.down ≡ false →
             LeavesOnly D.moment D.image_since self.old.disk self.new.disk (OpensToEither (header_of 1) self.old.payloads payload.now) }
         ensures fault { IsErrOf result AppendError.DiskFault → self.new.down ≡ true }
@@ -164,8 +175,8 @@ impl<D: Disk> Journal<D> {
         ensures down { IsErrOf result AppendError.Down → (self.new ≡ self.old) × (self.old.down ≡ true) }
         ensures is_down { self.old.down ≡ true → IsErrOf result AppendError.Down }
         ensures too_long { (n : ℕ) → IsErrOf result (AppendError.TooLong n) →
-            (self.new ≡ self.old) × (self.old.down ≡ false) × (n ≡ length payload.now) × (max_payload < length payload.now) }
-        ensures is_too_long { self.old.down ≡ false → max_payload < length payload.now → IsErrOf result (AppendError.TooLong (length payload.now)) }
+            (self.new ≡ self.old) × (self.old.down ≡ false) × (n ≡ length payload.now) × (MAX_PAYLOAD < length payload.now) }
+        ensures is_too_long { self.old.down ≡ false → MAX_PAYLOAD < length payload.now → IsErrOf result (AppendError.TooLong (length payload.now)) }
         ensures no_memory { IsErrOf result AppendError.OutOfMemory → self.new ≡ self.old }
         ensures has_room { HasRoom self.old.room (length payload.now) → IsErrOf result AppendError.OutOfMemory → ⊥ }
         ensures room { OnOk result (self.new.room ≡ room_after self.old.room (length payload.now)) }

@@ -1,7 +1,8 @@
 //! What holds of worked files, as the contract of a function that does nothing.
-ghost use Rattle.std.specs.Prelude.{◌≡◌, ◌+◌, ℕ, List, [], ◌∷◌, ◌++◌, length, take};
+ghost use Rattle.std.specs.Prelude.{◌≡◌, ◌+◌, ◌<◌, ℕ, List, [], ◌∷◌, ◌++◌, length, take};
 ghost use Rattle.esm_journal.specs.File.{header_of, IsFile, Holding, Foreign, Damaged, opened};
-ghost use Rattle.esm_journal.specs.Pair.{IsSpare, PairOpensTo};
+ghost use Rattle.esm_journal.specs.Fresh.{HoldsNone};
+ghost use Rattle.esm_journal.specs.Pair.{IsSpare, PairOpensTo, pair_opened};
 ghost use Rattle.esm_journal.specs.Replace.{IsSpareOrNew, PairOpensToOldOrNew};
 ghost use Rattle.esm_journal.specs.Worked.{one_record_payload, one_record_file};
 
@@ -19,15 +20,28 @@ pub fn worked_file()
 {}
 
 /// A file in use and one that does not hinder it open to the payloads of the one in use, in whichever order they are
-/// handed in.
+/// handed in. The header is any of eight bytes.
 pub fn file_beside_spare()
-    ensures opens { (epoch : ℕ) (payloads : List (List ℕ)) (used spare : List ℕ) →
-        IsFile (header_of 2) epoch payloads used → IsSpare (header_of 2) epoch spare → PairOpensTo (header_of 2) epoch payloads used spare }
+    ensures opens { (header : List ℕ) (epoch : ℕ) (payloads : List (List ℕ)) (used spare : List ℕ) → length header ≡ 8 →
+        IsFile header epoch payloads used → IsSpare header epoch spare → PairOpensTo header epoch payloads used spare }
 {}
 
 /// A file in use and one that is being written for the next epoch open to the payloads of the one in use or to the list
 /// of the other, in whichever order they are handed in.
 pub fn file_beside_new()
-    ensures opens { (epoch : ℕ) (payloads list : List (List ℕ)) (used other : List ℕ) →
-        IsFile (header_of 2) epoch payloads used → IsSpareOrNew (header_of 2) epoch (header_of 2) (epoch + 1) list other → PairOpensToOldOrNew (header_of 2) epoch payloads list used other }
+    ensures opens { (header : List ℕ) (epoch : ℕ) (payloads list : List (List ℕ)) (used other : List ℕ) → length header ≡ 8 →
+        IsFile header epoch payloads used → IsSpareOrNew header epoch header (epoch + 1) list other → PairOpensToOldOrNew header epoch payloads list used other }
+{}
+
+/// A file does not hinder one of a greater epoch: a list that was written anew goes on beside the file so far.
+pub fn file_before_new()
+    ensures beside { (header : List ℕ) (epoch greater : ℕ) (payloads : List (List ℕ)) (bytes : List ℕ) → length header ≡ 8 →
+        IsFile header epoch payloads bytes → epoch < greater → IsSpare header greater bytes }
+{}
+
+/// What `init`, `first` and `blank` may leave holds no payload: neither one file with any header, nor two as a pair.
+pub fn fresh_holds_none()
+    ensures single { (header bytes : List ℕ) → HoldsNone bytes → (epoch : ℕ) (payloads : List (List ℕ)) → opened header bytes ≡ Holding epoch payloads → payloads ≡ [] }
+    ensures pair { (header one other : List ℕ) → HoldsNone one → HoldsNone other →
+        (epoch : ℕ) (payloads : List (List ℕ)) → pair_opened header one other ≡ Holding epoch payloads → payloads ≡ [] }
 {}

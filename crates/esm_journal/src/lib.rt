@@ -3,6 +3,7 @@
 //! whole payloads alone.
 #![tactic(auto)]
 
+pub mod crossing;
 pub mod error;
 mod file_dest;
 mod format;

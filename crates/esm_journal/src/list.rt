@@ -4,8 +4,7 @@ ghost use Rattle.esm_journal.specs.File.{entries, AreShort};
 ghost use Rattle.esm_journal.specs.Room.{total_room};
 ghost use Rattle.esm_journal.specs.Replace.{first_too_long};
 
-use crate::format::MAX_PAYLOAD;
-use esm_model::Bytes;
+use esm_model::{Bytes, MAX_PAYLOAD};
 use std::alloc::{AllocError, Global};
 use std::collections::VecDeque;
 
@@ -14,9 +13,9 @@ pub(crate) fn first_too_long(payloads: &[Bytes]) -> Option<u64>
     ensures { result ≡ first_too_long payloads.now }
 {
     for payload in payloads {
-        let size = payload.as_slice().len() as u64;
+        let size = payload.as_slice().len();
         if size > MAX_PAYLOAD {
-            return Some(size);
+            return Some(size as u64);
         }
     }
     None

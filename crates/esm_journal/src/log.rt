@@ -2,15 +2,16 @@
 ghost use Rattle.std.specs.Prelude.{◌≡◌, ◌+◌, ◌<◌, ◌≤◌, ◌^◌, ◌⊎◌, ℕ, List, [], ◌∷◌, ◌++◌, true, false, length, vec_len, vec_capacity, OnOk, OnErr, IsErrOf};
 ghost use Rattle.esm_io.specs.Faults.{IsCount, Rose, MAX_FAULTS};
 ghost use Rattle.esm_io.specs.Images.{overwritten, Torn, Only, LeavesOnly};
-ghost use Rattle.esm_journal.specs.File.{max_payload, end_of, IsFile};
+ghost use Rattle.esm_io.specs.Meanings.{disk as meaning};
+ghost use Rattle.esm_journal.specs.File.{end_of, IsFile};
+ghost use Rattle.esm_journal.specs.Bytes.{with_payload};
 ghost use Rattle.esm_journal.specs.Room.{HasRoom, room_after, room_of, total_room};
 
 use crate::error::AppendError;
-use crate::format::MAX_PAYLOAD;
 use crate::room::{framed, make_spares, payload_of};
 use crate::through::write_through;
 use esm_io::{Disk, Failed};
-use esm_model::{Bytes, OutOfMemory};
+use esm_model::{Bytes, MAX_PAYLOAD, OutOfMemory};
 use std::alloc::Global;
 use std::collections::VecDeque;
 use std::mem;
@@ -52,8 +53,8 @@ impl<D: Disk> Log<D> {
 
     /// Makes room for the next payloads of these lengths.
     pub(crate) fn reserve(&mut self, alloc: Global, lengths: &[u32]) -> Result<(), OutOfMemory>
-        requires { IsLog D.honest D.content D.image D.faults self.old }
-        ensures log { IsLog D.honest D.content D.image D.faults self.new }
+        requires { IsLog (meaning D.honest D.content D.image D.moment D.image_since D.faults) self.old }
+        ensures log { IsLog (meaning D.honest D.content D.image D.moment D.image_since D.faults) self.new }
         ensures room { OnOk result (room_of self.new.spares.items ≡ lengths.now) }
         ensures kept { OnErr result (IsUnchanged self.old self.new) }
         ensures disk { self.new.disk ≡ self.old.disk }
@@ -70,19 +71,20 @@ impl<D: Disk> Log<D> {
 
     /// Adds a payload behind those that are there. Four device calls.
     pub(crate) fn append(&mut self, alloc: Global, payload: &[u8]) -> Result<(), AppendError>
-        requires { IsLog D.honest D.content D.image D.faults self.old }
-        ensures log { IsLog D.honest D.content D.image D.faults self.new }
+        requires { IsLog (meaning D.honest D.content D.image D.moment D.image_since D.faults) self.old }
+        ensures log { IsLog (meaning D.honest D.content D.image D.moment D.image_since D.faults) self.new }
         ensures header { self.new.header ≡ self.old.header }
         ensures epoch { self.new.epoch ≡ self.old.epoch }
         ensures added { OnOk result (self.new.payloads.items ≡ self.old.payloads.items ++ payload.now ∷ []) }
+        ensures bytes { D.honest self.old.disk ≡ true → OnOk result (D.content self.new.disk ≡ with_payload self.old.payloads.items payload.now (D.content self.old.disk)) }
         ensures not_added { OnErr result (self.new.payloads.items ≡ self.old.payloads.items) }
         ensures up { OnOk result (self.new.down ≡ false) }
         ensures was_up { OnOk result (self.old.down ≡ false) }
         ensures room_used { OnOk result (room_of self.new.spares.items ≡ room_after (room_of self.old.spares.items) (length payload.now)) }
         ensures down { IsErrOf result AppendError.Down → IsUnchanged self.old self.new × (self.old.down ≡ true) }
         ensures is_down { self.old.down ≡ true → IsErrOf result AppendError.Down }
-        ensures too_long { (n : ℕ) → IsErrOf result (AppendError.TooLong n) → IsUnchanged self.old self.new × (self.old.down ≡ false) × (n ≡ length payload.now) × (max_payload < length payload.now) }
-        ensures is_too_long { self.old.down ≡ false → max_payload < length payload.now → IsErrOf result (AppendError.TooLong (length payload.now)) }
+        ensures too_long { (n : ℕ) → IsErrOf result (AppendError.TooLong n) → IsUnchanged self.old self.new × (self.old.down ≡ false) × (n ≡ length payload.now) × (MAX_PAYLOAD < length payload.now) }
+        ensures is_too_long { self.old.down ≡ false → MAX_PAYLOAD < length payload.now → IsErrOf result (AppendError.TooLong (length payload.now)) }
         ensures no_memory { IsErrOf result AppendError.OutOfMemory → IsUnchanged self.old self.new × (HasRoom (room_of self.old.spares.items) (length payload.now) → ⊥) }
         ensures fault { IsErrOf result AppendError.DiskFault → (self.new.down ≡ true) × Rose (D.faults self.old.disk) (D.faults self.new.disk) }
         ensures any_moment { D.honest self.old.disk ≡ true → self.old.down ≡ false → LeavesOnly D.moment D.image_since self.old.disk self.new.disk
@@ -93,7 +95,7 @@ impl<D: Disk> Log<D> {
         if self.down {
             return Err(AppendError::Down);
         }
-        if payload.len() as u64 > MAX_PAYLOAD {
+        if payload.len() > MAX_PAYLOAD {
             return Err(AppendError::TooLong(payload.len() as u64));
         }
         if self.payloads.reserve(1).is_err() {
@@ -114,7 +116,7 @@ impl<D: Disk> Log<D> {
 
     /// Goes over to the next file, on another disk, which the disk so far takes the place of.
     pub(crate) fn move_over(&mut self, disk: &mut D, payloads: Vec<Bytes>, end: u64)
-        requires log { IsLog D.honest D.content D.image D.faults self.old }
+        requires log { IsLog (meaning D.honest D.content D.image D.moment D.image_since D.faults) self.old }
         requires up { self.old.down ≡ false }
         requires epoch { self.old.epoch + 1 < 2 ^ 64 }
         requires file { D.honest disk.old ≡ true → IsFile self.old.header (self.old.epoch + 1) payloads.items (D.content disk.old) }
@@ -123,7 +125,7 @@ impl<D: Disk> Log<D> {
         requires end { end ≡ end_of payloads.items }
         requires total { end + total_room self.old.spares.items < 2 ^ 64 }
         requires places { vec_len payloads + length self.old.spares.items ≤ vec_capacity payloads }
-        ensures log { IsLog D.honest D.content D.image D.faults self.new }
+        ensures log { IsLog (meaning D.honest D.content D.image D.moment D.image_since D.faults) self.new }
         ensures disk { self.new.disk ≡ disk.old }
         ensures disk_before { disk.new ≡ self.old.disk }
         ensures header { self.new.header ≡ self.old.header }

@@ -2,6 +2,7 @@
 ghost use Rattle.std.specs.Prelude.{◌≡◌, ◌⊎◌, ◌+◌, ◌<◌, ◌≤◌, ◌==◌, ℕ, List, [], ◌∷◌, ◌++◌, true, false, length, IfOk, IfErr, OnErr};
 ghost use Rattle.esm_io.specs.Faults.{IsCount, Rose, MAX_FAULTS};
 ghost use Rattle.esm_io.specs.Images.{Only, LeavesOnly};
+ghost use Rattle.esm_io.specs.Meanings.{disk as meaning};
 ghost use Rattle.esm_journal.specs.File.{entries, end_of, header_of, eight_at, AreShort, IsFile, Foreign, Damaged};
 ghost use Rattle.esm_journal.specs.Pair.{IsSpare, IsOther, pair_opened};
 ghost use Rattle.esm_journal.specs.Reads.{IsOnlyRead, RefusedFor};
@@ -20,8 +21,8 @@ use std::alloc::Global;
 /// One of two disks is sealed with the header of version 2.
 pub(crate) fn has_version_2<D: Disk>(first: &mut D, second: &mut D) -> Result<bool, Failed>
     ensures version { D.honest first.old ≡ true → D.honest second.old ≡ true → IfOk result (λ found. found ≡ is_version_2 (D.content first.old) (D.content second.old)) }
-    ensures first_read { IsOnlyRead D.honest D.content D.image D.moment D.image_since D.faults first.old first.new }
-    ensures second_read { IsOnlyRead D.honest D.content D.image D.moment D.image_since D.faults second.old second.new }
+    ensures first_read { IsOnlyRead (meaning D.honest D.content D.image D.moment D.image_since D.faults) first.old first.new }
+    ensures second_read { IsOnlyRead (meaning D.honest D.content D.image D.moment D.image_since D.faults) second.old second.new }
     ensures cause { OnErr result (Rose (D.faults first.old) (D.faults first.new) ⊎ Rose (D.faults second.old) (D.faults second.new)) }
 {
     let one = read_head(first)?;
@@ -42,11 +43,11 @@ pub(crate) fn read_old_pair<D: Disk>(
     first: &mut D,
     second: &mut D,
 ) -> Result<OldPair, OpenError>
-    ensures read { IfOk result (λ old. IsReadPair D.honest D.content D.image D.faults (header_of 1) first.new second.new old.taken) }
+    ensures read { IfOk result (λ old. IsReadPair (meaning D.honest D.content D.image D.moment D.image_since D.faults) (header_of 1) first.new second.new old.taken) }
     ensures bytes { IfOk result (λ old. old.bytes.items ≡ entries old.taken.found.payloads.items ++ 0 ∷ []) }
     ensures below_greatest { IfOk result (λ old. old.taken.found.epoch < 18446744073709551615) }
-    ensures first_read { IsOnlyRead D.honest D.content D.image D.moment D.image_since D.faults first.old first.new }
-    ensures second_read { IsOnlyRead D.honest D.content D.image D.moment D.image_since D.faults second.old second.new }
+    ensures first_read { IsOnlyRead (meaning D.honest D.content D.image D.moment D.image_since D.faults) first.old first.new }
+    ensures second_read { IsOnlyRead (meaning D.honest D.content D.image D.moment D.image_since D.faults) second.old second.new }
     ensures refused { IfErr result (λ e. RefusedFor
         (λ eight. D.honest first.old ≡ true → D.honest second.old ≡ true → (with_next_epoch (pair_opened (header_of 1) (D.content first.old) (D.content second.old)) ≡ Foreign) × (eight ≡ eight_at (D.content first.old) 0))
         (λ damage. D.honest first.old ≡ true → D.honest second.old ≡ true → with_next_epoch (pair_opened (header_of 1) (D.content first.old) (D.content second.old)) ≡ Damaged damage)

@@ -1,7 +1,10 @@
 ghost use Rattle.std.specs.Prelude.{◌≡◌, ◌≢◌, ◌⊎◌, ◌+◌, ◌<◌, ◌≤◌, ℕ, List, [], ◌∷◌, ◌++◌, true, false, not, Some, length, IfOk, IfErr, OnOk, OnErr, IsErrOf};
 ghost use Rattle.esm_io.specs.Faults.{IsCount, Rose};
 ghost use Rattle.esm_io.specs.Images.{LeavesOnly, Only};
-ghost use Rattle.esm_journal.specs.File.{max_payload, header_of, Foreign, Damaged, Holding, eight_at, fresh_file, blank_file};
+ghost use Rattle.esm_io.specs.Meanings.{disk as meaning};
+ghost use Rattle.esm_journal.specs.File.{header_of, Foreign, Damaged, Holding, eight_at, fresh_file, blank_file};
+ghost use Rattle.esm_journal.specs.Bytes.{with_payload, rewritten};
+ghost use Rattle.esm_journal.specs.Fresh.{WasOrHoldsNone};
 ghost use Rattle.esm_journal.specs.Reads.{IsOnlyRead, RefusedFor, NotMadeFor};
 ghost use Rattle.esm_journal.specs.Room.{HasRoom, room_after};
 ghost use Rattle.esm_journal.specs.Log.{IsEither};
@@ -18,7 +21,7 @@ use crate::log::Log;
 use crate::pair_reading::{Taken, read_pair};
 use crate::replace::replace_file;
 use esm_io::Disk;
-use esm_model::{Bytes, OutOfMemory, Refused};
+use esm_model::{Bytes, MAX_PAYLOAD, OutOfMemory, Refused};
 use std::alloc::Global;
 use std::collections::VecDeque;
 use std::marker::Model;
@@ -44,6 +47,7 @@ impl<D: Disk> Model for Pair<D> {
     ghost coded = { pair_code D.code };
 
     ghost use Rattle.esm_io.specs.Faults.{MAX_FAULTS};
+    ghost use Rattle.esm_io.specs.Meanings.{disk as meaning};
     ghost use Rattle.esm_journal.specs.File.{header_of};
     ghost use Rattle.esm_journal.specs.Room.{room_of};
     ghost use Rattle.esm_journal.specs.Log.{IsLog};
@@ -59,7 +63,7 @@ impl<D: Disk> Model for Pair<D> {
       swapped = p.swapped;
     } };
 
-    ghost invariant = { λ p. IsLog D.honest D.content D.image D.faults p.log × IsPair D.honest D.content D.image D.faults p.log p.spare p.spare_sealed };
+    ghost invariant = { λ p. IsLog (meaning D.honest D.content D.image D.moment D.image_since D.faults) p.log × IsPair (meaning D.honest D.content D.image D.moment D.image_since D.faults) p.log p.spare p.spare_sealed };
 }
 
 impl<D: Disk> Pair<D> {
@@ -68,16 +72,16 @@ impl<D: Disk> Pair<D> {
     /// or where it is not and the other has fewer than 18 bytes, with their number. Nothing is written.
     pub fn open(alloc: Global, journal: D, spare: D) -> Result<Pair<D>, Refused<OpenError, (D, D)>>
         ensures opened { D.honest journal ≡ true → D.honest spare ≡ true → IfOk result (λ pair. pair_opened (header_of 2) (D.content journal) (D.content spare) ≡ Holding pair.epoch pair.payloads) }
-        ensures kept { D.honest journal ≡ true → D.honest spare ≡ true → IfOk result (λ pair. PairKeeps D.content D.image (header_of 2) pair.epoch pair.payloads pair.used pair.spare) }
+        ensures kept { D.honest journal ≡ true → D.honest spare ≡ true → IfOk result (λ pair. PairKeeps (meaning D.honest D.content D.image D.moment D.image_since D.faults) (header_of 2) pair.epoch pair.payloads pair.used pair.spare) }
         ensures fresh { IfOk result (λ pair. (pair.down ≡ false) × (pair.room ≡ [])) }
-        ensures first_read { IfOk result (λ pair. IsOnlyRead D.honest D.content D.image D.moment D.image_since D.faults journal (first_disk pair)) }
-        ensures second_read { IfOk result (λ pair. IsOnlyRead D.honest D.content D.image D.moment D.image_since D.faults spare (second_disk pair)) }
+        ensures first_read { IfOk result (λ pair. IsOnlyRead (meaning D.honest D.content D.image D.moment D.image_since D.faults) journal (first_disk pair)) }
+        ensures second_read { IfOk result (λ pair. IsOnlyRead (meaning D.honest D.content D.image D.moment D.image_since D.faults) spare (second_disk pair)) }
         ensures refused { IfErr result (λ refused. RefusedFor
             (λ first. D.honest journal ≡ true → D.honest spare ≡ true → (pair_opened (header_of 2) (D.content journal) (D.content spare) ≡ Foreign) × (first ≡ eight_at (D.content journal) 0))
             (λ place. D.honest journal ≡ true → D.honest spare ≡ true → pair_opened (header_of 2) (D.content journal) (D.content spare) ≡ Damaged place)
             (Rose (D.faults journal) (D.faults refused.back.0) ⊎ Rose (D.faults spare) (D.faults refused.back.1)) refused.why) }
-        ensures first_back { IfErr result (λ refused. IsOnlyRead D.honest D.content D.image D.moment D.image_since D.faults journal refused.back.0) }
-        ensures second_back { IfErr result (λ refused. IsOnlyRead D.honest D.content D.image D.moment D.image_since D.faults spare refused.back.1) }
+        ensures first_back { IfErr result (λ refused. IsOnlyRead (meaning D.honest D.content D.image D.moment D.image_since D.faults) journal refused.back.0) }
+        ensures second_back { IfErr result (λ refused. IsOnlyRead (meaning D.honest D.content D.image D.moment D.image_since D.faults) spare refused.back.1) }
     {
         let mut first = journal;
         let mut second = spare;
@@ -142,7 +146,10 @@ impl<D: Disk> Pair<D> {
         ensures refused { IfErr result (λ refused. NotMadeFor
             (λ size. D.honest disk ≡ true → (size ≡ length (D.content disk)) × (size ≢ 0) × (D.content refused.back ≡ D.content disk))
             (Rose (D.faults disk) (D.faults refused.back)) refused.why) }
-        ensures only_read { D.honest disk ≡ true → length (D.content disk) ≢ 0 → IfErr result (λ refused. IsOnlyRead D.honest D.content D.image D.moment D.image_since D.faults disk refused.back) }
+        ensures only_read { D.honest disk ≡ true → length (D.content disk) ≢ 0 → IfErr result (λ refused. IsOnlyRead (meaning D.honest D.content D.image D.moment D.image_since D.faults) disk refused.back) }
+        ensures unchanged { IfErr result (λ refused. (refused.why ≡ InitError.DiskFault → ⊥) → IsOnlyRead (meaning D.honest D.content D.image D.moment D.image_since D.faults) disk refused.back) }
+        ensures any_moment { D.honest disk ≡ true → IfOk result (λ made. LeavesOnly D.moment D.image_since disk made (WasOrHoldsNone (D.image disk))) }
+        ensures any_moment_err { D.honest disk ≡ true → IfErr result (λ refused. LeavesOnly D.moment D.image_since disk refused.back (WasOrHoldsNone (D.image disk))) }
         ensures honesty { IfOk result (λ made. D.honest made ≡ D.honest disk) }
         ensures back_honesty { IfErr result (λ refused. D.honest refused.back ≡ D.honest disk) }
         ensures count { IfOk result (λ made. IsCount (D.faults disk) (D.faults made)) }
@@ -159,8 +166,8 @@ impl<D: Disk> Pair<D> {
     /// pair that opens to these, or to what that call was to leave.
     pub fn payloads(&self) -> &[Bytes]
         ensures payloads { result.now ≡ self.now.payloads }
-        ensures kept { D.honest self.now.used ≡ true → D.honest self.now.spare ≡ true → self.now.down ≡ false → PairKeeps D.content D.image (header_of 2) self.now.epoch self.now.payloads self.now.used self.now.spare }
-        ensures stopped { D.honest self.now.used ≡ true → D.honest self.now.spare ≡ true → self.now.down ≡ true → PairStillOpens D.image (header_of 2) self.now.epoch self.now.payloads (first_disk self.now) (second_disk self.now) }
+        ensures kept { D.honest self.now.used ≡ true → D.honest self.now.spare ≡ true → self.now.down ≡ false → PairKeeps (meaning D.honest D.content D.image D.moment D.image_since D.faults) (header_of 2) self.now.epoch self.now.payloads self.now.used self.now.spare }
+        ensures stopped { D.honest self.now.used ≡ true → D.honest self.now.spare ≡ true → self.now.down ≡ true → PairStillOpens (meaning D.honest D.content D.image D.moment D.image_since D.faults) (header_of 2) self.now.epoch self.now.payloads (first_disk self.now) (second_disk self.now) }
     {
         &self.log.payloads
     }
@@ -186,12 +193,13 @@ impl<D: Disk> Pair<D> {
     /// `DiskFault` the pair is down until it is opened again; after the other errors nothing has changed.
     pub fn append(&mut self, alloc: Global, payload: &[u8]) -> Result<(), AppendError>
         ensures added { OnOk result (self.new.payloads ≡ self.old.payloads ++ payload.now ∷ []) }
+        ensures bytes { D.honest self.old.used ≡ true → OnOk result (D.content self.new.used ≡ with_payload self.old.payloads payload.now (D.content self.old.used)) }
         ensures not_added { OnErr result (self.new.payloads ≡ self.old.payloads) }
         ensures up { OnOk result (self.new.down ≡ false) }
         ensures spare { self.new.spare ≡ self.old.spare }
         ensures epoch { self.new.epoch ≡ self.old.epoch }
         ensures swapped { self.new.swapped ≡ self.old.swapped }
-        ensures kept { D.honest self.new.used ≡ true → D.honest self.new.spare ≡ true → self.new.down ≡ false → PairKeeps D.content D.image (header_of 2) self.new.epoch self.new.payloads self.new.used self.new.spare }
+        ensures kept { D.honest self.new.used ≡ true → D.honest self.new.spare ≡ true → self.new.down ≡ false → PairKeeps (meaning D.honest D.content D.image D.moment D.image_since D.faults) (header_of 2) self.new.epoch self.new.payloads self.new.used self.new.spare }
         ensures any_moment { D.honest self.old.used ≡ true → self.old.down ≡ false →
             LeavesOnly D.moment D.image_since self.old.used self.new.used (IsEither (header_of 2) self.old.epoch self.old.payloads (self.old.payloads ++ payload.now ∷ [])) }
         ensures pair_images { D.honest self.old.used ≡ true → D.honest self.old.spare ≡ true → self.old.down ≡ false → (one other : List ℕ) →
@@ -202,8 +210,8 @@ impl<D: Disk> Pair<D> {
         ensures down { IsErrOf result AppendError.Down → (self.new ≡ self.old) × (self.old.down ≡ true) }
         ensures is_down { self.old.down ≡ true → IsErrOf result AppendError.Down }
         ensures too_long { (n : ℕ) → IsErrOf result (AppendError.TooLong n) →
-            (self.new ≡ self.old) × (self.old.down ≡ false) × (n ≡ length payload.now) × (max_payload < length payload.now) }
-        ensures is_too_long { self.old.down ≡ false → max_payload < length payload.now → IsErrOf result (AppendError.TooLong (length payload.now)) }
+            (self.new ≡ self.old) × (self.old.down ≡ false) × (n ≡ length payload.now) × (MAX_PAYLOAD < length payload.now) }
+        ensures is_too_long { self.old.down ≡ false → MAX_PAYLOAD < length payload.now → IsErrOf result (AppendError.TooLong (length payload.now)) }
         ensures no_memory { IsErrOf result AppendError.OutOfMemory → self.new ≡ self.old }
         ensures has_room { HasRoom self.old.room (length payload.now) → IsErrOf result AppendError.OutOfMemory → ⊥ }
         ensures room { OnOk result (self.new.room ≡ room_after self.old.room (length payload.now)) }
@@ -219,13 +227,14 @@ impl<D: Disk> Pair<D> {
     pub fn rewrite(&mut self, alloc: Global, payloads: &[Bytes]) -> Result<(), AppendError>
         requires { self.old.epoch < 18446744073709551615 }
         ensures written { OnOk result (self.new.payloads ≡ payloads.now) }
+        ensures bytes { D.honest self.old.spare ≡ true → OnOk result (D.content self.new.used ≡ rewritten (header_of 2) (self.old.epoch + 1) payloads.now (D.content self.old.spare)) }
         ensures next_epoch { OnOk result (self.new.epoch ≡ self.old.epoch + 1) }
         ensures up { OnOk result (self.new.down ≡ false) }
         ensures room { OnOk result (self.new.room ≡ self.old.room) }
         ensures replaced { OnOk result (self.new.spare ≡ self.old.used) }
         ensures changed_over { OnOk result (self.new.swapped ≡ not self.old.swapped) }
         ensures not_written { OnErr result (self.new ≡ record self.old { down = self.new.down; spare = self.new.spare }) }
-        ensures kept { D.honest self.new.used ≡ true → D.honest self.new.spare ≡ true → self.new.down ≡ false → PairKeeps D.content D.image (header_of 2) self.new.epoch self.new.payloads self.new.used self.new.spare }
+        ensures kept { D.honest self.new.used ≡ true → D.honest self.new.spare ≡ true → self.new.down ≡ false → PairKeeps (meaning D.honest D.content D.image D.moment D.image_since D.faults) (header_of 2) self.new.epoch self.new.payloads self.new.used self.new.spare }
         ensures any_moment { D.honest self.old.used ≡ true → D.honest self.old.spare ≡ true → self.old.down ≡ false →
             OnOk result (LeavesOnly D.moment D.image_since self.old.spare self.new.used (IsSpareOrNew (header_of 2) self.old.epoch (header_of 2) (self.old.epoch + 1) payloads.now)) }
         ensures any_moment_err { D.honest self.old.used ≡ true → D.honest self.old.spare ≡ true → self.old.down ≡ false →

@@ -1,9 +1,10 @@
 // A new list over the file of a pair that is not in use, in three steps of which each ends with its sync.
-ghost use Rattle.std.specs.Prelude.{◌≡◌, ◌⊎◌, ◌+◌, ◌<◌, ◌≤◌, ◌==◌, ℕ, List, [], ◌∷◌, ◌++◌, true, length, slice_index, OnOk, OnErr};
+ghost use Rattle.std.specs.Prelude.{◌≡◌, ◌⊎◌, ◌+◌, ◌<◌, ◌≤◌, ◌==◌, ℕ, List, [], ◌∷◌, ◌++◌, true, length, drop, slice_index, OnOk, OnErr};
 ghost use Rattle.std.specs.Int.{w64, to_be_bytes};
 ghost use Rattle.esm_io.specs.Faults.{IsCount, Rose, MAX_FAULTS};
 ghost use Rattle.esm_io.specs.Images.{overwritten, Only, LeavesOnly};
 ghost use Rattle.esm_journal.specs.File.{entries, AreShort, IsFile};
+ghost use Rattle.esm_journal.specs.Bytes.{rewritten};
 ghost use Rattle.esm_journal.specs.Pair.{IsSpare};
 ghost use Rattle.esm_journal.specs.Replace.{IsClosed, IsUnsealed, IsSpareOrNew};
 
@@ -17,6 +18,7 @@ fn close_seal<D: Disk>(disk: &mut D, sealed: bool) -> Result<(), Failed>
     requires synced { D.honest disk.old ≡ true → Only (D.content disk.old) (D.image disk.old) }
     requires faults { D.faults disk.old ≤ MAX_FAULTS }
     ensures closed { D.honest disk.old ≡ true → OnOk result (IsClosed (D.content disk.new)) }
+    ensures behind { D.honest disk.old ≡ true → OnOk result (drop 17 (D.content disk.new) ≡ drop 17 (D.content disk.old)) }
     ensures durable { D.honest disk.old ≡ true → OnOk result (Only (D.content disk.new) (D.image disk.new)) }
     ensures any_moment { D.honest disk.old ≡ true → (kept : List ℕ) (lower : ℕ) → IsSpare kept lower (D.content disk.old) →
         LeavesOnly D.moment D.image_since disk.old disk.new (IsSpare kept lower) }
@@ -62,6 +64,8 @@ fn write_list<D: Disk>(disk: &mut D, header: [u8; 8], epoch: u64, list: &[u8]) -
     requires closed { D.honest disk.old ≡ true → IsClosed (D.content disk.old) }
     requires synced { D.honest disk.old ≡ true → Only (D.content disk.old) (D.image disk.old) }
     ensures written { D.honest disk.old ≡ true → (payloads : List (List ℕ)) → list.now ≡ entries payloads ++ 0 ∷ [] → OnOk result (IsUnsealed header epoch payloads (D.content disk.new)) }
+    ensures bytes { D.honest disk.old ≡ true → OnOk result (D.content disk.new
+        ≡ (header ++ to_be_bytes w64 epoch) ++ slice_index (D.content disk.old) 16 ∷ (list.now ++ drop (length list.now) (drop 17 (D.content disk.old)))) }
     ensures closed { D.honest disk.old ≡ true → OnOk result (IsClosed (D.content disk.new)) }
     ensures durable { D.honest disk.old ≡ true → OnOk result (Only (D.content disk.new) (D.image disk.new)) }
     ensures any_moment { D.honest disk.old ≡ true → LeavesOnly D.moment D.image_since disk.old disk.new IsClosed }
@@ -90,6 +94,7 @@ pub(crate) fn replace_file<D: Disk>(
     requires synced { D.honest disk.old ≡ true → Only (D.content disk.old) (D.image disk.old) }
     requires faults { D.faults disk.old ≤ MAX_FAULTS }
     ensures file { D.honest disk.old ≡ true → (payloads : List (List ℕ)) → AreShort payloads → list.now ≡ entries payloads ++ 0 ∷ [] → OnOk result (IsFile header epoch payloads (D.content disk.new)) }
+    ensures bytes { D.honest disk.old ≡ true → (payloads : List (List ℕ)) → list.now ≡ entries payloads ++ 0 ∷ [] → OnOk result (D.content disk.new ≡ rewritten header epoch payloads (D.content disk.old)) }
     ensures durable { D.honest disk.old ≡ true → OnOk result (Only (D.content disk.new) (D.image disk.new)) }
     ensures any_moment { D.honest disk.old ≡ true → (payloads : List (List ℕ)) → AreShort payloads → list.now ≡ entries payloads ++ 0 ∷ [] →
         (kept : List ℕ) (lower : ℕ) → IsSpare kept lower (D.content disk.old) →

@@ -1,15 +1,16 @@
 // Buffers for the entries of payloads to come, so that adding them takes no memory.
 ghost use Rattle.std.specs.Prelude.{◌≡◌, ◌+◌, ◌-◌, ◌<◌, ◌≤◌, ◌^◌, ℕ, List, [], ◌∷◌, ◌++◌, length, take, drop, IfOk, IfSome, IfNone, OnOk, OnErr, OnSome, vec_len, vec_capacity};
-ghost use Rattle.esm_journal.specs.File.{max_payload, entry};
+ghost use Rattle.esm_journal.specs.File.{entry};
 ghost use Rattle.esm_journal.specs.Room.{HasRoom, room_after, room_of, total_room, AreSpares};
 
+use esm_model::MAX_PAYLOAD;
 use std::alloc::{AllocError, Global};
 use std::collections::VecDeque;
 
 /// Puts the bytes of an entry behind its gate, and a next gate that is not open, into an empty buffer.
 fn filled(frame: Vec<u8>, payload: &[u8]) -> Result<Vec<u8>, AllocError>
     requires empty { vec_len frame ≡ 0 }
-    requires short { length payload.now ≤ max_payload }
+    requires short { length payload.now ≤ MAX_PAYLOAD }
     ensures filled { IfOk result (λ frame. frame.items ≡ entry payload.now ++ 0 ∷ []) }
     ensures full { OnErr result (vec_capacity frame < length payload.now + 5) }
 {
@@ -44,7 +45,7 @@ pub(crate) fn framed(
 ) -> Result<Vec<u8>, AllocError>
     requires spares { AreSpares spares.old.items }
     requires total { end + total_room spares.old.items < 2 ^ 64 }
-    requires short { length payload.now ≤ max_payload }
+    requires short { length payload.now ≤ MAX_PAYLOAD }
     ensures framed { IfOk result (λ frame. frame.items ≡ entry payload.now ++ 0 ∷ []) }
     ensures spares { AreSpares spares.new.items }
     ensures fewer { length spares.new.items ≤ length spares.old.items }

@@ -9,3 +9,4 @@ pub mod KindLemmas
 pub mod Compacting
 pub mod Determined
 pub mod KeptFates
+pub mod Lengths

@@ -1,6 +1,6 @@
 // The shorter list of payloads that says the same.
-ghost use Rattle.std.specs.Prelude.{◌≡◌, ℕ, ◌++◌, List, [], true, length, map, max, reverse, IfOk, OnOk, IfErr};
-ghost use Rattle.std.specs.List.{AllByRecursion};
+ghost use Rattle.std.specs.Prelude.{◌≡◌, ◌≤◌, ℕ, ◌++◌, List, [], true, length, map, max, reverse, IfOk, OnOk, IfErr};
+ghost use Rattle.std.specs.List.{All, AllByRecursion};
 ghost use Rattle.esm_payload.specs.declared.said.Said.{Said};
 ghost use Rattle.esm_said.specs.Bad.{IsFirstBad};
 ghost use Rattle.esm_said.specs.Compact.{moment_of, greatest_moment, fate_from, fates_of, tried_of, replayed_of, deleted_of, state_of_window, tried_of_window, IsCompacted, SameSaid};
@@ -14,8 +14,8 @@ use crate::error::SaysError;
 use crate::history::table_of;
 use crate::piece::{Piece, pieces_of};
 use crate::regroup::{by_deletion, by_fate, by_replay, by_tries};
-use crate::table::{Table, Window};
-use esm_model::{Bytes, Fate, OutOfMemory, WindowState};
+use crate::table::{Table, Window, copied_state};
+use esm_model::{Bytes, Fate, MAX_PAYLOAD, OutOfMemory, WindowState};
 use esm_payload::laws::read_again;
 use esm_payload::{Said, read_said, said_bytes};
 use std::alloc::Global;
@@ -210,6 +210,8 @@ pub fn compacted(alloc: Global, payloads: &[Bytes]) -> Result<Vec<Bytes>, SaysEr
     // What `says` gives of the shorter list and of these payloads is equal.
     ensures equal { IfOk result (λ v. (t u : SaidLists) → Tells t (history (reverse v.items)) → IsInOrder t
         → Tells u (history (reverse payloads.now)) → IsInOrder u → t ≡ u) }
+    // Each is short enough for a journal.
+    ensures short { IfOk result (λ v. All (λ payload. length payload ≤ MAX_PAYLOAD) v.items) }
     ensures good { OnOk result (are_good (reverse payloads.now) ≡ true) }
     ensures bad { IfErr result (λ e. IsFirstBad payloads.now e) }
 {

@@ -3,9 +3,9 @@ use Rattle.esm_journal.specs.File.{number_in, Damaged}
 use Rattle.esm_journal.proofs.Entries.{too_long, cut_short, whole_entry}
 use Rattle.esm_journal.proofs.entry_reading.read_entry.Goals as goal
 
-pub returns-then-from-gt-MAX_PAYLOAD-clause-refused :
-    goal.returns-then-from-gt-MAX_PAYLOAD-clause-refused
-returns-then-from-gt-MAX_PAYLOAD-clause-refused g c = λ h epoch.
+pub returns-then-count-gt-MAX_PAYLOAD-clause-refused :
+    goal.returns-then-count-gt-MAX_PAYLOAD-clause-refused
+returns-then-count-gt-MAX_PAYLOAD-clause-refused g c = λ h epoch.
     let content = g.D.Disk.content c.args.disk.now in
     let read = c.byte_at.ensures.only_read in
     let size = c.requires.size h in

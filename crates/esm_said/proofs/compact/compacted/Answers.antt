@@ -1,9 +1,12 @@
-use Rattle.std.proofs.Common.{◌∙◌, ap}
+use Rattle.std.proofs.Common.{◌∙◌, ◌≤◌, ap, sym, subst, length}
+use Rattle.std.specs.List.{All}
 use Rattle.std.specs.Prelude.{reverse, map}
 use Rattle.esm_payload.specs.Payload.{payload_of}
 use Rattle.esm_said.specs.Meaning.{history}
 use Rattle.esm_said.proofs.Histories.{good_from}
+use Rattle.esm_model.specs.declared.limits.TheConstants.{MAX_PAYLOAD}
 use Rattle.esm_said.proofs.Compacting.{all_may, compacts}
+use Rattle.esm_said.proofs.Lengths.{compacted_short}
 use Rattle.esm_said.proofs.Determined.{same_told}
 use Rattle.esm_said.proofs.compact.compacted.Goals as goal
 
@@ -39,3 +42,9 @@ returns-clause-equal c = λ t u tells order told orders.
     let same = (compacts c.read_again.ensures h c.in_ok-saids.saids.items c.in_ok-payloads_of.field-0.items listed c.in_ok-moment.ensures.said (good_from (reverse c.args.payloads.now) c.in_ok-table.ensures.good)
     (c.in_ok-payloads_of.ensures ∙ ap (map payload_of) c.deref.ensures.value)).1 in
     same_told t u (history (reverse c.in_ok-payloads_of.field-0.items)) h tells told same order orders
+
+pub returns-clause-short : goal.returns-clause-short
+returns-clause-short c =
+    let h = history (reverse c.args.payloads.now) in
+    let listed = c.in_ok-saids.ensures h c.in_ok-table.ensures.table c.in_ok-moment.ensures.moment in
+    subst (All (λ payload. length payload ≤ MAX_PAYLOAD)) (sym (c.in_ok-payloads_of.ensures ∙ ap (map payload_of) c.deref.ensures.value)) (compacted_short h c.in_ok-saids.saids.items listed c.in_ok-moment.ensures.said)

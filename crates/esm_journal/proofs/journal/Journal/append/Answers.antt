@@ -1,13 +1,14 @@
 use Rattle.std.proofs.Common.{◌∙◌, subst}
+use Rattle.esm_io.specs.Meanings.{disk}
 use Rattle.esm_journal.specs.File.{header_of}
 use Rattle.esm_journal.specs.State.{OpensToEither}
-use Rattle.esm_journal.proofs.Runs.{weaker}
+use Rattle.esm_io.proofs.Leaving.{weaker}
 use Rattle.esm_journal.proofs.States.{keeps, opens_to_either, still_opens}
 use Rattle.esm_journal.proofs.journal.Journal.append.Goals as goal
 
 pub returns-clause-kept : goal.returns-clause-kept
 returns-clause-kept g c =
-    keeps g.D.Disk.honest g.D.Disk.content g.D.Disk.image g.D.Disk.faults (header_of 1) c.append.new.self (c.append.ensures.header ∙ c.self.invariant.1) c.append.ensures.log
+    keeps (disk g.D.Disk.honest g.D.Disk.content g.D.Disk.image g.D.Disk.moment g.D.Disk.image_since g.D.Disk.faults) (header_of 1) c.append.new.self (c.append.ensures.header ∙ c.self.invariant.1) c.append.ensures.log
 
 pub returns-clause-any_moment : goal.returns-clause-any_moment
 returns-clause-any_moment g c =
@@ -19,4 +20,4 @@ returns-clause-any_moment g c =
 
 pub returns-clause-stopped : goal.returns-clause-stopped
 returns-clause-stopped g c =
-    still_opens g.D.Disk.honest g.D.Disk.content g.D.Disk.image g.D.Disk.faults (header_of 1) c.append.new.self (c.append.ensures.header ∙ c.self.invariant.1) c.append.ensures.log
+    still_opens (disk g.D.Disk.honest g.D.Disk.content g.D.Disk.image g.D.Disk.moment g.D.Disk.image_since g.D.Disk.faults) (header_of 1) c.append.new.self (c.append.ensures.header ∙ c.self.invariant.1) c.append.ensures.log

@@ -1,6 +1,6 @@
 use Rattle.std.proofs.Common.{◌≡◌, ◌<◌, ℕ, Bool, true, false, List, [], ◌∷◌, ◌++◌, length, vec_len, rules, arith, ap, ◌∙◌, sym}
-use Rattle.esm_journal.proofs.Runs.{weaker}
-use Rattle.esm_journal.proofs.Adds.{either_of_torn, file_of_added, payload_in, on_ok_told, room_for_more}
+use Rattle.esm_io.proofs.Leaving.{weaker}
+use Rattle.esm_journal.proofs.Adds.{either_of_torn, bytes_of_added, file_of_added, payload_in, on_ok_told, room_for_more}
 use Rattle.esm_journal.proofs.Written.{end_push}
 use Rattle.esm_journal.proofs.log.Log.append.Goals as goal
 
@@ -81,3 +81,10 @@ returns-then-is_err-2-clause-log g c =
   where
     clash : true ≡ false → ⊥
     clash e = cc
+
+pub returns-clause-bytes : goal.returns-clause-bytes
+returns-clause-bytes g c = λ h.
+    let log = c.args.self.now in
+    bytes_of_added log.header log.epoch log.payloads.items c.requires.header (g.D.Disk.content log.disk) (c.requires.file h c.if-self.false) log.end c.requires.end c.args.payload.now c.deref.result.now
+    (c.deref.ensures.value ∙ c.in-Ok.ensures.framed) (omega arith) (g.D.Disk.content c.add_entry.new.disk)
+    (on_ok_told c.add_entry.result (sym c.is_err-2.ensures.value ∙ c.if-is_err-2.false) (c.add_entry.ensures.written h))

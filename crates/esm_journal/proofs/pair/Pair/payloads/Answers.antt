@@ -1,3 +1,4 @@
+use Rattle.esm_io.specs.Meanings.{disk}
 use Rattle.esm_journal.specs.File.{header_of}
 use Rattle.esm_journal.proofs.Rewrites.{pair_keeps}
 use Rattle.esm_journal.proofs.Stops.{in_places}
@@ -5,7 +6,7 @@ use Rattle.esm_journal.proofs.pair.Pair.payloads.Goals as goal
 
 pub returns-clause-kept : goal.returns-clause-kept
 returns-clause-kept g c =
-    rw (← c.self.view_is) (pair_keeps g.D.Disk.honest g.D.Disk.content g.D.Disk.image g.D.Disk.moment g.D.Disk.image_since g.D.Disk.faults g.met.D.Disk.only_now
+    rw (← c.self.view_is) (pair_keeps (disk g.D.Disk.honest g.D.Disk.content g.D.Disk.image g.D.Disk.moment g.D.Disk.image_since g.D.Disk.faults) g.met.D.Disk.only_now
     c.self.inside.log c.self.inside.spare c.self.inside.spare_sealed c.self.invariant.0 c.self.invariant.1)
 
 pub returns-clause-stopped : goal.returns-clause-stopped

@@ -1,4 +1,5 @@
 use Rattle.std.proofs.Common.{◌≡◌, ◌+◌, ◌∙◌, true, false, refl, sym, rules}
+use Rattle.esm_io.specs.Meanings.{disk}
 use Rattle.esm_journal.specs.File.{header_of}
 use Rattle.esm_journal.proofs.Adds.{on_ok_told}
 use Rattle.esm_journal.proofs.Migrations.{old_beside}
@@ -46,7 +47,11 @@ pub returns-clause-kept : goal.returns-clause-kept
 returns-clause-kept g c = λ h1 h2.
     let payloads = c.args.found.payloads.items in
     let went_well = sym c.is_err.ensures.value ∙ c.if-is_err.false in
-    keeps_pair g.D.Disk.content g.D.Disk.image (header_of 2) (c.args.found.epoch + 1) payloads c.replace_file.new.disk c.args.used refl
+    keeps_pair (disk g.D.Disk.honest g.D.Disk.content g.D.Disk.image g.D.Disk.moment g.D.Disk.image_since g.D.Disk.faults) (header_of 2) (c.args.found.epoch + 1) payloads c.replace_file.new.disk c.args.used refl
     (on_ok_told c.replace_file.result went_well (c.replace_file.ensures.file (sym c.replace_file.ensures.honesty ∙ h1) payloads c.requires.short (c.deref.ensures.value ∙ c.requires.bytes)))
     (on_ok_told c.replace_file.result went_well (c.replace_file.ensures.durable (sym c.replace_file.ensures.honesty ∙ h1)))
     (old_beside c.args.found.epoch (c.args.found.epoch + 1) payloads (g.D.Disk.content c.args.used) (c.requires.file h2)) (c.requires.durable h2)
+
+pub returns-clause-bytes : goal.returns-clause-bytes
+returns-clause-bytes g c = λ h.
+    on_ok_told c.replace_file.result (sym c.is_err.ensures.value ∙ c.if-is_err.false) (c.replace_file.ensures.bytes h c.args.found.payloads.items (c.deref.ensures.value ∙ c.requires.bytes))
