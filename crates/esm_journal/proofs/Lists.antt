@@ -49,3 +49,19 @@ one_more payload payloads rest none short = short_ahead payload payloads (first_
 pub all_short : (payloads : List (List ℕ)) → first_too_long payloads ≡ None → AreShort payloads
 all_short [] none = λ k d lt. absurd (omega (arith, lt))
 all_short (payload ∷ payloads) none = one_more payload payloads (first_too_long payloads) none (all_short payloads)
+
+-- and where all are short, none is too long
+pub none_too_long : (payloads : List (List ℕ)) (n : ℕ) → AreShort payloads → first_too_long payloads ≡ Some n → ⊥
+none_too_long payloads n short is = absurd (clash (sym (none_of payloads short) ∙ is))
+  where
+    clash : None ≡ Some n → ⊥
+    clash e = cc
+
+    passed : (test : Bool) (size : ℕ) (rest : Option ℕ) → size ≤ MAX_PAYLOAD → test ≡ nat_lt MAX_PAYLOAD size → rest ≡ None → (if test then Some size else rest) ≡ None
+    passed true size rest le told none = grind (arith, nat_tests)
+    passed false size rest le told none = none
+
+    none_of : (payloads : List (List ℕ)) → AreShort payloads → first_too_long payloads ≡ None
+    none_of [] short = refl
+    none_of (payload ∷ payloads) short =
+        passed (nat_lt MAX_PAYLOAD (length payload)) (length payload) (first_too_long payloads) (short zero payload (omega arith)) refl (none_of payloads (λ k d lt. short (suc k) d (omega (arith, lt))))

@@ -47,19 +47,24 @@ impl<D: Disk> Model for Journal<D> {
 
 impl<D: Disk> Journal<D> {
     /// Makes an empty disk a journal without payloads, with all of it on the disk. `NotEmpty` where the disk has bytes,
-    /// with their number. To a disk that has bytes nothing is written, whatever the answer.
+    /// with their number. To a disk that has bytes nothing is written, whatever the answer; after another error than
+    /// `DiskFault` nothing has changed. No crash since the call began leaves a payload that was not there.
     pub fn init(alloc: Global, disk: D) -> Result<Journal<D>, Refused<InitError, D>>
+        // What Ok leaves.
         ensures fresh { IfOk result (λ journal. (journal.payloads ≡ []) × (journal.down ≡ false) × (journal.room ≡ [])) }
         ensures bytes { D.honest disk ≡ true → IfOk result (λ journal. D.content journal.disk ≡ fresh_file (header_of 1)) }
         ensures kept { D.honest disk ≡ true → IfOk result (λ journal. Keeps (meaning D.honest D.content D.image D.moment D.image_since D.faults) (header_of 1) [] journal.disk) }
         ensures was_empty { D.honest disk ≡ true → OnOk result (length (D.content disk) ≡ 0) }
+        // When each error comes, and what it leaves.
         ensures refused { IfErr result (λ refused. NotMadeFor
             (λ size. D.honest disk ≡ true → (size ≡ length (D.content disk)) × (size ≢ 0) × (D.content refused.back ≡ D.content disk))
             (Rose (D.faults disk) (D.faults refused.back)) refused.why) }
         ensures only_read { D.honest disk ≡ true → length (D.content disk) ≢ 0 → IfErr result (λ refused. IsOnlyRead (meaning D.honest D.content D.image D.moment D.image_since D.faults) disk refused.back) }
         ensures unchanged { IfErr result (λ refused. (refused.why ≡ InitError.DiskFault → ⊥) → IsOnlyRead (meaning D.honest D.content D.image D.moment D.image_since D.faults) disk refused.back) }
+        // What a crash leaves at any moment of the call.
         ensures any_moment { D.honest disk ≡ true → IfOk result (λ journal. LeavesOnly D.moment D.image_since disk journal.disk (WasOrHoldsNone (D.image disk))) }
         ensures any_moment_err { D.honest disk ≡ true → IfErr result (λ refused. LeavesOnly D.moment D.image_since disk refused.back (WasOrHoldsNone (D.image disk))) }
+        // The disk is as honest as it was, and its count of faults never falls.
         ensures honesty { IfOk result (λ journal. D.honest journal.disk ≡ D.honest disk) }
         ensures back_honesty { IfErr result (λ refused. D.honest refused.back ≡ D.honest disk) }
         ensures count { IfOk result (λ journal. IsCount (D.faults disk) (D.faults journal.disk)) }
@@ -85,16 +90,20 @@ impl<D: Disk> Journal<D> {
     /// Makes an empty disk the fresh spare of a pair: the header `ESMJ0002`, epoch 0, a closed seal and a closed gate,
     /// all of it on the disk. The refusals are those of `init`.
     pub fn blank(disk: D) -> Result<D, Refused<InitError, D>>
+        // What Ok leaves.
         ensures bytes { D.honest disk ≡ true → IfOk result (λ made. D.content made ≡ blank_file (header_of 2) 0) }
         ensures durable { D.honest disk ≡ true → IfOk result (λ made. Only (D.content made) (D.image made)) }
         ensures was_empty { D.honest disk ≡ true → OnOk result (length (D.content disk) ≡ 0) }
+        // When each error comes, and what it leaves.
         ensures refused { IfErr result (λ refused. NotMadeFor
             (λ size. D.honest disk ≡ true → (size ≡ length (D.content disk)) × (size ≢ 0) × (D.content refused.back ≡ D.content disk))
             (Rose (D.faults disk) (D.faults refused.back)) refused.why) }
         ensures only_read { D.honest disk ≡ true → length (D.content disk) ≢ 0 → IfErr result (λ refused. IsOnlyRead (meaning D.honest D.content D.image D.moment D.image_since D.faults) disk refused.back) }
         ensures unchanged { IfErr result (λ refused. (refused.why ≡ InitError.DiskFault → ⊥) → IsOnlyRead (meaning D.honest D.content D.image D.moment D.image_since D.faults) disk refused.back) }
+        // What a crash leaves at any moment of the call.
         ensures any_moment { D.honest disk ≡ true → IfOk result (λ made. LeavesOnly D.moment D.image_since disk made (WasOrHoldsNone (D.image disk))) }
         ensures any_moment_err { D.honest disk ≡ true → IfErr result (λ refused. LeavesOnly D.moment D.image_since disk refused.back (WasOrHoldsNone (D.image disk))) }
+        // The disk is as honest as it was, and its count of faults never falls.
         ensures honesty { IfOk result (λ made. D.honest made ≡ D.honest disk) }
         ensures back_honesty { IfErr result (λ refused. D.honest refused.back ≡ D.honest disk) }
         ensures count { IfOk result (λ made. IsCount (D.faults disk) (D.faults made)) }
@@ -110,10 +119,13 @@ impl<D: Disk> Journal<D> {
     /// Opens a file: syncs the disk and reads the file, entry by entry. `NotAJournal` where it does not begin with the
     /// header, with its first eight bytes; `Damaged` where it does and is damaged, with the place; nothing is written.
     pub fn open(alloc: Global, disk: D) -> Result<Journal<D>, Refused<OpenError, D>>
+        // What Ok tells: the payloads, and that nothing was written.
         ensures opened { D.honest disk ≡ true → IfOk result (λ journal. OpensTo (header_of 1) journal.payloads (D.content disk)) }
-        ensures kept { D.honest disk ≡ true → IfOk result (λ journal. Keeps (meaning D.honest D.content D.image D.moment D.image_since D.faults) (header_of 1) journal.payloads journal.disk) }
         ensures fresh { IfOk result (λ journal. (journal.down ≡ false) × (journal.room ≡ [])) }
         ensures only_read { IfOk result (λ journal. IsOnlyRead (meaning D.honest D.content D.image D.moment D.image_since D.faults) disk journal.disk) }
+        // What a crash leaves after Ok.
+        ensures kept { D.honest disk ≡ true → IfOk result (λ journal. Keeps (meaning D.honest D.content D.image D.moment D.image_since D.faults) (header_of 1) journal.payloads journal.disk) }
+        // When each error comes, and that nothing was written.
         ensures refused { IfErr result (λ refused. RefusedFor
             (λ first. D.honest disk ≡ true → (opened (header_of 1) (D.content disk) ≡ Foreign) × (first ≡ eight_at (D.content disk) 0))
             (λ place. D.honest disk ≡ true → opened (header_of 1) (D.content disk) ≡ Damaged place)
@@ -162,24 +174,29 @@ impl<D: Disk> Journal<D> {
     /// before the call, with the new one or without; after Ok every crash leaves the new one. After `DiskFault` the
     /// journal is down until it is opened again; after the other errors nothing has changed.
     pub fn append(&mut self, alloc: Global, payload: &[u8]) -> Result<(), AppendError>
+        // What Ok leaves.
         ensures added { OnOk result (self.new.payloads ≡ self.old.payloads ++ payload.now ∷ []) }
         ensures bytes { D.honest self.old.disk ≡ true → OnOk result (D.content self.new.disk ≡ with_payload self.old.payloads payload.now (D.content self.old.disk)) }
-        ensures not_added { OnErr result (self.new.payloads ≡ self.old.payloads) }
+        ensures room { OnOk result (self.new.room ≡ room_after self.old.room (length payload.now)) }
         ensures up { OnOk result (self.new.down ≡ false) }
-        ensures kept { D.honest self.new.disk ≡ true → self.new.down ≡ false → Keeps (meaning D.honest D.content D.image D.moment D.image_since D.faults) (header_of 1) self.new.payloads self.new.disk }
-        ensures stopped { D.honest self.new.disk ≡ true → self.new.down ≡ true → StillOpens (meaning D.honest D.content D.image D.moment D.image_since D.faults) (header_of 1) self.new.payloads self.new.disk }
-        ensures any_moment { D.honest self.old.disk ≡ true → self.old.down ≡ false →
-            LeavesOnly D.moment D.image_since self.old.disk self.new.disk (OpensToEither (header_of 1) self.old.payloads payload.now) }
+        // What an error leaves: after `DiskFault` the journal is down; after the others nothing has changed.
+        ensures not_added { OnErr result (self.new.payloads ≡ self.old.payloads) }
         ensures fault { IsErrOf result AppendError.DiskFault → self.new.down ≡ true }
         ensures cause { IsErrOf result AppendError.DiskFault → Rose (D.faults self.old.disk) (D.faults self.new.disk) }
+        ensures no_memory { IsErrOf result AppendError.OutOfMemory → self.new ≡ self.old }
+        // When each error comes.
+        ensures has_room { HasRoom self.old.room (length payload.now) → IsErrOf result AppendError.OutOfMemory → ⊥ }
         ensures down { IsErrOf result AppendError.Down → (self.new ≡ self.old) × (self.old.down ≡ true) }
         ensures is_down { self.old.down ≡ true → IsErrOf result AppendError.Down }
         ensures too_long { (n : ℕ) → IsErrOf result (AppendError.TooLong n) →
             (self.new ≡ self.old) × (self.old.down ≡ false) × (n ≡ length payload.now) × (MAX_PAYLOAD < length payload.now) }
         ensures is_too_long { self.old.down ≡ false → MAX_PAYLOAD < length payload.now → IsErrOf result (AppendError.TooLong (length payload.now)) }
-        ensures no_memory { IsErrOf result AppendError.OutOfMemory → self.new ≡ self.old }
-        ensures has_room { HasRoom self.old.room (length payload.now) → IsErrOf result AppendError.OutOfMemory → ⊥ }
-        ensures room { OnOk result (self.new.room ≡ room_after self.old.room (length payload.now)) }
+        // What a crash leaves: since the call began, and once it has returned.
+        ensures any_moment { D.honest self.old.disk ≡ true → self.old.down ≡ false →
+            LeavesOnly D.moment D.image_since self.old.disk self.new.disk (OpensToEither (header_of 1) self.old.payloads payload.now) }
+        ensures kept { D.honest self.new.disk ≡ true → self.new.down ≡ false → Keeps (meaning D.honest D.content D.image D.moment D.image_since D.faults) (header_of 1) self.new.payloads self.new.disk }
+        ensures stopped { D.honest self.new.disk ≡ true → self.new.down ≡ true → StillOpens (meaning D.honest D.content D.image D.moment D.image_since D.faults) (header_of 1) self.new.payloads self.new.disk }
+        // The disk is as honest as it was, and its count of faults never falls.
         ensures honesty { D.honest self.new.disk ≡ D.honest self.old.disk }
         ensures count { IsCount (D.faults self.old.disk) (D.faults self.new.disk) }
     {

@@ -176,28 +176,32 @@ impl<D: Disk> Pair<D> {
         journal: D,
         spare: D,
     ) -> Result<Migrated<D>, Refused<OpenError, (D, D)>>
+        // What Ok leaves. A pair of version 2 was only read.
         ensures version { D.honest journal ≡ true → D.honest spare ≡ true → IfOk result (λ done. done.was ≡ (if is_version_2 (D.content journal) (D.content spare) then 2 else 1)) }
         ensures found { D.honest journal ≡ true → D.honest spare ≡ true → IfOk result (λ done. (epoch : ℕ) × (migration (D.content journal) (D.content spare) ≡ Holding epoch done.pair.payloads) × (done.pair.epoch ≡ (if done.was == 1 then epoch + 1 else epoch))) }
-        ensures kept { D.honest journal ≡ true → D.honest spare ≡ true → IfOk result (λ done. PairKeeps (meaning D.honest D.content D.image D.moment D.image_since D.faults) (header_of 2) done.pair.epoch done.pair.payloads done.pair.used done.pair.spare) }
         ensures bytes { D.honest journal ≡ true → D.honest spare ≡ true → IfOk result (λ done. done.was ≡ 1 → IsWrittenAnew D.content journal spare done.pair) }
         ensures fresh { IfOk result (λ done. (done.pair.down ≡ false) × (done.pair.room ≡ [])) }
         ensures count { IfOk result (λ done. done.count ≡ min (length done.pair.payloads) 4294967295) }
         ensures first_read { IfOk result (λ done. done.was ≡ 2 → IsOnlyRead (meaning D.honest D.content D.image D.moment D.image_since D.faults) journal (first_disk done.pair)) }
         ensures second_read { IfOk result (λ done. done.was ≡ 2 → IsOnlyRead (meaning D.honest D.content D.image D.moment D.image_since D.faults) spare (second_disk done.pair)) }
-        ensures images { D.honest journal ≡ true → D.honest spare ≡ true → is_version_2 (D.content journal) (D.content spare) ≡ false → Only (D.content journal) (D.image journal) → Only (D.content spare) (D.image spare) →
-            IfOk result (λ done. IsMoving (meaning D.honest D.content D.image D.moment D.image_since D.faults) (D.content journal) (D.content spare) journal spare (first_disk done.pair) (second_disk done.pair)) }
-        ensures honesty { IfOk result (λ done. (D.honest (first_disk done.pair) ≡ D.honest journal) × (D.honest (second_disk done.pair) ≡ D.honest spare)) }
-        ensures faults { IfOk result (λ done. (D.faults journal ≤ D.faults (first_disk done.pair)) × (D.faults spare ≤ D.faults (second_disk done.pair))) }
+        // When each error comes. After one that is not `DiskFault` nothing was written.
         ensures refused { IfErr result (λ refused. RefusedFor
             (λ first. D.honest journal ≡ true → D.honest spare ≡ true → (migration (D.content journal) (D.content spare) ≡ Foreign) × (first ≡ eight_at (D.content journal) 0))
             (λ place. D.honest journal ≡ true → D.honest spare ≡ true → migration (D.content journal) (D.content spare) ≡ Damaged place)
             (Rose (D.faults journal) (D.faults refused.back.0) ⊎ Rose (D.faults spare) (D.faults refused.back.1)) refused.why) }
         ensures first_back { IfErr result (λ refused. (refused.why ≡ OpenError.DiskFault → ⊥) → IsOnlyRead (meaning D.honest D.content D.image D.moment D.image_since D.faults) journal refused.back.0) }
         ensures second_back { IfErr result (λ refused. (refused.why ≡ OpenError.DiskFault → ⊥) → IsOnlyRead (meaning D.honest D.content D.image D.moment D.image_since D.faults) spare refused.back.1) }
-        ensures images_back { D.honest journal ≡ true → D.honest spare ≡ true → is_version_2 (D.content journal) (D.content spare) ≡ false → Only (D.content journal) (D.image journal) → Only (D.content spare) (D.image spare) →
-            IfErr result (λ refused. IsMoving (meaning D.honest D.content D.image D.moment D.image_since D.faults) (D.content journal) (D.content spare) journal spare refused.back.0 refused.back.1) }
         ensures unwritten_back { D.honest journal ≡ true → D.honest spare ≡ true → is_version_2 (D.content journal) (D.content spare) ≡ true → IfErr result (λ refused.
             IsOnlyRead (meaning D.honest D.content D.image D.moment D.image_since D.faults) journal refused.back.0 × IsOnlyRead (meaning D.honest D.content D.image D.moment D.image_since D.faults) spare refused.back.1) }
+        // What a crash leaves: of a pair of version 1 since the call began, and once it has returned.
+        ensures images { D.honest journal ≡ true → D.honest spare ≡ true → is_version_2 (D.content journal) (D.content spare) ≡ false → Only (D.content journal) (D.image journal) → Only (D.content spare) (D.image spare) →
+            IfOk result (λ done. IsMoving (meaning D.honest D.content D.image D.moment D.image_since D.faults) (D.content journal) (D.content spare) journal spare (first_disk done.pair) (second_disk done.pair)) }
+        ensures images_back { D.honest journal ≡ true → D.honest spare ≡ true → is_version_2 (D.content journal) (D.content spare) ≡ false → Only (D.content journal) (D.image journal) → Only (D.content spare) (D.image spare) →
+            IfErr result (λ refused. IsMoving (meaning D.honest D.content D.image D.moment D.image_since D.faults) (D.content journal) (D.content spare) journal spare refused.back.0 refused.back.1) }
+        ensures kept { D.honest journal ≡ true → D.honest spare ≡ true → IfOk result (λ done. PairKeeps (meaning D.honest D.content D.image D.moment D.image_since D.faults) (header_of 2) done.pair.epoch done.pair.payloads done.pair.used done.pair.spare) }
+        // The disk is as honest as it was, and its count of faults never falls.
+        ensures honesty { IfOk result (λ done. (D.honest (first_disk done.pair) ≡ D.honest journal) × (D.honest (second_disk done.pair) ≡ D.honest spare)) }
+        ensures faults { IfOk result (λ done. (D.faults journal ≤ D.faults (first_disk done.pair)) × (D.faults spare ≤ D.faults (second_disk done.pair))) }
         ensures honesty_back { IfErr result (λ refused. (D.honest refused.back.0 ≡ D.honest journal) × (D.honest refused.back.1 ≡ D.honest spare)) }
         ensures faults_back { IfErr result (λ refused. (D.faults journal ≤ D.faults refused.back.0) × (D.faults spare ≤ D.faults refused.back.1)) }
     {

@@ -2,7 +2,7 @@ ghost use Rattle.std.specs.Prelude.{◌≡◌, ◌≢◌, ◌⊎◌, ◌+◌, �
 ghost use Rattle.esm_io.specs.Faults.{IsCount, Rose};
 ghost use Rattle.esm_io.specs.Images.{LeavesOnly, Only};
 ghost use Rattle.esm_io.specs.Meanings.{disk as meaning};
-ghost use Rattle.esm_journal.specs.File.{header_of, Foreign, Damaged, Holding, eight_at, fresh_file, blank_file};
+ghost use Rattle.esm_journal.specs.File.{AreShort, header_of, Foreign, Damaged, Holding, eight_at, fresh_file, blank_file};
 ghost use Rattle.esm_journal.specs.Bytes.{with_payload, rewritten};
 ghost use Rattle.esm_journal.specs.Fresh.{WasOrHoldsNone};
 ghost use Rattle.esm_journal.specs.Reads.{IsOnlyRead, RefusedFor, NotMadeFor};
@@ -71,11 +71,14 @@ impl<D: Disk> Pair<D> {
     /// taken, with the first eight bytes of the first; `Damaged` where the one that is taken is damaged, with the place,
     /// or where it is not and the other has fewer than 18 bytes, with their number. Nothing is written.
     pub fn open(alloc: Global, journal: D, spare: D) -> Result<Pair<D>, Refused<OpenError, (D, D)>>
+        // What Ok tells: the payloads, the epoch, and that nothing was written.
         ensures opened { D.honest journal ≡ true → D.honest spare ≡ true → IfOk result (λ pair. pair_opened (header_of 2) (D.content journal) (D.content spare) ≡ Holding pair.epoch pair.payloads) }
-        ensures kept { D.honest journal ≡ true → D.honest spare ≡ true → IfOk result (λ pair. PairKeeps (meaning D.honest D.content D.image D.moment D.image_since D.faults) (header_of 2) pair.epoch pair.payloads pair.used pair.spare) }
         ensures fresh { IfOk result (λ pair. (pair.down ≡ false) × (pair.room ≡ [])) }
         ensures first_read { IfOk result (λ pair. IsOnlyRead (meaning D.honest D.content D.image D.moment D.image_since D.faults) journal (first_disk pair)) }
         ensures second_read { IfOk result (λ pair. IsOnlyRead (meaning D.honest D.content D.image D.moment D.image_since D.faults) spare (second_disk pair)) }
+        // What a crash leaves after Ok.
+        ensures kept { D.honest journal ≡ true → D.honest spare ≡ true → IfOk result (λ pair. PairKeeps (meaning D.honest D.content D.image D.moment D.image_since D.faults) (header_of 2) pair.epoch pair.payloads pair.used pair.spare) }
+        // When each error comes, and that nothing was written.
         ensures refused { IfErr result (λ refused. RefusedFor
             (λ first. D.honest journal ≡ true → D.honest spare ≡ true → (pair_opened (header_of 2) (D.content journal) (D.content spare) ≡ Foreign) × (first ≡ eight_at (D.content journal) 0))
             (λ place. D.honest journal ≡ true → D.honest spare ≡ true → pair_opened (header_of 2) (D.content journal) (D.content spare) ≡ Damaged place)
@@ -139,17 +142,21 @@ impl<D: Disk> Pair<D> {
     /// `spare.esm` it opens to no payload, each of the two in whichever place. `NotEmpty` where the disk has bytes, with
     /// their number. To a disk that has bytes nothing is written, whatever the answer.
     pub fn first(disk: D) -> Result<D, Refused<InitError, D>>
+        // What Ok leaves.
         ensures bytes { D.honest disk ≡ true → IfOk result (λ made. D.content made ≡ fresh_file (header_of 2)) }
         ensures opens { D.honest disk ≡ true → IfOk result (λ made. PairOpensTo (header_of 2) 1 [] (D.content made) (blank_file (header_of 2) 0)) }
         ensures durable { D.honest disk ≡ true → IfOk result (λ made. Only (D.content made) (D.image made)) }
         ensures was_empty { D.honest disk ≡ true → OnOk result (length (D.content disk) ≡ 0) }
+        // When each error comes, and what it leaves.
         ensures refused { IfErr result (λ refused. NotMadeFor
             (λ size. D.honest disk ≡ true → (size ≡ length (D.content disk)) × (size ≢ 0) × (D.content refused.back ≡ D.content disk))
             (Rose (D.faults disk) (D.faults refused.back)) refused.why) }
         ensures only_read { D.honest disk ≡ true → length (D.content disk) ≢ 0 → IfErr result (λ refused. IsOnlyRead (meaning D.honest D.content D.image D.moment D.image_since D.faults) disk refused.back) }
         ensures unchanged { IfErr result (λ refused. (refused.why ≡ InitError.DiskFault → ⊥) → IsOnlyRead (meaning D.honest D.content D.image D.moment D.image_since D.faults) disk refused.back) }
+        // What a crash leaves at any moment of the call.
         ensures any_moment { D.honest disk ≡ true → IfOk result (λ made. LeavesOnly D.moment D.image_since disk made (WasOrHoldsNone (D.image disk))) }
         ensures any_moment_err { D.honest disk ≡ true → IfErr result (λ refused. LeavesOnly D.moment D.image_since disk refused.back (WasOrHoldsNone (D.image disk))) }
+        // The disk is as honest as it was, and its count of faults never falls.
         ensures honesty { IfOk result (λ made. D.honest made ≡ D.honest disk) }
         ensures back_honesty { IfErr result (λ refused. D.honest refused.back ≡ D.honest disk) }
         ensures count { IfOk result (λ made. IsCount (D.faults disk) (D.faults made)) }
@@ -192,29 +199,35 @@ impl<D: Disk> Pair<D> {
     /// the payloads from before the call, with the new one or without; after Ok every crash leaves the new one. After
     /// `DiskFault` the pair is down until it is opened again; after the other errors nothing has changed.
     pub fn append(&mut self, alloc: Global, payload: &[u8]) -> Result<(), AppendError>
-        ensures added { OnOk result (self.new.payloads ≡ self.old.payloads ++ payload.now ∷ []) }
-        ensures bytes { D.honest self.old.used ≡ true → OnOk result (D.content self.new.used ≡ with_payload self.old.payloads payload.now (D.content self.old.used)) }
-        ensures not_added { OnErr result (self.new.payloads ≡ self.old.payloads) }
-        ensures up { OnOk result (self.new.down ≡ false) }
+        // Whatever the answer.
         ensures spare { self.new.spare ≡ self.old.spare }
         ensures epoch { self.new.epoch ≡ self.old.epoch }
         ensures swapped { self.new.swapped ≡ self.old.swapped }
-        ensures kept { D.honest self.new.used ≡ true → D.honest self.new.spare ≡ true → self.new.down ≡ false → PairKeeps (meaning D.honest D.content D.image D.moment D.image_since D.faults) (header_of 2) self.new.epoch self.new.payloads self.new.used self.new.spare }
-        ensures any_moment { D.honest self.old.used ≡ true → self.old.down ≡ false →
-            LeavesOnly D.moment D.image_since self.old.used self.new.used (IsEither (header_of 2) self.old.epoch self.old.payloads (self.old.payloads ++ payload.now ∷ [])) }
-        ensures pair_images { D.honest self.old.used ≡ true → D.honest self.old.spare ≡ true → self.old.down ≡ false → (one other : List ℕ) →
-            D.image_since self.new.used (D.moment self.old.used) one → D.image_since self.new.spare (D.moment self.old.spare) other →
-            PairOpensToEither (header_of 2) self.old.epoch self.old.payloads payload.now one other }
+        // What Ok leaves.
+        ensures added { OnOk result (self.new.payloads ≡ self.old.payloads ++ payload.now ∷ []) }
+        ensures bytes { D.honest self.old.used ≡ true → OnOk result (D.content self.new.used ≡ with_payload self.old.payloads payload.now (D.content self.old.used)) }
+        ensures room { OnOk result (self.new.room ≡ room_after self.old.room (length payload.now)) }
+        ensures up { OnOk result (self.new.down ≡ false) }
+        // What an error leaves: after `DiskFault` the pair is down; after the others nothing has changed.
+        ensures not_added { OnErr result (self.new.payloads ≡ self.old.payloads) }
         ensures fault { IsErrOf result AppendError.DiskFault → self.new.down ≡ true }
         ensures cause { IsErrOf result AppendError.DiskFault → Rose (D.faults self.old.used) (D.faults self.new.used) }
+        ensures no_memory { IsErrOf result AppendError.OutOfMemory → self.new ≡ self.old }
+        // When each error comes.
+        ensures has_room { HasRoom self.old.room (length payload.now) → IsErrOf result AppendError.OutOfMemory → ⊥ }
         ensures down { IsErrOf result AppendError.Down → (self.new ≡ self.old) × (self.old.down ≡ true) }
         ensures is_down { self.old.down ≡ true → IsErrOf result AppendError.Down }
         ensures too_long { (n : ℕ) → IsErrOf result (AppendError.TooLong n) →
             (self.new ≡ self.old) × (self.old.down ≡ false) × (n ≡ length payload.now) × (MAX_PAYLOAD < length payload.now) }
         ensures is_too_long { self.old.down ≡ false → MAX_PAYLOAD < length payload.now → IsErrOf result (AppendError.TooLong (length payload.now)) }
-        ensures no_memory { IsErrOf result AppendError.OutOfMemory → self.new ≡ self.old }
-        ensures has_room { HasRoom self.old.room (length payload.now) → IsErrOf result AppendError.OutOfMemory → ⊥ }
-        ensures room { OnOk result (self.new.room ≡ room_after self.old.room (length payload.now)) }
+        // What a crash leaves: of the disk in use and of both disks since the call began, and once it has returned.
+        ensures any_moment { D.honest self.old.used ≡ true → self.old.down ≡ false →
+            LeavesOnly D.moment D.image_since self.old.used self.new.used (IsEither (header_of 2) self.old.epoch self.old.payloads (self.old.payloads ++ payload.now ∷ [])) }
+        ensures pair_images { D.honest self.old.used ≡ true → D.honest self.old.spare ≡ true → self.old.down ≡ false → (one other : List ℕ) →
+            D.image_since self.new.used (D.moment self.old.used) one → D.image_since self.new.spare (D.moment self.old.spare) other →
+            PairOpensToEither (header_of 2) self.old.epoch self.old.payloads payload.now one other }
+        ensures kept { D.honest self.new.used ≡ true → D.honest self.new.spare ≡ true → self.new.down ≡ false → PairKeeps (meaning D.honest D.content D.image D.moment D.image_since D.faults) (header_of 2) self.new.epoch self.new.payloads self.new.used self.new.spare }
+        // The disk is as honest as it was, and its count of faults never falls.
         ensures honesty { D.honest self.new.used ≡ D.honest self.old.used }
         ensures count { IsCount (D.faults self.old.used) (D.faults self.new.used) }
     {
@@ -226,15 +239,26 @@ impl<D: Disk> Pair<D> {
     /// `DiskFault` the pair is down until it is opened again; after the other errors nothing has changed.
     pub fn rewrite(&mut self, alloc: Global, payloads: &[Bytes]) -> Result<(), AppendError>
         requires { self.old.epoch < 18446744073709551615 }
+        // What Ok leaves: the disk that was the spare one is in use, and the one that was in use is the spare one.
         ensures written { OnOk result (self.new.payloads ≡ payloads.now) }
-        ensures bytes { D.honest self.old.spare ≡ true → OnOk result (D.content self.new.used ≡ rewritten (header_of 2) (self.old.epoch + 1) payloads.now (D.content self.old.spare)) }
         ensures next_epoch { OnOk result (self.new.epoch ≡ self.old.epoch + 1) }
-        ensures up { OnOk result (self.new.down ≡ false) }
+        ensures bytes { D.honest self.old.spare ≡ true → OnOk result (D.content self.new.used ≡ rewritten (header_of 2) (self.old.epoch + 1) payloads.now (D.content self.old.spare)) }
         ensures room { OnOk result (self.new.room ≡ self.old.room) }
+        ensures up { OnOk result (self.new.down ≡ false) }
         ensures replaced { OnOk result (self.new.spare ≡ self.old.used) }
         ensures changed_over { OnOk result (self.new.swapped ≡ not self.old.swapped) }
+        // What an error leaves: after `DiskFault` the pair is down; after the others nothing has changed.
         ensures not_written { OnErr result (self.new ≡ record self.old { down = self.new.down; spare = self.new.spare }) }
-        ensures kept { D.honest self.new.used ≡ true → D.honest self.new.spare ≡ true → self.new.down ≡ false → PairKeeps (meaning D.honest D.content D.image D.moment D.image_since D.faults) (header_of 2) self.new.epoch self.new.payloads self.new.used self.new.spare }
+        ensures fault { IsErrOf result AppendError.DiskFault → self.new.down ≡ true }
+        ensures cause { IsErrOf result AppendError.DiskFault → Rose (D.faults self.old.spare) (D.faults self.new.spare) }
+        ensures no_memory { IsErrOf result AppendError.OutOfMemory → self.new ≡ self.old }
+        // When each error comes.
+        ensures down { IsErrOf result AppendError.Down → (self.new ≡ self.old) × (self.old.down ≡ true) }
+        ensures is_down { self.old.down ≡ true → IsErrOf result AppendError.Down }
+        ensures too_long { (n : ℕ) → IsErrOf result (AppendError.TooLong n) → (self.new ≡ self.old) × (self.old.down ≡ false) × (first_too_long payloads.now ≡ Some n) }
+        ensures is_too_long { self.old.down ≡ false → (n : ℕ) → first_too_long payloads.now ≡ Some n → IsErrOf result (AppendError.TooLong n) }
+        ensures short_enough { AreShort payloads.now → (n : ℕ) → IsErrOf result (AppendError.TooLong n) → ⊥ }
+        // What a crash leaves: of the disk that is written and of both disks since the call began, and once it has returned.
         ensures any_moment { D.honest self.old.used ≡ true → D.honest self.old.spare ≡ true → self.old.down ≡ false →
             OnOk result (LeavesOnly D.moment D.image_since self.old.spare self.new.used (IsSpareOrNew (header_of 2) self.old.epoch (header_of 2) (self.old.epoch + 1) payloads.now)) }
         ensures any_moment_err { D.honest self.old.used ≡ true → D.honest self.old.spare ≡ true → self.old.down ≡ false →
@@ -242,13 +266,8 @@ impl<D: Disk> Pair<D> {
         ensures pair_images { D.honest self.old.used ≡ true → D.honest self.old.spare ≡ true → self.old.down ≡ false → (one other : List ℕ) →
             D.image_since (first_disk self.new) (D.moment (first_disk self.old)) one → D.image_since (second_disk self.new) (D.moment (second_disk self.old)) other →
             PairOpensToOldOrNew (header_of 2) self.old.epoch self.old.payloads payloads.now one other }
-        ensures fault { IsErrOf result AppendError.DiskFault → self.new.down ≡ true }
-        ensures cause { IsErrOf result AppendError.DiskFault → Rose (D.faults self.old.spare) (D.faults self.new.spare) }
-        ensures down { IsErrOf result AppendError.Down → (self.new ≡ self.old) × (self.old.down ≡ true) }
-        ensures is_down { self.old.down ≡ true → IsErrOf result AppendError.Down }
-        ensures too_long { (n : ℕ) → IsErrOf result (AppendError.TooLong n) → (self.new ≡ self.old) × (self.old.down ≡ false) × (first_too_long payloads.now ≡ Some n) }
-        ensures is_too_long { self.old.down ≡ false → (n : ℕ) → first_too_long payloads.now ≡ Some n → IsErrOf result (AppendError.TooLong n) }
-        ensures no_memory { IsErrOf result AppendError.OutOfMemory → self.new ≡ self.old }
+        ensures kept { D.honest self.new.used ≡ true → D.honest self.new.spare ≡ true → self.new.down ≡ false → PairKeeps (meaning D.honest D.content D.image D.moment D.image_since D.faults) (header_of 2) self.new.epoch self.new.payloads self.new.used self.new.spare }
+        // The disk is as honest as it was, and its count of faults never falls.
         ensures honesty { OnOk result (D.honest self.new.used ≡ D.honest self.old.spare) }
         ensures honesty_err { OnErr result (D.honest self.new.spare ≡ D.honest self.old.spare) }
         ensures count { OnOk result (IsCount (D.faults self.old.spare) (D.faults self.new.used)) }

@@ -11,5 +11,5 @@ returns-clause-kept g c =
 
 pub returns-clause-stopped : goal.returns-clause-stopped
 returns-clause-stopped g c =
-    rw (← c.self.view_is) (λ h1 h2 down. in_places g.D.Disk.image (header_of 2) c.self.inside.log.epoch c.self.inside.log.payloads.items c.self.inside.log.disk c.self.inside.spare c.self.inside.swapped
+    rw (← c.self.view_is) (λ h1 h2 down. in_places (disk g.D.Disk.honest g.D.Disk.content g.D.Disk.image g.D.Disk.moment g.D.Disk.image_since g.D.Disk.faults) (header_of 2) c.self.inside.log.epoch c.self.inside.log.payloads.items c.self.inside.log.disk c.self.inside.spare c.self.inside.swapped
     (c.self.invariant.1.stopped h1 h2 down))

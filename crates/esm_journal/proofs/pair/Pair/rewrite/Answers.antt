@@ -2,7 +2,7 @@ use Rattle.std.proofs.Common.{true, ◌+◌, ◌∙◌, sym, subst}
 use Rattle.esm_io.specs.Meanings.{disk}
 use Rattle.esm_journal.specs.File.{header_of, IsFile}
 use Rattle.esm_journal.proofs.Adds.{on_ok_told}
-use Rattle.esm_journal.proofs.Lists.{all_short}
+use Rattle.esm_journal.proofs.Lists.{all_short, none_too_long}
 use Rattle.esm_journal.proofs.Rewrites.{resting, images_before, images_after, is_pair_over, pair_keeps}
 use Rattle.esm_journal.proofs.Stops.{is_log_stopped, is_pair_stopped}
 use Rattle.esm_journal.proofs.pair.Pair.rewrite.Goals as goal
@@ -105,3 +105,6 @@ pub returns-clause-bytes : goal.returns-clause-bytes
 returns-clause-bytes g c =
     rw (← c.self.view_is, c.move_over.ensures.disk) (λ h.
     on_ok_told c.replace_file.result (sym c.is_err.ensures.value ∙ c.if-is_err.false) (c.replace_file.ensures.bytes h c.args.payloads.now (c.deref.ensures.value ∙ c.in-Ok.ensures.bytes)))
+
+pub returns-in-Some-clause-short_enough : goal.returns-in-Some-clause-short_enough
+returns-in-Some-clause-short_enough g c = λ short n _. none_too_long c.args.payloads.now c.in-Some.size short (sym c.first_too_long.ensures ∙ c.in-Some.is)
