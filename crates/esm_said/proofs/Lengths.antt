@@ -1,5 +1,5 @@
 -- No payload of the shorter list is too long for a journal.
-use Rattle.std.proofs.Common.{◌≡◌, ℕ, zero, suc, ◌+◌, ◌*◌, ◌<◌, ◌≤◌, ◌&&◌, nat_le, nat_lt, Bool, true, false, List, [], ◌∷◌, ◌++◌, length, Option, Some, None, if◌then◌else◌, refl, sym, subst, arith}
+use Rattle.std.proofs.Common.{◌≡◌, ℕ, zero, suc, ◌+◌, ◌*◌, ◌<◌, ◌≤◌, ◌&&◌, ◌==◌, nat_le, nat_lt, Bool, true, false, List, [], ◌∷◌, ◌++◌, length, Option, Some, None, if◌then◌else◌, refl, sym, subst, arith}
 use Rattle.std.specs.Prelude.{map, reverse, IfSome}
 use Rattle.std.specs.List.{All, AllByRecursion, list_all}
 use Rattle.std.proofs.lemmas.Bool.{and_parts}
@@ -115,7 +115,7 @@ few_either false p ps e room all = (omega arith, all)
 
 few_after : (ps : List Piece) (e : Entry) → AllByRecursion Few ps → AllByRecursion Few (piece_after ps e)
 few_after [] e all = (omega arith, tt)
-few_after (p ∷ ps) e all = few_either (has_room p e.0.0) p ps e (below (length p.places) _ _) all
+few_after (p ∷ ps) e all = few_either (has_room p e.0.0) p ps e (below (length p.places) (p.group.0 == e.0.0.0) (p.group.1 == e.0.0.1)) all
 
 few_pieces : (es : List Entry) (ps : List Piece) → AllByRecursion Few ps → AllByRecursion Few (pieces_after ps es)
 few_pieces [] ps all = all
