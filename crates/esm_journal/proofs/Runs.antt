@@ -1,5 +1,5 @@
 -- How runs of device calls go on.
-use Rattle.std.proofs.Common.{◌≡◌, ℕ, Bool, true, List, inl, inr, ⊎_elim, arith, refl, ◌∙◌}
+use Rattle.std.proofs.Common.{◌≡◌, ℕ, true, List, inl, inr, ⊎_elim, arith, refl, ◌∙◌}
 use Rattle.esm_io.specs.Meanings.{DiskMeaning}
 use Rattle.esm_io.specs.Images.{LeavesOnly, Elapses}
 use Rattle.esm_io.proofs.Leaving.{started, goes_on}

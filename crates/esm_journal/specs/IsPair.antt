@@ -1,5 +1,5 @@
 -- What the disks of a pair hold, beside the log of the one in use.
-use Rattle.std.specs.Prelude.{◌≡◌, ◌≤◌, ℕ, Bool, true, false, List}
+use Rattle.std.specs.Prelude.{◌≡◌, ◌≤◌, Bool, true, false}
 use Rattle.esm_io.specs.Meanings.{DiskMeaning}
 use Rattle.esm_io.specs.Images.{Only}
 use Rattle.esm_io.specs.Faults.{MAX_FAULTS}

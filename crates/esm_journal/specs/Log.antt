@@ -1,5 +1,5 @@
 -- A file that is open: what is kept of it in memory, and what the disk holds.
-use Rattle.std.specs.Prelude.{◌≡◌, ◌+◌, ◌≤◌, ◌<◌, ◌^◌, ◌⊎◌, ℕ, Bool, true, false, List, [], ◌∷◌, ◌++◌, length, vec_len, vec_capacity}
+use Rattle.std.specs.Prelude.{◌≡◌, ◌+◌, ◌≤◌, ◌<◌, ◌^◌, ◌⊎◌, ℕ, true, false, List, [], ◌∷◌, ◌++◌, length, vec_len, vec_capacity}
 use Rattle.esm_io.specs.Meanings.{DiskMeaning}
 use Rattle.esm_io.specs.Images.{Only}
 use Rattle.esm_io.specs.Faults.{MAX_FAULTS}

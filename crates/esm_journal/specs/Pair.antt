@@ -1,10 +1,10 @@
 -- Two files of which one is in use: the sealed one with the greater epoch.
-use Rattle.std.specs.Prelude.{◌++◌, ◌∷◌, [], ◌⊎◌, ◌≡◌, ◌≤◌, ◌<◌, ◌==◌, ◌&&◌, ◌||◌, not, ℕ, Bool, true, List, length, slice_index, nat_eq, nat_lt, if◌then◌else◌, refl}
+use Rattle.std.specs.Prelude.{◌++◌, ◌∷◌, [], ◌⊎◌, ◌≡◌, ◌≤◌, ◌<◌, ◌==◌, ◌&&◌, ◌||◌, not, ℕ, Bool, true, false, List, length, slice_index, nat_eq, nat_lt, if◌then◌else◌, refl}
 use Rattle.std.specs.Cmp.Lexicographic.{pointwise}
 use Rattle.std.specs.Coded.{Coded, code_by, coded×, coded_ℕ, coded_bool, coded_list}
 use Rattle.esm_io.specs.Meanings.{DiskMeaning}
 use Rattle.esm_io.specs.Images.{Only}
-use Rattle.esm_journal.specs.File.{Opening, Holding, Foreign, Damaged, IsFile, eight_at, epoch_in, opened_rest}
+use Rattle.esm_journal.specs.File.{header_of, Opening, Holding, Foreign, Damaged, IsFile, eight_at, epoch_in, opened_rest}
 
 -- it begins with the header and its seal is open
 abbrev pub is_sealed : List ℕ → List ℕ → Bool
@@ -77,6 +77,10 @@ pub record PairKeeps {D : Type 0} (m : DiskMeaning D) (header : List ℕ) (epoch
   pub beside : IsSpare header epoch (m.content spare)
   pub spare_durable : Only (m.content spare) (m.image spare)
   pub opens : PairOpensTo header epoch payloads (m.content used) (m.content spare)
+
+-- where both disks are honest and no call of them failed, they keep the payloads
+abbrev pub PairKeepsWhileUp : {D : Type 0} → DiskMeaning D → PairState D → Type 0
+PairKeepsWhileUp m pair = m.honest pair.used ≡ true → m.honest pair.spare ≡ true → pair.down ≡ false → PairKeeps m (header_of 2) pair.epoch pair.payloads pair.used pair.spare
 
 -- they open to these payloads, or to these and one more
 abbrev pub PairOpensToEither : List ℕ → ℕ → List (List ℕ) → List ℕ → List ℕ → List ℕ → Type 0

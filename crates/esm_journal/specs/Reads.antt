@@ -1,5 +1,5 @@
 -- What calls of a disk that write nothing leave, and why a file was refused.
-use Rattle.std.specs.Prelude.{◌≡◌, ℕ, ◌≤◌, Bool, true, List}
+use Rattle.std.specs.Prelude.{◌≡◌, ℕ, ◌≤◌, true, List}
 use Rattle.esm_io.specs.Meanings.{DiskMeaning}
 use Rattle.esm_io.specs.Images.{Within, LeavesOnly}
 use Rattle.esm_io.specs.Faults.{MAX_FAULTS}

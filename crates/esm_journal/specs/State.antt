@@ -1,9 +1,9 @@
 -- What contracts see of a journal.
-use Rattle.std.specs.Prelude.{◌≡◌, ◌⊎◌, ℕ, Bool, List, [], ◌∷◌, ◌++◌, refl}
+use Rattle.std.specs.Prelude.{◌≡◌, ◌⊎◌, ℕ, Bool, true, false, List, [], ◌∷◌, ◌++◌, refl}
 use Rattle.std.specs.Coded.{Coded, code_by, coded×, coded_ℕ, coded_bool, coded_list}
 use Rattle.esm_io.specs.Meanings.{DiskMeaning}
 use Rattle.esm_io.specs.Images.{Only}
-use Rattle.esm_journal.specs.File.{Holding, opened}
+use Rattle.esm_journal.specs.File.{header_of, Holding, opened}
 
 -- a journal: its payloads in order; whether a call of its disk failed; the lengths of the next payloads for which there
 -- is memory; and its disk
@@ -36,3 +36,11 @@ pub record Keeps {D : Type 0} (m : DiskMeaning D) (header : List ℕ) (payloads 
 -- a call failed while a payload was added: each image of the disk opens to the payloads, or to these and that one
 abbrev pub StillOpens : {D : Type 0} → DiskMeaning D → List ℕ → List (List ℕ) → D → Type 0
 StillOpens m header payloads disk = (payload : List ℕ) × ((bytes : List ℕ) → m.image disk bytes → OpensToEither header payloads payload bytes)
+
+-- where the disk is honest and no call of it failed, it keeps the payloads
+abbrev pub KeepsWhileUp : {D : Type 0} → DiskMeaning D → JournalState D → Type 0
+KeepsWhileUp m journal = m.honest journal.disk ≡ true → journal.down ≡ false → Keeps m (header_of 1) journal.payloads journal.disk
+
+-- and where a call failed, a crash leaves the payloads, or these and the one that was being added
+abbrev pub KeepsWhileDown : {D : Type 0} → DiskMeaning D → JournalState D → Type 0
+KeepsWhileDown m journal = m.honest journal.disk ≡ true → journal.down ≡ true → StillOpens m (header_of 1) journal.payloads journal.disk

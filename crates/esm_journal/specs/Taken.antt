@@ -1,5 +1,5 @@
 -- What opening a pair finds of its disks.
-use Rattle.std.specs.Prelude.{◌≡◌, ◌≤◌, Bool, true, false, List, ℕ, if◌then◌else◌}
+use Rattle.std.specs.Prelude.{◌≡◌, ◌≤◌, true, false, List, ℕ, if◌then◌else◌}
 use Rattle.esm_io.specs.Meanings.{DiskMeaning}
 use Rattle.esm_io.specs.Faults.{MAX_FAULTS}
 use Rattle.esm_io.specs.Images.{Only}

@@ -5,7 +5,7 @@ ghost use Rattle.esm_io.specs.Told.{Grows};
 ghost use Rattle.esm_io.specs.Meanings.{disk as meaning};
 ghost use Rattle.esm_journal.specs.File.{header_of};
 ghost use Rattle.esm_journal.specs.Room.{HasRoomIfShort};
-ghost use Rattle.esm_journal.specs.State.{OpensToEither, Keeps, StillOpens};
+ghost use Rattle.esm_journal.specs.State.{OpensToEither, KeepsWhileUp, KeepsWhileDown};
 
 use crate::error::AppendError;
 use crate::journal::Journal;
@@ -86,8 +86,8 @@ impl<D: Disk> Dest for FileDest<D> {
         ensures room_kept { IsErrOf result DestError.OutOfMemory → (n : ℕ)
             → HasRoomIfShort self.old.room n → HasRoomIfShort self.new.room n }
         ensures uncounted { IsErrOf result DestError.OutOfMemory → D.faults self.new.disk ≡ D.faults self.old.disk }
-        ensures kept { D.honest self.new.disk ≡ true → self.new.down ≡ false → Keeps (meaning D.honest D.content D.image D.moment D.image_since D.faults) (header_of 1) self.new.payloads self.new.disk }
-        ensures stopped { D.honest self.new.disk ≡ true → self.new.down ≡ true → StillOpens (meaning D.honest D.content D.image D.moment D.image_since D.faults) (header_of 1) self.new.payloads self.new.disk }
+        ensures kept { KeepsWhileUp (meaning D.honest D.content D.image D.moment D.image_since D.faults) self.new }
+        ensures stopped { KeepsWhileDown (meaning D.honest D.content D.image D.moment D.image_since D.faults) self.new }
         ensures any_moment { D.honest self.old.disk ≡ true →
             LeavesOnly D.moment D.image_since self.old.disk self.new.disk (OpensToEither (header_of 1) self.old.payloads line.now) }
         ensures honesty { D.honest self.new.disk ≡ D.honest self.old.disk }

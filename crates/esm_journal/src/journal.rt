@@ -7,7 +7,7 @@ ghost use Rattle.esm_journal.specs.Bytes.{with_payload};
 ghost use Rattle.esm_journal.specs.Fresh.{WasOrHoldsNone};
 ghost use Rattle.esm_journal.specs.Reads.{IsOnlyRead, RefusedFor, NotMadeFor};
 ghost use Rattle.esm_journal.specs.Room.{HasRoom, room_after};
-ghost use Rattle.esm_journal.specs.State.{OpensTo, OpensToEither, Keeps, StillOpens};
+ghost use Rattle.esm_journal.specs.State.{OpensTo, OpensToEither, Keeps, KeepsWhileUp, KeepsWhileDown};
 
 use crate::error::{AppendError, InitError, OpenError};
 use crate::format::{PAIR, SINGLE};
@@ -152,8 +152,8 @@ impl<D: Disk> Journal<D> {
     /// The payloads, in order.
     pub fn payloads(&self) -> &[Bytes]
         ensures payloads { result.now ≡ self.now.payloads }
-        ensures kept { D.honest self.now.disk ≡ true → self.now.down ≡ false → Keeps (meaning D.honest D.content D.image D.moment D.image_since D.faults) (header_of 1) self.now.payloads self.now.disk }
-        ensures stopped { D.honest self.now.disk ≡ true → self.now.down ≡ true → StillOpens (meaning D.honest D.content D.image D.moment D.image_since D.faults) (header_of 1) self.now.payloads self.now.disk }
+        ensures kept { KeepsWhileUp (meaning D.honest D.content D.image D.moment D.image_since D.faults) self.now }
+        ensures stopped { KeepsWhileDown (meaning D.honest D.content D.image D.moment D.image_since D.faults) self.now }
     {
         &self.log.payloads
     }
@@ -194,8 +194,8 @@ impl<D: Disk> Journal<D> {
         // What a crash leaves: since the call began, and once it has returned.
         ensures any_moment { D.honest self.old.disk ≡ true → self.old.down ≡ false →
             LeavesOnly D.moment D.image_since self.old.disk self.new.disk (OpensToEither (header_of 1) self.old.payloads payload.now) }
-        ensures kept { D.honest self.new.disk ≡ true → self.new.down ≡ false → Keeps (meaning D.honest D.content D.image D.moment D.image_since D.faults) (header_of 1) self.new.payloads self.new.disk }
-        ensures stopped { D.honest self.new.disk ≡ true → self.new.down ≡ true → StillOpens (meaning D.honest D.content D.image D.moment D.image_since D.faults) (header_of 1) self.new.payloads self.new.disk }
+        ensures kept { KeepsWhileUp (meaning D.honest D.content D.image D.moment D.image_since D.faults) self.new }
+        ensures stopped { KeepsWhileDown (meaning D.honest D.content D.image D.moment D.image_since D.faults) self.new }
         // The disk is as honest as it was, and its count of faults never falls.
         ensures honesty { D.honest self.new.disk ≡ D.honest self.old.disk }
         ensures count { IsCount (D.faults self.old.disk) (D.faults self.new.disk) }

@@ -8,9 +8,9 @@ ghost use Rattle.esm_journal.specs.Fresh.{WasOrHoldsNone};
 ghost use Rattle.esm_journal.specs.Reads.{IsOnlyRead, RefusedFor, NotMadeFor};
 ghost use Rattle.esm_journal.specs.Room.{HasRoom, room_after};
 ghost use Rattle.esm_journal.specs.Log.{IsEither};
-ghost use Rattle.esm_journal.specs.Pair.{pair_opened, first_disk, second_disk, PairKeeps, PairOpensTo, PairOpensToEither};
+ghost use Rattle.esm_journal.specs.Pair.{pair_opened, first_disk, second_disk, PairKeeps, PairKeepsWhileUp, PairOpensTo, PairOpensToEither};
 ghost use Rattle.esm_journal.specs.Replace.{first_too_long, IsSpareOrNew, PairOpensToOldOrNew};
-ghost use Rattle.esm_journal.specs.Stopped.{PairStillOpens};
+ghost use Rattle.esm_journal.specs.Stopped.{PairKeepsWhileDown};
 
 use crate::error::{AppendError, InitError, OpenError};
 use crate::format::PAIR;
@@ -173,8 +173,8 @@ impl<D: Disk> Pair<D> {
     /// pair that opens to these, or to what that call was to leave.
     pub fn payloads(&self) -> &[Bytes]
         ensures payloads { result.now ≡ self.now.payloads }
-        ensures kept { D.honest self.now.used ≡ true → D.honest self.now.spare ≡ true → self.now.down ≡ false → PairKeeps (meaning D.honest D.content D.image D.moment D.image_since D.faults) (header_of 2) self.now.epoch self.now.payloads self.now.used self.now.spare }
-        ensures stopped { D.honest self.now.used ≡ true → D.honest self.now.spare ≡ true → self.now.down ≡ true → PairStillOpens (meaning D.honest D.content D.image D.moment D.image_since D.faults) (header_of 2) self.now.epoch self.now.payloads (first_disk self.now) (second_disk self.now) }
+        ensures kept { PairKeepsWhileUp (meaning D.honest D.content D.image D.moment D.image_since D.faults) self.now }
+        ensures stopped { PairKeepsWhileDown (meaning D.honest D.content D.image D.moment D.image_since D.faults) self.now }
     {
         &self.log.payloads
     }
@@ -226,7 +226,7 @@ impl<D: Disk> Pair<D> {
         ensures pair_images { D.honest self.old.used ≡ true → D.honest self.old.spare ≡ true → self.old.down ≡ false → (one other : List ℕ) →
             D.image_since self.new.used (D.moment self.old.used) one → D.image_since self.new.spare (D.moment self.old.spare) other →
             PairOpensToEither (header_of 2) self.old.epoch self.old.payloads payload.now one other }
-        ensures kept { D.honest self.new.used ≡ true → D.honest self.new.spare ≡ true → self.new.down ≡ false → PairKeeps (meaning D.honest D.content D.image D.moment D.image_since D.faults) (header_of 2) self.new.epoch self.new.payloads self.new.used self.new.spare }
+        ensures kept { PairKeepsWhileUp (meaning D.honest D.content D.image D.moment D.image_since D.faults) self.new }
         // The disk is as honest as it was, and its count of faults never falls.
         ensures honesty { D.honest self.new.used ≡ D.honest self.old.used }
         ensures count { IsCount (D.faults self.old.used) (D.faults self.new.used) }
@@ -266,7 +266,7 @@ impl<D: Disk> Pair<D> {
         ensures pair_images { D.honest self.old.used ≡ true → D.honest self.old.spare ≡ true → self.old.down ≡ false → (one other : List ℕ) →
             D.image_since (first_disk self.new) (D.moment (first_disk self.old)) one → D.image_since (second_disk self.new) (D.moment (second_disk self.old)) other →
             PairOpensToOldOrNew (header_of 2) self.old.epoch self.old.payloads payloads.now one other }
-        ensures kept { D.honest self.new.used ≡ true → D.honest self.new.spare ≡ true → self.new.down ≡ false → PairKeeps (meaning D.honest D.content D.image D.moment D.image_since D.faults) (header_of 2) self.new.epoch self.new.payloads self.new.used self.new.spare }
+        ensures kept { PairKeepsWhileUp (meaning D.honest D.content D.image D.moment D.image_since D.faults) self.new }
         // The disk is as honest as it was, and its count of faults never falls.
         ensures honesty { OnOk result (D.honest self.new.used ≡ D.honest self.old.spare) }
         ensures honesty_err { OnErr result (D.honest self.new.spare ≡ D.honest self.old.spare) }
