@@ -7,23 +7,6 @@ use Rattle.esm_journal.specs.Reads.{IsOnlyRead, RefusedFor}
 use Rattle.esm_journal.specs.declared.error.OpenError.{OpenError}
 use Rattle.esm_journal.specs.declared.error.OpenError.TheVariants.{NotAJournal, Damaged, DiskFault, OutOfMemory}
 
-module _ {D : Type 0} (moment : D → ℕ) (since : D → ℕ → List ℕ → Type 0) where
-  -- one run, of which two things are said
-  pub both : (old new : D) (P Q R : List ℕ → Type 0) → LeavesOnly moment since old new P → LeavesOnly moment since old new Q → ((image : List ℕ) → P image → Q image → R image) → LeavesOnly moment since old new R
-  both old new P Q R one two fits = record {
-    later = one.later;
-    each = λ image was. fits image (one.each image was) (two.each image was);
-    before = λ t image le was. ⊎_elim (λ p. inl p) (λ p. ⊎_elim (λ q. inl q) (λ q. inr (fits image p q)) (two.before t image le was)) (one.before t image le was);
-  }
-
-  -- one call, after which each image has P
-  pub called : (old new : D) (P : List ℕ → Type 0) → Elapses (moment old) (moment new) (since old) (since new) → ((image : List ℕ) → since new (moment old) image → P image) → LeavesOnly moment since old new P
-  called old new P time each = record {
-    later = time.later;
-    each = each;
-    before = λ t image le was. ⊎_elim (λ p. inl p) (λ s. inr (each image s)) (time.no_other t image le was);
-  }
-
 module _ {D : Type 0} (m : DiskMeaning D) where
   abbrev pub Reads : D → D → Type 0
   Reads old new = IsOnlyRead m old new

@@ -7,9 +7,9 @@ ghost use Rattle.esm_journal.specs.File.{end_of, AreShort, IsFile, Foreign, Dama
 ghost use Rattle.esm_journal.specs.Reads.{IsOnlyRead, RefusedFor};
 ghost use Rattle.esm_journal.specs.Head.{IsHead};
 
+use crate::entry_reading::read_entries;
 use crate::error::OpenError;
 use crate::head::{Head, read_head};
-use crate::entry_reading::read_entries;
 use crate::through::settle;
 use esm_io::Disk;
 use esm_model::Bytes;

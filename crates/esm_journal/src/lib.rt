@@ -4,6 +4,7 @@
 #![tactic(auto)]
 
 pub mod crossing;
+mod entry_reading;
 pub mod error;
 mod file_dest;
 mod format;
@@ -18,7 +19,6 @@ mod migrate;
 mod old_pair;
 mod pair;
 mod pair_reading;
-mod entry_reading;
 mod replace;
 mod room;
 mod through;

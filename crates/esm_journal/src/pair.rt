@@ -140,7 +140,8 @@ impl<D: Disk> Pair<D> {
 
     /// Makes an empty disk a fresh `journal.esm` without payloads, with all of it on the disk. Beside a fresh
     /// `spare.esm` it opens to no payload, each of the two in whichever place. `NotEmpty` where the disk has bytes, with
-    /// their number. To a disk that has bytes nothing is written, whatever the answer.
+    /// their number. To a disk that has bytes nothing is written, whatever the answer; after another error than
+    /// `DiskFault` nothing has changed. No crash since the call began leaves a payload that was not there.
     pub fn first(disk: D) -> Result<D, Refused<InitError, D>>
         // What Ok leaves.
         ensures bytes { D.honest disk ≡ true → IfOk result (λ made. D.content made ≡ fresh_file (header_of 2)) }

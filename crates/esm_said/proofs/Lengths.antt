@@ -1,6 +1,6 @@
 -- No payload of the shorter list is too long for a journal.
-use Rattle.std.proofs.Common.{◌≡◌, ℕ, zero, suc, ◌+◌, ◌*◌, ◌<◌, ◌≤◌, ◌&&◌, ◌==◌, nat_le, nat_lt, Bool, true, false, List, [], ◌∷◌, ◌++◌, length, Option, Some, None, if◌then◌else◌, refl, sym, subst, arith}
-use Rattle.std.specs.Prelude.{map, reverse, IfSome}
+use Rattle.std.proofs.Common.{◌≡◌, ℕ, zero, suc, ◌*◌, ◌<◌, ◌≤◌, ◌&&◌, ◌==◌, nat_le, nat_lt, Bool, true, false, List, [], ◌∷◌, ◌++◌, length, Option, Some, None, if◌then◌else◌, refl, sym, subst, arith}
+use Rattle.std.specs.Prelude.{map, IfSome}
 use Rattle.std.specs.List.{All, AllByRecursion, list_all}
 use Rattle.std.proofs.lemmas.Bool.{and_parts}
 use Rattle.std.proofs.lemmas.Bool.Decides.{nat_tests}
@@ -78,23 +78,57 @@ IsFew (Replayed shard moment places texts) = length places ≤ 10000
 said_size : (said : Said) → IsSaid said → IsFew said → length (payload_of said) ≤ MAX_PAYLOAD
 said_size (Fates shard fate moment state places texts) is few =
     let behind = flagged_bytes state ++ named_bytes places texts in
-    omega (arith, length-append (eight shard) (fate_byte fate ∷ (eight moment ++ behind)), eight_size shard, length-append (eight moment) behind, eight_size moment,
-    length-append (flagged_bytes state) (named_bytes places texts), flagged_size state is.2, named_size is_sequence sequence_size places texts is.4 few)
+    omega (
+      arith,
+      length-append (eight shard) (fate_byte fate ∷ (eight moment ++ behind)),
+      eight_size shard,
+      length-append (eight moment) behind,
+      eight_size moment,
+      length-append (flagged_bytes state) (named_bytes places texts),
+      flagged_size state is.2,
+      named_size is_sequence sequence_size places texts is.4 few,
+    )
 said_size (Closed shard window moment) is few =
     omega (arith, length-append (eight shard) (eight window ++ eight moment), eight_size shard, length-append (eight window) (eight moment), eight_size window, eight_size moment)
 said_size (Deleted fate moment places texts) is few =
     omega (arith, length-append (eight moment) (named_bytes places texts), eight_size moment, named_size is_message_id id_size places texts is.2 few)
 said_size (State shard moment state) is few =
     let text = text_bytes state.text in
-    omega (arith, length-append (eight shard) (eight state.window ++ (eight moment ++ text)), eight_size shard, length-append (eight state.window) (eight moment ++ text), eight_size state.window,
-    length-append (eight moment) text, eight_size moment, length-append (four (length state.text)) state.text, four_size (length state.text), is.2.1)
+    omega (
+      arith,
+      length-append (eight shard) (eight state.window ++ (eight moment ++ text)),
+      eight_size shard,
+      length-append (eight state.window) (eight moment ++ text),
+      eight_size state.window,
+      length-append (eight moment) text,
+      eight_size moment,
+      length-append (four (length state.text)) state.text,
+      four_size (length state.text),
+      is.2.1,
+    )
 said_size (Tried shard moment tries places texts) is few =
     let named = named_bytes places texts in
-    omega (arith, length-append (eight shard) (eight moment ++ (four tries ++ named)), eight_size shard, length-append (eight moment) (four tries ++ named), eight_size moment,
-    length-append (four tries) named, four_size tries, named_size is_sequence sequence_size places texts is.3 few)
+    omega (
+      arith,
+      length-append (eight shard) (eight moment ++ (four tries ++ named)),
+      eight_size shard,
+      length-append (eight moment) (four tries ++ named),
+      eight_size moment,
+      length-append (four tries) named,
+      four_size tries,
+      named_size is_sequence sequence_size places texts is.3 few,
+    )
 said_size (WindowTried shard window moment tries) is few =
-    omega (arith, length-append (eight shard) (eight window ++ (eight moment ++ four tries)), eight_size shard, length-append (eight window) (eight moment ++ four tries), eight_size window,
-    length-append (eight moment) (four tries), eight_size moment, four_size tries)
+    omega (
+      arith,
+      length-append (eight shard) (eight window ++ (eight moment ++ four tries)),
+      eight_size shard,
+      length-append (eight window) (eight moment ++ four tries),
+      eight_size window,
+      length-append (eight moment) (four tries),
+      eight_size moment,
+      four_size tries,
+    )
 said_size (Replayed shard moment places texts) is few =
     let named = named_bytes places texts in
     omega (arith, length-append (eight shard) (eight moment ++ named), eight_size shard, length-append (eight moment) named, eight_size moment, named_size is_sequence sequence_size places texts is.2 few)

@@ -14,7 +14,7 @@ use crate::error::SaysError;
 use crate::history::table_of;
 use crate::piece::{Piece, pieces_of};
 use crate::regroup::{by_deletion, by_fate, by_replay, by_tries};
-use crate::table::{Table, Window, copied_state};
+use crate::table::{Table, Window};
 use esm_model::{Bytes, Fate, MAX_PAYLOAD, OutOfMemory, WindowState};
 use esm_payload::laws::read_again;
 use esm_payload::{Said, read_said, said_bytes};
