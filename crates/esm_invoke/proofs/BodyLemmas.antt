@@ -15,7 +15,8 @@ use Rattle.esm_invoke.specs.declared.body.BodyReader.{BodyReader}
 use Rattle.esm_invoke.specs.declared.body.Step.{Step}
 use Rattle.esm_invoke.specs.declared.body.Step.TheVariants.{Data, More, Whole, Never}
 use Rattle.esm_invoke.specs.declared.head.Head.{Head}
-use Rattle.esm_invoke.specs.Response.{MAX_BODY, MAX_LINES, MAX_RESPONSE, limits}
+use Rattle.esm_model.specs.declared.limits.TheConstants.{MAX_BODY, MAX_HEADER_LINES, MAX_RESPONSE}
+use Rattle.esm_invoke.specs.Response.{limits}
 use Rattle.esm_invoke.specs.ResponseRead.{Awaits, IsUnfinished, HoldsBody, NeverHoldsBody, TakesPiece, TakesStep}
 
 -- a decoder of a body up to the link's end stays one, and no other becomes one
@@ -102,12 +103,12 @@ module _ (bytes : List ℕ) (r new : BodyReader) (spans : List HeaderSpan) (n co
       let stuck : [] ≡ drop r.at bytes ++ 1 ∷ [] = (subst (λ d. Completes d (drop r.at bytes ++ 1 ∷ []) (body_of [] ends.trailers) (drop n (drop r.at bytes) ++ 1 ∷ [])) e (ends.completes (1 ∷ []))).0 in
       omega (arith, ap length stuck, length-append (drop r.at bytes) (1 ∷ []))
 
-  few : length spans ≤ MAX_LINES → length ends.trailers ≤ MAX_LINES
+  few : length spans ≤ MAX_HEADER_LINES → length ends.trailers ≤ MAX_HEADER_LINES
   few room =
       let same = ap length ends.covered in
       omega (arith, room, same, length-map (take count spans) (header_bytes (drop r.at bytes)), length-map ends.trailers name_and_value, length-take-le count spans ends.within.count_fits, ends.within.count_fits)
 
-  pub holds_body : length spans ≤ MAX_LINES → new.at ≤ MAX_RESPONSE → HoldsBody false bytes new
+  pub holds_body : length spans ≤ MAX_HEADER_LINES → new.at ≤ MAX_RESPONSE → HoldsBody false bytes new
   holds_body room short = record {
     body = body;
     rest = drop new.at bytes;

@@ -10,6 +10,7 @@ use Rattle.httparse.specs.declared.spans.HeaderSpan.{HeaderSpan}
 use Rattle.httparse.specs.declared.spans.ResponseSpans.{ResponseSpans}
 use Rattle.httparse.proofs.GrammarLemmas.{ReadsResponse-append, response_prefix_free}
 use Rattle.http1.proofs.TextLemmas.{front_within}
+use Rattle.esm_model.specs.declared.limits.TheConstants.{MAX_HEAD}
 use Rattle.esm_invoke.specs.declared.head.Head.{Head}
 use Rattle.esm_invoke.specs.declared.head.HeadSearch.{HeadSearch}
 use Rattle.esm_invoke.specs.declared.head.HeadSearch.TheVariants.{Found, More, Never}
@@ -74,7 +75,7 @@ empty_line_found front rest lf =
 
 -- no empty line ends behind the bytes that were looked at: no head does
 pub no_head_without_empty_line : (bytes : List ℕ) (looked : ℕ) → HasNoHead looked bytes
-    → ((k : ℕ) → looked ≤ k → k < length bytes → ends_empty_line bytes k ≡ false) → HasNoHead (min (length bytes) 16384) bytes
+    → ((k : ℕ) → looked ≤ k → k < length bytes → ends_empty_line bytes k ≡ false) → HasNoHead (min (length bytes) MAX_HEAD) bytes
 no_head_without_empty_line bytes looked before none = record {
   none = λ more tree rest reads.
       let ends = print_response_ends tree in

@@ -124,6 +124,10 @@ answered_at_end bytes r begins awaits unfinished close =
 pub reads_on : (a b c : Option Talk) (before after : List ℕ) → Reads a b before → ReadsMore b c before after → Reads a c after
 reads_on a b c before after first more = subst (Reads a c) (sym more.grown) (Reads_then a b c before more.piece first more.reads)
 
+-- a read behind bytes that were moved to a larger buffer
+pub reads_behind : (a b c : Option Talk) (before front after : List ℕ) → Reads a b before → front ≡ before → ReadsMore b c front after → Reads a c after
+reads_behind a b c before front after first same more = reads_on a b c before after first (subst (λ t. ReadsMore b c t after) same more)
+
 pub no_head_in_none : HasNoHead 0 []
 no_head_in_none = record {
   none = λ more tree rest reads.
@@ -137,6 +141,9 @@ more_then a b c before mid after first next = record {
   grown = next.grown ∙ ap (λ t. t ++ next.piece) first.grown ∙ append_assoc before first.piece next.piece;
   reads = Reads_then a b c first.piece next.piece first.reads next.reads;
 }
+
+pub more_behind : (a b c : Option Talk) (start before front after : List ℕ) → ReadsMore a b start before → front ≡ before → ReadsMore b c front after → ReadsMore a c start after
+more_behind a b c start before front after first same more = more_then a b c start before after first (subst (λ t. ReadsMore b c t after) same more)
 
 pub no_more : (a : Option Talk) (bytes : List ℕ) → ReadsMore a a bytes bytes
 no_more a bytes = record { piece = []; grown = sym (append-nil bytes); reads = Reads_none a }
@@ -276,27 +283,48 @@ replies_garbled (Ok reply) old new bytes reads stops is = λ other. record {
 }
 replies_garbled (Err e) old new bytes reads stops is = tt
 
-pub answers_after : (r : Result Reply OutOfMemory) (old mid new : Option Talk) (request : List ℕ) → Writes old mid request
-    → IfOk r (λ reply. reply ≢ Lost → Replies mid new [] reply) → IfOk r (λ reply. reply ≢ Lost → Answers old new request reply)
-answers_after (Ok reply) old mid new request writes replied = λ other.
+pub answers_after : {L : Type 0} (told : L → Option Talk) (r : Result Reply OutOfMemory) (old middle new : L) (request : List ℕ) → Writes (told old) (told middle) request
+    → IfOk r (λ reply. reply ≢ Lost → Replies (told middle) (told new) [] reply) → IfOk r (λ reply. reply ≢ Lost → Answers told old new request reply)
+answers_after told (Ok reply) old middle new request writes replied = λ other.
     let next = replied other in record {
       read = next.read;
       ended = next.ended;
-      exchanges = (mid, writes, next.reads);
+      exchanges = record { middle = middle; writes = writes; reads = next.reads };
       at_end = next.at_end;
       is_reply = next.is_reply;
     }
-answers_after (Err e) old mid new request writes replied = tt
+answers_after told (Err e) old middle new request writes replied = tt
 
-pub sends_none : (t : Option Talk) (request : List ℕ) → SendsPart t t request
-sends_none t request = record { sent = []; unsent = request; read = []; parts = refl; exchanges = (t, Writes_none t, Reads_none t) }
+pub sends_none : {L : Type 0} (told : L → Option Talk) (link : L) (request : List ℕ) → SendsPart told link link request
+sends_none told link request = record {
+  sent = [];
+  unsent = request;
+  read = [];
+  parts = refl;
+  whole_first = λ some. absurd (some refl);
+  exchanges = record { middle = link; writes = Writes_none (told link); reads = Reads_none (told link) };
+}
 
-pub sends_part : (old new : Option Talk) (request : List ℕ) → WritesPart old new request → SendsPart old new request
-sends_part old new request part = record { sent = part.sent; unsent = part.unsent; read = []; parts = part.parts; exchanges = (new, part.writes, Reads_none new) }
+pub sends_part : {L : Type 0} (told : L → Option Talk) (old new : L) (request : List ℕ) → WritesPart (told old) (told new) request → SendsPart told old new request
+sends_part told old new request part = record {
+  sent = part.sent;
+  unsent = part.unsent;
+  read = [];
+  parts = part.parts;
+  whole_first = λ some. absurd (some refl);
+  exchanges = record { middle = new; writes = part.writes; reads = Reads_none (told new) };
+}
 
-pub sends_all : (old mid new : Option Talk) (request : List ℕ) → Writes old mid request → ReadsSome mid new → SendsPart old new request
-sends_all old mid new request writes read =
-    record { sent = request; unsent = []; read = read.0; parts = sym (append-nil request); exchanges = (mid, writes, read.1) }
+pub sends_all : {L : Type 0} (told : L → Option Talk) (old middle new : L) (request : List ℕ) → Writes (told old) (told middle) request → ReadsSome (told middle) (told new)
+    → SendsPart told old new request
+sends_all told old middle new request writes read = record {
+  sent = request;
+  unsent = [];
+  read = read.0;
+  parts = sym (append-nil request);
+  whole_first = λ _. refl;
+  exchanges = record { middle = middle; writes = writes; reads = read.1 };
+}
 
 pub request_some : (name event : List ℕ) → 0 < length (request_text name event)
 unfolding request_line

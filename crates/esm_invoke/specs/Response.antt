@@ -17,25 +17,10 @@ use Rattle.http1.specs.Body.{Body, ReadsBody}
 use Rattle.http1.specs.Fields.{Header, is_named, known_fields}
 use Rattle.esm_model.specs.declared.entry.Reply.{Reply}
 use Rattle.esm_model.specs.declared.entry.Reply.TheVariants.{Answered, Garbled, Lost}
+use Rattle.esm_model.specs.declared.limits.TheConstants.{MAX_HEAD, MAX_HEADER_LINES, MAX_BODY, MAX_RESPONSE}
 use Rattle.esm_invoke.specs.declared.head.Head.{Head}
 
--- the greatest length of a head, and of a trailer section, in bytes
-abbrev pub MAX_HEAD : ℕ
-MAX_HEAD = 16384
-
--- the most header lines of a head, and of a trailer section
-abbrev pub MAX_LINES : ℕ
-MAX_LINES = 64
-
--- the greatest length of a body, in bytes
-abbrev pub MAX_BODY : ℕ
-MAX_BODY = 6291456
-
--- the greatest length of a response up to its body's end, in bytes
-abbrev pub MAX_RESPONSE : ℕ
-MAX_RESPONSE = 8388608
-
--- these as the limits of the grammar of bodies; chunk extensions have none of their own
+-- the limits of the grammar of bodies: a trailer section has those of a head, chunk extensions none of their own
 abbrev pub limits : Limits
 limits = record { max_head_len = MAX_HEAD; max_extensions_len = MAX_RESPONSE; max_trailers_len = MAX_HEAD }
 
@@ -75,12 +60,12 @@ pub record BeginsWith (bytes : List ℕ) (head : Head) (after : List ℕ) : Type
   pub says : Says tree head
   pub known : IsStatusCode head.status
   pub short : head.len ≤ MAX_HEAD
-  pub few : length tree.fields ≤ MAX_LINES
+  pub few : length tree.fields ≤ MAX_HEADER_LINES
 
 -- the body is within the limits; one up to the link's end is whole only there
 pub record IsBodyWithin (ended : Bool) (bytes : List ℕ) (framing : Framing) (body : Body) (rest : List ℕ) : Type 0 where
   pub content : length body.bytes ≤ MAX_BODY
-  pub few : length body.trailers ≤ MAX_LINES
+  pub few : length body.trailers ≤ MAX_HEADER_LINES
   pub whole : length bytes ≤ MAX_RESPONSE + length rest
   pub closed : framing ≡ UntilClose → ended ≡ true
 

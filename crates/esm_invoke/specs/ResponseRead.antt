@@ -19,7 +19,8 @@ use Rattle.esm_invoke.specs.declared.body.Step.{Step}
 use Rattle.esm_invoke.specs.declared.body.Step.TheVariants as Taken
 use Rattle.esm_invoke.specs.declared.body.Progress.{Progress}
 use Rattle.esm_invoke.specs.declared.body.Progress.TheVariants as Comes
-use Rattle.esm_invoke.specs.Response.{Says, BeginsWith, IsBodyWithin, MAX_BODY, limits}
+use Rattle.esm_model.specs.declared.limits.TheConstants.{MAX_BODY}
+use Rattle.esm_invoke.specs.Response.{Says, BeginsWith, IsBodyWithin, limits}
 
 -- an empty line ends at this place: a line feed behind another, with or without a carriage return between them
 abbrev pub ends_empty_line : List ℕ → ℕ → Bool

@@ -1,24 +1,18 @@
 // The body of a response.
 ghost use Rattle.std.specs.Prelude.{◌≡◌, ◌+◌, ◌^◌, ◌<◌, ◌≤◌, [], length, IfOk};
 ghost use Rattle.http1.specs.Decoder.{decoder_for};
-ghost use Rattle.esm_invoke.specs.Response.{limits, MAX_BODY};
+ghost use Rattle.esm_invoke.specs.Response.{limits};
 ghost use Rattle.esm_invoke.specs.ResponseRead.{Awaits, TakesPiece, TakesStep, HasRead};
 
-use crate::head::{Head, MAX_HEAD, MAX_LINES};
-use esm_model::OutOfMemory;
+use crate::head::Head;
+use esm_model::{MAX_BODY, MAX_HEAD, MAX_HEADER_LINES, MAX_RESPONSE, OutOfMemory};
 use http1::Limits;
 use http1::decode::{Decoded, Decoder};
 use httparse::spans::{EMPTY_HEADER_SPAN, Span};
 use std::alloc::Global;
 
-/// The greatest length of a body, in bytes.
-pub const MAX_BODY: usize = 6_291_456;
-
-/// The greatest length of a response up to its body's end, in bytes.
-pub const MAX_RESPONSE: usize = 8_388_608;
-
 /// Reads a body as its bytes come: chunked, of a stated length, or up to the link's end.
-#[derive(Drop, Debug)]
+#[derive(Drop)]
 pub struct BodyReader {
     pub head: Head,
     pub decoder: Decoder,
@@ -29,7 +23,7 @@ pub struct BodyReader {
 }
 
 /// What one call of the decoder came to.
-#[derive(Clone, Copy, Debug, PartialEq, Eq)]
+#[derive(Clone, Copy)]
 pub enum Step {
     /// A piece of the content.
     Data,
@@ -42,7 +36,7 @@ pub enum Step {
 }
 
 /// What the bytes so far come to.
-#[derive(Clone, Copy, Debug, PartialEq, Eq)]
+#[derive(Clone, Copy)]
 pub enum Progress {
     /// The body goes on.
     More,
@@ -96,7 +90,7 @@ impl BodyReader {
         ensures taken { IfOk result (TakesStep bytes.now self.old self.new) }
     {
         let (_, input) = bytes.split_at(self.at);
-        let mut trailers = [EMPTY_HEADER_SPAN; MAX_LINES];
+        let mut trailers = [EMPTY_HEADER_SPAN; MAX_HEADER_LINES];
         match self.decoder.decode(input, &mut trailers) {
             Ok(Decoded::Data(span)) => self.take(input, span),
             Ok(Decoded::NeedMore(len)) => {

@@ -12,16 +12,16 @@ use crate::body::{BodyReader, Progress};
 use crate::head::{Head, HeadSearch, find_head};
 use crate::request::request;
 use esm_io::{Failed, Link};
-use esm_model::{Bytes, OutOfMemory, Reply};
+use esm_model::{Bytes, MAX_RESPONSE, OutOfMemory, Reply};
 use http1::decode::Decoder;
 use std::alloc::Global;
 use std::mem;
 
-/// The length of the work area of a call, in bytes: one above the greatest response.
-pub const BUFFER_LEN: usize = 8_388_609;
+/// The length of a work area when it first grows, in bytes.
+const FIRST_ROOM: usize = 4_096;
 
 /// What came of reading up to the end of the head.
-#[derive(Clone, Copy, Debug, PartialEq, Eq)]
+#[derive(Clone, Copy)]
 pub enum HeadReceived {
     /// The head, with the number of bytes read.
     Head(Head, usize),
@@ -33,8 +33,9 @@ pub enum HeadReceived {
 /// Calls the function `name` with the event over a link: writes the whole request, then reads until a prefix of the
 /// bytes read is a whole response, until no continuation of them is one, until they are more than 8,388,608, or up to
 /// the link's end. `Garbled` gives the bytes read, which hold no response. `Lost` only where the link's count of faults
-/// rose. `buffer` is a work area; what it holds has no effect, and means nothing afterwards. After `OutOfMemory` a part
-/// of the request may have been sent (Lambda API Reference of 2015-03-31, `Invoke`; RFC 9112).
+/// rose. `buffer` is a work area that grows with what is read and keeps its room for the next call; what it holds has no
+/// effect, and means nothing afterwards. After `OutOfMemory` a part of the request may have been sent, or all of it and
+/// bytes read (Lambda API Reference of 2015-03-31, `Invoke`; RFC 9112).
 pub fn invoke<L: Link>(
     alloc: Global,
     link: &mut L,
@@ -42,20 +43,52 @@ pub fn invoke<L: Link>(
     event: &[u8],
     buffer: &mut Vec<u8>,
 ) -> Result<Reply, OutOfMemory>
-    requires { vec_len buffer.old ≡ BUFFER_LEN }
     ensures answered { IfOk result (λ reply. reply ≢ Reply.Lost
-        → Answers (L.told link.old) (L.told link.new) (request_text name.now event.now) reply) }
+        → Answers L.told link.old link.new (request_text name.now event.now) reply) }
     ensures lost { IfOk result (λ reply. reply ≡ Reply.Lost → Rose (L.faults link.old) (L.faults link.new)) }
-    ensures sent { SendsPart (L.told link.old) (L.told link.new) (request_text name.now event.now) }
+    ensures sent { SendsPart L.told link.old link.new (request_text name.now event.now) }
     ensures count { OnOk result (IsCount (L.faults link.old) (L.faults link.new)) }
     ensures never_falls { L.faults link.old ≤ L.faults link.new }
-    ensures buffer { vec_len buffer.new ≡ vec_len buffer.old }
+    ensures buffer { vec_len buffer.new ≤ MAX_RESPONSE + 1 }
 {
+    buffer.truncate(MAX_RESPONSE + 1);
     let request = request(alloc, name, event)?;
     match send(link, &request) {
-        Ok(()) => receive(alloc, link, buffer.as_mut_slice()),
+        Ok(()) => receive(alloc, link, buffer),
         Err(_) => Ok(Reply::Lost),
     }
+}
+
+/// Calls over a link as `invoke` does, and counts in `faults`, the caller's own count, a call that is lost.
+pub fn call_over<L: Link>(
+    alloc: Global,
+    link: &mut L,
+    name: &str,
+    event: &[u8],
+    buffer: &mut Vec<u8>,
+    faults: &mut u64,
+) -> Result<Reply, OutOfMemory>
+    // As of `invoke`.
+    ensures answered { IfOk result (λ reply. reply ≢ Reply.Lost
+        → Answers L.told link.old link.new (request_text name.now event.now) reply) }
+    ensures lost { IfOk result (λ reply. reply ≡ Reply.Lost → Rose (L.faults link.old) (L.faults link.new)) }
+    ensures sent { SendsPart L.told link.old link.new (request_text name.now event.now) }
+    ensures count { OnOk result (IsCount (L.faults link.old) (L.faults link.new)) }
+    ensures never_falls { L.faults link.old ≤ L.faults link.new }
+    ensures buffer { vec_len buffer.new ≤ MAX_RESPONSE + 1 }
+
+    // The caller's own count.
+    ensures raised { IfOk result (λ reply. reply ≡ Reply.Lost → Rose faults.old faults.new) }
+    ensures kept { IfOk result (λ reply. reply ≢ Reply.Lost → faults.new ≡ faults.old) }
+    ensures kept_without_memory { OnErr result (faults.new ≡ faults.old) }
+    ensures own_count { IsCount faults.old faults.new }
+{
+    let before = *faults;
+    let reply = invoke(alloc, link, name, event, buffer)?;
+    if matches!(&reply, Reply::Lost) {
+        *faults = before.saturating_add(1);
+    }
+    Ok(reply)
 }
 
 /// Sends the bytes. `Failed` only where the link's count of faults rose; a part may have been sent then.
@@ -74,33 +107,67 @@ fn send<L: Link>(link: &mut L, bytes: &[u8]) -> Result<(), Failed>
     Ok(())
 }
 
+/// Makes room behind the first `filled` bytes of the buffer where there is none: it doubles.
+fn make_room(buffer: &mut Vec<u8>, filled: usize) -> Result<(), OutOfMemory>
+    requires short { filled ≤ MAX_RESPONSE }
+    requires within { filled ≤ vec_len buffer.old }
+    requires bound { vec_len buffer.old ≤ MAX_RESPONSE + 1 }
+    ensures room { OnOk result (filled < vec_len buffer.new) }
+    ensures front { take filled buffer.new.items ≡ take filled buffer.old.items }
+    ensures bound { vec_len buffer.new ≤ MAX_RESPONSE + 1 }
+{
+    let len = buffer.len();
+    if filled < len {
+        return Ok(());
+    }
+    let more = len.max(FIRST_ROOM).min(MAX_RESPONSE + 1 - len);
+    buffer.reserve_exact(more)?;
+    buffer.resize(len + more, 0)?;
+    Ok(())
+}
+
 /// Reads behind the first `filled` bytes of the buffer, and answers how many; 0 is the link's end.
-fn read_more<L: Link>(link: &mut L, buffer: &mut [u8], filled: usize) -> Result<usize, Failed>
-    requires { filled < length buffer.old }
-    ensures within { IfOk result (λ n. filled + n ≤ length buffer.new) }
-    ensures read { IfOk result (λ n. ReadsMore (L.told link.old) (L.told link.new) (take filled buffer.old) (take (filled + n) buffer.new)) }
+fn read_more<L: Link>(link: &mut L, buffer: &mut Vec<u8>, filled: usize) -> Result<usize, Failed>
+    requires { filled < vec_len buffer.old }
+    ensures within { IfOk result (λ n. filled + n ≤ vec_len buffer.new) }
+    ensures read { IfOk result (λ n. ReadsMore (L.told link.old) (L.told link.new) (take filled buffer.old.items) (take (filled + n) buffer.new.items)) }
+    ensures end { IfOk result (λ n. n ≡ 0 → IsReadOut (L.told link.new)) }
+    ensures unread { OnErr result (L.told link.new ≡ L.told link.old) }
+    ensures count { IsCount (L.faults link.old) (L.faults link.new) }
+    ensures cause { OnErr result (Rose (L.faults link.old) (L.faults link.new)) }
+    ensures room { vec_len buffer.new ≡ vec_len buffer.old }
+{
+    read_behind(link, buffer.as_mut_slice(), filled)
+}
+
+/// The same, over the bytes of the buffer.
+fn read_behind<L: Link>(link: &mut L, bytes: &mut [u8], filled: usize) -> Result<usize, Failed>
+    requires { filled < length bytes.old }
+    ensures within { IfOk result (λ n. filled + n ≤ length bytes.new) }
+    ensures read { IfOk result (λ n. ReadsMore (L.told link.old) (L.told link.new) (take filled bytes.old) (take (filled + n) bytes.new)) }
     ensures end { IfOk result (λ n. n ≡ 0 → IsReadOut (L.told link.new)) }
     ensures unread { OnErr result (L.told link.new ≡ L.told link.old) }
     ensures count { IsCount (L.faults link.old) (L.faults link.new) }
     ensures cause { OnErr result (Rose (L.faults link.old) (L.faults link.new)) }
 {
-    let (_, rest) = buffer.split_at_mut(filled);
+    let (_, rest) = bytes.split_at_mut(filled);
     link.read(rest)
 }
 
 /// Reads until the reply is known. `Lost` only where the link's count of faults rose.
-fn receive<L: Link>(alloc: Global, link: &mut L, buffer: &mut [u8]) -> Result<Reply, OutOfMemory>
-    requires room { length buffer.old ≡ BUFFER_LEN }
+fn receive<L: Link>(alloc: Global, link: &mut L, buffer: &mut Vec<u8>) -> Result<Reply, OutOfMemory>
+    requires room { vec_len buffer.old ≤ MAX_RESPONSE + 1 }
     requires counted { L.faults link.old ≤ MAX_FAULTS }
     ensures read { ReadsSome (L.told link.old) (L.told link.new) }
     ensures replied { IfOk result (λ reply. reply ≢ Reply.Lost → Replies (L.told link.old) (L.told link.new) [] reply) }
     ensures lost { IfOk result (λ reply. reply ≡ Reply.Lost → Rose (L.faults link.old) (L.faults link.new)) }
     ensures count { IsCount (L.faults link.old) (L.faults link.new) }
+    ensures room { vec_len buffer.new ≤ MAX_RESPONSE + 1 }
 {
-    match receive_head(link, buffer) {
+    match receive_head(link, buffer)? {
         HeadReceived::Head(head, filled) => receive_body(alloc, link, buffer, head, filled),
         HeadReceived::Garbled(filled) => {
-            let (bytes, _) = buffer.split_at(filled);
+            let (bytes, _) = buffer.as_slice().split_at(filled);
             garbled(alloc, bytes)
         }
         HeadReceived::Lost => Ok(Reply::Lost),
@@ -108,63 +175,68 @@ fn receive<L: Link>(alloc: Global, link: &mut L, buffer: &mut [u8]) -> Result<Re
 }
 
 /// Reads up to the end of the head. `Lost` only where the link's count of faults rose.
-fn receive_head<L: Link>(link: &mut L, buffer: &mut [u8]) -> HeadReceived
-    requires room { length buffer.old ≡ BUFFER_LEN }
+fn receive_head<L: Link>(link: &mut L, buffer: &mut Vec<u8>) -> Result<HeadReceived, OutOfMemory>
+    requires room { vec_len buffer.old ≤ MAX_RESPONSE + 1 }
     requires counted { L.faults link.old ≤ MAX_FAULTS }
-    ensures received { ReceivesHead (L.told link.old) (L.told link.new) buffer.new result }
-    ensures lost { result ≡ HeadReceived.Lost → Rose (L.faults link.old) (L.faults link.new) }
+    ensures read { ReadsSome (L.told link.old) (L.told link.new) }
+    ensures received { IfOk result (ReceivesHead (L.told link.old) (L.told link.new) buffer.new.items) }
+    ensures lost { IfOk result (λ received. received ≡ HeadReceived.Lost → Rose (L.faults link.old) (L.faults link.new)) }
     ensures count { IsCount (L.faults link.old) (L.faults link.new) }
+    ensures room { vec_len buffer.new ≤ MAX_RESPONSE + 1 }
 {
     let mut filled = 0;
-    while filled < buffer.len() {
+    while filled <= MAX_RESPONSE {
         let looked = filled;
+        make_room(buffer, looked)?;
         let count = match read_more(link, buffer, looked) {
             Ok(count) => count,
-            Err(_) => return HeadReceived::Lost,
+            Err(_) => return Ok(HeadReceived::Lost),
         };
         filled += count;
-        let (bytes, _) = buffer.split_at(filled);
+        let (bytes, _) = buffer.as_slice().split_at(filled);
         match find_head(bytes, looked) {
-            HeadSearch::Found(head) => return HeadReceived::Head(head, filled),
+            HeadSearch::Found(head) => return Ok(HeadReceived::Head(head, filled)),
             HeadSearch::More if count > 0 => {}
-            HeadSearch::More => return HeadReceived::Garbled(filled),
-            HeadSearch::Never => return HeadReceived::Garbled(filled),
+            HeadSearch::More => return Ok(HeadReceived::Garbled(filled)),
+            HeadSearch::Never => return Ok(HeadReceived::Garbled(filled)),
         }
     }
-    HeadReceived::Garbled(filled)
+    Ok(HeadReceived::Garbled(filled))
 }
 
 /// Reads on until the body is whole or can't become so. `Lost` only where the link's count of faults rose.
 fn receive_body<L: Link>(
     alloc: Global,
     link: &mut L,
-    buffer: &mut [u8],
+    buffer: &mut Vec<u8>,
     head: Head,
     first: usize,
 ) -> Result<Reply, OutOfMemory>
-    requires within { first ≤ length buffer.old }
+    requires within { first ≤ vec_len buffer.old }
     requires len { head.len ≤ first }
-    requires begins { BeginsWith (take first buffer.old) head (drop head.len (take first buffer.old)) }
-    requires room { length buffer.old ≡ BUFFER_LEN }
+    requires begins { BeginsWith (take first buffer.old.items) head (drop head.len (take first buffer.old.items)) }
+    requires room { vec_len buffer.old ≤ MAX_RESPONSE + 1 }
     requires counted { L.faults link.old ≤ MAX_FAULTS }
     ensures read { ReadsSome (L.told link.old) (L.told link.new) }
-    ensures replied { IfOk result (λ reply. reply ≢ Reply.Lost → Replies (L.told link.old) (L.told link.new) (take first buffer.old) reply) }
+    ensures replied { IfOk result (λ reply. reply ≢ Reply.Lost → Replies (L.told link.old) (L.told link.new) (take first buffer.old.items) reply) }
     ensures lost { IfOk result (λ reply. reply ≡ Reply.Lost → Rose (L.faults link.old) (L.faults link.new)) }
     ensures count { IsCount (L.faults link.old) (L.faults link.new) }
+    ensures room { vec_len buffer.new ≤ MAX_RESPONSE + 1 }
 {
     let mut body = BodyReader::new(alloc, head);
     let mut filled = first;
     loop {
-        let (bytes, _) = buffer.split_at(filled);
+        let (bytes, _) = buffer.as_slice().split_at(filled);
         if let Some(reply) = settle(alloc, &mut body, bytes)? {
             return Ok(reply);
         }
-        if filled == buffer.len() {
-            return garbled(alloc, buffer);
+        if filled > MAX_RESPONSE {
+            return garbled(alloc, bytes);
         }
+        make_room(buffer, filled)?;
         match read_more(link, buffer, filled) {
             Ok(0) => {
-                let (bytes, _) = buffer.split_at(filled);
+                let (bytes, _) = buffer.as_slice().split_at(filled);
                 return close(alloc, &mut body, bytes);
             }
             Ok(count) => filled += count,

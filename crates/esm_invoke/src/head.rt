@@ -6,6 +6,7 @@ ghost use Rattle.http1.specs.Fields.{is_named, known_fields};
 ghost use Rattle.esm_invoke.specs.Response.{framing_of, framing_by_coding, has_function_error};
 ghost use Rattle.esm_invoke.specs.ResponseRead.{ends_empty_line, HasNoHead, NeverBegins, FindsHead, ParsesHead, SaysAt};
 
+use esm_model::{MAX_HEAD, MAX_HEADER_LINES};
 use http::StatusCode;
 use http1::fields::{ContentLength, KnownFields, TransferEncoding};
 use http1::framing::Framing;
@@ -13,14 +14,8 @@ use http1::text::eq_ignore_case;
 use httparse::Status;
 use httparse::spans::{EMPTY_HEADER_SPAN, HeaderSpan, ResponseSpans, parse_response};
 
-/// The greatest length of a head, in bytes.
-pub const MAX_HEAD: usize = 16_384;
-
-/// The most header lines of a head.
-pub const MAX_LINES: usize = 64;
-
 /// What the head of a response says.
-#[derive(Clone, Copy, Debug, PartialEq, Eq)]
+#[derive(Clone, Copy)]
 pub struct Head {
     /// Its length in bytes, where the body begins.
     pub len: usize,
@@ -32,7 +27,7 @@ pub struct Head {
 }
 
 /// What a search for the head found.
-#[derive(Clone, Copy, Debug, PartialEq, Eq)]
+#[derive(Clone, Copy)]
 pub enum HeadSearch {
     Found(Head),
     /// The head has not come whole.
@@ -58,7 +53,7 @@ pub fn find_head(bytes: &[u8], looked: usize) -> HeadSearch
 fn look(bytes: &[u8], looked: usize) -> HeadSearch
     requires within { looked ≤ length bytes.now }
     requires looked { HasNoHead looked bytes.now }
-    ensures { ParsesHead bytes.now (min (length bytes.now) 16384) result }
+    ensures { ParsesHead bytes.now (min (length bytes.now) MAX_HEAD) result }
 {
     if !has_empty_line(bytes, looked) {
         return HeadSearch::More;
@@ -92,10 +87,10 @@ fn ends_empty_line(bytes: &[u8], at: usize) -> bool
 
 /// Parses the head at the front of the bytes, which are no more than a head may have.
 fn parse(bytes: &[u8]) -> HeadSearch
-    requires { length bytes.now ≤ 16384 }
+    requires { length bytes.now ≤ MAX_HEAD }
     ensures { ParsesHead bytes.now (length bytes.now) result }
 {
-    let mut lines = [EMPTY_HEADER_SPAN; MAX_LINES];
+    let mut lines = [EMPTY_HEADER_SPAN; MAX_HEADER_LINES];
     match parse_response(bytes, &mut lines) {
         Ok(Status::Complete(spans)) => match said(bytes, &lines, &spans) {
             Some(head) => HeadSearch::Found(head),

@@ -1,7 +1,8 @@
 // Calls of functions that a server on this machine runs.
-ghost use Rattle.std.specs.Prelude.{◌≡◌, None, vec_len};
+ghost use Rattle.std.specs.Prelude.{◌≤◌, None};
+ghost use Rattle.esm_io.specs.Faults.{MAX_FAULTS};
 
-use crate::call::{BUFFER_LEN, invoke};
+use crate::call::call_over;
 use esm_io::{Caller, TcpLink};
 use esm_model::{OutOfMemory, Reply};
 use std::alloc::Global;
@@ -13,18 +14,19 @@ use std::net::Net;
 pub struct HttpCaller<R: Net + Clone> {
     rt: R,
     port: u16,
+    /// The work area of the calls.
     buffer: Vec<u8>,
     faults: u64,
-    ghost room: { vec_len buffer ≡ 8388609 },
+    ghost counted: { faults ≤ MAX_FAULTS },
 }
 
 impl<R: Net + Clone> HttpCaller<R> {
-    /// Takes the work area of the calls; opens nothing.
+    /// Opens nothing, and takes no memory for its work area before the first call.
     pub fn new(rt: &R, alloc: Global, port: u16) -> Result<Self, OutOfMemory> {
         Ok(HttpCaller {
             rt: rt.clone()?,
             port,
-            buffer: vec![in alloc; 0; BUFFER_LEN]?,
+            buffer: Vec::new(alloc),
             faults: 0,
         })
     }
@@ -39,12 +41,7 @@ impl<R: Net + Clone> Caller for HttpCaller<R> {
 
     /// `Lost` where the connection cannot be made, and where a read or a write on it fails.
     fn call(&mut self, alloc: Global, name: &str, event: &[u8]) -> Result<Reply, OutOfMemory> {
-        let before = self.faults;
         let mut link = TcpLink::new(&self.rt, self.port)?;
-        let reply = invoke(alloc, &mut link, name, event, &mut self.buffer)?;
-        if matches!(&reply, Reply::Lost) {
-            self.faults = before.saturating_add(1);
-        }
-        Ok(reply)
+        call_over(alloc, &mut link, name, event, &mut self.buffer, &mut self.faults)
     }
 }

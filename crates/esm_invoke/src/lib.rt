@@ -3,15 +3,16 @@
 //! through the decoder of `http1` as it comes.
 #![tactic(auto)]
 
-pub mod body;
-pub mod call;
-pub mod head;
-pub mod http_caller;
-pub mod program_caller;
-pub mod request;
+mod body;
+mod call;
+mod crossing;
+mod head;
+mod http_caller;
+mod program_caller;
+mod request;
 #[cfg(test)]
 mod tests;
 
-pub use call::{BUFFER_LEN, invoke};
+pub use call::{call_over, invoke};
 pub use http_caller::HttpCaller;
 pub use program_caller::ProgramCaller;

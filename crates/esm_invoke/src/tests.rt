@@ -2,7 +2,7 @@
 ghost use Rattle.std.specs.Prelude.{◌<◌, ◌≤◌};
 
 use crate::request::request;
-use crate::{BUFFER_LEN, HttpCaller, invoke};
+use crate::{HttpCaller, invoke};
 use esm_io::{Caller, MemLink};
 use esm_model::{OutOfMemory, Reply};
 use std::alloc::{AllocError, Global};
@@ -23,7 +23,7 @@ fn reply_to(
     let bytes = Vec::from_slice(alloc, response)?;
     let fails = Vec::from_slice(alloc, fails)?;
     let mut link = MemLink::new(alloc, bytes, piece, fails);
-    let mut buffer = vec![in alloc; 0; BUFFER_LEN]?;
+    let mut buffer = Vec::new(alloc);
     invoke(alloc, &mut link, "f", b"{}", &mut buffer)
 }
 

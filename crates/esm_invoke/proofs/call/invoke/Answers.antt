@@ -5,7 +5,7 @@ use Rattle.esm_invoke.proofs.ReplyLemmas.{answers_after, sends_none, sends_part,
 use Rattle.esm_invoke.proofs.call.invoke.Goals as goal
 
 pub returns-in_err-request-clause-sent : goal.returns-in_err-request-clause-sent
-returns-in_err-request-clause-sent g c = sends_none _ _
+returns-in_err-request-clause-sent g c = sends_none g.L.Link.told _ _
 
 pub send-requires : goal.send-requires
 send-requires g c =
@@ -15,14 +15,14 @@ send-requires g c =
 pub returns-in-Ok-clause-answered : goal.returns-in-Ok-clause-answered
 returns-in-Ok-clause-answered g c =
     let text = c.deref.ensures.value ∙ c.in_ok-request.ensures in
-    answers_after c.receive.result _ _ _ _ (subst (Writes _ _) text c.in-Ok.ensures.sent) c.receive.ensures.replied
+    answers_after g.L.Link.told c.receive.result _ _ _ _ (subst (Writes _ _) text c.in-Ok.ensures.sent) c.receive.ensures.replied
 
 pub returns-in-Ok-clause-sent : goal.returns-in-Ok-clause-sent
 returns-in-Ok-clause-sent g c =
     let text = c.deref.ensures.value ∙ c.in_ok-request.ensures in
-    sends_all _ _ _ _ (subst (Writes _ _) text c.in-Ok.ensures.sent) c.receive.ensures.read
+    sends_all g.L.Link.told _ _ _ _ (subst (Writes _ _) text c.in-Ok.ensures.sent) c.receive.ensures.read
 
 pub returns-clause-sent : goal.returns-clause-sent
 returns-clause-sent g c =
     let text = c.deref.ensures.value ∙ c.in_ok-request.ensures in
-    sends_part _ _ _ (subst (WritesPart _ _) text c.send.ensures.part)
+    sends_part g.L.Link.told _ _ _ (subst (WritesPart _ _) text c.send.ensures.part)

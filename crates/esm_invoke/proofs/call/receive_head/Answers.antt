@@ -1,38 +1,46 @@
-use Rattle.std.proofs.Common.{◌≡◌, ◌+◌, true, false, length, take, drop, sym, refl, inl, inr, subst, arith}
+use Rattle.std.proofs.Common.{◌≡◌, ◌+◌, true, false, length, take, drop, sym, refl, ap, ◌∙◌, inl, inr, subst, arith, rules, vec_len}
 use Rattle.std.proofs.lemmas.Bool.{false≢true}
 use Rattle.std.proofs.lemmas.List.{length-take-le}
 use Rattle.esm_invoke.specs.Response.{BeginsWith, NeverHolds}
 use Rattle.esm_invoke.specs.ResponseRead.{HasNoHead, NeverBegins}
 use Rattle.esm_invoke.proofs.TalkLemmas.{Reads_none}
-use Rattle.esm_invoke.proofs.ReplyLemmas.{no_head_in_none, none_without_head, never_without_head, never_none, reads_on}
+use Rattle.esm_invoke.proofs.ReplyLemmas.{no_head_in_none, none_without_head, never_without_head, never_none, reads_behind}
 use Rattle.esm_invoke.proofs.call.receive_head.Goals as goal
 
 pub loop-filled-init : goal.loop-filled-init
 loop-filled-init g c = record {
   within = omega arith;
+  room = c.requires.room;
   read = Reads_none _;
   none = no_head_in_none;
   not_fallen = omega arith;
   counted = c.requires.counted;
 }
 
+pub returns-in-Found-clause-read : goal.returns-in-Found-clause-read
+returns-in-Found-clause-read g c = (_, reads_behind _ _ _ _ _ _ c.loop-filled.invariant.read c.in_ok-make_room.ensures.front c.in-Ok.ensures.read)
+
 pub returns-in-Found-clause-received : goal.returns-in-Found-clause-received
 returns-in-Found-clause-received g c =
-    let filled = c.loop-filled.filled + c.in-Ok.count in
-    let bytes_are = c.split_at.ensures.front in
+    let buffer = c.read_more.new.buffer in
+    let all : vec_len buffer ≡ length buffer.items = search rules in
+    let bytes_are = c.split_at.ensures.front ∙ ap (take (c.loop-filled.filled + c.in-Ok.count)) c.as_slice.ensures.value in
     let head = c.in-Found.head in (
-      c.in-Ok.ensures.within,
-      reads_on _ _ _ _ _ c.loop-filled.invariant.read c.in-Ok.ensures.read,
+      omega (arith, c.in-Ok.ensures.within),
+      reads_behind _ _ _ _ _ _ c.loop-filled.invariant.read c.in_ok-make_room.ensures.front c.in-Ok.ensures.read,
       subst (λ t. BeginsWith t head (drop head.len t)) bytes_are c.in-Found.ensures.0,
       omega (arith, c.in-Found.ensures.1, c.split_at.ensures.front_len),
     )
 
 pub returns-in-More-2-clause-received : goal.returns-in-More-2-clause-received
 returns-in-More-2-clause-received g c =
-    let bytes = take (c.loop-filled.filled + c.in-Ok.count) c.read_more.new.buffer in
-    let none : HasNoHead (length bytes) bytes = subst (λ t. HasNoHead (length t) t) c.split_at.ensures.front c.in-More-2.ensures in (
-      c.in-Ok.ensures.within,
-      reads_on _ _ _ _ _ c.loop-filled.invariant.read c.in-Ok.ensures.read,
+    let buffer = c.read_more.new.buffer in
+    let all : vec_len buffer ≡ length buffer.items = search rules in
+    let bytes = take (c.loop-filled.filled + c.in-Ok.count) buffer.items in
+    let bytes_are = c.split_at.ensures.front ∙ ap (take (c.loop-filled.filled + c.in-Ok.count)) c.as_slice.ensures.value in
+    let none : HasNoHead (length bytes) bytes = subst (λ t. HasNoHead (length t) t) bytes_are c.in-More-2.ensures in (
+      omega (arith, c.in-Ok.ensures.within),
+      reads_behind _ _ _ _ _ _ c.loop-filled.invariant.read c.in_ok-make_room.ensures.front c.in-Ok.ensures.read,
       record {
         ended = true;
         at_end = λ _. c.in-Ok.ensures.end (omega (arith, c.if-count-gt0.false));
@@ -41,12 +49,18 @@ returns-in-More-2-clause-received g c =
       },
     )
 
+pub returns-in-Never-clause-read : goal.returns-in-Never-clause-read
+returns-in-Never-clause-read g c = (_, reads_behind _ _ _ _ _ _ c.loop-filled.invariant.read c.in_ok-make_room.ensures.front c.in-Ok.ensures.read)
+
 pub returns-in-Never-clause-received : goal.returns-in-Never-clause-received
 returns-in-Never-clause-received g c =
-    let bytes = take (c.loop-filled.filled + c.in-Ok.count) c.read_more.new.buffer in
-    let never : NeverHolds bytes = never_without_head bytes (subst NeverBegins c.split_at.ensures.front c.in-Never.ensures) in (
-      c.in-Ok.ensures.within,
-      reads_on _ _ _ _ _ c.loop-filled.invariant.read c.in-Ok.ensures.read,
+    let buffer = c.read_more.new.buffer in
+    let all : vec_len buffer ≡ length buffer.items = search rules in
+    let bytes = take (c.loop-filled.filled + c.in-Ok.count) buffer.items in
+    let bytes_are = c.split_at.ensures.front ∙ ap (take (c.loop-filled.filled + c.in-Ok.count)) c.as_slice.ensures.value in
+    let never : NeverHolds bytes = never_without_head bytes (subst NeverBegins bytes_are c.in-Never.ensures) in (
+      omega (arith, c.in-Ok.ensures.within),
+      reads_behind _ _ _ _ _ _ c.loop-filled.invariant.read c.in_ok-make_room.ensures.front c.in-Ok.ensures.read,
       record {
         ended = false;
         at_end = λ e. absurd (false≢true e);
@@ -57,15 +71,17 @@ returns-in-Never-clause-received g c =
 
 pub returns-clause-received : goal.returns-clause-received
 returns-clause-received g c =
-    let bytes = take c.loop-filled.filled c.loop-filled.buffer in
-    let len : length bytes ≡ c.loop-filled.filled = length-take-le c.loop-filled.filled c.loop-filled.buffer c.loop-filled.invariant.within in
+    let buffer = c.loop-filled.buffer in
+    let all : vec_len buffer ≡ length buffer.items = search rules in
+    let bytes = take c.loop-filled.filled buffer.items in
+    let len : length bytes ≡ c.loop-filled.filled = length-take-le c.loop-filled.filled buffer.items (omega (arith, c.loop-filled.invariant.within)) in
     let none : HasNoHead (length bytes) bytes = subst (λ n. HasNoHead n bytes) (sym len) c.loop-filled.invariant.none in (
-      c.loop-filled.invariant.within,
+      omega (arith, c.loop-filled.invariant.within),
       c.loop-filled.invariant.read,
       record {
         ended = false;
         at_end = λ e. absurd (false≢true e);
         none = none_without_head false bytes none;
-        reason = inr (inl (omega (arith, len, c.loop-filled-test.false, c.loop-filled.auto.buffer, c.requires.room)));
+        reason = inr (inl (omega (arith, len, c.loop-filled-test.false)));
       },
     )

@@ -1,5 +1,6 @@
 use Rattle.std.proofs.Common.{◌≡◌, ◌++◌, length, min, ◌∙◌, subst}
 use Rattle.std.proofs.lemmas.List.{take-append-drop}
+use Rattle.esm_model.specs.declared.limits.TheConstants.{MAX_HEAD}
 use Rattle.esm_invoke.specs.ResponseRead.{ParsesHead}
 use Rattle.esm_invoke.proofs.HeadLemmas.{no_head_without_empty_line, ParsesHead-append}
 use Rattle.esm_invoke.proofs.head.look.Goals as goal
@@ -14,7 +15,7 @@ returns c =
     let front = c.split_at.result.0.now in
     let whole : front ++ c.split_at.result.1.now ≡ bytes =
     (λ i. c.split_at.ensures.front i ++ c.split_at.ensures.back i) ∙ take-append-drop c.min-count.result bytes in
-    let len : length front ≡ min (length bytes) 16384 = c.split_at.ensures.front_len ∙ c.min-count.ensures in
-    subst (λ t. ParsesHead t (min (length bytes) 16384) c.parse.result) whole
+    let len : length front ≡ min (length bytes) MAX_HEAD = c.split_at.ensures.front_len ∙ c.min-count.ensures in
+    subst (λ t. ParsesHead t (min (length bytes) MAX_HEAD) c.parse.result) whole
     (subst (λ n. ParsesHead (front ++ c.split_at.result.1.now) n c.parse.result) len
     (ParsesHead-append front c.split_at.result.1.now c.parse.result c.parse.ensures))

@@ -1,8 +1,0 @@
-use Rattle.std.proofs.Common.{arith}
-use Rattle.esm_invoke.proofs.TalkLemmas.{read_behind_if}
-use Rattle.esm_invoke.proofs.call.read_more.Goals as goal
-
-pub returns-clause-read : goal.returns-clause-read
-returns-clause-read g c =
-    read_behind_if _ _ c.args.buffer.now _ c.read.new.into c.args.filled (omega (arith, c.requires)) c.split_at_mut-rest.ensures.front c.split_at_mut-rest.ensures.front_len
-    c.read.result c.read.ensures.taken

@@ -1,0 +1,12 @@
+// That the callers move between threads where the runtime does.
+
+use crate::{HttpCaller, ProgramCaller};
+use std::net::Net;
+
+fn crosses<T: Send>() {}
+
+/// A thread takes its caller with it.
+fn callers_cross<R: Net + Clone + Send>() {
+    crosses::<HttpCaller<R>>();
+    crosses::<ProgramCaller<R>>();
+}
