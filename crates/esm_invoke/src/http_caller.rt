@@ -42,6 +42,13 @@ impl<R: Net + Clone> Caller for HttpCaller<R> {
     /// `Lost` where the connection cannot be made, and where a read or a write on it fails.
     fn call(&mut self, alloc: Global, name: &str, event: &[u8]) -> Result<Reply, OutOfMemory> {
         let mut link = TcpLink::new(&self.rt, self.port)?;
-        call_over(alloc, &mut link, name, event, &mut self.buffer, &mut self.faults)
+        call_over(
+            alloc,
+            &mut link,
+            name,
+            event,
+            &mut self.buffer,
+            &mut self.faults,
+        )
     }
 }

@@ -23,8 +23,14 @@ fn reply_to(
     let bytes = Vec::from_slice(alloc, response)?;
     let fails = Vec::from_slice(alloc, fails)?;
     let mut link = MemLink::new(alloc, bytes, piece, fails);
-    let mut buffer = Vec::new(alloc);
-    invoke(alloc, &mut link, "f", b"{}", &mut buffer)
+    invoke(alloc, &mut link, "f", b"{}", &mut Vec::new(alloc))
+}
+
+/// The reply to a response that comes whole, with what the work area holds already.
+fn reply_in(alloc: Global, response: &[u8], buffer: &mut Vec<u8>) -> Result<Reply, OutOfMemory> {
+    let bytes = Vec::from_slice(alloc, response)?;
+    let mut link = MemLink::new(alloc, bytes, 4_096, Vec::new(alloc));
+    invoke(alloc, &mut link, "f", b"{}", buffer)
 }
 
 /// Such a response is answered with this status, error and body.
@@ -125,6 +131,32 @@ fn two_lengths_and_another_coding(rt: HostRuntime) {
             44
         )
     );
+}
+
+#[test]
+fn small_work_area(rt: HostRuntime) {
+    let alloc = rt.alloc();
+    let mut buffer = Vec::new(alloc);
+    let response = b"HTTP/1.1 200 OK\r\nContent-Length: 2\r\n\r\n{}";
+    assert!(rt;
+        matches!(
+            &reply_in(alloc, response, &mut buffer),
+            Ok(Reply::Answered { status: 200, .. })
+        )
+    );
+    assert!(rt; buffer.capacity() < 16_384);
+}
+
+/// A whole response stands in the work area, and the link ends in its head.
+#[test]
+fn work_area_of_another_call(rt: HostRuntime) -> Result<(), Fail> {
+    let alloc = rt.alloc();
+    let mut buffer = Vec::from_slice(alloc, b"HTTP/1.1 200 OK\r\nContent-Length: 2\r\n\r\n{}")?;
+    let reply = reply_in(alloc, b"HTTP/1.1 200 OK\r\n", &mut buffer);
+    assert!(rt;
+        matches!(&reply, Ok(Reply::Garbled { bytes }) if bytes.as_slice() == b"HTTP/1.1 200 OK\r\n".as_slice())
+    );
+    Ok(())
 }
 
 /// A response without a body whose head has so many bytes.

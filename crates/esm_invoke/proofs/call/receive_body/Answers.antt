@@ -53,7 +53,7 @@ close-requires-clause-begins g c =
     let all : vec_len buffer ≡ length buffer.items = search rules in
     let bytes = c.split_at-in-Ok-eq0.result.0.now in
     let same : bytes ≡ before = front_stays _ _ roomy.items buffer.items bytes c.loop-body.filled c.in-Ok-eq0.field-0 (omega (arith, c.in_ok-make_room.ensures.room)) (omega (arith, c.in-Ok-eq0.ensures.within))
-        c.in-Ok-eq0.field-0-test c.in-Ok-eq0.ensures.read (c.split_at-in-Ok-eq0.ensures.front ∙ ap (take c.loop-body.filled) c.as_slice-in-Ok-eq0.ensures.value) ∙ c.make_room.ensures.front in
+    c.in-Ok-eq0.field-0-test c.in-Ok-eq0.ensures.read (c.split_at-in-Ok-eq0.ensures.front ∙ ap (take c.loop-body.filled) c.as_slice-in-Ok-eq0.ensures.value) ∙ c.make_room.ensures.front in
     subst (λ t. BeginsWith t r.head (drop r.head.len t)) (sym same) (subst (λ h. BeginsWith before h (drop h.len before)) (sym c.in_ok-reply.ensures.head) c.loop-body.invariant.begins)
 
 pub close-requires-clause-awaits : goal.close-requires-clause-awaits
@@ -66,7 +66,7 @@ close-requires-clause-awaits g c =
     let all : vec_len buffer ≡ length buffer.items = search rules in
     let bytes = c.split_at-in-Ok-eq0.result.0.now in
     let same : bytes ≡ before = front_stays _ _ roomy.items buffer.items bytes c.loop-body.filled c.in-Ok-eq0.field-0 (omega (arith, c.in_ok-make_room.ensures.room)) (omega (arith, c.in-Ok-eq0.ensures.within))
-        c.in-Ok-eq0.field-0-test c.in-Ok-eq0.ensures.read (c.split_at-in-Ok-eq0.ensures.front ∙ ap (take c.loop-body.filled) c.as_slice-in-Ok-eq0.ensures.value) ∙ c.make_room.ensures.front in
+    c.in-Ok-eq0.field-0-test c.in-Ok-eq0.ensures.read (c.split_at-in-Ok-eq0.ensures.front ∙ ap (take c.loop-body.filled) c.as_slice-in-Ok-eq0.ensures.value) ∙ c.make_room.ensures.front in
     let bytes_are = c.split_at.ensures.front ∙ ap (take c.loop-body.filled) c.as_slice.ensures.value in
     subst (λ t. Awaits t r) (sym same) (goes_on_here _ before r _ c.in_ok-reply.ensures.settled c.in_default.is bytes_are).0
 
@@ -80,7 +80,7 @@ close-requires-clause-unfinished g c =
     let all : vec_len buffer ≡ length buffer.items = search rules in
     let bytes = c.split_at-in-Ok-eq0.result.0.now in
     let same : bytes ≡ before = front_stays _ _ roomy.items buffer.items bytes c.loop-body.filled c.in-Ok-eq0.field-0 (omega (arith, c.in_ok-make_room.ensures.room)) (omega (arith, c.in-Ok-eq0.ensures.within))
-        c.in-Ok-eq0.field-0-test c.in-Ok-eq0.ensures.read (c.split_at-in-Ok-eq0.ensures.front ∙ ap (take c.loop-body.filled) c.as_slice-in-Ok-eq0.ensures.value) ∙ c.make_room.ensures.front in
+    c.in-Ok-eq0.field-0-test c.in-Ok-eq0.ensures.read (c.split_at-in-Ok-eq0.ensures.front ∙ ap (take c.loop-body.filled) c.as_slice-in-Ok-eq0.ensures.value) ∙ c.make_room.ensures.front in
     let bytes_are = c.split_at.ensures.front ∙ ap (take c.loop-body.filled) c.as_slice.ensures.value in
     subst (λ t. IsUnfinished t r) (sym same) (goes_on_here _ before r _ c.in_ok-reply.ensures.settled c.in_default.is bytes_are).1
 
