@@ -20,8 +20,8 @@ use Rattle.esm_invoke.specs.declared.body.BodyReader.{BodyReader}
 use Rattle.esm_invoke.specs.declared.head.Head.{Head}
 use Rattle.esm_invoke.specs.Response.{limits, Says, BeginsWith, IsBodyWithin, HoldsResponse, HoldsNone, NeverHolds, StopsAt, IsReplyTo}
 use Rattle.esm_invoke.specs.ResponseRead.{HasNoHead, NeverBegins, Awaits, IsUnfinished, NeverHoldsBody}
-use Rattle.esm_invoke.specs.Receiving.{ReadsMore, ReadsSome, WritesPart, Replies, Settles, Stops}
-use Rattle.esm_invoke.specs.Exchange.{SendsPart, Answers}
+use Rattle.esm_invoke.specs.Receiving.{ReadsMore, ReadsInto, WritesPart, Replies, Settles, Stops}
+use Rattle.esm_invoke.specs.Exchange.{GrowsFor, SendsPart, Answers}
 use Rattle.esm_invoke.specs.Request.{request_line, request_text}
 use Rattle.esm_invoke.proofs.HeadLemmas.{print_response_ends, BeginsWith-append}
 use Rattle.esm_invoke.proofs.TalkLemmas.{Reads_none, Reads_then, Writes_none}
@@ -157,6 +157,27 @@ nothing_more a b before after more same =
     none_of : (piece : List ℕ) → length piece ≤ 0 → piece ≡ []
     none_of [] empty = refl
     none_of (b ∷ piece) empty = absurd (omega (arith, empty))
+
+-- ---- the room of what was read
+
+pub into_front : (a b : Option Talk) (bytes : List ℕ) (filled before after : ℕ) → Reads a b bytes → length bytes ≡ filled → GrowsFor before after filled → ReadsInto a b 0 before after
+into_front a b bytes filled before after reads len grows = record { read = bytes; reads = reads; grows = omega (arith, len, grows) }
+
+pub into_behind : (a b : Option Talk) (start now : List ℕ) (first filled before after : ℕ) → ReadsMore a b start now → length start ≡ first → length now ≡ filled
+    → GrowsFor before after filled → ReadsInto a b first before after
+into_behind a b start now first filled before after more start_len len grows = record {
+  read = more.piece;
+  reads = more.reads;
+  grows = omega (arith, ap length more.grown, length-append start more.piece, start_len, len, grows);
+}
+
+pub into_then : (a b c : Option Talk) (bytes : List ℕ) (filled before middle after : ℕ) → Reads a b bytes → length bytes ≡ filled → GrowsFor before middle filled
+    → ReadsInto b c filled middle after → ReadsInto a c 0 before after
+into_then a b c bytes filled before middle after reads len grows next = record {
+  read = bytes ++ next.read;
+  reads = Reads_then a b c bytes next.read reads next.reads;
+  grows = omega (arith, len, grows, next.grows, length-append bytes next.read);
+}
 
 -- ---- a head and a body over more bytes
 
@@ -295,35 +316,39 @@ answers_after told (Ok reply) old middle new request writes replied = λ other.
     }
 answers_after told (Err e) old middle new request writes replied = tt
 
-pub sends_none : {L : Type 0} (told : L → Option Talk) (link : L) (request : List ℕ) → SendsPart told link link request
-sends_none told link request = record {
+pub sends_none : {L : Type 0} (told : L → Option Talk) (link : L) (request : List ℕ) (before after : ℕ) → after ≤ before → SendsPart told link link request before after
+sends_none told link request before after shorter = record {
   sent = [];
   unsent = request;
   read = [];
   parts = refl;
   whole_first = λ some. absurd (some refl);
   exchanges = record { middle = link; writes = Writes_none (told link); reads = Reads_none (told link) };
+  grows = omega (arith, shorter);
 }
 
-pub sends_part : {L : Type 0} (told : L → Option Talk) (old new : L) (request : List ℕ) → WritesPart (told old) (told new) request → SendsPart told old new request
-sends_part told old new request part = record {
+pub sends_part : {L : Type 0} (told : L → Option Talk) (old new : L) (request : List ℕ) (before after : ℕ) → WritesPart (told old) (told new) request → after ≤ before
+    → SendsPart told old new request before after
+sends_part told old new request before after part shorter = record {
   sent = part.sent;
   unsent = part.unsent;
   read = [];
   parts = part.parts;
   whole_first = λ some. absurd (some refl);
   exchanges = record { middle = new; writes = part.writes; reads = Reads_none (told new) };
+  grows = omega (arith, shorter);
 }
 
-pub sends_all : {L : Type 0} (told : L → Option Talk) (old middle new : L) (request : List ℕ) → Writes (told old) (told middle) request → ReadsSome (told middle) (told new)
-    → SendsPart told old new request
-sends_all told old middle new request writes read = record {
+pub sends_all : {L : Type 0} (told : L → Option Talk) (old middle new : L) (request : List ℕ) (before cut after : ℕ) → Writes (told old) (told middle) request
+    → cut ≤ before → ReadsInto (told middle) (told new) 0 cut after → SendsPart told old new request before after
+sends_all told old middle new request before cut after writes shorter into = record {
   sent = request;
   unsent = [];
-  read = read.0;
+  read = into.read;
   parts = sym (append-nil request);
   whole_first = λ _. refl;
-  exchanges = record { middle = middle; writes = writes; reads = read.1 };
+  exchanges = record { middle = middle; writes = writes; reads = into.reads };
+  grows = omega (arith, shorter, into.grows);
 }
 
 pub request_some : (name event : List ℕ) → 0 < length (request_text name event)

@@ -1,7 +1,8 @@
 -- What goes over a link in a call, where the link tells it. This product's own.
-use Rattle.std.specs.Prelude.{◌≡◌, ◌≢◌, List, [], ℕ, ◌++◌, Bool, true, Option}
+use Rattle.std.specs.Prelude.{◌≡◌, ◌≢◌, ◌≤◌, ◌+◌, ◌*◌, max, length, List, [], ℕ, ◌++◌, Bool, true, Option}
 use Rattle.esm_io.specs.Talks.{Talk, Reads, Writes, IsReadOut}
 use Rattle.esm_model.specs.declared.entry.Reply.{Reply}
+use Rattle.esm_invoke.specs.declared.call.TheConstants.{FIRST_ROOM}
 use Rattle.esm_invoke.specs.Response.{IsReplyTo}
 
 -- these bytes were written, and then those read. The middle is a link, and not only what one would tell: none is at hand
@@ -11,14 +12,20 @@ pub record Exchanges {L : Type 0} (told : L → Option Talk) (old new : L) (writ
   pub writes : Writes (told old) (told middle) written
   pub reads : Reads (told middle) (told new) read
 
--- a part of the request was written, from its front on, and bytes were read only behind the whole
-pub record SendsPart {L : Type 0} (told : L → Option Talk) (old new : L) (request : List ℕ) : Type 0 where
+-- a work area of so many bytes grew to so many for so many that were read: to no more than its first room and twice these
+abbrev pub GrowsFor : ℕ → ℕ → ℕ → Type 0
+GrowsFor before after read = after ≤ max before (FIRST_ROOM + 2 * read)
+
+-- a part of the request was written, from its front on, and bytes were read only behind the whole, into a work area of
+-- so many bytes that then has so many
+pub record SendsPart {L : Type 0} (told : L → Option Talk) (old new : L) (request : List ℕ) (before after : ℕ) : Type 0 where
   pub sent : List ℕ
   pub unsent : List ℕ
   pub read : List ℕ
   pub parts : request ≡ sent ++ unsent
   pub whole_first : read ≢ [] → unsent ≡ []
   pub exchanges : Exchanges told old new sent read
+  pub grows : GrowsFor before after (length read)
 
 -- the whole request was written, and the reply is that to the bytes that were then read
 pub record Answers {L : Type 0} (told : L → Option Talk) (old new : L) (request : List ℕ) (reply : Reply) : Type 0 where

@@ -1,10 +1,11 @@
 -- What a call knows while it sends and receives.
-use Rattle.std.specs.Prelude.{◌≡◌, ◌≤◌, ℕ, List, ◌++◌, Bool, true, false, length, take, drop, Option, Some, None}
+use Rattle.std.specs.Prelude.{◌≡◌, ◌≤◌, ◌+◌, ℕ, List, ◌++◌, Bool, true, false, length, take, drop, Option, Some, None}
 use Rattle.esm_io.specs.Talks.{Talk, Reads, Writes, IsReadOut}
 use Rattle.esm_model.specs.declared.entry.Reply.{Reply}
 use Rattle.esm_invoke.specs.declared.body.BodyReader.{BodyReader}
 use Rattle.esm_invoke.specs.declared.call.HeadReceived.{HeadReceived}
 use Rattle.esm_invoke.specs.declared.call.HeadReceived.TheVariants as Received
+use Rattle.esm_invoke.specs.Exchange.{GrowsFor}
 use Rattle.esm_invoke.specs.Response.{BeginsWith, IsReplyTo, HoldsNone, StopsAt}
 use Rattle.esm_invoke.specs.ResponseRead.{Awaits, IsUnfinished}
 
@@ -14,9 +15,11 @@ pub record ReadsMore (old new : Option Talk) (before after : List ℕ) : Type 0 
   pub grown : after ≡ before ++ piece
   pub reads : Reads old new piece
 
--- some bytes were read
-abbrev pub ReadsSome : Option Talk → Option Talk → Type 0
-ReadsSome old new = (read : List ℕ) × Reads old new read
+-- some bytes were read behind so many, into a buffer that grew for them all
+pub record ReadsInto (old new : Option Talk) (filled before after : ℕ) : Type 0 where
+  pub read : List ℕ
+  pub reads : Reads old new read
+  pub grows : GrowsFor before after (filled + length read)
 
 -- a part of the bytes was written, from their front on
 pub record WritesPart (old new : Option Talk) (bytes : List ℕ) : Type 0 where
@@ -45,11 +48,11 @@ abbrev pub Settles : List ℕ → BodyReader → Option Reply → Type 0
 Settles bytes r (Some reply) = IsReplyTo false bytes reply
 Settles bytes r None = Awaits bytes r × IsUnfinished bytes r
 
--- what came of reading up to the end of the head, into this buffer
-abbrev pub ReceivesHead : Option Talk → Option Talk → List ℕ → HeadReceived → Type 0
-ReceivesHead old new buffer (Received.Head head filled) =
+-- what came of reading up to the end of the head, into this buffer, which had so many bytes
+abbrev pub ReceivesHead : Option Talk → Option Talk → ℕ → List ℕ → HeadReceived → Type 0
+ReceivesHead old new before buffer (Received.Head head filled) =
     (filled ≤ length buffer) × Reads old new (take filled buffer) × BeginsWith (take filled buffer) head (drop head.len (take filled buffer))
-    × (head.len ≤ filled)
-ReceivesHead old new buffer (Received.Garbled filled) =
+    × (head.len ≤ filled) × GrowsFor before (length buffer) filled
+ReceivesHead old new before buffer (Received.Garbled filled) =
     (filled ≤ length buffer) × Reads old new (take filled buffer) × Stops new (take filled buffer)
-ReceivesHead old new buffer Received.Lost = ReadsSome old new
+ReceivesHead old new before buffer Received.Lost = Unit {0}

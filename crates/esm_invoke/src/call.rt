@@ -3,8 +3,8 @@ ghost use Rattle.std.specs.Prelude.{◌≡◌, ◌≢◌, ◌+◌, ◌<◌, ◌�
 ghost use Rattle.esm_io.specs.Faults.{MAX_FAULTS, IsCount, Rose};
 ghost use Rattle.esm_io.specs.Talks.{Reads, Writes, IsReadOut};
 ghost use Rattle.esm_invoke.specs.Request.{request_text};
-ghost use Rattle.esm_invoke.specs.Exchange.{SendsPart, Answers};
-ghost use Rattle.esm_invoke.specs.Receiving.{ReadsMore, ReadsSome, WritesPart, Replies, ReceivesHead, Settles};
+ghost use Rattle.esm_invoke.specs.Exchange.{SendsPart, Answers, GrowsFor};
+ghost use Rattle.esm_invoke.specs.Receiving.{ReadsMore, ReadsInto, WritesPart, Replies, ReceivesHead, Settles};
 ghost use Rattle.esm_invoke.specs.Response.{BeginsWith, IsReplyTo};
 ghost use Rattle.esm_invoke.specs.ResponseRead.{Awaits, IsUnfinished};
 
@@ -46,7 +46,7 @@ pub fn invoke<L: Link>(
     ensures answered { IfOk result (λ reply. reply ≢ Reply.Lost
         → Answers L.told link.old link.new (request_text name.now event.now) reply) }
     ensures lost { IfOk result (λ reply. reply ≡ Reply.Lost → Rose (L.faults link.old) (L.faults link.new)) }
-    ensures sent { SendsPart L.told link.old link.new (request_text name.now event.now) }
+    ensures sent { SendsPart L.told link.old link.new (request_text name.now event.now) (vec_len buffer.old) (vec_len buffer.new) }
     ensures count { OnOk result (IsCount (L.faults link.old) (L.faults link.new)) }
     ensures never_falls { L.faults link.old ≤ L.faults link.new }
     ensures buffer { vec_len buffer.new ≤ MAX_RESPONSE + 1 }
@@ -72,7 +72,7 @@ pub fn call_over<L: Link>(
     ensures answered { IfOk result (λ reply. reply ≢ Reply.Lost
         → Answers L.told link.old link.new (request_text name.now event.now) reply) }
     ensures lost { IfOk result (λ reply. reply ≡ Reply.Lost → Rose (L.faults link.old) (L.faults link.new)) }
-    ensures sent { SendsPart L.told link.old link.new (request_text name.now event.now) }
+    ensures sent { SendsPart L.told link.old link.new (request_text name.now event.now) (vec_len buffer.old) (vec_len buffer.new) }
     ensures count { OnOk result (IsCount (L.faults link.old) (L.faults link.new)) }
     ensures never_falls { L.faults link.old ≤ L.faults link.new }
     ensures buffer { vec_len buffer.new ≤ MAX_RESPONSE + 1 }
@@ -115,6 +115,7 @@ fn make_room(buffer: &mut Vec<u8>, filled: usize) -> Result<(), OutOfMemory>
     ensures room { OnOk result (filled < vec_len buffer.new) }
     ensures front { take filled buffer.new.items ≡ take filled buffer.old.items }
     ensures bound { vec_len buffer.new ≤ MAX_RESPONSE + 1 }
+    ensures grows { GrowsFor (vec_len buffer.old) (vec_len buffer.new) filled }
 {
     let len = buffer.len();
     if filled < len {
@@ -158,7 +159,7 @@ fn read_behind<L: Link>(link: &mut L, bytes: &mut [u8], filled: usize) -> Result
 fn receive<L: Link>(alloc: Global, link: &mut L, buffer: &mut Vec<u8>) -> Result<Reply, OutOfMemory>
     requires room { vec_len buffer.old ≤ MAX_RESPONSE + 1 }
     requires counted { L.faults link.old ≤ MAX_FAULTS }
-    ensures read { ReadsSome (L.told link.old) (L.told link.new) }
+    ensures read { ReadsInto (L.told link.old) (L.told link.new) 0 (vec_len buffer.old) (vec_len buffer.new) }
     ensures replied { IfOk result (λ reply. reply ≢ Reply.Lost → Replies (L.told link.old) (L.told link.new) [] reply) }
     ensures lost { IfOk result (λ reply. reply ≡ Reply.Lost → Rose (L.faults link.old) (L.faults link.new)) }
     ensures count { IsCount (L.faults link.old) (L.faults link.new) }
@@ -178,8 +179,8 @@ fn receive<L: Link>(alloc: Global, link: &mut L, buffer: &mut Vec<u8>) -> Result
 fn receive_head<L: Link>(link: &mut L, buffer: &mut Vec<u8>) -> Result<HeadReceived, OutOfMemory>
     requires room { vec_len buffer.old ≤ MAX_RESPONSE + 1 }
     requires counted { L.faults link.old ≤ MAX_FAULTS }
-    ensures read { ReadsSome (L.told link.old) (L.told link.new) }
-    ensures received { IfOk result (ReceivesHead (L.told link.old) (L.told link.new) buffer.new.items) }
+    ensures read { ReadsInto (L.told link.old) (L.told link.new) 0 (vec_len buffer.old) (vec_len buffer.new) }
+    ensures received { IfOk result (ReceivesHead (L.told link.old) (L.told link.new) (vec_len buffer.old) buffer.new.items) }
     ensures lost { IfOk result (λ received. received ≡ HeadReceived.Lost → Rose (L.faults link.old) (L.faults link.new)) }
     ensures count { IsCount (L.faults link.old) (L.faults link.new) }
     ensures room { vec_len buffer.new ≤ MAX_RESPONSE + 1 }
@@ -217,7 +218,7 @@ fn receive_body<L: Link>(
     requires begins { BeginsWith (take first buffer.old.items) head (drop head.len (take first buffer.old.items)) }
     requires room { vec_len buffer.old ≤ MAX_RESPONSE + 1 }
     requires counted { L.faults link.old ≤ MAX_FAULTS }
-    ensures read { ReadsSome (L.told link.old) (L.told link.new) }
+    ensures read { ReadsInto (L.told link.old) (L.told link.new) first (vec_len buffer.old) (vec_len buffer.new) }
     ensures replied { IfOk result (λ reply. reply ≢ Reply.Lost → Replies (L.told link.old) (L.told link.new) (take first buffer.old.items) reply) }
     ensures lost { IfOk result (λ reply. reply ≡ Reply.Lost → Rose (L.faults link.old) (L.faults link.new)) }
     ensures count { IsCount (L.faults link.old) (L.faults link.new) }

@@ -1,11 +1,11 @@
-use Rattle.std.proofs.Common.{◌<◌, ◌∙◌, length, sym, subst}
+use Rattle.std.proofs.Common.{◌<◌, ◌≤◌, ◌∙◌, length, sym, subst, arith, vec_len}
 use Rattle.esm_io.specs.Talks.{Writes}
 use Rattle.esm_invoke.specs.Receiving.{WritesPart}
 use Rattle.esm_invoke.proofs.ReplyLemmas.{answers_after, sends_none, sends_part, sends_all, request_some}
 use Rattle.esm_invoke.proofs.call.invoke.Goals as goal
 
 pub returns-in_err-request-clause-sent : goal.returns-in_err-request-clause-sent
-returns-in_err-request-clause-sent g c = sends_none g.L.Link.told _ _
+returns-in_err-request-clause-sent g c = sends_none g.L.Link.told _ _ _ _ (omega (arith, c.truncate.ensures.len))
 
 pub send-requires : goal.send-requires
 send-requires g c =
@@ -20,9 +20,10 @@ returns-in-Ok-clause-answered g c =
 pub returns-in-Ok-clause-sent : goal.returns-in-Ok-clause-sent
 returns-in-Ok-clause-sent g c =
     let text = c.deref.ensures.value ∙ c.in_ok-request.ensures in
-    sends_all g.L.Link.told _ _ _ _ (subst (Writes _ _) text c.in-Ok.ensures.sent) c.receive.ensures.read
+    let shorter : vec_len c.truncate.new.self ≤ vec_len c.args.buffer.now = omega (arith, c.truncate.ensures.len) in
+    sends_all g.L.Link.told _ _ _ _ _ _ _ (subst (Writes _ _) text c.in-Ok.ensures.sent) shorter c.receive.ensures.read
 
 pub returns-clause-sent : goal.returns-clause-sent
 returns-clause-sent g c =
     let text = c.deref.ensures.value ∙ c.in_ok-request.ensures in
-    sends_part g.L.Link.told _ _ _ (subst (WritesPart _ _) text c.send.ensures.part)
+    sends_part g.L.Link.told _ _ _ _ _ (subst (WritesPart _ _) text c.send.ensures.part) (omega (arith, c.truncate.ensures.len))

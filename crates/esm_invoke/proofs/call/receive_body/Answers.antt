@@ -6,7 +6,7 @@ use Rattle.esm_model.specs.declared.entry.Reply.TheVariants.{Garbled}
 use Rattle.esm_invoke.specs.Response.{BeginsWith}
 use Rattle.esm_invoke.specs.ResponseRead.{Awaits, IsUnfinished}
 use Rattle.esm_invoke.specs.Receiving.{ReadsMore}
-use Rattle.esm_invoke.proofs.ReplyLemmas.{no_more, more_then, more_behind, begins_on, awaits_more, awaits_start, none_unfinished, garbled_if, replies_if, goes_on_here, front_stays}
+use Rattle.esm_invoke.proofs.ReplyLemmas.{no_more, more_then, more_behind, begins_on, awaits_more, awaits_start, none_unfinished, garbled_if, replies_if, goes_on_here, front_stays, into_behind}
 use Rattle.esm_invoke.proofs.call.receive_body.Goals as goal
 
 pub loop-body-init : goal.loop-body-init
@@ -20,6 +20,9 @@ loop-body-init g c =
       within = c.requires.within;
       room = c.requires.room;
       read = no_more _ bytes;
+      first = len;
+      front = len;
+      grows = omega arith;
       begins = subst (λ h. BeginsWith bytes h (drop h.len bytes)) (sym same) c.requires.begins;
       len = omega (arith, ap (λ h. h.len) same, c.requires.len);
       awaits = awaits_start bytes c.args.head c.new-body.result same c.new-body.ensures.decoder c.new-body.ensures.at c.new-body.ensures.content (omega (arith, len, c.requires.len));
@@ -86,8 +89,13 @@ close-requires-clause-unfinished g c =
 
 pub returns-in-Ok-eq0-clause-read : goal.returns-in-Ok-eq0-clause-read
 returns-in-Ok-eq0-clause-read g c =
-    let all = more_behind _ _ _ _ _ _ _ c.loop-body.invariant.read c.make_room.ensures.front c.in-Ok-eq0.ensures.read in
-    (all.piece, all.reads)
+    let inv = c.loop-body.invariant in
+    let buffer = c.read_more.new.buffer in
+    let all : vec_len buffer ≡ length buffer.items = search rules in
+    let count = c.loop-body.filled + c.in-Ok-eq0.field-0 in
+    let len : length (take count buffer.items) ≡ count = length-take-le count buffer.items (omega (arith, c.in-Ok-eq0.ensures.within)) in
+    into_behind _ _ _ _ _ count _ _ (more_behind _ _ _ _ _ _ _ inv.read c.make_room.ensures.front c.in-Ok-eq0.ensures.read) inv.first len
+    (omega (arith, inv.grows, c.make_room.ensures.grows, c.read_more.ensures.room))
 
 pub returns-in-Ok-eq0-clause-replied : goal.returns-in-Ok-eq0-clause-replied
 returns-in-Ok-eq0-clause-replied g c =
@@ -105,10 +113,12 @@ loop-body-preserved g c =
     let r = c.settle.new.body in
     let inv = c.loop-body.invariant in
     let old = c.loop-body.buffer in
-    let all : vec_len old ≡ length old.items = search rules in
     let before = take c.loop-body.filled old.items in
-    let after = take (c.loop-body.filled + c.in-Ok.count) c.read_more.new.buffer.items in
-    let len : length before ≡ c.loop-body.filled = length-take-le c.loop-body.filled old.items (omega (arith, inv.within)) in
+    let buffer = c.read_more.new.buffer in
+    let all : vec_len buffer ≡ length buffer.items = search rules in
+    let count = c.loop-body.filled + c.in-Ok.count in
+    let after = take count buffer.items in
+    let len = inv.front in
     let head = c.in_ok-reply.ensures.head in
     let short : r.head.len ≤ length before = omega (arith, len, inv.len, ap (λ h. h.len) head) in
     let bytes_are = c.split_at.ensures.front ∙ ap (take c.loop-body.filled) c.as_slice.ensures.value in
@@ -119,6 +129,9 @@ loop-body-preserved g c =
       within = c.in-Ok.ensures.within;
       room = omega (arith, c.make_room.ensures.bound, c.in-Ok.ensures.room);
       read = more_then _ _ _ _ _ _ inv.read more;
+      first = inv.first;
+      front = length-take-le count buffer.items (omega (arith, c.in-Ok.ensures.within));
+      grows = omega (arith, inv.grows, c.make_room.ensures.grows, c.read_more.ensures.room);
       begins = begins_on _ _ before _ r.head more short begins;
       len = omega (arith, short, len);
       awaits = awaits_more _ _ before _ r more short state.0;
