@@ -31,7 +31,7 @@ pub enum HeadReceived {
 }
 
 /// Calls the function `name` with the event over a link: writes the whole request, then reads until a prefix of the
-/// bytes read is a whole response, until no continuation of them is one, until they are more than 8,388,608, or up to
+/// bytes read is a whole response, until no continuation of them is one, until they are more than `MAX_RESPONSE`, or up to
 /// the link's end. `Garbled` gives the bytes read, which hold no response. `Lost` only where the link's count of faults
 /// rose. `buffer` is a work area that grows with what is read and keeps its room for the next call; what it holds has no
 /// effect, and means nothing afterwards. After `OutOfMemory` a part of the request may have been sent, or all of it and
@@ -107,7 +107,7 @@ fn send<L: Link>(link: &mut L, bytes: &[u8]) -> Result<(), Failed>
     Ok(())
 }
 
-/// Makes room behind the first `filled` bytes of the buffer where there is none: it doubles.
+/// Makes room behind the first `filled` bytes of the buffer where there is none: its length doubles.
 fn make_room(buffer: &mut Vec<u8>, filled: usize) -> Result<(), OutOfMemory>
     requires short { filled ≤ MAX_RESPONSE }
     requires within { filled ≤ vec_len buffer.old }

@@ -1,11 +1,11 @@
 // Calls of functions that a server on this machine runs.
-ghost use Rattle.std.specs.Prelude.{◌≤◌, None};
-ghost use Rattle.esm_io.specs.Faults.{MAX_FAULTS};
+ghost use Rattle.std.specs.Prelude.{◌≡◌, None, IfOk};
 
 use crate::call::call_over;
 use esm_io::{Caller, TcpLink};
 use esm_model::{OutOfMemory, Reply};
 use std::alloc::Global;
+use std::marker::Model;
 use std::net::Net;
 
 /// Calls functions over HTTP on a port of 127.0.0.1, with a connection for each call. It tells no calls: over a real
@@ -17,12 +17,26 @@ pub struct HttpCaller<R: Net + Clone> {
     /// The work area of the calls.
     buffer: Vec<u8>,
     faults: u64,
-    ghost counted: { faults ≤ MAX_FAULTS },
+}
+
+impl<R: Net + Clone> Model for HttpCaller<R> {
+    ghost use Rattle.std.specs.Prelude.{◌≤◌, vec_capacity};
+    ghost use Rattle.esm_io.specs.Faults.{MAX_FAULTS};
+    ghost use Rattle.esm_invoke.specs.Callers.{HttpState};
+
+    ghost Value = { HttpState };
+
+    ghost view = { λ s. record { faults = s.faults; room = vec_capacity s.buffer } };
+
+    ghost invariant = { λ s. s.faults ≤ MAX_FAULTS };
 }
 
 impl<R: Net + Clone> HttpCaller<R> {
-    /// Opens nothing, and takes no memory for its work area before the first call.
-    pub fn new(rt: &R, alloc: Global, port: u16) -> Result<Self, OutOfMemory> {
+    /// A caller on this port. It opens nothing, and its work area takes no memory before the first call.
+    pub fn new(rt: &R, alloc: Global, port: u16) -> Result<Self, OutOfMemory>
+        ensures faultless { IfOk result (λ caller. caller.faults ≡ 0) }
+        ensures roomless { IfOk result (λ caller. caller.room ≡ 0) }
+    {
         Ok(HttpCaller {
             rt: rt.clone()?,
             port,

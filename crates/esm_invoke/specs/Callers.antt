@@ -1,0 +1,7 @@
+-- What a caller over HTTP tells of itself. This product's own.
+use Rattle.std.specs.Prelude.{ℕ}
+
+-- its count of faults, and the bytes of memory that its work area takes
+pub record HttpState : Type 0 where
+  pub faults : ℕ
+  pub room : ℕ
