@@ -264,6 +264,10 @@ replies_if (Err e) old new before bytes ended more at_end is = tt
 
 -- ---- one round of reading a body
 
+-- the front of a buffer's bytes, by way of its slice
+pub front_is : (bytes slice items : List ℕ) (count : ℕ) → bytes ≡ take count slice → slice ≡ items → bytes ≡ take count items
+front_is bytes slice items count front same = front ∙ ap (take count) same
+
 -- the body goes on behind the bytes
 pub goes_on_here : (bytes before : List ℕ) (r : BodyReader) (reply : Option Reply) → Settles bytes r reply → reply ≡ None → bytes ≡ before → Awaits before r × IsUnfinished before r
 goes_on_here bytes before r reply settles none same = subst (λ t. Settles t r None) same (subst (Settles bytes r) none settles)

@@ -5,14 +5,14 @@ use Rattle.esm_model.specs.declared.entry.Reply.{Reply}
 use Rattle.esm_invoke.specs.declared.call.TheConstants.{FIRST_ROOM}
 use Rattle.esm_invoke.specs.Response.{IsReplyTo}
 
--- these bytes were written, and then those read. The middle is a link, and not only what one would tell: none is at hand
--- but those that the call's own reads and writes leave
+-- these bytes were written, and then those read. The middle is a link, and not only what one would tell: a call over
+-- any link has none to name but those that its own reads and writes left
 pub record Exchanges {L : Type 0} (told : L → Option Talk) (old new : L) (written read : List ℕ) : Type 0 where
   pub middle : L
   pub writes : Writes (told old) (told middle) written
   pub reads : Reads (told middle) (told new) read
 
--- a work area of so many bytes grew to so many for so many that were read: to no more than its first room and twice these
+-- a work area of so many bytes grew to so many for so many that were read: at most to its first room and twice these
 abbrev pub GrowsFor : ℕ → ℕ → ℕ → Type 0
 GrowsFor before after read = after ≤ max before (FIRST_ROOM + 2 * read)
 

@@ -31,11 +31,11 @@ pub enum HeadReceived {
 }
 
 /// Calls the function `name` with the event over a link: writes the whole request, then reads until a prefix of the
-/// bytes read is a whole response, until no continuation of them is one, until they are more than `MAX_RESPONSE`, or up to
-/// the link's end. `Garbled` gives the bytes read, which hold no response. `Lost` only where the link's count of faults
-/// rose. `buffer` is a work area that grows with what is read and keeps its room for the next call; what it holds has no
-/// effect, and means nothing afterwards. After `OutOfMemory` a part of the request may have been sent, or all of it and
-/// bytes read (Lambda API Reference of 2015-03-31, `Invoke`; RFC 9112).
+/// bytes read is a whole response, until no continuation of them is one, until they are more than `MAX_RESPONSE`, or up
+/// to the link's end. `Garbled` gives the bytes read, which hold no response. `Lost` only where the link's count of
+/// faults rose. `buffer` is a work area that grows with what is read and keeps its room for the next call; what it holds
+/// has no effect, and means nothing afterwards. After `OutOfMemory` a part of the request may have been sent, or all of
+/// it and bytes read (Lambda API Reference of 2015-03-31, `Invoke`; RFC 9112).
 pub fn invoke<L: Link>(
     alloc: Global,
     link: &mut L,

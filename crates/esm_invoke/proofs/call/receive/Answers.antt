@@ -1,10 +1,10 @@
-use Rattle.std.proofs.Common.{◌≡◌, ◌∙◌, length, take, ap, subst, arith, rules, vec_len}
+use Rattle.std.proofs.Common.{◌≡◌, length, subst, arith, rules, vec_len}
 use Rattle.std.proofs.lemmas.List.{length-take-le}
 use Rattle.std.specs.Prelude.{IfOk}
 use Rattle.esm_model.specs.declared.entry.Reply.TheVariants.{Garbled}
 use Rattle.esm_invoke.specs.Exchange.{GrowsFor}
 use Rattle.esm_invoke.specs.Receiving.{ReceivesHead}
-use Rattle.esm_invoke.proofs.ReplyLemmas.{into_then, replies_after, replies_garbled}
+use Rattle.esm_invoke.proofs.ReplyLemmas.{into_then, replies_after, replies_garbled, front_is}
 use Rattle.esm_invoke.proofs.call.receive.Goals as goal
 
 pub returns-in-Head-clause-read : goal.returns-in-Head-clause-read
@@ -24,4 +24,4 @@ pub returns-in-Garbled-clause-replied : goal.returns-in-Garbled-clause-replied
 returns-in-Garbled-clause-replied g c =
     let none = subst (ReceivesHead _ _ _ c.receive_head.new.buffer.items) c.in-Garbled.is c.in_ok-head.ensures.received in
     replies_garbled c.garbled.result _ _ _ none.1 none.2
-    (subst (λ t. IfOk c.garbled.result (λ reply. reply ≡ Garbled t)) (c.split_at.ensures.front ∙ ap (take c.in-Garbled.filled) c.as_slice.ensures.value) c.garbled.ensures)
+    (subst (λ t. IfOk c.garbled.result (λ reply. reply ≡ Garbled t)) (front_is _ _ _ _ c.split_at.ensures.front c.as_slice.ensures.value) c.garbled.ensures)

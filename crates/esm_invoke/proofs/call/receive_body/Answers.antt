@@ -6,7 +6,7 @@ use Rattle.esm_model.specs.declared.entry.Reply.TheVariants.{Garbled}
 use Rattle.esm_invoke.specs.Response.{BeginsWith}
 use Rattle.esm_invoke.specs.ResponseRead.{Awaits, IsUnfinished}
 use Rattle.esm_invoke.specs.Receiving.{ReadsMore}
-use Rattle.esm_invoke.proofs.ReplyLemmas.{no_more, more_then, more_behind, begins_on, awaits_more, awaits_start, none_unfinished, garbled_if, replies_if, goes_on_here, front_stays, into_behind}
+use Rattle.esm_invoke.proofs.ReplyLemmas.{no_more, more_then, more_behind, begins_on, awaits_more, awaits_start, none_unfinished, garbled_if, replies_if, goes_on_here, front_stays, into_behind, front_is}
 use Rattle.esm_invoke.proofs.call.receive_body.Goals as goal
 
 pub loop-body-init : goal.loop-body-init
@@ -38,7 +38,7 @@ returns-then-filled-gt-MAX_RESPONSE-clause-replied g c =
     let all : vec_len buffer ≡ length buffer.items = search rules in
     let before = take c.loop-body.filled buffer.items in
     let len : length before ≡ c.loop-body.filled = length-take-le c.loop-body.filled buffer.items (omega (arith, inv.within)) in
-    let bytes_are = c.split_at.ensures.front ∙ ap (take c.loop-body.filled) c.as_slice.ensures.value in
+    let bytes_are = front_is _ _ _ _ c.split_at.ensures.front c.as_slice.ensures.value in
     let state = goes_on_here _ before r _ c.in_ok-reply.ensures.settled c.in_default.is bytes_are in
     let begins = subst (λ h. BeginsWith before h (drop h.len before)) (sym c.in_ok-reply.ensures.head) inv.begins in
     replies_if c.garbled.result _ _ (take c.args.first c.args.buffer.now.items) before false inv.read
@@ -56,7 +56,7 @@ close-requires-clause-begins g c =
     let all : vec_len buffer ≡ length buffer.items = search rules in
     let bytes = c.split_at-in-Ok-eq0.result.0.now in
     let same : bytes ≡ before = front_stays _ _ roomy.items buffer.items bytes c.loop-body.filled c.in-Ok-eq0.field-0 (omega (arith, c.in_ok-make_room.ensures.room)) (omega (arith, c.in-Ok-eq0.ensures.within))
-    c.in-Ok-eq0.field-0-test c.in-Ok-eq0.ensures.read (c.split_at-in-Ok-eq0.ensures.front ∙ ap (take c.loop-body.filled) c.as_slice-in-Ok-eq0.ensures.value) ∙ c.make_room.ensures.front in
+    c.in-Ok-eq0.field-0-test c.in-Ok-eq0.ensures.read (front_is _ _ _ _ c.split_at-in-Ok-eq0.ensures.front c.as_slice-in-Ok-eq0.ensures.value) ∙ c.make_room.ensures.front in
     subst (λ t. BeginsWith t r.head (drop r.head.len t)) (sym same) (subst (λ h. BeginsWith before h (drop h.len before)) (sym c.in_ok-reply.ensures.head) c.loop-body.invariant.begins)
 
 pub close-requires-clause-awaits : goal.close-requires-clause-awaits
@@ -69,8 +69,8 @@ close-requires-clause-awaits g c =
     let all : vec_len buffer ≡ length buffer.items = search rules in
     let bytes = c.split_at-in-Ok-eq0.result.0.now in
     let same : bytes ≡ before = front_stays _ _ roomy.items buffer.items bytes c.loop-body.filled c.in-Ok-eq0.field-0 (omega (arith, c.in_ok-make_room.ensures.room)) (omega (arith, c.in-Ok-eq0.ensures.within))
-    c.in-Ok-eq0.field-0-test c.in-Ok-eq0.ensures.read (c.split_at-in-Ok-eq0.ensures.front ∙ ap (take c.loop-body.filled) c.as_slice-in-Ok-eq0.ensures.value) ∙ c.make_room.ensures.front in
-    let bytes_are = c.split_at.ensures.front ∙ ap (take c.loop-body.filled) c.as_slice.ensures.value in
+    c.in-Ok-eq0.field-0-test c.in-Ok-eq0.ensures.read (front_is _ _ _ _ c.split_at-in-Ok-eq0.ensures.front c.as_slice-in-Ok-eq0.ensures.value) ∙ c.make_room.ensures.front in
+    let bytes_are = front_is _ _ _ _ c.split_at.ensures.front c.as_slice.ensures.value in
     subst (λ t. Awaits t r) (sym same) (goes_on_here _ before r _ c.in_ok-reply.ensures.settled c.in_default.is bytes_are).0
 
 pub close-requires-clause-unfinished : goal.close-requires-clause-unfinished
@@ -83,8 +83,8 @@ close-requires-clause-unfinished g c =
     let all : vec_len buffer ≡ length buffer.items = search rules in
     let bytes = c.split_at-in-Ok-eq0.result.0.now in
     let same : bytes ≡ before = front_stays _ _ roomy.items buffer.items bytes c.loop-body.filled c.in-Ok-eq0.field-0 (omega (arith, c.in_ok-make_room.ensures.room)) (omega (arith, c.in-Ok-eq0.ensures.within))
-    c.in-Ok-eq0.field-0-test c.in-Ok-eq0.ensures.read (c.split_at-in-Ok-eq0.ensures.front ∙ ap (take c.loop-body.filled) c.as_slice-in-Ok-eq0.ensures.value) ∙ c.make_room.ensures.front in
-    let bytes_are = c.split_at.ensures.front ∙ ap (take c.loop-body.filled) c.as_slice.ensures.value in
+    c.in-Ok-eq0.field-0-test c.in-Ok-eq0.ensures.read (front_is _ _ _ _ c.split_at-in-Ok-eq0.ensures.front c.as_slice-in-Ok-eq0.ensures.value) ∙ c.make_room.ensures.front in
+    let bytes_are = front_is _ _ _ _ c.split_at.ensures.front c.as_slice.ensures.value in
     subst (λ t. IsUnfinished t r) (sym same) (goes_on_here _ before r _ c.in_ok-reply.ensures.settled c.in_default.is bytes_are).1
 
 pub returns-in-Ok-eq0-clause-read : goal.returns-in-Ok-eq0-clause-read
@@ -102,7 +102,7 @@ returns-in-Ok-eq0-clause-replied g c =
     let buffer = c.read_more.new.buffer in
     let bytes = c.split_at-in-Ok-eq0.result.0.now in
     let after = take (c.loop-body.filled + c.in-Ok-eq0.field-0) buffer.items in
-    let bytes_are = c.split_at-in-Ok-eq0.ensures.front ∙ ap (take c.loop-body.filled) c.as_slice-in-Ok-eq0.ensures.value in
+    let bytes_are = front_is _ _ _ _ c.split_at-in-Ok-eq0.ensures.front c.as_slice-in-Ok-eq0.ensures.value in
     let all : after ≡ bytes = ap (λ k. take k buffer.items) (omega (arith, c.in-Ok-eq0.field-0-test)) ∙ sym bytes_are in
     replies_if c.close.result _ _ (take c.args.first c.args.buffer.now.items) bytes true
     (subst (ReadsMore _ _ (take c.args.first c.args.buffer.now.items)) all (more_behind _ _ _ _ _ _ _ c.loop-body.invariant.read c.make_room.ensures.front c.in-Ok-eq0.ensures.read))
@@ -121,7 +121,7 @@ loop-body-preserved g c =
     let len = inv.front in
     let head = c.in_ok-reply.ensures.head in
     let short : r.head.len ≤ length before = omega (arith, len, inv.len, ap (λ h. h.len) head) in
-    let bytes_are = c.split_at.ensures.front ∙ ap (take c.loop-body.filled) c.as_slice.ensures.value in
+    let bytes_are = front_is _ _ _ _ c.split_at.ensures.front c.as_slice.ensures.value in
     let state = goes_on_here _ before r _ c.in_ok-reply.ensures.settled c.in_default.is bytes_are in
     let begins = subst (λ h. BeginsWith before h (drop h.len before)) (sym head) inv.begins in
     let more = subst (λ t. ReadsMore (g.L.Link.told c.loop-body.link) (g.L.Link.told c.read_more.new.link) t after) c.make_room.ensures.front c.in-Ok.ensures.read in

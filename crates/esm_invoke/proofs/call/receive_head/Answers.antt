@@ -1,12 +1,11 @@
-use Rattle.std.proofs.Common.{◌≡◌, ◌≤◌, ◌+◌, true, false, length, take, drop, sym, refl, ap, ◌∙◌, inl, inr, subst, arith, rules, vec_len}
+use Rattle.std.proofs.Common.{◌≡◌, ◌+◌, true, false, length, take, drop, sym, refl, inl, inr, subst, arith, rules, vec_len}
 use Rattle.std.proofs.lemmas.Bool.{false≢true}
 use Rattle.std.proofs.lemmas.List.{length-take-le}
 use Rattle.esm_io.specs.Talks.{Reads}
-use Rattle.esm_invoke.specs.Exchange.{GrowsFor}
 use Rattle.esm_invoke.specs.Response.{BeginsWith, NeverHolds}
 use Rattle.esm_invoke.specs.ResponseRead.{HasNoHead, NeverBegins}
 use Rattle.esm_invoke.proofs.TalkLemmas.{Reads_none}
-use Rattle.esm_invoke.proofs.ReplyLemmas.{no_head_in_none, none_without_head, never_without_head, never_none, reads_behind, into_front}
+use Rattle.esm_invoke.proofs.ReplyLemmas.{no_head_in_none, none_without_head, never_without_head, never_none, reads_behind, into_front, front_is}
 use Rattle.esm_invoke.proofs.call.receive_head.Goals as goal
 
 pub loop-filled-init : goal.loop-filled-init
@@ -34,7 +33,7 @@ pub returns-in-Found-clause-received : goal.returns-in-Found-clause-received
 returns-in-Found-clause-received g c =
     let buffer = c.read_more.new.buffer in
     let all : vec_len buffer ≡ length buffer.items = search rules in
-    let bytes_are = c.split_at.ensures.front ∙ ap (take (c.loop-filled.filled + c.in-Ok.count)) c.as_slice.ensures.value in
+    let bytes_are = front_is _ _ _ _ c.split_at.ensures.front c.as_slice.ensures.value in
     let head = c.in-Found.head in (
       omega (arith, c.in-Ok.ensures.within),
       reads_behind _ _ _ _ _ _ c.loop-filled.invariant.read c.in_ok-make_room.ensures.front c.in-Ok.ensures.read,
@@ -48,7 +47,7 @@ returns-in-More-2-clause-received g c =
     let buffer = c.read_more.new.buffer in
     let all : vec_len buffer ≡ length buffer.items = search rules in
     let bytes = take (c.loop-filled.filled + c.in-Ok.count) buffer.items in
-    let bytes_are = c.split_at.ensures.front ∙ ap (take (c.loop-filled.filled + c.in-Ok.count)) c.as_slice.ensures.value in
+    let bytes_are = front_is _ _ _ _ c.split_at.ensures.front c.as_slice.ensures.value in
     let none : HasNoHead (length bytes) bytes = subst (λ t. HasNoHead (length t) t) bytes_are c.in-More-2.ensures in (
       omega (arith, c.in-Ok.ensures.within),
       reads_behind _ _ _ _ _ _ c.loop-filled.invariant.read c.in_ok-make_room.ensures.front c.in-Ok.ensures.read,
@@ -74,7 +73,7 @@ returns-in-Never-clause-received g c =
     let buffer = c.read_more.new.buffer in
     let all : vec_len buffer ≡ length buffer.items = search rules in
     let bytes = take (c.loop-filled.filled + c.in-Ok.count) buffer.items in
-    let bytes_are = c.split_at.ensures.front ∙ ap (take (c.loop-filled.filled + c.in-Ok.count)) c.as_slice.ensures.value in
+    let bytes_are = front_is _ _ _ _ c.split_at.ensures.front c.as_slice.ensures.value in
     let never : NeverHolds bytes = never_without_head bytes (subst NeverBegins bytes_are c.in-Never.ensures) in (
       omega (arith, c.in-Ok.ensures.within),
       reads_behind _ _ _ _ _ _ c.loop-filled.invariant.read c.in_ok-make_room.ensures.front c.in-Ok.ensures.read,
