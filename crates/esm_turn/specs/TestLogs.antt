@@ -1,4 +1,4 @@
--- The lists that the tests hand on.
+-- The lists that the tests hand on: entry `Came n ..` is the seat n's. The tests alone cite this.
 use Rattle.std.specs.Prelude.{ℕ, []}
 use Rattle.esm_model.specs.declared.entry.Entry.{Entry}
 use Rattle.esm_model.specs.declared.entry.Entry.TheVariants.{Came}
@@ -7,6 +7,11 @@ use Rattle.esm_model.specs.declared.setup.Told.{Told}
 abbrev pub told : Entry → Told
 told e = record { entry = e; records = []; messages = [] }
 
--- one record of the shard 0 came
-abbrev pub came_at : ℕ → Entry
-came_at first = Came 0 first 1 0
+-- the seat's entry
+abbrev pub entry_of : ℕ → Entry
+entry_of seat = Came seat 0 1 0
+
+-- the seat whose entry it is
+abbrev pub seat_of : Entry → ℕ
+seat_of (Came seat first count moment) = seat
+seat_of _ = 0

@@ -3,12 +3,10 @@
 //! the contracts say that both stand, whatever the other threads do.
 #![tactic(auto)]
 
-mod look;
 mod part;
 mod rule;
 mod turn;
 
-pub use look::look_in_turn;
 pub use part::Part;
 pub use turn::{Held, Seat, Turn};
 

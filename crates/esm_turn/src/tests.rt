@@ -1,5 +1,5 @@
-ghost use Rattle.std.specs.Prelude.{◌≡◌, ℕ, ◌<◌, ◌^◌, ◌++◌, [], ◌∷◌, false, length, MatchBool, IsTrue, slice_index_or};
-ghost use Rattle.esm_turn.specs.TestLogs.{came_at};
+ghost use Rattle.std.specs.Prelude.{◌≡◌, ℕ, ◌<◌, ◌≤◌, ◌^◌, ◌++◌, [], ◌∷◌, false, length, MatchBool, slice_index_or};
+ghost use Rattle.esm_turn.specs.TestLogs.{entry_of};
 ghost use Rattle.esm_turn.specs.Seats.{IsFreeSeat, SeatView};
 
 use crate::turn::{Held, Seat, Turn};
@@ -9,8 +9,9 @@ use std::sync::Wait;
 use std::test::Fail;
 use std::thread;
 use std::thread::Threads;
+use std::time::{Clock, Duration};
 
-/// A list of entries, all of which are seat 0's.
+/// A list of entries; each tells the seat that added it.
 #[derive(Drop)]
 struct Log {
     entries: Vec<Entry>,
@@ -20,7 +21,7 @@ struct Log {
 impl Kept for Log {
     ghost use Rattle.std.specs.Prelude.{map, false};
     ghost use Rattle.esm_model.specs.Setup.{no_setup};
-    ghost use Rattle.esm_turn.specs.TestLogs.{told};
+    ghost use Rattle.esm_turn.specs.TestLogs.{told, seat_of};
 
     ghost setup = { λ _. no_setup };
 
@@ -28,7 +29,7 @@ impl Kept for Log {
 
     ghost mark = { λ _. false };
 
-    ghost author = { λ _ _ _. 0 };
+    ghost author = { λ _ _ told. seat_of told.entry };
 
     ghost may_follow = { λ _ _ _. Unit {0} };
 
@@ -45,15 +46,15 @@ const MOST: usize = 1 << 40;
 
 impl Log {
     // False where there is no room.
-    fn add(&mut self, first: u32) -> bool
-        ensures { MatchBool result (self.new.entries.items ≡ self.old.entries.items ++ came_at first ∷ []) (self.new.entries.items ≡ self.old.entries.items) }
+    fn add(&mut self, seat: u64) -> bool
+        ensures { MatchBool result (self.new.entries.items ≡ self.old.entries.items ++ entry_of seat ∷ []) (self.new.entries.items ≡ self.old.entries.items) }
     {
         if self.entries.len() >= MOST {
             return false;
         }
         let entry = Entry::Came {
-            shard: 0,
-            first,
+            shard: seat,
+            first: 0,
             count: 1,
             moment: 0,
         };
@@ -61,35 +62,48 @@ impl Log {
     }
 }
 
-// One turn; the seat adds an entry where it is to.
-fn once<R: Wait>(rt: &R, turn: &Turn<Log>, seat: &mut Seat<Log>, adds: bool)
+// How often each seat takes the turn, and how many milliseconds it keeps the value.
+#[derive(Clone, Copy)]
+struct Turns {
+    count: u32,
+    held_ms: u64,
+}
+
+// One turn of the seat with this number, which adds an entry.
+fn once<R: Wait + Clock>(rt: &R, turn: &Turn<Log>, seat: &mut Seat<Log>, number: u64, held_ms: u64)
     requires at { seat.old.at ≡ turn.now.at }
     requires free { seat.old.holds ≡ false }
-    requires author { IsTrue adds → seat.old.number ≡ 0 }
+    requires number { seat.old.number ≡ number }
     ensures setup { seat.new.setup ≡ seat.old.setup }
     ensures number { seat.new.number ≡ seat.old.number }
     ensures at { seat.new.at ≡ seat.old.at }
     ensures free { seat.new.holds ≡ false }
 {
     let Held { mut value } = turn.take(rt, seat);
-    if adds {
-        value.add(0);
+    value.add(number);
+    if held_ms > 0 {
+        thread::sleep(rt, Duration::from_millis(held_ms));
     }
     turn.give(seat, Held { value });
 }
 
-// So many turns of the seat k of this turn.
-fn often<R: Wait>(rt: &R, turn: &Turn<Log>, seat: &mut Seat<Log>, k: usize, times: u32)
+// All turns of the seat k.
+fn often<R: Wait + Clock>(rt: &R, turn: &Turn<Log>, seat: &mut Seat<Log>, k: usize, turns: Turns)
     requires { IsFreeSeat turn.now k seat.old }
     ensures { IsFreeSeat turn.now k seat.new }
 {
-    for _i in 0..times {
-        once(rt, turn, seat, k == 0);
+    for _i in 0..turns.count {
+        once(rt, turn, seat, k as u64, turns.held_ms);
     }
 }
 
-// Each seat has 100 turns, in a thread of its own, and seat 0 adds an entry each time.
-fn all_often<R: Threads + Wait + Sync>(rt: &R, turn: &Turn<Log>, seats: &mut [Seat<Log>])
+// Each seat has its turns in a thread of its own.
+fn all_often<R: Threads + Wait + Clock + Sync>(
+    rt: &R,
+    turn: &Turn<Log>,
+    seats: &mut [Seat<Log>],
+    turns: Turns,
+)
     requires { (k : ℕ) (d : SeatView) → k < length seats.old → IsFreeSeat turn.now k (slice_index_or seats.old k d) }
     ensures { (k : ℕ) (d : SeatView) → k < length seats.old → IsFreeSeat turn.now k (slice_index_or seats.new k d) }
 {
@@ -101,7 +115,7 @@ fn all_often<R: Threads + Wait + Sync>(rt: &R, turn: &Turn<Log>, seats: &mut [Se
         &|k: usize, seat: &mut Seat<Log>|
             requires { IsFreeSeat turn.now k seat.now }
             ensures { IsFreeSeat turn.entry.now k seat.exit.now }
-        { often(rt, turn, seat, k, 100) },
+        { often(rt, turn, seat, k, turns) },
     );
 }
 
@@ -113,11 +127,18 @@ fn empty(alloc: Global) -> Log
     }
 }
 
-// The number of entries after two seats had 100 turns each.
-fn count_of_two<R: Threads + Wait + Sync>(rt: &R, alloc: Global) -> Option<usize> {
-    match Turn::new(alloc, empty(alloc), 2) {
+// The number of entries after so many seats had their turns.
+fn count_of_entries<R: Threads + Wait + Clock + Sync>(
+    rt: &R,
+    alloc: Global,
+    seats: u32,
+    turns: Turns,
+) -> Option<usize>
+    requires { (0 < seats) × (seats ≤ 65) }
+{
+    match Turn::new(alloc, empty(alloc), seats) {
         Ok((turn, mut seats)) => {
-            all_often(rt, &turn, seats.as_mut_slice());
+            all_often(rt, &turn, seats.as_mut_slice(), turns);
             Some(turn.close(seats).entries.len())
         }
         Err(_) => None,
@@ -126,16 +147,32 @@ fn count_of_two<R: Threads + Wait + Sync>(rt: &R, alloc: Global) -> Option<usize
 
 #[test]
 fn two_seats_with_two_threads(rt: HostRuntime) -> Result<(), Fail> {
-    let count = count_of_two(&rt, rt.alloc()).ok_or("no memory")?;
-    assert_eq!(rt; count, 100);
+    let turns = Turns {
+        count: 100,
+        held_ms: 0,
+    };
+    let count = count_of_entries(&rt, rt.alloc(), 2, turns).ok_or("no memory")?;
+    assert_eq!(rt; count, 200);
+    Ok(())
+}
+
+// A seat that waits is soon out of patience, so all but the one that has the value sleep, and each is woken three times.
+#[test]
+fn sleeping_seats_are_woken(rt: HostRuntime) -> Result<(), Fail> {
+    let turns = Turns {
+        count: 3,
+        held_ms: 20,
+    };
+    let count = count_of_entries(&rt, rt.alloc(), 6, turns).ok_or("no memory")?;
+    assert_eq!(rt; count, 18);
     Ok(())
 }
 
 // How many entries seat 1 found after seat 0's turn, and how many there were at the end.
-fn found_by_second<R: Wait>(rt: &R, alloc: Global) -> Option<(usize, usize)> {
+fn found_by_second<R: Wait + Clock>(rt: &R, alloc: Global) -> Option<(usize, usize)> {
     match Turn::new(alloc, empty(alloc), 2) {
         Ok((turn, mut seats)) => {
-            once(rt, &turn, &mut seats[0], true);
+            once(rt, &turn, &mut seats[0], 0, 0);
             let seat = &mut seats[1];
             let held = turn.take(rt, seat);
             let found = held.value.entries.len();
