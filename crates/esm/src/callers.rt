@@ -1,0 +1,67 @@
+ghost use Rattle.std.specs.Prelude.{◌≡◌, [], false, length, IfOk};
+ghost use Rattle.std.specs.List.{All};
+ghost use Rattle.esm_io.specs.Script.{HasNoLost};
+ghost use Rattle.esm_io.specs.Caller.{new_caller};
+ghost use Rattle.esm_invoke.specs.declared.program_caller.ProgramCaller.TheVariants as kind;
+ghost use Rattle.esm.specs.Callers.{IsCaller};
+
+use crate::functions::Functions;
+use esm_invoke::{HttpCaller, ProgramCaller};
+use esm_io::{Script, ScriptCaller};
+use esm_model::{Bytes, OutOfMemory, Reply};
+use std::alloc::Global;
+use std::net::Net;
+
+/// How many callers there are: one for each batcher.
+const CALLERS: usize = 64;
+
+/// A caller in memory that answers by the script.
+fn scripted<R: Net + Clone>(alloc: Global, script: Script) -> ProgramCaller<R>
+    requires { HasNoLost script }
+    ensures { elim result [ kind.Script caller ↦ caller ≡ new_caller script [] false | kind.Http caller ↦ ⊥ ] }
+{
+    ProgramCaller::Script(ScriptCaller::new(alloc, script, Vec::new(alloc)))
+}
+
+/// A caller that answers as the functions do.
+fn caller<R: Net + Clone>(
+    rt: &R,
+    alloc: Global,
+    functions: Functions<'_>,
+) -> Result<ProgramCaller<R>, OutOfMemory>
+    ensures { IfOk result (λ c. IsCaller functions.entry (elim c [ kind.Script caller ↦ Some caller | kind.Http caller ↦ None ])) }
+{
+    match functions {
+        Functions::Succeed => Ok(scripted(
+            alloc,
+            Script::Always(Reply::Answered {
+                status: 200,
+                error: false,
+                body: Bytes::from_vec(Vec::new(alloc)),
+            }),
+        )),
+        Functions::Poison(text) => {
+            let bytes = Vec::from_slice(alloc, text.as_bytes())?;
+            Ok(scripted(alloc, Script::Poison(Bytes::from_vec(bytes))))
+        }
+        Functions::Port(port) => Ok(ProgramCaller::Http(HttpCaller::new(rt, alloc, port)?)),
+    }
+}
+
+/// The callers that answer as the functions do, one for each batcher.
+pub fn callers<R: Net + Clone>(
+    rt: &R,
+    alloc: Global,
+    functions: Functions<'_>,
+) -> Result<Vec<ProgramCaller<R>>, OutOfMemory>
+    ensures count { IfOk result (λ callers. length callers.items ≡ 64) }
+    ensures each { IfOk result (λ callers. All
+        (λ c. IsCaller functions.entry (elim c [ kind.Script caller ↦ Some caller | kind.Http caller ↦ None ])) callers.items) }
+{
+    let mut callers = Vec::with_capacity(alloc, CALLERS)?;
+    for batcher in 0..CALLERS {
+        let caller = caller(rt, alloc, functions)?;
+        callers.push(caller)?;
+    }
+    Ok(callers)
+}
