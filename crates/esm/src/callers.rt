@@ -3,17 +3,14 @@ ghost use Rattle.std.specs.List.{All};
 ghost use Rattle.esm_io.specs.Script.{HasNoLost};
 ghost use Rattle.esm_io.specs.Caller.{new_caller};
 ghost use Rattle.esm_invoke.specs.declared.program_caller.ProgramCaller.TheVariants as kind;
-ghost use Rattle.esm.specs.Callers.{IsCaller};
+ghost use Rattle.esm.specs.Callers.{IsCaller, InMemory, OverHttp};
 
 use crate::functions::Functions;
 use esm_invoke::{HttpCaller, ProgramCaller};
 use esm_io::{Script, ScriptCaller};
-use esm_model::{Bytes, OutOfMemory, Reply};
+use esm_model::{Bytes, MAX_LANES, OutOfMemory, Reply};
 use std::alloc::Global;
 use std::net::Net;
-
-/// How many callers there are: one for each batcher.
-const CALLERS: usize = 64;
 
 /// A caller in memory that answers by the script.
 fn scripted<R: Net + Clone>(alloc: Global, script: Script) -> ProgramCaller<R>
@@ -29,7 +26,7 @@ fn caller<R: Net + Clone>(
     alloc: Global,
     functions: Functions<'_>,
 ) -> Result<ProgramCaller<R>, OutOfMemory>
-    ensures { IfOk result (λ c. IsCaller functions.entry (elim c [ kind.Script caller ↦ Some caller | kind.Http caller ↦ None ])) }
+    ensures { IfOk result (λ c. IsCaller functions.entry (elim c [ kind.Script caller ↦ InMemory caller | kind.Http caller ↦ OverHttp caller.port ])) }
 {
     match functions {
         Functions::Succeed => Ok(scripted(
@@ -54,12 +51,12 @@ pub fn callers<R: Net + Clone>(
     alloc: Global,
     functions: Functions<'_>,
 ) -> Result<Vec<ProgramCaller<R>>, OutOfMemory>
-    ensures count { IfOk result (λ callers. length callers.items ≡ 64) }
+    ensures count { IfOk result (λ callers. length callers.items ≡ MAX_LANES) }
     ensures each { IfOk result (λ callers. All
-        (λ c. IsCaller functions.entry (elim c [ kind.Script caller ↦ Some caller | kind.Http caller ↦ None ])) callers.items) }
+        (λ c. IsCaller functions.entry (elim c [ kind.Script caller ↦ InMemory caller | kind.Http caller ↦ OverHttp caller.port ])) callers.items) }
 {
-    let mut callers = Vec::with_capacity(alloc, CALLERS)?;
-    for batcher in 0..CALLERS {
+    let mut callers = Vec::with_capacity(alloc, MAX_LANES)?;
+    for batcher in 0..MAX_LANES {
         let caller = caller(rt, alloc, functions)?;
         callers.push(caller)?;
     }

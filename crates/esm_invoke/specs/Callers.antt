@@ -1,7 +1,8 @@
 -- What a caller over HTTP tells of itself. This product's own.
 use Rattle.std.specs.Prelude.{ℕ}
 
--- its count of faults, and the bytes of memory that its work area takes
+-- the port of 127.0.0.1 that it calls, its count of faults, and the bytes of memory that its work area takes
 pub record HttpState : Type 0 where
+  pub port : ℕ
   pub faults : ℕ
   pub room : ℕ

@@ -26,7 +26,7 @@ impl<R: Net + Clone> Model for HttpCaller<R> {
 
     ghost Value = { HttpState };
 
-    ghost view = { λ s. record { faults = s.faults; room = vec_capacity s.buffer } };
+    ghost view = { λ s. record { port = s.port; faults = s.faults; room = vec_capacity s.buffer } };
 
     ghost invariant = { λ s. s.faults ≤ MAX_FAULTS };
 }
@@ -34,6 +34,7 @@ impl<R: Net + Clone> Model for HttpCaller<R> {
 impl<R: Net + Clone> HttpCaller<R> {
     /// A caller on this port. It opens nothing, and its work area takes no memory before the first call.
     pub fn new(rt: &R, alloc: Global, port: u16) -> Result<Self, OutOfMemory>
+        ensures port { IfOk result (λ caller. caller.port ≡ port) }
         ensures faultless { IfOk result (λ caller. caller.faults ≡ 0) }
         ensures roomless { IfOk result (λ caller. caller.room ≡ 0) }
     {

@@ -1,7 +1,7 @@
-use Rattle.std.proofs.Common.{length-append, arith, Some, None}
+use Rattle.std.proofs.Common.{length-append, arith}
 use Rattle.std.proofs.lemmas.List.Elements.{All-push}
 use Rattle.esm_invoke.specs.declared.program_caller.ProgramCaller.TheVariants as kind
-use Rattle.esm.specs.Callers.{IsCaller}
+use Rattle.esm.specs.Callers.{IsCaller, InMemory, OverHttp}
 use Rattle.esm.proofs.callers.callers.Goals as goal
 
 pub loop-batcher-preserved : goal.loop-batcher-preserved
@@ -9,6 +9,6 @@ loop-batcher-preserved g c =
     rw c.in_ok-push.ensures.items (record {
       count = simp length-append (omega arith);
       each = All-push
-          (λ x. IsCaller c.args.functions (elim x [ kind.Script caller ↦ Some caller | kind.Http caller ↦ None ]))
+          (λ x. IsCaller c.args.functions (elim x [ kind.Script caller ↦ InMemory caller | kind.Http caller ↦ OverHttp caller.port ]))
           c.loop-batcher.callers.items c.in_ok-caller.caller c.loop-batcher.invariant.each c.in_ok-caller.ensures;
     })
