@@ -4,7 +4,10 @@ pub mod FirstLine
 pub mod Follows
 pub mod Inputs
 pub mod Wholes
-pub mod Objects
+pub mod Records
+pub mod LineTokens
+pub mod Leaves
+pub mod Tokens
 pub mod Splits
 pub mod Steps
 pub mod Valid

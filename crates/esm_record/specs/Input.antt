@@ -3,6 +3,7 @@
 use Rattle.std.specs.Prelude.{ℕ, ◌+◌, ◌==◌, nat_lt, Bool, ◌||◌, List, [], ◌∷◌, ◌++◌, length, fold, Option, Some, None, is_some, Result, Ok, Err, if◌then◌else◌}
 use Rattle.std.specs.List.{list_all, slice_split}
 use Rattle.std.specs.Ordering.{is_lt}
+use Rattle.esm_model.specs.declared.limits.TheConstants.{MAX_LINE}
 use Rattle.esm_model.specs.Sequence.{sequence_order}
 use Rattle.esm_model.specs.Valid.{IsValidRecord}
 use Rattle.esm_model.specs.declared.item.Record.{Record}
@@ -14,10 +15,6 @@ use Rattle.esm_record.specs.declared.item.LineKind.TheVariants as kinds
 use Rattle.esm_record.specs.declared.item.Item.{Item}
 use Rattle.esm_record.specs.declared.item.Item.TheVariants.{Stream}
 use Rattle.esm_record.specs.Line.{◌>>=◌, line_of}
-
--- bytes of a line, without its line feed
-abbrev pub MAX_LINE : ℕ
-MAX_LINE = 8388608
 
 abbrev pub is_line_feed : ℕ → Bool
 is_line_feed b = b == 10

@@ -4,4 +4,5 @@ pub mod Input
 pub mod GoesOn
 pub mod Numbers
 pub mod Splitting
+pub mod Leaf
 pub mod Fed

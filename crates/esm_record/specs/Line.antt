@@ -74,6 +74,14 @@ name_of field.PartitionKey = codes "partitionKey"
 name_of field.Data = codes "data"
 name_of field.ApproximateArrivalTimestamp = codes "approximateArrivalTimestamp"
 
+-- its place among the fields
+abbrev pub slot_of : Field → ℕ
+slot_of field.ShardId = 0
+slot_of field.SequenceNumber = 1
+slot_of field.PartitionKey = 2
+slot_of field.Data = 3
+slot_of field.ApproximateArrivalTimestamp = 4
+
 -- what the field says: it is there, and its value reads
 abbrev pub judged : {A : Type 0} → Field → (Data → Option A) → Option Data → Result A LineError
 judged name reading None = Err (Missing name)

@@ -3,7 +3,8 @@ use Rattle.std.specs.Prelude.{◌≡◌, ℕ, ◌≤◌, false, List, [], ◌∷
 use Rattle.std.specs.List.{All}
 use Rattle.esm_record.specs.declared.item.Item.{Item}
 use Rattle.esm_record.specs.declared.splitter.Splitter.{Splitter}
-use Rattle.esm_record.specs.Input.{MAX_LINE, Input, is_line_feed, lines_of, begun, input_so_far}
+use Rattle.esm_model.specs.declared.limits.TheConstants.{MAX_LINE}
+use Rattle.esm_record.specs.Input.{Input, is_line_feed, lines_of, begun, input_so_far}
 use Rattle.esm_record.specs.Numbers.{Follows}
 
 abbrev pub NoLineFeed : List ℕ → Type 0

@@ -1,5 +1,6 @@
-ghost use Rattle.std.specs.Prelude.{◌≡◌, IfOk};
-ghost use Rattle.esm_record.specs.Line.{name_of};
+ghost use Rattle.std.specs.Prelude.{◌≡◌, ◌≢◌, ◌<◌, IfOk, IfSome, IfNone};
+ghost use Rattle.esm_record.specs.Line.{name_of, slot_of};
+ghost use Rattle.esm_record.specs.declared.error.Field.{Field};
 
 use esm_model::{OutOfMemory, Text};
 use std::alloc::{AllocError, Global};
@@ -32,6 +33,35 @@ impl Field {
             Field::ApproximateArrivalTimestamp => "approximateArrivalTimestamp",
         }
     }
+
+    /// The field of this name.
+    pub fn of_name(name: &str) -> Option<Field>
+        ensures named { IfSome result (λ f. name.now ≡ name_of f) }
+        ensures none { IfNone result ((f : Field) → name.now ≢ name_of f) }
+    {
+        match name {
+            "shardId" => Some(Field::ShardId),
+            "sequenceNumber" => Some(Field::SequenceNumber),
+            "partitionKey" => Some(Field::PartitionKey),
+            "data" => Some(Field::Data),
+            "approximateArrivalTimestamp" => Some(Field::ApproximateArrivalTimestamp),
+            _ => None,
+        }
+    }
+
+    /// Its place among the fields.
+    pub fn slot(self) -> usize
+        ensures value { result ≡ slot_of self }
+        ensures within { result < 5 }
+    {
+        match self {
+            Field::ShardId => 0,
+            Field::SequenceNumber => 1,
+            Field::PartitionKey => 2,
+            Field::Data => 3,
+            Field::ApproximateArrivalTimestamp => 4,
+        }
+    }
 }
 
 /// Why a line is refused: the first of these that holds.
@@ -56,12 +86,6 @@ pub struct BadLine {
     pub why: LineError,
 }
 
-fn copy_of(alloc: Global, text: &Text) -> Result<Text, OutOfMemory>
-    ensures { IfOk result (λ t. t ≡ text.now) }
-{
-    Ok(Text::from_vec(String::from_str(alloc, text.as_str())?))
-}
-
 impl LineError {
     fn copy(&self, alloc: Global) -> Result<LineError, OutOfMemory>
         ensures { IfOk result (λ e. e ≡ self.now) }
@@ -72,8 +96,8 @@ impl LineError {
             LineError::BadField(field) => Ok(LineError::BadField(*field)),
             LineError::LineTooLong => Ok(LineError::LineTooLong),
             LineError::Backwards { kept, given } => {
-                let kept = copy_of(alloc, kept)?;
-                let given = copy_of(alloc, given)?;
+                let kept = kept.copy(alloc)?;
+                let given = given.copy(alloc)?;
                 Ok(LineError::Backwards { kept, given })
             }
         }

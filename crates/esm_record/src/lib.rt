@@ -8,6 +8,9 @@ mod item;
 pub mod laws;
 mod line;
 mod lines;
+mod number;
+mod numbers;
+mod object;
 mod order;
 mod splitter;
 

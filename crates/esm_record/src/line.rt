@@ -1,24 +1,21 @@
-ghost use Rattle.std.specs.Prelude.{◌≡◌, ◌<◌, ◌≤◌, ◌^◌, ◌==◌, ◌&&◌, codes, nat_eq, true, length, filter, drop, option_map, IfOk, OnErr};
+ghost use Rattle.std.specs.Prelude.{◌≡◌, ◌<◌, ◌≤◌, ◌^◌, ◌==◌, ◌&&◌, codes, nat_eq, true, length, filter, drop, IfOk};
 ghost use Rattle.std.specs.List.{list_all, starts_with};
 ghost use Rattle.std.specs.Option.{ok_or};
 ghost use Rattle.std.specs.Char.{is_ascii_digit};
 ghost use Rattle.std.specs.Str.Parse.{digits_value};
-ghost use Rattle.serde_json.specs.View.{view};
-ghost use Rattle.serde_json.specs.Find.{get};
 ghost use Rattle.esm_model.specs.Valid.{begins_char, is_between, char_count};
 ghost use Rattle.esm_record.specs.Gives.{Gives};
 ghost use Rattle.esm_record.specs.Line as spec;
+ghost use Rattle.esm_record.specs.Leaf.{text_in, of_text_in, moment_in, field_in, record_in, leaf_at};
 
 use crate::error::{Field, LineError, Refusal};
+use crate::object::{Found, Leaf, read_object};
 use base64::DecodeAllocError;
 use base64::engine::general_purpose::STANDARD;
 use esm_model::spelling::are_digits;
-use esm_model::{Bytes, MAX_MOMENT, OutOfMemory, Record, Seq, SeqError, Text};
-use serde_json::Value;
+use esm_model::{Bytes, MAX_DATA, MAX_MOMENT, OutOfMemory, Record, Seq, SeqError, Text};
+use json::Scratch;
 use std::alloc::Global;
-
-/// The bytes that a record's data has at most.
-const MAX_DATA: usize = 1048576;
 
 fn begins_as_shard_id(text: &[u8]) -> bool
     ensures { result ≡ starts_with nat_eq text.now (codes "shardId-") }
@@ -71,19 +68,19 @@ fn is_partition_key(text: &[u8]) -> bool
     1 <= characters && characters <= 256
 }
 
-fn shard_in(value: &Value) -> Option<u64>
-    ensures { result ≡ spec.of_text spec.shard_number (view value.now) }
+fn shard_in(leaf: Leaf<'_>) -> Option<u64>
+    ensures { result ≡ of_text_in spec.shard_number leaf.entry }
 {
-    match value.as_str() {
+    match leaf.text() {
         Some(text) => shard_number(text.as_bytes()),
         None => None,
     }
 }
 
-fn sequence_number_in(alloc: Global, value: &Value) -> Result<Option<Seq>, OutOfMemory>
-    ensures { IfOk result (λ o. o ≡ spec.of_text spec.sequence_number (view value.now)) }
+fn sequence_number_in(alloc: Global, leaf: Leaf<'_>) -> Result<Option<Seq>, OutOfMemory>
+    ensures { IfOk result (λ o. o ≡ of_text_in spec.sequence_number leaf.entry) }
 {
-    let Some(text) = value.as_str() else {
+    let Some(text) = leaf.text() else {
         return Ok(None);
     };
     match Seq::read(alloc, text) {
@@ -93,10 +90,10 @@ fn sequence_number_in(alloc: Global, value: &Value) -> Result<Option<Seq>, OutOf
     }
 }
 
-fn partition_key_in(alloc: Global, value: &Value) -> Result<Option<Text>, OutOfMemory>
-    ensures { IfOk result (λ o. o ≡ spec.of_text spec.partition_key (view value.now)) }
+fn partition_key_in(alloc: Global, leaf: Leaf<'_>) -> Result<Option<Text>, OutOfMemory>
+    ensures { IfOk result (λ o. o ≡ of_text_in spec.partition_key leaf.entry) }
 {
-    let Some(text) = value.as_str() else {
+    let Some(text) = leaf.text() else {
         return Ok(None);
     };
     if !is_partition_key(text.as_bytes()) {
@@ -105,10 +102,10 @@ fn partition_key_in(alloc: Global, value: &Value) -> Result<Option<Text>, OutOfM
     Ok(Some(Text::from_vec(String::from_str(alloc, text)?)))
 }
 
-fn payload_in(alloc: Global, value: &Value) -> Result<Option<Bytes>, OutOfMemory>
-    ensures { IfOk result (λ o. o ≡ spec.of_text spec.payload (view value.now)) }
+fn payload_in(alloc: Global, leaf: Leaf<'_>) -> Result<Option<Bytes>, OutOfMemory>
+    ensures { IfOk result (λ o. o ≡ of_text_in spec.payload leaf.entry) }
 {
-    let Some(text) = value.as_str() else {
+    let Some(text) = leaf.text() else {
         return Ok(None);
     };
     match STANDARD.decode(alloc, text.as_bytes()) {
@@ -118,29 +115,29 @@ fn payload_in(alloc: Global, value: &Value) -> Result<Option<Bytes>, OutOfMemory
     }
 }
 
-fn moment_in(value: &Value) -> Option<u64>
-    ensures { result ≡ spec.moment (view value.now) }
+fn moment_in(leaf: Leaf<'_>) -> Option<u64>
+    ensures { result ≡ moment_in leaf.entry }
 {
-    match value.as_u64() {
+    match leaf.whole() {
         Some(moment) if moment <= MAX_MOMENT => Some(moment),
         _ => None,
     }
 }
 
-fn shard_of(line: &Value) -> Result<u64, LineError>
-    ensures { result ≡ spec.field_of Field.ShardId (spec.of_text spec.shard_number) (view line.now) }
+fn shard_of(line: &Found<'_>) -> Result<u64, LineError>
+    ensures { result ≡ field_in Field.ShardId (of_text_in spec.shard_number) (leaf_at Field.ShardId line.now) }
 {
-    match line.get(Field::ShardId.name()) {
-        Some(value) => shard_in(value).ok_or(LineError::BadField(Field::ShardId)),
+    match line.leaf(Field::ShardId) {
+        Some(leaf) => shard_in(leaf).ok_or(LineError::BadField(Field::ShardId)),
         None => Err(LineError::Missing(Field::ShardId)),
     }
 }
 
-fn sequence_number_of(alloc: Global, line: &Value) -> Result<Seq, Refusal>
-    ensures { Gives result (spec.field_of Field.SequenceNumber (spec.of_text spec.sequence_number) (view line.now)) }
+fn sequence_number_of(alloc: Global, line: &Found<'_>) -> Result<Seq, Refusal>
+    ensures { Gives result (field_in Field.SequenceNumber (of_text_in spec.sequence_number) (leaf_at Field.SequenceNumber line.now)) }
 {
-    match line.get(Field::SequenceNumber.name()) {
-        Some(value) => match sequence_number_in(alloc, value)? {
+    match line.leaf(Field::SequenceNumber) {
+        Some(leaf) => match sequence_number_in(alloc, leaf)? {
             Some(seq) => Ok(seq),
             None => Err(Refusal::Line(LineError::BadField(Field::SequenceNumber))),
         },
@@ -148,11 +145,11 @@ fn sequence_number_of(alloc: Global, line: &Value) -> Result<Seq, Refusal>
     }
 }
 
-fn partition_key_of(alloc: Global, line: &Value) -> Result<Text, Refusal>
-    ensures { Gives result (spec.field_of Field.PartitionKey (spec.of_text spec.partition_key) (view line.now)) }
+fn partition_key_of(alloc: Global, line: &Found<'_>) -> Result<Text, Refusal>
+    ensures { Gives result (field_in Field.PartitionKey (of_text_in spec.partition_key) (leaf_at Field.PartitionKey line.now)) }
 {
-    match line.get(Field::PartitionKey.name()) {
-        Some(value) => match partition_key_in(alloc, value)? {
+    match line.leaf(Field::PartitionKey) {
+        Some(leaf) => match partition_key_in(alloc, leaf)? {
             Some(key) => Ok(key),
             None => Err(Refusal::Line(LineError::BadField(Field::PartitionKey))),
         },
@@ -160,11 +157,11 @@ fn partition_key_of(alloc: Global, line: &Value) -> Result<Text, Refusal>
     }
 }
 
-fn payload_of(alloc: Global, line: &Value) -> Result<Bytes, Refusal>
-    ensures { Gives result (spec.field_of Field.Data (spec.of_text spec.payload) (view line.now)) }
+fn payload_of(alloc: Global, line: &Found<'_>) -> Result<Bytes, Refusal>
+    ensures { Gives result (field_in Field.Data (of_text_in spec.payload) (leaf_at Field.Data line.now)) }
 {
-    match line.get(Field::Data.name()) {
-        Some(value) => match payload_in(alloc, value)? {
+    match line.leaf(Field::Data) {
+        Some(leaf) => match payload_in(alloc, leaf)? {
             Some(payload) => Ok(payload),
             None => Err(Refusal::Line(LineError::BadField(Field::Data))),
         },
@@ -172,11 +169,11 @@ fn payload_of(alloc: Global, line: &Value) -> Result<Bytes, Refusal>
     }
 }
 
-fn arrival_of(line: &Value) -> Result<u64, LineError>
-    ensures { result ≡ spec.field_of Field.ApproximateArrivalTimestamp spec.moment (view line.now) }
+fn arrival_of(line: &Found<'_>) -> Result<u64, LineError>
+    ensures { result ≡ field_in Field.ApproximateArrivalTimestamp moment_in (leaf_at Field.ApproximateArrivalTimestamp line.now) }
 {
-    match line.get(Field::ApproximateArrivalTimestamp.name()) {
-        Some(value) => moment_in(value).ok_or(LineError::BadField(
+    match line.leaf(Field::ApproximateArrivalTimestamp) {
+        Some(leaf) => moment_in(leaf).ok_or(LineError::BadField(
             Field::ApproximateArrivalTimestamp,
         )),
         None => Err(LineError::Missing(Field::ApproximateArrivalTimestamp)),
@@ -184,8 +181,8 @@ fn arrival_of(line: &Value) -> Result<u64, LineError>
 }
 
 /// The record that the members of the object are.
-fn record_of(alloc: Global, line: &Value) -> Result<Record, Refusal>
-    ensures { Gives result (spec.record_of (view line.now)) }
+fn record_of(alloc: Global, line: &Found<'_>) -> Result<Record, Refusal>
+    ensures { Gives result (record_in line.now) }
 {
     let shard = shard_of(line)?;
     let seq = sequence_number_of(alloc, line)?;
@@ -201,24 +198,18 @@ fn record_of(alloc: Global, line: &Value) -> Result<Record, Refusal>
     })
 }
 
-/// The JSON object that the bytes are; `None` where they are none.
-fn object_of(alloc: Global, bytes: &[u8]) -> Result<Option<Value>, OutOfMemory>
-    ensures { IfOk result (λ o. option_map view o ≡ spec.object_of bytes.now) }
-{
-    match Value::from_slice(alloc, bytes) {
-        Ok(value) if value.is_object() => Ok(Some(value)),
-        Ok(_) => Ok(None),
-        Err(e) if e.is_memory() => Err(OutOfMemory),
-        Err(_) => Ok(None),
-    }
-}
-
 /// The record of a stream's line, which is neither blank nor too long.
-pub fn read_line(alloc: Global, line: &[u8]) -> Result<Record, Refusal>
+pub fn read_line(alloc: Global, scratch: &mut Scratch, line: &[u8]) -> Result<Record, Refusal>
     ensures { Gives result (spec.line_of line.now) }
 {
-    match object_of(alloc, line)? {
-        Some(object) => record_of(alloc, &object),
+    let Ok(text) = std::str::from_utf8(line) else {
+        return Err(Refusal::Line(LineError::NotJson));
+    };
+    let Ok(object) = read_object(text, scratch) else {
+        return Err(Refusal::OutOfMemory);
+    };
+    match object {
+        Some(found) => record_of(alloc, &found),
         None => Err(Refusal::Line(LineError::NotJson)),
     }
 }

@@ -6,7 +6,7 @@ ghost use Rattle.esm_record.specs.Fed.{fed_bytes};
 
 use crate::item::{Fed, Items, LineKind};
 use crate::splitter::Splitter;
-use esm_model::OutOfMemory;
+use esm_model::{MAX_LINE, OutOfMemory};
 use std::alloc::Global;
 use std::marker::Model;
 use std::snapshot::Snapshot;
@@ -52,7 +52,7 @@ fn note(
 }
 
 fn feed_piece(alloc: Global, reading: &mut Splitter, piece: &[u8]) -> Result<Fed, OutOfMemory>
-    requires { IsNone reading.old.bad → length reading.old.begun.items ≤ 8388608 }
+    requires { IsNone reading.old.bad → length reading.old.begun.items ≤ MAX_LINE }
     ensures read { IfOk result (λ fed. (bytes : List ℕ) (before : List Item) → HasRead bytes before [] reading.old
         → HasRead (bytes ++ piece.now) before fed.items reading.new) }
     ensures bad { IfOk result (λ fed. fed.bad ≡ reading.new.bad) }
@@ -68,7 +68,7 @@ fn feed_piece(alloc: Global, reading: &mut Splitter, piece: &[u8]) -> Result<Fed
 }
 
 fn read_end(alloc: Global, reading: &mut Splitter) -> Result<Fed, OutOfMemory>
-    requires { IsNone reading.old.bad → length reading.old.begun.items ≤ 8388608 }
+    requires { IsNone reading.old.bad → length reading.old.begun.items ≤ MAX_LINE }
     ensures read { IfOk result (λ fed. (bytes : List ℕ) (before : List Item) → HasRead bytes before [] reading.old
         → Stands (input_of reading.old.kind bytes) before fed.items reading.new) }
     ensures bad { IfOk result (λ fed. fed.bad ≡ reading.new.bad) }

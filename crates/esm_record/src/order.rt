@@ -1,37 +1,25 @@
 ghost use Rattle.std.specs.Prelude.{◌≡◌, ℕ, List, ◌++◌, ◌∷◌, [], option_to_list, Ok, IfOk, IfErr, OnOk};
-ghost use Rattle.std.specs.Ordering.{nat_cmp};
-ghost use Rattle.std.specs.BTreeMap as map;
+ghost use Rattle.esm_model.specs.Sequence.{sequence_order};
 ghost use Rattle.esm_record.specs.Gives.{Gives, Fails};
 ghost use Rattle.esm_record.specs.Input.{is_blank_byte, is_blank, number_after, in_order, next_record, read_after};
-ghost use Rattle.esm_record.specs.Numbers.{Follows};
+ghost use Rattle.esm_record.specs.Numbers.{Follows, number_in};
 
 use crate::error::{LineError, Refusal};
 use crate::item::{Item, LineKind};
 use crate::line::read_line;
-use esm_model::{OutOfMemory, Record, Seq, Text};
+use crate::numbers::Numbers;
+use esm_model::{MAX_LINE, OutOfMemory, Record, Text};
+use json::Scratch;
 use std::alloc::Global;
 use std::cmp::Ordering;
-use std::collections::BTreeMap;
 
-/// The bytes of a line at most, without its line feed.
-pub const MAX_LINE: usize = 8388608;
-
-fn copy_of(alloc: Global, seq: &Seq) -> Result<Seq, OutOfMemory>
-    ensures { IfOk result (λ s. s ≡ seq.now) }
+fn text_of(alloc: Global, number: &str) -> Result<Text, OutOfMemory>
+    ensures { IfOk result (λ t. t ≡ number.now) }
 {
-    match Seq::read(alloc, seq.text()) {
-        Ok(copy) => Ok(copy),
-        Err(_) => Err(OutOfMemory),
-    }
+    Ok(Text::from_vec(String::from_str(alloc, number)?))
 }
 
-fn text_of(alloc: Global, seq: &Seq) -> Result<Text, OutOfMemory>
-    ensures { IfOk result (λ t. t ≡ seq.now) }
-{
-    Ok(Text::from_vec(String::from_str(alloc, seq.text())?))
-}
-
-fn backwards(alloc: Global, kept: &Seq, given: &Seq) -> Result<LineError, OutOfMemory>
+fn backwards(alloc: Global, kept: &str, given: &str) -> Result<LineError, OutOfMemory>
     ensures { IfOk result (λ e. e ≡ LineError.Backwards kept.now given.now) }
 {
     let kept = text_of(alloc, kept)?;
@@ -39,43 +27,43 @@ fn backwards(alloc: Global, kept: &Seq, given: &Seq) -> Result<LineError, OutOfM
     Ok(LineError::Backwards { kept, given })
 }
 
-/// Whether the record's sequence number is greater than the shard's last one.
-fn check_order(alloc: Global, last: &BTreeMap<u64, Seq>, given: &Record) -> Result<(), Refusal>
-    ensures ok { OnOk result (in_order (map.get nat_cmp last.now given.now.shard) given.now ≡ Ok given.now) }
-    ensures bad { IfErr result (λ e. Fails e (in_order (map.get nat_cmp last.now given.now.shard) given.now)) }
+/// The order of sequence numbers: by the number of digits, then digit by digit.
+fn number_order(kept: &str, given: &str) -> Ordering
+    ensures { result ≡ sequence_order kept.now given.now }
 {
-    match last.get(&given.shard) {
+    let kept = kept.as_bytes();
+    let given = given.as_bytes();
+    kept.len().cmp(&given.len()).then(kept.cmp(given))
+}
+
+/// Whether the record's sequence number is greater than the shard's last one.
+fn check_order(alloc: Global, last: &Numbers, given: &Record) -> Result<(), Refusal>
+    ensures ok { OnOk result (in_order (number_in last.now given.now.shard) given.now ≡ Ok given.now) }
+    ensures bad { IfErr result (λ e. Fails e (in_order (number_in last.now given.now.shard) given.now)) }
+{
+    match last.last(given.shard) {
         None => Ok(()),
-        Some(kept) => match kept.order(&given.seq) {
+        Some(kept) => match number_order(kept, given.seq.text()) {
             Ordering::Less => Ok(()),
-            _ => Err(Refusal::Line(backwards(alloc, kept, &given.seq)?)),
+            _ => Err(Refusal::Line(backwards(alloc, kept, given.seq.text())?)),
         },
     }
 }
 
-/// Makes the record's sequence number its shard's last one.
-fn keep_order(
-    alloc: Global,
-    last: &mut BTreeMap<u64, Seq>,
-    given: &Record,
-) -> Result<(), OutOfMemory>
-    ensures { OnOk result ((shard : ℕ) → map.get nat_cmp last.new shard
-        ≡ number_after shard (map.get nat_cmp last.old shard) (Item.Stream given.now)) }
-{
-    let seq = copy_of(alloc, &given.seq)?;
-    let _ = last.insert(given.shard, seq)?;
-    Ok(())
-}
-
 /// The record of a stream's line, which is neither blank nor too long, as the next of its shard.
-fn read_record(alloc: Global, last: &mut BTreeMap<u64, Seq>, line: &[u8]) -> Result<Record, Refusal>
-    ensures item { Gives result (next_record (map.get nat_cmp last.old) line.now) }
-    ensures kept { IfOk result (λ r. (shard : ℕ) → map.get nat_cmp last.new shard
-        ≡ number_after shard (map.get nat_cmp last.old shard) (Item.Stream r)) }
+fn read_record(
+    alloc: Global,
+    last: &mut Numbers,
+    scratch: &mut Scratch,
+    line: &[u8],
+) -> Result<Record, Refusal>
+    ensures item { Gives result (next_record (number_in last.old) line.now) }
+    ensures kept { IfOk result (λ r. (shard : ℕ) → number_in last.new shard
+        ≡ number_after shard (number_in last.old shard) (Item.Stream r)) }
 {
-    let record = read_line(alloc, line)?;
+    let record = read_line(alloc, scratch, line)?;
     check_order(alloc, last, &record)?;
-    keep_order(alloc, last, &record)?;
+    last.keep(alloc, record.shard, record.seq.text())?;
     Ok(record)
 }
 
@@ -96,7 +84,8 @@ pub fn is_blank(line: &[u8]) -> bool
 pub fn read_next(
     alloc: Global,
     kind: LineKind,
-    last: &mut BTreeMap<u64, Seq>,
+    last: &mut Numbers,
+    scratch: &mut Scratch,
     line: &[u8],
 ) -> Result<Option<Item>, Refusal>
     ensures item { (items : List Item) → Follows items last.old → Gives result (read_after kind items line.now) }
@@ -110,7 +99,7 @@ pub fn read_next(
         return Ok(None);
     }
     match kind {
-        LineKind::Stream => match read_record(alloc, last, line) {
+        LineKind::Stream => match read_record(alloc, last, scratch, line) {
             Ok(record) => Ok(Some(Item::Stream(record))),
             Err(refusal) => Err(refusal),
         },

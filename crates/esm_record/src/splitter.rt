@@ -7,20 +7,22 @@ ghost use Rattle.esm_record.specs.Splitting.{Stands, HasRead, NoLineFeed, IsFirs
 
 use crate::error::{BadLine, LineError, Refusal};
 use crate::item::{Item, LineKind};
-use crate::order::{MAX_LINE, read_next};
-use esm_model::{OutOfMemory, Seq};
+use crate::numbers::Numbers;
+use crate::order::read_next;
+use esm_model::{MAX_LINE, OutOfMemory};
+use json::Scratch;
 use memchr::memchr;
 use std::alloc::Global;
-use std::collections::BTreeMap;
 use std::mem;
 
-/// What has been read of an input: the good lines, each shard's last sequence number, the line that has begun, and
-/// the first bad line.
+/// What has been read of an input: the good lines, each shard's last sequence number, the room that reading takes, the
+/// line that has begun, and the first bad line.
 #[derive(Drop)]
 pub struct Splitter {
     pub kind: LineKind,
     pub good: u64,
-    pub last: BTreeMap<u64, Seq>,
+    pub last: Numbers,
+    pub scratch: Scratch,
     pub begun: Vec<u8>,
     pub bad: Option<BadLine>,
 }
@@ -40,11 +42,12 @@ fn first_line(bytes: &[u8]) -> Option<(&[u8], &[u8])>
 fn read_whole(
     alloc: Global,
     kind: LineKind,
-    last: &mut BTreeMap<u64, Seq>,
+    last: &mut Numbers,
+    scratch: &mut Scratch,
     begun: &mut Vec<u8>,
     rest: &[u8],
 ) -> Result<Option<Item>, Refusal>
-    requires { length begun.old.items ≤ 8388608 }
+    requires { length begun.old.items ≤ MAX_LINE }
     ensures item { (items : List Item) → Follows items last.old
         → Gives result (read_after kind items (begun.old.items ++ rest.now)) }
     ensures kept { IfOk result (λ o. (items : List Item) → Follows items last.old
@@ -52,7 +55,7 @@ fn read_whole(
     ensures ended { OnOk result (begun.new.items ≡ []) }
 {
     if begun.is_empty() {
-        return read_next(alloc, kind, last, rest);
+        return read_next(alloc, kind, last, scratch, rest);
     }
     if rest.len() > MAX_LINE - begun.len() {
         return Err(Refusal::Line(LineError::LineTooLong));
@@ -60,7 +63,7 @@ fn read_whole(
     if begun.extend_from_slice(rest).is_err() {
         return Err(Refusal::OutOfMemory);
     }
-    match read_next(alloc, kind, last, begun.as_slice()) {
+    match read_next(alloc, kind, last, scratch, begun.as_slice()) {
         Ok(item) => {
             begun.clear();
             Ok(item)
@@ -78,7 +81,7 @@ impl Splitter {
         rest: &[u8],
     ) -> Result<(), OutOfMemory>
         requires going { IsNone self.old.bad }
-        requires short { length self.old.begun.items ≤ 8388608 }
+        requires short { length self.old.begun.items ≤ MAX_LINE }
         ensures stands { OnOk result ((input : Input) (before : List Item) → Stands input before items.old.items self.old
             → Stands (add_line self.old.kind input (self.old.begun.items ++ rest.now)) before items.new.items self.new) }
         ensures ended { OnOk result (IsNone self.new.bad → self.new.begun.items ≡ []) }
@@ -87,7 +90,14 @@ impl Splitter {
         let Some(number) = self.good.checked_add(1) else {
             return Err(OutOfMemory);
         };
-        match read_whole(alloc, self.kind, &mut self.last, &mut self.begun, rest) {
+        match read_whole(
+            alloc,
+            self.kind,
+            &mut self.last,
+            &mut self.scratch,
+            &mut self.begun,
+            rest,
+        ) {
             Ok(Some(item)) => {
                 if items.push(item).is_err() {
                     return Err(OutOfMemory);
@@ -111,7 +121,7 @@ impl Splitter {
     /// Goes on with the line that has begun, whose line feed is still to come.
     fn begin_line(&mut self, more: &[u8]) -> Result<(), OutOfMemory>
         requires going { IsNone self.old.bad }
-        requires short { length self.old.begun.items ≤ 8388608 }
+        requires short { length self.old.begun.items ≤ MAX_LINE }
         requires in_line { NoLineFeed more.now }
         ensures read { OnOk result ((bytes : List ℕ) (before items : List Item) → HasRead bytes before items self.old
             → HasRead (bytes ++ more.now) before items self.new) }
@@ -147,7 +157,7 @@ impl Splitter {
         piece: &[u8],
     ) -> Result<(), OutOfMemory>
         requires going { IsNone self.old.bad }
-        requires short { length self.old.begun.items ≤ 8388608 }
+        requires short { length self.old.begun.items ≤ MAX_LINE }
         ensures read { OnOk result ((bytes : List ℕ) (before : List Item) → HasRead bytes before items.old.items self.old
             → HasRead (bytes ++ piece.now) before items.new.items self.new) }
         ensures kind { self.new.kind ≡ self.old.kind }
@@ -172,7 +182,8 @@ impl Splitter {
         Splitter {
             kind,
             good: 0,
-            last: BTreeMap::new(alloc),
+            last: Numbers::new(alloc),
+            scratch: Scratch::new(alloc),
             begun: Vec::new(alloc),
             bad: None,
         }
@@ -185,7 +196,7 @@ impl Splitter {
         items: &mut Vec<Item>,
         piece: &[u8],
     ) -> Result<(), OutOfMemory>
-        requires { IsNone self.old.bad → length self.old.begun.items ≤ 8388608 }
+        requires { IsNone self.old.bad → length self.old.begun.items ≤ MAX_LINE }
         ensures read { OnOk result ((bytes : List ℕ) (before : List Item) → HasRead bytes before items.old.items self.old
             → HasRead (bytes ++ piece.now) before items.new.items self.new) }
         ensures kind { self.new.kind ≡ self.old.kind }
@@ -198,7 +209,7 @@ impl Splitter {
 
     /// Reads the last line, which no line feed ends; nothing after a bad line.
     pub fn read_end(&mut self, alloc: Global, items: &mut Vec<Item>) -> Result<(), OutOfMemory>
-        requires { IsNone self.old.bad → length self.old.begun.items ≤ 8388608 }
+        requires { IsNone self.old.bad → length self.old.begun.items ≤ MAX_LINE }
         ensures read { OnOk result ((bytes : List ℕ) (before : List Item) → HasRead bytes before items.old.items self.old
             → Stands (input_of self.old.kind bytes) before items.new.items self.new) }
         ensures kind { self.new.kind ≡ self.old.kind }

@@ -13,8 +13,8 @@ invariant_of-self-2 c = λ _ going.
     let bytes : List ℕ = fed_bytes c.self.inside.fed.items in
     let before = (input_so_far c.self.inside.reading.kind bytes).items in
     let read = c.in_ok-fed.ensures.read bytes before (fed_from bytes c.self.inside.reading (c.self.invariant good going)) in
-    let P : List ℕ → Type 0 = λ b. HasRead b before c.in_ok-fed.fed.items c.read_piece.new.reading in
-    fed_to (fed_bytes c.note.new.fed.items) before c.in_ok-fed.fed.items c.read_piece.new.reading (subst P (sym c.in_ok-note.ensures) read)
+    let P : List ℕ → Type 0 = λ b. HasRead b before c.in_ok-fed.fed.items c.feed_piece.new.reading in
+    fed_to (fed_bytes c.note.new.fed.items) before c.in_ok-fed.fed.items c.feed_piece.new.reading (subst P (sym c.in_ok-note.ensures) read)
 
 pub returns-clause-bad : goal.returns-clause-bad
 returns-clause-bad c =
@@ -35,4 +35,4 @@ returns-clause-valid c =
     let bytes : List ℕ = fed_bytes c.self.inside.fed.items in
     let before = (input_so_far c.self.inside.reading.kind bytes).items in
     let read = c.in_ok-fed.ensures.read bytes before (fed_from bytes c.self.inside.reading (c.self.invariant good going)) in
-    so_far_valid c.read_piece.new.reading.kind (bytes ++ c.args.piece.now) before c.in_ok-fed.fed.items read.stands.items
+    so_far_valid c.feed_piece.new.reading.kind (bytes ++ c.args.piece.now) before c.in_ok-fed.fed.items read.stands.items

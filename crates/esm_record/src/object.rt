@@ -1,0 +1,186 @@
+//! The members of a line's object that its fields name, read from the tokens with no tree.
+ghost use Rattle.std.specs.Prelude.{◌≡◌, ◌<◌, ◌∷◌, false, length, Some, None, option_map, IfOk, OnOk, OnErr};
+ghost use Rattle.std.specs.Bool.{MatchBool};
+ghost use Rattle.json.specs.Json.{value, items, members};
+ghost use Rattle.json.specs.Token as token;
+ghost use Rattle.serde_json.specs.Data.{Data, Members, no_members, put};
+ghost use Rattle.serde_json.specs.Read.{of_json, of_items, of_members, converted, read};
+ghost use Rattle.esm_record.specs.Leaf.{text_in, whole_in, IsLeafOf, ReadsLeaf, PassesItems, PassesMembers, ReadsMembers, opens_object, leaf_at, AreFound, IsObjectRead};
+
+use crate::error::Field;
+use crate::number::whole_number;
+use esm_model::OutOfMemory;
+use json::{Invalid, Reader, Scratch, Token};
+
+/// How deep arrays and objects nest within the object of a line.
+const MAX_DEPTH: usize = 126;
+
+/// What a field looks at in a value.
+#[derive(Clone, Copy, Drop)]
+pub enum Leaf<'a> {
+    Text(&'a str),
+    /// A number with neither sign, fraction nor exponent, below 2^64.
+    Whole(u64),
+    Other,
+}
+
+impl<'a> Leaf<'a> {
+    pub fn text(self) -> Option<&'a str>
+        ensures { option_map (λ t. t.now) result ≡ text_in self.entry }
+    {
+        match self {
+            Leaf::Text(text) => Some(text),
+            Leaf::Whole(_) | Leaf::Other => None,
+        }
+    }
+
+    pub fn whole(self) -> Option<u64>
+        ensures { result ≡ whole_in self.entry }
+    {
+        match self {
+            Leaf::Whole(number) => Some(number),
+            Leaf::Text(_) | Leaf::Other => None,
+        }
+    }
+}
+
+/// The values of the members that fields name, the last of a name.
+#[derive(Drop)]
+pub struct Found<'a> {
+    leaves: [Option<Leaf<'a>>; 5],
+}
+
+impl<'a> Found<'a> {
+    fn nothing() -> Found<'a>
+        ensures empty { (f : Field) → leaf_at f result ≡ None }
+        ensures sized { length result.leaves ≡ 5 }
+    {
+        Found { leaves: [None; 5] }
+    }
+
+    pub fn leaf(&self, field: Field) -> Option<Leaf<'a>>
+        ensures { result ≡ leaf_at field self.now }
+    {
+        self.leaves[field.slot()]
+    }
+
+    /// The next member of the object.
+    fn keep(&mut self, name: &str, leaf: Leaf<'a>)
+        requires { length self.old.leaves ≡ 5 }
+        ensures kept { (d : Data) (ms : Members) → IsLeafOf d leaf.entry → AreFound ms self.old → AreFound (put name.now d ms) self.new }
+        ensures sized { length self.new.leaves ≡ 5 }
+    {
+        if let Some(field) = Field::of_name(name) {
+            let at = field.slot();
+            self.leaves[at] = Some(leaf);
+        }
+    }
+}
+
+#[cycle(leaf)]
+#[inline(always)]
+fn read_leaf<'a>(reader: &mut Reader<'a>, depth: usize) -> Result<Leaf<'a>, Invalid>
+    ensures ok { IfOk result (λ l. ReadsLeaf depth reader.old l reader.new) }
+    ensures shorter { OnOk result (length reader.new < length reader.old) }
+    ensures err { OnErr result (converted of_json (value depth reader.old) ≡ None) }
+{
+    let token = reader.next().ok_or(Invalid)?;
+    match token {
+        Token::String(text) => Ok(Leaf::Text(text)),
+        Token::Number(text) => match whole_number(text) {
+            Some(Some(number)) => Ok(Leaf::Whole(number)),
+            Some(None) => Ok(Leaf::Other),
+            None => Err(Invalid),
+        },
+        Token::Bool(_) => Ok(Leaf::Other),
+        Token::Null => Ok(Leaf::Other),
+        Token::EndObject | Token::EndArray | Token::Key(_) | Token::Bad => Err(Invalid),
+        Token::BeginArray => {
+            if depth == 0 {
+                return Err(Invalid);
+            }
+            pass_items(reader, depth - 1)?;
+            Ok(Leaf::Other)
+        }
+        Token::BeginObject => {
+            if depth == 0 {
+                return Err(Invalid);
+            }
+            pass_members(reader, depth - 1)?;
+            Ok(Leaf::Other)
+        }
+    }
+}
+
+#[cycle(leaf)]
+#[inline(never)]
+fn pass_items(reader: &mut Reader<'_>, depth: usize) -> Result<(), Invalid>
+    ensures ok { OnOk result (PassesItems depth reader.old reader.new) }
+    ensures shorter { OnOk result (length reader.new < length reader.old) }
+    ensures err { OnErr result (converted of_items (items (value depth) (length reader.old) reader.old) ≡ None) }
+{
+    'items: while !reader.take_end_array() {
+        let _ = read_leaf(reader, depth)?;
+    }
+    Ok(())
+}
+
+#[cycle(leaf)]
+#[inline(never)]
+fn pass_members(reader: &mut Reader<'_>, depth: usize) -> Result<(), Invalid>
+    ensures ok { OnOk result (PassesMembers depth reader.old reader.new) }
+    ensures shorter { OnOk result (length reader.new < length reader.old) }
+    ensures err { OnErr result (converted (λ ms. of_members ms no_members)
+        (members (value depth) (length reader.old) reader.old) ≡ None) }
+{
+    'members: while let Some(_) = reader.next_key()? {
+        let _ = read_leaf(reader, depth)?;
+    }
+    Ok(())
+}
+
+/// The members up to the brace that closes the object.
+fn read_members<'a>(reader: &mut Reader<'a>) -> Result<Found<'a>, Invalid>
+    ensures ok { IfOk result (λ found. ReadsMembers MAX_DEPTH reader.old found reader.new) }
+    ensures err { OnErr result (converted (λ ms. of_members ms no_members)
+        (members (value MAX_DEPTH) (length reader.old) reader.old) ≡ None) }
+{
+    let mut found = Found::nothing();
+    'members: while let Some(name) = reader.next_key()? {
+        let leaf = read_leaf(reader, MAX_DEPTH)?;
+        found.keep(name, leaf);
+    }
+    Ok(found)
+}
+
+/// Takes the brace that opens an object; after `false` the tokens are no object.
+fn opens_object(reader: &mut Reader<'_>) -> bool
+    ensures { MatchBool result (reader.old ≡ token.begin_object ∷ reader.new) (opens_object reader.old ≡ false) }
+{
+    match reader.next() {
+        Some(token) => matches!(token, Token::BeginObject),
+        None => false,
+    }
+}
+
+/// The members of the object that the text is; `None` where it is none.
+pub fn read_object<'a>(
+    text: &'a str,
+    scratch: &'a mut Scratch,
+) -> Result<Option<Found<'a>>, OutOfMemory>
+    ensures { IfOk result (λ o. IsObjectRead (read text.now) o) }
+{
+    let Ok(mut reader) = Reader::new(text, scratch) else {
+        return Err(OutOfMemory);
+    };
+    if !opens_object(&mut reader) {
+        return Ok(None);
+    }
+    let Ok(found) = read_members(&mut reader) else {
+        return Ok(None);
+    };
+    if reader.next().is_some() {
+        return Ok(None);
+    }
+    Ok(Some(found))
+}
