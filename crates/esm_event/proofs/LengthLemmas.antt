@@ -1,5 +1,5 @@
 -- How long the texts and their parts are.
-use Rattle.std.proofs.Common.{◌≡◌, ℕ, ◌+◌, ◌*◌, ◌/◌, ◌≤◌, Bool, true, false, List, [], ◌∷◌, ◌++◌, length, filter, refl, arith, length-append, cond, nat_lt, ◌%◌, Option, Some}
+use Rattle.std.proofs.Common.{◌≡◌, ℕ, ◌+◌, ◌*◌, ◌/◌, ◌≤◌, Bool, true, false, List, [], ◌∷◌, ◌++◌, length, filter, refl, arith, length-append, cond, ◌==◌, nat_lt, ◌%◌, Option, Some}
 use Rattle.std.specs.List.{flat_map}
 use Rattle.std.proofs.lemmas.Bool.Decides.{nat_tests}
 use Rattle.std.specs.Char.{encode_utf8}
@@ -34,6 +34,14 @@ frame_length c w = simp length-append (omega arith)
 pub base64_length : (m : List ℕ) → length (base64_text m) ≡ (length m + 2) / 3 * 4
 unfolding base64_text
 base64_length m = simp (length-append, length-encode_symbols, length-replicate) (omega arith)
+
+-- of a test that compares with 0
+
+pub is_zero : (n : ℕ) → (n == 0) ≡ true → n ≡ 0
+is_zero n h = grind (arith, nat_tests)
+
+pub is_some : (n : ℕ) → (n == 0) ≡ false → n ≡ 0 → ⊥
+is_some n h e = grind (arith, nat_tests)
 
 -- at most four bytes to a character
 

@@ -1,5 +1,5 @@
 // The event of a call for a stream's batch.
-ghost use Rattle.std.specs.Prelude.{◌≡◌, ◌≤◌, ◌+◌, ◌-◌, ◌++◌, [], All, Some, codes, length, sum_by, vec_len, OnOk, IfOk};
+ghost use Rattle.std.specs.Prelude.{◌≡◌, ◌≤◌, ◌+◌, ◌-◌, ◌++◌, [], All, Some, codes, length, min, sum_by, vec_len, OnOk, IfOk};
 ghost use Rattle.std.specs.Option.{option_copied, ForSome};
 ghost use Rattle.std.specs.List.{join_by, flat_map};
 ghost use Rattle.esm_model.specs.Moment.{moment_after};
@@ -17,7 +17,8 @@ use esm_model::{Config, MAX_MOMENT, OutOfMemory, Record, WindowCall};
 use std::alloc::Global;
 
 /// The event's text for a batch of the stream, with the window's part where the call is one of a tumbling window
-/// (Lambda Developer Guide, "Using Lambda with Kinesis").
+/// (Lambda Developer Guide, "Using Lambda with Kinesis"). Its length is known before it is written, and it is written
+/// once.
 #[tactic(auto, unfolding(esm_model::specs::EventText::event_text, esm_model::specs::EventText::record_text, crate::specs::Elements::element_text))]
 pub fn stream_event(
     alloc: Global,
@@ -35,18 +36,25 @@ pub fn stream_event(
         + sum_by (λ r. length (record_text config.now r)) batch.now + (length batch.now - 1)) }
 {
     let source = source_text(alloc, config)?;
-    let mut out = Vec::with_capacity(alloc, reserved_bytes(config, batch, window))?;
+    let mut out = Vec::with_capacity(alloc, event_bytes(config, batch, window))?;
     push_event(&mut out, config, source.as_slice(), batch, window)?;
     Ok(out)
 }
 
-/// The bytes of the event, and one more where there are records: what its writing needs.
-fn reserved_bytes(config: &Config, batch: &[Record], window: Option<&WindowCall>) -> usize
+/// The bytes of the event, or the greatest `usize` where they are more.
+#[tactic(auto, using(crate::proofs::EventBytes::frame_some))]
+fn event_bytes(config: &Config, batch: &[Record], window: Option<&WindowCall>) -> usize
     requires config { IsStreamConfig config.now }
     requires batch { All IsValidRecord batch.now }
     requires window { ForSome (option_copied window) IsValidWindowCall }
+    ensures { result
+        ≡ min (length (event_text config.now batch.now (option_copied window.entry))) usize.MAX }
 {
-    let mut total = frame_bytes(config, window) as usize;
+    let frame = frame_bytes(config, window) as usize;
+    if batch.is_empty() {
+        return frame;
+    }
+    let mut total = frame - 1;
     for item in batch {
         total = total.saturating_add(stream_bytes(config, item) as usize + 1);
     }

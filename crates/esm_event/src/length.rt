@@ -17,7 +17,7 @@ use itoa::Buffer;
 const FIXED_BYTES: usize = 321;
 
 /// The bytes of `{"Records":[` and `]}`.
-const RECORDS_BYTES: u32 = 14;
+pub(crate) const RECORDS_BYTES: u32 = 14;
 
 /// The bytes of a window's part apart from its state, the truth of `isFinalInvokeForWindow` and the source.
 const WINDOW_BYTES: usize = 191;
@@ -45,10 +45,11 @@ fn key_bytes(item: &Record) -> usize
     escaped_bytes(item.key.as_str())
 }
 
-fn escaped_bytes(text: &str) -> usize
-    requires { length text.now ≤ 1024 }
+/// The bytes of a JSON text between its quotation marks.
+pub(crate) fn escaped_bytes(text: &str) -> usize
+    requires { length text.now ≤ MAX_DATA }
     ensures value { result ≡ length (flat_map escaped_byte text.now) }
-    ensures bound { result ≤ 6144 }
+    ensures bound { result ≤ 6 * length text.now }
 {
     let mut total = 0;
     for byte in text.as_bytes() {
@@ -78,7 +79,7 @@ fn base64_bytes(bytes: &[u8]) -> usize
     (bytes.len() + 2) / 3 * 4
 }
 
-fn decimal_bytes(number: u64) -> usize
+pub(crate) fn decimal_bytes(number: u64) -> usize
     ensures value { result ≡ length (decimal number) }
     ensures bound { result ≤ 40 }
 {

@@ -1,5 +1,5 @@
-//! The texts that leave the engine for a stream: the event of a function's call, and the failure line of records
-//! that were given up; and how their parts are written: JSON texts, numbers and dates.
+//! The texts that leave the engine: the event of a function's call for a stream or a queue, and the failure line of a
+//! stream's records that were given up; and how their parts are written: JSON texts, numbers and dates.
 //! Pure: values in, bytes out. No device, clock or thread.
 #![tactic(auto)]
 
@@ -10,12 +10,17 @@ mod event;
 mod failure;
 mod json;
 mod length;
+mod message;
+mod queue;
+mod queue_length;
 pub mod record;
 
-pub use esm_model::{Failure, Response, WindowCall};
+pub use esm_model::{Failure, Received, Response, WindowCall};
 pub use event::stream_event;
 pub use failure::failure_text;
 pub use length::{frame_bytes, stream_bytes};
+pub use queue::queue_event;
+pub use queue_length::queue_bytes;
 
 #[cfg(test)]
 mod tests;

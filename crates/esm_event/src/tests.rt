@@ -2,10 +2,11 @@ ghost use Rattle.std.specs.Prelude.{◌≡◌, ◌≤◌, true, length, IfOk};
 ghost use Rattle.esm_model.specs.declared.limits.TheConstants.{MAX_DATA};
 ghost use Rattle.esm_model.specs.Valid.{IsStreamConfig, IsValidRecord, is_between, char_count};
 ghost use Rattle.esm_model.specs.Worked.{plain_mapping};
+ghost use Rattle.esm_event.specs.QueueExample.{queue_mapping, test_message};
 
 use crate::json::push_quoted;
-use crate::{failure_text, frame_bytes, stream_bytes, stream_event};
-use esm_model::{Bytes, Config, Failure, Kind, Record, Seq, Start, Text, Texts};
+use crate::{failure_text, frame_bytes, queue_bytes, queue_event, stream_bytes, stream_event};
+use esm_model::{Bytes, Config, Failure, Kind, Message, Received, Record, Seq, Start, Text, Texts};
 use std::alloc::{AllocError, Global};
 use std::test::Fail;
 
@@ -94,6 +95,48 @@ fn payload_limit(rt: HostRuntime) -> Result<(), Fail> {
     Ok(())
 }
 
+/// The mapping of a queue `q` that is read by the function `f`.
+fn queue(alloc: Global) -> Result<Config, AllocError>
+    ensures { IfOk result (λ c. c ≡ queue_mapping) }
+{
+    let mut config = mapping(alloc)?;
+    config.source_arn = text(alloc, "arn:aws:sqs:us-east-1:123456789012:q")?;
+    config.kind = Kind::Standard;
+    config.batch_size = 10;
+    Ok(config)
+}
+
+fn first_message(alloc: Global) -> Result<Received, AllocError>
+    ensures { IfOk result (λ r. r ≡ test_message) }
+{
+    let id = text(alloc, "m1")?;
+    let body = text(alloc, "Test message.")?;
+    let message = Message {
+        id,
+        group: None,
+        body,
+        sent: 0,
+    };
+    Ok(Received {
+        message,
+        place: 0,
+        count: 1,
+        first: 0,
+    })
+}
+
+#[test]
+fn queue_event_of_one_message(rt: HostRuntime) -> Result<(), Fail> {
+    let alloc = rt.alloc();
+    let config = queue(alloc)?;
+    let item = first_message(alloc)?;
+    assert_eq!(rt; queue_bytes(&config, &item), 344);
+    let batch = [item];
+    let event = queue_event(alloc, &config, &batch)?;
+    assert_eq!(rt; event.as_slice(), QUEUE_EVENT.as_bytes());
+    Ok(())
+}
+
 #[test]
 fn escapes(rt: HostRuntime) -> Result<(), Fail> {
     let mut out = Vec::new(rt.alloc());
@@ -129,3 +172,6 @@ const ONE_RECORD: &str =
 
 const RECORD_AGE: &str =
     "{\"requestContext\":{\"requestId\":\"00000000-0000-8000-8000-000000000000\",\"functionArn\":\"arn:aws:lambda:us-east-1:123456789012:function:f\",\"condition\":\"RecordAgeExceeded\",\"approximateInvokeCount\":0},\"version\":\"1.0\",\"timestamp\":\"1970-01-01T00:01:00.001Z\",\"KinesisBatchInfo\":{\"shardId\":\"shardId-000000000000\",\"startSequenceNumber\":\"1\",\"endSequenceNumber\":\"1\",\"approximateArrivalOfFirstRecord\":\"1970-01-01T00:00:00.000Z\",\"approximateArrivalOfLastRecord\":\"1970-01-01T00:00:00.000Z\",\"batchSize\":1,\"streamArn\":\"arn:aws:kinesis:us-east-1:123456789012:stream/s\"}}";
+
+const QUEUE_EVENT: &str =
+    "{\"Records\":[{\"messageId\":\"m1\",\"receiptHandle\":\"RH-0-1\",\"body\":\"Test message.\",\"attributes\":{\"ApproximateReceiveCount\":\"1\",\"SentTimestamp\":\"0\",\"ApproximateFirstReceiveTimestamp\":\"0\"},\"messageAttributes\":{},\"md5OfBody\":\"e4e68fb7bd0e697a0ae8f1bb342846b3\",\"eventSource\":\"aws:sqs\",\"eventSourceARN\":\"arn:aws:sqs:us-east-1:123456789012:q\",\"awsRegion\":\"us-east-1\"}]}";
