@@ -1,0 +1,15 @@
+//! Tumbling windows of a stream: the window of a record, and the state that a function's answer gives to its window.
+//! Pure values; what takes memory says when there was none.
+#![tactic(auto)]
+
+mod key;
+mod marks;
+mod part;
+mod state;
+#[cfg(test)]
+mod tests;
+mod window;
+
+pub use esm_model::StateRead;
+pub use state::read_state;
+pub use window::window_of;
