@@ -1,0 +1,7 @@
+-- Only this crate's proofs cite these words: which positions of a batch are flagged as failed.
+use Rattle.std.specs.Prelude.{◌≡◌, ℕ, ◌<◌, List, length, slice_index_or, Bool, false}
+
+-- as many flags as the batch has messages, each as the test of its position
+pub record AreFlags (test : ℕ → Bool) (count : ℕ) (flags : List Bool) : Type 0 where
+  pub as_many : length flags ≡ count
+  pub flagged : (k : ℕ) → k < count → slice_index_or flags k false ≡ test k

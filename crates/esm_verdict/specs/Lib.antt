@@ -1,0 +1,4 @@
+pub mod Readings
+pub mod Indexed
+pub mod Reported
+pub mod Flags
