@@ -1,3 +1,9 @@
+pub mod Bytes
+pub mod Grammar
+pub mod Layouts
+pub mod Marking
+pub mod Punctuated
 pub mod Scans
 pub mod SpanFacts
 pub mod States
+pub mod Words
