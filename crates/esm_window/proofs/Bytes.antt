@@ -1,14 +1,13 @@
 -- What the lexer and the scan make of one byte.
-use Rattle.std.proofs.Common.{◌≡◌, ℕ, ◌+◌, ◌-◌, Bool, true, false, ◌&&◌, ◌||◌, ◌==◌, cond, if◌then◌else◌, List, [], ◌∷◌, Option, Some, None, refl, sym, ap, ◌∙◌}
+use Rattle.std.proofs.Common.{◌≡◌, ℕ, ◌+◌, ◌-◌, Bool, true, false, ◌&&◌, ◌||◌, ◌==◌, cond, if◌then◌else◌, List, ◌∷◌, Option, Some, None, refl, sym, ap, ◌∙◌}
 use Rattle.std.proofs.lemmas.Bool.{eqb-true, or_parts}
 use Rattle.json.specs.Token.{Token}
 use Rattle.json.specs.Text.{content, plain}
-use Rattle.json.specs.Word.{is_operator, is_space, head, ends_word, after_number, number_before, literal, word}
-use Rattle.json.specs.Lex.{Lexeme, token, comma, colon, Class, quote, backslash, operator, space, other, class, operator_lexeme, string_token, Mode, between, in_word, in_string, in_escape}
+use Rattle.json.specs.Word.{is_operator, is_space, head, ends_word, after_number, number_before, word}
+use Rattle.json.specs.Lex.{token, comma, colon, Class, quote, backslash, operator, space, other, class, operator_lexeme, string_token, Mode, between, in_word, in_string, in_escape}
 use Rattle.json.specs.Align.{is_good}
 use Rattle.esm_model.specs.State as scan
-use Rattle.esm_window.specs.Layout.{next, begin, byte_of, is_marked, deep, begins_mark, begins_deep, scanned, GoodBegin, clean_byte, clean, InWord}
-use Rattle.esm_window.proofs.Words.{word_clean}
+use Rattle.esm_window.specs.Layout.{next, begin, byte_of, begins_mark, begins_deep, scanned, GoodBegin, clean_byte, clean, InWord}
 
 -- a byte that is no quote, no backslash and no operator
 pub record Plain (x : ℕ) : Type 0 where

@@ -1,9 +1,12 @@
+pub mod Agreeing
 pub mod Bytes
 pub mod Grammar
 pub mod Layouts
 pub mod Marking
+pub mod Members
 pub mod Punctuated
 pub mod Scans
+pub mod Skips
 pub mod SpanFacts
 pub mod States
 pub mod Words

@@ -1,13 +1,13 @@
 -- Over good lexemes the scan of the bytes marks what the scan of the lexemes marks.
 use Rattle.std.proofs.Common.{◌≡◌, ℕ, ◌+◌, List, [], ◌∷◌, true, if◌then◌else◌, Option, Some, None, refl, sym, ap, ◌∙◌, subst}
 use Rattle.json.specs.Word.{word}
-use Rattle.json.specs.Lex.{Lexeme, class, Mode, between, in_word, in_string, in_escape, lex}
+use Rattle.json.specs.Lex.{Lexeme, class, Mode, lex}
 use Rattle.json.specs.Align.{is_good}
 use Rattle.esm_model.specs.State as scan
-use Rattle.esm_window.specs.Layout.{next, begin, put, Placed, put_at, lay, is_marked, deep, begins_mark, begins_deep, marked, scanned, Good, AllGood, GoodBegin, clean_byte, clean, InWord}
+use Rattle.esm_window.specs.Layout.{next, begin, put, Placed, put_at, lay, begins_mark, begins_deep, marked, scanned, AllGood, GoodBegin, clean_byte, clean, InWord}
 use Rattle.esm_window.proofs.Layouts.{lex-cons}
 use Rattle.esm_window.proofs.Words.{word_clean}
-use Rattle.esm_window.proofs.Bytes.{Facts, facts, Stepped, step}
+use Rattle.esm_window.proofs.Bytes.{facts, Stepped, step}
 
 good_parts : (o : Option Lexeme) (ls : List Lexeme) → AllGood (put o ls) → GoodBegin o × AllGood ls
 good_parts None ls g = (tt, g)

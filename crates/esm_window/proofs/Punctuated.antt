@@ -1,10 +1,10 @@
 -- The lexemes that good tokens were punctuated from.
-use Rattle.std.proofs.Common.{◌≡◌, ℕ, List, [], ◌∷◌, ◌++◌, Bool, true, false, ◌&&◌, refl, sym, ap, ◌∙◌}
+use Rattle.std.proofs.Common.{◌≡◌, ℕ, List, [], ◌∷◌, ◌++◌, Bool, true, false, ◌&&◌, refl, ap, ◌∙◌}
 use Rattle.std.proofs.lemmas.Bool.{false≢true}
 use Rattle.json.specs.Token.{Token, begin_object, end_object, begin_array, end_array, key, string, number, boolean, null, bad}
 use Rattle.json.specs.Lex.{Lexeme, token, comma, colon, Place, fresh, after_value, after_comma, after_key, place_token, punctuate}
 use Rattle.json.specs.Print.{begins, ends}
-use Rattle.esm_window.specs.Layout.{Good, AllGood, NoBad, token_lexemes, comma_if, lexemes_of, lexemes_at}
+use Rattle.esm_window.specs.Layout.{AllGood, NoBad, token_lexemes, comma_if, lexemes_of, lexemes_at}
 
 no_text : (s : List ℕ) (b : Bool) (k : Place → List Token) → NoBad (place_token after_value (string s) b k) → ⊥
 no_text s true k n = false≢true n.0

@@ -1,5 +1,5 @@
 -- Worked examples of the span of a state, computed.
-use Rattle.std.proofs.Common.{◌≡◌, List, ℕ, codes, refl}
+use Rattle.std.proofs.Common.{◌≡◌, codes, refl}
 use Rattle.std.specs.Str.{is_utf8, chars}
 use Rattle.serde_json.proofs.OnLiterals.{serde_json_on_literals}
 use Rattle.esm_model.specs.declared.verdict.StateRead.TheVariants.{Empty, Span, Bad}

@@ -1,7 +1,7 @@
 -- The state in an answer, by JSON's grammar. Source: the Lambda Developer Guide, tumbling windows (the answer's field
 -- `state`, an object of at most 1 MB); RFC 8259, section 4 (objects). That other states fail the batch, and that the last
 -- of several counts, is this product's own.
-use Rattle.std.specs.Prelude.{ℕ, suc, ◌+◌, ◌-◌, nat_le, nat_lt, List, [], ◌∷◌, ◌++◌, length, take, drop, get_or, reverse, slice_range, codes, Bool, if◌then◌else◌, Option, Some, None}
+use Rattle.std.specs.Prelude.{ℕ, ◌+◌, ◌-◌, nat_le, nat_lt, List, [], ◌∷◌, ◌++◌, length, take, drop, get_or, reverse, slice_range, codes, Bool, if◌then◌else◌, Option, Some, None}
 use Rattle.std.specs.List.{prefix_len}
 use Rattle.std.specs.Option.{option_or}
 use Rattle.std.specs.Str.{bytes_eq}

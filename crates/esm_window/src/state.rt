@@ -2,6 +2,7 @@ ghost use Rattle.std.specs.Prelude.{◌≡◌, ◌<◌, ◌≤◌, ◌+◌, leng
 ghost use Rattle.std.specs.List.{prefix_len, suffix_len};
 ghost use Rattle.serde_json.specs.View.{view};
 ghost use Rattle.esm_model.specs.State.{is_space, span_between, member_state, body_state, state_read};
+ghost use Rattle.esm_window.specs.StateSpan.{state_span};
 
 use crate::marks::last_state;
 use crate::part::is_space;
@@ -86,7 +87,8 @@ fn value_state(alloc: Global, body: &[u8], value: &Value) -> Result<StateRead, O
 /// for `null`, and for an object without `state` or with `null` there; `Bad` for anything else. (Lambda Developer Guide,
 /// tumbling windows.)
 pub fn read_state(alloc: Global, body: &[u8]) -> Result<StateRead, OutOfMemory>
-    ensures { IfOk result (λ read. read ≡ state_read body.now) }
+    ensures by_grammar { IfOk result (λ read. read ≡ state_span body.now) }
+    ensures by_scan { IfOk result (λ read. read ≡ state_read body.now) }
 {
     if body.is_empty() {
         return Ok(StateRead::Empty);
