@@ -1,11 +1,11 @@
 -- What the lexer and the scan make of one byte.
-use Rattle.std.proofs.Common.{◌≡◌, ℕ, ◌+◌, ◌-◌, Bool, true, false, ◌&&◌, ◌||◌, ◌==◌, cond, if◌then◌else◌, List, ◌∷◌, Option, Some, None, refl, sym, ap, ◌∙◌}
+use Rattle.std.proofs.Common.{◌≡◌, ℕ, ◌+◌, ◌-◌, Bool, true, false, ◌&&◌, ◌||◌, ◌==◌, cond, if◌then◌else◌, List, ◌∷◌, Option, Some, None, refl, sym, ap, ◌∙◌, subst}
 use Rattle.std.proofs.lemmas.Bool.{eqb-true, or_parts}
 use Rattle.json.specs.Token.{Token}
 use Rattle.json.specs.Text.{content, plain}
 use Rattle.json.specs.Word.{is_operator, is_space, head, ends_word, after_number, number_before, word}
-use Rattle.json.specs.Lex.{token, comma, colon, Class, quote, backslash, operator, space, other, class, operator_lexeme, string_token, Mode, between, in_word, in_string, in_escape}
-use Rattle.json.specs.Align.{is_good}
+use Rattle.json.specs.Lex.{token, Class, quote, backslash, operator, space, other, class, operator_lexeme, string_token, Mode, between, in_word, in_string, in_escape}
+use Rattle.json.specs.Align.{is_good, is_blank}
 use Rattle.esm_model.specs.State as scan
 use Rattle.esm_window.specs.Layout.{next, begin, byte_of, begins_mark, begins_deep, scanned, GoodBegin, clean_byte, clean, InWord}
 
@@ -23,24 +23,24 @@ Facts operator x = (byte_of (operator_lexeme x) ≡ x) × ((x == 34) ≡ false) 
 Facts space x = Plain x
 Facts other x = Plain x
 
-last_one : (b : Bool) → (b || false) ≡ true → b ≡ true
-last_one true e = refl
-last_one false e = e
+pick : (P : ℕ → Type 0) → P 123 → P 125 → P 91 → P 93 → P 58 → P 44 → (x : ℕ) (a b c d e f : Bool)
+    → (a ≡ true → x ≡ 123) → (b ≡ true → x ≡ 125) → (c ≡ true → x ≡ 91) → (d ≡ true → x ≡ 93) → (e ≡ true → x ≡ 58) → (f ≡ true → x ≡ 44)
+    → (a || b || c || d || e || f) ≡ true → P x
+pick P pa pb pc pd pe pf x true b c d e f fa fb fc fd fe ff h = subst P (sym (fa refl)) pa
+pick P pa pb pc pd pe pf x false true c d e f fa fb fc fd fe ff h = subst P (sym (fb refl)) pb
+pick P pa pb pc pd pe pf x false false true d e f fa fb fc fd fe ff h = subst P (sym (fc refl)) pc
+pick P pa pb pc pd pe pf x false false false true e f fa fb fc fd fe ff h = subst P (sym (fd refl)) pd
+pick P pa pb pc pd pe pf x false false false false true f fa fb fc fd fe ff h = subst P (sym (fe refl)) pe
+pick P pa pb pc pd pe pf x false false false false false true fa fb fc fd fe ff h = subst P (sym (ff refl)) pf
+pick P pa pb pc pd pe pf x false false false false false false fa fb fc fd fe ff h = cc
 
-six : (a b c d e : Bool) (x : ℕ) → (a ≡ true → x ≡ 123) → (b ≡ true → x ≡ 125) → (c ≡ true → x ≡ 91) → (d ≡ true → x ≡ 93) → (e ≡ true → x ≡ 44)
-    → (a ≡ false → b ≡ false → c ≡ false → d ≡ false → e ≡ false → x ≡ 58)
-    → byte_of (cond a (token Token.begin_object) (cond b (token Token.end_object) (cond c (token Token.begin_array) (cond d (token Token.end_array) (cond e comma colon))))) ≡ x
-six true b c d e x fa fb fc fd fe f = sym (fa refl)
-six false true c d e x fa fb fc fd fe f = sym (fb refl)
-six false false true d e x fa fb fc fd fe f = sym (fc refl)
-six false false false true e x fa fb fc fd fe f = sym (fd refl)
-six false false false false true x fa fb fc fd fe f = sym (fe refl)
-six false false false false false x fa fb fc fd fe f = sym (f refl refl refl refl refl)
+-- an operator is one of these
+pub by_operator : (P : ℕ → Type 0) → P 123 → P 125 → P 91 → P 93 → P 58 → P 44 → (x : ℕ) → is_operator x ≡ true → P x
+by_operator P pa pb pc pd pe pf x h =
+    pick P pa pb pc pd pe pf x (x == 123) (x == 125) (x == 91) (x == 93) (x == 58) (x == 44) (eqb-true x 123) (eqb-true x 125) (eqb-true x 91) (eqb-true x 93) (eqb-true x 58) (eqb-true x 44) h
 
 operators : (x : ℕ) → is_operator x ≡ true → byte_of (operator_lexeme x) ≡ x
-operators x h =
-    six (x == 123) (x == 125) (x == 91) (x == 93) (x == 44) x (eqb-true x 123) (eqb-true x 125) (eqb-true x 91) (eqb-true x 93) (eqb-true x 44)
-    (λ a b c d e. eqb-true x 58 (last_one (x == 58) (sym (λ i. (a i || b i || c i || d i || (x == 58)) || e i) ∙ h)))
+operators = by_operator (λ x. byte_of (operator_lexeme x) ≡ x) refl refl refl refl refl refl
 
 plain_is : (x : ℕ) → (x == 34) ≡ false → (x == 92) ≡ false → is_operator x ≡ false → Plain x
 plain_is x q b h =
@@ -72,20 +72,37 @@ pub text_byte : (o : Option (List ℕ)) → byte_of (token (string_token o)) ≡
 text_byte None = refl
 text_byte (Some s) = refl
 
-either : (b : Bool) (x y : Token) → byte_of (token x) ≡ 48 → byte_of (token y) ≡ 48 → byte_of (token (cond b x y)) ≡ 48
-either true x y p q = p
-either false x y p q = q
+-- a word is a number, a literal or bad
+module _ (P : Token → Type 0) (numbers : (s : List ℕ) → P (Token.number s)) (truths : (b : Bool) → P (Token.boolean b)) (null : P Token.null) (bad : P Token.bad) where
+  either : (b : Bool) (x y : Token) → P x → P y → P (cond b x y)
+  either true x y p q = p
+  either false x y p q = q
 
-number_byte : (t : List ℕ) (o : Option (List ℕ)) → byte_of (token (number_before t o)) ≡ 48
-number_byte t None = refl
-number_byte t (Some r) = either (ends_word r) _ Token.bad refl refl
+  by_number : (t : List ℕ) (o : Option (List ℕ)) → P (number_before t o)
+  by_number t None = bad
+  by_number t (Some r) = either (ends_word r) _ Token.bad (numbers _) bad
+
+  pub by_word : (t : List ℕ) → P (word t)
+  unfolding word
+  by_word t =
+      either (head t == 116) _ _ (either _ (Token.boolean true) Token.bad (truths true) bad)
+      (either (head t == 102) _ _ (either _ (Token.boolean false) Token.bad (truths false) bad)
+      (either (head t == 110) _ _ (either _ Token.null Token.bad null bad) (by_number t (after_number t))))
 
 pub word_byte : (t : List ℕ) → byte_of (token (word t)) ≡ 48
-unfolding word
-word_byte t =
-    either (head t == 116) _ _ (either _ (Token.boolean true) Token.bad refl refl)
-    (either (head t == 102) _ _ (either _ (Token.boolean false) Token.bad refl refl)
-    (either (head t == 110) _ _ (either _ Token.null Token.bad refl refl) (number_byte t (after_number t))))
+word_byte = by_word (λ t. byte_of (token t) ≡ 48) (λ s. refl) (λ b. refl) refl refl
+
+-- ---- white space
+
+blank : (x : ℕ) (q b o s : Bool) → (x == 34) ≡ q → (x == 92) ≡ b → is_operator x ≡ o → is_space x ≡ s → is_space x ≡ is_blank (cond q quote (cond b backslash (cond o operator (cond s space other))))
+blank x true b o s eq eb eo es = ap is_space (eqb-true x 34 eq)
+blank x false true o s eq eb eo es = ap is_space (eqb-true x 92 eb)
+blank x false false true s eq eb eo es = by_operator (λ y. is_space y ≡ false) refl refl refl refl refl refl x eo
+blank x false false false true eq eb eo es = es
+blank x false false false false eq eb eo es = es
+
+pub space_is : (x : ℕ) → is_space x ≡ is_blank (class x)
+space_is x = blank x (x == 34) (x == 92) (is_operator x) (is_space x) refl refl refl refl
 
 -- ---- one byte of both
 

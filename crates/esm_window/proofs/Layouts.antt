@@ -27,7 +27,7 @@ pub lex-cons : (m : Mode) (x : ℕ) (xs : List ℕ) → lex m (x ∷ xs) ≡ put
 unfolding lex
 lex-cons m x xs = lex_step m (class x) x xs (λ n. lex n xs)
 
-lex-nil : (m : Mode) → lex m [] ≡ []
+pub lex-nil : (m : Mode) → lex m [] ≡ []
 unfolding lex
 lex-nil m = refl
 
@@ -100,9 +100,9 @@ places_are before (x ∷ xs) =
     let m = mode_at between before in
     let o = begin m (class x) x xs in
     let more : nat_lt (begun before) (begun (before ++ x ∷ [])) ≡ is_some o =
-        ap (nat_lt (begun before)) (one_more between before x) ∙ counted (begun before) (begin m (class x) x [])
-        ∙ some_same (begin m (class x) x []) o (same_count m (class x) x [] xs) in
+    ap (nat_lt (begun before)) (one_more between before x) ∙ counted (begun before) (begin m (class x) x [])
+    ∙ some_same (begin m (class x) x []) o (same_count m (class x) x [] xs) in
     let long : length (before ++ x ∷ []) ≡ length before + 1 = length-append before (x ∷ []) in
     let rest : places (before ++ x ∷ []) xs ≡ map (λ q. q.0) (lay (next m (class x)) (length before + 1) xs) =
-        places_are (before ++ x ∷ []) xs ∙ ap₂ (λ n p. map (λ q. q.0) (lay n p xs)) (mode_at-push between before x) long in
+    places_are (before ++ x ∷ []) xs ∙ ap₂ (λ n p. map (λ q. q.0) (lay n p xs)) (mode_at-push between before x) long in
     ap₂ (λ b r. (if b then length before ∷ [] else []) ++ r) more rest ∙ put_places (length before) o (lay (next m (class x)) (length before + 1) xs)

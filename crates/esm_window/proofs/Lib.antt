@@ -1,7 +1,11 @@
 pub mod Agreeing
 pub mod Bytes
+pub mod Contents
+pub mod FoundUnder
 pub mod Grammar
+pub mod Keys
 pub mod Layouts
+pub mod Located
 pub mod Marking
 pub mod Members
 pub mod Punctuated
@@ -9,4 +13,5 @@ pub mod Scans
 pub mod Skips
 pub mod SpanFacts
 pub mod States
+pub mod Values
 pub mod Words

@@ -6,11 +6,11 @@ use Rattle.json.specs.Token.{Token}
 use Rattle.json.specs.Lex.{Lexeme, token, comma, colon}
 use Rattle.json.specs.Json.{Members, no_members, member}
 use Rattle.json.specs.Tree.{json_tokens, members_tokens}
-use Rattle.serde_json.specs.Data.{Data, null, boolean, number, string, array, object}
 use Rattle.esm_model.specs.Json.{read_json}
 use Rattle.esm_model.specs.State as scan
-use Rattle.esm_window.specs.StateSpan.{size, Member, members_at, names, is_named, last_named}
-use Rattle.esm_window.specs.Layout.{Placed, is_marked, deep, marked, lexemes_of}
+use Rattle.esm_window.specs.StateSpan.{size}
+use Rattle.esm_window.specs.Layout.{Placed, is_marked, deep, marked, lexemes_of, byte_of, Bounds, bounds_at, is_state, last_bounds, pair_of}
+use Rattle.esm_window.proofs.Located.{IsMark}
 use Rattle.esm_window.proofs.Skips.{lexemes, skip_value}
 
 abbrev pub place_list : Placed → List ℕ
@@ -23,13 +23,14 @@ After no_members ls = ls ≡ []
 After (member k j ms) ls = lexemes ls ≡ lexemes_of false (members_tokens (member k j ms) ++ [])
 
 -- the comma or brace after a member's value is marked
-record Following (ms : Members) (ls : Placed) : Type 0 where
-  place : ℕ
-  lexeme : Lexeme
-  rest : Placed
-  is : ls ≡ (place, lexeme) ∷ rest
-  after : After ms rest
-  marks : marked 1 ls ≡ place ∷ marked 1 rest
+pub record Following (ms : Members) (ls : Placed) : Type 0 where
+  pub place : ℕ
+  pub lexeme : Lexeme
+  pub rest : Placed
+  pub is : ls ≡ (place, lexeme) ∷ rest
+  pub after : After ms rest
+  pub mark : IsMark lexeme
+  pub marks : marked 1 ls ≡ place ∷ marked 1 rest
 
 brace_marked : (q : ℕ × Lexeme) → q.1 ≡ token Token.end_object → marked 1 (q ∷ []) ≡ q.0 ∷ marked 1 []
 unfolding marked
@@ -39,12 +40,12 @@ comma_marked : (q : ℕ × Lexeme) (ls : Placed) → q.1 ≡ comma → marked 1 
 unfolding marked
 comma_marked q ls e = λ i. if is_marked 1 (e i) then q.0 ∷ marked (deep 1 (e i)) ls else marked (deep 1 (e i)) ls
 
-following : (ms : Members) (ls : Placed) → lexemes ls ≡ lexemes_of true (members_tokens ms ++ []) → Following ms ls
+pub following : (ms : Members) (ls : Placed) → lexemes ls ≡ lexemes_of true (members_tokens ms ++ []) → Following ms ls
 following no_members [] e = cc
-following no_members (q ∷ []) e = let h : q.1 ≡ token Token.end_object = cc in record { place = q.0; lexeme = q.1; rest = []; is = refl; after = refl; marks = brace_marked q h }
+following no_members (q ∷ []) e = let h : q.1 ≡ token Token.end_object = cc in record { place = q.0; lexeme = q.1; rest = []; is = refl; after = refl; mark = λ e. (let never : 125 ≡ 48 = sym (ap byte_of h) ∙ e in omega arith); marks = brace_marked q h }
 following no_members (q ∷ r ∷ ls) e = cc
 following (member k j ms) [] e = cc
-following (member k j ms) (q ∷ ls) e = let h : q.1 ≡ comma = cc in record { place = q.0; lexeme = q.1; rest = ls; is = refl; after = cc; marks = comma_marked q ls h }
+following (member k j ms) (q ∷ ls) e = let h : q.1 ≡ comma = cc in record { place = q.0; lexeme = q.1; rest = ls; is = refl; after = cc; mark = λ e. (let never : 44 ≡ 48 = sym (ap byte_of h) ∙ e in omega arith); marks = comma_marked q ls h }
 
 -- ---- a member
 
@@ -54,20 +55,7 @@ key_and_colon q r k ls e f =
     let inner = λ (depth : ℕ) (l : Lexeme). if is_marked depth l then r.0 ∷ marked (deep depth l) ls else marked (deep depth l) ls in
     (λ i. if is_marked 1 (e i) then q.0 ∷ inner (deep 1 (e i)) r.1 else inner (deep 1 (e i)) r.1) ∙ (λ i. inner 1 (f i))
 
-same_name : (name : List ℕ) (d : Option Data) → scan.is_text name d ≡ names name d
-same_name name None = refl
-same_name name (Some null) = refl
-same_name name (Some (boolean b)) = refl
-same_name name (Some (number n)) = refl
-same_name name (Some (string s)) = refl
-same_name name (Some (array ds)) = refl
-same_name name (Some (object ms)) = refl
-
-abbrev pub pair_of : Option Member → Option (ℕ × ℕ)
-pair_of None = None
-pair_of (Some m) = Some (m.colon, m.after)
-
-pair_or : (o : Option Member) (b : Bool) (m : Member) → option_or (pair_of o) (if b then Some (m.colon, m.after) else None) ≡ pair_of (option_or o (if b then Some m else None))
+pair_or : (o : Option Bounds) (b : Bool) (m : Bounds) → option_or (pair_of o) (if b then Some (m.colon, m.after) else None) ≡ pair_of (option_or o (if b then Some m else None))
 pair_or (Some n) b m = refl
 pair_or None true m = refl
 pair_or None false m = refl
@@ -83,7 +71,7 @@ unfolding scan.last_state marked
 last_one text start ls e = ap (λ k. scan.last_state text (start ∷ marked 1 k)) e
 
 pub members_found : (text : List ℕ) (ms : Members) (start : ℕ) (l : Lexeme) (ls : Placed) → After ms ls
-    → scan.last_state text (start ∷ marked 1 ls) ≡ pair_of (last_named (codes "state") text (members_at (place_list ((start, l) ∷ ls)) ms))
+    → scan.last_state text (start ∷ marked 1 ls) ≡ pair_of (last_bounds text (bounds_at (place_list ((start, l) ∷ ls)) ms))
 members_found text no_members start l ls e = last_one text start ls e
 members_found text (member k j ms) start l [] e = cc
 members_found text (member k j ms) start l (q ∷ []) e = cc
@@ -99,9 +87,9 @@ members_found text (member k j ms) start l (q ∷ r ∷ vs) e =
     let none_more : 3 + size j + 0 ≡ 3 + size j = omega arith in
     let after : get_or ps (3 + size j) 0 ≡ f.place = sym (get_or-drop (3 + size j) ps 0 0 ∙ ap (λ n. get_or ps n 0) none_more) ∙ ap (λ xs. get_or xs 0 0) rest in
     let marks : marked 1 (q ∷ r ∷ vs) ≡ r.0 ∷ f.place ∷ marked 1 f.rest = key_and_colon q r k vs hq hr ∙ ap (λ xs. r.0 ∷ xs) (v.quiet 1 (omega arith) ∙ f.marks) in
-    let m : Member = record { before = start; colon = r.0; after = f.place } in
-    let others = members_at (place_list ((f.place, f.lexeme) ∷ f.rest)) ms in
+    let m : Bounds = record { before = start; colon = r.0; after = f.place } in
+    let others = bounds_at (place_list ((f.place, f.lexeme) ∷ f.rest)) ms in
     ap (λ xs. scan.last_state text (start ∷ xs)) marks ∙ last_step text start r.0 f.place (marked 1 f.rest)
-    ∙ ap₂ (λ o b. option_or o (if b then Some (r.0, f.place) else None)) (members_found text ms f.place f.lexeme f.rest f.after) (same_name (codes "state") (read_json (scan.between text start r.0)))
-    ∙ pair_or (last_named (codes "state") text others) (is_named (codes "state") text m) m
-    ∙ sym (ap₂ (λ (x : ℕ) (xs : List ℕ). pair_of (last_named (codes "state") text (record { before = start; colon = r.0; after = x } ∷ members_at xs ms))) after rest)
+    ∙ ap₂ (λ o b. option_or o (if b then Some (r.0, f.place) else None)) (members_found text ms f.place f.lexeme f.rest f.after) refl
+    ∙ pair_or (last_bounds text others) (is_state text m) m
+    ∙ sym (ap₂ (λ (x : ℕ) (xs : List ℕ). pair_of (last_bounds text (record { before = start; colon = r.0; after = x } ∷ bounds_at xs ms))) after rest)

@@ -111,8 +111,8 @@ more_items : (js : Items) (ls : Placed) (ts : List Token) → lexemes ls ≡ lex
 more_items no_items ls ts e f = let zero_more : 0 + 1 ≡ 1 = omega arith in subst (λ n. Skipped n 1 ls (lexemes_of true ts)) (sym zero_more) (f ls e)
 more_items (item j js) ls ts e f =
     let first : lexemes_of true ((json_tokens j ++ items_tokens js) ++ ts) ≡ comma ∷ lexemes_of false ((json_tokens j ++ items_tokens js) ++ ts) =
-        ap (lexemes_of true) (append_assoc (json_tokens j) (items_tokens js) ts) ∙ comma_first j (items_tokens js ++ ts)
-        ∙ ap (λ us. comma ∷ lexemes_of false us) (sym (append_assoc (json_tokens j) (items_tokens js) ts)) in
+    ap (lexemes_of true) (append_assoc (json_tokens j) (items_tokens js) ts) ∙ comma_first j (items_tokens js ++ ts)
+    ∙ ap (λ us. comma ∷ lexemes_of false us) (sym (append_assoc (json_tokens j) (items_tokens js) ts)) in
     let p = pass ls comma (lexemes_of false ((json_tokens j ++ items_tokens js) ++ ts)) (e ∙ first) in
     between ls (lexemes_of false ((json_tokens j ++ items_tokens js) ++ ts)) (e ∙ first) 1 (omega arith) (items_size (item j js)) (1 + items_size (item j js)) refl (lexemes_of true ts) (f (drop 1 ls) p.left)
 
@@ -156,14 +156,51 @@ mutual
       let b = pass (drop 1 ls) colon (lexemes_of false us) a.left in
       let two : drop 2 ls ≡ drop 1 (drop 1 ls) = further 1 1 2 ls refl in
       let first : lexemes (drop 2 ls) ≡ lexemes_of false (json_tokens j ++ (members_tokens ms ++ ts)) =
-          ap lexemes two ∙ b.left ∙ ap (lexemes_of false) (append_assoc (json_tokens j) (members_tokens ms) ts) in
+      ap lexemes two ∙ b.left ∙ ap (lexemes_of false) (append_assoc (json_tokens j) (members_tokens ms) ts) in
       let v = skip_value j (drop 2 ls) (members_tokens ms ++ ts) first in
       let rest = more_members ms (drop (size j) (drop 2 ls)) ts v.left (λ ks f. skip_members ms ks ts f) in
       let tail = and_then (size j) (comma_before_member ms + members_size ms) (size j + (comma_before_member ms + members_size ms)) 1 (drop 2 ls)
-          (lexemes_of true (members_tokens ms ++ ts)) (lexemes_of true ts) refl v rest in
+      (lexemes_of true (members_tokens ms ++ ts)) (lexemes_of true ts) refl v rest in
       let far = further (size j + (comma_before_member ms + members_size ms)) 2 (members_size (member k j ms)) ls refl in
       record {
         left = ap lexemes far ∙ tail.left;
         quiet = λ depth h.
             a.quiet depth refl ∙ b.quiet depth (close_quiet depth h) ∙ ap (marked depth) (sym two) ∙ tail.quiet depth h ∙ ap (marked (depth - 1)) (sym far);
       }
+
+-- ---- the last lexeme of an object is its closing brace
+
+pub record Closed (n : ℕ) (ls : Placed) : Type 0 where
+  pub index : ℕ
+  pub sum : n ≡ index + 1
+  pub place : ℕ
+  pub rest : Placed
+  pub is : drop index ls ≡ (place, token Token.end_object) ∷ rest
+
+first_closed : (ls : Placed) (rest : List Lexeme) → lexemes ls ≡ token Token.end_object ∷ rest → Closed 1 ls
+first_closed [] rest e = cc
+first_closed (q ∷ ls) rest e = let h : q.1 ≡ token Token.end_object = cc in record { index = 0; sum = omega arith; place = q.0; rest = ls; is = ap (λ l. (q.0, l) ∷ ls) h }
+
+closed_later : (a b n : ℕ) (ls : Placed) → n ≡ a + b → Closed b (drop a ls) → Closed n ls
+closed_later a b n ls sum c = record { index = a + c.index; sum = omega (arith, c.sum); place = c.place; rest = c.rest; is = further c.index a (a + c.index) ls refl ∙ c.is }
+
+closed_members : (ms : Members) (ls : Placed) (ts : List Token) → lexemes ls ≡ lexemes_of true (members_tokens ms ++ ts)
+    → ((ks : Placed) → lexemes ks ≡ lexemes_of false (members_tokens ms ++ ts) → Closed (members_size ms) ks) → Closed (comma_before_member ms + members_size ms) ls
+closed_members no_members ls ts e f = closed_later 0 1 (0 + 1) ls refl (f ls e)
+closed_members (member k j ms) ls ts e f =
+    let p = pass ls comma (lexemes_of false (members_tokens (member k j ms) ++ ts)) e in
+    closed_later 1 (members_size (member k j ms)) (1 + members_size (member k j ms)) ls refl (f (drop 1 ls) p.left)
+
+pub members_closed : (ms : Members) (ls : Placed) (ts : List Token) → lexemes ls ≡ lexemes_of false (members_tokens ms ++ ts) → Closed (members_size ms) ls
+members_closed no_members ls ts e = first_closed ls (lexemes_of true ts) e
+members_closed (member k j ms) ls ts e =
+    let us = (json_tokens j ++ members_tokens ms) ++ ts in
+    let a = pass ls (token (Token.string k)) (colon ∷ lexemes_of false us) e in
+    let b = pass (drop 1 ls) colon (lexemes_of false us) a.left in
+    let two : drop 2 ls ≡ drop 1 (drop 1 ls) = further 1 1 2 ls refl in
+    let first : lexemes (drop 2 ls) ≡ lexemes_of false (json_tokens j ++ (members_tokens ms ++ ts)) =
+    ap lexemes two ∙ b.left ∙ ap (lexemes_of false) (append_assoc (json_tokens j) (members_tokens ms) ts) in
+    let v = skip_value j (drop 2 ls) (members_tokens ms ++ ts) first in
+    let rest = closed_members ms (drop (size j) (drop 2 ls)) ts v.left (λ ks f. members_closed ms ks ts f) in
+    closed_later 2 (size j + (comma_before_member ms + members_size ms)) (members_size (member k j ms)) ls refl
+    (closed_later (size j) (comma_before_member ms + members_size ms) (size j + (comma_before_member ms + members_size ms)) (drop 2 ls) refl rest)

@@ -1,12 +1,17 @@
 -- Only this crate's proofs cite these words: the lexemes of a text with their places, and the scan over them.
-use Rattle.std.specs.Prelude.{◌≡◌, ℕ, ◌+◌, ◌&&◌, List, [], ◌∷◌, ◌++◌, Bool, true, false, if◌then◌else◌, Option, Some, None, ⊤}
+use Rattle.std.specs.Prelude.{◌≡◌, ℕ, ◌+◌, ◌-◌, ◌&&◌, List, [], ◌∷◌, ◌++◌, take, drop, get_or, reverse, codes, Bool, true, false, if◌then◌else◌, Option, Some, None, ⊤}
+use Rattle.std.specs.List.{prefix_len}
+use Rattle.std.specs.Option.{option_or}
 use Rattle.json.specs.Token.{Token}
 use Rattle.json.specs.Text.{content, plain}
-use Rattle.json.specs.Word.{word}
+use Rattle.json.specs.Word.{is_space, word}
 use Rattle.json.specs.Lex.{Lexeme, token, comma, colon, Class, quote, backslash, operator, space, other, class, operator_lexeme, string_token, Mode, between, in_word, in_string, in_escape, Place, fresh, after_value, after_comma, after_key}
 use Rattle.json.specs.Align.{is_good}
 use Rattle.json.specs.Print.{begins, ends}
+use Rattle.json.specs.Json.{Members, no_members, member}
+use Rattle.esm_model.specs.Json.{read_json}
 use Rattle.esm_model.specs.State as scan
+use Rattle.esm_window.specs.StateSpan.{size}
 
 -- the lexer's mode after a byte
 abbrev pub next : Mode → Class → Mode
@@ -58,6 +63,15 @@ unfoldable pub lay : Mode → ℕ → List ℕ → Placed
 lay m p [] = []
 lay m p (x ∷ xs) = put_at p (begin m (class x) x xs) (lay (next m (class x)) (p + 1) xs)
 
+-- how many bytes stand before the first of them
+abbrev pub gap_before : Option Lexeme → ℕ → ℕ
+gap_before None n = 1 + n
+gap_before (Some l) n = 0
+
+unfoldable pub gap : Mode → List ℕ → ℕ
+gap m [] = 0
+gap m (x ∷ xs) = gap_before (begin m (class x) x xs) (gap (next m (class x)) xs)
+
 abbrev pub mode_at : Mode → List ℕ → Mode
 mode_at m [] = m
 mode_at m (x ∷ xs) = mode_at (next m (class x)) xs
@@ -105,6 +119,37 @@ scanned between = scan.outside
 scanned in_word = scan.outside
 scanned in_string = scan.in_text
 scanned in_escape = scan.in_escape
+
+-- ---- the members by the marks around them
+
+-- the brace or comma before a member's key, its colon, and the comma or brace after its value
+pub record Bounds : Type 0 where
+  pub before : ℕ
+  pub colon : ℕ
+  pub after : ℕ
+
+-- these are the places of the lexemes from the brace or comma before the first of the members on
+abbrev pub bounds_at : List ℕ → Members → List Bounds
+bounds_at places no_members = []
+bounds_at places (member k j ms) =
+    record { before = get_or places 0 0; colon = get_or places 2 0; after = get_or places (3 + size j) 0 } ∷ bounds_at (drop (3 + size j) places) ms
+
+abbrev pub is_state : List ℕ → Bounds → Bool
+is_state text b = scan.is_text (codes "state") (read_json (scan.between text b.before b.colon))
+
+abbrev pub last_bounds : List ℕ → List Bounds → Option Bounds
+last_bounds text [] = None
+last_bounds text (b ∷ bs) = option_or (last_bounds text bs) (if is_state text b then Some b else None)
+
+abbrev pub pair_of : Option Bounds → Option (ℕ × ℕ)
+pair_of None = None
+pair_of (Some b) = Some (b.colon, b.after)
+
+abbrev pub inner_start : List ℕ → Bounds → ℕ
+inner_start text b = b.colon + 1 + prefix_len is_space (drop (b.colon + 1) text)
+
+abbrev pub inner_end : List ℕ → Bounds → ℕ
+inner_end text b = b.after - prefix_len is_space (reverse (take b.after text))
 
 -- ---- good lexemes and tokens
 

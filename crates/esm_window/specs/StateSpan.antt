@@ -1,16 +1,14 @@
 -- The state in an answer, by JSON's grammar. Source: the Lambda Developer Guide, tumbling windows (the answer's field
 -- `state`, an object of at most 1 MB); RFC 8259, section 4 (objects). That other states fail the batch, and that the last
 -- of several counts, is this product's own.
-use Rattle.std.specs.Prelude.{ℕ, ◌+◌, ◌-◌, nat_le, nat_lt, List, [], ◌∷◌, ◌++◌, length, take, drop, get_or, reverse, slice_range, codes, Bool, if◌then◌else◌, Option, Some, None}
-use Rattle.std.specs.List.{prefix_len}
+use Rattle.std.specs.Prelude.{ℕ, ◌+◌, ◌-◌, nat_le, nat_lt, List, [], ◌∷◌, ◌++◌, length, drop, get_or, codes, if◌then◌else◌, Option, Some, None}
 use Rattle.std.specs.Option.{option_or}
 use Rattle.std.specs.Str.{bytes_eq}
 use Rattle.json.specs.Token.{Token}
-use Rattle.json.specs.Word.{is_space}
 use Rattle.json.specs.Lex.{lex, between, tokens}
 use Rattle.json.specs.Json.{Json, Items, no_items, item, Members, no_members, member, value}
 use Rattle.json.specs.Json as json
-use Rattle.serde_json.specs.Data.{Data, null, string, object}
+use Rattle.serde_json.specs.Data.{Data, null, object}
 use Rattle.serde_json.specs.Find.{get_member}
 use Rattle.serde_json.specs.Read.{max_depth}
 use Rattle.esm_model.specs.Json.{read_json}
@@ -60,59 +58,45 @@ abbrev mutual
 
 -- ---- the members of the outermost object
 
--- where a member stands: the brace or comma before its key, its colon, and the comma or brace after its value
+-- a member: its key as read, and the places of the first and of the last lexeme of its value
 pub record Member : Type 0 where
-  pub before : ℕ
-  pub colon : ℕ
-  pub after : ℕ
+  pub key : List ℕ
+  pub first : ℕ
+  pub last : ℕ
 
--- The members of an object in the text's order. These are the places of the lexemes from the brace or comma before the
--- first of the members on: that one's, its key's, its colon's, those of its value, and that of the comma or brace after it.
+-- The members of an object in the text's order. These are the places of the lexemes from the first key on: that key, its
+-- colon, its value, and the comma or brace after it; then the next key.
 abbrev pub members_at : List ℕ → Members → List Member
 members_at places no_members = []
 members_at places (member k j ms) =
-    record { before = get_or places 0 0; colon = get_or places 2 0; after = get_or places (3 + size j) 0 }
-    ∷ members_at (drop (3 + size j) places) ms
+    record { key = k; first = get_or places 2 0; last = get_or places (1 + size j) 0 } ∷ members_at (drop (3 + size j) places) ms
 
 -- the members that the grammar finds in what it reads
 abbrev pub members_of : Option (Json × List Token) → Members
 members_of (Some (json.object ms, rest)) = ms
 members_of _ = no_members
 
+-- the first lexeme is the opening brace
 abbrev pub outermost_members : List ℕ → List Member
-outermost_members text = members_at (places [] text) (members_of (value max_depth (tokens text)))
+outermost_members text = members_at (drop 1 (places [] text)) (members_of (value max_depth (tokens text)))
+
+abbrev pub last_named : List ℕ → List Member → Option Member
+last_named name [] = None
+last_named name (m ∷ ms) = option_or (last_named name ms) (if bytes_eq m.key name then Some m else None)
 
 -- ---- the state
 
--- the text between a member's brace or comma and its colon reads as a key of that name, its escapes read too
-abbrev pub names : List ℕ → Option Data → Bool
-names name (Some (string s)) = bytes_eq s name
-names name _ = Bool.false
-
-abbrev pub is_named : List ℕ → List ℕ → Member → Bool
-is_named name text m = names name (read_json (slice_range text (m.before + 1) m.colon))
-
-abbrev pub last_named : List ℕ → List ℕ → List Member → Option Member
-last_named name text [] = None
-last_named name text (m ∷ ms) = option_or (last_named name text ms) (if is_named name text m then Some m else None)
-
--- a member's value: the bytes between its colon and the comma or brace after it, without the white space around them
-abbrev pub value_start : List ℕ → Member → ℕ
-value_start text m = m.colon + 1 + prefix_len is_space (drop (m.colon + 1) text)
-
-abbrev pub value_end : List ℕ → Member → ℕ
-value_end text m = m.after - prefix_len is_space (reverse (take m.after text))
-
--- the span of that value, which is at most a state's limit
-abbrev pub value_span : List ℕ → Option Member → StateRead
-value_span text None = Bad
-value_span text (Some m) = if nat_le (value_end text m - value_start text m) MAX_DATA then Span (value_start text m) (value_end text m) else Bad
+-- the bytes of an object, from its opening brace to its closing one, which are its first and its last lexeme; at most a
+-- state's limit
+abbrev pub value_span : Option Member → StateRead
+value_span None = Bad
+value_span (Some m) = if nat_le (m.last + 1 - m.first) MAX_DATA then Span m.first (m.last + 1) else Bad
 
 -- by the value that reading the answer finds under `state`
 abbrev pub found_span : List ℕ → Option Data → StateRead
 found_span text None = Empty
 found_span text (Some null) = Empty
-found_span text (Some (object ms)) = value_span text (last_named (codes "state") text (outermost_members text))
+found_span text (Some (object ms)) = value_span (last_named (codes "state") (outermost_members text))
 found_span text (Some _) = Bad
 
 -- by the value that the whole answer is
