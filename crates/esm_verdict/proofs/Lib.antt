@@ -1,3 +1,4 @@
 pub mod IndexLemmas
 pub mod ReportedLemmas
 pub mod ReadingLemmas
+pub mod WithinLemmas

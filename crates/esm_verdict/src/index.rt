@@ -1,11 +1,35 @@
 //! The sorted index of a batch's identifiers.
-ghost use Rattle.std.specs.Prelude.{◌≡◌, ℕ, List, ◌≤◌, length, Some, None, if◌then◌else◌, IfOk, OnOk};
+ghost use Rattle.std.specs.Prelude.{◌≡◌, ℕ, List, ◌≤◌, length, map, Some, None, if◌then◌else◌, IfOk, OnOk};
 ghost use Rattle.std.specs.Str.{bytes_eq};
 ghost use Rattle.esm_verdict.specs.Indexed.{finds, Indexes};
 
 use esm_model::{MAX_BATCH, OutOfMemory, Seq, Text};
 use std::alloc::Global;
 use std::collections::BTreeMap;
+
+/// What is identified by a text: a record by its sequence number, a message by its id.
+pub trait Identified {
+    ghost identifier: { Self → List ℕ };
+
+    fn id(&self) -> &str
+        ensures { result.now ≡ identifier self.now };
+}
+
+impl Identified for Seq {
+    ghost identifier = { λ number. number };
+
+    fn id(&self) -> &str {
+        self.text()
+    }
+}
+
+impl Identified for Text {
+    ghost identifier = { λ id. id };
+
+    fn id(&self) -> &str {
+        self.as_str()
+    }
+}
 
 /// The first position of each identifier in a batch.
 #[derive(Drop)]
@@ -29,30 +53,16 @@ impl<'a> Index<'a> {
         Ok(())
     }
 
-    /// The index of a stream's batch.
-    pub fn of_numbers(alloc: Global, batch: &'a [Seq]) -> Result<Index<'a>, OutOfMemory>
+    /// The index of a batch.
+    pub fn of<T: Identified>(alloc: Global, batch: &'a [T]) -> Result<Index<'a>, OutOfMemory>
         requires { length batch.now ≤ MAX_BATCH }
-        ensures { IfOk result (λ index. Indexes batch.now index) }
+        ensures { IfOk result (λ index. Indexes (map T.identifier batch.now) index) }
     {
         let mut index = Index::new(alloc);
         let mut at = batch.len();
         while at > 0 {
             at -= 1;
-            index.put(batch[at].text(), at as u32)?;
-        }
-        Ok(index)
-    }
-
-    /// The index of a queue's batch.
-    pub fn of_texts(alloc: Global, ids: &'a [Text]) -> Result<Index<'a>, OutOfMemory>
-        requires { length ids.now ≤ MAX_BATCH }
-        ensures { IfOk result (λ index. Indexes ids.now index) }
-    {
-        let mut index = Index::new(alloc);
-        let mut at = ids.len();
-        while at > 0 {
-            at -= 1;
-            index.put(ids[at].as_str(), at as u32)?;
+            index.put(batch[at].id(), at as u32)?;
         }
         Ok(index)
     }

@@ -28,7 +28,7 @@ fn value_reading(alloc: Global, ids: &[Text], value: &Value) -> Result<QueueRead
     if failures.is_empty() {
         return Ok(done(alloc));
     }
-    let index = Index::of_texts(alloc, ids)?;
+    let index = Index::of(alloc, ids)?;
     match positions_of(alloc, &index, failures)? {
         Some(reported) => Ok(QueueReading::Done {
             failed: failed_positions(alloc, reported.as_slice(), ids.len())?,

@@ -1,7 +1,7 @@
 ghost use Rattle.std.specs.Prelude.{◌≡◌, ◌≤◌, length, Some, IfOk};
 ghost use Rattle.serde_json.specs.View.{view};
 ghost use Rattle.esm_model.specs.Reading.{reading, run_reading, item_reading, body_reading, is_bad};
-ghost use Rattle.esm_verdict.specs.Readings.{is_closing, reply_state};
+ghost use Rattle.esm_verdict.specs.Readings.{IsWithin, is_closing, reply_state};
 
 use crate::index::Index;
 use crate::positions::least_reading;
@@ -33,7 +33,7 @@ fn value_reading(alloc: Global, batch: &[Seq], value: &Value) -> Result<Reading,
     if failures.is_empty() {
         return Ok(Reading::Whole);
     }
-    let index = Index::of_numbers(alloc, batch)?;
+    let index = Index::of(alloc, batch)?;
     match positions_of(alloc, &index, failures)? {
         Some(reported) => Ok(least_reading(reported.as_slice())),
         None => Ok(Reading::Failed),
@@ -101,6 +101,7 @@ pub fn read_stream(
 ) -> Result<Answer, OutOfMemory>
     requires { length batch.now ≤ MAX_BATCH }
     ensures reading { IfOk result (λ answer. answer.reading ≡ reading config.now batch.now (is_closing call) reply.now) }
+    ensures within { IfOk result (λ answer. IsWithin (length batch.now) answer.reading) }
     ensures state { IfOk result (λ answer. answer.state ≡ reply_state config.now reply.now) }
 {
     let state = reply_state(alloc, config, reply)?;
