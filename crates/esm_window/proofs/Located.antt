@@ -25,16 +25,13 @@ same_heads q r ls ks e = let h : q ≡ r = cc in (ap (λ z. z.0) h, ap (λ z. z.
 
 begun_mark : (m : Mode) (c : Class) (x : ℕ) (xs : List ℕ) (l : Lexeme) → begin m c x xs ≡ Some l → IsMark l → Facts c x → (next m c ≡ between) × (x ≡ byte_of l)
 begun_mark between quote x xs l e mark f = let h : token (string_token (content plain xs)) ≡ l = cc in absurd (mark (sym (ap byte_of h) ∙ text_byte (content plain xs)))
-begun_mark between backslash x xs l e mark f = let h = e in absurd (mark (unsome l e))
-  where
-    unsome : (k : Lexeme) → begin between backslash x xs ≡ Some k → byte_of k ≡ 48
-    unsome k h = cc
-begun_mark between operator x xs l e mark f = (refl, sym f.0 ∙ (let h : Facts operator x = f in cc))
+begun_mark between backslash x xs l e mark f = let h : token Token.bad ≡ l = cc in absurd (mark (sym (ap byte_of h)))
+begun_mark between operator x xs l e mark f = let h : operator_lexeme x ≡ l = cc in (refl, sym f.0 ∙ ap byte_of h)
 begun_mark between space x xs l e mark f = cc
 begun_mark between other x xs l e mark f = let h : token (word (x ∷ xs)) ≡ l = cc in absurd (mark (sym (ap byte_of h) ∙ word_byte (x ∷ xs)))
 begun_mark in_word quote x xs l e mark f = cc
 begun_mark in_word backslash x xs l e mark f = cc
-begun_mark in_word operator x xs l e mark f = (refl, sym f.0 ∙ (let h : Facts operator x = f in cc))
+begun_mark in_word operator x xs l e mark f = let h : operator_lexeme x ≡ l = cc in (refl, sym f.0 ∙ ap byte_of h)
 begun_mark in_word space x xs l e mark f = cc
 begun_mark in_word other x xs l e mark f = cc
 begun_mark in_string c x xs l e mark f = cc
