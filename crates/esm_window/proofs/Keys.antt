@@ -77,7 +77,7 @@ text_read : (xs k : List ℕ) → lex between xs ≡ token (Token.string k) ∷ 
 unfolding punctuate value
 text_read xs k e = ap (λ ls. option_and_then of_json (option_and_then (λ p. if_last p.0 p.1) (value max_depth (punctuate fresh ls)))) e
 
-within : (text : List ℕ) (place x : ℕ) (xs : List ℕ) → drop place text ≡ x ∷ xs → (place < length text) × (get_or text place 0 ≡ x)
+pub within : (text : List ℕ) (place x : ℕ) (xs : List ℕ) → drop place text ≡ x ∷ xs → (place < length text) × (get_or text place 0 ≡ x)
 within text place x xs e =
     let same : place ≡ place + 0 = omega arith in
     (omega (arith, length-drop place text, ap length e), ap (λ i. get_or text i 0) same ∙ sym (get_or-drop place text 0 0) ∙ ap (λ ys. get_or ys 0 0) e)

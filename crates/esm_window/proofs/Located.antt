@@ -68,6 +68,37 @@ located text (x ∷ xs) m p before place l rest h mark is =
     locate_step text x xs m p before place l rest h mark (begin m (class x) x xs) refl
     (λ front e. located text xs (next m (class x)) (p + 1) front place l rest (tail_at text p x xs h) mark e) is
 
+-- ---- places rise
+
+at_least_step : (m : Mode) (x p : ℕ) (xs : List ℕ) (before : Placed) (place : ℕ) (l : Lexeme) (rest : Placed) (o : Option Lexeme)
+    → ((front : Placed) → lay (next m (class x)) (p + 1) xs ≡ front ++ (place, l) ∷ rest → p + 1 ≤ place)
+    → put_at p o (lay (next m (class x)) (p + 1) xs) ≡ before ++ (place, l) ∷ rest → p ≤ place
+at_least_step m x p xs before place l rest None onward e = omega (arith, onward before e)
+at_least_step m x p xs [] place l rest (Some k) onward e = omega (arith, (same_heads (p, k) (place, l) (lay (next m (class x)) (p + 1) xs) rest e).0)
+at_least_step m x p xs (a ∷ front) place l rest (Some k) onward e =
+    omega (arith, onward front (same_heads (p, k) a (lay (next m (class x)) (p + 1) xs) (front ++ (place, l) ∷ rest) e).2)
+
+at_least : (m : Mode) (p : ℕ) (xs : List ℕ) (before : Placed) (place : ℕ) (l : Lexeme) (rest : Placed) → lay m p xs ≡ before ++ (place, l) ∷ rest → p ≤ place
+unfolding lay
+at_least m p [] [] place l rest e = cc
+at_least m p [] (a ∷ front) place l rest e = cc
+at_least m p (x ∷ xs) before place l rest e =
+    at_least_step m x p xs before place l rest (begin m (class x) x xs) (λ front h. at_least (next m (class x)) (p + 1) xs front place l rest h) e
+
+later_step : (m : Mode) (x p : ℕ) (xs : List ℕ) (q : ℕ × Lexeme) (before : Placed) (place : ℕ) (l : Lexeme) (rest : Placed) (o : Option Lexeme)
+    → (lay (next m (class x)) (p + 1) xs ≡ q ∷ (before ++ (place, l) ∷ rest) → q.0 < place)
+    → put_at p o (lay (next m (class x)) (p + 1) xs) ≡ q ∷ (before ++ (place, l) ∷ rest) → q.0 < place
+later_step m x p xs q before place l rest None onward e = onward e
+later_step m x p xs q before place l rest (Some k) onward e =
+    let heads = same_heads (p, k) q (lay (next m (class x)) (p + 1) xs) (before ++ (place, l) ∷ rest) e in
+    omega (arith, heads.0, at_least (next m (class x)) (p + 1) xs before place l rest heads.2)
+
+pub later : (m : Mode) (p : ℕ) (xs : List ℕ) (q : ℕ × Lexeme) (before : Placed) (place : ℕ) (l : Lexeme) (rest : Placed) → lay m p xs ≡ q ∷ (before ++ (place, l) ∷ rest) → q.0 < place
+unfolding lay
+later m p [] q before place l rest e = cc
+later m p (x ∷ xs) q before place l rest e =
+    later_step m x p xs q before place l rest (begin m (class x) x xs) (λ h. later (next m (class x)) (p + 1) xs q before place l rest h) e
+
 -- ---- white space before a lexeme
 
 spaces_step : (c : Class) (x p : ℕ) (xs : List ℕ) (place : ℕ) (l : Lexeme) (rest : Placed) → is_space x ≡ is_blank c

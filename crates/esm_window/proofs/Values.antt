@@ -1,5 +1,5 @@
 -- The last member named `state` by the grammar is the last one by the marks around it.
-use Rattle.std.proofs.Common.{◌≡◌, ℕ, suc, ◌+◌, ◌-◌, ◌<◌, Bool, true, false, cond, if◌then◌else◌, List, [], ◌∷◌, ◌++◌, take, drop, get_or, reverse, codes, nat_le, Option, Some, None, refl, sym, ap, ap₂, ◌∙◌, subst, arith, append_assoc, drop-drop}
+use Rattle.std.proofs.Common.{◌≡◌, ℕ, suc, ◌+◌, ◌-◌, ◌<◌, Bool, true, false, cond, if◌then◌else◌, List, [], ◌∷◌, ◌++◌, take, drop, get_or, reverse, length, codes, nat_le, Option, Some, None, refl, sym, ap, ap₂, ◌∙◌, subst, arith, append_assoc, drop-drop}
 use Rattle.std.specs.Prelude.{⊤}
 use Rattle.std.specs.List.{prefix_len, slice_range}
 use Rattle.std.specs.Option.{option_or}
@@ -17,11 +17,11 @@ use Rattle.esm_model.specs.Json.{read_json}
 use Rattle.esm_model.specs.State as scan
 use Rattle.esm_model.specs.declared.limits.TheConstants.{MAX_DATA}
 use Rattle.esm_model.specs.declared.verdict.StateRead.TheVariants.{Span, Bad}
-use Rattle.esm_window.specs.StateSpan.{size, members_size, Member, members_at, last_named, value_span}
+use Rattle.esm_window.specs.StateSpan.{size, members_size, Member, members_at, last_named, value_span, IsSpanIn}
 use Rattle.esm_window.specs.Layout.{Placed, lay, lexemes_of, token_byte, byte_of, Bounds, bounds_at, is_state, last_bounds, pair_of, inner_start, inner_end}
 use Rattle.esm_window.proofs.Skips.{lexemes, pass, further, skip_value, members_closed}
-use Rattle.esm_window.proofs.Located.{IsMark, Located, located, spaces_first, trailing}
-use Rattle.esm_window.proofs.Keys.{key_reads}
+use Rattle.esm_window.proofs.Located.{IsMark, Located, located, later, spaces_first, trailing}
+use Rattle.esm_window.proofs.Keys.{within, key_reads}
 use Rattle.esm_window.proofs.Members.{place_list, After, Following, following}
 
 small_token : (t : Token) → token_byte t < 128
@@ -79,11 +79,29 @@ object_end text p ms us ls place l rest laid e after =
     let gap : place ≡ c.place + 1 + prefix_len is_space (drop (c.place + 1) text) = spaces_first (c.place + 1) (drop (c.place + 1) text) place l rest (sym at_brace.rest ∙ left) in
     ap (λ k. k + 1) (nth_place ls n (c.place, token Token.end_object) c.rest brace) ∙ sym (trailing text c.place place at_brace.here gap)
 
+object_order : (text : List ℕ) (p : ℕ) (ms : Members) (us : List Token) (ls : Placed) → ls ≡ lay between p (drop p text)
+    → lexemes ls ≡ lexemes_of false (json_tokens (json.object ms) ++ us)
+    → (get_or (place_list ls) 0 0 < get_or (place_list ls) (members_size ms) 0) × (get_or (place_list ls) (members_size ms) 0 < length text)
+object_order text p ms us [] laid e = cc
+object_order text p ms us (q ∷ ks) laid e =
+    let n = members_size ms in
+    let inside : lexemes ks ≡ lexemes_of false (members_tokens ms ++ us) = cc in
+    let c = members_closed ms ks us inside in
+    let end : ℕ × Lexeme = (c.place, token Token.end_object) in
+    let brace : drop n (q ∷ ks) ≡ end ∷ c.rest = further c.index 1 n (q ∷ ks) (omega (arith, c.sum)) ∙ c.is in
+    let at_brace = located text (drop p text) between p (take n (q ∷ ks)) c.place (token Token.end_object) c.rest refl brace_is_mark (sym laid ∙ parted n (q ∷ ks) end c.rest brace) in
+    let place : get_or (place_list (q ∷ ks)) n 0 ≡ c.place = nth_place (q ∷ ks) n end c.rest brace in
+    let before : q.0 < c.place =
+    later between p (drop p text) q (take c.index ks) c.place (token Token.end_object) c.rest (sym laid ∙ ap (λ l. q ∷ l) (parted c.index ks end c.rest c.is)) in
+    let there = within text c.place 125 (drop (c.place + 1) text) at_brace.here in
+    (omega (arith, place, before), omega (arith, place, there.0))
+
 -- ---- one member in both
 
 pub record Same (text : List ℕ) (m : Member) (b : Bounds) (j : Json) : Type 0 where
   pub first : m.first ≡ inner_start text b
   pub last : (ms : Members) → j ≡ json.object ms → m.last + 1 ≡ inner_end text b
+  pub order : (ms : Members) → j ≡ json.object ms → (m.first < m.last) × (m.last < length text)
 
 abbrev pub SameLast : List ℕ → Option Member → Option Bounds → Option Json → Type 0
 SameLast text None None None = ⊤
@@ -138,6 +156,12 @@ same_last text utf8 (member k j ms) start l (q ∷ r ∷ vs) at_start e =
           let after_it : drop (size (json.object os)) vs ≡ (f.place, f.lexeme) ∷ f.rest = ap (λ i. drop (size i) vs) (sym is) ∙ f.is in
           let two : 1 + (1 + members_size os) ≡ suc (suc (members_size os)) = omega arith in
           ap (λ i. get_or ps (1 + size i) 0 + 1) is ∙ ap (λ i. get_or ps i 0 + 1) two ∙ object_end text (r.0 + 1) os us vs f.place f.lexeme f.rest at_colon.rest object_value after_it;
+      order = λ os is.
+          let object_value : lexemes vs ≡ lexemes_of false (json_tokens (json.object os) ++ us) = value ∙ ap (λ i. lexemes_of false (json_tokens i ++ us)) is in
+          let two : 1 + (1 + members_size os) ≡ suc (suc (members_size os)) = omega arith in
+          let place : get_or ps (1 + n) 0 ≡ get_or vps (members_size os) 0 = ap (λ i. get_or ps (1 + size i) 0) is ∙ ap (λ i. get_or ps i 0) two in
+          let o = object_order text (r.0 + 1) os us vs at_colon.rest object_value in
+          (omega (arith, o.0, place), omega (arith, o.1, place));
     } in
     let others = same_last text utf8 ms f.place f.lexeme f.rest at_next f.after in
     let both = same_or text (last_named state_name (members_at (place_list f.rest) ms)) (last_bounds text (bounds_at (place_list ((f.place, f.lexeme) ∷ f.rest)) ms)) (get_member state_name ms)
@@ -171,3 +195,18 @@ last_span text None None (Some i) os h e = absurd h
 last_span text None (Some c) r os h e = absurd h
 last_span text (Some n) None r os h e = absurd h
 last_span text (Some n) (Some c) None os h e = absurd h
+
+one_within : (text : List ℕ) (m : Member) (t : Bool) → (m.first < m.last) × (m.last < length text) → IsSpanIn text (if t then Span m.first (m.last + 1) else Bad)
+one_within text m true h = (omega (arith, h.0), omega (arith, h.1))
+one_within text m false h = tt
+
+-- and it lies within the text
+pub last_within : (text : List ℕ) (o : Option Member) (p : Option Bounds) (r : Option Json) (os : Members) → SameLast text o p r → r ≡ Some (json.object os) → IsSpanIn text (value_span o)
+last_within text None None None os h e = tt
+last_within text (Some m) (Some b) (Some j) os h e =
+    let is : j ≡ json.object os = cc in
+    one_within text m (nat_le (m.last + 1 - m.first) MAX_DATA) (h.order os is)
+last_within text None None (Some i) os h e = absurd h
+last_within text None (Some c) r os h e = absurd h
+last_within text (Some n) None r os h e = absurd h
+last_within text (Some n) (Some c) None os h e = absurd h

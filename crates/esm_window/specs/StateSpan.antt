@@ -1,7 +1,7 @@
 -- The state in an answer, by JSON's grammar. Source: the Lambda Developer Guide, tumbling windows (the answer's field
 -- `state`, an object of at most 1 MB); RFC 8259, section 4 (objects). That other states fail the batch, and that the last
 -- of several counts, is this product's own.
-use Rattle.std.specs.Prelude.{ℕ, ◌+◌, ◌-◌, nat_le, nat_lt, List, [], ◌∷◌, ◌++◌, length, drop, get_or, codes, if◌then◌else◌, Option, Some, None}
+use Rattle.std.specs.Prelude.{ℕ, ◌<◌, ◌≤◌, ⊤, ◌+◌, ◌-◌, nat_le, nat_lt, List, [], ◌∷◌, ◌++◌, length, drop, get_or, codes, if◌then◌else◌, Option, Some, None}
 use Rattle.std.specs.Option.{option_or}
 use Rattle.std.specs.Str.{bytes_eq}
 use Rattle.json.specs.Token.{Token}
@@ -110,3 +110,9 @@ answer_span text _ = Bad
 unfoldable pub state_span : List ℕ → StateRead
 state_span [] = Empty
 state_span (x ∷ xs) = answer_span (x ∷ xs) (read_json (x ∷ xs))
+
+-- the span lies within the text and is not empty
+abbrev pub IsSpanIn : List ℕ → StateRead → Type 0
+IsSpanIn text Empty = ⊤
+IsSpanIn text (Span from to) = (from < to) × (to ≤ length text)
+IsSpanIn text Bad = ⊤

@@ -2,7 +2,7 @@ ghost use Rattle.std.specs.Prelude.{◌≡◌, ◌<◌, ◌≤◌, ◌+◌, leng
 ghost use Rattle.std.specs.List.{prefix_len, suffix_len};
 ghost use Rattle.serde_json.specs.View.{view};
 ghost use Rattle.esm_model.specs.State.{is_space, span_between, member_state, body_state, state_read};
-ghost use Rattle.esm_window.specs.StateSpan.{state_span};
+ghost use Rattle.esm_window.specs.StateSpan.{state_span, IsSpanIn};
 
 use crate::marks::last_state;
 use crate::part::is_space;
@@ -89,6 +89,7 @@ fn value_state(alloc: Global, body: &[u8], value: &Value) -> Result<StateRead, O
 pub fn read_state(alloc: Global, body: &[u8]) -> Result<StateRead, OutOfMemory>
     ensures by_grammar { IfOk result (λ read. read ≡ state_span body.now) }
     ensures by_scan { IfOk result (λ read. read ≡ state_read body.now) }
+    ensures within { IfOk result (λ read. IsSpanIn body.now read) }
 {
     if body.is_empty() {
         return Ok(StateRead::Empty);
