@@ -8,6 +8,7 @@ use Rattle.esm_model.specs.declared.verdict.Reading.{Reading}
 use Rattle.esm_model.specs.declared.verdict.Reading.TheVariants.{UpTo}
 use Rattle.esm_model.specs.declared.verdict.StateRead.{StateRead}
 use Rattle.esm_model.specs.declared.verdict.StateRead.TheVariants.{Empty}
+use Rattle.esm_window.specs.StateSpan.{IsSpanIn}
 use Rattle.esm_verdict.specs.declared.stream.Call.{Call}
 use Rattle.esm_verdict.specs.declared.stream.Call.TheVariants.{OfBatch, OfWindow}
 
@@ -15,6 +16,11 @@ use Rattle.esm_verdict.specs.declared.stream.Call.TheVariants.{OfBatch, OfWindow
 abbrev pub IsWithin : ℕ → Reading → Type 0
 IsWithin count (UpTo p) = (1 ≤ p) × (p < count)
 IsWithin count _ = ⊤
+
+-- the state's bytes lie within the answer's body
+abbrev pub IsStateIn : Reply → StateRead → Type 0
+IsStateIn (Answered status error body) state = IsSpanIn body state
+IsStateIn _ state = ⊤
 
 -- the call is a window's final one
 abbrev pub is_closing : Call → Bool

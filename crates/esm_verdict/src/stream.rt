@@ -1,7 +1,7 @@
 ghost use Rattle.std.specs.Prelude.{◌≡◌, ◌≤◌, length, Some, IfOk};
 ghost use Rattle.serde_json.specs.View.{view};
 ghost use Rattle.esm_model.specs.Reading.{reading, run_reading, item_reading, body_reading, is_bad};
-ghost use Rattle.esm_verdict.specs.Readings.{IsWithin, is_closing, reply_state};
+ghost use Rattle.esm_verdict.specs.Readings.{IsWithin, IsStateIn, is_closing, reply_state};
 
 use crate::index::Index;
 use crate::positions::least_reading;
@@ -65,7 +65,8 @@ fn is_closing(call: Call) -> bool
 
 /// The state that a reply gives its window.
 fn reply_state(alloc: Global, config: &Config, reply: &Reply) -> Result<StateRead, OutOfMemory>
-    ensures { IfOk result (λ state. state ≡ reply_state config.now reply.now) }
+    ensures state { IfOk result (λ state. state ≡ reply_state config.now reply.now) }
+    ensures in_answer { IfOk result (λ state. IsStateIn reply.now state) }
 {
     match reply {
         Reply::Answered {
@@ -103,6 +104,7 @@ pub fn read_stream(
     ensures reading { IfOk result (λ answer. answer.reading ≡ reading config.now batch.now (is_closing call) reply.now) }
     ensures within { IfOk result (λ answer. IsWithin (length batch.now) answer.reading) }
     ensures state { IfOk result (λ answer. answer.state ≡ reply_state config.now reply.now) }
+    ensures state_in_answer { IfOk result (λ answer. IsStateIn reply.now answer.state) }
 {
     let state = reply_state(alloc, config, reply)?;
     let reading = match reply {
