@@ -11,17 +11,8 @@ use Rattle.esm_model.specs.declared.received.Received.{Received}
 use Rattle.esm_model.specs.Moment.{moment_after}
 use Rattle.esm_model.specs.Entries.{holds}
 use Rattle.esm_model.specs.Fates.{below}
-use Rattle.esm_queue_model.specs.declared.receipt.TheConstants.{MAX_COUNT}
-
--- a message that came: the moment at which it came, the moments of its first and its last receipt, its receive count,
--- and whether it is deleted
-pub record Stored : Type 0 where
-  pub message : Message
-  pub came : ℕ
-  pub first : Option ℕ
-  pub last : Option ℕ
-  pub count : ℕ
-  pub deleted : Bool
+use Rattle.esm_queue_model.specs.declared.stored.Stored.{Stored}
+use Rattle.esm_queue_model.specs.declared.stored.TheConstants.{MAX_COUNT}
 
 -- a queue: its kind, the visibility timeout in milliseconds, and its messages in order of arrival
 pub record QueueState : Type 0 where
@@ -37,16 +28,16 @@ show_after visibility None = 0
 show_after visibility (Some receipt) = moment_after receipt visibility
 
 -- the message is hidden at the moment
-abbrev pub is_hidden : QueueState → ℕ → Stored → Bool
-is_hidden q m x = nat_lt m (show_after q.visibility x.last)
+abbrev pub is_hidden : ℕ → ℕ → Stored → Bool
+is_hidden visibility m x = nat_lt m (show_after visibility x.last)
 
 -- it is neither deleted nor hidden
-abbrev pub is_shown : QueueState → ℕ → Stored → Bool
-is_shown q m x = not x.deleted && not (is_hidden q m x)
+abbrev pub is_shown : ℕ → ℕ → Stored → Bool
+is_shown visibility m x = not x.deleted && not (is_hidden visibility m x)
 
 -- it is in flight: hidden and not deleted
-abbrev pub is_in_flight : QueueState → ℕ → Stored → Bool
-is_in_flight q m x = not x.deleted && is_hidden q m x
+abbrev pub is_in_flight : ℕ → ℕ → Stored → Bool
+is_in_flight visibility m x = not x.deleted && is_hidden visibility m x
 
 -- eligible messages
 
@@ -58,13 +49,13 @@ is_group _ _ = false
 abbrev pub same_group : Stored → Stored → Bool
 same_group x y = is_group x.message.group y.message.group
 
--- one of the earlier messages holds the message back: in a FIFO queue, one of its group that is in flight
-abbrev pub is_held_back : QueueState → ℕ → List Stored → Stored → Bool
-is_held_back q m earlier x = q.fifo && list_any (λ y. same_group y x && is_in_flight q m y) earlier
+-- one of the earlier messages holds the message back: one of its group that is in flight
+abbrev pub is_held_back : ℕ → ℕ → List Stored → Stored → Bool
+is_held_back visibility m earlier x = list_any (λ y. same_group y x && is_in_flight visibility m y) earlier
 
--- after these earlier messages it may be received
+-- after these earlier messages it may be received; only in a FIFO queue can one be held back
 abbrev pub is_receivable : QueueState → ℕ → List Stored → Stored → Bool
-is_receivable q m earlier x = is_shown q m x && not (is_held_back q m earlier x)
+is_receivable q m earlier x = is_shown q.visibility m x && not (q.fifo && is_held_back q.visibility m earlier x)
 
 -- the message at a place
 abbrev pub stored_at : QueueState → ℕ → Option Stored
@@ -137,6 +128,10 @@ seen_at i x = record { message = x.message; place = i; count = x.count; first = 
 abbrev pub seen : QueueState → List ℕ → List Received
 seen q places = filter_map (λ i. option_map (seen_at i) (stored_at q i)) places
 
+-- the message at a place is there and deleted
+abbrev pub is_deleted_at : QueueState → ℕ → Bool
+is_deleted_at q i = unwrap_or (option_map (λ (x : Stored). x.deleted) (stored_at q i)) false
+
 -- the receive count of the message at a place
 abbrev pub count_at : QueueState → ℕ → ℕ
 count_at q i = unwrap_or (option_map (λ (x : Stored). x.count) (stored_at q i)) 0
@@ -151,7 +146,7 @@ first_at q i = first_of (stored_at q i)
 
 -- the moments at which the messages that are in flight show
 abbrev pub shows : QueueState → ℕ → List ℕ
-shows q m = map (λ (x : Stored). show_after q.visibility x.last) (filter (is_in_flight q m) q.messages)
+shows q m = map (λ (x : Stored). show_after q.visibility x.last) (filter (is_in_flight q.visibility m) q.messages)
 
 abbrev pub least_with : ℕ → Option ℕ → ℕ
 least_with n None = n

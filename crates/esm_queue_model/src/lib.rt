@@ -4,7 +4,7 @@
 #![tactic(auto)]
 
 pub mod queue_laws;
-pub mod receipt;
+pub mod stored;
 pub mod worked;
 
-pub use receipt::MAX_COUNT;
+pub use stored::{MAX_COUNT, Stored};

@@ -1,6 +1,7 @@
 //! What holds of every queue, each as the contract of a function that does nothing.
 ghost use Rattle.std.specs.Prelude.{ℕ, ◌≡◌, Some};
-ghost use Rattle.esm_queue_model.specs.Queue.{QueueState, Stored, stored_at};
+ghost use Rattle.esm_queue_model.specs.declared.stored.Stored.{Stored};
+ghost use Rattle.esm_queue_model.specs.Queue.{QueueState, stored_at};
 ghost use Rattle.esm_queue_model.specs.QueueLaws.{EligibleByGroup};
 
 /// A message is eligible exactly where it is neither deleted nor hidden and, in a FIFO queue, each earlier message of its
