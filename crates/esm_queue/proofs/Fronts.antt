@@ -1,0 +1,73 @@
+-- Lists of places that rise, and fronts of what passes a test.
+use Rattle.std.proofs.Common.{◌≡◌, ℕ, zero, suc, ◌+◌, ◌<◌, ◌≤◌, Bool, true, false, List, [], ◌∷◌, ◌++◌, length, get_or, take, add-one, min, refl, sym, ap, ◌∙◌, ◌⊎◌, inl, inr, arith}
+use Rattle.std.specs.Prelude.{filter}
+use Rattle.std.proofs.lemmas.List.{append-nil, take-append-le, length-take, take_all, length-append}
+use Rattle.std.proofs.lemmas.List.Elements.{filter-append}
+use Rattle.std.proofs.lemmas.Bool.{cases_Bool}
+use Rattle.esm_model.specs.Fates.{below}
+use Rattle.esm_queue.specs.Receiving.{IsRising}
+
+-- the places rise from low on, below high
+abbrev pub Rises : ℕ → ℕ → List ℕ → Type 0
+Rises low high [] = low ≤ high
+Rises low high (i ∷ places) = (low ≤ i) × Rises (i + 1) high places
+
+pub Rises_bounds : (low high : ℕ) (places : List ℕ) → Rises low high places → low ≤ high
+Rises_bounds low high [] h = h
+Rises_bounds low high (i ∷ places) h = let rest = Rises_bounds (i + 1) high places h.1 in let first = h.0 in omega arith
+
+pub Rises-push : (low n : ℕ) (places : List ℕ) → Rises low n places → Rises low (suc n) (places ++ n ∷ [])
+Rises-push low n [] h = (h, omega arith)
+Rises-push low n (i ∷ places) h = (h.0, Rises-push (i + 1) n places h.1)
+
+pub Rises-weaker : (low n m : ℕ) (places : List ℕ) → n ≤ m → Rises low n places → Rises low m places
+Rises-weaker low n m [] le h = omega arith
+Rises-weaker low n m (i ∷ places) le h = (h.0, Rises-weaker (i + 1) n m places le h.1)
+
+pub Rises-take : (low high k : ℕ) (places : List ℕ) → Rises low high places → Rises low high (take k places)
+Rises-take low high zero places h = Rises_bounds low high places h
+Rises-take low high (suc k) [] h = h
+Rises-take low high (suc k) (i ∷ places) h = (h.0, Rises-take (i + 1) high k places h.1)
+
+pub Rises_at : (low high : ℕ) (places : List ℕ) (k d : ℕ) → Rises low high places → k < length places → get_or places k d < high
+Rises_at low high [] k d h within = absurd (omega arith)
+Rises_at low high (i ∷ places) zero d h within = let rest = Rises_bounds (i + 1) high places h.1 in omega arith
+Rises_at low high (i ∷ places) (suc k) d h within = Rises_at (i + 1) high places k d h.1 (omega arith)
+
+pub Rises_rising : (low high : ℕ) (places : List ℕ) → Rises low high places → IsRising low places
+Rises_rising low high [] h = tt
+Rises_rising low high (i ∷ places) h = (h.0, Rises_rising (i + 1) high places h.1)
+
+-- what passes of the numbers below n
+pub Rises-filter_below : (p : ℕ → Bool) (n : ℕ) → Rises 0 n (filter p (below n))
+Rises-filter_below p zero = omega arith
+Rises-filter_below p (suc n) =
+    let before = Rises-filter_below p n in
+    rw (filter-append p (below n) (n ∷ []))
+    (elim (cases_Bool (p n)) [
+      | inl is ↦ rw is (Rises-push 0 n (filter p (below n)) before)
+      | inr fails ↦ rw fails (rw append-nil (Rises-weaker 0 n (suc n) (filter p (below n)) (omega arith) before))
+    ])
+
+-- one more number, at the end of a front
+
+pub front_kept : (p : ℕ → Bool) (n max : ℕ) (places : List ℕ) → places ≡ take max (filter p (below n)) → (p n ≡ false) ⊎ (max ≤ length places) → places ≡ take max (filter p (below (n + 1)))
+front_kept p n max places so_far why =
+    let whole : filter p (below (n + 1)) ≡ filter p (below n) ++ filter p (n ∷ []) = rw add-one (filter-append p (below n) (n ∷ [])) in
+    so_far ∙ elim why [
+      | inl fails ↦ ap (λ xs. take max xs) (sym (append-nil (filter p (below n)))) ∙ ap (λ xs. take max xs) (ap (λ ys. filter p (below n) ++ ys) (sym (rw fails refl)) ∙ sym whole)
+      | inr full ↦ (let long : max ≤ length (filter p (below n)) = full_front max places (filter p (below n)) so_far full in
+          sym (take-append-le max (filter p (below n)) (filter p (n ∷ [])) long) ∙ ap (λ xs. take max xs) (sym whole))
+    ]
+  where
+    full_front : (max : ℕ) (places xs : List ℕ) → places ≡ take max xs → max ≤ length places → max ≤ length xs
+    full_front max places xs e full = let l : length places ≡ min max (length xs) = ap length e ∙ length-take max xs in omega arith
+
+pub front_pushed : (p : ℕ → Bool) (n max : ℕ) (places : List ℕ) → places ≡ take max (filter p (below n)) → p n ≡ true → length places < max → places ++ n ∷ [] ≡ take max (filter p (below (n + 1)))
+front_pushed p n max places so_far is room =
+    let xs = filter p (below n) in
+    let whole : filter p (below (n + 1)) ≡ xs ++ n ∷ [] = rw add-one (filter-append p (below n) (n ∷ []) ∙ rw is refl) in
+    let l : length places ≡ min max (length xs) = ap length so_far ∙ length-take max xs in
+    let short : length xs < max = omega arith in
+    let all : places ≡ xs = so_far ∙ take_all max xs (omega arith) in
+    ap (λ ys. ys ++ n ∷ []) all ∙ (sym (take_all max (xs ++ n ∷ []) (simp length-append (omega arith))) ∙ ap (λ ys. take max ys) (sym whole))

@@ -1,0 +1,11 @@
+//! The queue of a mapping: its messages in order of arrival, which of them a receiver gets, how long they stay hidden,
+//! and which of a message group wait for an earlier one.
+//! Pure values; no device, clock or thread.
+#![tactic(auto)]
+
+mod copying;
+mod eligible;
+mod marking;
+mod queue;
+
+pub use queue::Queue;

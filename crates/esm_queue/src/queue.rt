@@ -1,0 +1,168 @@
+ghost use Rattle.std.specs.Prelude.{◌≡◌, ◌+◌, ◌≤◌, ◌<◌, not, length, ◌∷◌, [], OnOk, OnErr, IfOk, IsOk, option_map};
+ghost use Rattle.std.specs.Option.{option_copied};
+ghost use Rattle.esm_model.specs.Moment.{capped_moment};
+ghost use Rattle.esm_queue_model.specs.declared.stored.Stored.{Stored};
+ghost use Rattle.esm_queue_model.specs.Queue.{empty_queue, after_arrival, after_receipt, after_deletion, receivable, seen, stored_at, is_deleted_at, count_at, first_at, next_show};
+
+use crate::copying::copy_all;
+use crate::eligible::eligible_places;
+use crate::marking::receive_all;
+use esm_model::{MAX_MOMENT, Message, OutOfMemory, Places, Received};
+use esm_queue_model::Stored;
+use std::alloc::Global;
+use std::marker::Model;
+
+/// The messages of a queue's mapping. A place counts messages in order of arrival from 0; moments and the visibility
+/// timeout are in milliseconds, and a moment after `MAX_MOMENT` is taken as `MAX_MOMENT`. Source: the Amazon SQS
+/// Developer Guide, "visibility timeout" and "FIFO queue delivery logic".
+#[derive(Drop, Debug)]
+pub struct Queue {
+    fifo: bool,
+    visibility_ms: u64,
+    messages: Vec<Stored>,
+}
+
+impl Model for Queue {
+    ghost use Rattle.std.specs.Prelude.{◌-◌, ◌≤◌};
+    ghost use Rattle.std.specs.Vec.{vec_len, vec_capacity};
+    ghost use Rattle.std.below.core.specs.declared.int.u32.TheConstants.{MAX};
+    ghost use Rattle.esm_queue.specs.Held.{Held};
+
+    ghost Value = { Held };
+
+    ghost view = { λ q. record { state = record { fifo = q.fifo; visibility = q.visibility_ms; messages = q.messages.items }; spare = vec_capacity q.messages - vec_len q.messages } };
+
+    ghost invariant = { λ q. vec_len q.messages ≤ MAX };
+}
+
+impl Queue {
+    /// A queue without messages, FIFO or standard.
+    pub fn new(alloc: Global, fifo: bool, visibility_ms: u64) -> Result<Queue, OutOfMemory>
+        ensures { IfOk result (λ q. q.state ≡ empty_queue fifo visibility_ms) }
+    {
+        Ok(Queue {
+            fifo,
+            visibility_ms,
+            messages: Vec::new(alloc),
+        })
+    }
+
+    /// Memory for so many further messages: the next `n` calls of `came` find room. No message changes.
+    pub fn reserve(&mut self, _alloc: Global, n: u32) -> Result<(), OutOfMemory>
+        ensures state { self.new.state ≡ self.old.state }
+        ensures ok { OnOk result (n ≤ self.new.spare) }
+        ensures kept { self.old.spare ≤ self.new.spare }
+    {
+        self.messages.reserve(n as usize)?;
+        Ok(())
+    }
+
+    /// A message comes: its place. After `OutOfMemory`, which does not come within what `reserve` made, nothing has
+    /// changed.
+    pub fn came(
+        &mut self,
+        _alloc: Global,
+        message: Message,
+        moment: u64,
+    ) -> Result<u32, OutOfMemory>
+        requires few { length self.old.state.messages < u32.MAX }
+        ensures ok { OnOk result (self.new.state ≡ after_arrival message (capped_moment moment) self.old.state) }
+        ensures place { IfOk result (λ place. place ≡ length self.old.state.messages) }
+        ensures err { OnErr result (self.new.state ≡ self.old.state) }
+
+        // Within what was reserved it never refuses, and takes one of it.
+        ensures succeeds { 0 < self.old.spare → IsOk result }
+        ensures spare { self.old.spare ≤ self.new.spare + 1 }
+    {
+        let place = self.messages.len() as u32;
+        self.messages.push(Stored {
+            message,
+            came: moment.min(MAX_MOMENT),
+            first: None,
+            last: None,
+            count: 0,
+            deleted: false,
+        })?;
+        Ok(place)
+    }
+
+    /// The places that `receive` would give: the first `max` eligible ones at the moment. Nothing changes.
+    pub fn peek(&self, alloc: Global, now: u64, max: u32) -> Result<Places, OutOfMemory>
+        ensures { IfOk result (λ places. places ≡ receivable self.now.state (capped_moment now) max) }
+    {
+        let places = eligible_places(
+            alloc,
+            self.messages.as_slice(),
+            self.fifo,
+            self.visibility_ms,
+            now.min(MAX_MOMENT),
+            max,
+        )?;
+        Ok(Places::from_vec(places))
+    }
+
+    /// The first `max` messages that are neither deleted nor hidden and, in a FIFO queue, have no earlier one of their
+    /// group in flight. They are hidden from then on for the visibility timeout, and were received once more. After
+    /// `OutOfMemory` nothing has changed.
+    pub fn receive(
+        &mut self,
+        alloc: Global,
+        now: u64,
+        max: u32,
+    ) -> Result<Vec<Received>, OutOfMemory>
+        ensures ok { OnOk result (self.new.state ≡ after_receipt (capped_moment now) (receivable self.old.state (capped_moment now) max) self.old.state) }
+        ensures given { IfOk result (λ given. given.items ≡ seen self.new.state (receivable self.old.state (capped_moment now) max)) }
+        ensures err { OnErr result (self.new.state ≡ self.old.state) }
+        ensures spare { self.new.spare ≡ self.old.spare }
+    {
+        let moment = now.min(MAX_MOMENT);
+        let places = self.peek(alloc, now, max)?;
+        let given = copy_all(alloc, self.messages.as_slice(), places.as_slice(), moment)?;
+        receive_all(self.messages.as_mut_slice(), places.as_slice(), moment);
+        Ok(given)
+    }
+
+    /// The message is deleted: whether it was not before. Takes no memory.
+    pub fn delete(&mut self, place: u32) -> bool
+        requires known { place < length self.old.state.messages }
+        ensures answer { result ≡ not (is_deleted_at self.old.state place) }
+        ensures state { self.new.state ≡ after_deletion (place ∷ []) self.old.state }
+        ensures spare { self.new.spare ≡ self.old.spare }
+    {
+        let stored = &mut self.messages[place as usize];
+        let was = stored.deleted;
+        stored.deleted = true;
+        !was
+    }
+
+    /// The message at the place; `None` exactly where none has it. Takes no memory.
+    pub fn message(&self, place: u32) -> Option<&Message>
+        ensures { option_copied result ≡ option_map (λ (x : Stored). x.message) (stored_at self.now.state place) }
+    {
+        match self.messages.get(place as usize) {
+            None => None,
+            Some(stored) => Some(&stored.message),
+        }
+    }
+
+    /// How often the message was received; 0 where none has the place. Takes no memory.
+    pub fn count(&self, place: u32) -> u32
+        ensures { result ≡ count_at self.now.state place }
+    {
+        match self.messages.get(place as usize) {
+            None => 0,
+            Some(stored) => stored.count,
+        }
+    }
+
+    /// The moment of the message's first receipt; `None` where none has the place or it was never received. Takes no
+    /// memory.
+    pub fn first(&self, place: u32) -> Option<u64>
+        ensures { result ≡ first_at self.now.state place }
+    {
+        match self.messages.get(place as usize) {
+            None => None,
+            Some(stored) => stored.first,
+        }
+    }
+}
