@@ -1,2 +1,3 @@
 pub mod Changing
 pub mod Fronts
+pub mod Shows

@@ -1,7 +1,8 @@
-ghost use Rattle.std.specs.Prelude.{◌≡◌, ◌<◌, ◌≤◌, ◌&&◌, not, length, take, filter, slice_get, slice_index_or, IfOk, Some};
+ghost use Rattle.std.specs.Prelude.{◌≡◌, ◌<◌, ◌≤◌, ◌&&◌, not, length, take, filter, slice_get, slice_index_or, IfOk, Some, if◌then◌else◌};
 ghost use Rattle.std.specs.List.{list_any};
 ghost use Rattle.esm_model.specs.Fates.{below};
 ghost use Rattle.esm_queue_model.specs.Queue as spec;
+ghost use Rattle.esm_queue.specs.Receiving.{shows_of};
 
 use esm_model::{MAX_MOMENT, OutOfMemory};
 use esm_queue_model::Stored;
@@ -27,6 +28,37 @@ fn is_shown(stored: &Stored, visibility_ms: u64, now: u64) -> bool
     ensures { result ≡ spec.is_shown visibility_ms now stored.now }
 {
     !stored.deleted && shows_at(stored, visibility_ms) <= now
+}
+
+fn earlier(moment: u64, other: Option<u64>) -> u64
+    ensures { result ≡ spec.least_with moment other }
+{
+    match other {
+        None => moment,
+        Some(least) => moment.min(least),
+    }
+}
+
+/// The lesser of the moment and that at which the message shows, where it is in flight.
+fn with_show(next: Option<u64>, stored: &Stored, visibility_ms: u64, now: u64) -> Option<u64>
+    ensures { result ≡ (if spec.is_in_flight visibility_ms now stored.now then Some (spec.least_with (spec.show_after visibility_ms stored.now.last) next) else next) }
+{
+    if is_in_flight(stored, visibility_ms, now) {
+        Some(earlier(shows_at(stored, visibility_ms), next))
+    } else {
+        next
+    }
+}
+
+/// The least moment at which a message that is in flight shows.
+pub fn next_show(messages: &[Stored], visibility_ms: u64, now: u64) -> Option<u64>
+    ensures { result ≡ spec.least (shows_of visibility_ms now messages.now) }
+{
+    let mut next = None;
+    for stored in messages {
+        next = with_show(next, stored, visibility_ms, now);
+    }
+    next
 }
 
 fn same_group(one: &Stored, other: &Stored) -> bool

@@ -5,7 +5,7 @@ ghost use Rattle.esm_queue_model.specs.declared.stored.Stored.{Stored};
 ghost use Rattle.esm_queue_model.specs.Queue.{empty_queue, after_arrival, after_receipt, after_deletion, receivable, seen, stored_at, is_deleted_at, count_at, first_at, next_show};
 
 use crate::copying::copy_all;
-use crate::eligible::eligible_places;
+use crate::eligible::{eligible_places, next_show};
 use crate::marking::receive_all;
 use esm_model::{MAX_MOMENT, Message, OutOfMemory, Places, Received};
 use esm_queue_model::Stored;
@@ -164,5 +164,16 @@ impl Queue {
             None => None,
             Some(stored) => stored.first,
         }
+    }
+
+    /// The next moment after `now` at which a message shows that is hidden at `now` and not deleted. Takes no memory.
+    pub fn next_show(&self, now: u64) -> Option<u64>
+        ensures { result ≡ next_show self.now.state (capped_moment now) }
+    {
+        next_show(
+            self.messages.as_slice(),
+            self.visibility_ms,
+            now.min(MAX_MOMENT),
+        )
     }
 }
