@@ -1,7 +1,6 @@
 -- Which messages are eligible.
 use Rattle.std.proofs.Common.{List, ◌≡◌, ℕ, ◌<◌, Bool, true, false, not, ◌&&◌, take, sym, ap, ◌∙◌, ◌⊎◌, inl, inr, arith, Option, Some}
 use Rattle.std.specs.Prelude.{unwrap_or, option_map, slice_get}
-use Rattle.std.specs.List.{list_any}
 use Rattle.std.proofs.lemmas.Bool.{cases_Bool, and_parts, and_from, and_cases, both_ways, not-true, not_from_false, not_from_true, false_from_ne_true, and_left, and_right}
 use Rattle.esm_queue_model.specs.declared.stored.Stored.{Stored}
 use Rattle.esm_queue_model.specs.Queue.{QueueState, stored_at, is_hidden, is_shown, is_in_flight, is_held_back, is_receivable, is_eligible, same_group}
