@@ -1,2 +1,4 @@
 pub mod Groups
 pub mod EligibleFacts
+pub mod Places
+pub mod QueueTests

@@ -6,3 +6,4 @@ pub mod QueueEntries
 pub mod QueueBatch
 pub mod QueueStep
 pub mod QueueReport
+pub mod QueueTests

@@ -1,4 +1,9 @@
 //! Worked examples, each computed from the definitions.
+ghost use Rattle.std.specs.Prelude.{◌≡◌, true, List};
+ghost use Rattle.esm_model.specs.declared.entry.Entry.{Entry};
+ghost use Rattle.esm_queue_model.specs.QueueSetting.{QueueSetting};
+ghost use Rattle.esm_queue_model.specs.QueueStep.{LegalQueue};
+ghost use Rattle.esm_queue_model.specs.QueueTests.{is_legal_queue};
 ghost use Rattle.esm_queue_model.specs.WorkedQueue.{FifoReceive, QueuePeek};
 
 /// Three messages of the groups A, B and A: one in flight holds the later one of its group back, until it shows again or
@@ -6,4 +11,9 @@ ghost use Rattle.esm_queue_model.specs.WorkedQueue.{FifoReceive, QueuePeek};
 pub fn queues()
     ensures fifo_receive { FifoReceive }
     ensures queue_peek { QueuePeek }
+{}
+
+/// A history that passes the tests over the lanes that occur in it is legal.
+pub fn legal_by_tests()
+    ensures { (s : QueueSetting) (h : List Entry) → is_legal_queue s h ≡ true → LegalQueue s h }
 {}
