@@ -2,3 +2,4 @@ pub mod Groups
 pub mod EligibleFacts
 pub mod Places
 pub mod QueueTests
+pub mod WorkedHistories

@@ -7,3 +7,4 @@ pub mod QueueBatch
 pub mod QueueStep
 pub mod QueueReport
 pub mod QueueTests
+pub mod WorkedHistories

@@ -5,6 +5,7 @@ ghost use Rattle.esm_queue_model.specs.QueueSetting.{QueueSetting};
 ghost use Rattle.esm_queue_model.specs.QueueStep.{LegalQueue};
 ghost use Rattle.esm_queue_model.specs.QueueTests.{is_legal_queue};
 ghost use Rattle.esm_queue_model.specs.WorkedQueue.{FifoReceive, QueuePeek};
+ghost use Rattle.esm_queue_model.specs.WorkedHistories.{QueueItemFailures, HiddenCallIsNotLegal, TwoGroups, FilteredMessage, FoundDeleted, ChangedMessageIsNotLegal};
 
 /// Three messages of the groups A, B and A: one in flight holds the later one of its group back, until it shows again or
 /// is deleted.
@@ -16,4 +17,16 @@ pub fn queues()
 /// A history that passes the tests over the lanes that occur in it is legal.
 pub fn legal_by_tests()
     ensures { (s : QueueSetting) (h : List Entry) → is_legal_queue s h ≡ true → LegalQueue s h }
+{}
+
+/// A message that the answer reports is called again when it shows, with its receive count, and not before; a message in
+/// flight holds back the later one of its group; one that does not pass the filter, or was found deleted, is never
+/// called; and one with another id than the journal kept may not come.
+pub fn histories()
+    ensures queue_item_failures { QueueItemFailures }
+    ensures hidden_call { HiddenCallIsNotLegal }
+    ensures two_groups { TwoGroups }
+    ensures filtered_message { FilteredMessage }
+    ensures found_deleted { FoundDeleted }
+    ensures changed_message { ChangedMessageIsNotLegal }
 {}
