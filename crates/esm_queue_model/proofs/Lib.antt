@@ -3,3 +3,4 @@ pub mod EligibleFacts
 pub mod Places
 pub mod QueueTests
 pub mod WorkedHistories
+pub mod QueueHistories

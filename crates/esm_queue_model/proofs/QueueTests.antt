@@ -19,7 +19,7 @@ use Rattle.esm_model.specs.Step.{IsLater}
 use Rattle.esm_queue_model.specs.QueueSetting.{QueueSetting, message_at, found_deletion}
 use Rattle.esm_queue_model.specs.QueueEntries.{is_deleted}
 use Rattle.esm_queue_model.specs.QueueStep.{unsorted_messages, succeeded_places, owed_places, SettledQueue, MayComeQueue, MayBeginQueue, MayGiveQueue, QueueMayFollow, LegalQueue}
-use Rattle.esm_queue_model.specs.QueueTests.{ended_lanes, is_later_entry, is_id_of, is_kept_message, may_come_queue, is_settled_queue, may_begin_queue, may_give_queue, queue_may_follow, is_legal_queue}
+use Rattle.esm_queue_model.specs.QueueTests.{ended_lanes, is_later_entry, is_id_of, is_kept_message, may_come_queue, is_settled_queue, may_begin_queue, may_give_queue, may_follow_queue, is_legal_queue}
 use Rattle.esm_queue_model.proofs.Groups.{bytes_eq-true}
 use Rattle.esm_queue_model.proofs.Places.{below-In}
 
@@ -142,7 +142,7 @@ give s h (Some lane) shard places Filtered line state m t = cc
 give s h (Some lane) shard places Expired line state m t = cc
 give s h (Some lane) shard places Exhausted line state m t = cc
 
-follows : (s : QueueSetting) (h : List Entry) (e : Entry) → queue_may_follow s h e ≡ true → QueueMayFollow s h e
+follows : (s : QueueSetting) (h : List Entry) (e : Entry) → may_follow_queue s h e ≡ true → QueueMayFollow s h e
 follows s h (Came shard first count m) t = come s h shard first count t
 follows s h (Began lane places None m) t = begin s h lane places m t
 follows s h (Began lane places (Some window) m) t = cc

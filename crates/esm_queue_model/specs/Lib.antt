@@ -8,3 +8,4 @@ pub mod QueueStep
 pub mod QueueReport
 pub mod QueueTests
 pub mod WorkedHistories
+pub mod HistoryLaws

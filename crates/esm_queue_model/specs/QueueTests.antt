@@ -64,18 +64,18 @@ may_give_queue s h None shard places Filtered line state m = may_give_exactly h 
 may_give_queue s h (Some lane) shard places Succeeded line state m = may_give_exactly h (owed_places s h lane) shard places line state m
 may_give_queue s h _ shard places _ line state m = false
 
-abbrev pub queue_may_follow : QueueSetting → List Entry → Entry → Bool
-queue_may_follow s h (Came shard first count moment) = may_come_queue s h shard first count
-queue_may_follow s h (Began lane places None moment) = may_begin_queue s h lane places moment
-queue_may_follow s h (Began lane places (Some window) moment) = false
-queue_may_follow s h (Ended lane reply moment) = is_running h lane
-queue_may_follow s h (Gave by shard places fate line state moment) = may_give_queue s h by shard places fate line state moment
-queue_may_follow s h (Tried lane places closing tries moment) = false
-queue_may_follow s h (Closed lane window moment) = false
-queue_may_follow s h (Replayed shard places moment) = false
-queue_may_follow s h (Shut moment) = is_settled_queue s h && not (is_shut h)
+abbrev pub may_follow_queue : QueueSetting → List Entry → Entry → Bool
+may_follow_queue s h (Came shard first count moment) = may_come_queue s h shard first count
+may_follow_queue s h (Began lane places None moment) = may_begin_queue s h lane places moment
+may_follow_queue s h (Began lane places (Some window) moment) = false
+may_follow_queue s h (Ended lane reply moment) = is_running h lane
+may_follow_queue s h (Gave by shard places fate line state moment) = may_give_queue s h by shard places fate line state moment
+may_follow_queue s h (Tried lane places closing tries moment) = false
+may_follow_queue s h (Closed lane window moment) = false
+may_follow_queue s h (Replayed shard places moment) = false
+may_follow_queue s h (Shut moment) = is_settled_queue s h && not (is_shut h)
 
 -- each entry may follow those before it
 abbrev pub is_legal_queue : QueueSetting → List Entry → Bool
 is_legal_queue s [] = true
-is_legal_queue s (e ∷ h) = is_legal_queue s h && (is_later_entry h (moment_of e) && queue_may_follow s h e)
+is_legal_queue s (e ∷ h) = is_legal_queue s h && (is_later_entry h (moment_of e) && may_follow_queue s h e)

@@ -3,6 +3,7 @@
 //! Definitions and laws; no device, clock or thread.
 #![tactic(auto)]
 
+pub mod history_laws;
 pub mod queue_laws;
 pub mod stored;
 pub mod worked;

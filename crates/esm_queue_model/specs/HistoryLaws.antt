@@ -1,0 +1,33 @@
+-- What holds of every legal history of a queue's mapping (newest entry first).
+use Rattle.std.specs.Prelude.{◌≡◌, ℕ, ◌+◌, ◌<◌, true, false, IsTrue, List, [], ◌∷◌, ◌++◌, length, take, map, Option, Some, ◌⊎◌}
+use Rattle.esm_model.specs.declared.item.Message.{Message}
+use Rattle.esm_model.specs.declared.lane.LaneId.{LaneId}
+use Rattle.esm_model.specs.declared.entry.Fate.{Fate}
+use Rattle.esm_model.specs.declared.entry.WindowState.{WindowState}
+use Rattle.esm_model.specs.declared.entry.Entry.{Entry}
+use Rattle.esm_model.specs.declared.entry.Entry.TheVariants.{Began, Gave}
+use Rattle.esm_model.specs.Entries.{holds}
+use Rattle.esm_queue_model.specs.declared.stored.Stored.{Stored}
+use Rattle.esm_queue_model.specs.Queue.{stored_at, same_group}
+use Rattle.esm_queue_model.specs.QueueSetting.{QueueSetting, is_fifo}
+use Rattle.esm_queue_model.specs.QueueEntries.{queue_of, queue_count, is_deleted, deleted_count, waiting}
+
+-- a deletion goes to messages that are not deleted, so a message is deleted at most once
+abbrev pub DeletedOnce : QueueSetting → List Entry → Type 0
+DeletedOnce s h =
+    (later before : List Entry) (by : Option LaneId) (shard : ℕ) (places : List ℕ) (f : Fate) (line : Option (List ℕ)) (state : Option WindowState) (m : ℕ) → h ≡ later ++ Gave by shard places f line state m ∷ before
+    → (i : ℕ) → IsTrue (holds places i) → is_deleted s before i ≡ false
+
+-- no batch of a FIFO queue holds a message before every earlier one of its group is deleted, or is before it in the batch
+abbrev pub OrderPerGroup : QueueSetting → List Entry → Type 0
+OrderPerGroup s h =
+    (later before : List Entry) (lane : LaneId) (places : List ℕ) (closing : Option ℕ) (m : ℕ) → h ≡ later ++ Began lane places closing m ∷ before
+    → is_fifo s.config.kind ≡ true
+    → (i j : ℕ) (x y : Stored) → stored_at (queue_of s before) i ≡ Some x → stored_at (queue_of s before) j ≡ Some y → same_group y x ≡ true
+    → IsTrue (holds places i) → j < i
+    → (y.deleted ≡ true) ⊎ IsTrue (holds places j)
+
+-- the messages that came are the deleted and the waiting ones together, each once, and those of the setting in order
+pub record EveryMessageCounted (s : QueueSetting) (h : List Entry) : Type 0 where
+  pub counted : queue_count h ≡ deleted_count s h + length (waiting s h)
+  pub messages : map (λ (x : Stored). x.message) (queue_of s h).messages ≡ take (queue_count h) s.messages

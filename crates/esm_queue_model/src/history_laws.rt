@@ -1,0 +1,28 @@
+//! What holds of every legal history of a queue's mapping, each as the contract of a function that does nothing.
+//! A history is written newest entry first.
+ghost use Rattle.std.specs.Prelude.{List};
+ghost use Rattle.esm_model.specs.declared.item.Message.{Message};
+ghost use Rattle.esm_model.specs.declared.entry.Entry.{Entry};
+ghost use Rattle.esm_queue_model.specs.QueueSetting.{QueueSetting, ExtendsMessages, over_messages};
+ghost use Rattle.esm_queue_model.specs.QueueStep.{LegalQueue};
+ghost use Rattle.esm_queue_model.specs.HistoryLaws.{DeletedOnce, OrderPerGroup, EveryMessageCounted};
+
+/// In a legal history a message is deleted at most once, and one that was found deleted is not deleted again.
+pub fn deleted_once()
+    ensures { (s : QueueSetting) (h : List Entry) → LegalQueue s h → DeletedOnce s h }
+{}
+
+/// In a legal history of a FIFO queue no batch overtakes an earlier message of one of its groups.
+pub fn order_per_group()
+    ensures { (s : QueueSetting) (h : List Entry) → LegalQueue s h → OrderPerGroup s h }
+{}
+
+/// In a legal history each message that came is counted once: as deleted, or as waiting.
+pub fn every_message_counted()
+    ensures { (s : QueueSetting) (h : List Entry) → LegalQueue s h → EveryMessageCounted s h }
+{}
+
+/// What is legal over a list of messages is legal over each list that goes on from it.
+pub fn legal_over_more()
+    ensures { (s : QueueSetting) (h : List Entry) (after : List Message) → ExtendsMessages s.messages after → LegalQueue s h → LegalQueue (over_messages s after) h }
+{}
