@@ -4,3 +4,4 @@ pub mod Places
 pub mod QueueTests
 pub mod WorkedHistories
 pub mod QueueHistories
+pub mod MoreMessages

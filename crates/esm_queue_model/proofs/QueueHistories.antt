@@ -1,11 +1,9 @@
 -- What holds of legal histories of queues.
-use Rattle.std.proofs.Common.{◌≡◌, ℕ, zero, suc, ◌+◌, ◌-◌, ◌<◌, ◌≤◌, Bool, true, false, not, cond, ◌&&◌, List, [], ◌∷◌, ◌++◌, length, take, drop, map, refl, sym, ap, ap₂, ◌∙◌, subst, ◌⊎◌, inl, inr, arith, append_assoc, length-append, Option, Some, None}
-use Rattle.std.specs.Prelude.{◌==◌, filter, filter_map, slice_get, IsTrue, nat_le, option_map, unwrap_or}
+use Rattle.std.proofs.Common.{◌≡◌, ℕ, suc, ◌+◌, Bool, true, false, not, cond, List, [], ◌∷◌, ◌++◌, length, take, drop, map, refl, sym, ap, ap₂, ◌∙◌, subst, inl, inr, arith, append_assoc, Option, Some, None}
+use Rattle.std.specs.Prelude.{◌==◌}
 use Rattle.std.proofs.Math.Seq.{take-add}
-use Rattle.std.proofs.lemmas.List.{append-nil, map-append, length-map, length-take, take-append-le, drop-append-le}
+use Rattle.std.proofs.lemmas.List.{append-nil, map-append}
 use Rattle.std.proofs.lemmas.Bool.{cases_Bool, and_parts, not-true, cond-true, cond-false}
-use Rattle.std.proofs.lemmas.Option.{none-some, same_Some, slice_get_within}
-use Rattle.esm_model.specs.declared.limits.TheConstants.{MAX_EVENT}
 use Rattle.esm_model.specs.declared.item.Message.{Message}
 use Rattle.esm_model.specs.declared.lane.LaneId.{LaneId}
 use Rattle.esm_model.specs.declared.entry.Fate.{Fate}
@@ -13,18 +11,17 @@ use Rattle.esm_model.specs.declared.entry.Fate.TheVariants.{Succeeded, Filtered,
 use Rattle.esm_model.specs.declared.entry.WindowState.{WindowState}
 use Rattle.esm_model.specs.declared.entry.Entry.{Entry}
 use Rattle.esm_model.specs.declared.entry.Entry.TheVariants.{Came, Began, Ended, Gave, Tried, Closed, Replayed, Shut}
-use Rattle.esm_model.specs.Entries.{holds, moment_of}
+use Rattle.esm_model.specs.Entries.{holds}
 use Rattle.esm_model.specs.Fates.{below}
 use Rattle.esm_model.specs.Batches.{longest}
-use Rattle.esm_model.specs.Step.{IsLater}
 use Rattle.esm_queue_model.specs.declared.stored.Stored.{Stored}
-use Rattle.esm_queue_model.specs.Queue.{QueueState, stored_at, same_group, is_eligible, eligible, changed_from, received_once, deleted_once}
+use Rattle.esm_queue_model.specs.Queue.{is_eligible, eligible, changed_from, received_once, deleted_once}
 use Rattle.esm_queue_model.specs.QueueSetting.{QueueSetting, is_fifo}
-use Rattle.esm_queue_model.specs.QueueEntries.{coming_from, queue_of, queue_count, is_deleted, deleted_count, waiting}
-use Rattle.esm_queue_model.specs.QueueBatch.{queue_fits, eligible_after, queue_batch}
-use Rattle.esm_queue_model.specs.QueueStep.{is_refused_message, is_unsorted_message, unsorted_messages, succeeded_places, owed_places, QueueMayFollow, MayGiveQueue, LegalQueue}
+use Rattle.esm_queue_model.specs.QueueEntries.{coming_from, queue_of, queue_count, is_deleted}
+use Rattle.esm_queue_model.specs.QueueBatch.{queue_fits, eligible_after}
+use Rattle.esm_queue_model.specs.QueueStep.{is_unsorted_message, succeeded_places, QueueMayFollow, MayGiveQueue, LegalQueue}
 use Rattle.esm_queue_model.specs.HistoryLaws.{DeletedOnce, OrderPerGroup, EveryMessageCounted}
-use Rattle.esm_queue_model.proofs.Places.{In, In-filter, In-take, In-below, front_closed, length-parted, length-below}
+use Rattle.esm_queue_model.proofs.Places.{In, In-filter, In-take, front_closed, length-parted, length-below}
 use Rattle.esm_queue_model.proofs.EligibleFacts.{eligible_by_group}
 
 -- what stands before an entry

@@ -1,6 +1,5 @@
 -- What holds of every legal history of a queue's mapping (newest entry first).
-use Rattle.std.specs.Prelude.{◌≡◌, ℕ, ◌+◌, ◌<◌, true, false, IsTrue, List, [], ◌∷◌, ◌++◌, length, take, map, Option, Some, ◌⊎◌}
-use Rattle.esm_model.specs.declared.item.Message.{Message}
+use Rattle.std.specs.Prelude.{◌≡◌, ℕ, ◌+◌, ◌<◌, true, false, IsTrue, List, ◌∷◌, ◌++◌, length, take, map, Option, Some, ◌⊎◌}
 use Rattle.esm_model.specs.declared.lane.LaneId.{LaneId}
 use Rattle.esm_model.specs.declared.entry.Fate.{Fate}
 use Rattle.esm_model.specs.declared.entry.WindowState.{WindowState}

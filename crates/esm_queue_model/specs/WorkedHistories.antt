@@ -76,7 +76,7 @@ HiddenCallIsNotLegal = ¬ LegalQueue reporting (began (1 ∷ []) 29999 ∷ one_r
 abbrev pub two_groups : QueueSetting
 two_groups =
     queue_setting (record (queue_mapping Fifo) { batch_size = 2 })
-      (message (codes "a") (Some (codes "A")) (codes "x") ∷ message (codes "b") (Some (codes "B")) (codes "x") ∷ message (codes "c") (Some (codes "A")) (codes "x") ∷ [])
+    (message (codes "a") (Some (codes "A")) (codes "x") ∷ message (codes "b") (Some (codes "B")) (codes "x") ∷ message (codes "c") (Some (codes "A")) (codes "x") ∷ [])
 
 abbrev pub first_two : List Entry
 first_two = began (0 ∷ 1 ∷ []) 0 ∷ all_came 3 0
