@@ -5,3 +5,4 @@ pub mod QueueTests
 pub mod WorkedHistories
 pub mod QueueHistories
 pub mod MoreMessages
+pub mod QueueBookLaws

@@ -95,7 +95,7 @@ stored_count s h legal =
 
 -- the messages of a call came
 
-called_came : (s : QueueSetting) (h : List Entry) (lane : LaneId) (places : List ℕ) (closing : Option ℕ) (m i : ℕ) → LegalQueue s h → QueueMayFollow s h (Began lane places closing m) → In places i → i < queue_count h
+pub called_came : (s : QueueSetting) (h : List Entry) (lane : LaneId) (places : List ℕ) (closing : Option ℕ) (m i : ℕ) → LegalQueue s h → QueueMayFollow s h (Began lane places closing m) → In places i → i < queue_count h
 called_came s h lane places closing m i legal may member =
     let q = queue_of s h in
     let front = called_exactly s h lane places closing m may in

@@ -1,5 +1,6 @@
 -- What holds of every legal history of a queue's mapping (newest entry first).
 use Rattle.std.specs.Prelude.{◌≡◌, ℕ, ◌+◌, ◌<◌, true, false, IsTrue, List, ◌∷◌, ◌++◌, length, take, map, Option, Some, ◌⊎◌}
+use Rattle.esm_model.specs.declared.item.Message.{Message}
 use Rattle.esm_model.specs.declared.lane.LaneId.{LaneId}
 use Rattle.esm_model.specs.declared.entry.Fate.{Fate}
 use Rattle.esm_model.specs.declared.entry.WindowState.{WindowState}
@@ -8,7 +9,8 @@ use Rattle.esm_model.specs.declared.entry.Entry.TheVariants.{Began, Gave}
 use Rattle.esm_model.specs.Entries.{holds}
 use Rattle.esm_queue_model.specs.declared.stored.Stored.{Stored}
 use Rattle.esm_queue_model.specs.Queue.{stored_at, same_group}
-use Rattle.esm_queue_model.specs.QueueSetting.{QueueSetting, is_fifo}
+use Rattle.esm_queue_model.specs.QueueSetting.{QueueSetting, is_fifo, over_messages}
+use Rattle.esm_queue_model.specs.QueueBatch.{queue_calls, queue_calls_since}
 use Rattle.esm_queue_model.specs.QueueEntries.{queue_of, queue_count, is_deleted, deleted_count, waiting}
 
 -- a deletion goes to messages that are not deleted, so a message is deleted at most once
@@ -30,3 +32,11 @@ OrderPerGroup s h =
 pub record EveryMessageCounted (s : QueueSetting) (h : List Entry) : Type 0 where
   pub counted : queue_count h ≡ deleted_count s h + length (waiting s h)
   pub messages : map (λ (x : Stored). x.message) (queue_of s h).messages ≡ take (queue_count h) s.messages
+
+-- what follows a history adds to the calls of a batcher those that end in it
+abbrev pub QueueCallsKept : QueueSetting → (List ℕ → List ℕ) → List Entry → List Entry → ℕ → Type 0
+QueueCallsKept s sends later before k = queue_calls s sends (later ++ before) k ≡ queue_calls s sends before k ++ queue_calls_since s sends later before k
+
+-- lists of messages that go on from the setting's own leave the calls of a batcher
+abbrev pub QueueCallsKeptOver : QueueSetting → (List ℕ → List ℕ) → List Entry → ℕ → List Message → Type 0
+QueueCallsKeptOver s sends h k after = queue_calls (over_messages s after) sends h k ≡ queue_calls s sends h k

@@ -9,3 +9,4 @@ pub mod QueueReport
 pub mod QueueTests
 pub mod WorkedHistories
 pub mod HistoryLaws
+pub mod QueueBooks

@@ -1,11 +1,11 @@
 //! What holds of every legal history of a queue's mapping, each as the contract of a function that does nothing.
 //! A history is written newest entry first.
-ghost use Rattle.std.specs.Prelude.{List};
+ghost use Rattle.std.specs.Prelude.{ℕ, List};
 ghost use Rattle.esm_model.specs.declared.item.Message.{Message};
 ghost use Rattle.esm_model.specs.declared.entry.Entry.{Entry};
 ghost use Rattle.esm_queue_model.specs.QueueSetting.{QueueSetting, ExtendsMessages, over_messages};
 ghost use Rattle.esm_queue_model.specs.QueueStep.{LegalQueue};
-ghost use Rattle.esm_queue_model.specs.HistoryLaws.{DeletedOnce, OrderPerGroup, EveryMessageCounted};
+ghost use Rattle.esm_queue_model.specs.HistoryLaws.{DeletedOnce, OrderPerGroup, EveryMessageCounted, QueueCallsKept, QueueCallsKeptOver};
 
 /// In a legal history a message is deleted at most once, and one that was found deleted is not deleted again.
 pub fn deleted_once()
@@ -25,4 +25,14 @@ pub fn every_message_counted()
 /// What is legal over a list of messages is legal over each list that goes on from it.
 pub fn legal_over_more()
     ensures { (s : QueueSetting) (h : List Entry) (after : List Message) → ExtendsMessages s.messages after → LegalQueue s h → LegalQueue (over_messages s after) h }
+{}
+
+/// What follows a history adds to the calls of a batcher those that end in it, and changes none before.
+pub fn queue_calls_kept()
+    ensures { (s : QueueSetting) (sends : List ℕ → List ℕ) (later before : List Entry) (k : ℕ) → QueueCallsKept s sends later before k }
+{}
+
+/// The calls of a legal history are those over each list of messages that goes on from the setting's.
+pub fn queue_calls_kept_over()
+    ensures { (s : QueueSetting) (sends : List ℕ → List ℕ) (h : List Entry) (k : ℕ) (after : List Message) → ExtendsMessages s.messages after → LegalQueue s h → QueueCallsKeptOver s sends h k after }
 {}

@@ -4,6 +4,7 @@
 #![tactic(auto)]
 
 pub mod history_laws;
+pub mod queue_book_laws;
 pub mod queue_laws;
 pub mod stored;
 pub mod worked;
