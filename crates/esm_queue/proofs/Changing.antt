@@ -78,6 +78,14 @@ pub filter_map_more : {X Y : Type 0} (h : X → Option Y) (xs : List X) (i : ℕ
 filter_map_more h xs i d y within gives =
     rw (take_more xs i d within) (filter_map-append h (take i xs) (get_or xs i d ∷ []) ∙ rw gives refl)
 
+-- the next of the places still has what it had
+pub kept_at : (f : Stored → Stored) (places : List ℕ) (n : ℕ) (messages init : List Stored) (d : Stored) → IsRising 0 places → n < length places → messages ≡ changed_from f (take n places) 0 init → get_or messages (get_or places n 0) d ≡ get_or init (get_or places n 0) d
+kept_at f places n messages init d rising within so_far =
+    let p = get_or places n 0 in
+    let out : holds (take n places) p ≡ false = rising_apart 0 places n 0 rising within in
+    let at : 0 + p ≡ p = omega arith in
+    ap (λ (ms : List Stored). get_or ms p d) so_far ∙ get_or-changed_from f (take n places) 0 init p d (ap (λ j. holds (take n places) j) at ∙ out)
+
 -- a loop's step over the places
 pub marked_more : (f : Stored → Stored) (places : List ℕ) (n : ℕ) (messages init : List Stored) (d new : Stored) → IsRising 0 places → n < length places → All (λ i. i < length init) places → messages ≡ changed_from f (take n places) 0 init → new ≡ f (get_or messages (get_or places n 0) d) → set messages (get_or places n 0) new ≡ changed_from f (take (n + 1) places) 0 init
 marked_more f places n messages init d new rising within inside so_far change =

@@ -1,9 +1,9 @@
 -- Lists of places that rise, and fronts of what passes a test.
-use Rattle.std.proofs.Common.{◌≡◌, ℕ, zero, suc, ◌+◌, ◌<◌, ◌≤◌, Bool, true, false, List, [], ◌∷◌, ◌++◌, length, get_or, take, add-one, min, refl, sym, ap, ◌∙◌, ◌⊎◌, inl, inr, arith}
+use Rattle.std.proofs.Common.{◌≡◌, ℕ, zero, suc, ◌+◌, ◌<◌, ◌≤◌, Bool, true, false, List, [], ◌∷◌, ◌++◌, length, get_or, take, add-one, append_assoc, min, cond, ap₂, refl, sym, ap, ◌∙◌, ◌⊎◌, inl, inr, arith}
 use Rattle.std.specs.Prelude.{filter}
 use Rattle.std.proofs.lemmas.List.{append-nil, take-append-le, length-take, take_all, length-append}
 use Rattle.std.proofs.lemmas.List.Elements.{filter-append}
-use Rattle.std.proofs.lemmas.Bool.{cases_Bool}
+use Rattle.std.proofs.lemmas.Bool.{cases_Bool, cases_lt}
 use Rattle.esm_model.specs.Fates.{below}
 use Rattle.esm_queue.specs.Receiving.{IsRising}
 
@@ -71,3 +71,50 @@ front_pushed p n max places so_far is room =
     let short : length xs < max = omega arith in
     let all : places ≡ xs = so_far ∙ take_all max xs (omega arith) in
     ap (λ ys. ys ++ n ∷ []) all ∙ (sym (take_all max (xs ++ n ∷ []) (simp length-append (omega arith))) ∙ ap (λ ys. take max ys) (sym whole))
+
+-- numbers that do not pass are passed over
+pub filter_skip : (p : ℕ → Bool) (from to : ℕ) → from ≤ to → ((i : ℕ) → from ≤ i → i < to → p i ≡ false) → filter p (below to) ≡ filter p (below from)
+filter_skip p from zero le none = let e : from ≡ 0 = omega arith in ap (λ n. filter p (below n)) (sym e)
+filter_skip p from (suc to) le none =
+    elim (cases_lt to from) [
+      | inl past ↦ (let e : from ≡ suc to = omega arith in ap (λ n. filter p (below n)) (sym e))
+      | inr within ↦
+          (let rest = filter_skip p from to within (λ i low high. none i low (omega arith)) in
+          let fails : p to ≡ false = none to within (omega arith) in
+          filter-append p (below to) (to ∷ []) ∙ (rw fails (append-nil (filter p (below to))) ∙ rest))
+    ]
+
+-- what passes below a number begins what passes below a greater one
+pub filter_front : (p : ℕ → Bool) (from to : ℕ) → from ≤ to → (rest : List ℕ) × (filter p (below to) ≡ filter p (below from) ++ rest)
+filter_front p from zero le = let e : from ≡ 0 = omega arith in ([], ap (λ n. filter p (below n)) (sym e) ∙ sym (append-nil (filter p (below from))))
+filter_front p from (suc to) le =
+    elim (cases_lt to from) [
+      | inl past ↦ (let e : from ≡ suc to = omega arith in ([], ap (λ n. filter p (below n)) (sym e) ∙ sym (append-nil (filter p (below from)))))
+      | inr within ↦ (let before = filter_front p from to within in
+          (before.0 ++ filter p (to ∷ []), filter-append p (below to) (to ∷ []) ∙ (ap (λ xs. xs ++ filter p (to ∷ [])) before.1 ∙ append_assoc (filter p (below from)) before.0 (filter p (to ∷ [])))))
+    ]
+
+-- the next number that passes
+pub filter_next : (p : ℕ → Bool) (from at : ℕ) → from ≤ at → ((i : ℕ) → from ≤ i → i < at → p i ≡ false) → p at ≡ true → filter p (below (at + 1)) ≡ filter p (below from) ++ at ∷ []
+filter_next p from at le none is =
+    rw add-one (filter-append p (below at) (at ∷ []) ∙ rw is (ap (λ xs. xs ++ at ∷ []) (filter_skip p from at le none)))
+
+-- a front that is long enough
+pub front_full : (p : ℕ → Bool) (from to max : ℕ) (places : List ℕ) → from ≤ to → places ≡ filter p (below from) → length places ≡ max → places ≡ take max (filter p (below to))
+front_full p from to max places le so_far full =
+    let whole = filter_front p from to le in
+    let long : length (filter p (below from)) ≡ max = ap length (sym so_far) ∙ full in
+    so_far ∙ (sym (take_all max (filter p (below from)) (omega arith))
+    ∙ (sym (take-append-le max (filter p (below from)) whole.0 (omega arith)) ∙ ap (take max) (sym whole.1)))
+
+pub front_whole : (p : ℕ → Bool) (from to max : ℕ) (places : List ℕ) → from ≤ to → places ≡ filter p (below from) → length places ≤ max → ((i : ℕ) → from ≤ i → i < to → p i ≡ false) → places ≡ take max (filter p (below to))
+front_whole p from to max places le so_far few none =
+    let whole : places ≡ filter p (below to) = so_far ∙ sym (filter_skip p from to le none) in
+    whole ∙ sym (take_all max (filter p (below to)) (let l : length (filter p (below to)) ≡ length places = ap length (sym whole) in omega arith))
+
+pub filter_same_below : (p q : ℕ → Bool) (n : ℕ) → ((i : ℕ) → i < n → p i ≡ q i) → filter p (below n) ≡ filter q (below n)
+filter_same_below p q zero same = refl
+filter_same_below p q (suc n) same =
+    filter-append p (below n) (n ∷ [])
+    ∙ (ap₂ (λ (xs : List ℕ) (b : Bool). xs ++ cond b (n ∷ []) []) (filter_same_below p q n (λ i l. same i (omega arith))) (same n (omega arith))
+    ∙ sym (filter-append q (below n) (n ∷ [])))

@@ -1,3 +1,5 @@
 pub mod Changing
 pub mod Fronts
-pub mod Shows
+pub mod Trees
+pub mod Counting
+pub mod Leaves

@@ -1,8 +1,8 @@
 -- What a receipt copies. This product's own; cited by this crate's proofs alone.
-use Rattle.std.specs.Prelude.{ℕ, ◌≤◌, ◌+◌, List, [], ◌∷◌, Option, option_map, slice_get, map, filter}
+use Rattle.std.specs.Prelude.{ℕ, ◌≤◌, ◌+◌, List, [], ◌∷◌, Option, option_map, slice_get}
 use Rattle.esm_model.specs.declared.received.Received.{Received}
 use Rattle.esm_queue_model.specs.declared.stored.Stored.{Stored}
-use Rattle.esm_queue_model.specs.Queue.{seen_at, received_once, show_after, is_in_flight}
+use Rattle.esm_queue_model.specs.Queue.{seen_at, received_once}
 
 -- the message at the place as its receiver sees it after one more receipt
 abbrev pub received_at : ℕ → List Stored → ℕ → Option Received
@@ -12,7 +12,3 @@ received_at m messages i = option_map (λ (x : Stored). seen_at i (received_once
 abbrev pub IsRising : ℕ → List ℕ → Type 0
 IsRising low [] = Unit {0}
 IsRising low (i ∷ places) = (low ≤ i) × IsRising (i + 1) places
-
--- the moments at which those in flight show
-abbrev pub shows_of : ℕ → ℕ → List Stored → List ℕ
-shows_of visibility m messages = map (λ (x : Stored). show_after visibility x.last) (filter (is_in_flight visibility m) messages)

@@ -6,6 +6,8 @@
 mod copying;
 mod eligible;
 mod marking;
+mod moment_tree;
 mod queue;
+mod timeline;
 
 pub use queue::Queue;

@@ -1,8 +1,19 @@
-ghost use Rattle.std.specs.Prelude.{◌≡◌, ◌<◌, length, All};
+ghost use Rattle.std.specs.Prelude.{◌≡◌, ◌<◌, length, All, OnOk, OnErr};
+ghost use Rattle.esm_model.specs.Moment.{moment_after};
 ghost use Rattle.esm_queue_model.specs.Queue.{received_once, changed_from};
 ghost use Rattle.esm_queue.specs.Receiving.{IsRising};
+ghost use Rattle.esm_queue.specs.Moments.{AreAlive, leaves};
 
+use crate::timeline::Timeline;
+use esm_model::{MAX_MOMENT, OutOfMemory};
 use esm_queue_model::Stored;
+
+/// So many milliseconds after the moment; sums stop at `MAX_MOMENT`.
+pub fn moment_after(moment: u64, milliseconds: u64) -> u64
+    ensures { result ≡ moment_after moment milliseconds }
+{
+    moment.saturating_add(milliseconds).min(MAX_MOMENT)
+}
 
 /// One more receipt of the message.
 fn receive_one(stored: &mut Stored, now: u64)
@@ -13,13 +24,28 @@ fn receive_one(stored: &mut Stored, now: u64)
     stored.count = stored.count.saturating_add(1);
 }
 
-/// One more receipt of the messages at the places, which rise.
-pub fn receive_all(messages: &mut [Stored], places: &[u32], now: u64)
+/// One more receipt of the messages at the places, which rise. Only the first of them may want memory, before anything
+/// has changed.
+pub fn receive_all(
+    messages: &mut [Stored],
+    shows: &mut Timeline,
+    places: &[u32],
+    now: u64,
+    visibility_ms: u64,
+) -> Result<(), OutOfMemory>
     requires within { All (λ i. i < length messages.old) places.now }
     requires rising { IsRising 0 places.now }
-    ensures { messages.new ≡ changed_from (received_once now) places.now 0 messages.old }
+    requires alive { AreAlive messages.old places.now }
+    requires shown { shows.old.moments ≡ leaves visibility_ms messages.old }
+    ensures ok { OnOk result (messages.new ≡ changed_from (received_once now) places.now 0 messages.old) }
+    ensures err { OnErr result (messages.new ≡ messages.old) }
+    ensures shown { shows.new.moments ≡ leaves visibility_ms messages.new }
+    ensures spare { shows.new.spare ≡ shows.old.spare }
 {
+    let show = moment_after(now, visibility_ms);
     for &place in places {
+        shows.set(place, show)?;
         receive_one(&mut messages[place as usize], now);
     }
+    Ok(())
 }

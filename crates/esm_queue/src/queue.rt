@@ -1,12 +1,14 @@
 ghost use Rattle.std.specs.Prelude.{◌≡◌, ◌+◌, ◌≤◌, ◌<◌, not, length, ◌∷◌, [], OnOk, OnErr, IfOk, IsOk, option_map};
 ghost use Rattle.std.specs.Option.{option_copied};
 ghost use Rattle.esm_model.specs.Moment.{capped_moment};
+ghost use Rattle.esm_model.specs.declared.moment.TheConstants.{MAX_MOMENT};
 ghost use Rattle.esm_queue_model.specs.declared.stored.Stored.{Stored};
 ghost use Rattle.esm_queue_model.specs.Queue.{empty_queue, after_arrival, after_receipt, after_deletion, receivable, seen, stored_at, is_deleted_at, count_at, first_at, next_show};
 
 use crate::copying::copy_all;
-use crate::eligible::{eligible_places, next_show};
+use crate::eligible::eligible_places;
 use crate::marking::receive_all;
+use crate::timeline::Timeline;
 use esm_model::{MAX_MOMENT, Message, OutOfMemory, Places, Received};
 use esm_queue_model::Stored;
 use std::alloc::Global;
@@ -20,19 +22,21 @@ pub struct Queue {
     fifo: bool,
     visibility_ms: u64,
     messages: Vec<Stored>,
+    /// The moment at which each message shows, `NEVER` where it is deleted.
+    shows: Timeline,
 }
 
 impl Model for Queue {
-    ghost use Rattle.std.specs.Prelude.{◌-◌, ◌≤◌};
+    ghost use Rattle.std.specs.Prelude.{◌-◌, min};
     ghost use Rattle.std.specs.Vec.{vec_len, vec_capacity};
-    ghost use Rattle.std.below.core.specs.declared.int.u32.TheConstants.{MAX};
     ghost use Rattle.esm_queue.specs.Held.{Held};
+    ghost use Rattle.esm_queue.specs.Kept.{IsKept};
 
     ghost Value = { Held };
 
-    ghost view = { λ q. record { state = record { fifo = q.fifo; visibility = q.visibility_ms; messages = q.messages.items }; spare = vec_capacity q.messages - vec_len q.messages } };
+    ghost view = { λ q. record { state = record { fifo = q.fifo; visibility = q.visibility_ms; messages = q.messages.items }; spare = min (vec_capacity q.messages - vec_len q.messages) q.shows.spare } };
 
-    ghost invariant = { λ q. vec_len q.messages ≤ MAX };
+    ghost invariant = { λ q. IsKept q };
 }
 
 impl Queue {
@@ -40,31 +44,28 @@ impl Queue {
     pub fn new(alloc: Global, fifo: bool, visibility_ms: u64) -> Result<Queue, OutOfMemory>
         ensures { IfOk result (λ q. q.state ≡ empty_queue fifo visibility_ms) }
     {
+        let shows = Timeline::new(alloc)?;
         Ok(Queue {
             fifo,
             visibility_ms,
             messages: Vec::new(alloc),
+            shows,
         })
     }
 
     /// Memory for so many further messages: the next `n` calls of `came` find room. No message changes.
-    pub fn reserve(&mut self, _alloc: Global, n: u32) -> Result<(), OutOfMemory>
+    pub fn reserve(&mut self, alloc: Global, n: u32) -> Result<(), OutOfMemory>
         ensures state { self.new.state ≡ self.old.state }
         ensures ok { OnOk result (n ≤ self.new.spare) }
         ensures kept { self.old.spare ≤ self.new.spare }
     {
         self.messages.reserve(n as usize)?;
-        Ok(())
+        self.shows.reserve(alloc, n)
     }
 
     /// A message comes: its place. After `OutOfMemory`, which does not come within what `reserve` made, nothing has
     /// changed.
-    pub fn came(
-        &mut self,
-        _alloc: Global,
-        message: Message,
-        moment: u64,
-    ) -> Result<u32, OutOfMemory>
+    pub fn came(&mut self, alloc: Global, message: Message, moment: u64) -> Result<u32, OutOfMemory>
         requires few { length self.old.state.messages < u32.MAX }
         ensures ok { OnOk result (self.new.state ≡ after_arrival message (capped_moment moment) self.old.state) }
         ensures place { IfOk result (λ place. place ≡ length self.old.state.messages) }
@@ -74,30 +75,37 @@ impl Queue {
         ensures succeeds { 0 < self.old.spare → IsOk result }
         ensures spare { self.old.spare ≤ self.new.spare + 1 }
     {
+        self.messages.reserve(1)?;
+        self.shows.reserve(alloc, 1)?;
         let place = self.messages.len() as u32;
-        self.messages.push(Stored {
+        self.messages.push_reserved(Stored {
             message,
             came: moment.min(MAX_MOMENT),
             first: None,
             last: None,
             count: 0,
             deleted: false,
-        })?;
+        });
+        self.shows.push(0);
         Ok(place)
+    }
+
+    fn first_eligible(&self, alloc: Global, now: u64, max: u32) -> Result<Vec<u32>, OutOfMemory>
+        requires { now ≤ MAX_MOMENT }
+        ensures { IfOk result (λ places. places.items ≡ receivable self.now.state now max) }
+    {
+        if self.fifo {
+            let messages = self.messages.as_slice();
+            return eligible_places(alloc, messages, self.visibility_ms, now, max);
+        }
+        self.shows.first_places(alloc, now, max)
     }
 
     /// The places that `receive` would give: the first `max` eligible ones at the moment. Nothing changes.
     pub fn peek(&self, alloc: Global, now: u64, max: u32) -> Result<Places, OutOfMemory>
         ensures { IfOk result (λ places. places ≡ receivable self.now.state (capped_moment now) max) }
     {
-        let places = eligible_places(
-            alloc,
-            self.messages.as_slice(),
-            self.fifo,
-            self.visibility_ms,
-            now.min(MAX_MOMENT),
-            max,
-        )?;
+        let places = self.first_eligible(alloc, now.min(MAX_MOMENT), max)?;
         Ok(Places::from_vec(places))
     }
 
@@ -118,7 +126,13 @@ impl Queue {
         let moment = now.min(MAX_MOMENT);
         let places = self.peek(alloc, now, max)?;
         let given = copy_all(alloc, self.messages.as_slice(), places.as_slice(), moment)?;
-        receive_all(self.messages.as_mut_slice(), places.as_slice(), moment);
+        receive_all(
+            self.messages.as_mut_slice(),
+            &mut self.shows,
+            places.as_slice(),
+            moment,
+            self.visibility_ms,
+        )?;
         Ok(given)
     }
 
@@ -132,6 +146,7 @@ impl Queue {
         let stored = &mut self.messages[place as usize];
         let was = stored.deleted;
         stored.deleted = true;
+        self.shows.clear(place);
         !was
     }
 
@@ -170,10 +185,6 @@ impl Queue {
     pub fn next_show(&self, now: u64) -> Option<u64>
         ensures { result ≡ next_show self.now.state (capped_moment now) }
     {
-        next_show(
-            self.messages.as_slice(),
-            self.visibility_ms,
-            now.min(MAX_MOMENT),
-        )
+        self.shows.next_after(now.min(MAX_MOMENT))
     }
 }

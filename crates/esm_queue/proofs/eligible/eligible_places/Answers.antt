@@ -6,7 +6,7 @@ use Rattle.esm_queue.proofs.eligible.eligible_places.Goals as goal
 
 pub loop-place-preserved : goal.loop-place-preserved
 loop-place-preserved c =
-    let q : QueueState = record { fifo = c.args.fifo; visibility = c.args.visibility_ms; messages = c.args.messages.now } in
+    let q : QueueState = record { fifo = true; visibility = c.args.visibility_ms; messages = c.args.messages.now } in
     let p : ℕ → Bool = is_eligible q c.args.now in
     let n = c.loop-place.place in
     let places = c.loop-place.places.items in

@@ -7,6 +7,7 @@ use Rattle.esm_queue_model.specs.Queue.{QueueState, is_eligible, receivable, see
 use Rattle.esm_queue.specs.Held.{Held}
 use Rattle.esm_queue.specs.Receiving.{received_at}
 use Rattle.esm_queue.proofs.Changing.{length-changed_from, seen_after, written}
+use Rattle.esm_queue.proofs.Leaves.{receivable_alive}
 use Rattle.esm_queue.proofs.Fronts.{Rises, Rises-take, Rises-filter_below, Rises_at, Rises_rising}
 use Rattle.esm_queue.proofs.queue.Queue.receive.Goals as goal
 
@@ -34,6 +35,13 @@ receive_all-requires-clause-rising c =
     let given : c.as_slice-3.result.now ≡ receivable q (capped_moment c.args.now) c.args.max = c.as_slice-3.ensures ∙ c.in_ok-places.ensures in
     rw given (Rises_rising 0 (length q.messages) (receivable q (capped_moment c.args.now) c.args.max) (receivable_rises q (capped_moment c.args.now) c.args.max))
 
+pub receive_all-requires-clause-alive : goal.receive_all-requires-clause-alive
+receive_all-requires-clause-alive c =
+    let q = c.args.self.now.state in
+    let given : c.as_slice-3.result.now ≡ receivable q (capped_moment c.args.now) c.args.max = c.as_slice-3.ensures ∙ c.in_ok-places.ensures in
+    let all : c.as_mut_slice.result.now ≡ q.messages = c.as_mut_slice.ensures.value ∙ ap (λ (h : Held). h.state.messages) c.self.view_is in
+    rw (given, all) (receivable_alive q (capped_moment c.args.now) c.args.max)
+
 pub returns-clause-given : goal.returns-clause-given
 returns-clause-given c =
     let old = c.self.inside.messages in
@@ -43,7 +51,7 @@ returns-clause-given c =
     let places = receivable q (capped_moment c.args.now) c.args.max in
     let is_given : c.in_ok-places.places ≡ places = c.in_ok-places.ensures in
     let lent : c.as_mut_slice.result.now ≡ old.items = c.as_mut_slice.ensures.value in
-    let marked : new ≡ changed_from (received_once m) places 0 old.items = c.receive_all.ensures ∙ ap₂ (λ (ps : List ℕ) (xs : List Stored). changed_from (received_once m) ps 0 xs) (c.as_slice-3.ensures ∙ is_given) lent in
+    let marked : new ≡ changed_from (received_once m) places 0 old.items = c.in_ok-receive_all.ensures.ok ∙ ap₂ (λ (ps : List ℕ) (xs : List Stored). changed_from (received_once m) ps 0 xs) (c.as_slice-3.ensures ∙ is_given) lent in
     let same : length new ≡ length old.items = ap length marked ∙ length-changed_from (received_once m) places 0 old.items in
     let all : old.len ≡ length old.items = search rules in
     let w : take old.len (new ++ drop (length new) old.items) ≡ changed_from (received_once m) places 0 old.items = written old.len new old.items same all ∙ marked in

@@ -1,0 +1,34 @@
+use Rattle.std.proofs.Common.{◌≡◌, ◌<◌, ◌∙◌, refl, sym, subst, length, arith, false, inl, inr}
+use Rattle.std.specs.Prelude.{count_by, ◌==◌}
+use Rattle.std.proofs.lemmas.Bool.{cases_Bool, cond-true, cond-false, both_ways}
+use Rattle.esm_queue.specs.Moments.{Moments, is_set}
+use Rattle.esm_queue.specs.Counted.{times}
+use Rattle.esm_queue.proofs.Counting.{count_room}
+use Rattle.esm_queue.proofs.timeline.Timeline.set.Goals as goal
+
+pub add_one-requires-clause-few : goal.add_one-requires-clause-few
+add_one-requires-clause-few c =
+    let t = c.self.inside in
+    let m = c.args.moment in
+    let inv = c.self.invariant in
+    let place : c.args.place < length t.tree.moments = subst (λ (v : Moments). c.args.place < length v.moments) (sym c.self.view_is) c.requires in
+    let room : count_by (λ x. x == m) t.tree.moments < length t.tree.moments = count_room t.tree.moments c.args.place m place (λ same. c.if-old-moment.false (c.get-old.ensures ∙ same)) in
+    let few = inv.few in
+    elim (cases_Bool (is_set m)) [
+      | inl is ↦ (let n : times t.counts m ≡ count_by (λ x. x == m) t.tree.moments = inv.counted m ∙ cond-true (is_set m) (count_by (λ x. x == m) t.tree.moments) 0 is in omega arith)
+      | inr not' ↦ (let n : times t.counts m ≡ 0 = inv.counted m ∙ cond-false (is_set m) (count_by (λ x. x == m) t.tree.moments) 0 not' in omega arith)
+    ]
+
+pub returns-in_err-add_one-clause-succeeds : goal.returns-in_err-add_one-clause-succeeds
+returns-in_err-add_one-clause-succeeds c = λ has.
+    let t = c.self.inside in
+    let m = c.args.moment in
+    let here : 0 < count_by (λ x. x == m) t.tree.moments = subst (λ (v : Moments). 0 < count_by (λ x. x == m) v.moments) (sym c.self.view_is) has in
+    let e = c.in_err-add_one.ensures in
+    elim (cases_Bool (is_set m)) [
+      | inl is ↦
+          (let n : times t.counts m ≡ count_by (λ x. x == m) t.tree.moments = c.self.invariant.counted m ∙ cond-true (is_set m) (count_by (λ x. x == m) t.tree.moments) 0 is in
+          let some : 0 < times t.counts m = omega arith in
+          absurd (both_ways false refl (e.succeeds some)))
+      | inr not' ↦ absurd (both_ways false refl (e.blank not'))
+    ]

@@ -1,0 +1,12 @@
+-- What holds of a timeline as it is kept. This product's own; cited by this crate's proofs alone.
+use Rattle.std.specs.Prelude.{◌≡◌, ℕ, ◌==◌, ◌≤◌, length, count_by, if◌then◌else◌}
+use Rattle.std.below.core.specs.declared.int.u32.TheConstants.{MAX}
+use Rattle.esm_queue.specs.declared.timeline.Timeline.TheInside.{Inside}
+use Rattle.esm_queue.specs.Moments.{is_set}
+use Rattle.esm_queue.specs.Counted.{times, HasNoZero}
+
+-- each moment that is set is counted
+pub record IsTimeline (t : Inside) : Type 0 where
+  pub few : length t.tree.moments ≤ MAX
+  pub counted : (v : ℕ) → times t.counts v ≡ (if is_set v then count_by (λ x. x == v) t.tree.moments else 0)
+  pub some : HasNoZero t.counts

@@ -1,0 +1,168 @@
+ghost use Rattle.std.specs.Prelude.{◌≡◌, ℕ, ◌+◌, ◌-◌, ◌<◌, ◌≤◌, ◌==◌, ◌&&◌, length, count_by, slice_set, ◌++◌, ◌∷◌, [], if◌then◌else◌, filter, take, IfOk, OnOk, OnErr, IsOk, false};
+ghost use Rattle.esm_model.specs.Fates.{below};
+ghost use Rattle.esm_queue.specs.declared.moment_tree.TheConstants.{NEVER};
+ghost use Rattle.esm_queue_model.specs.Queue.{least};
+ghost use Rattle.esm_queue.specs.Moments.{Moments, is_set, is_after, is_reached};
+ghost use Rattle.esm_queue.specs.Counted.{times, HasNoZero};
+
+use crate::moment_tree::{MomentTree, NEVER};
+use esm_model::OutOfMemory;
+use std::alloc::Global;
+use std::collections::BTreeMap;
+use std::marker::Model;
+
+/// Moments by place, in two orders: a tree finds the next place whose moment is not after a given one, and a map in
+/// order of moments the next moment. A place without a moment has 0 before its first, and `NEVER` for good.
+#[derive(Drop, Debug)]
+pub struct Timeline {
+    tree: MomentTree,
+    /// How many places have the moment, for each that one has.
+    counts: BTreeMap<u64, u32>,
+}
+
+impl Model for Timeline {
+    ghost use Rattle.esm_queue.specs.Moments.{Moments};
+    ghost use Rattle.esm_queue.specs.Timeline.{IsTimeline};
+
+    ghost Value = { Moments };
+
+    ghost view = { λ t. t.tree };
+
+    ghost invariant = { λ t. IsTimeline t };
+}
+
+fn is_set(moment: u64) -> bool
+    ensures { result ≡ is_set moment }
+{
+    moment != 0 && moment < NEVER
+}
+
+/// One more place has the moment.
+fn add_one(counts: &mut BTreeMap<u64, u32>, moment: u64) -> Result<(), OutOfMemory>
+    requires some { HasNoZero counts.old }
+    requires few { times counts.old moment < u32.MAX }
+    ensures ok { OnOk result ((v : ℕ) → times counts.new v ≡ (if is_set moment && (v == moment) then times counts.old v + 1 else times counts.old v)) }
+    ensures err { OnErr result ((v : ℕ) → times counts.new v ≡ times counts.old v) }
+    ensures some { HasNoZero counts.new }
+    ensures succeeds { 0 < times counts.old moment → IsOk result }
+    ensures blank { is_set moment ≡ false → IsOk result }
+{
+    if !is_set(moment) {
+        return Ok(());
+    }
+    let n = counts.get(&moment).copied().unwrap_or(0);
+    counts.insert(moment, n + 1)?;
+    Ok(())
+}
+
+/// One place less has the moment.
+fn remove_one(counts: &mut BTreeMap<u64, u32>, moment: u64)
+    requires some { HasNoZero counts.old }
+    ensures times { (v : ℕ) → times counts.new v ≡ (if is_set moment && (v == moment) then times counts.old v - 1 else times counts.old v) }
+    ensures some { HasNoZero counts.new }
+{
+    if !is_set(moment) {
+        return;
+    }
+    let n = counts.get(&moment).copied().unwrap_or(0);
+    if n <= 1 {
+        let _ = counts.remove(&moment);
+        return;
+    }
+    if let Some(count) = counts.get_mut(&moment) {
+        *count = n - 1;
+    }
+}
+
+impl Timeline {
+    /// A timeline without places.
+    pub fn new(alloc: Global) -> Result<Timeline, OutOfMemory>
+        ensures { IfOk result (λ t. t.moments ≡ []) }
+    {
+        let tree = MomentTree::new(alloc)?;
+        Ok(Timeline {
+            tree,
+            counts: BTreeMap::new(alloc),
+        })
+    }
+
+    /// Room for so many more places.
+    pub fn reserve(&mut self, alloc: Global, n: u32) -> Result<(), OutOfMemory>
+        ensures moments { self.new.moments ≡ self.old.moments }
+        ensures ok { OnOk result (n ≤ self.new.spare) }
+        ensures kept { self.old.spare ≤ self.new.spare }
+        ensures succeeds { n ≤ self.old.spare → IsOk result }
+    {
+        self.tree.reserve(alloc, n)
+    }
+
+    /// One more place, with the moment 0 or `NEVER`.
+    pub fn push(&mut self, moment: u64)
+        requires room { 0 < self.old.spare }
+        requires few { length self.old.moments < u32.MAX }
+        requires blank { is_set moment ≡ false }
+        ensures moments { self.new.moments ≡ self.old.moments ++ moment ∷ [] }
+        ensures spare { self.new.spare + 1 ≡ self.old.spare }
+    {
+        self.tree.push(moment);
+    }
+
+    /// Another moment at the place. It takes no memory where the moment is 0 or `NEVER`, or another place has it.
+    pub fn set(&mut self, place: u32, moment: u64) -> Result<(), OutOfMemory>
+        requires { place < length self.old.moments }
+        ensures ok { OnOk result (self.new.moments ≡ slice_set self.old.moments place moment) }
+        ensures err { OnErr result (self.new.moments ≡ self.old.moments) }
+        ensures spare { self.new.spare ≡ self.old.spare }
+        ensures succeeds { 0 < count_by (λ x. x == moment) self.old.moments → IsOk result }
+    {
+        let old = self.tree.get(place);
+        if old == moment {
+            return Ok(());
+        }
+        add_one(&mut self.counts, moment)?;
+        remove_one(&mut self.counts, old);
+        self.tree.set(place, moment);
+        Ok(())
+    }
+
+    /// The place has `NEVER`.
+    pub fn clear(&mut self, place: u32)
+        requires { place < length self.old.moments }
+        ensures moments { self.new.moments ≡ slice_set self.old.moments place NEVER }
+        ensures spare { self.new.spare ≡ self.old.spare }
+    {
+        let old = self.tree.get(place);
+        remove_one(&mut self.counts, old);
+        self.tree.set(place, NEVER);
+    }
+
+    /// The first places, so many at most, with a moment that is not after `at`.
+    pub fn first_places(&self, alloc: Global, at: u64, max: u32) -> Result<Vec<u32>, OutOfMemory>
+        requires early { at < NEVER }
+        ensures { IfOk result (λ places. places.items ≡ take max (filter (is_reached self.now.moments at) (below (length self.now.moments)))) }
+    {
+        let mut places = Vec::new(alloc);
+        let mut from = 0;
+        while places.len() < max as usize {
+            match self.tree.first_from(from, at) {
+                None => return Ok(places),
+                Some(place) => {
+                    places.push(place)?;
+                    from = place + 1;
+                }
+            }
+        }
+        Ok(places)
+    }
+
+    /// The least moment after `at`.
+    pub fn next_after(&self, at: u64) -> Option<u64>
+        requires early { at < NEVER }
+        ensures { result ≡ least (filter (is_after at) self.now.moments) }
+    {
+        match self.counts.range(at + 1..).next() {
+            None => None,
+            Some((moment, _)) => Some(*moment),
+        }
+    }
+}
