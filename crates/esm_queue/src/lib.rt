@@ -11,3 +11,6 @@ mod queue;
 mod timeline;
 
 pub use queue::Queue;
+
+#[cfg(test)]
+mod tests;

@@ -1,4 +1,4 @@
-ghost use Rattle.std.specs.Prelude.{◌≡◌, ◌+◌, ◌≤◌, ◌<◌, not, length, ◌∷◌, [], OnOk, OnErr, IfOk, IsOk, option_map};
+ghost use Rattle.std.specs.Prelude.{◌≡◌, ◌+◌, ◌≤◌, ◌<◌, not, length, ◌∷◌, [], OnOk, OnErr, IfOk, IsOk, IsTrue, ◌↔◌, option_map};
 ghost use Rattle.std.specs.Option.{option_copied};
 ghost use Rattle.esm_model.specs.Moment.{capped_moment};
 ghost use Rattle.esm_model.specs.declared.moment.TheConstants.{MAX_MOMENT};
@@ -148,6 +148,20 @@ impl Queue {
         stored.deleted = true;
         self.shows.clear(place);
         !was
+    }
+
+    /// How many messages came. Takes no memory.
+    pub fn len(&self) -> u32
+        ensures { result ≡ length self.now.state.messages }
+    {
+        self.messages.len() as u32
+    }
+
+    /// No message came. Takes no memory.
+    pub fn is_empty(&self) -> bool
+        ensures { IsTrue result ↔ (self.now.state.messages ≡ []) }
+    {
+        self.messages.is_empty()
     }
 
     /// The message at the place; `None` exactly where none has it. Takes no memory.
