@@ -78,6 +78,11 @@ shows_are v m (x ∷ xs) =
     never_after : (m : ℕ) → is_after m NEVER ≡ false
     never_after m = elim (cases_Bool (nat_lt m NEVER)) [ inl is ↦ rw is refl | inr not' ↦ rw not' refl ]
 
+pub leaf_at : (v : ℕ) (xs : List Stored) (i : ℕ) (x : Stored) → slice_get xs i ≡ Some x → slice_index (leaves v xs) i ≡ leaf v x
+leaf_at v [] i x at = absurd (none-some x at)
+leaf_at v (y ∷ xs) zero x at = ap (leaf v) (same_Some y x at)
+leaf_at v (y ∷ xs) (suc i) x at = leaf_at v xs i x at
+
 -- in a standard queue the eligible messages are those that show
 reached_is : (q : QueueState) (m i : ℕ) (o : Option Stored) → q.fifo ≡ false → m ≤ MAX_MOMENT → stored_at q i ≡ o → i < length q.messages → is_reached (leaves q.visibility q.messages) m i ≡ is_eligible q m i
 reached_is q m i None standard low at within = absurd (past q.messages i within at)
@@ -92,11 +97,6 @@ reached_is q m i (Some x) standard low at within =
     let eligible : is_eligible q m i ≡ is_shown v m x = ap (λ (o : Option Stored). unwrap_or (option_map (is_receivable q m (take i q.messages)) o) false) at ∙ rw standard (shown_only (is_shown v m x)) in
     ap (λ n. nat_le n m) here ∙ (reaches v x ∙ sym eligible)
   where
-    leaf_at : (v : ℕ) (xs : List Stored) (i : ℕ) (x : Stored) → slice_get xs i ≡ Some x → slice_index (leaves v xs) i ≡ leaf v x
-    leaf_at v [] i x at = absurd (none-some x at)
-    leaf_at v (y ∷ xs) zero x at = ap (leaf v) (same_Some y x at)
-    leaf_at v (y ∷ xs) (suc i) x at = leaf_at v xs i x at
-
     shown_only : (b : Bool) → (b && true) ≡ b
     shown_only true = refl
     shown_only false = refl

@@ -3,3 +3,4 @@ pub mod Fronts
 pub mod Trees
 pub mod Counting
 pub mod Leaves
+pub mod Blocking

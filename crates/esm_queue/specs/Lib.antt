@@ -5,4 +5,5 @@ pub mod Nodes
 pub mod Tree
 pub mod Counted
 pub mod Timeline
+pub mod Blocked
 pub mod Kept

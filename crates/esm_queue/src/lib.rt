@@ -4,7 +4,7 @@
 #![tactic(auto)]
 
 mod copying;
-mod eligible;
+mod fifo;
 mod marking;
 mod moment_tree;
 mod queue;

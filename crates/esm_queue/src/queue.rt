@@ -6,7 +6,7 @@ ghost use Rattle.esm_queue_model.specs.declared.stored.Stored.{Stored};
 ghost use Rattle.esm_queue_model.specs.Queue.{empty_queue, after_arrival, after_receipt, after_deletion, receivable, seen, stored_at, is_deleted_at, count_at, first_at, next_show};
 
 use crate::copying::copy_all;
-use crate::eligible::eligible_places;
+use crate::fifo::first_places;
 use crate::marking::receive_all;
 use crate::timeline::Timeline;
 use esm_model::{MAX_MOMENT, Message, OutOfMemory, Places, Received};
@@ -96,7 +96,7 @@ impl Queue {
     {
         if self.fifo {
             let messages = self.messages.as_slice();
-            return eligible_places(alloc, messages, self.visibility_ms, now, max);
+            return first_places(alloc, messages, &self.shows, self.visibility_ms, now, max);
         }
         self.shows.first_places(alloc, now, max)
     }

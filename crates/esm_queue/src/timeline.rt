@@ -1,8 +1,8 @@
-ghost use Rattle.std.specs.Prelude.{◌≡◌, ℕ, ◌+◌, ◌-◌, ◌<◌, ◌≤◌, ◌==◌, ◌&&◌, length, count_by, slice_set, ◌++◌, ◌∷◌, [], if◌then◌else◌, filter, take, IfOk, OnOk, OnErr, IsOk, false};
+ghost use Rattle.std.specs.Prelude.{◌≡◌, ℕ, ◌+◌, ◌-◌, ◌<◌, ◌≤◌, ◌==◌, ◌&&◌, length, count_by, slice_set, ◌++◌, ◌∷◌, [], if◌then◌else◌, filter, take, IfOk, OnOk, OnErr, IsOk, IsNone, IfSome, false};
 ghost use Rattle.esm_model.specs.Fates.{below};
 ghost use Rattle.esm_queue.specs.declared.moment_tree.TheConstants.{NEVER};
 ghost use Rattle.esm_queue_model.specs.Queue.{least};
-ghost use Rattle.esm_queue.specs.Moments.{Moments, is_set, is_after, is_reached};
+ghost use Rattle.esm_queue.specs.Moments.{Moments, IsFirstAt, NoneAt, is_set, is_after, is_reached};
 ghost use Rattle.esm_queue.specs.Counted.{times, HasNoZero};
 
 use crate::moment_tree::{MomentTree, NEVER};
@@ -134,6 +134,16 @@ impl Timeline {
         let old = self.tree.get(place);
         remove_one(&mut self.counts, old);
         self.tree.set(place, NEVER);
+    }
+
+    /// The first place from `from` on with a moment that is not after `at`.
+    pub fn first_from(&self, from: u32, at: u64) -> Option<u32>
+        requires early { at < NEVER }
+        ensures none { IsNone result → NoneAt self.now.moments from at }
+        ensures some { IfSome result (IsFirstAt self.now.moments from at) }
+        ensures few { length self.now.moments ≤ u32.MAX }
+    {
+        self.tree.first_from(from, at)
     }
 
     /// The first places, so many at most, with a moment that is not after `at`.

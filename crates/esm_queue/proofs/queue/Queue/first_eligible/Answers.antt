@@ -13,7 +13,7 @@ returns c =
     let q = c.self.inside in
     let m = c.args.now in
     let state : QueueState = record { fifo = q.fifo; visibility = q.visibility_ms; messages = q.messages.items } in
-    IfOk-weaker c.first_places.result _ _ (λ (places : Vec ℕ Global) h.
+    IfOk-weaker c.first_places-2.result _ _ (λ (places : Vec ℕ Global) h.
     h ∙ (ap (λ (ms : List ℕ). take c.args.max (filter (is_reached ms m) (below (length ms)))) c.self.invariant.shown
     ∙ (receivable_shown state m c.args.max c.if-self.false c.requires
-    ∙ ap (λ (h : Held). receivable h.state m c.args.max) c.self.view_is))) c.first_places.ensures
+    ∙ ap (λ (h : Held). receivable h.state m c.args.max) c.self.view_is))) c.first_places-2.ensures
