@@ -1,7 +1,7 @@
 -- Lists of places that rise, and fronts of what passes a test.
-use Rattle.std.proofs.Common.{◌≡◌, ℕ, zero, suc, ◌+◌, ◌<◌, ◌≤◌, Bool, true, false, List, [], ◌∷◌, ◌++◌, length, get_or, take, add-one, append_assoc, min, cond, ap₂, refl, sym, ap, ◌∙◌, ◌⊎◌, inl, inr, arith}
+use Rattle.std.proofs.Common.{◌≡◌, ℕ, zero, suc, ◌+◌, ◌<◌, ◌≤◌, Bool, true, false, List, [], ◌∷◌, ◌++◌, length, get_or, take, add-one, append_assoc, cond, ap₂, refl, sym, ap, ◌∙◌, inl, inr, arith}
 use Rattle.std.specs.Prelude.{filter}
-use Rattle.std.proofs.lemmas.List.{append-nil, take-append-le, length-take, take_all, length-append}
+use Rattle.std.proofs.lemmas.List.{append-nil, take-append-le, take_all}
 use Rattle.std.proofs.lemmas.List.Elements.{filter-append}
 use Rattle.std.proofs.lemmas.Bool.{cases_Bool, cases_lt}
 use Rattle.esm_model.specs.Fates.{below}
@@ -48,29 +48,6 @@ Rises-filter_below p (suc n) =
       | inl is ↦ rw is (Rises-push 0 n (filter p (below n)) before)
       | inr fails ↦ rw fails (rw append-nil (Rises-weaker 0 n (suc n) (filter p (below n)) (omega arith) before))
     ])
-
--- one more number, at the end of a front
-
-pub front_kept : (p : ℕ → Bool) (n max : ℕ) (places : List ℕ) → places ≡ take max (filter p (below n)) → (p n ≡ false) ⊎ (max ≤ length places) → places ≡ take max (filter p (below (n + 1)))
-front_kept p n max places so_far why =
-    let whole : filter p (below (n + 1)) ≡ filter p (below n) ++ filter p (n ∷ []) = rw add-one (filter-append p (below n) (n ∷ [])) in
-    so_far ∙ elim why [
-      | inl fails ↦ ap (λ xs. take max xs) (sym (append-nil (filter p (below n)))) ∙ ap (λ xs. take max xs) (ap (λ ys. filter p (below n) ++ ys) (sym (rw fails refl)) ∙ sym whole)
-      | inr full ↦ (let long : max ≤ length (filter p (below n)) = full_front max places (filter p (below n)) so_far full in
-          sym (take-append-le max (filter p (below n)) (filter p (n ∷ [])) long) ∙ ap (λ xs. take max xs) (sym whole))
-    ]
-  where
-    full_front : (max : ℕ) (places xs : List ℕ) → places ≡ take max xs → max ≤ length places → max ≤ length xs
-    full_front max places xs e full = let l : length places ≡ min max (length xs) = ap length e ∙ length-take max xs in omega arith
-
-pub front_pushed : (p : ℕ → Bool) (n max : ℕ) (places : List ℕ) → places ≡ take max (filter p (below n)) → p n ≡ true → length places < max → places ++ n ∷ [] ≡ take max (filter p (below (n + 1)))
-front_pushed p n max places so_far is room =
-    let xs = filter p (below n) in
-    let whole : filter p (below (n + 1)) ≡ xs ++ n ∷ [] = rw add-one (filter-append p (below n) (n ∷ []) ∙ rw is refl) in
-    let l : length places ≡ min max (length xs) = ap length so_far ∙ length-take max xs in
-    let short : length xs < max = omega arith in
-    let all : places ≡ xs = so_far ∙ take_all max xs (omega arith) in
-    ap (λ ys. ys ++ n ∷ []) all ∙ (sym (take_all max (xs ++ n ∷ []) (simp length-append (omega arith))) ∙ ap (λ ys. take max ys) (sym whole))
 
 -- numbers that do not pass are passed over
 pub filter_skip : (p : ℕ → Bool) (from to : ℕ) → from ≤ to → ((i : ℕ) → from ≤ i → i < to → p i ≡ false) → filter p (below to) ≡ filter p (below from)
