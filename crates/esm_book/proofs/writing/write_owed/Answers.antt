@@ -1,0 +1,49 @@
+use Rattle.std.proofs.Common.{refl, ◌∙◌, [], take}
+use Rattle.std.proofs.lemmas.Result.{err_from_is_err_and}
+use Rattle.esm_io.specs.Meanings.{disk, destination}
+use Rattle.esm_book.specs.Decided.{decisions, added}
+use Rattle.esm_book.proofs.Growing.{grown_none}
+use Rattle.esm_book.proofs.Writings.{writes_none, writes_named, writes_then}
+use Rattle.esm_book.proofs.writing.write_owed.Goals as goal
+
+pub owed-init : goal.owed-init
+owed-init g c =
+    let k = decisions g.C.Decisions.history g.C.Decisions.owed g.C.Decisions.payload g.C.Decisions.line in
+    let m = disk g.D.Disk.honest g.D.Disk.content g.D.Disk.image g.D.Disk.moment g.D.Disk.image_since g.D.Disk.faults in
+    let n = destination g.T.Dest.honest g.T.Dest.faults g.T.Dest.lines g.T.Dest.sends g.T.Dest.failed in
+    let core = c.args.core.now in
+    let pair = c.args.pair.now in
+    let dest = c.args.dest.now in
+    record {
+      ready = c.requires;
+      so_far = writes_named k m n (k.history core) (k.owed core) core pair pair dest dest [] []
+          (writes_none k m n core pair pair dest dest []
+          (grown_none k m n g.met.D.Disk.only_now pair pair dest dest c.requires.up c.requires.usable c.payloads.ensures.kept refl (record { lines = refl; failed = refl; honesty = refl; faults = refl })));
+      origin = refl;
+    }
+
+pub owed-preserved : goal.owed-preserved
+owed-preserved g c =
+    let k = decisions g.C.Decisions.history g.C.Decisions.owed g.C.Decisions.payload g.C.Decisions.line in
+    let m = disk g.D.Disk.honest g.D.Disk.content g.D.Disk.image g.D.Disk.moment g.D.Disk.image_since g.D.Disk.faults in
+    let n = destination g.T.Dest.honest g.T.Dest.faults g.T.Dest.lines g.T.Dest.sends g.T.Dest.failed in
+    let first = c.args.core.now in
+    let mid = c.owed.core in
+    let step = c.in_ok-write_first.ensures in
+    record {
+      ready = step.ready;
+      so_far = writes_then k m n (k.history first) (k.owed first) mid c.write_first.new.core c.args.pair.now c.owed.pair c.write_first.new.pair c.args.dest.now c.owed.dest c.write_first.new.dest
+          (added (k.history first) (k.history mid)) (take 1 (k.owed mid)) [] c.owed.invariant.so_far step.written;
+      origin = c.write_first.ensures.origin ∙ c.owed.invariant.origin;
+    }
+
+pub returns-in_err-write_first-clause-stopped : goal.returns-in_err-write_first-clause-stopped
+returns-in_err-write_first-clause-stopped g c =
+    let k = decisions g.C.Decisions.history g.C.Decisions.owed g.C.Decisions.payload g.C.Decisions.line in
+    let m = disk g.D.Disk.honest g.D.Disk.content g.D.Disk.image g.D.Disk.moment g.D.Disk.image_since g.D.Disk.faults in
+    let n = destination g.T.Dest.honest g.T.Dest.faults g.T.Dest.lines g.T.Dest.sends g.T.Dest.failed in
+    let first = c.args.core.now in
+    let mid = c.owed.core in
+    let p = err_from_is_err_and c.from_residual.result c.from_residual.ensures.1 in
+    rw (p.1, p.2) (writes_then k m n (k.history first) (k.owed first) mid c.write_first.new.core c.args.pair.now c.owed.pair c.write_first.new.pair c.args.dest.now c.owed.dest c.write_first.new.dest
+    (added (k.history first) (k.history mid)) [] _ c.owed.invariant.so_far c.in_err-write_first.ensures.stopped)

@@ -1,0 +1,63 @@
+-- What devices tell, and what a crash leaves of them, once entries were written. This product's own.
+use Rattle.std.specs.Prelude.{◌≡◌, ◌≤◌, ◌++◌, ℕ, true, List, Option, map}
+use Rattle.esm_io.specs.Faults.{Rose}
+use Rattle.esm_io.specs.Images.{LeavesOnly}
+use Rattle.esm_io.specs.Meanings.{DiskMeaning, DestMeaning}
+use Rattle.esm_io.specs.Told.{Grows}
+use Rattle.esm_journal.specs.File.{header_of, IsFile}
+use Rattle.esm_journal.specs.Pair.{PairState, PairKeepsWhileUp, PairOpensTo}
+use Rattle.esm_book.specs.Decided.{CoreMeaning, written_of}
+
+-- a file holds the payloads from before, and then those of the first of these entries, or of all of them
+pub record HoldsFront {C E : Type 0} (k : CoreMeaning C E) (epoch : ℕ) (before : List (List ℕ)) (entries : List E) (bytes : List ℕ) : Type 0 where
+  pub front : List E
+  pub rest : List E
+  pub split : front ++ rest ≡ entries
+  pub file : IsFile (header_of 2) epoch (before ++ written_of k.payload front) bytes
+
+-- The journal has the payloads of the paid entries beyond what it had, and holds them whole where no call of its disk
+-- failed. Each image since then holds the first of them; where a call failed, that of the entry in hand may follow.
+pub record HasAppended {C E D : Type 0} (k : CoreMeaning C E) (m : DiskMeaning D) (old new : PairState D) (paid hand : List E) : Type 0 where
+  pub payloads : new.payloads ≡ old.payloads ++ written_of k.payload paid
+  pub epoch : new.epoch ≡ old.epoch
+  pub swapped : new.swapped ≡ old.swapped
+  pub spare : new.spare ≡ old.spare
+  pub honesty : m.honest new.used ≡ m.honest old.used
+  pub never_falls : m.faults old.used ≤ m.faults new.used
+  pub cause : new.down ≡ true → Rose (m.faults old.used) (m.faults new.used)
+  pub images : m.honest old.used ≡ true → m.honest old.spare ≡ true →
+      LeavesOnly m.moment m.since old.used new.used (HoldsFront k old.epoch old.payloads (paid ++ hand))
+  pub kept : PairKeepsWhileUp m new
+
+-- The destination has the lines of these entries beyond what it had.
+pub record HasDelivered {C E T : Type 0} (k : CoreMeaning C E) (n : DestMeaning T) (old new : T) (entries : List E) : Type 0 where
+  pub told : Grows (n.lines old) (n.lines new) (map n.sends (written_of k.line entries))
+  pub honesty : n.honest new ≡ n.honest old
+  pub never_falls : n.faults old ≤ n.faults new
+  pub cause : n.failed new ≡ true → Rose (n.faults old) (n.faults new)
+
+-- A journal and a destination, neither of which had failed, go on: the entries that were paid have their payloads and their
+-- lines there. The line of the entry in hand was delivered before the disk failed.
+pub record HasGrown {C E D T : Type 0} (k : CoreMeaning C E) (m : DiskMeaning D) (n : DestMeaning T) (pair pair' : PairState D) (dest dest' : T) (paid hand : List E) : Type 0 where
+  pub appended : HasAppended k m pair pair' paid hand
+  pub delivered : HasDelivered k n dest dest' (paid ++ hand)
+
+-- these lines were told since, and perhaps more after them
+abbrev pub AreTold : Option (List (List ℕ)) → Option (List (List ℕ)) → List (List ℕ) → Type 0
+AreTold before now lines = (more : List (List ℕ)) × Grows before now (lines ++ more)
+
+-- Two disks, in whichever order, open to the payloads from before, and then to those of the first of these entries, or of
+-- all of them; and the lines of these first entries were delivered.
+pub record OpensToFront {C E T : Type 0} (k : CoreMeaning C E) (n : DestMeaning T) (epoch : ℕ) (before : List (List ℕ)) (dest dest' : T) (entries : List E) (one other : List ℕ) : Type 0 where
+  pub front : List E
+  pub rest : List E
+  pub split : front ++ rest ≡ entries
+  pub opens : PairOpensTo (header_of 2) epoch (before ++ written_of k.payload front) one other
+  pub delivered : AreTold (n.lines dest) (n.lines dest') (map n.sends (written_of k.line front))
+
+-- Whatever a crash left of both disks, each at any moment since it stood as before, opens so.
+abbrev pub LeavesFronts : {C E D T : Type 0} → CoreMeaning C E → DiskMeaning D → DestMeaning T → PairState D → PairState D → T → T → List E → Type 0
+LeavesFronts k m n pair pair' dest dest' entries =
+    m.honest pair.used ≡ true → m.honest pair.spare ≡ true → (one other : List ℕ) →
+    m.since pair'.used (m.moment pair.used) one → m.since pair'.spare (m.moment pair.spare) other →
+    OpensToFront k n pair.epoch pair.payloads dest dest' entries one other

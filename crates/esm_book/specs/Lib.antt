@@ -1,0 +1,5 @@
+pub mod Decided
+pub mod Growth
+pub mod State
+pub mod Answers
+pub mod Writing

@@ -1,0 +1,14 @@
+//! The layer of a book over its devices: what a core decided is delivered and appended entry by entry, and a crash at
+//! any moment leaves the payloads of whole entries alone. It knows disks and a destination, and not what an entry means.
+#![tactic(auto)]
+
+mod decisions;
+mod durable;
+mod error;
+mod nowhere;
+mod writing;
+
+pub use decisions::Decisions;
+pub use durable::{Durable, Parts};
+pub use error::{CallError, Refusal};
+pub use nowhere::Nowhere;

@@ -1,0 +1,35 @@
+ghost use Rattle.std.specs.Prelude.{None, false, true};
+
+use esm_io::{Dest, DestError};
+use esm_model::OutOfMemory;
+use std::alloc::Global;
+
+/// The destination of a book without one: it never fails, and tells nothing.
+#[derive(Drop, Debug)]
+pub struct Nowhere {}
+
+impl Dest for Nowhere {
+    ghost faults = { λ _. 0 };
+
+    ghost honest = { λ _. true };
+
+    ghost sends = { λ line. line };
+
+    ghost lines = { λ _. None };
+
+    ghost failed = { λ _. false };
+
+    ghost has_room = { λ _ _. Unit {0} };
+
+    fn reserve(&mut self, alloc: Global, bytes: u64) -> Result<(), OutOfMemory> {
+        let _ = alloc;
+        let _ = bytes;
+        Ok(())
+    }
+
+    fn deliver(&mut self, alloc: Global, line: &[u8]) -> Result<(), DestError> {
+        let _ = alloc;
+        let _ = line;
+        Ok(())
+    }
+}
