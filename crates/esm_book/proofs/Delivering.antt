@@ -1,5 +1,5 @@
 -- How a destination goes on.
-use Rattle.std.proofs.Common.{◌≡◌, ℕ, true, false, List, [], ◌∷◌, ◌++◌, map, sym, ap, subst, ◌∙◌, arith}
+use Rattle.std.proofs.Common.{◌≡◌, ℕ, false, List, [], ◌∷◌, ◌++◌, map, sym, ap, subst, ◌∙◌, arith}
 use Rattle.esm_io.specs.Faults.{IsCount, Rose}
 use Rattle.esm_io.specs.Meanings.{DestMeaning}
 use Rattle.esm_io.specs.Told.{Grows}

@@ -1,5 +1,5 @@
 -- How a journal and a destination go on together, and what a crash leaves of them.
-use Rattle.std.proofs.Common.{◌≡◌, ℕ, true, false, List, [], ◌++◌, length, refl, sym, ap, subst, ◌∙◌, append_assoc, append-nil}
+use Rattle.std.proofs.Common.{◌≡◌, ℕ, false, List, [], ◌++◌, length, refl, sym, ap, subst, ◌∙◌, append_assoc, append-nil}
 use Rattle.esm_io.specs.Meanings.{DiskMeaning, DestMeaning}
 use Rattle.esm_journal.specs.File.{header_of, IsFile}
 use Rattle.esm_journal.specs.Pair.{PairState, PairKeepsWhileUp, IsSpare, PairOpensTo}

@@ -1,10 +1,10 @@
 -- What a core over its devices keeps from call to call.
-use Rattle.std.proofs.Common.{◌≡◌, true, false, List, [], ◌++◌, Option, Some, None, reverse, refl, sym, ap, subst, ◌∙◌}
+use Rattle.std.proofs.Common.{◌≡◌, false, List, [], ◌++◌, Option, Some, None, reverse, refl, sym, ap, subst, ◌∙◌}
 use Rattle.esm_io.specs.Meanings.{DiskMeaning, DestMeaning}
 use Rattle.esm_journal.specs.Pair.{PairState, PairKeepsWhileUp}
 use Rattle.esm_model.specs.declared.book.Change.{Change}
 use Rattle.esm_model.specs.declared.book.Trouble.{Trouble}
-use Rattle.esm_model.specs.declared.book.Trouble.TheVariants.{Disk, Dest, Changed}
+use Rattle.esm_model.specs.declared.book.Trouble.TheVariants.{Changed}
 use Rattle.esm_book.specs.Decided.{CoreMeaning, written_of, added}
 use Rattle.esm_book.specs.Answers.{IsSameDest}
 use Rattle.esm_book.specs.Growth.{HasGrown, LeavesFronts}

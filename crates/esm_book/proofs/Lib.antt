@@ -6,3 +6,4 @@ pub mod Growing
 pub mod Writings
 pub mod Keeping
 pub mod Leaving
+pub mod Toys

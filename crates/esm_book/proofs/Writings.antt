@@ -1,5 +1,5 @@
 -- How the writing of what is owed goes on.
-use Rattle.std.proofs.Common.{◌≡◌, ◌<◌, ℕ, List, [], ◌∷◌, ◌++◌, length, take, drop, reverse, refl, sym, ap, subst, ◌∙◌, append_assoc, take-append-drop}
+use Rattle.std.proofs.Common.{◌≡◌, List, [], ◌∷◌, ◌++◌, take, drop, reverse, refl, sym, ap, subst, ◌∙◌, append_assoc, take-append-drop}
 use Rattle.std.proofs.lemmas.List.{reverse-append}
 use Rattle.esm_io.specs.Meanings.{DiskMeaning, DestMeaning}
 use Rattle.esm_journal.specs.Pair.{PairState}

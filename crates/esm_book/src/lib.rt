@@ -2,9 +2,11 @@
 //! any moment leaves the payloads of whole entries alone. It knows disks and a destination, and not what an entry means.
 #![tactic(auto)]
 
+pub mod crossing;
 mod decisions;
 mod durable;
 mod error;
+pub mod laws;
 mod nowhere;
 mod writing;
 
@@ -12,3 +14,8 @@ pub use decisions::Decisions;
 pub use durable::{Durable, Parts};
 pub use error::{CallError, Refusal};
 pub use nowhere::Nowhere;
+
+#[cfg(test)]
+mod tests;
+#[cfg(test)]
+mod toy;

@@ -1,4 +1,4 @@
-use Rattle.std.proofs.Common.{rules, Option, Some, None, [], ◌++◌, ◌∙◌, take, reverse, refl, ap, sym, subst}
+use Rattle.std.proofs.Common.{rules, Option, Some, [], ◌++◌, ◌∙◌, take, reverse, refl, ap, sym, subst}
 use Rattle.esm_io.specs.Meanings.{disk, destination}
 use Rattle.esm_model.specs.declared.book.Trouble.{Trouble}
 use Rattle.esm_model.specs.declared.book.Trouble.TheVariants.{Disk, Dest}
