@@ -6,6 +6,7 @@ use Rattle.esm_journal.specs.Pair.{PairState, PairKeepsWhileUp, IsSpare, PairOpe
 use Rattle.esm_book.specs.Decided.{CoreMeaning, written_of}
 use Rattle.esm_book.specs.Growth.{HasAppended, HasDelivered, HasGrown, LeavesFronts}
 use Rattle.esm_book.specs.Answers.{IsSameDest}
+use Rattle.esm_book.proofs.Lists.{grows_none}
 use Rattle.esm_book.proofs.Appending.{OnlyNow, appended_none, appended_then, appended_noted}
 use Rattle.esm_book.proofs.Delivering.{delivered_silent, delivered_then, delivered_noted, told_front}
 
@@ -53,4 +54,18 @@ module _ {C E D T : Type 0} (k : CoreMeaning C E) (m : DiskMeaning D) (n : DestM
         split = held.split;
         opens = law (header_of 2) pair.epoch (pair.payloads ++ written_of k.payload held.front) one other refl held.file (subst (IsSpare (header_of 2) pair.epoch) (sym still) keeps.beside);
         delivered = told_front k n dest dest' held.front held.rest (paid ++ hand) held.split grown.delivered.told;
+      }
+
+  -- what they open to where nothing is written
+  pub still_opens : OpensBeside → OnlyNow m → (pair : PairState D) (dest : T) (entries : List E) → pair.down ≡ false → PairKeepsWhileUp m pair → LeavesFronts k m n pair pair dest dest entries
+  still_opens law only_now pair dest entries up kept h1 h2 one other was was_other =
+      let keeps = kept h1 h2 up in
+      let file = subst (IsFile (header_of 2) pair.epoch pair.payloads) (sym (keeps.durable one (only_now pair.used one h1 was))) keeps.file in
+      let beside = subst (IsSpare (header_of 2) pair.epoch) (sym (keeps.spare_durable other (only_now pair.spare other h2 was_other))) keeps.beside in
+      record {
+        front = [];
+        rest = entries;
+        split = refl;
+        opens = subst (λ l. PairOpensTo (header_of 2) pair.epoch l one other) (sym (append-nil pair.payloads)) (law (header_of 2) pair.epoch pair.payloads one other refl file beside);
+        delivered = ([], grows_none (n.lines dest) (n.lines dest) refl);
       }

@@ -7,11 +7,11 @@ use Rattle.esm_model.specs.declared.book.Trouble.{Trouble}
 use Rattle.esm_model.specs.declared.book.Trouble.TheVariants.{Changed}
 use Rattle.esm_book.specs.Decided.{CoreMeaning, written_of, added}
 use Rattle.esm_book.specs.Answers.{IsSameDest}
-use Rattle.esm_book.specs.Growth.{HasGrown, LeavesFronts}
+use Rattle.esm_book.specs.Growth.{HasGrown}
 use Rattle.esm_book.specs.State.{is_disk, is_dest, in_hand, IsSettled, IsKept}
 use Rattle.esm_book.proofs.Lists.{added_is, oldest_first}
 use Rattle.esm_book.proofs.Appending.{OnlyNow}
-use Rattle.esm_book.proofs.Growing.{OpensBeside, grown_none, grown_then, grown_noted, grown_opens}
+use Rattle.esm_book.proofs.Growing.{grown_none, grown_then, grown_noted}
 
 module _ {C E D T : Type 0} (k : CoreMeaning C E) (m : DiskMeaning D) (n : DestMeaning T) where
   abbrev pub Kept : C → PairState D → T → Option Trouble → PairState D → T → Type 0
@@ -99,7 +99,3 @@ module _ {C E D T : Type 0} (k : CoreMeaning C E) (m : DiskMeaning D) (n : DestM
     grown_still only_now core' pair' dest' same room same_dest =
         subst (λ l. HasGrown k m n pair pair' dest dest' l []) (sym (added_is [] (k.history core) (k.history core') (ap k.history same)))
         (grown_none k m n only_now pair pair' dest dest' (before.pair_down ∙ ap is_disk none) (before.dest_failed ∙ ap is_dest none) before.grown.appended.kept room same_dest)
-
-    -- what images of both disks open to
-    pub call_opens : OpensBeside → OnlyNow m → (pair' : PairState D) (dest' : T) (paid hand : List E) → HasGrown k m n pair pair' dest dest' paid hand → LeavesFronts k m n pair pair' dest dest' (paid ++ hand)
-    call_opens law only_now pair' dest' paid hand grown = grown_opens k m n law only_now pair pair' dest dest' paid hand (before.pair_down ∙ ap is_disk none) before.grown.appended.kept grown

@@ -1,4 +1,4 @@
-ghost use Rattle.std.specs.Prelude.{◌≡◌, ◌↔◌, ◌<◌, ◌++◌, [], ℕ, List, Option, Some, None, length, reverse, true, false, OnOk, IfOk, IfErr, IsErrOf, IsSome};
+ghost use Rattle.std.specs.Prelude.{◌≡◌, ◌↔◌, ◌<◌, ◌++◌, [], ℕ, List, None, length, reverse, true, false, OnOk, IfOk, IfErr, IsErrOf, IsSome};
 ghost use Rattle.std.specs.Option.{option_copied};
 ghost use Rattle.esm_io.specs.Faults.{Rose};
 ghost use Rattle.esm_io.specs.Images.{Only};
@@ -104,7 +104,7 @@ impl<C: Decisions, D: Disk, T: Dest> Durable<C, D, T> {
         ensures found { self.new.found ≡ self.old.found }
         ensures found_dest { self.new.found_dest ≡ self.old.found_dest }
         // What a crash leaves: of both disks since the call began, and once it has returned.
-        ensures images { self.old.trouble ≡ None → LeavesFronts (decisions C.history C.owed C.payload C.line) (disk D.honest D.content D.image D.moment D.image_since D.faults) (destination T.honest T.faults T.lines T.sends T.failed)
+        ensures images { self.old.pair.down ≡ false → LeavesFronts (decisions C.history C.owed C.payload C.line) (disk D.honest D.content D.image D.moment D.image_since D.faults) (destination T.honest T.faults T.lines T.sends T.failed)
             self.old.pair self.new.pair self.old.dest self.new.dest (added (C.history self.old.core) (C.history self.new.core) ++ in_doubt result (C.owed self.new.core)) }
         ensures kept { PairKeepsWhileUp (disk D.honest D.content D.image D.moment D.image_since D.faults) self.new.pair }
         // When each error comes, and what it leaves.

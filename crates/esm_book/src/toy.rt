@@ -1,7 +1,6 @@
 // A core for the tests. A name comes and is then called at once: two entries, of which the second has the name in the
 // journal and at the destination. A call without a name brings a change.
-ghost use Rattle.std.specs.Prelude.{◌≡◌, ◌+◌, ◌<◌, ◌≤◌, [], Option, Some, None, length, vec_len, vec_capacity, OnOk, IfOk};
-ghost use Rattle.esm_model.specs.declared.book.Change.{Change};
+ghost use Rattle.std.specs.Prelude.{◌≡◌, ◌+◌, ◌<◌, [], None, vec_len, vec_capacity, OnOk};
 ghost use Rattle.esm_book.specs.Toy.{all_written, owed_by, Decides, MayAsk};
 
 use crate::decisions::Decisions;

@@ -6,7 +6,8 @@ use Rattle.esm_book.specs.Decided.{decisions, added}
 use Rattle.esm_book.specs.Growth.{HasGrown}
 use Rattle.esm_book.specs.State.{IsReason}
 use Rattle.esm_book.proofs.Lists.{none_of}
-use Rattle.esm_book.proofs.Keeping.{kept_noted, kept_up, kept_after, grown_still, call_opens}
+use Rattle.esm_book.proofs.Keeping.{kept_noted, kept_up, kept_after, grown_still}
+use Rattle.esm_book.proofs.Growing.{grown_opens, still_opens}
 use Rattle.esm_book.proofs.durable.Durable.carry_out.Goals as goal
 
 -- on a book that is down
@@ -21,6 +22,15 @@ invariant_of-self g c =
           c.self.invariant.0 c.note.ensures.history c.note.ensures.no_payload c.note.ensures.no_line c.note.ensures.owed,
       subst (λ o. IsReason (g.C.Decisions.is_change o) s.trouble) (sym c.note.ensures.origin) c.self.invariant.1,
     )
+
+pub returns-then-is_some-clause-images : goal.returns-then-is_some-clause-images
+returns-then-is_some-clause-images g c =
+    let k = decisions g.C.Decisions.history g.C.Decisions.owed g.C.Decisions.payload g.C.Decisions.line in
+    let m = disk g.D.Disk.honest g.D.Disk.content g.D.Disk.image g.D.Disk.moment g.D.Disk.image_since g.D.Disk.faults in
+    let n = destination g.T.Dest.honest g.T.Dest.faults g.T.Dest.lines g.T.Dest.sends g.T.Dest.failed in
+    rw (← c.self.view_is) (λ up.
+    let s = c.self.inside in
+    still_opens k m n c.file_beside_spare.ensures.opens g.met.D.Disk.only_now s.pair s.dest (added (k.history s.core) (k.history c.note.new.self) ++ []) up c.self.invariant.0.grown.appended.kept)
 
 pub returns-then-is_some-clause-kept : goal.returns-then-is_some-clause-kept
 returns-then-is_some-clause-kept g c = c.self.invariant.0.grown.appended.kept
@@ -47,10 +57,10 @@ returns-in-Written-clause-images g c =
     let k = decisions g.C.Decisions.history g.C.Decisions.owed g.C.Decisions.payload g.C.Decisions.line in
     let m = disk g.D.Disk.honest g.D.Disk.content g.D.Disk.image g.D.Disk.moment g.D.Disk.image_since g.D.Disk.faults in
     let n = destination g.T.Dest.honest g.T.Dest.faults g.T.Dest.lines g.T.Dest.sends g.T.Dest.failed in
-    rw (← c.self.view_is) (λ none.
+    rw (← c.self.view_is) (λ up.
     let s = c.self.inside in
     let new = c.write_out.new in
-    call_opens k m n s.core s.pair s.found.value s.dest s.found_dest.value s.trouble c.self.invariant.0 none c.file_beside_spare.ensures.opens g.met.D.Disk.only_now new.pair new.dest (added (k.history s.core) (k.history new.core)) []
+    grown_opens k m n c.file_beside_spare.ensures.opens g.met.D.Disk.only_now s.pair new.pair s.dest new.dest (added (k.history s.core) (k.history new.core)) [] up c.self.invariant.0.grown.appended.kept
     (subst (λ h. HasGrown k m n s.pair new.pair s.dest new.dest (added h (k.history new.core)) []) c.decide.ensures.history c.in-Written.ensures.came.writes.grown))
 
 pub returns-in-Written-clause-kept : goal.returns-in-Written-clause-kept
@@ -79,10 +89,10 @@ returns-in-DiskFault-clause-images g c =
     let k = decisions g.C.Decisions.history g.C.Decisions.owed g.C.Decisions.payload g.C.Decisions.line in
     let m = disk g.D.Disk.honest g.D.Disk.content g.D.Disk.image g.D.Disk.moment g.D.Disk.image_since g.D.Disk.faults in
     let n = destination g.T.Dest.honest g.T.Dest.faults g.T.Dest.lines g.T.Dest.sends g.T.Dest.failed in
-    rw (← c.self.view_is) (λ none.
+    rw (← c.self.view_is) (λ up.
     let s = c.self.inside in
     let new = c.write_out.new in
-    call_opens k m n s.core s.pair s.found.value s.dest s.found_dest.value s.trouble c.self.invariant.0 none c.file_beside_spare.ensures.opens g.met.D.Disk.only_now new.pair new.dest (added (k.history s.core) (k.history new.core)) (take 1 (k.owed new.core))
+    grown_opens k m n c.file_beside_spare.ensures.opens g.met.D.Disk.only_now s.pair new.pair s.dest new.dest (added (k.history s.core) (k.history new.core)) (take 1 (k.owed new.core)) up c.self.invariant.0.grown.appended.kept
     (subst (λ h. HasGrown k m n s.pair new.pair s.dest new.dest (added h (k.history new.core)) (take 1 (k.owed new.core))) c.decide.ensures.history c.in-DiskFault.ensures.came.writes.grown))
 
 -- the destination failed
@@ -108,10 +118,10 @@ returns-in-DestFault-clause-images g c =
     let k = decisions g.C.Decisions.history g.C.Decisions.owed g.C.Decisions.payload g.C.Decisions.line in
     let m = disk g.D.Disk.honest g.D.Disk.content g.D.Disk.image g.D.Disk.moment g.D.Disk.image_since g.D.Disk.faults in
     let n = destination g.T.Dest.honest g.T.Dest.faults g.T.Dest.lines g.T.Dest.sends g.T.Dest.failed in
-    rw (← c.self.view_is) (λ none.
+    rw (← c.self.view_is) (λ up.
     let s = c.self.inside in
     let new = c.write_out.new in
-    call_opens k m n s.core s.pair s.found.value s.dest s.found_dest.value s.trouble c.self.invariant.0 none c.file_beside_spare.ensures.opens g.met.D.Disk.only_now new.pair new.dest (added (k.history s.core) (k.history new.core)) []
+    grown_opens k m n c.file_beside_spare.ensures.opens g.met.D.Disk.only_now s.pair new.pair s.dest new.dest (added (k.history s.core) (k.history new.core)) [] up c.self.invariant.0.grown.appended.kept
     (subst (λ h. HasGrown k m n s.pair new.pair s.dest new.dest (added h (k.history new.core)) []) c.decide.ensures.history c.in-DestFault.ensures.came.writes.grown))
 
 pub returns-in-DestFault-clause-kept : goal.returns-in-DestFault-clause-kept
@@ -132,10 +142,9 @@ returns-in-Err-OutOfMemory-clause-images g c =
     let k = decisions g.C.Decisions.history g.C.Decisions.owed g.C.Decisions.payload g.C.Decisions.line in
     let m = disk g.D.Disk.honest g.D.Disk.content g.D.Disk.image g.D.Disk.moment g.D.Disk.image_since g.D.Disk.faults in
     let n = destination g.T.Dest.honest g.T.Dest.faults g.T.Dest.lines g.T.Dest.sends g.T.Dest.failed in
-    rw (← c.self.view_is) (λ none.
+    rw (← c.self.view_is) (λ up.
     let s = c.self.inside in
-    call_opens k m n s.core s.pair s.found.value s.dest s.found_dest.value s.trouble c.self.invariant.0 none c.file_beside_spare.ensures.opens g.met.D.Disk.only_now s.pair s.dest (added (k.history s.core) (k.history c.decide.new.self)) []
-    (grown_still k m n s.core s.pair s.found.value s.dest s.found_dest.value s.trouble c.self.invariant.0 none g.met.D.Disk.only_now c.decide.new.self s.pair s.dest c.in-Err-OutOfMemory.ensures.unchanged refl (record { lines = refl; failed = refl; honesty = refl; faults = refl })))
+    still_opens k m n c.file_beside_spare.ensures.opens g.met.D.Disk.only_now s.pair s.dest (added (k.history s.core) (k.history c.decide.new.self) ++ []) up c.self.invariant.0.grown.appended.kept)
 
 pub returns-in-Err-OutOfMemory-clause-kept : goal.returns-in-Err-OutOfMemory-clause-kept
 returns-in-Err-OutOfMemory-clause-kept g c = c.self.invariant.0.grown.appended.kept
@@ -155,10 +164,9 @@ returns-in-Err-Changed-clause-images g c =
     let k = decisions g.C.Decisions.history g.C.Decisions.owed g.C.Decisions.payload g.C.Decisions.line in
     let m = disk g.D.Disk.honest g.D.Disk.content g.D.Disk.image g.D.Disk.moment g.D.Disk.image_since g.D.Disk.faults in
     let n = destination g.T.Dest.honest g.T.Dest.faults g.T.Dest.lines g.T.Dest.sends g.T.Dest.failed in
-    rw (← c.self.view_is) (λ none.
+    rw (← c.self.view_is) (λ up.
     let s = c.self.inside in
-    call_opens k m n s.core s.pair s.found.value s.dest s.found_dest.value s.trouble c.self.invariant.0 none c.file_beside_spare.ensures.opens g.met.D.Disk.only_now s.pair s.dest (added (k.history s.core) (k.history c.decide.new.self)) []
-    (grown_still k m n s.core s.pair s.found.value s.dest s.found_dest.value s.trouble c.self.invariant.0 none g.met.D.Disk.only_now c.decide.new.self s.pair s.dest c.in-Err-Changed.ensures.unchanged refl (record { lines = refl; failed = refl; honesty = refl; faults = refl })))
+    still_opens k m n c.file_beside_spare.ensures.opens g.met.D.Disk.only_now s.pair s.dest (added (k.history s.core) (k.history c.decide.new.self) ++ []) up c.self.invariant.0.grown.appended.kept)
 
 pub returns-in-Err-Changed-clause-kept : goal.returns-in-Err-Changed-clause-kept
 returns-in-Err-Changed-clause-kept g c = c.self.invariant.0.grown.appended.kept
@@ -180,12 +188,12 @@ returns-in-OutOfMemory-clause-images g c =
     let k = decisions g.C.Decisions.history g.C.Decisions.owed g.C.Decisions.payload g.C.Decisions.line in
     let m = disk g.D.Disk.honest g.D.Disk.content g.D.Disk.image g.D.Disk.moment g.D.Disk.image_since g.D.Disk.faults in
     let n = destination g.T.Dest.honest g.T.Dest.faults g.T.Dest.lines g.T.Dest.sends g.T.Dest.failed in
-    rw (← c.self.view_is) (λ none.
+    rw (← c.self.view_is) (λ up.
     let s = c.self.inside in
     let new = c.write_out.new in
     let came = c.in-OutOfMemory.ensures.came in
-    call_opens k m n s.core s.pair s.found.value s.dest s.found_dest.value s.trouble c.self.invariant.0 none c.file_beside_spare.ensures.opens g.met.D.Disk.only_now new.pair new.dest (added (k.history s.core) (k.history new.core)) []
-    (grown_still k m n s.core s.pair s.found.value s.dest s.found_dest.value s.trouble c.self.invariant.0 none g.met.D.Disk.only_now new.core new.pair new.dest (came.forgot ∙ c.in-Ok.ensures.undone) came.room_alone came.same_dest))
+    grown_opens k m n c.file_beside_spare.ensures.opens g.met.D.Disk.only_now s.pair new.pair s.dest new.dest (added (k.history s.core) (k.history new.core)) [] up c.self.invariant.0.grown.appended.kept
+    (grown_still k m n s.core s.pair s.found.value s.dest s.found_dest.value s.trouble c.self.invariant.0 (none_of s.trouble (search rules)) g.met.D.Disk.only_now new.core new.pair new.dest (came.forgot ∙ c.in-Ok.ensures.undone) came.room_alone came.same_dest))
 
 pub returns-in-OutOfMemory-clause-kept : goal.returns-in-OutOfMemory-clause-kept
 returns-in-OutOfMemory-clause-kept g c =
