@@ -1,4 +1,1 @@
-pub mod Accepted
 pub mod Cuts
-pub mod Listed
-pub mod Validity

@@ -1,12 +1,17 @@
--- Which field an answer names.
-use Rattle.std.specs.Prelude.{Option, Some, None, Result, Ok, Err}
-use Rattle.esm_model.specs.declared.config.Config.{Config}
+-- What an answer says of a judgement: the value, or the field that is refused; want of memory says nothing.
+use Rattle.std.specs.Prelude.{◌≡◌, Result, Ok, Err, ⊤}
 use Rattle.esm_config.specs.declared.param.ConfigError.{ConfigError}
 use Rattle.esm_config.specs.declared.param.ConfigError.TheVariants as why
 use Rattle.esm_config.specs.declared.param.Param.{Param}
 
--- the field that the answer refuses
-abbrev pub bad_param : Result Config ConfigError → Option Param
-bad_param (Ok _) = None
-bad_param (Err (why.BadParam p)) = Some p
-bad_param (Err why.OutOfMemory) = None
+-- P of the field that the answer refuses, if it refuses one
+abbrev pub IfBad : {A : Type 0} → Result A ConfigError → (Param → Type 0) → Type 0
+IfBad (Ok _) P = ⊤
+IfBad (Err (why.BadParam p)) P = P p
+IfBad (Err why.OutOfMemory) P = ⊤
+
+-- the answer is the judgement, where `f` is what the value means
+abbrev pub Tells : {A B : Type 0} → (A → B) → Result A ConfigError → Result B Param → Type 0
+Tells f (Ok x) r = r ≡ Ok (f x)
+Tells f (Err (why.BadParam p)) r = r ≡ Err p
+Tells f (Err why.OutOfMemory) r = ⊤

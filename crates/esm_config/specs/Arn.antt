@@ -1,8 +1,11 @@
 -- The parts of an ARN. Source: the AWS General Reference, Amazon Resource Names
 -- (`arn:partition:service:region:account-id:resource`).
-use Rattle.std.specs.Prelude.{ℕ, ◌==◌, ◌&&◌, Bool, List, length, drop, codes, Option, Some, None, nat_eq, nat_lt, if◌then◌else◌}
-use Rattle.esm_model.specs.Valid.{is_account, is_name_byte, is_region, is_stream_byte, is_word}
-use Rattle.std.specs.List.{after_first, before_first, position_or_len, starts_with}
+use Rattle.std.specs.Prelude.{ℕ, ◌==◌, ◌&&◌, Bool, List, [], length, drop, codes, Option, Some, None, option_map, nat_eq, nat_lt, if◌then◌else◌}
+use Rattle.std.specs.List.{after_first, before_first, ends_with, position_or_len, starts_with}
+use Rattle.std.specs.Option.{option_or}
+use Rattle.esm_model.specs.Valid.{is_account, is_name_byte, is_queue_name, is_region, is_stream_byte, is_word}
+use Rattle.esm_model.specs.declared.config.Kind.{Kind}
+use Rattle.esm_model.specs.declared.config.Kind.TheVariants.{Stream, Standard, Fifo}
 
 -- what stands after the prefix, where the text begins with it
 abbrev pub strip : List ℕ → List ℕ → Option (List ℕ)
@@ -41,20 +44,46 @@ owned_rest resource (Some rest) = owned_region resource (cut rest)
 abbrev pub owned : List ℕ → List ℕ → List ℕ → Option Owned
 owned prefix resource text = owned_rest resource (strip prefix text)
 
--- a Kinesis stream's, a Lambda function's
+-- a queue is a FIFO queue where its name ends in `.fifo`
+abbrev pub queue_kind : List ℕ → Kind
+queue_kind name = if ends_with nat_eq name (codes ".fifo") then Fifo else Standard
+
+-- a Kinesis stream's, an SQS queue's, a Lambda function's
 abbrev pub is_stream : Owned → Bool
 is_stream o = is_region o.region && (is_account o.account && is_word is_stream_byte 1 128 o.name)
+
+abbrev pub is_queue : Owned → Bool
+is_queue o = is_region o.region && (is_account o.account && is_queue_name (queue_kind o.name) o.name)
 
 abbrev pub is_function : Owned → Bool
 is_function o = is_region o.region && (is_account o.account && is_word is_name_byte 1 64 o.name)
 
--- where it passes
-abbrev pub kept : (Owned → Bool) → Option Owned → Option Owned
+-- the value, where it passes
+abbrev pub kept : {A : Type 0} → (A → Bool) → Option A → Option A
 kept passes None = None
-kept passes (Some o) = if passes o then Some o else None
+kept passes (Some x) = if passes x then Some x else None
 
 abbrev pub stream_of : List ℕ → Option Owned
 stream_of text = kept is_stream (owned (codes "arn:aws:kinesis:") (codes "stream/") text)
 
+abbrev pub queue_of : List ℕ → Option Owned
+queue_of text = kept is_queue (owned (codes "arn:aws:sqs:") [] text)
+
 abbrev pub function_arn_of : List ℕ → Option Owned
 function_arn_of text = kept is_function (owned (codes "arn:aws:lambda:") (codes "function:") text)
+
+-- what a mapping reads: its ARN, the kind that this names, and the ARN's parts
+pub record Source : Type 0 where
+  pub arn : List ℕ
+  pub kind : Kind
+  pub parts : Owned
+
+abbrev pub stream_source : List ℕ → Owned → Source
+stream_source text o = record { arn = text; kind = Stream; parts = o }
+
+abbrev pub queue_source : List ℕ → Owned → Source
+queue_source text o = record { arn = text; kind = queue_kind o.name; parts = o }
+
+-- a stream, or a queue
+abbrev pub source_of : List ℕ → Option Source
+source_of text = option_or (option_map (stream_source text) (stream_of text)) (option_map (queue_source text) (queue_of text))

@@ -2,8 +2,12 @@ pub mod Answer
 pub mod Arn
 pub mod Fields
 pub mod FunctionParts
+pub mod Given
+pub mod Judged
 pub mod Mapping
-pub mod MappingParts
+pub mod Member
+pub mod Merge
 pub mod Names
 pub mod Parts
 pub mod Table
+pub mod Text

@@ -1,10 +1,9 @@
 ghost use Rattle.std.specs.Prelude.{◌≡◌, option_map};
 ghost use Rattle.serde_json.specs.View.{view};
-ghost use Rattle.esm_config.specs.Fields.{function_of, named_by};
+ghost use Rattle.esm_config.specs.Fields.{function_in, named_by};
 ghost use Rattle.esm_config.specs.FunctionParts.{named_of};
 
 use crate::arn::is_function_name;
-use crate::fields::text_field;
 use crate::owned::function_arn_of;
 use serde_json::Value;
 
@@ -37,11 +36,14 @@ fn named_by(text: &str) -> Option<FunctionName<'_>>
 }
 
 /// The function that is called.
-pub fn function_of(value: &Value) -> Option<FunctionName<'_>>
-    ensures { option_map named_of result ≡ function_of (view value.entry.now) }
+pub fn function_in(field: Option<&Value>) -> Option<FunctionName<'_>>
+    ensures { option_map named_of result ≡ function_in (option_map (λ v. view v.now) field.entry) }
 {
-    match text_field(value, "FunctionName") {
-        Some(text) => named_by(text),
+    match field {
+        Some(found) => match found.as_str() {
+            Some(text) => named_by(text),
+            None => None,
+        },
         None => None,
     }
 }

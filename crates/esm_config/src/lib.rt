@@ -1,20 +1,20 @@
-//! The fields of a mapping: which configuration a JSON object gives, or which field refuses it.
-//! Pure: a JSON value in, a configuration out.
-//! The fields are judged as a table, in its order; the first that is refused is named.
+//! The fields of a mapping: which configuration a JSON object gives, what an update makes of it, and its text.
+//! Pure: a JSON value in, a configuration out; a configuration in, a text out.
+//! The fields are judged in the order of a table; the first that is refused is named.
 #![tactic(auto)]
 
 mod arn;
-mod fields;
 mod from_json;
 mod function;
-mod mapping;
+mod member;
 mod owned;
 mod param;
-mod table;
+mod position;
+mod to_json;
+mod update;
 
 pub use from_json::read;
+pub use member::Member;
 pub use param::{ConfigError, Param};
-pub use table::refused;
-
-#[cfg(test)]
-mod tests;
+pub use to_json::{object_text, settings, text};
+pub use update::merge;

@@ -1,5 +1,0 @@
-use Rattle.std.proofs.Common.{length}
-use Rattle.esm_config.proofs.table.+first_refused.Given as goal
-
-abbrev pub decreases-first_refused : goal.decreases-first_refused
-decreases-first_refused l = length l.rows.now

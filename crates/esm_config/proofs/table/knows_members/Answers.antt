@@ -1,6 +1,0 @@
-use Rattle.std.proofs.Common.{◌∙◌}
-use Rattle.esm_config.proofs.Listed.{listed_members}
-use Rattle.esm_config.proofs.table.knows_members.Goals as goal
-
-pub returns : goal.returns
-returns c = c.has_only_listed.ensures ∙ listed_members c.args.members.now.entries

@@ -1,0 +1,8 @@
+/// Where a stream's mapping begins to read, as its object says it (`StartingPosition`).
+#[derive(Clone, Copy, Debug, PartialEq, Eq)]
+pub enum Position {
+    TrimHorizon,
+    Latest,
+    /// At the moment of `StartingPositionTimestamp`.
+    AtTimestamp,
+}

