@@ -1,1 +1,10 @@
+pub mod Arns
 pub mod Cuts
+pub mod Entries
+pub mod Lists
+pub mod Looking
+pub mod Members
+pub mod NoFloat
+pub mod Peeled
+pub mod Telling
+pub mod Validity

@@ -5,7 +5,7 @@ use Rattle.std.specs.Prelude.{ℕ, zero, ◌*◌, ◌/◌, ◌==◌, ℤ, pos, n
 use Rattle.std.specs.Str.{bytes_eq}
 use Rattle.serde_json.specs.Data.{Data, Items, no_items, item, Members, no_members, member}
 use Rattle.serde_json.specs.Find.{get, as_array, as_bool, as_i64, as_null, as_number, as_object, as_str, as_u64}
-use Rattle.esm_model.specs.declared.limits.TheConstants.{MAX_BATCH, MAX_FILTERS, MAX_RETRIES}
+use Rattle.esm_model.specs.declared.limits.TheConstants.{MAX_FILTERS, MAX_RETRIES}
 use Rattle.esm_model.specs.declared.moment.TheConstants.{MAX_MOMENT}
 use Rattle.esm_model.specs.declared.config.Kind.{Kind}
 use Rattle.esm_model.specs.declared.config.Kind.TheVariants.{Stream, Standard, Fifo}

@@ -1,4 +1,4 @@
--- A function's names as the code holds them.
+-- A function's names as the code holds them; this crate's proofs alone cite it.
 use Rattle.std.specs.Prelude.{option_map}
 use Rattle.esm_config.specs.Fields.{Named}
 use Rattle.esm_config.specs.declared.function.FunctionName.{FunctionName}

@@ -11,3 +11,4 @@ pub mod Names
 pub mod Parts
 pub mod Table
 pub mod Text
+pub mod View

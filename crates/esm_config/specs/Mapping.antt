@@ -1,7 +1,7 @@
 -- The configuration that a mapping's object gives. Source: the Lambda API reference, `CreateEventSourceMapping`.
-use Rattle.std.specs.Prelude.{ok_or, false, Option, Result, Ok, Err}
+use Rattle.std.specs.Prelude.{ok_or, false, Option, Result}
 use Rattle.std.specs.Result.{result_ok}
-use Rattle.serde_json.specs.Data.{Data, Members}
+use Rattle.serde_json.specs.Data.{Data}
 use Rattle.serde_json.specs.Find.{as_object}
 use Rattle.esm_model.specs.declared.config.Config.{Config}
 use Rattle.esm_config.specs.Fields.{field}

@@ -1,7 +1,7 @@
 -- The text of a configuration: the object of all fields of its kind that have a value, defaults included, in the order of
 -- the table. Source: the Lambda API reference, `EventSourceMappingConfiguration`; that order is this product's own.
-use Rattle.std.specs.Prelude.{ℕ, ◌/◌, pos, negsuc, Bool, true, false, List, [], ◌∷◌, codes, Option, Some, None, option_map}
-use Rattle.serde_json.specs.Data.{Data, boolean, number, string, array, object, Num, unsigned, negative, Items, no_items, item, Members, no_members, member}
+use Rattle.std.specs.Prelude.{ℕ, ◌/◌, negsuc, Bool, true, false, List, [], ◌∷◌, codes, Option, Some, None, option_map}
+use Rattle.serde_json.specs.Data.{Data, boolean, number, string, array, object, unsigned, negative, Items, no_items, item, Members, no_members, member}
 use Rattle.serde_json.specs.Written.{compact_text}
 use Rattle.esm_model.specs.declared.config.Config.{Config}
 use Rattle.esm_model.specs.declared.config.Kind.{Kind}

@@ -1,10 +1,11 @@
-ghost use Rattle.std.specs.Prelude.{◌≡◌, option_map};
+ghost use Rattle.std.specs.Prelude.{◌≡◌, ◌≤◌, codes, nat_eq, option_map, IsTrue};
 ghost use Rattle.std.specs.Char.{is_ascii_digit};
-ghost use Rattle.std.specs.List.{list_all};
-ghost use Rattle.esm_model.specs.Valid.{is_account, is_between, is_name_byte, is_region, is_region_byte, is_stream_byte, is_word};
+ghost use Rattle.std.specs.List.{ends_with, list_all};
+ghost use Rattle.esm_model.specs.Valid.{is_account, is_between, is_name_byte, is_queue_name, is_region, is_region_byte, is_stream_byte, is_word};
 ghost use Rattle.std.specs.Prelude.{length};
-ghost use Rattle.esm_config.specs.Arn.{cut, strip};
+ghost use Rattle.esm_config.specs.Arn.{cut, queue_kind, strip};
 
+use esm_model::config::Kind;
 use esm_model::spelling::{are_digits, are_name_bytes, is_name_byte};
 
 /// The text after the prefix, where it begins with it.
@@ -77,4 +78,44 @@ pub fn is_stream_name(text: &[u8]) -> bool
     ensures { result ≡ is_word is_stream_byte 1 128 text.now }
 {
     has_length(text, 1, 128) && are_stream_bytes(text)
+}
+
+fn is_fifo_name(text: &[u8]) -> bool
+    ensures ending { result ≡ ends_with nat_eq text.now (codes ".fifo") }
+    ensures room { IsTrue result → 5 ≤ length text.now }
+{
+    text.ends_with(b".fifo")
+}
+
+/// Whether the name is a FIFO queue's: it ends in `.fifo`.
+pub fn queue_kind(name: &[u8]) -> Kind
+    ensures { result ≡ queue_kind name.now }
+{
+    if is_fifo_name(name) {
+        Kind::Fifo
+    } else {
+        Kind::Standard
+    }
+}
+
+fn is_fifo_queue_name(text: &[u8]) -> bool
+    ensures { result ≡ is_queue_name Kind.Fifo text.now }
+{
+    if !is_fifo_name(text) {
+        return false;
+    }
+    let front = &text[..text.len() - 5];
+    has_length(front, 1, 75) && are_name_bytes(front)
+}
+
+/// Whether the text names a queue of this kind: 1 to 80 letters, digits, `-` and `_`, of which
+/// `.fifo` is the end of a FIFO queue's.
+pub fn is_queue_name(kind: Kind, text: &[u8]) -> bool
+    ensures { result ≡ is_queue_name kind text.now }
+{
+    match kind {
+        Kind::Stream => false,
+        Kind::Standard => has_length(text, 1, 80) && are_name_bytes(text),
+        Kind::Fifo => is_fifo_queue_name(text),
+    }
 }

@@ -5,7 +5,9 @@ ghost use Rattle.esm_config.specs.Given.{IsGiven};
 ghost use Rattle.esm_config.specs.Mapping.{config_of};
 ghost use Rattle.esm_config.specs.Table.{refused};
 
-use crate::param::ConfigError;
+use crate::given::Fields;
+use crate::judged::judged;
+use crate::param::{ConfigError, Param};
 use esm_model::config::Config;
 use serde_json::Value;
 use std::alloc::Global;
@@ -20,5 +22,8 @@ pub fn read(alloc: Global, value: &Value) -> Result<Config, ConfigError>
     ensures given { IfOk result (λ c. IsGiven c) }
     ensures bad { IfBad result (λ param. refused (view value.now) ≡ Some param) }
 {
-    Err(ConfigError::OutOfMemory)
+    let Some(members) = value.as_object() else {
+        return Err(ConfigError::BadParam(Param::Body));
+    };
+    judged(alloc, Fields::New(value), members)
 }

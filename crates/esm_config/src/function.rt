@@ -1,7 +1,7 @@
 ghost use Rattle.std.specs.Prelude.{◌≡◌, option_map};
-ghost use Rattle.serde_json.specs.View.{view};
 ghost use Rattle.esm_config.specs.Fields.{function_in, named_by};
 ghost use Rattle.esm_config.specs.FunctionParts.{named_of};
+ghost use Rattle.esm_config.specs.View.{data_of};
 
 use crate::arn::is_function_name;
 use crate::owned::function_arn_of;
@@ -37,7 +37,7 @@ fn named_by(text: &str) -> Option<FunctionName<'_>>
 
 /// The function that is called.
 pub fn function_in(field: Option<&Value>) -> Option<FunctionName<'_>>
-    ensures { option_map named_of result ≡ function_in (option_map (λ v. view v.now) field.entry) }
+    ensures { option_map named_of result ≡ function_in (data_of field.entry) }
 {
     match field {
         Some(found) => match found.as_str() {

@@ -4,17 +4,29 @@
 #![tactic(auto)]
 
 mod arn;
+mod common;
+mod criteria;
 mod from_json;
 mod function;
+mod given;
+mod judged;
+mod listed;
 mod member;
+mod object;
 mod owned;
 mod param;
 mod position;
+mod rows;
+mod source;
+mod stream;
 mod to_json;
 mod update;
+mod value;
+mod values;
 
 pub use from_json::read;
 pub use member::Member;
+pub use object::object_text;
 pub use param::{ConfigError, Param};
-pub use to_json::{object_text, settings, text};
+pub use to_json::{settings, text};
 pub use update::merge;

@@ -1,10 +1,12 @@
 ghost use Rattle.std.specs.Prelude.{◌≡◌, option_map};
-ghost use Rattle.esm_config.specs.Arn.{function_arn_of, is_function, is_stream, owned, owned_region, cut, stream_of};
+ghost use Rattle.esm_config.specs.Arn.{function_arn_of, is_function, is_queue, is_stream, owned, owned_region, cut, queue_of, stream_of};
 ghost use Rattle.esm_config.specs.Parts.{parts_of};
 
-use crate::arn::{cut, is_account, is_function_name, is_region, is_stream_name, strip};
+use crate::arn::{
+    cut, is_account, is_function_name, is_queue_name, is_region, is_stream_name, queue_kind, strip,
+};
 
-/// The parts of the ARN of a stream or a function.
+/// The parts of the ARN of a stream, a queue or a function.
 #[derive(Clone, Copy, Debug)]
 pub struct Owned<'a> {
     pub region: &'a str,
@@ -51,6 +53,16 @@ pub fn stream_of(text: &str) -> Option<Owned<'_>>
     }
 }
 
+/// The parts of the ARN of an SQS queue.
+pub fn queue_of(text: &str) -> Option<Owned<'_>>
+    ensures { option_map parts_of result ≡ queue_of text.entry.now }
+{
+    match owned_by(text, "arn:aws:sqs:", "") {
+        Some(parts) => { if is_queue(&parts) { Some(parts) } else { None } }
+        None => None,
+    }
+}
+
 /// The parts of the ARN of a function.
 pub fn function_arn_of(text: &str) -> Option<Owned<'_>>
     ensures { option_map parts_of result ≡ function_arn_of text.entry.now }
@@ -73,6 +85,15 @@ fn is_stream(parts: &Owned) -> bool
     is_region(parts.region.as_bytes())
         && is_account(parts.account.as_bytes())
         && is_stream_name(parts.name.as_bytes())
+}
+
+fn is_queue(parts: &Owned) -> bool
+    ensures { result ≡ is_queue (parts_of parts.now) }
+{
+    let name = parts.name.as_bytes();
+    is_region(parts.region.as_bytes())
+        && is_account(parts.account.as_bytes())
+        && is_queue_name(queue_kind(name), name)
 }
 
 fn is_function(parts: &Owned) -> bool

@@ -1,7 +1,7 @@
 ghost use Rattle.std.specs.Prelude.{◌≡◌};
 ghost use Rattle.esm_config.specs.Names.{name_of};
-ghost use Rattle.esm_config.specs.declared.param.ConfigError.TheVariants.{OutOfMemory};
 
+use esm_model::OutOfMemory;
 use std::alloc::AllocError;
 
 /// A field of a mapping, by its name in the Lambda API reference (`CreateEventSourceMapping`),
@@ -68,9 +68,34 @@ pub enum ConfigError {
 }
 
 impl From<AllocError> for ConfigError {
-    ghost from_gives = { λ _ e. e ≡ OutOfMemory };
+    ghost use Rattle.std.specs.Prelude.{◌≡◌};
+    ghost use Rattle.esm_config.specs.declared.param.ConfigError.{ConfigError};
+
+    ghost from_gives = { λ _ e. e ≡ ConfigError.OutOfMemory };
 
     fn from(_: AllocError) -> Self {
         ConfigError::OutOfMemory
+    }
+}
+
+impl From<OutOfMemory> for ConfigError {
+    ghost use Rattle.std.specs.Prelude.{◌≡◌};
+    ghost use Rattle.esm_config.specs.declared.param.ConfigError.{ConfigError};
+
+    ghost from_gives = { λ _ e. e ≡ ConfigError.OutOfMemory };
+
+    fn from(_: OutOfMemory) -> Self {
+        ConfigError::OutOfMemory
+    }
+}
+
+impl From<Param> for ConfigError {
+    ghost use Rattle.std.specs.Prelude.{◌≡◌};
+    ghost use Rattle.esm_config.specs.declared.param.ConfigError.{ConfigError};
+
+    ghost from_gives = { λ param e. e ≡ ConfigError.BadParam param };
+
+    fn from(param: Param) -> Self {
+        ConfigError::BadParam(param)
     }
 }

@@ -4,7 +4,10 @@ ghost use Rattle.esm_config.specs.Answer.{IfBad};
 ghost use Rattle.esm_config.specs.Given.{IsGiven};
 ghost use Rattle.esm_config.specs.Merge.{merge_refused, merged_of};
 
-use crate::param::ConfigError;
+use crate::given::Fields;
+use crate::judged::judged;
+use crate::param::{ConfigError, Param};
+use crate::to_json::config_members;
 use esm_model::config::Config;
 use serde_json::Value;
 use std::alloc::Global;
@@ -20,5 +23,9 @@ pub fn merge(alloc: Global, old: &Config, value: &Value) -> Result<Config, Confi
     ensures given { IfOk result (λ c. IsGiven c) }
     ensures bad { IfBad result (λ param. merge_refused old.now (view value.now) ≡ Some param) }
 {
-    Err(ConfigError::OutOfMemory)
+    let Some(members) = value.as_object() else {
+        return Err(ConfigError::BadParam(Param::Body));
+    };
+    let before = config_members(alloc, old)?;
+    judged(alloc, Fields::Update(value, before.as_slice()), members)
 }
