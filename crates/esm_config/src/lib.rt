@@ -30,3 +30,6 @@ pub use object::object_text;
 pub use param::{ConfigError, Param};
 pub use to_json::{settings, text};
 pub use update::merge;
+
+#[cfg(test)]
+mod tests;
