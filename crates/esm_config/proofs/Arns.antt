@@ -39,7 +39,7 @@ colon_then text a b h =
     split ∙ (ap (λ (p : List ℕ). p ++ (get_or text (position_or_len is_colon text) 0 ∷ after_first is_colon text)) before
     ∙ (ap (λ (c : ℕ). a ++ (c ∷ after_first is_colon text)) colon ∙ ap (λ (q : List ℕ). a ++ (58 ∷ q)) after))
 
-abbrev whole : List ℕ → Owned → List ℕ
+abbrev pub whole : List ℕ → Owned → List ℕ
 whole resource o = o.region ++ (58 ∷ (o.account ++ (58 ∷ (resource ++ o.name))))
 
 name_is : (resource region account rest : List ℕ) (n : Option (List ℕ)) (o : Owned) → strip resource rest ≡ n → owned_name region account n ≡ Some o → region ++ (58 ∷ (account ++ (58 ∷ rest))) ≡ whole resource o
@@ -71,7 +71,7 @@ kept_is {X} passes (Some p) o h =
     let t = some_of (passes p) p o h in
     (ap (λ (q : X). Some q) t.1, subst (λ (q : X). passes q ≡ true) t.1 t.0)
 
-stream_whole : (o : Owned) → codes "arn:aws:kinesis:" ++ whole (codes "stream/") o ≡ arn_of (codes "kinesis") o.region o.account (codes "stream/" ++ o.name)
+pub stream_whole : (o : Owned) → codes "arn:aws:kinesis:" ++ whole (codes "stream/") o ≡ arn_of (codes "kinesis") o.region o.account (codes "stream/" ++ o.name)
 stream_whole o = simp append_assoc
 
 stream_is : (text : List ℕ) (o : Owned) → stream_of text ≡ Some o → (is_region o.region ≡ true) × (is_account o.account ≡ true) × IsKinesisSource o.region o.account text
@@ -81,7 +81,7 @@ stream_is text o h =
     let b = and_parts (is_account o.account) (is_word is_stream_byte 1 128 o.name) a.1 in
     (a.0, b.0, (o.name, b.1, owned_is (codes "arn:aws:kinesis:") (codes "stream/") text o k.0 ∙ stream_whole o))
 
-function_whole : (o : Owned) → codes "arn:aws:lambda:" ++ whole (codes "function:") o ≡ arn_of (codes "lambda") o.region o.account (codes "function:" ++ o.name)
+pub function_whole : (o : Owned) → codes "arn:aws:lambda:" ++ whole (codes "function:") o ≡ arn_of (codes "lambda") o.region o.account (codes "function:" ++ o.name)
 function_whole o = simp append_assoc
 
 pub function_is : (text : List ℕ) (o : Owned) → function_arn_of text ≡ Some o → (is_word is_name_byte 1 64 o.name ≡ true) × IsFunctionArn o.name text
@@ -91,7 +91,7 @@ function_is text o h =
     let b = and_parts (is_account o.account) (is_word is_name_byte 1 64 o.name) a.1 in
     (b.1, (o.region, o.account, a.0, b.0, owned_is (codes "arn:aws:lambda:") (codes "function:") text o k.0 ∙ function_whole o))
 
-queue_whole : (o : Owned) → codes "arn:aws:sqs:" ++ whole [] o ≡ arn_of (codes "sqs") o.region o.account o.name
+pub queue_whole : (o : Owned) → codes "arn:aws:sqs:" ++ whole [] o ≡ arn_of (codes "sqs") o.region o.account o.name
 queue_whole o = simp append_assoc
 
 record IsQueue (arn : List ℕ) (o : Owned) : Type 0 where

@@ -1,10 +1,15 @@
 pub mod Arns
+pub mod ArnsBack
 pub mod Cuts
 pub mod Entries
+pub mod FieldsBack
 pub mod Lists
 pub mod Looking
 pub mod Members
 pub mod NoFloat
 pub mod Peeled
+pub mod ReadBack
+pub mod Round
 pub mod Telling
+pub mod TextBack
 pub mod Validity

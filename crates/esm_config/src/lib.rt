@@ -10,6 +10,7 @@ mod from_json;
 mod function;
 mod given;
 mod judged;
+mod laws;
 mod listed;
 mod member;
 mod object;
@@ -25,6 +26,7 @@ mod value;
 mod values;
 
 pub use from_json::read;
+pub use laws::text_is_read;
 pub use member::Member;
 pub use object::object_text;
 pub use param::{ConfigError, Param};

@@ -5,9 +5,12 @@ use std::alloc::Global;
 use std::test::Fail;
 
 /// The mapping of a stream, of a queue and of a FIFO queue, each without its closing brace.
-const STREAM: &str = "{\"EventSourceArn\":\"arn:aws:kinesis:us-east-1:123456789012:stream/s\",\"FunctionName\":\"f\",\"StartingPosition\":\"TRIM_HORIZON\"";
+const STREAM: &str =
+    "{\"EventSourceArn\":\"arn:aws:kinesis:us-east-1:123456789012:stream/s\",\"FunctionName\":\"f\",\"StartingPosition\":\"TRIM_HORIZON\"";
+
 const QUEUE: &str =
     "{\"EventSourceArn\":\"arn:aws:sqs:us-east-1:123456789012:q\",\"FunctionName\":\"f\"";
+
 const FIFO: &str =
     "{\"EventSourceArn\":\"arn:aws:sqs:us-east-1:123456789012:q.fifo\",\"FunctionName\":\"f\"";
 
@@ -23,58 +26,188 @@ const ROWS: [(&str, &str, Option<Param>); 42] = [
         ",\"EventSourceArn\":\"arn:aws:dynamodb:us-east-1:123456789012:table/t/stream/l\"",
         Some(Param::EventSourceArn),
     ),
-    (STREAM, ",\"FunctionName\":\"f g\",\"BatchSize\":0", Some(Param::FunctionName)),
+    (
+        STREAM,
+        ",\"FunctionName\":\"f g\",\"BatchSize\":0",
+        Some(Param::FunctionName),
+    ),
     (STREAM, ",\"Enabled\":1", Some(Param::Enabled)),
     (STREAM, ",\"BatchSize\":10000", None),
     (STREAM, ",\"BatchSize\":10001", Some(Param::BatchSize)),
     (STREAM, ",\"BatchSize\":1.0", Some(Param::BatchSize)),
     (FIFO, ",\"BatchSize\":11", Some(Param::BatchSize)),
-    (QUEUE, ",\"BatchSize\":11", Some(Param::MaximumBatchingWindowInSeconds)),
-    (QUEUE, ",\"BatchSize\":11,\"MaximumBatchingWindowInSeconds\":1", None),
-    (FIFO, ",\"MaximumBatchingWindowInSeconds\":1", Some(Param::MaximumBatchingWindowInSeconds)),
-    (STREAM, ",\"MaximumBatchingWindowInSeconds\":301", Some(Param::MaximumBatchingWindowInSeconds)),
-    (STREAM, ",\"FilterCriteria\":{\"Filters\":[{\"Pattern\":\"{\\\"data\\\":{\\\"n\\\":[1]}}\"}]}", None),
-    (STREAM, ",\"FilterCriteria\":{\"Filters\":[{\"Pattern\":\"{\\\"data\\\":[1]}\"}]}", Some(Param::FilterCriteria)),
-    (QUEUE, ",\"FilterCriteria\":{\"Filters\":[{\"Pattern\":\"{\\\"data\\\":[1]}\"}]}", None),
-    (STREAM, ",\"FilterCriteria\":{\"Filters\":[],\"More\":1}", Some(Param::FilterCriteria)),
-    (STREAM, ",\"FunctionResponseTypes\":[\"ReportBatchItemFailures\"]", None),
-    (STREAM, ",\"FunctionResponseTypes\":[\"ReportBatchItemFailures\",\"ReportBatchItemFailures\"]", Some(Param::FunctionResponseTypes)),
-    (STREAM, ",\"StartingPosition\":null", Some(Param::StartingPosition)),
-    (QUEUE, ",\"StartingPosition\":\"LATEST\"", Some(Param::StartingPosition)),
-    (STREAM, ",\"StartingPosition\":\"AT_TIMESTAMP\"", Some(Param::StartingPositionTimestamp)),
-    (STREAM, ",\"StartingPosition\":\"AT_TIMESTAMP\",\"StartingPositionTimestamp\":253402300799", None),
-    (STREAM, ",\"StartingPosition\":\"AT_TIMESTAMP\",\"StartingPositionTimestamp\":253402300800", Some(Param::StartingPositionTimestamp)),
-    (STREAM, ",\"StartingPositionTimestamp\":0", Some(Param::StartingPositionTimestamp)),
+    (
+        QUEUE,
+        ",\"BatchSize\":11",
+        Some(Param::MaximumBatchingWindowInSeconds),
+    ),
+    (
+        QUEUE,
+        ",\"BatchSize\":11,\"MaximumBatchingWindowInSeconds\":1",
+        None,
+    ),
+    (
+        FIFO,
+        ",\"MaximumBatchingWindowInSeconds\":1",
+        Some(Param::MaximumBatchingWindowInSeconds),
+    ),
+    (
+        STREAM,
+        ",\"MaximumBatchingWindowInSeconds\":301",
+        Some(Param::MaximumBatchingWindowInSeconds),
+    ),
+    (
+        STREAM,
+        ",\"FilterCriteria\":{\"Filters\":[{\"Pattern\":\"{\\\"data\\\":{\\\"n\\\":[1]}}\"}]}",
+        None,
+    ),
+    (
+        STREAM,
+        ",\"FilterCriteria\":{\"Filters\":[{\"Pattern\":\"{\\\"data\\\":[1]}\"}]}",
+        Some(Param::FilterCriteria),
+    ),
+    (
+        QUEUE,
+        ",\"FilterCriteria\":{\"Filters\":[{\"Pattern\":\"{\\\"data\\\":[1]}\"}]}",
+        None,
+    ),
+    (
+        STREAM,
+        ",\"FilterCriteria\":{\"Filters\":[],\"More\":1}",
+        Some(Param::FilterCriteria),
+    ),
+    (
+        STREAM,
+        ",\"FunctionResponseTypes\":[\"ReportBatchItemFailures\"]",
+        None,
+    ),
+    (
+        STREAM,
+        ",\"FunctionResponseTypes\":[\"ReportBatchItemFailures\",\"ReportBatchItemFailures\"]",
+        Some(Param::FunctionResponseTypes),
+    ),
+    (
+        STREAM,
+        ",\"StartingPosition\":null",
+        Some(Param::StartingPosition),
+    ),
+    (
+        QUEUE,
+        ",\"StartingPosition\":\"LATEST\"",
+        Some(Param::StartingPosition),
+    ),
+    (
+        STREAM,
+        ",\"StartingPosition\":\"AT_TIMESTAMP\"",
+        Some(Param::StartingPositionTimestamp),
+    ),
+    (
+        STREAM,
+        ",\"StartingPosition\":\"AT_TIMESTAMP\",\"StartingPositionTimestamp\":253402300799",
+        None,
+    ),
+    (
+        STREAM,
+        ",\"StartingPosition\":\"AT_TIMESTAMP\",\"StartingPositionTimestamp\":253402300800",
+        Some(Param::StartingPositionTimestamp),
+    ),
+    (
+        STREAM,
+        ",\"StartingPositionTimestamp\":0",
+        Some(Param::StartingPositionTimestamp),
+    ),
     (STREAM, ",\"ParallelizationFactor\":10", None),
-    (STREAM, ",\"ParallelizationFactor\":11", Some(Param::ParallelizationFactor)),
-    (STREAM, ",\"MaximumRetryAttempts\":10000,\"MaximumRecordAgeInSeconds\":60", None),
-    (STREAM, ",\"MaximumRetryAttempts\":-2", Some(Param::MaximumRetryAttempts)),
-    (STREAM, ",\"MaximumRecordAgeInSeconds\":59", Some(Param::MaximumRecordAgeInSeconds)),
-    (QUEUE, ",\"MaximumRecordAgeInSeconds\":-1", Some(Param::MaximumRecordAgeInSeconds)),
-    (STREAM, ",\"BisectBatchOnFunctionError\":\"true\"", Some(Param::BisectBatchOnFunctionError)),
+    (
+        STREAM,
+        ",\"ParallelizationFactor\":11",
+        Some(Param::ParallelizationFactor),
+    ),
+    (
+        STREAM,
+        ",\"MaximumRetryAttempts\":10000,\"MaximumRecordAgeInSeconds\":60",
+        None,
+    ),
+    (
+        STREAM,
+        ",\"MaximumRetryAttempts\":-2",
+        Some(Param::MaximumRetryAttempts),
+    ),
+    (
+        STREAM,
+        ",\"MaximumRecordAgeInSeconds\":59",
+        Some(Param::MaximumRecordAgeInSeconds),
+    ),
+    (
+        QUEUE,
+        ",\"MaximumRecordAgeInSeconds\":-1",
+        Some(Param::MaximumRecordAgeInSeconds),
+    ),
+    (
+        STREAM,
+        ",\"BisectBatchOnFunctionError\":\"true\"",
+        Some(Param::BisectBatchOnFunctionError),
+    ),
     (STREAM, ",\"TumblingWindowInSeconds\":900", None),
-    (STREAM, ",\"TumblingWindowInSeconds\":1,\"ParallelizationFactor\":2", Some(Param::TumblingWindowInSeconds)),
-    (STREAM, ",\"DestinationConfig\":{\"OnFailure\":{\"Destination\":\"arn:aws:sqs:us-east-1:123456789012:d\"}}", None),
-    (STREAM, ",\"DestinationConfig\":{\"OnFailure\":{\"Destination\":\"arn:aws:sns:us-east-1:123456789012:d\"}}", Some(Param::DestinationConfig)),
-    (STREAM, ",\"ScalingConfig\":{\"MaximumConcurrency\":2}", Some(Param::ScalingConfig)),
-    (QUEUE, ",\"ScalingConfig\":{\"MaximumConcurrency\":1000}", None),
-    (QUEUE, ",\"ScalingConfig\":{\"MaximumConcurrency\":1001}", Some(Param::ScalingConfig)),
-    (QUEUE, ",\"ScalingConfig\":{\"MaximumConcurrency\":1}", Some(Param::ScalingConfig)),
+    (
+        STREAM,
+        ",\"TumblingWindowInSeconds\":1,\"ParallelizationFactor\":2",
+        Some(Param::TumblingWindowInSeconds),
+    ),
+    (
+        STREAM,
+        ",\"DestinationConfig\":{\"OnFailure\":{\"Destination\":\"arn:aws:sqs:us-east-1:123456789012:d\"}}",
+        None,
+    ),
+    (
+        STREAM,
+        ",\"DestinationConfig\":{\"OnFailure\":{\"Destination\":\"arn:aws:sns:us-east-1:123456789012:d\"}}",
+        Some(Param::DestinationConfig),
+    ),
+    (
+        STREAM,
+        ",\"ScalingConfig\":{\"MaximumConcurrency\":2}",
+        Some(Param::ScalingConfig),
+    ),
+    (
+        QUEUE,
+        ",\"ScalingConfig\":{\"MaximumConcurrency\":1000}",
+        None,
+    ),
+    (
+        QUEUE,
+        ",\"ScalingConfig\":{\"MaximumConcurrency\":1001}",
+        Some(Param::ScalingConfig),
+    ),
+    (
+        QUEUE,
+        ",\"ScalingConfig\":{\"MaximumConcurrency\":1}",
+        Some(Param::ScalingConfig),
+    ),
 ];
 
-const STREAM_TEXT: &str = "{\"EventSourceArn\":\"arn:aws:kinesis:us-east-1:123456789012:stream/s\",\"FunctionName\":\"arn:aws:lambda:us-east-1:123456789012:function:f\",\"Enabled\":true,\"BatchSize\":100,\"MaximumBatchingWindowInSeconds\":0,\"FunctionResponseTypes\":[],\"StartingPosition\":\"TRIM_HORIZON\",\"ParallelizationFactor\":1,\"MaximumRetryAttempts\":-1,\"MaximumRecordAgeInSeconds\":-1,\"BisectBatchOnFunctionError\":false,\"TumblingWindowInSeconds\":0}";
+const STREAM_TEXT: &str =
+    "{\"EventSourceArn\":\"arn:aws:kinesis:us-east-1:123456789012:stream/s\",\"FunctionName\":\"arn:aws:lambda:us-east-1:123456789012:function:f\",\"Enabled\":true,\"BatchSize\":100,\"MaximumBatchingWindowInSeconds\":0,\"FunctionResponseTypes\":[],\"StartingPosition\":\"TRIM_HORIZON\",\"ParallelizationFactor\":1,\"MaximumRetryAttempts\":-1,\"MaximumRecordAgeInSeconds\":-1,\"BisectBatchOnFunctionError\":false,\"TumblingWindowInSeconds\":0}";
 
 /// Updates of a stream's mapping, each with the field that is refused.
 const UPDATES: [(&str, Option<Param>); 7] = [
     ("{}", None),
     ("{\"BatchSize\":7,\"StartingPosition\":null}", None),
-    ("{\"BatchSize\":0,\"StartingPosition\":\"LATEST\"}", Some(Param::BatchSize)),
-    ("{\"BatchSize\":7,\"StartingPosition\":\"TRIM_HORIZON\"}", Some(Param::StartingPosition)),
+    (
+        "{\"BatchSize\":0,\"StartingPosition\":\"LATEST\"}",
+        Some(Param::BatchSize),
+    ),
+    (
+        "{\"BatchSize\":7,\"StartingPosition\":\"TRIM_HORIZON\"}",
+        Some(Param::StartingPosition),
+    ),
     (
         "{\"EventSourceArn\":\"arn:aws:kinesis:us-east-1:123456789012:stream/s\",\"BatchSize\":0}",
         Some(Param::EventSourceArn),
     ),
-    ("{\"ScalingConfig\":{\"MaximumConcurrency\":2},\"Colour\":1}", Some(Param::ScalingConfig)),
+    (
+        "{\"ScalingConfig\":{\"MaximumConcurrency\":2},\"Colour\":1}",
+        Some(Param::ScalingConfig),
+    ),
     ("7", Some(Param::Body)),
 ];
 
@@ -116,7 +249,10 @@ fn judged_updates(rt: HostRuntime) -> Result<(), Fail> {
 #[test]
 fn written_mappings(rt: HostRuntime) -> Result<(), Fail> {
     let config = read(rt.alloc(), &mapping(rt.alloc(), STREAM, "")?)?;
-    assert_eq!(rt; text(rt.alloc(), &config)?.as_slice(), STREAM_TEXT.as_bytes());
+    assert_eq!(rt;
+        text(rt.alloc(), &config)?.as_slice(),
+        STREAM_TEXT.as_bytes()
+    );
     let queue = read(rt.alloc(), &mapping(rt.alloc(), FIFO, "")?)?;
     assert_eq!(rt; queue.kind, Kind::Fifo);
     assert_eq!(rt; queue.batch_size, 10);
