@@ -28,9 +28,9 @@ mod values;
 pub use from_json::read;
 pub use laws::text_is_read;
 pub use member::Member;
-pub use object::object_text;
+pub use object::{object_string, object_text};
 pub use param::{ConfigError, Param};
-pub use to_json::{settings, text};
+pub use to_json::{config_string, settings, text};
 pub use update::merge;
 
 #[cfg(test)]

@@ -1,4 +1,5 @@
 ghost use Rattle.std.specs.Prelude.{◌≡◌, false, IfOk, option_map};
+ghost use Rattle.std.specs.String.{string_bytes};
 ghost use Rattle.serde_json.specs.Data.{no_members};
 ghost use Rattle.serde_json.specs.View.{view};
 ghost use Rattle.serde_json.specs.Written.{members_have_float};
@@ -7,7 +8,7 @@ ghost use Rattle.esm_config.specs.Member.{and_members, members_of};
 ghost use Rattle.esm_config.specs.Text.{config_members, config_text, kind_settings, queue_settings, settings_of, stream_settings, with, with_some};
 
 use crate::member::Member;
-use crate::object::object_text;
+use crate::object::object_string;
 use crate::param::Param;
 use crate::values::{
     concurrency, criteria, destination, position, response_types, seconds, seconds_or_none,
@@ -134,9 +135,17 @@ pub fn config_members(alloc: Global, config: &Config) -> Result<Vec<Member>, Out
 
 /// The JSON text of the configuration: every field of its kind that has a value, defaults
 /// included, in the order of the table, the function by its full ARN.
+pub fn config_string(alloc: Global, config: &Config) -> Result<String, OutOfMemory>
+    ensures { IfOk result (λ text. string_bytes text ≡ config_text config.now) }
+{
+    let members = config_members(alloc, config)?;
+    object_string(alloc, members.as_slice())
+}
+
+/// The bytes of that text.
 pub fn text(alloc: Global, config: &Config) -> Result<Vec<u8>, OutOfMemory>
     ensures { IfOk result (λ text. text.items ≡ config_text config.now) }
 {
-    let members = config_members(alloc, config)?;
-    object_text(alloc, members.as_slice())
+    let text = config_string(alloc, config)?;
+    Ok(text.into_bytes())
 }
