@@ -1,5 +1,6 @@
 -- The leaves of an object's members, a member at a time.
 use Rattle.std.proofs.Common.{◌≡◌, ℕ, ◌<◌, ◌==◌, Bool, true, false, cond, List, length, get_or, Option, Some, None, option_map, refl, sym, ap, ◌∙◌}
+use Rattle.std.specs.Str.{bytes_eq}
 use Rattle.std.proofs.lemmas.Bool.{eqb-true, eqb-false}
 use Rattle.std.proofs.lemmas.List.{get_or-set_same, get_or-set_other}
 use Rattle.std.proofs.Math.ListN.{set}
@@ -16,7 +17,7 @@ use Rattle.esm_record.specs.Leaf.{text_in, whole_in, whole_of, IsLeafOf, leaf_at
 -- ---- a field is told by its name, and by its slot
 
 abbrev slot_by : List ℕ → ℕ
-slot_by name = cond (length name == 7) 0 (cond (length name == 14) 1 (cond (length name == 12) 2 (cond (length name == 4) 3 4)))
+slot_by name = cond (bytes_eq name (name_of field.ShardId)) 0 (cond (bytes_eq name (name_of field.SequenceNumber)) 1 (cond (bytes_eq name (name_of field.PartitionKey)) 2 (cond (bytes_eq name (name_of field.Data)) 3 (cond (bytes_eq name (name_of field.ApproximateArrivalTimestamp)) 4 (cond (bytes_eq name (name_of field.MessageId)) 5 (cond (bytes_eq name (name_of field.Body)) 6 (cond (bytes_eq name (name_of field.SentTimestamp)) 7 (8))))))))
 
 slot_by-name : (f : Field) → slot_by (name_of f) ≡ slot_of f
 slot_by-name field.ShardId = refl
@@ -24,9 +25,13 @@ slot_by-name field.SequenceNumber = refl
 slot_by-name field.PartitionKey = refl
 slot_by-name field.Data = refl
 slot_by-name field.ApproximateArrivalTimestamp = refl
+slot_by-name field.MessageId = refl
+slot_by-name field.Body = refl
+slot_by-name field.SentTimestamp = refl
+slot_by-name field.MessageGroupId = refl
 
 abbrev field_by : ℕ → Field
-field_by n = cond (n == 0) field.ShardId (cond (n == 1) field.SequenceNumber (cond (n == 2) field.PartitionKey (cond (n == 3) field.Data field.ApproximateArrivalTimestamp)))
+field_by n = cond (n == 0) field.ShardId (cond (n == 1) field.SequenceNumber (cond (n == 2) field.PartitionKey (cond (n == 3) field.Data (cond (n == 4) field.ApproximateArrivalTimestamp (cond (n == 5) field.MessageId (cond (n == 6) field.Body (cond (n == 7) field.SentTimestamp (field.MessageGroupId))))))))
 
 field_by-slot : (f : Field) → field_by (slot_of f) ≡ f
 field_by-slot field.ShardId = refl
@@ -34,6 +39,10 @@ field_by-slot field.SequenceNumber = refl
 field_by-slot field.PartitionKey = refl
 field_by-slot field.Data = refl
 field_by-slot field.ApproximateArrivalTimestamp = refl
+field_by-slot field.MessageId = refl
+field_by-slot field.Body = refl
+field_by-slot field.SentTimestamp = refl
+field_by-slot field.MessageGroupId = refl
 
 same_slot : (f g : Field) → name_of f ≡ name_of g → slot_of f ≡ slot_of g
 same_slot f g e = sym (slot_by-name f) ∙ ap slot_by e ∙ slot_by-name g

@@ -9,7 +9,7 @@ use Rattle.esm_record.specs.declared.error.BadLine.{BadLine}
 use Rattle.esm_record.specs.declared.item.LineKind.{LineKind}
 use Rattle.esm_record.specs.declared.item.Item.{Item}
 use Rattle.esm_record.specs.declared.splitter.Splitter.{Splitter}
-use Rattle.esm_record.specs.Numbers.{Follows}
+use Rattle.esm_record.specs.Seen.{Follows}
 use Rattle.esm_record.specs.Splitting.{Stands, HasRead, NoLineFeed, IsFirstLine}
 use Rattle.esm_record.specs.Input.{Input, add_line, after_line, read_after, read_lines, lines_of, ended, begun, too_long, input_so_far, input_of}
 use Rattle.esm_record.proofs.Splits.{ended_in_line, begun_in_line, ended_at_end, begun_at_end, lines_are}
@@ -34,16 +34,16 @@ add_is kind input line said none e =
 one_more_item : (xs ys zs : List Item) (item : Item) → xs ≡ ys ++ zs → xs ++ item ∷ [] ≡ ys ++ (zs ++ item ∷ [])
 one_more_item xs ys zs item e = ap (λ (l : List Item). l ++ item ∷ []) e ∙ append_assoc ys zs (item ∷ [])
 
-pub stands_item : (kind : LineKind) (input : Input) (before items : List Item) (line : List ℕ) (item : Item) (r n : Splitter) → Stands input before items r → IsNone r.bad → read_after kind input.items line ≡ Ok (Some item) → Follows (input.items ++ item ∷ []) n.last → n.bad ≡ r.bad → n.good ≡ r.good + 1 → Stands (add_line kind input line) before (items ++ item ∷ []) n
+pub stands_item : (kind : LineKind) (input : Input) (before items : List Item) (line : List ℕ) (item : Item) (r n : Splitter) → Stands input before items r → IsNone r.bad → read_after kind input.items line ≡ Ok (Some item) → Follows (input.items ++ item ∷ []) n.seen → n.bad ≡ r.bad → n.good ≡ r.good + 1 → Stands (add_line kind input line) before (items ++ item ∷ []) n
 stands_item kind input before items line item r n stands none said follows bad good =
     let P : Input → Type 0 = λ i. Stands i before (items ++ item ∷ []) n in
-    let made : P (after_line input (Ok (Some item))) = record { items = one_more_item input.items before items item stands.items; bad = stands.bad ∙ sym bad; lines = λ _. ap (λ (k : ℕ). k + 1) (stands.lines none) ∙ sym good; last = λ _. follows } in
+    let made : P (after_line input (Ok (Some item))) = record { items = one_more_item input.items before items item stands.items; bad = stands.bad ∙ sym bad; lines = λ _. ap (λ (k : ℕ). k + 1) (stands.lines none) ∙ sym good; seen = λ _. follows } in
     subst P (sym (add_is kind input line (Ok (Some item)) (stands.bad ∙ none_is r.bad none) said)) made
 
-pub stands_blank : (kind : LineKind) (input : Input) (before items : List Item) (line : List ℕ) (r n : Splitter) → Stands input before items r → IsNone r.bad → read_after kind input.items line ≡ Ok None → Follows input.items n.last → n.bad ≡ r.bad → n.good ≡ r.good + 1 → Stands (add_line kind input line) before items n
+pub stands_blank : (kind : LineKind) (input : Input) (before items : List Item) (line : List ℕ) (r n : Splitter) → Stands input before items r → IsNone r.bad → read_after kind input.items line ≡ Ok None → Follows input.items n.seen → n.bad ≡ r.bad → n.good ≡ r.good + 1 → Stands (add_line kind input line) before items n
 stands_blank kind input before items line r n stands none said follows bad good =
     let P : Input → Type 0 = λ i. Stands i before items n in
-    let made : P (after_line input (Ok None)) = record { items = stands.items; bad = stands.bad ∙ sym bad; lines = λ _. ap (λ (k : ℕ). k + 1) (stands.lines none) ∙ sym good; last = λ _. follows } in
+    let made : P (after_line input (Ok None)) = record { items = stands.items; bad = stands.bad ∙ sym bad; lines = λ _. ap (λ (k : ℕ). k + 1) (stands.lines none) ∙ sym good; seen = λ _. follows } in
     subst P (sym (add_is kind input line (Ok None) (stands.bad ∙ none_is r.bad none) said)) made
 
 abbrev bad_line : ℕ → LineError → BadLine
@@ -53,7 +53,7 @@ pub stands_bad : (kind : LineKind) (input : Input) (before items : List Item) (l
 stands_bad kind input before items line why r n stands none said bad =
     let P : Input → Type 0 = λ i. Stands i before items n in
     let same : Some (bad_line (input.lines + 1) why) ≡ Some (bad_line (r.good + 1) why) = ap (λ (k : ℕ). Some (bad_line (k + 1) why)) (stands.lines none) in
-    let made : P (after_line input (Err why)) = record { items = stands.items; bad = same ∙ sym bad; lines = not_none n.bad (bad_line (r.good + 1) why) bad; last = not_none n.bad (bad_line (r.good + 1) why) bad } in
+    let made : P (after_line input (Err why)) = record { items = stands.items; bad = same ∙ sym bad; lines = not_none n.bad (bad_line (r.good + 1) why) bad; seen = not_none n.bad (bad_line (r.good + 1) why) bad } in
     subst P (sym (add_is kind input line (Err why) (stands.bad ∙ none_is r.bad none) said)) made
 
 -- ---- bytes
@@ -97,8 +97,8 @@ line_read bytes rest before items after r n read none in_line kind stands ended 
     }
 
 -- the reader goes on within a line
-pub more_read : (bytes more : List ℕ) (before items : List Item) (r n : Splitter) → HasRead bytes before items r → IsNone r.bad → NoLineFeed more → n.kind ≡ r.kind → n.bad ≡ r.bad → n.good ≡ r.good → n.last ≡ r.last → n.begun.items ≡ r.begun.items ++ more → length n.begun.items ≤ 8388608 → HasRead (bytes ++ more) before items n
-more_read bytes more before items r n read none in_line kind bad good last begun_is short =
+pub more_read : (bytes more : List ℕ) (before items : List Item) (r n : Splitter) → HasRead bytes before items r → IsNone r.bad → NoLineFeed more → n.kind ≡ r.kind → n.bad ≡ r.bad → n.good ≡ r.good → n.seen ≡ r.seen → n.begun.items ≡ r.begun.items ++ more → length n.begun.items ≤ 8388608 → HasRead (bytes ++ more) before items n
+more_read bytes more before items r n read none in_line kind bad good seen begun_is short =
     let front : begun (lines_of (bytes ++ more)) ≡ n.begun.items = begun_in_line bytes more in_line ∙ ap (λ (line : List ℕ). line ++ more) (read.line none) ∙ sym begun_is in
     let same : input_so_far n.kind (bytes ++ more) ≡ input_so_far r.kind bytes =
     ap (λ (k : LineKind). input_so_far k (bytes ++ more)) kind
@@ -110,7 +110,7 @@ more_read bytes more before items r n read none in_line kind bad good last begun
       items = read.stands.items;
       bad = read.stands.bad ∙ sym bad;
       lines = λ _. read.stands.lines none ∙ sym good;
-      last = λ _. let Q : _ → Type 0 = λ m. Follows (input_so_far r.kind bytes).items m in subst Q (sym last) (read.stands.last none);
+      seen = λ _. let Q : _ → Type 0 = λ s. Follows (input_so_far r.kind bytes).items s in subst Q (sym seen) (read.stands.seen none);
     } in
     record { stands = subst P (sym same) moved; line = λ _. front; short = λ _. short }
 

@@ -18,7 +18,10 @@ use Rattle.serde_json.specs.Find.{get, as_str, as_number, as_u64}
 use Rattle.esm_model.specs.declared.moment.TheConstants.{MAX_MOMENT}
 use Rattle.esm_model.specs.declared.limits.TheConstants.{MAX_DATA}
 use Rattle.esm_model.specs.Valid.{IsValidRecord, is_between, char_count}
+use Rattle.esm_model.specs.ValidMessage.{is_message_id, is_message_body, is_message_group, is_group_of, IsValidMessage}
+use Rattle.esm_model.specs.declared.config.Kind.TheVariants.{Standard, Fifo}
 use Rattle.esm_model.specs.declared.item.Record.{Record}
+use Rattle.esm_model.specs.declared.item.Message.{Message}
 use Rattle.esm_record.specs.declared.error.Field.{Field}
 use Rattle.esm_record.specs.declared.error.Field.TheVariants as field
 use Rattle.esm_record.specs.declared.error.LineError.{LineError}
@@ -26,9 +29,9 @@ use Rattle.esm_record.specs.declared.error.LineError.TheVariants.{NotJson, BadFi
 use Rattle.esm_record.specs.declared.item.LineKind.{LineKind}
 use Rattle.esm_record.specs.declared.item.LineKind.TheVariants as kinds
 use Rattle.esm_record.specs.declared.item.Item.{Item}
-use Rattle.esm_record.specs.declared.item.Item.TheVariants.{Stream}
-use Rattle.esm_record.specs.Line.{◌>>=◌, only_if, is_shard_id, shard_number, sequence_number, partition_key, payload_within, payload, moment_within, moment, of_text, judged, name_of, field_of, object_of, record_of, line_of}
-use Rattle.esm_record.specs.Input.{is_blank, in_order, next_record, stream_item, item_of, read_after, last_number, Input, nothing_read, after_line, add_line, read_lines, lines_of, ended, begun, too_long, input_so_far, input_of, IsValidItem}
+use Rattle.esm_record.specs.declared.item.Item.TheVariants.{Stream, Queue}
+use Rattle.esm_record.specs.Line.{◌>>=◌, only_if, is_shard_id, shard_number, sequence_number, partition_key, payload_within, payload, moment_within, moment, of_text, judged, name_of, field_of, object_of, record_of, message_id, message_body, message_group, some_group, group_of, message_of, line_of}
+use Rattle.esm_record.specs.Input.{is_blank, in_order, next_record, as_new, next_message, has_stood, some_item, item_of, queue_kind, read_after, last_number, Input, nothing_read, after_line, add_line, read_lines, lines_of, ended, begun, too_long, input_so_far, input_of, IsValidItem}
 use Rattle.esm_record.proofs.Digits.{all_digits}
 
 bind_ok : {A B : Type 0} (x : Result A LineError) (f : A → Result B LineError) (y : B) → (x >>= f) ≡ Ok y → (a : A) × (x ≡ Ok a) × (f a ≡ Ok y)
@@ -116,6 +119,39 @@ record_valid line r e =
     let P : Record → Type 0 = λ x. IsValidRecord x in
     subst P same valid
 
+text_valid : (test : List ℕ → Bool) (name : Field) (line : Data) (v : List ℕ) → field_of name (of_text (λ text. only_if (test text) text)) line ≡ Ok v → test v ≡ true
+text_valid test name line v e = let text = text_field name (λ text. only_if (test text) text) line v e in passes test text.0 v text.1
+
+message_is : (x y : Message) → (let made : Result Message LineError = Ok x in made ≡ Ok y) → x ≡ y
+message_is x y e = cc
+
+some_group_is : (said : Result (List ℕ) LineError) (v : Option (List ℕ)) → some_group said ≡ Ok v → (text : List ℕ) × (said ≡ Ok text) × (v ≡ Some text)
+some_group_is (Ok text) v e = (text, refl, cc)
+some_group_is (Err why) v e = absurd cc
+
+group_valid : (fifo : Bool) (line : Data) (v : Option (List ℕ)) → group_of fifo line ≡ Ok v → is_group_of (queue_kind fifo) v ≡ true
+group_valid true line v e =
+    let said = some_group_is (field_of field.MessageGroupId (of_text message_group) line) v e in
+    ap (is_group_of Fifo) said.2 ∙ text_valid is_message_group field.MessageGroupId line said.0 said.1
+group_valid false line v e = let none : v ≡ None = cc in ap (is_group_of Standard) none
+
+message_valid : (fifo : Bool) (line : Data) (m : Message) → message_of fifo line ≡ Ok m → IsValidMessage (queue_kind fifo) m
+message_valid fifo line m e =
+    let a = bind_ok (field_of field.MessageId (of_text message_id) line) (λ id. field_of field.Body (of_text message_body) line >>= λ body. field_of field.SentTimestamp moment line >>= λ sent. group_of fifo line >>= λ group. Ok (record { id = id; group = group; body = body; sent = sent })) m e in
+    let b = bind_ok (field_of field.Body (of_text message_body) line) (λ body. field_of field.SentTimestamp moment line >>= λ sent. group_of fifo line >>= λ group. Ok (record { id = a.0; group = group; body = body; sent = sent })) m a.2 in
+    let c = bind_ok (field_of field.SentTimestamp moment line) (λ sent. group_of fifo line >>= λ group. Ok (record { id = a.0; group = group; body = b.0; sent = sent })) m b.2 in
+    let d = bind_ok (group_of fifo line) (λ group. Ok (record { id = a.0; group = group; body = b.0; sent = c.0 })) m c.2 in
+    let sent = judged_some field.SentTimestamp moment (get (name_of field.SentTimestamp) line) c.0 c.1 in
+    let made : Message = record { id = a.0; group = d.0; body = b.0; sent = c.0 } in
+    let valid : IsValidMessage (queue_kind fifo) made = record {
+      id = text_valid is_message_id field.MessageId line a.0 a.1;
+      body = text_valid is_message_body field.Body line b.0 b.1;
+      sent = moment_valid (option_and_then as_u64 (as_number sent.0)) c.0 sent.1;
+      group = group_valid fifo line d.0 d.1;
+    } in
+    let P : Message → Type 0 = λ x. IsValidMessage (queue_kind fifo) x in
+    subst P (message_is made m d.2) valid
+
 ordered : (b : Bool) (r s : Record) (why : LineError) → cond b (Ok r) (Err why) ≡ Ok s → r ≡ s
 ordered true r s why e = cc
 ordered false r s why e = absurd cc
@@ -126,63 +162,81 @@ in_order_same (Some kept) r s e = ordered (is_lt (sequence_order kept r.seq)) r 
 
 next_valid : (last : ℕ → Option (List ℕ)) (line : List ℕ) (r : Record) → next_record last line ≡ Ok r → IsValidRecord r
 next_valid last line r e =
-    let a = bind_ok (line_of line) (λ x. in_order (last x.shard) x) r e in
+    let a = bind_ok (line_of record_of line) (λ x. in_order (last x.shard) x) r e in
     let b = bind_ok (ok_or (object_of line) NotJson) record_of a.0 a.1 in
     let P : Record → Type 0 = λ x. IsValidRecord x in
     subst P (in_order_same (last a.0.shard) a.0 r a.2) (record_valid b.0 a.0 b.2)
 
-stream_valid : (reading : Result Record LineError) (item : Item) → ((r : Record) → reading ≡ Ok r → IsValidRecord r) → stream_item reading ≡ Ok (Some item) → IsValidItem item
-stream_valid (Err why) item valid e = absurd cc
-stream_valid (Ok r) item valid e =
-    let same : Stream r ≡ item = cc in
-    let P : Item → Type 0 = λ x. IsValidItem x in
-    subst P same (valid r refl)
+as_new_same : (stood : Bool) (m n : Message) → as_new stood m ≡ Ok n → m ≡ n
+as_new_same true m n e = absurd cc
+as_new_same false m n e = cc
+
+next_message_valid : (stood : List ℕ → Bool) (fifo : Bool) (line : List ℕ) (m : Message) → next_message stood fifo line ≡ Ok m → IsValidMessage (queue_kind fifo) m
+next_message_valid stood fifo line m e =
+    let a = bind_ok (line_of (message_of fifo) line) (λ x. as_new (stood x.id) x) m e in
+    let b = bind_ok (ok_or (object_of line) NotJson) (message_of fifo) a.0 a.1 in
+    let P : Message → Type 0 = λ x. IsValidMessage (queue_kind fifo) x in
+    subst P (as_new_same (stood a.0.id) a.0 m a.2) (message_valid fifo b.0 a.0 b.2)
+
+some_valid : {A : Type 0} (make : A → Item) (kind : LineKind) (reading : Result A LineError) (item : Item) → ((x : A) → reading ≡ Ok x → IsValidItem kind (make x)) → some_item make reading ≡ Ok (Some item) → IsValidItem kind item
+some_valid make kind (Err why) item valid e = absurd cc
+some_valid make kind (Ok x) item valid e =
+    let same : make x ≡ item = cc in
+    let P : Item → Type 0 = λ i. IsValidItem kind i in
+    subst P same (valid x refl)
 
 two_tests : (a b : Bool) (why : LineError) (x : Result (Option Item) LineError) (item : Item) → cond a (Err why) (cond b (Ok None) x) ≡ Ok (Some item) → x ≡ Ok (Some item)
 two_tests true b why x item e = absurd cc
 two_tests false true why x item e = absurd cc
 two_tests false false why x item e = e
 
-said_valid : (kind : LineKind) (items : List Item) (line : List ℕ) (item : Item) → read_after kind items line ≡ Ok (Some item) → IsValidItem item
-said_valid kinds.Stream items line item e =
-    let said = two_tests (ltb 8388608 (length line)) (is_blank line) LineTooLong (item_of kinds.Stream items line) item e in
-    stream_valid (next_record (λ shard. last_number shard items) line) item (next_valid (λ shard. last_number shard items) line) said
+item_valid : (kind : LineKind) (items : List Item) (line : List ℕ) (item : Item) → item_of kind items line ≡ Ok (Some item) → IsValidItem kind item
+item_valid kinds.Stream items line item e =
+    let last : ℕ → Option (List ℕ) = λ shard. last_number shard items in
+    some_valid Stream kinds.Stream (next_record last line) item (next_valid last line) e
+item_valid (kinds.Queue fifo) items line item e =
+    let stood : List ℕ → Bool = λ id. has_stood id items in
+    some_valid Queue (kinds.Queue fifo) (next_message stood fifo line) item (next_message_valid stood fifo line) e
 
-abbrev AllValid : List Item → Type 0
-AllValid items = AllByRecursion IsValidItem items
+said_valid : (kind : LineKind) (items : List Item) (line : List ℕ) (item : Item) → read_after kind items line ≡ Ok (Some item) → IsValidItem kind item
+said_valid kind items line item e =
+    item_valid kind items line item (two_tests (ltb 8388608 (length line)) (is_blank line) LineTooLong (item_of kind items line) item e)
 
-push_valid : (items : List Item) (item : Item) → AllValid items → IsValidItem item → AllValid (items ++ item ∷ [])
-push_valid [] item all valid = (valid, tt)
-push_valid (x ∷ xs) item all valid = (all.0, push_valid xs item all.1 valid)
+abbrev AllValid : LineKind → List Item → Type 0
+AllValid kind items = AllByRecursion (IsValidItem kind) items
 
-after_valid : (input : Input) (said : Result (Option Item) LineError) → ((item : Item) → said ≡ Ok (Some item) → IsValidItem item) → AllValid input.items → AllValid (after_line input said).items
-after_valid input (Ok None) valid all = all
-after_valid input (Ok (Some item)) valid all = push_valid input.items item all (valid item refl)
-after_valid input (Err why) valid all = all
+push_valid : (kind : LineKind) (items : List Item) (item : Item) → AllValid kind items → IsValidItem kind item → AllValid kind (items ++ item ∷ [])
+push_valid kind [] item all valid = (valid, tt)
+push_valid kind (x ∷ xs) item all valid = (all.0, push_valid kind xs item all.1 valid)
 
-either_valid : (b : Bool) (x y : Input) → AllValid x.items → AllValid y.items → AllValid (cond b x y).items
-either_valid true x y p q = p
-either_valid false x y p q = q
+after_valid : (kind : LineKind) (input : Input) (said : Result (Option Item) LineError) → ((item : Item) → said ≡ Ok (Some item) → IsValidItem kind item) → AllValid kind input.items → AllValid kind (after_line input said).items
+after_valid kind input (Ok None) valid all = all
+after_valid kind input (Ok (Some item)) valid all = push_valid kind input.items item all (valid item refl)
+after_valid kind input (Err why) valid all = all
 
-lines_valid : (kind : LineKind) (input : Input) (ls : List (List ℕ)) → AllValid input.items → AllValid (fold (add_line kind) input ls).items
+either_valid : (kind : LineKind) (b : Bool) (x y : Input) → AllValid kind x.items → AllValid kind y.items → AllValid kind (cond b x y).items
+either_valid kind true x y p q = p
+either_valid kind false x y p q = q
+
+lines_valid : (kind : LineKind) (input : Input) (ls : List (List ℕ)) → AllValid kind input.items → AllValid kind (fold (add_line kind) input ls).items
 lines_valid kind input [] all = all
 lines_valid kind input (line ∷ ls) all =
-    lines_valid kind (add_line kind input line) ls (either_valid (is_some input.bad) input (after_line input (read_after kind input.items line)) all (after_valid input (read_after kind input.items line) (said_valid kind input.items line) all))
+    lines_valid kind (add_line kind input line) ls (either_valid kind (is_some input.bad) input (after_line input (read_after kind input.items line)) all (after_valid kind input (read_after kind input.items line) (said_valid kind input.items line) all))
 
-rest_valid : (front items : List Item) → AllValid (front ++ items) → AllValid items
-rest_valid [] items all = all
-rest_valid (x ∷ front) items all = rest_valid front items all.1
+rest_valid : (kind : LineKind) (front items : List Item) → AllValid kind (front ++ items) → AllValid kind items
+rest_valid kind [] items all = all
+rest_valid kind (x ∷ front) items all = rest_valid kind front items all.1
 
 -- what a call gives of the items of these lines
-pub given_valid : (kind : LineKind) (ls : List (List ℕ)) (before given : List Item) → before ++ given ≡ (read_lines kind ls).items → All IsValidItem given
+pub given_valid : (kind : LineKind) (ls : List (List ℕ)) (before given : List Item) → before ++ given ≡ (read_lines kind ls).items → All (IsValidItem kind) given
 given_valid kind ls before given e =
-    let P : List Item → Type 0 = λ items. AllValid items in
-    All-from_recursion IsValidItem given (rest_valid before given (subst P (sym e) (lines_valid kind nothing_read ls tt)))
+    let P : List Item → Type 0 = λ items. AllValid kind items in
+    All-from_recursion (IsValidItem kind) given (rest_valid kind before given (subst P (sym e) (lines_valid kind nothing_read ls tt)))
 
-pub so_far_valid : (kind : LineKind) (bytes : List ℕ) (before given : List Item) → (input_so_far kind bytes).items ≡ before ++ given → All IsValidItem given
+pub so_far_valid : (kind : LineKind) (bytes : List ℕ) (before given : List Item) → (input_so_far kind bytes).items ≡ before ++ given → All (IsValidItem kind) given
 unfolding input_so_far
 so_far_valid kind bytes before given e = given_valid kind (ended (lines_of bytes) ++ too_long (begun (lines_of bytes))) before given (sym e)
 
-pub whole_valid : (kind : LineKind) (bytes : List ℕ) (before given : List Item) → (input_of kind bytes).items ≡ before ++ given → All IsValidItem given
+pub whole_valid : (kind : LineKind) (bytes : List ℕ) (before given : List Item) → (input_of kind bytes).items ≡ before ++ given → All (IsValidItem kind) given
 unfolding input_of
 whole_valid kind bytes before given e = given_valid kind (lines_of bytes) before given (sym e)

@@ -1,20 +1,26 @@
 -- The items of an input, and its first bad line. Sources: JSON Lines for the lines; the Kinesis API Reference,
--- `SequenceNumber` (numbers of a shard grow); the limit of a line and the names of the refusals are this product's own.
-use Rattle.std.specs.Prelude.{ℕ, ◌+◌, ◌==◌, nat_lt, Bool, ◌||◌, List, [], ◌∷◌, ◌++◌, length, fold, Option, Some, None, is_some, Result, Ok, Err, if◌then◌else◌}
-use Rattle.std.specs.List.{list_all, slice_split}
+-- `SequenceNumber` (numbers of a shard grow); the SQS API Reference, `MessageId` (a queue's ids differ); the limit of a
+-- line and the names of the refusals are this product's own.
+use Rattle.std.specs.Prelude.{ℕ, ◌+◌, ◌==◌, nat_lt, Bool, false, ◌||◌, List, [], ◌∷◌, ◌++◌, length, fold, Option, Some, None, is_some, Result, Ok, Err, if◌then◌else◌}
+use Rattle.std.specs.List.{list_all, list_any, slice_split}
+use Rattle.std.specs.Str.{bytes_eq}
 use Rattle.std.specs.Ordering.{is_lt}
 use Rattle.esm_model.specs.declared.limits.TheConstants.{MAX_LINE}
 use Rattle.esm_model.specs.Sequence.{sequence_order}
 use Rattle.esm_model.specs.Valid.{IsValidRecord}
+use Rattle.esm_model.specs.ValidMessage.{IsValidMessage}
+use Rattle.esm_model.specs.declared.config.Kind.{Kind}
+use Rattle.esm_model.specs.declared.config.Kind.TheVariants.{Standard, Fifo}
 use Rattle.esm_model.specs.declared.item.Record.{Record}
+use Rattle.esm_model.specs.declared.item.Message.{Message}
 use Rattle.esm_record.specs.declared.error.LineError.{LineError}
-use Rattle.esm_record.specs.declared.error.LineError.TheVariants.{LineTooLong, Backwards}
+use Rattle.esm_record.specs.declared.error.LineError.TheVariants.{LineTooLong, Backwards, Repeated}
 use Rattle.esm_record.specs.declared.error.BadLine.{BadLine}
 use Rattle.esm_record.specs.declared.item.LineKind.{LineKind}
 use Rattle.esm_record.specs.declared.item.LineKind.TheVariants as kinds
 use Rattle.esm_record.specs.declared.item.Item.{Item}
-use Rattle.esm_record.specs.declared.item.Item.TheVariants.{Stream}
-use Rattle.esm_record.specs.Line.{◌>>=◌, line_of}
+use Rattle.esm_record.specs.declared.item.Item.TheVariants.{Stream, Queue}
+use Rattle.esm_record.specs.Line.{◌>>=◌, line_of, record_of, message_of}
 
 abbrev pub is_line_feed : ℕ → Bool
 is_line_feed b = b == 10
@@ -45,6 +51,7 @@ begun (line ∷ next ∷ more) = begun (next ∷ more)
 -- the last sequence number of the shard, by the items in order
 abbrev pub number_after : ℕ → Option (List ℕ) → Item → Option (List ℕ)
 number_after shard last (Stream r) = if r.shard == shard then Some r.seq else last
+number_after shard last (Queue m) = last
 
 abbrev pub last_number : ℕ → List Item → Option (List ℕ)
 last_number shard items = fold (number_after shard) None items
@@ -56,15 +63,33 @@ in_order (Some kept) r = if is_lt (sequence_order kept r.seq) then Ok r else Err
 
 -- the record of a line, where these are the shards' last numbers
 abbrev pub next_record : (ℕ → Option (List ℕ)) → List ℕ → Result Record LineError
-next_record last line = line_of line >>= λ r. in_order (last r.shard) r
+next_record last line = line_of record_of line >>= λ r. in_order (last r.shard) r
 
-abbrev pub stream_item : Result Record LineError → Result (Option Item) LineError
-stream_item (Ok r) = Ok (Some (Stream r))
-stream_item (Err why) = Err why
+-- the item is a message of this id
+abbrev pub has_id : List ℕ → Item → Bool
+has_id id (Stream r) = false
+has_id id (Queue m) = bytes_eq m.id id
+
+-- the id stood before
+abbrev pub has_stood : List ℕ → List Item → Bool
+has_stood id items = list_any (has_id id) items
+
+-- a message's id did not stand before
+abbrev pub as_new : Bool → Message → Result Message LineError
+as_new stood m = if stood then Err (Repeated m.id) else Ok m
+
+-- the message of a line, where these ids stood before; whether the queue is FIFO
+abbrev pub next_message : (List ℕ → Bool) → Bool → List ℕ → Result Message LineError
+next_message stood fifo line = line_of (message_of fifo) line >>= λ m. as_new (stood m.id) m
+
+abbrev pub some_item : {A : Type 0} → (A → Item) → Result A LineError → Result (Option Item) LineError
+some_item make (Ok x) = Ok (Some (make x))
+some_item make (Err why) = Err why
 
 -- the item of a line that is neither blank nor too long, after these items
 abbrev pub item_of : LineKind → List Item → List ℕ → Result (Option Item) LineError
-item_of kinds.Stream items line = stream_item (next_record (λ shard. last_number shard items) line)
+item_of kinds.Stream items line = some_item Stream (next_record (λ shard. last_number shard items) line)
+item_of (kinds.Queue fifo) items line = some_item Queue (next_message (λ id. has_stood id items) fifo line)
 
 -- what a line says after these items: nothing where it is blank, its item, or why it is refused
 abbrev pub read_after : LineKind → List Item → List ℕ → Result (Option Item) LineError
@@ -105,8 +130,14 @@ too_long line = if nat_lt MAX_LINE (length line) then line ∷ [] else []
 unfoldable pub input_so_far : LineKind → List ℕ → Input
 input_so_far kind bytes = read_lines kind (ended (lines_of bytes) ++ too_long (begun (lines_of bytes)))
 
-abbrev pub IsValidItem : Item → Type 0
-IsValidItem (Stream r) = IsValidRecord r
+abbrev pub queue_kind : Bool → Kind
+queue_kind fifo = if fifo then Fifo else Standard
+
+-- an item of lines of this kind, whose fields have the values of that kind
+abbrev pub IsValidItem : LineKind → Item → Type 0
+IsValidItem kinds.Stream (Stream r) = IsValidRecord r
+IsValidItem (kinds.Queue fifo) (Queue m) = IsValidMessage (queue_kind fifo) m
+IsValidItem _ _ = ⊥
 
 -- what a reader of lines was fed
 pub record Feeding : Type 0 where

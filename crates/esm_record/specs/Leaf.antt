@@ -1,5 +1,5 @@
 -- What the fields of a line look at in the members of an object. Only private contracts cite this.
-use Rattle.std.specs.Prelude.{◌≡◌, ℕ, Bool, true, false, List, [], ◌∷◌, length, get_or, Option, Some, None, option_map, option_and_then, MatchOption, Result, Ok, Err}
+use Rattle.std.specs.Prelude.{◌≡◌, ℕ, Bool, true, false, List, [], ◌∷◌, length, get_or, Option, Some, None, option_map, option_and_then, MatchOption, MatchResult, Result, Ok, Err}
 use Rattle.std.specs.Option.{ok_or}
 use Rattle.json.specs.Token.{Token}
 use Rattle.json.specs.Token as token
@@ -8,14 +8,17 @@ use Rattle.serde_json.specs.Data.{Data, object, Items, Members, no_members}
 use Rattle.serde_json.specs.Find.{get_member, as_str, as_number, as_u64}
 use Rattle.serde_json.specs.Read.{of_json, of_items, of_members, converted}
 use Rattle.esm_model.specs.declared.item.Record.{Record}
+use Rattle.esm_model.specs.declared.item.Message.{Message}
 use Rattle.esm_record.specs.declared.error.Field.{Field}
 use Rattle.esm_record.specs.declared.error.Field.TheVariants as field
 use Rattle.esm_record.specs.declared.error.LineError.{LineError}
-use Rattle.esm_record.specs.declared.error.LineError.TheVariants.{Missing, BadField}
+use Rattle.esm_record.specs.declared.error.LineError.TheVariants.{NotJson, Missing, BadField}
+use Rattle.esm_record.specs.declared.error.Refusal.{Refusal}
 use Rattle.esm_record.specs.declared.object.Leaf.{Leaf}
 use Rattle.esm_record.specs.declared.object.Leaf.TheVariants as leaf
 use Rattle.esm_record.specs.declared.object.Found.{Found}
-use Rattle.esm_record.specs.Line.{◌>>=◌, name_of, slot_of, only_object, shard_number, sequence_number, partition_key, payload, moment_within}
+use Rattle.esm_record.specs.Gives.{Fails}
+use Rattle.esm_record.specs.Line.{◌>>=◌, name_of, slot_of, only_object, object_of, shard_number, sequence_number, partition_key, payload, moment_within, message_id, message_body, message_group, some_group}
 
 abbrev pub text_in : Leaf → Option (List ℕ)
 text_in (leaf.Text s) = Some s.now
@@ -85,6 +88,10 @@ pub record ReadsMembers (depth : ℕ) (old : List Token) (found : Found) (new : 
 abbrev pub IsObjectRead : Option Data → Option Found → Type 0
 IsObjectRead d o = MatchOption o (only_object d ≡ None) (λ found. (ms : Members) × (d ≡ Some (object ms)) × AreFound ms found)
 
+-- the members of the object that the line is, or why it is none
+abbrev pub IsObjectOf : List ℕ → Result Found Refusal → Type 0
+IsObjectOf line r = MatchResult r (λ found. (ms : Members) × (object_of line ≡ Some (object ms)) × AreFound ms found) (λ e. Fails e (ok_or (object_of line) NotJson))
+
 abbrev pub field_in : {A : Type 0} → Field → (Leaf → Option A) → Option Leaf → Result A LineError
 field_in name reading None = Err (Missing name)
 field_in name reading (Some l) = ok_or (reading l) (BadField name)
@@ -104,3 +111,15 @@ record_in f = do
   payload ← field_in field.Data (of_text_in payload) (leaf_at field.Data f)
   arrival ← field_in field.ApproximateArrivalTimestamp moment_in (leaf_at field.ApproximateArrivalTimestamp f)
   Ok (record { shard = shard; seq = seq; key = key; payload = payload; arrival = arrival })
+
+abbrev pub group_in : Bool → Found → Result (Option (List ℕ)) LineError
+group_in true f = some_group (field_in field.MessageGroupId (of_text_in message_group) (leaf_at field.MessageGroupId f))
+group_in false f = Ok None
+
+abbrev pub message_in : Bool → Found → Result Message LineError
+message_in fifo f = do
+  id ← field_in field.MessageId (of_text_in message_id) (leaf_at field.MessageId f)
+  body ← field_in field.Body (of_text_in message_body) (leaf_at field.Body f)
+  sent ← field_in field.SentTimestamp moment_in (leaf_at field.SentTimestamp f)
+  group ← group_in fifo f
+  Ok (record { id = id; group = group; body = body; sent = sent })

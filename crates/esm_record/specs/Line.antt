@@ -1,5 +1,6 @@
--- One line of a stream's input. Sources: the Kinesis API Reference, `Record` (`SequenceNumber`, `PartitionKey` of 1 to
--- 256 characters, `Data` of at most 1 MB in base64, `ApproximateArrivalTimestamp`) and `ShardId`; that a record stands
+-- One line of an input. Sources: the Kinesis API Reference, `Record` (`SequenceNumber`, `PartitionKey` of 1 to 256
+-- characters, `Data` of at most 1 MB in base64, `ApproximateArrivalTimestamp`) and `ShardId`; the SQS API Reference,
+-- `Message` (`MessageId`, `Body`, the attributes `SentTimestamp` and `MessageGroupId`); that a record or a message stands
 -- on one line under these names is this product's own.
 use Rattle.std.specs.Prelude.{ℕ, ◌==◌, nat_eq, nat_le, Bool, true, false, ◌&&◌, List, length, drop, codes, Option, Some, None, option_and_then, Result, Ok, Err, is_some, if◌then◌else◌}
 use Rattle.std.specs.List.{list_all, starts_with}
@@ -17,7 +18,9 @@ use Rattle.esm_model.specs.declared.limits.TheConstants.{MAX_DATA}
 use Rattle.esm_model.specs.declared.moment.TheConstants.{MAX_MOMENT}
 use Rattle.esm_model.specs.Sequence.{is_sequence}
 use Rattle.esm_model.specs.Valid.{is_between, char_count}
+use Rattle.esm_model.specs.ValidMessage.{is_message_id, is_message_body, is_message_group}
 use Rattle.esm_model.specs.declared.item.Record.{Record}
+use Rattle.esm_model.specs.declared.item.Message.{Message}
 use Rattle.esm_record.specs.declared.error.Field.{Field}
 use Rattle.esm_record.specs.declared.error.Field.TheVariants as field
 use Rattle.esm_record.specs.declared.error.LineError.{LineError}
@@ -64,6 +67,15 @@ moment_within (Some n) = only_if (nat_le n MAX_MOMENT) n
 abbrev pub moment : Data → Option ℕ
 moment value = moment_within (option_and_then as_u64 (as_number value))
 
+abbrev pub message_id : List ℕ → Option (List ℕ)
+message_id text = only_if (is_message_id text) text
+
+abbrev pub message_body : List ℕ → Option (List ℕ)
+message_body text = only_if (is_message_body text) text
+
+abbrev pub message_group : List ℕ → Option (List ℕ)
+message_group text = only_if (is_message_group text) text
+
 abbrev pub of_text : {A : Type 0} → (List ℕ → Option A) → Data → Option A
 of_text reading value = option_and_then reading (as_str value)
 
@@ -73,6 +85,10 @@ name_of field.SequenceNumber = codes "sequenceNumber"
 name_of field.PartitionKey = codes "partitionKey"
 name_of field.Data = codes "data"
 name_of field.ApproximateArrivalTimestamp = codes "approximateArrivalTimestamp"
+name_of field.MessageId = codes "messageId"
+name_of field.Body = codes "body"
+name_of field.SentTimestamp = codes "sentTimestamp"
+name_of field.MessageGroupId = codes "messageGroupId"
 
 -- its place among the fields
 abbrev pub slot_of : Field → ℕ
@@ -81,6 +97,10 @@ slot_of field.SequenceNumber = 1
 slot_of field.PartitionKey = 2
 slot_of field.Data = 3
 slot_of field.ApproximateArrivalTimestamp = 4
+slot_of field.MessageId = 5
+slot_of field.Body = 6
+slot_of field.SentTimestamp = 7
+slot_of field.MessageGroupId = 8
 
 -- what the field says: it is there, and its value reads
 abbrev pub judged : {A : Type 0} → Field → (Data → Option A) → Option Data → Result A LineError
@@ -100,6 +120,24 @@ record_of line = do
   arrival ← field_of field.ApproximateArrivalTimestamp moment line
   Ok (record { shard = shard; seq = seq; key = key; payload = payload; arrival = arrival })
 
+abbrev pub some_group : Result (List ℕ) LineError → Result (Option (List ℕ)) LineError
+some_group (Ok group) = Ok (Some group)
+some_group (Err why) = Err why
+
+-- a FIFO queue's message has a group; that of a standard queue is ignored
+abbrev pub group_of : Bool → Data → Result (Option (List ℕ)) LineError
+group_of true line = some_group (field_of field.MessageGroupId (of_text message_group) line)
+group_of false line = Ok None
+
+-- the fields are judged in this order; whether the queue is FIFO
+abbrev pub message_of : Bool → Data → Result Message LineError
+message_of fifo line = do
+  id ← field_of field.MessageId (of_text message_id) line
+  body ← field_of field.Body (of_text message_body) line
+  sent ← field_of field.SentTimestamp moment line
+  group ← group_of fifo line
+  Ok (record { id = id; group = group; body = body; sent = sent })
+
 -- the JSON object that the bytes are, as UTF-8 text
 abbrev pub only_object : Option Data → Option Data
 only_object None = None
@@ -108,6 +146,6 @@ only_object (Some value) = only_if (is_some (as_object value)) value
 abbrev pub object_of : List ℕ → Option Data
 object_of bytes = only_object (if is_utf8 bytes then read bytes else None)
 
--- a stream's line that is neither blank nor too long
-abbrev pub line_of : List ℕ → Result Record LineError
-line_of bytes = ok_or (object_of bytes) NotJson >>= record_of
+-- what the fields say of a line that is neither blank nor too long
+abbrev pub line_of : {A : Type 0} → (Data → Result A LineError) → List ℕ → Result A LineError
+line_of fields bytes = ok_or (object_of bytes) NotJson >>= fields

@@ -5,7 +5,7 @@ use Rattle.esm_record.specs.declared.item.Item.{Item}
 use Rattle.esm_record.specs.declared.splitter.Splitter.{Splitter}
 use Rattle.esm_model.specs.declared.limits.TheConstants.{MAX_LINE}
 use Rattle.esm_record.specs.Input.{Input, is_line_feed, lines_of, begun, input_so_far}
-use Rattle.esm_record.specs.Numbers.{Follows}
+use Rattle.esm_record.specs.Seen.{Follows}
 
 abbrev pub NoLineFeed : List ℕ → Type 0
 NoLineFeed bytes = All (λ b. is_line_feed b ≡ false) bytes
@@ -20,7 +20,7 @@ pub record Stands (input : Input) (before given : List Item) (r : Splitter) : Ty
   pub items : input.items ≡ before ++ given
   pub bad : input.bad ≡ r.bad
   pub lines : IsNone r.bad → input.lines ≡ r.good
-  pub last : IsNone r.bad → Follows input.items r.last
+  pub seen : IsNone r.bad → Follows input.items r.seen
 
 -- the reader was fed these bytes
 pub record HasRead (bytes : List ℕ) (before given : List Item) (r : Splitter) : Type 0 where

@@ -18,6 +18,14 @@ pub enum Field {
     Data,
     /// `approximateArrivalTimestamp`
     ApproximateArrivalTimestamp,
+    /// `messageId`
+    MessageId,
+    /// `body`
+    Body,
+    /// `sentTimestamp`
+    SentTimestamp,
+    /// `messageGroupId`
+    MessageGroupId,
 }
 
 impl Field {
@@ -31,6 +39,10 @@ impl Field {
             Field::PartitionKey => "partitionKey",
             Field::Data => "data",
             Field::ApproximateArrivalTimestamp => "approximateArrivalTimestamp",
+            Field::MessageId => "messageId",
+            Field::Body => "body",
+            Field::SentTimestamp => "sentTimestamp",
+            Field::MessageGroupId => "messageGroupId",
         }
     }
 
@@ -45,6 +57,10 @@ impl Field {
             "partitionKey" => Some(Field::PartitionKey),
             "data" => Some(Field::Data),
             "approximateArrivalTimestamp" => Some(Field::ApproximateArrivalTimestamp),
+            "messageId" => Some(Field::MessageId),
+            "body" => Some(Field::Body),
+            "sentTimestamp" => Some(Field::SentTimestamp),
+            "messageGroupId" => Some(Field::MessageGroupId),
             _ => None,
         }
     }
@@ -52,7 +68,7 @@ impl Field {
     /// Its place among the fields.
     pub fn slot(self) -> usize
         ensures value { result ≡ slot_of self }
-        ensures within { result < 5 }
+        ensures within { result < 9 }
     {
         match self {
             Field::ShardId => 0,
@@ -60,6 +76,10 @@ impl Field {
             Field::PartitionKey => 2,
             Field::Data => 3,
             Field::ApproximateArrivalTimestamp => 4,
+            Field::MessageId => 5,
+            Field::Body => 6,
+            Field::SentTimestamp => 7,
+            Field::MessageGroupId => 8,
         }
     }
 }
@@ -77,6 +97,8 @@ pub enum LineError {
     Backwards { kept: Text, given: Text },
     /// It has more than 8,388,608 bytes without its line feed.
     LineTooLong,
+    /// The message id stood in an earlier line.
+    Repeated(Text),
 }
 
 /// The first bad line, counted from 1, and why it is refused.
@@ -100,6 +122,7 @@ impl LineError {
                 let given = given.copy(alloc)?;
                 Ok(LineError::Backwards { kept, given })
             }
+            LineError::Repeated(id) => Ok(LineError::Repeated(id.copy(alloc)?)),
         }
     }
 }

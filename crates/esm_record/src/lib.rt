@@ -12,10 +12,13 @@ mod number;
 mod numbers;
 mod object;
 mod order;
+mod queue;
+mod seen;
 mod splitter;
+mod stream;
 
 pub use error::{BadLine, Field, LineError};
-pub use item::{Fed, Item, Items, LineKind};
+pub use item::{Fed, Item, LineKind};
 pub use lines::Lines;
 
 #[cfg(test)]

@@ -4,7 +4,7 @@ ghost use Rattle.esm_record.specs.Input.{IsValidItem, input_so_far, input_of};
 ghost use Rattle.esm_record.specs.Splitting.{HasRead, Stands};
 ghost use Rattle.esm_record.specs.Fed.{fed_bytes};
 
-use crate::item::{Fed, Items, LineKind};
+use crate::item::{Fed, LineKind};
 use crate::splitter::Splitter;
 use esm_model::{MAX_LINE, OutOfMemory};
 use std::alloc::Global;
@@ -54,33 +54,27 @@ fn note(
 fn feed_piece(alloc: Global, reading: &mut Splitter, piece: &[u8]) -> Result<Fed, OutOfMemory>
     requires { IsNone reading.old.bad → length reading.old.begun.items ≤ MAX_LINE }
     ensures read { IfOk result (λ fed. (bytes : List ℕ) (before : List Item) → HasRead bytes before [] reading.old
-        → HasRead (bytes ++ piece.now) before fed.items reading.new) }
+        → HasRead (bytes ++ piece.now) before fed.items.items reading.new) }
     ensures bad { IfOk result (λ fed. fed.bad ≡ reading.new.bad) }
     ensures kind { reading.new.kind ≡ reading.old.kind }
 {
     let mut items = Vec::new(alloc);
     reading.read_more(alloc, &mut items, piece)?;
     let bad = reading.bad_line(alloc)?;
-    Ok(Fed {
-        items: Items::from_vec(items),
-        bad,
-    })
+    Ok(Fed { items, bad })
 }
 
 fn read_end(alloc: Global, reading: &mut Splitter) -> Result<Fed, OutOfMemory>
     requires { IsNone reading.old.bad → length reading.old.begun.items ≤ MAX_LINE }
     ensures read { IfOk result (λ fed. (bytes : List ℕ) (before : List Item) → HasRead bytes before [] reading.old
-        → Stands (input_of reading.old.kind bytes) before fed.items reading.new) }
+        → Stands (input_of reading.old.kind bytes) before fed.items.items reading.new) }
     ensures bad { IfOk result (λ fed. fed.bad ≡ reading.new.bad) }
     ensures kind { reading.new.kind ≡ reading.old.kind }
 {
     let mut items = Vec::new(alloc);
     reading.read_end(alloc, &mut items)?;
     let bad = reading.bad_line(alloc)?;
-    Ok(Fed {
-        items: Items::from_vec(items),
-        bad,
-    })
+    Ok(Fed { items, bad })
 }
 
 impl Lines {
@@ -104,10 +98,10 @@ impl Lines {
     /// as soon as they came. After `OutOfMemory` each call answers `OutOfMemory`.
     pub fn feed(&mut self, piece: &[u8]) -> Result<Fed, OutOfMemory>
         requires { self.old.finished ≡ false }
-        ensures items { IfOk result (λ fed. (input_so_far self.old.kind self.old.bytes).items ++ fed.items
+        ensures items { IfOk result (λ fed. (input_so_far self.old.kind self.old.bytes).items ++ fed.items.items
             ≡ (input_so_far self.old.kind (self.old.bytes ++ piece.now)).items) }
         ensures bad { IfOk result (λ fed. fed.bad ≡ (input_so_far self.old.kind (self.old.bytes ++ piece.now)).bad) }
-        ensures valid { IfOk result (λ fed. All IsValidItem fed.items) }
+        ensures valid { IfOk result (λ fed. All (IsValidItem self.old.kind) fed.items.items) }
         ensures bytes { OnOk result (self.new.bytes ≡ self.old.bytes ++ piece.now) }
         ensures good { OnOk result (self.new.failed ≡ false) }
         ensures memory { OnErr result (self.new.failed ≡ true) }
@@ -129,10 +123,10 @@ impl Lines {
     /// of the whole input.
     pub fn finish(&mut self) -> Result<Fed, OutOfMemory>
         requires { self.old.finished ≡ false }
-        ensures items { IfOk result (λ fed. (input_so_far self.old.kind self.old.bytes).items ++ fed.items
+        ensures items { IfOk result (λ fed. (input_so_far self.old.kind self.old.bytes).items ++ fed.items.items
             ≡ (input_of self.old.kind self.old.bytes).items) }
         ensures bad { IfOk result (λ fed. fed.bad ≡ (input_of self.old.kind self.old.bytes).bad) }
-        ensures valid { IfOk result (λ fed. All IsValidItem fed.items) }
+        ensures valid { IfOk result (λ fed. All (IsValidItem self.old.kind) fed.items.items) }
         ensures finished { OnOk result (self.new ≡ record self.old { finished = true }) }
         ensures memory { OnErr result (self.new.failed ≡ true) }
         ensures for_ever { self.old.failed ≡ true → IsErr result }

@@ -47,15 +47,15 @@ impl<'a> Leaf<'a> {
 /// The values of the members that fields name, the last of a name.
 #[derive(Drop)]
 pub struct Found<'a> {
-    leaves: [Option<Leaf<'a>>; 5],
+    leaves: [Option<Leaf<'a>>; 9],
 }
 
 impl<'a> Found<'a> {
     fn nothing() -> Found<'a>
         ensures empty { (f : Field) → leaf_at f result ≡ None }
-        ensures sized { length result.leaves ≡ 5 }
+        ensures sized { length result.leaves ≡ 9 }
     {
-        Found { leaves: [None; 5] }
+        Found { leaves: [None; 9] }
     }
 
     pub fn leaf(&self, field: Field) -> Option<Leaf<'a>>
@@ -66,9 +66,9 @@ impl<'a> Found<'a> {
 
     /// The next member of the object.
     fn keep(&mut self, name: &str, leaf: Leaf<'a>)
-        requires { length self.old.leaves ≡ 5 }
+        requires { length self.old.leaves ≡ 9 }
         ensures kept { (d : Data) (ms : Members) → IsLeafOf d leaf.entry → AreFound ms self.old → AreFound (put name.now d ms) self.new }
-        ensures sized { length self.new.leaves ≡ 5 }
+        ensures sized { length self.new.leaves ≡ 9 }
     {
         if let Some(field) = Field::of_name(name) {
             let at = field.slot();

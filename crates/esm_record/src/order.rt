@@ -1,17 +1,23 @@
-ghost use Rattle.std.specs.Prelude.{◌≡◌, ℕ, List, ◌++◌, ◌∷◌, [], option_to_list, Ok, IfOk, IfErr, OnOk};
+ghost use Rattle.std.specs.Prelude.{◌≡◌, ◌||◌, ℕ, List, ◌++◌, ◌∷◌, [], option_to_list, Ok, IfOk, IfErr, OnOk};
+ghost use Rattle.std.specs.Str.{bytes_eq};
+ghost use Rattle.std.specs.BTreeSet.{contains_text};
 ghost use Rattle.esm_model.specs.Sequence.{sequence_order};
 ghost use Rattle.esm_record.specs.Gives.{Gives, Fails};
-ghost use Rattle.esm_record.specs.Input.{is_blank_byte, is_blank, number_after, in_order, next_record, read_after};
-ghost use Rattle.esm_record.specs.Numbers.{Follows, number_in};
+ghost use Rattle.esm_record.specs.Input.{is_blank_byte, is_blank, number_after, in_order, next_record, next_message, item_of, read_after};
+ghost use Rattle.esm_record.specs.Numbers.{number_in};
+ghost use Rattle.esm_record.specs.Seen.{Follows};
 
 use crate::error::{LineError, Refusal};
 use crate::item::{Item, LineKind};
-use crate::line::read_line;
 use crate::numbers::Numbers;
-use esm_model::{MAX_LINE, OutOfMemory, Record, Text};
+use crate::queue::read_message;
+use crate::seen::{Seen, as_new};
+use crate::stream::read_record;
+use esm_model::{MAX_LINE, Message, OutOfMemory, Record, Text};
 use json::Scratch;
 use std::alloc::Global;
 use std::cmp::Ordering;
+use std::collections::BTreeSet;
 
 fn text_of(alloc: Global, number: &str) -> Result<Text, OutOfMemory>
     ensures { IfOk result (λ t. t ≡ number.now) }
@@ -51,7 +57,7 @@ fn check_order(alloc: Global, last: &Numbers, given: &Record) -> Result<(), Refu
 }
 
 /// The record of a stream's line, which is neither blank nor too long, as the next of its shard.
-fn read_record(
+fn next_record(
     alloc: Global,
     last: &mut Numbers,
     scratch: &mut Scratch,
@@ -61,10 +67,26 @@ fn read_record(
     ensures kept { IfOk result (λ r. (shard : ℕ) → number_in last.new shard
         ≡ number_after shard (number_in last.old shard) (Item.Stream r)) }
 {
-    let record = read_line(alloc, scratch, line)?;
+    let record = read_record(alloc, scratch, line)?;
     check_order(alloc, last, &record)?;
     last.keep(alloc, record.shard, record.seq.text())?;
     Ok(record)
+}
+
+/// The message of a queue's line, which is neither blank nor too long, as one whose id did not stand before.
+fn next_message(
+    alloc: Global,
+    ids: &mut BTreeSet<String>,
+    scratch: &mut Scratch,
+    fifo: bool,
+    line: &[u8],
+) -> Result<Message, Refusal>
+    ensures item { Gives result (next_message (contains_text ids.old) fifo line.now) }
+    ensures kept { IfOk result (λ m. (id : List ℕ)
+        → contains_text ids.new id ≡ (bytes_eq m.id id || contains_text ids.old id)) }
+{
+    let message = read_message(alloc, scratch, fifo, line)?;
+    as_new(alloc, ids, message)
 }
 
 fn is_blank_byte(byte: u8) -> bool
@@ -80,17 +102,54 @@ pub fn is_blank(line: &[u8]) -> bool
     line.iter().all(|b| is_blank_byte(*b))
 }
 
+/// The item of a stream's line, which is neither blank nor too long.
+fn read_stream(
+    alloc: Global,
+    seen: &mut Seen,
+    scratch: &mut Scratch,
+    line: &[u8],
+) -> Result<Option<Item>, Refusal>
+    ensures item { (items : List Item) → Follows items seen.old
+        → Gives result (item_of LineKind.Stream items line.now) }
+    ensures kept { IfOk result (λ o. (items : List Item) → Follows items seen.old
+        → Follows (items ++ option_to_list o) seen.new) }
+{
+    match next_record(alloc, &mut seen.numbers, scratch, line) {
+        Ok(record) => Ok(Some(Item::Stream(record))),
+        Err(refusal) => Err(refusal),
+    }
+}
+
+/// The item of a queue's line, which is neither blank nor too long.
+fn read_queue(
+    alloc: Global,
+    seen: &mut Seen,
+    scratch: &mut Scratch,
+    fifo: bool,
+    line: &[u8],
+) -> Result<Option<Item>, Refusal>
+    ensures item { (items : List Item) → Follows items seen.old
+        → Gives result (item_of (LineKind.Queue fifo) items line.now) }
+    ensures kept { IfOk result (λ o. (items : List Item) → Follows items seen.old
+        → Follows (items ++ option_to_list o) seen.new) }
+{
+    match next_message(alloc, &mut seen.ids, scratch, fifo, line) {
+        Ok(message) => Ok(Some(Item::Queue(message))),
+        Err(refusal) => Err(refusal),
+    }
+}
+
 /// What a line says: its item, and nothing where it is blank.
 pub fn read_next(
     alloc: Global,
     kind: LineKind,
-    last: &mut Numbers,
+    seen: &mut Seen,
     scratch: &mut Scratch,
     line: &[u8],
 ) -> Result<Option<Item>, Refusal>
-    ensures item { (items : List Item) → Follows items last.old → Gives result (read_after kind items line.now) }
-    ensures kept { IfOk result (λ o. (items : List Item) → Follows items last.old
-        → Follows (items ++ option_to_list o) last.new) }
+    ensures item { (items : List Item) → Follows items seen.old → Gives result (read_after kind items line.now) }
+    ensures kept { IfOk result (λ o. (items : List Item) → Follows items seen.old
+        → Follows (items ++ option_to_list o) seen.new) }
 {
     if line.len() > MAX_LINE {
         return Err(Refusal::Line(LineError::LineTooLong));
@@ -99,9 +158,7 @@ pub fn read_next(
         return Ok(None);
     }
     match kind {
-        LineKind::Stream => match read_record(alloc, last, scratch, line) {
-            Ok(record) => Ok(Some(Item::Stream(record))),
-            Err(refusal) => Err(refusal),
-        },
+        LineKind::Stream => read_stream(alloc, seen, scratch, line),
+        LineKind::Queue { fifo } => read_queue(alloc, seen, scratch, fifo, line),
     }
 }

@@ -2,26 +2,26 @@ ghost use Rattle.std.specs.Prelude.{◌≡◌, ◌≤◌, ◌<◌, ◌+◌, Some
 ghost use Rattle.esm_record.specs.declared.item.Item.{Item};
 ghost use Rattle.esm_record.specs.Gives.{Gives};
 ghost use Rattle.esm_record.specs.Input.{Input, add_line, input_of, read_after};
-ghost use Rattle.esm_record.specs.Numbers.{Follows};
+ghost use Rattle.esm_record.specs.Seen.{Follows};
 ghost use Rattle.esm_record.specs.Splitting.{Stands, HasRead, NoLineFeed, IsFirstLine};
 
 use crate::error::{BadLine, LineError, Refusal};
 use crate::item::{Item, LineKind};
-use crate::numbers::Numbers;
 use crate::order::read_next;
+use crate::seen::Seen;
 use esm_model::{MAX_LINE, OutOfMemory};
 use json::Scratch;
 use memchr::memchr;
 use std::alloc::Global;
 use std::mem;
 
-/// What has been read of an input: the good lines, each shard's last sequence number, the room that reading takes, the
+/// What has been read of an input: the good lines, what the next one is judged against, the room that reading takes, the
 /// line that has begun, and the first bad line.
 #[derive(Drop)]
 pub struct Splitter {
     pub kind: LineKind,
     pub good: u64,
-    pub last: Numbers,
+    pub seen: Seen,
     pub scratch: Scratch,
     pub begun: Vec<u8>,
     pub bad: Option<BadLine>,
@@ -42,20 +42,20 @@ fn first_line(bytes: &[u8]) -> Option<(&[u8], &[u8])>
 fn read_whole(
     alloc: Global,
     kind: LineKind,
-    last: &mut Numbers,
+    seen: &mut Seen,
     scratch: &mut Scratch,
     begun: &mut Vec<u8>,
     rest: &[u8],
 ) -> Result<Option<Item>, Refusal>
     requires { length begun.old.items ≤ MAX_LINE }
-    ensures item { (items : List Item) → Follows items last.old
+    ensures item { (items : List Item) → Follows items seen.old
         → Gives result (read_after kind items (begun.old.items ++ rest.now)) }
-    ensures kept { IfOk result (λ o. (items : List Item) → Follows items last.old
-        → Follows (items ++ option_to_list o) last.new) }
+    ensures kept { IfOk result (λ o. (items : List Item) → Follows items seen.old
+        → Follows (items ++ option_to_list o) seen.new) }
     ensures ended { OnOk result (begun.new.items ≡ []) }
 {
     if begun.is_empty() {
-        return read_next(alloc, kind, last, scratch, rest);
+        return read_next(alloc, kind, seen, scratch, rest);
     }
     if rest.len() > MAX_LINE - begun.len() {
         return Err(Refusal::Line(LineError::LineTooLong));
@@ -63,7 +63,7 @@ fn read_whole(
     if begun.extend_from_slice(rest).is_err() {
         return Err(Refusal::OutOfMemory);
     }
-    match read_next(alloc, kind, last, scratch, begun.as_slice()) {
+    match read_next(alloc, kind, seen, scratch, begun.as_slice()) {
         Ok(item) => {
             begun.clear();
             Ok(item)
@@ -93,7 +93,7 @@ impl Splitter {
         match read_whole(
             alloc,
             self.kind,
-            &mut self.last,
+            &mut self.seen,
             &mut self.scratch,
             &mut self.begun,
             rest,
@@ -182,7 +182,7 @@ impl Splitter {
         Splitter {
             kind,
             good: 0,
-            last: Numbers::new(alloc),
+            seen: Seen::new(alloc),
             scratch: Scratch::new(alloc),
             begun: Vec::new(alloc),
             bad: None,

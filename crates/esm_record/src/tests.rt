@@ -1,6 +1,6 @@
 ghost use Rattle.std.specs.Prelude.{◌≡◌, false, OnOk};
 
-use crate::{BadLine, Field, LineError, LineKind, Lines};
+use crate::{BadLine, Field, Item, LineError, LineKind, Lines};
 use esm_model::OutOfMemory;
 use std::alloc::Global;
 use std::test::Fail;
@@ -19,19 +19,23 @@ const NO_DATA: &[u8] =
 const BAD_DATA: &[u8] =
     b"{\"shardId\":\"shardId-000000000000\",\"sequenceNumber\":\"1\",\"partitionKey\":\"1\",\"data\":\"!\",\"approximateArrivalTimestamp\":0}\n";
 
+const MESSAGE_A: &[u8] =
+    b"{\"messageId\":\"a\",\"body\":\"Test message.\",\"sentTimestamp\":0,\"messageGroupId\":\"A\"}\n";
+
 /// The number of items of an input in three pieces, and its first bad line.
 fn told(
     alloc: Global,
+    kind: LineKind,
     first: &[u8],
     second: &[u8],
     third: &[u8],
 ) -> Result<(usize, Option<BadLine>), OutOfMemory> {
-    let mut lines = Lines::new(alloc, LineKind::Stream)?;
-    let one = lines.feed(first)?.items.as_slice().len();
-    let two = lines.feed(second)?.items.as_slice().len();
-    let three = lines.feed(third)?.items.as_slice().len();
+    let mut lines = Lines::new(alloc, kind)?;
+    let one = lines.feed(first)?.items.len();
+    let two = lines.feed(second)?.items.len();
+    let three = lines.feed(third)?.items.len();
     let last = lines.finish()?;
-    let four = last.items.as_slice().len();
+    let four = last.items.len();
     Ok((
         one.saturating_add(two)
             .saturating_add(three)
@@ -47,7 +51,7 @@ fn feed_bytes(lines: &mut Lines, input: &[u8]) -> Result<usize, OutOfMemory>
 {
     let mut items: usize = 0;
     for i in 0..input.len() {
-        items = items.saturating_add(lines.feed(&input[i..i + 1])?.items.as_slice().len());
+        items = items.saturating_add(lines.feed(&input[i..i + 1])?.items.len());
     }
     Ok(items)
 }
@@ -66,10 +70,10 @@ fn feed_often(lines: &mut Lines, piece: &[u8], times: u32) -> Result<Option<BadL
 
 #[test]
 fn backwards_number(rt: HostRuntime) -> Result<(), Fail> {
-    let (items, bad) = told(rt.alloc(), RECORD_99, RECORD_100, b"")?;
+    let (items, bad) = told(rt.alloc(), LineKind::Stream, RECORD_99, RECORD_100, b"")?;
     assert_eq!(rt; items, 2);
     assert!(rt; bad.is_none());
-    let (items, bad) = told(rt.alloc(), RECORD_100, RECORD_99, b"")?;
+    let (items, bad) = told(rt.alloc(), LineKind::Stream, RECORD_100, RECORD_99, b"")?;
     assert_eq!(rt; items, 1);
     let bad = bad.ok_or("the second line is bad")?;
     assert_eq!(rt; bad.line, 2);
@@ -81,7 +85,7 @@ fn backwards_number(rt: HostRuntime) -> Result<(), Fail> {
 
 #[test]
 fn cut_line(rt: HostRuntime) -> Result<(), Fail> {
-    let (items, bad) = told(rt.alloc(), RECORD_99, RECORD_100, CUT)?;
+    let (items, bad) = told(rt.alloc(), LineKind::Stream, RECORD_99, RECORD_100, CUT)?;
     assert_eq!(rt; items, 2);
     assert!(rt;
         matches!(
@@ -97,7 +101,7 @@ fn cut_line(rt: HostRuntime) -> Result<(), Fail> {
 
 #[test]
 fn refused_lines(rt: HostRuntime) -> Result<(), Fail> {
-    let (_, bad) = told(rt.alloc(), NO_DATA, b"", b"")?;
+    let (_, bad) = told(rt.alloc(), LineKind::Stream, NO_DATA, b"", b"")?;
     assert!(rt;
         matches!(
             bad,
@@ -107,7 +111,7 @@ fn refused_lines(rt: HostRuntime) -> Result<(), Fail> {
             })
         )
     );
-    let (_, bad) = told(rt.alloc(), BAD_DATA, b"", b"")?;
+    let (_, bad) = told(rt.alloc(), LineKind::Stream, BAD_DATA, b"", b"")?;
     assert!(rt;
         matches!(
             bad,
@@ -140,5 +144,28 @@ fn one_byte_pieces(rt: HostRuntime) -> Result<(), Fail> {
     assert_eq!(rt; feed_bytes(&mut lines, b" \r\n")?, 0);
     assert_eq!(rt; feed_bytes(&mut lines, RECORD_99)?, 1);
     assert!(rt; lines.finish()?.bad.is_none());
+    Ok(())
+}
+
+#[test]
+fn queue_refusals(rt: HostRuntime) -> Result<(), Fail> {
+    let queue = LineKind::Queue { fifo: false };
+    let (items, bad) = told(rt.alloc(), queue, MESSAGE_A, MESSAGE_A, b"")?;
+    assert_eq!(rt; items, 1);
+    let bad = bad.ok_or("the second line is bad")?;
+    assert_eq!(rt; bad.line, 2);
+    assert!(rt; matches!(&bad.why, LineError::Repeated(id) if id.as_str() == "a"));
+    Ok(())
+}
+
+#[test]
+fn a_message_of_a_fifo_queue(rt: HostRuntime) -> Result<(), Fail> {
+    let mut lines = Lines::new(rt.alloc(), LineKind::Queue { fifo: true })?;
+    let items = lines.feed(MESSAGE_A)?.items;
+    assert_eq!(rt; items.len(), 1);
+    assert!(rt;
+        matches!(&items[0], Item::Queue(message)
+            if message.body.as_str() == "Test message." && message.group.is_some())
+    );
     Ok(())
 }

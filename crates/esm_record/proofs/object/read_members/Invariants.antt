@@ -11,7 +11,7 @@ invariant-members l =
     (n : ℕ) × (found : Members) × (length l.reader ≤ n)
     × (converted (λ ms. of_members ms no_members) (members (value 126) (length l.initial.reader) l.initial.reader) ≡ converted (members_after found) (members (value 126) n l.reader))
     × AreFound found l.found
-    × (length l.found.leaves ≡ 5)
+    × (length l.found.leaves ≡ 9)
 
 abbrev pub decreases-members : goal.decreases-members
 decreases-members l = length l.reader

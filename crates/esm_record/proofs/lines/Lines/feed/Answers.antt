@@ -1,7 +1,8 @@
 use Rattle.std.proofs.Common.{rules, ◌≡◌, ◌∙◌, ◌++◌, ℕ, List, false, sym, ap, subst}
 use Rattle.esm_record.specs.declared.item.LineKind.{LineKind}
 use Rattle.esm_record.specs.Fed.{fed_bytes}
-use Rattle.esm_record.specs.Input.{input_so_far}
+use Rattle.std.specs.List.{All}
+use Rattle.esm_record.specs.Input.{input_so_far, IsValidItem}
 use Rattle.esm_record.specs.Splitting.{HasRead}
 use Rattle.esm_record.proofs.Feeds.{fed_from, fed_to}
 use Rattle.esm_record.proofs.Valid.{so_far_valid}
@@ -13,8 +14,8 @@ invariant_of-self-2 c = λ _ going.
     let bytes : List ℕ = fed_bytes c.self.inside.fed.items in
     let before = (input_so_far c.self.inside.reading.kind bytes).items in
     let read = c.in_ok-fed.ensures.read bytes before (fed_from bytes c.self.inside.reading (c.self.invariant good going)) in
-    let P : List ℕ → Type 0 = λ b. HasRead b before c.in_ok-fed.fed.items c.feed_piece.new.reading in
-    fed_to (fed_bytes c.note.new.fed.items) before c.in_ok-fed.fed.items c.feed_piece.new.reading (subst P (sym c.in_ok-note.ensures) read)
+    let P : List ℕ → Type 0 = λ b. HasRead b before c.in_ok-fed.fed.items.items c.feed_piece.new.reading in
+    fed_to (fed_bytes c.note.new.fed.items) before c.in_ok-fed.fed.items.items c.feed_piece.new.reading (subst P (sym c.in_ok-note.ensures) read)
 
 pub returns-clause-bad : goal.returns-clause-bad
 returns-clause-bad c =
@@ -35,4 +36,6 @@ returns-clause-valid c =
     let bytes : List ℕ = fed_bytes c.self.inside.fed.items in
     let before = (input_so_far c.self.inside.reading.kind bytes).items in
     let read = c.in_ok-fed.ensures.read bytes before (fed_from bytes c.self.inside.reading (c.self.invariant good going)) in
-    so_far_valid c.feed_piece.new.reading.kind (bytes ++ c.args.piece.now) before c.in_ok-fed.fed.items read.stands.items
+    let kind : c.args.self.now.kind ≡ c.self.inside.reading.kind = first_of (cc, search rules) in
+    let P : LineKind → Type 0 = λ k. All (IsValidItem k) c.in_ok-fed.fed.items.items in
+    subst P (c.in_ok-fed.ensures.kind ∙ sym kind) (so_far_valid c.feed_piece.new.reading.kind (bytes ++ c.args.piece.now) before c.in_ok-fed.fed.items.items read.stands.items)

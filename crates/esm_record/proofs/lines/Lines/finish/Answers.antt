@@ -1,7 +1,8 @@
-use Rattle.std.proofs.Common.{rules, ◌≡◌, ◌∙◌, ℕ, List, false, sym, ap}
+use Rattle.std.proofs.Common.{rules, ◌≡◌, ◌∙◌, ℕ, List, false, sym, ap, subst}
 use Rattle.esm_record.specs.declared.item.LineKind.{LineKind}
 use Rattle.esm_record.specs.Fed.{fed_bytes}
-use Rattle.esm_record.specs.Input.{input_so_far, input_of}
+use Rattle.std.specs.List.{All}
+use Rattle.esm_record.specs.Input.{input_so_far, input_of, IsValidItem}
 use Rattle.esm_record.proofs.Feeds.{fed_from}
 use Rattle.esm_record.proofs.Valid.{whole_valid}
 use Rattle.esm_record.proofs.lines.Lines.finish.Goals as goal
@@ -25,4 +26,6 @@ returns-clause-valid c =
     let bytes : List ℕ = fed_bytes c.self.inside.fed.items in
     let before = (input_so_far c.self.inside.reading.kind bytes).items in
     let read = c.in_ok-fed.ensures.read bytes before (fed_from bytes c.self.inside.reading (c.self.invariant good going)) in
-    whole_valid c.self.inside.reading.kind bytes before c.in_ok-fed.fed.items read.items
+    let kind : c.args.self.now.kind ≡ c.self.inside.reading.kind = first_of (cc, search rules) in
+    let P : LineKind → Type 0 = λ k. All (IsValidItem k) c.in_ok-fed.fed.items.items in
+    subst P (sym kind) (whole_valid c.self.inside.reading.kind bytes before c.in_ok-fed.fed.items.items read.items)

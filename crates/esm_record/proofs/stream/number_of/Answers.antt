@@ -2,7 +2,7 @@ use Rattle.std.proofs.Common.{◌≡◌, ◌*◌, ◌+◌, ◌-◌, take, get_or
 use Rattle.std.specs.Str.Parse.{digits_value}
 use Rattle.std.proofs.lemmas.Int.Digits.{digits_value_more}
 use Rattle.esm_record.proofs.Digits.{a_digit, digit_at, few_digits}
-use Rattle.esm_record.proofs.line.number_of.Goals as goal
+use Rattle.esm_record.proofs.stream.number_of.Goals as goal
 
 pub overflow_mul-number : goal.overflow_mul-number
 overflow_mul-number c =
