@@ -4,6 +4,7 @@
 #![tactic(auto)]
 
 mod error;
+mod fed_bytes;
 mod item;
 pub mod laws;
 mod line;

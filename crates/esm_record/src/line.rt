@@ -7,12 +7,13 @@ use crate::error::{Field, LineError, Refusal};
 use crate::object::{Found, Leaf, read_object};
 use esm_model::MAX_MOMENT;
 use json::Scratch;
+use simdutf8::basic::from_utf8;
 
 /// The members of the object that the line is.
 pub fn object_of<'a>(scratch: &'a mut Scratch, line: &'a [u8]) -> Result<Found<'a>, Refusal>
     ensures { IsObjectOf line.now result }
 {
-    let Ok(text) = std::str::from_utf8(line) else {
+    let Ok(text) = from_utf8(line) else {
         return Err(Refusal::Line(LineError::NotJson));
     };
     let Ok(object) = read_object(text, scratch) else {

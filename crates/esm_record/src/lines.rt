@@ -2,23 +2,21 @@ ghost use Rattle.std.specs.Prelude.{◌≡◌, ◌≤◌, ℕ, List, ◌++◌, [
 ghost use Rattle.esm_record.specs.declared.item.Item.{Item};
 ghost use Rattle.esm_record.specs.Input.{IsValidItem, input_so_far, input_of};
 ghost use Rattle.esm_record.specs.Splitting.{HasRead, Stands};
-ghost use Rattle.esm_record.specs.Fed.{fed_bytes};
 
+use crate::fed_bytes::FedBytes;
 use crate::item::{Fed, LineKind};
 use crate::splitter::Splitter;
 use esm_model::{MAX_LINE, OutOfMemory};
 use std::alloc::Global;
 use std::marker::Model;
-use std::snapshot::Snapshot;
 
 /// A reader of an input's lines, in any pieces of bytes.
 /// Contracts see the bytes that it was fed, whether it failed for want of memory and whether it finished.
 #[derive(Drop)]
 pub struct Lines {
     alloc: Global,
-    /// The pieces so far, which clauses alone see.
-    fed: Vec<Snapshot<Vec<u8>>>,
-    piece: Vec<u8>,
+    /// What it was fed, which clauses alone see.
+    fed: FedBytes,
     reading: Splitter,
     failed: bool,
     finished: bool,
@@ -27,28 +25,13 @@ pub struct Lines {
 impl Model for Lines {
     ghost use Rattle.std.specs.Prelude.{◌≡◌, false};
     ghost use Rattle.esm_record.specs.Input.{Feeding};
-    ghost use Rattle.esm_record.specs.Fed.{fed_bytes};
     ghost use Rattle.esm_record.specs.Splitting.{IsFed};
 
     ghost Value = { Feeding };
 
-    ghost view = { λ l. record { kind = l.reading.kind; bytes = fed_bytes l.fed.items; failed = l.failed; finished = l.finished } };
+    ghost view = { λ l. record { kind = l.reading.kind; bytes = l.fed; failed = l.failed; finished = l.finished } };
 
-    ghost invariant = { λ l. l.failed ≡ false → l.finished ≡ false → IsFed (fed_bytes l.fed.items) l.reading };
-}
-
-/// Notes the piece for the clauses.
-fn note(
-    fed: &mut Vec<Snapshot<Vec<u8>>>,
-    copy: &mut Vec<u8>,
-    piece: &[u8],
-) -> Result<(), OutOfMemory>
-    ensures { OnOk result (fed_bytes fed.new.items ≡ fed_bytes fed.old.items ++ piece.now) }
-{
-    copy.clear();
-    copy.extend_from_slice(piece)?;
-    fed.push(Snapshot::of(copy))?;
-    Ok(())
+    ghost invariant = { λ l. l.failed ≡ false → l.finished ≡ false → IsFed l.fed l.reading };
 }
 
 fn feed_piece(alloc: Global, reading: &mut Splitter, piece: &[u8]) -> Result<Fed, OutOfMemory>
@@ -85,8 +68,7 @@ impl Lines {
     {
         Ok(Lines {
             alloc,
-            fed: Vec::new(alloc),
-            piece: Vec::new(alloc),
+            fed: FedBytes::new(alloc),
             reading: Splitter::new(alloc, kind),
             failed: false,
             finished: false,
@@ -113,7 +95,7 @@ impl Lines {
             return Err(OutOfMemory);
         }
         self.failed = true;
-        note(&mut self.fed, &mut self.piece, piece)?;
+        self.fed.note(piece)?;
         let fed = feed_piece(self.alloc, &mut self.reading, piece)?;
         self.failed = false;
         Ok(fed)
