@@ -3,7 +3,7 @@ use Rattle.std.proofs.Common.{◌≡◌, ◌+◌, List, [], ◌∷◌, ◌++◌,
 use Rattle.std.proofs.lemmas.List.{append-nil}
 use Rattle.esm_model.specs.declared.item.Record.{Record}
 use Rattle.esm_record.specs.declared.item.Item.{Item}
-use Rattle.esm_record.specs.declared.item.Item.TheVariants.{Stream}
+use Rattle.esm_record.specs.declared.item.Item.TheVariants.{Stream, Queue}
 use Rattle.esm_report.specs.declared.ending.LimitName.{LimitName}
 use Rattle.esm_run.specs.Limits.{data_bytes, passed, Limited, stop_at, limited_after}
 use Rattle.esm_run.specs.InputRead.{records_in_items}
@@ -24,10 +24,12 @@ taken_to recs more r limit stops = ap (λ o. stop_at recs o (limited_after (recs
 
 pub item_more : (item : Item) (items : List Item) (r : Record) → records_in_items (item ∷ []) ≡ r ∷ [] → records_in_items (item ∷ items) ≡ r ∷ records_in_items items
 item_more (Stream q) items r is = ap (λ rs. rs ++ records_in_items items) is
+item_more (Queue m) items r is = absurd (cc)
 
 pub items_more : (xs ys : List Item) → records_in_items (xs ++ ys) ≡ records_in_items xs ++ records_in_items ys
 items_more [] ys = refl
 items_more (Stream r ∷ xs) ys = ap (λ rs. r ∷ rs) (items_more xs ys)
+items_more (Queue m ∷ xs) ys = items_more xs ys
 
 stop_more : (a m : List Record) (o : Option LimitName) (x y z : Limited) → (x ≡ record { records = m; limit = None } → y ≡ z) → stop_at a o x ≡ record { records = m; limit = None } → stop_at a o y ≡ z
 stop_more a m None x y z more is = more is

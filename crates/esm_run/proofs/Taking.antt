@@ -75,9 +75,6 @@ ended_by faults now before left whole bytes earlier recs new items bad ends.Faul
 
 -- the bytes of a piece
 
-of_stream : (P : LineKind → Type 0) (k : LineKind) → P k → P kinds.Stream
-of_stream P kinds.Stream p = p
-
 after_some : (faults now : ℕ) (a b c : Option (List ℕ)) (l m : Feeding) (recs new : List Record) (piece : List ℕ) (items : List Item) (bad : Option BadLine) (end : Option InputEnd)
     → HasTaken a b l recs → TakesFront b c piece → m.kind ≡ l.kind → m.finished ≡ false → m.bytes ≡ l.bytes ++ piece
     → (input_so_far kinds.Stream l.bytes).items ++ items ≡ (input_so_far kinds.Stream (l.bytes ++ piece)).items → bad ≡ (input_so_far kinds.Stream (l.bytes ++ piece)).bad
@@ -104,8 +101,8 @@ after_piece l m recs new piece items bad r kind going bytes together bad_is take
     IfOk-weaker r (IsTaken recs items bad new) (λ end. (before left at : Option (List ℕ)) (faults now : ℕ) → HasTaken before left l recs → TakesFront left at piece → AfterPiece faults now before at m new end)
     (λ end is before left at faults now had takes.
     after_some faults now before left at l m recs new piece items bad end had takes kind going bytes
-    (of_stream (λ k. (input_so_far k l.bytes).items ++ items ≡ (input_so_far k (l.bytes ++ piece)).items) l.kind together)
-    (of_stream (λ k. bad ≡ (input_so_far k (l.bytes ++ piece)).bad) l.kind bad_is) is)
+    (subst (λ k. (input_so_far k l.bytes).items ++ items ≡ (input_so_far k (l.bytes ++ piece)).items) had.kind together)
+    (subst (λ k. bad ≡ (input_so_far k (l.bytes ++ piece)).bad) had.kind bad_is) is)
     taken
 
 -- the end of the source
@@ -117,8 +114,8 @@ pub after_end : (faults now : ℕ) (a b c : Option (List ℕ)) (l : Feeding) (re
 after_end faults now a b c l recs new items bad end had takes at_end together bad_is taken =
     ended_by faults now a c true l.bytes (input_so_far kinds.Stream l.bytes) recs new items bad end
     (subst (TakesFront a c) (append-nil l.bytes) (takes_then a b c l.bytes [] had.taken takes)) (λ is. at_end) had.read
-    (of_stream (λ k. (input_so_far k l.bytes).items ++ items ≡ (input_of k l.bytes).items) l.kind together)
-    (of_stream (λ k. bad ≡ (input_of k l.bytes).bad) l.kind bad_is) taken
+    (subst (λ k. (input_so_far k l.bytes).items ++ items ≡ (input_of k l.bytes).items) had.kind together)
+    (subst (λ k. bad ≡ (input_of k l.bytes).bad) had.kind bad_is) taken
 
 pub after_good_end : (faults now : ℕ) (a b c : Option (List ℕ)) (l : Feeding) (recs new : List Record) (items : List Item) (bad : Option BadLine)
     → HasTaken a b l recs → TakesFront b c [] → IsAtEnd c
@@ -127,7 +124,7 @@ pub after_good_end : (faults now : ℕ) (a b c : Option (List ℕ)) (l : Feeding
 after_good_end faults now a b c l recs new items bad had takes at_end together bad_is taken =
     let is : records_read true l.bytes ≡ record { records = new; limit = None } =
     read_more (input_so_far kinds.Stream l.bytes) (input_of kinds.Stream l.bytes) recs new items None had.read
-    (of_stream (λ k. (input_so_far k l.bytes).items ++ items ≡ (input_of k l.bytes).items) l.kind together) taken.0 in
+    (subst (λ k. (input_so_far k l.bytes).items ++ items ≡ (input_of k l.bytes).items) had.kind together) taken.0 in
     record {
       bytes = l.bytes;
       whole = true;
@@ -137,7 +134,7 @@ after_good_end faults now a b c l recs new items bad had takes at_end together b
       cause = (
         refl,
         record {
-          no_bad_line = sym (of_stream (λ k. bad ≡ (input_of k l.bytes).bad) l.kind bad_is) ∙ taken.1;
+          no_bad_line = sym (subst (λ k. bad ≡ (input_of k l.bytes).bad) had.kind bad_is) ∙ taken.1;
           no_limit = ap (λ (v : Limited). v.limit) is;
         },
       );

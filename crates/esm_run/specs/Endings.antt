@@ -4,7 +4,7 @@ use Rattle.esm_io.specs.Told.{Grows}
 use Rattle.esm_io.specs.Faults.{Rose}
 use Rattle.esm_record.specs.Line.{name_of}
 use Rattle.esm_record.specs.declared.error.LineError.{LineError}
-use Rattle.esm_record.specs.declared.error.LineError.TheVariants.{NotJson, Missing, BadField, Backwards, LineTooLong}
+use Rattle.esm_record.specs.declared.error.LineError.TheVariants.{NotJson, Missing, BadField, Backwards, LineTooLong, Repeated}
 use Rattle.esm_report.specs.declared.ending.Ending.{Ending}
 use Rattle.esm_report.specs.declared.ending.Ending.TheVariants as ending
 use Rattle.esm_run.specs.declared.input.InputEnd.{InputEnd}
@@ -17,6 +17,7 @@ why_text (Missing field) = codes "Missing " ++ name_of field
 why_text (BadField field) = codes "BadField " ++ name_of field
 why_text (Backwards kept given) = codes "Backwards kept " ++ kept ++ codes " given " ++ given
 why_text LineTooLong = codes "LineTooLong"
+why_text (Repeated id) = codes "Repeated " ++ id
 
 -- where every record has its fate
 abbrev pub ending_of : InputEnd → Ending

@@ -6,7 +6,7 @@ use Rattle.esm_model.specs.Valid.{IsValidRecord}
 use Rattle.esm_model.specs.declared.item.Record.{Record}
 use Rattle.esm_record.specs.declared.error.BadLine.{BadLine}
 use Rattle.esm_record.specs.declared.item.Item.{Item}
-use Rattle.esm_record.specs.declared.item.Item.TheVariants.{Stream}
+use Rattle.esm_record.specs.declared.item.Item.TheVariants.{Stream, Queue}
 use Rattle.esm_record.specs.declared.item.LineKind.TheVariants as kinds
 use Rattle.esm_record.specs.Input.{Input, Feeding, input_so_far, input_of}
 use Rattle.esm_run.specs.declared.gathered.Gathered.{Gathered}
@@ -19,6 +19,7 @@ use Rattle.esm_run.specs.Limits.{data_bytes, Limited, limited_after}
 abbrev pub records_in_items : List Item → List Record
 records_in_items [] = []
 records_in_items (Stream r ∷ items) = r ∷ records_in_items items
+records_in_items (Queue m ∷ items) = records_in_items items
 
 -- of the bytes read: all their lines where the source ended, else those that ended, and a last one that is too long
 abbrev pub input_read : Bool → List ℕ → Input

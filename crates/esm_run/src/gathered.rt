@@ -6,7 +6,7 @@ ghost use Rattle.esm_run.specs.Limits.{passed, limited_after};
 ghost use Rattle.esm_run.specs.InputRead.{IsWithin, records_in_items};
 
 use esm_model::{MAX_INPUT, MAX_RECORDS, OutOfMemory, Record};
-use esm_record::{Item, Items};
+use esm_record::{Item, LineKind};
 use esm_report::LimitName;
 use std::alloc::Global;
 
@@ -20,13 +20,16 @@ pub struct Gathered {
     pub bytes: usize,
 }
 
-/// The record of an item.
+/// The record of a stream's item.
 fn record_of(item: Item) -> Record
+    requires { IsValidItem LineKind.Stream item }
     ensures record { records_in_items (item ∷ []) ≡ result ∷ [] }
-    ensures valid { IsValidItem item → IsValidRecord result }
+    ensures valid { IsValidRecord result }
 {
-    let Item::Stream(found) = item;
-    found
+    match item {
+        Item::Stream(found) => found,
+        Item::Queue(_) => unreachable!(),
+    }
 }
 
 impl Gathered {
@@ -80,14 +83,14 @@ impl Gathered {
     }
 
     /// Takes the items in order, up to the first that passes a limit.
-    pub fn take(&mut self, items: Items) -> Result<Option<LimitName>, OutOfMemory>
+    pub fn take(&mut self, items: Vec<Item>) -> Result<Option<LimitName>, OutOfMemory>
         requires within { IsWithin self.old }
-        requires valid { All IsValidItem items }
+        requires valid { All (IsValidItem LineKind.Stream) items.items }
         ensures within { IsWithin self.new }
-        ensures taken { IfOk result (λ limit. limited_after self.old.records.items (records_in_items items)
+        ensures taken { IfOk result (λ limit. limited_after self.old.records.items (records_in_items items.items)
             ≡ record { records = self.new.records.items; limit = limit }) }
     {
-        let mut rest = items.into_vec();
+        let mut rest = items;
         rest.reverse();
         while let Some(item) = rest.pop() {
             if let Some(limit) = self.add(record_of(item))? {

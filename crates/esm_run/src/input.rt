@@ -37,9 +37,9 @@ pub struct InputRead {
 /// Takes what a piece gave; answers why the reading ends, if it does.
 fn take(gathered: &mut Gathered, fed: Fed) -> Result<Option<InputEnd>, OutOfMemory>
     requires within { IsWithin gathered.old }
-    requires valid { All IsValidItem fed.items }
+    requires valid { All (IsValidItem LineKind.Stream) fed.items.items }
     ensures within { IsWithin gathered.new }
-    ensures taken { IfOk result (IsTaken gathered.old.records.items fed.items fed.bad gathered.new.records.items) }
+    ensures taken { IfOk result (IsTaken gathered.old.records.items fed.items.items fed.bad gathered.new.records.items) }
 {
     if let Some(limit) = gathered.take(fed.items)? {
         return Ok(Some(InputEnd::Limit(limit)));
@@ -58,6 +58,7 @@ fn take_piece(
 ) -> Result<Option<InputEnd>, OutOfMemory>
     requires within { IsWithin gathered.old }
     requires going { lines.old.finished ≡ false }
+    requires kind { lines.old.kind ≡ LineKind.Stream }
     ensures within { IsWithin gathered.new }
     ensures read { IfOk result (λ end. (before left at : Option (List ℕ)) (faults now : ℕ)
         → HasTaken before left lines.old gathered.old.records.items → TakesFront left at piece.now
@@ -71,6 +72,7 @@ fn take_piece(
 fn take_end(lines: &mut Lines, gathered: &mut Gathered) -> Result<InputEnd, OutOfMemory>
     requires within { IsWithin gathered.old }
     requires going { lines.old.finished ≡ false }
+    requires kind { lines.old.kind ≡ LineKind.Stream }
     ensures within { IsWithin gathered.new }
     ensures read { IfOk result (λ end. (before left at : Option (List ℕ)) (faults now : ℕ)
         → HasTaken before left lines.old gathered.old.records.items → TakesFront left at [] → IsAtEnd at
@@ -92,6 +94,7 @@ fn read_piece<S: Source>(
 ) -> Result<Option<InputEnd>, OutOfMemory>
     requires within { IsWithin gathered.old }
     requires going { lines.old.finished ≡ false }
+    requires kind { lines.old.kind ≡ LineKind.Stream }
     requires some { 0 < length buffer.old }
     ensures within { IsWithin gathered.new }
     ensures length { length buffer.new ≡ length buffer.old }

@@ -47,6 +47,7 @@ fn why_text(alloc: Global, why: &LineError) -> Result<Text, OutOfMemory>
         LineError::BadField(field) => joined(alloc, "BadField ", field.name()),
         LineError::Backwards { kept, given } => backwards(alloc, kept.as_str(), given.as_str()),
         LineError::LineTooLong => text_of(alloc, "LineTooLong"),
+        LineError::Repeated(id) => joined(alloc, "Repeated ", id.as_str()),
     }
 }
 
