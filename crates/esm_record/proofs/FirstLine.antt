@@ -1,5 +1,6 @@
--- The first line feed.
-use Rattle.std.proofs.Common.{◌≡◌, ℕ, suc, ◌+◌, ◌<◌, Bool, true, false, List, ◌∷◌, ◌++◌, length, take, drop, get_or, refl, sym, ap, ◌∙◌, arith, add-one}
+-- The first line feed, and bytes without one byte.
+use Rattle.std.proofs.Common.{◌≡◌, ℕ, suc, ◌+◌, ◌<◌, ◌==◌, Bool, true, false, List, ◌∷◌, ◌++◌, length, take, drop, get_or, refl, sym, ap, ◌∙◌, arith, add-one}
+use Rattle.std.specs.List.{All}
 use Rattle.std.proofs.lemmas.Bool.{eqb-true}
 use Rattle.std.proofs.lemmas.List.{get_or-take, take-append-drop, length-take}
 use Rattle.std.proofs.lemmas.List.Elements.{All-from_get_or}
@@ -12,8 +13,11 @@ not_true : (b : Bool) → (b ≡ true → ⊥) → b ≡ false
 not_true true h = absurd (h refl)
 not_true false h = refl
 
+pub has_no : (byte : ℕ) (bytes : List ℕ) → Nowhere (Passes (is_byte byte) bytes) 0 (length bytes) → All (λ b. (b == byte) ≡ false) bytes
+has_no byte bytes h = All-from_get_or (λ b. (b == byte) ≡ false) bytes 0 (λ i below. not_true (get_or bytes i 0 == byte) (h i (omega arith) below))
+
 pub has_none : (bytes : List ℕ) → Nowhere (Passes (is_byte 10) bytes) 0 (length bytes) → NoLineFeed bytes
-has_none bytes h = All-from_get_or (λ b. is_line_feed b ≡ false) bytes 0 (λ i below. not_true (is_line_feed (get_or bytes i 0)) (h i (omega arith) below))
+has_none bytes h = has_no 10 bytes h
 
 short_take : (bytes : List ℕ) (at i : ℕ) → i < length (take at bytes) → i < at
 short_take bytes at i h = omega (arith, length-take at bytes)

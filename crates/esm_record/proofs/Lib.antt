@@ -1,3 +1,4 @@
+pub mod Bodies
 pub mod Digits
 pub mod Feeds
 pub mod FirstLine

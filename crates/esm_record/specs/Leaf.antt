@@ -1,5 +1,6 @@
 -- What the fields of a line look at in the members of an object. Only private contracts cite this.
-use Rattle.std.specs.Prelude.{◌≡◌, ℕ, Bool, true, false, List, [], ◌∷◌, length, get_or, Option, Some, None, option_map, option_and_then, MatchOption, MatchResult, Result, Ok, Err}
+use Rattle.std.specs.Prelude.{◌≡◌, ℕ, Bool, true, false, List, [], ◌∷◌, length, get_or, Option, Some, None, option_map, option_and_then, MatchResult, Result, Ok, Err}
+use Rattle.std.specs.Bool.{MatchBool}
 use Rattle.std.specs.Option.{ok_or}
 use Rattle.json.specs.Token.{Token}
 use Rattle.json.specs.Token as token
@@ -85,12 +86,12 @@ pub record ReadsMembers (depth : ℕ) (old : List Token) (found : Found) (new : 
   pub are : AreFound members_read found
 
 -- an object of members with these leaves, or no object
-abbrev pub IsObjectRead : Option Data → Option Found → Type 0
-IsObjectRead d o = MatchOption o (only_object d ≡ None) (λ found. (ms : Members) × (d ≡ Some (object ms)) × AreFound ms found)
+abbrev pub IsObjectRead : Option Data → Bool → Found → Type 0
+IsObjectRead d is found = MatchBool is ((ms : Members) × (d ≡ Some (object ms)) × AreFound ms found) (only_object d ≡ None)
 
 -- the members of the object that the line is, or why it is none
-abbrev pub IsObjectOf : List ℕ → Result Found Refusal → Type 0
-IsObjectOf line r = MatchResult r (λ found. (ms : Members) × (object_of line ≡ Some (object ms)) × AreFound ms found) (λ e. Fails e (ok_or (object_of line) NotJson))
+abbrev pub IsObjectOf : List ℕ → Result (Unit {0}) Refusal → Found → Type 0
+IsObjectOf line r found = MatchResult r (λ _. (ms : Members) × (object_of line ≡ Some (object ms)) × AreFound ms found) (λ e. Fails e (ok_or (object_of line) NotJson))
 
 abbrev pub field_in : {A : Type 0} → Field → (Leaf → Option A) → Option Leaf → Result A LineError
 field_in name reading None = Err (Missing name)

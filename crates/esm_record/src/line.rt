@@ -1,5 +1,5 @@
 //! The object that a line is, and the moment in one of its fields.
-ghost use Rattle.std.specs.Prelude.{◌≡◌};
+ghost use Rattle.std.specs.Prelude.{◌≡◌, None, length};
 ghost use Rattle.esm_record.specs.declared.error.LineError.TheVariants.{NotJson};
 ghost use Rattle.esm_record.specs.Leaf.{moment_in, field_in, leaf_at, IsObjectOf};
 
@@ -7,21 +7,25 @@ use crate::error::{Field, LineError, Refusal};
 use crate::object::{Found, Leaf, read_object};
 use esm_model::MAX_MOMENT;
 use json::Scratch;
-use simdutf8::basic::from_utf8;
+use std::str::from_utf8;
 
-/// The members of the object that the line is.
-pub fn object_of<'a>(scratch: &'a mut Scratch, line: &'a [u8]) -> Result<Found<'a>, Refusal>
-    ensures { IsObjectOf line.now result }
+/// Puts the members of the object that the line is to those found, which are none yet.
+pub fn read_line<'a>(
+    scratch: &'a mut Scratch,
+    line: &'a [u8],
+    found: &mut Found<'a>,
+) -> Result<(), Refusal>
+    requires empty { (f : Field) → leaf_at f found.old ≡ None }
+    requires sized { length found.old.leaves ≡ 9 }
+    ensures { IsObjectOf line.now result found.new }
 {
     let Ok(text) = from_utf8(line) else {
         return Err(Refusal::Line(LineError::NotJson));
     };
-    let Ok(object) = read_object(text, scratch) else {
-        return Err(Refusal::OutOfMemory);
-    };
-    match object {
-        Some(found) => Ok(found),
-        None => Err(Refusal::Line(LineError::NotJson)),
+    match read_object(text, scratch, found) {
+        Ok(true) => Ok(()),
+        Ok(false) => Err(Refusal::Line(LineError::NotJson)),
+        Err(_) => Err(Refusal::OutOfMemory),
     }
 }
 

@@ -51,7 +51,8 @@ pub struct Found<'a> {
 }
 
 impl<'a> Found<'a> {
-    fn nothing() -> Found<'a>
+    /// No member came.
+    pub fn nothing() -> Found<'a>
         ensures empty { (f : Field) → leaf_at f result ≡ None }
         ensures sized { length result.leaves ≡ 9 }
     {
@@ -140,17 +141,18 @@ fn pass_members(reader: &mut Reader<'_>, depth: usize) -> Result<(), Invalid>
 }
 
 /// The members up to the brace that closes the object.
-fn read_members<'a>(reader: &mut Reader<'a>) -> Result<Found<'a>, Invalid>
-    ensures ok { IfOk result (λ found. ReadsMembers MAX_DEPTH reader.old found reader.new) }
+fn read_members<'a>(reader: &mut Reader<'a>, found: &mut Found<'a>) -> Result<(), Invalid>
+    requires empty { (f : Field) → leaf_at f found.old ≡ None }
+    requires sized { length found.old.leaves ≡ 9 }
+    ensures ok { OnOk result (ReadsMembers MAX_DEPTH reader.old found.new reader.new) }
     ensures err { OnErr result (converted (λ ms. of_members ms no_members)
         (members (value MAX_DEPTH) (length reader.old) reader.old) ≡ None) }
 {
-    let mut found = Found::nothing();
     'members: while let Some(name) = reader.next_key()? {
         let leaf = read_leaf(reader, MAX_DEPTH)?;
         found.keep(name, leaf);
     }
-    Ok(found)
+    Ok(())
 }
 
 /// Takes the brace that opens an object; after `false` the tokens are no object.
@@ -163,24 +165,27 @@ fn opens_object(reader: &mut Reader<'_>) -> bool
     }
 }
 
-/// The members of the object that the text is; `None` where it is none.
+/// Puts the members of the object that the text is to those found, which are none yet; after `false` it is none.
 pub fn read_object<'a>(
     text: &'a str,
     scratch: &'a mut Scratch,
-) -> Result<Option<Found<'a>>, OutOfMemory>
-    ensures { IfOk result (λ o. IsObjectRead (read text.now) o) }
+    found: &mut Found<'a>,
+) -> Result<bool, OutOfMemory>
+    requires empty { (f : Field) → leaf_at f found.old ≡ None }
+    requires sized { length found.old.leaves ≡ 9 }
+    ensures { IfOk result (λ is. IsObjectRead (read text.now) is found.new) }
 {
     let Ok(mut reader) = Reader::new(text, scratch) else {
         return Err(OutOfMemory);
     };
     if !opens_object(&mut reader) {
-        return Ok(None);
+        return Ok(false);
     }
-    let Ok(found) = read_members(&mut reader) else {
-        return Ok(None);
+    let Ok(()) = read_members(&mut reader, found) else {
+        return Ok(false);
     };
-    if reader.next().is_some() {
-        return Ok(None);
+    match reader.next() {
+        None => Ok(true),
+        Some(_) => Ok(false),
     }
-    Ok(Some(found))
 }

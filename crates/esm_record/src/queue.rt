@@ -7,11 +7,12 @@ ghost use Rattle.esm_record.specs.Line as spec;
 ghost use Rattle.esm_record.specs.Leaf.{text_in, of_text_in, field_in, group_in, message_in, leaf_at};
 
 use crate::error::{Field, LineError, Refusal};
-use crate::line::{moment_of, object_of};
+use crate::line::{moment_of, read_line};
 use crate::object::{Found, Leaf};
 use esm_model::spelling::are_name_bytes;
 use esm_model::{MAX_DATA, Message, OutOfMemory, Text};
 use json::Scratch;
+use memchr::memchr;
 use std::alloc::Global;
 
 /// Bytes of a message's id.
@@ -29,7 +30,7 @@ fn is_message_id(text: &[u8]) -> bool
 fn is_body_byte(byte: u8) -> bool
     ensures { result ≡ valid.is_body_byte byte }
 {
-    32 <= byte || byte == b'\t' || byte == b'\n' || byte == b'\r'
+    (32 <= byte) | (byte == b'\t') | (byte == b'\n') | (byte == b'\r')
 }
 
 /// Whether the bytes begin with U+FFFE or U+FFFF.
@@ -42,8 +43,29 @@ fn ends_plane(bytes: &[u8]) -> bool
     }
 }
 
-/// Whether each character of the text is one that a body may have.
+/// Whether each byte is a character of its own or part of a longer one; it reads to the end, which vectors do.
+fn are_body_bytes(text: &[u8]) -> bool
+    ensures { result ≡ list_all valid.is_body_byte text.now }
+{
+    let mut passes = true;
+    for byte in text {
+        passes &= is_body_byte(*byte);
+    }
+    passes
+}
+
+/// Whether each character of the text is one that a body may have; only U+F000 to U+FFFF begin with 0xEF.
 fn has_body_chars(text: &[u8]) -> bool
+    ensures { result ≡ valid.has_body_chars text.now }
+{
+    match memchr(0xEF, text) {
+        None => are_body_bytes(text),
+        Some(_) => has_body_chars_beside(text),
+    }
+}
+
+/// The same, of a text in which U+FFFE or U+FFFF may stand.
+fn has_body_chars_beside(text: &[u8]) -> bool
     ensures { result ≡ valid.has_body_chars text.now }
 {
     let mut rest = text;
@@ -191,8 +213,9 @@ pub fn read_message(
 ) -> Result<Message, Refusal>
     ensures { Gives result (spec.line_of (spec.message_of fifo) line.now) }
 {
-    match object_of(scratch, line) {
-        Ok(found) => message_of(alloc, fifo, &found),
+    let mut found = Found::nothing();
+    match read_line(scratch, line, &mut found) {
+        Ok(()) => message_of(alloc, fifo, &found),
         Err(refusal) => Err(refusal),
     }
 }

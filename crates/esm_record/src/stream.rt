@@ -10,7 +10,7 @@ ghost use Rattle.esm_record.specs.Line as spec;
 ghost use Rattle.esm_record.specs.Leaf.{text_in, of_text_in, field_in, record_in, leaf_at};
 
 use crate::error::{Field, LineError, Refusal};
-use crate::line::{moment_of, object_of};
+use crate::line::{moment_of, read_line};
 use crate::object::{Found, Leaf};
 use base64::DecodeAllocError;
 use base64::engine::general_purpose::STANDARD;
@@ -104,6 +104,7 @@ fn partition_key_in(alloc: Global, leaf: Leaf<'_>) -> Result<Option<Text>, OutOf
     Ok(Some(Text::from_vec(String::from_str(alloc, text)?)))
 }
 
+#[inline(never)]
 fn payload_in(alloc: Global, leaf: Leaf<'_>) -> Result<Option<Bytes>, OutOfMemory>
     ensures { IfOk result (λ o. o ≡ of_text_in spec.payload leaf.entry) }
 {
@@ -184,8 +185,9 @@ fn record_of(alloc: Global, line: &Found<'_>) -> Result<Record, Refusal>
 pub fn read_record(alloc: Global, scratch: &mut Scratch, line: &[u8]) -> Result<Record, Refusal>
     ensures { Gives result (spec.line_of spec.record_of line.now) }
 {
-    match object_of(scratch, line) {
-        Ok(found) => record_of(alloc, &found),
+    let mut found = Found::nothing();
+    match read_line(scratch, line, &mut found) {
+        Ok(()) => record_of(alloc, &found),
         Err(refusal) => Err(refusal),
     }
 }

@@ -9,7 +9,7 @@ use Rattle.esm_record.proofs.Leaves.{none_found}
 use Rattle.esm_record.proofs.object.read_members.Goals as goal
 
 pub members-init : goal.members-init
-members-init c = (length c.args.reader.now, no_members, omega arith, refl, none_found c.nothing-found.result c.nothing-found.ensures.empty, c.nothing-found.ensures.sized)
+members-init c = (length c.args.reader.now, no_members, omega arith, refl, none_found c.args.found.now c.requires.empty, c.requires.sized)
 
 pub returns-in_err-name-clause-err : goal.returns-in_err-name-clause-err
 returns-in_err-name-clause-err c =

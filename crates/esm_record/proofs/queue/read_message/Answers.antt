@@ -10,7 +10,7 @@ use Rattle.esm_record.proofs.queue.read_message.Goals as goal
 pub returns-in-Ok : goal.returns-in-Ok
 returns-in-Ok c =
     let object = c.in-Ok.ensures in
-    let says = line_says (message_of c.args.fifo) (message_in c.args.fifo c.in-Ok.found) c.args.line.now object.0 object.1 (message_says c.args.fifo object.0 c.in-Ok.found object.2) in
+    let says = line_says (message_of c.args.fifo) (message_in c.args.fifo c.read_line.new.found) c.args.line.now object.0 object.1 (message_says c.args.fifo object.0 c.read_line.new.found object.2) in
     subst (λ (r : Result Message LineError). Gives c.message_of.result r) says c.message_of.ensures
 
 pub returns-in-Err : goal.returns-in-Err

@@ -10,7 +10,7 @@ use Rattle.esm_record.proofs.stream.read_record.Goals as goal
 pub returns-in-Ok : goal.returns-in-Ok
 returns-in-Ok c =
     let object = c.in-Ok.ensures in
-    let says = line_says record_of (record_in c.in-Ok.found) c.args.line.now object.0 object.1 (record_says object.0 c.in-Ok.found object.2) in
+    let says = line_says record_of (record_in c.read_line.new.found) c.args.line.now object.0 object.1 (record_says object.0 c.read_line.new.found object.2) in
     subst (λ (r : Result Record LineError). Gives c.record_of.result r) says c.record_of.ensures
 
 pub returns-in-Err : goal.returns-in-Err

@@ -1,6 +1,6 @@
 use Rattle.std.proofs.Common.{◌≡◌, length}
 use Rattle.esm_model.specs.ValidMessage.{has_body_chars}
-use Rattle.esm_record.proofs.queue.has_body_chars.Given as goal
+use Rattle.esm_record.proofs.queue.has_body_chars_beside.Given as goal
 
 abbrev pub invariant-loop-first : goal.invariant-loop-first
 invariant-loop-first l = has_body_chars l.rest ≡ has_body_chars l.fn.text
