@@ -2,7 +2,6 @@
 use Rattle.std.proofs.Common.{◌≡◌, ℕ, Bool, true, false, List, [], ◌∷◌, ◌++◌, Option, None, Result, Ok, Err, refl, sym, ap, ◌∙◌}
 use Rattle.std.specs.Prelude.{◌||◌}
 use Rattle.std.specs.Str.{bytes_eq}
-use Rattle.std.specs.BTreeSet.{contains_text}
 use Rattle.std.proofs.lemmas.List.Sums.{fold-append}
 use Rattle.std.proofs.lemmas.List.Folds.{list_any-append}
 use Rattle.esm_model.specs.declared.item.Record.{Record}
@@ -15,6 +14,7 @@ use Rattle.esm_record.specs.declared.item.Item.TheVariants.{Stream, Queue}
 use Rattle.esm_record.specs.declared.seen.Seen.{Seen}
 use Rattle.esm_record.specs.Gives.{Fails}
 use Rattle.esm_record.specs.Line.{◌>>=◌, line_of, record_of, message_of}
+use Rattle.esm_record.specs.Ids.{stood_in}
 use Rattle.esm_record.specs.Numbers.{number_in}
 use Rattle.esm_record.specs.Seen.{Follows}
 use Rattle.esm_record.specs.Input.{number_after, in_order, next_record, has_id, has_stood, as_new, next_message, some_item}
@@ -48,10 +48,10 @@ or_one false false = refl
 pub record_follows : (items : List Item) (r : Record) (old new : Seen) → Follows items old → ((shard : ℕ) → number_in new.numbers shard ≡ number_after shard (number_in old.numbers shard) (Stream r)) → new.ids ≡ old.ids → Follows (items ++ Stream r ∷ []) new
 record_follows items r old new follows number ids = record {
   number = λ shard. number shard ∙ ap (λ (last : Option (List ℕ)). number_after shard last (Stream r)) (follows.number shard) ∙ sym (fold-append (number_after shard) None items (Stream r ∷ []));
-  id = λ id. ap (λ s. contains_text s id) ids ∙ follows.id id ∙ sym (list_any-append (has_id id) items (Stream r ∷ []) ∙ or_none (has_stood id items));
+  id = λ id. ap (λ s. stood_in s id) ids ∙ follows.id id ∙ sym (list_any-append (has_id id) items (Stream r ∷ []) ∙ or_none (has_stood id items));
 }
 
-pub message_follows : (items : List Item) (m : Message) (old new : Seen) → Follows items old → ((id : List ℕ) → contains_text new.ids id ≡ (bytes_eq m.id id || contains_text old.ids id)) → new.numbers ≡ old.numbers → Follows (items ++ Queue m ∷ []) new
+pub message_follows : (items : List Item) (m : Message) (old new : Seen) → Follows items old → ((id : List ℕ) → stood_in new.ids id ≡ (bytes_eq m.id id || stood_in old.ids id)) → new.numbers ≡ old.numbers → Follows (items ++ Queue m ∷ []) new
 message_follows items m old new follows ids numbers = record {
   number = λ shard. ap (λ n. number_in n shard) numbers ∙ follows.number shard ∙ sym (fold-append (number_after shard) None items (Queue m ∷ []));
   id = λ id. ids id ∙ ap (λ (stood : Bool). bytes_eq m.id id || stood) (follows.id id) ∙ sym (list_any-append (has_id id) items (Queue m ∷ []) ∙ or_one (bytes_eq m.id id) (has_stood id items));

@@ -3,6 +3,7 @@ pub mod Digits
 pub mod Feeds
 pub mod FirstLine
 pub mod Follows
+pub mod IdSets
 pub mod Inputs
 pub mod Wholes
 pub mod Records

@@ -3,6 +3,7 @@ pub mod Gives
 pub mod Input
 pub mod GoesOn
 pub mod Numbers
+pub mod Ids
 pub mod Seen
 pub mod Splitting
 pub mod Leaf

@@ -1,12 +1,12 @@
 -- What a reader of lines keeps of the items before. Only private contracts cite this.
 use Rattle.std.specs.Prelude.{◌≡◌, ℕ, List}
-use Rattle.std.specs.BTreeSet.{contains_text}
 use Rattle.esm_record.specs.declared.item.Item.{Item}
 use Rattle.esm_record.specs.declared.seen.Seen.{Seen}
 use Rattle.esm_record.specs.Input.{last_number, has_stood}
+use Rattle.esm_record.specs.Ids.{stood_in}
 use Rattle.esm_record.specs.Numbers.{number_in}
 
 -- the last sequence number of each shard, and the ids that stood, by these items
 pub record Follows (items : List Item) (seen : Seen) : Type 0 where
   pub number : (shard : ℕ) → number_in seen.numbers shard ≡ last_number shard items
-  pub id : (id : List ℕ) → contains_text seen.ids id ≡ has_stood id items
+  pub id : (id : List ℕ) → stood_in seen.ids id ≡ has_stood id items

@@ -29,13 +29,13 @@ impl Model for FedBytes {
 }
 
 /// Takes a whole block.
-fn push_block(blocks: &mut Vec<Snapshot<[u8; BLOCK]>>, bytes: &[u8]) -> Result<(), OutOfMemory>
+fn push_block(noted: &mut Vec<Snapshot<[u8; BLOCK]>>, bytes: &[u8]) -> Result<(), OutOfMemory>
     requires { length bytes.now ≡ BLOCK }
-    ensures { OnOk result (in_blocks blocks.new.items ≡ in_blocks blocks.old.items ++ bytes.now) }
+    ensures { OnOk result (in_blocks noted.new.items ≡ in_blocks noted.old.items ++ bytes.now) }
 {
     match bytes.as_array::<BLOCK>() {
         Some(block) => {
-            blocks.push(Snapshot::of(block))?;
+            noted.push(Snapshot::of(block))?;
             Ok(())
         }
         None => unreachable!(),
@@ -44,16 +44,16 @@ fn push_block(blocks: &mut Vec<Snapshot<[u8; BLOCK]>>, bytes: &[u8]) -> Result<(
 
 /// Takes the whole blocks, and gives what follows them.
 fn push_blocks<'a>(
-    blocks: &mut Vec<Snapshot<[u8; BLOCK]>>,
+    noted: &mut Vec<Snapshot<[u8; BLOCK]>>,
     bytes: &'a [u8],
 ) -> Result<&'a [u8], OutOfMemory>
-    ensures taken { IfOk result (λ rest. in_blocks blocks.new.items ++ rest.now
-        ≡ in_blocks blocks.old.items ++ bytes.now) }
+    ensures taken { IfOk result (λ rest. in_blocks noted.new.items ++ rest.now
+        ≡ in_blocks noted.old.items ++ bytes.now) }
     ensures short { IfOk result (λ rest. length rest.now < BLOCK) }
 {
     let mut rest = bytes;
     while let Some((block, after)) = rest.split_first_chunk::<BLOCK>() {
-        blocks.push(Snapshot::of(block))?;
+        noted.push(Snapshot::of(block))?;
         rest = after;
     }
     Ok(rest)

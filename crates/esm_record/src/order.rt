@@ -1,8 +1,8 @@
 ghost use Rattle.std.specs.Prelude.{◌≡◌, ◌||◌, ℕ, List, ◌++◌, ◌∷◌, [], option_to_list, Ok, IfOk, IfErr, OnOk};
 ghost use Rattle.std.specs.Str.{bytes_eq};
-ghost use Rattle.std.specs.BTreeSet.{contains_text};
 ghost use Rattle.esm_model.specs.Sequence.{sequence_order};
 ghost use Rattle.esm_record.specs.Gives.{Gives, Fails};
+ghost use Rattle.esm_record.specs.Ids.{stood_in};
 ghost use Rattle.esm_record.specs.Input.{is_blank_byte, is_blank, number_after, in_order, next_record, next_message, item_of, read_after};
 ghost use Rattle.esm_record.specs.Numbers.{number_in};
 ghost use Rattle.esm_record.specs.Seen.{Follows};
@@ -76,14 +76,14 @@ fn next_record(
 /// The message of a queue's line, which is neither blank nor too long, as one whose id did not stand before.
 fn next_message(
     alloc: Global,
-    ids: &mut BTreeSet<String>,
+    ids: &mut BTreeSet<(u64, String)>,
     scratch: &mut Scratch,
     fifo: bool,
     line: &[u8],
 ) -> Result<Message, Refusal>
-    ensures item { Gives result (next_message (contains_text ids.old) fifo line.now) }
+    ensures item { Gives result (next_message (stood_in ids.old) fifo line.now) }
     ensures kept { IfOk result (λ m. (id : List ℕ)
-        → contains_text ids.new id ≡ (bytes_eq m.id id || contains_text ids.old id)) }
+        → stood_in ids.new id ≡ (bytes_eq m.id id || stood_in ids.old id)) }
 {
     let message = read_message(alloc, scratch, fifo, line)?;
     as_new(alloc, ids, message)

@@ -1,7 +1,7 @@
 ghost use Rattle.std.specs.Prelude.{◌≡◌, ◌||◌, ℕ, List, false, true, Ok, IfOk, IfErr, OnOk, []};
 ghost use Rattle.std.specs.Str.{bytes_eq};
-ghost use Rattle.std.specs.BTreeSet.{contains_text};
 ghost use Rattle.esm_record.specs.Gives.{Gives, Fails};
+ghost use Rattle.esm_record.specs.Ids.{front_of, stood_in};
 ghost use Rattle.esm_record.specs.Input.{as_new};
 ghost use Rattle.esm_record.specs.Seen.{Follows};
 
@@ -15,7 +15,8 @@ use std::collections::BTreeSet;
 #[derive(Drop)]
 pub struct Seen {
     pub numbers: Numbers,
-    pub ids: BTreeSet<String>,
+    /// Each with its first eight bytes as a number, which mostly orders it.
+    pub ids: BTreeSet<(u64, String)>,
 }
 
 impl Seen {
@@ -30,14 +31,30 @@ impl Seen {
     }
 }
 
-/// Takes the message's id to those that stood, or refuses the message where it is one of them.
-pub fn as_new(alloc: Global, ids: &mut BTreeSet<String>, given: Message) -> Result<Message, Refusal>
-    ensures item { Gives result (as_new (contains_text ids.old given.id) given) }
-    ensures kept { IfOk result (λ m. (id : List ℕ)
-        → contains_text ids.new id ≡ (bytes_eq m.id id || contains_text ids.old id)) }
+/// The first eight bytes as a number.
+fn front_of(id: &[u8]) -> u64
+    ensures { result ≡ front_of id.now }
 {
+    let mut front: u64 = 0;
+    for byte in &id[..id.len().min(8)] {
+        front = front.wrapping_mul(256).wrapping_add(u64::from(*byte));
+    }
+    front
+}
+
+/// Takes the message's id to those that stood, or refuses the message where it is one of them.
+pub fn as_new(
+    alloc: Global,
+    ids: &mut BTreeSet<(u64, String)>,
+    given: Message,
+) -> Result<Message, Refusal>
+    ensures item { Gives result (as_new (stood_in ids.old given.id) given) }
+    ensures kept { IfOk result (λ m. (id : List ℕ)
+        → stood_in ids.new id ≡ (bytes_eq m.id id || stood_in ids.old id)) }
+{
+    let front = front_of(given.id.as_slice());
     let id = String::from_str(alloc, given.id.as_str())?;
-    let Ok(added) = ids.insert(id) else {
+    let Ok(added) = ids.insert((front, id)) else {
         return Err(Refusal::OutOfMemory);
     };
     if added {

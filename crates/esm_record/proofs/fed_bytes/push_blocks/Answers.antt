@@ -17,5 +17,5 @@ loop-block-preserved c =
     let rest : List ℕ = c.loop-block.rest.now in
     let front : c.of.result.value ≡ take 256 rest = c.of.ensures ∙ c.in-Some.ensures.cases.0 in
     let parts : c.of.result.value ++ c.in-Some.after.now ≡ rest = ap₂ (λ (a : List ℕ) (b : List ℕ). a ++ b) front c.in-Some.ensures.cases.1 ∙ take-append-drop 256 rest in
-    let pushed : c.push.new.self.items ≡ c.loop-block.blocks.items ++ c.of.result ∷ [] = c.in_ok-push.ensures.items in
-    ap (λ bs. in_blocks bs ++ c.in-Some.after.now) pushed ∙ one_more c.loop-block.blocks.items c.of.result c.in-Some.after.now rest (in_blocks c.args.blocks.now.items ++ c.args.bytes.now) parts c.loop-block.invariant
+    let pushed : c.push.new.self.items ≡ c.loop-block.noted.items ++ c.of.result ∷ [] = c.in_ok-push.ensures.items in
+    ap (λ bs. in_blocks bs ++ c.in-Some.after.now) pushed ∙ one_more c.loop-block.noted.items c.of.result c.in-Some.after.now rest (in_blocks c.args.noted.now.items ++ c.args.bytes.now) parts c.loop-block.invariant
