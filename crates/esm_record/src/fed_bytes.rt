@@ -1,5 +1,5 @@
 //! The bytes that a reader was fed, as clauses see them.
-ghost use Rattle.std.specs.Prelude.{◌≡◌, ◌<◌, ◌≤◌, ◌++◌, [], length, OnOk, IfOk};
+ghost use Rattle.std.specs.Prelude.{◌≡◌, ◌<◌, ◌++◌, [], length, OnOk, IfOk};
 ghost use Rattle.esm_record.specs.Fed.{in_blocks};
 
 use esm_model::OutOfMemory;

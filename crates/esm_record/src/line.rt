@@ -1,6 +1,5 @@
 //! The object that a line is, and the moment in one of its fields.
 ghost use Rattle.std.specs.Prelude.{◌≡◌, None, length};
-ghost use Rattle.esm_record.specs.declared.error.LineError.TheVariants.{NotJson};
 ghost use Rattle.esm_record.specs.Leaf.{moment_in, field_in, leaf_at, IsObjectOf};
 
 use crate::error::{Field, LineError, Refusal};

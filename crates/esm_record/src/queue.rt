@@ -1,10 +1,10 @@
 //! The message that a line of a queue is.
-ghost use Rattle.std.specs.Prelude.{◌≡◌, length, drop, IfOk};
+ghost use Rattle.std.specs.Prelude.{◌≡◌, IfOk};
 ghost use Rattle.std.specs.List.{list_all};
 ghost use Rattle.esm_model.specs.ValidMessage as valid;
 ghost use Rattle.esm_record.specs.Gives.{Gives};
 ghost use Rattle.esm_record.specs.Line as spec;
-ghost use Rattle.esm_record.specs.Leaf.{text_in, of_text_in, field_in, group_in, message_in, leaf_at};
+ghost use Rattle.esm_record.specs.Leaf.{of_text_in, field_in, group_in, message_in, leaf_at};
 
 use crate::error::{Field, LineError, Refusal};
 use crate::line::{moment_of, read_line};

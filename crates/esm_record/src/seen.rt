@@ -1,6 +1,6 @@
-ghost use Rattle.std.specs.Prelude.{◌≡◌, ◌||◌, ℕ, List, false, true, Ok, IfOk, IfErr, OnOk, []};
+ghost use Rattle.std.specs.Prelude.{◌≡◌, ◌||◌, ℕ, List, [], IfOk};
 ghost use Rattle.std.specs.Str.{bytes_eq};
-ghost use Rattle.esm_record.specs.Gives.{Gives, Fails};
+ghost use Rattle.esm_record.specs.Gives.{Gives};
 ghost use Rattle.esm_record.specs.Ids.{front_of, stood_in};
 ghost use Rattle.esm_record.specs.Input.{as_new};
 ghost use Rattle.esm_record.specs.Seen.{Follows};

@@ -3,7 +3,7 @@ use Rattle.std.proofs.lemmas.Str.{IsUtf8-from_is_utf8, is_utf8-from_IsUtf8}
 use Rattle.std.specs.Str.{is_utf8}
 use Rattle.serde_json.specs.Read.{read}
 use Rattle.esm_record.specs.Leaf.{IsObjectRead}
-use Rattle.esm_record.proofs.Records.{object_is, no_object_is, no_text_is}
+use Rattle.esm_record.proofs.Records.{object_is, no_text_is}
 use Rattle.esm_record.proofs.line.read_line.Goals as goal
 
 pub returns-in_default : goal.returns-in_default
