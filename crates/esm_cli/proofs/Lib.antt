@@ -1,7 +1,13 @@
-pub mod Steps
-pub mod Uses
-pub mod WordKinds
-pub mod Refusals
-pub mod Parse
-pub mod Spelled
-pub mod OneCommand
+mod Bools
+mod Finished
+mod Getters
+mod Numerals
+mod OneCommand
+mod Parse
+mod Refusals
+mod Refused
+mod Rules
+mod Spelled
+mod Steps
+mod Uses
+mod WordKinds

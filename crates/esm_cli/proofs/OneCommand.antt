@@ -1,47 +1,119 @@
 -- Words spell one command at most.
-use Rattle.std.proofs.Common.{◌≡◌, ◌∙◌, ℕ, Bool, true, false, codes, refl, sym, ap, List, [], ◌++◌, drop, None, is_some}
-use Rattle.clap.specs.Walk.{Row, Text, one_of}
-use Rattle.esm_cli.specs.Spelling.{is_given, value_of, Given, AreOptions}
-use Rattle.esm_cli.specs.Words.{IsRun, IsWhich, spells}
+use Rattle.std.proofs.Common.{◌≡◌, ◌∙◌, ◌<◌, ◌^◌, ℕ, Bool, refl, sym, ap, ap₂, subst, arith, List, ◌∷◌, Option, Some, None}
+use Rattle.std.proofs.lemmas.Fmt.{decimal_injective}
+use Rattle.clap.specs.Walk.{Text}
+use Rattle.esm_cli.specs.Spelling.{Given, AreOptions}
+use Rattle.esm_cli.specs.Tables.{listing, options_of, verb_name, verb_named}
+use Rattle.esm_cli.specs.Words.{IsCommand, IsNumber, IsNumberFrom, IsRun, IsSaid, IsWhich, Values, reads_first, spells, values_in, verb_of}
 use Rattle.esm_cli.specs.declared.command.Command.{Command}
-use Rattle.esm_cli.specs.declared.command.Command.TheVariants.{Run}
+use Rattle.esm_cli.specs.declared.command.Command.TheVariants.{Init, Run, Show, Failures, Gen, Compact, Serve, Migrate, Ddb, Redrive, Replay}
 use Rattle.esm_cli.specs.declared.command.RunWords.{RunWords}
 use Rattle.esm_cli.specs.declared.command.Which.{Which}
-use Rattle.esm_cli.specs.declared.command.Which.TheVariants.{Config}
-use Rattle.esm_cli.specs.Tables.{run_options}
-use Rattle.esm_cli.proofs.Spelled.{flag_text, options_of, read_found, same_config, same_rows}
+use Rattle.esm_cli.specs.declared.command.Which.TheVariants.{Config, Mapping}
+use Rattle.esm_cli.specs.declared.table.NumberRule.{NumberRule}
+use Rattle.esm_cli.specs.declared.table.TheConstants.{CALLS, VISIBILITY, RECORDS, REQUESTS, MAX_RECEIVES}
+use Rattle.esm_cli.specs.declared.table.Verb.{Verb}
+use Rattle.esm_cli.specs.declared.table.Verb.TheVariants as verb
+use Rattle.esm_cli.proofs.Spelled.{same_options}
+use Rattle.esm_cli.proofs.WordKinds.{AreNamedWell}
 
-flag_given : (b : Bool) → is_some (flag_text b None) ≡ b
-flag_given true = refl
-flag_given false = refl
+-- each name is one command's
 
-same_flag : (words : List Text) (gs more : List Given) → AreOptions run_options gs (drop 1 words) → AreOptions run_options more (drop 1 words)
-    → is_given (codes "read-first") gs ≡ is_given (codes "read-first") more
-same_flag words gs more a b =
-    sym (flag_given (is_given (codes "read-first") gs))
-    ∙ ap is_some (sym (read_found gs [] a.listed) ∙ ap (λ (rs : List Row). one_of (codes "read-first") (rs ++ [])) (same_rows words gs more a b) ∙ read_found more [] b.listed)
-    ∙ flag_given (is_given (codes "read-first") more)
+pub named_verb : (v : Verb) → verb_named (verb_name v) ≡ Some v
+named_verb verb.Init = refl
+named_verb verb.Run = refl
+named_verb verb.Show = refl
+named_verb verb.Failures = refl
+named_verb verb.Gen = refl
+named_verb verb.Compact = refl
+named_verb verb.Serve = refl
+named_verb verb.Migrate = refl
+named_verb verb.Ddb = refl
+named_verb verb.Redrive = refl
+named_verb verb.Replay = refl
 
-same_which : (gs more : List Given) (w v : Which) → value_of (codes "config") gs ≡ value_of (codes "config") more → IsWhich gs w → IsWhich more v → w ≡ v
-same_which gs more (Config a) (Config b) same one other = (let text : a ≡ b = cc in ap Config text)
+same_head : (a b : Text) (xs ys : List Text) → a ∷ xs ≡ b ∷ ys → a ≡ b
+same_head a b xs ys e = cc
 
-abbrev options : Which → ℕ → ℕ → Bool → RunWords
-options which calls visibility read_first = record { which = which; calls = calls; visibility = visibility; read_first = read_first }
+same_tail : (a b : Text) (xs ys : List Text) → a ∷ xs ≡ b ∷ ys → xs ≡ ys
+same_tail a b xs ys e = cc
 
-same_run : (gs more : List Given) (r q : RunWords) → value_of (codes "config") gs ≡ value_of (codes "config") more → is_given (codes "read-first") gs ≡ is_given (codes "read-first") more
-    → IsRun gs r → IsRun more q → r ≡ q
-same_run gs more r q config flag one other =
-    let which : r.which ≡ q.which = same_which gs more r.which q.which config one.which other.which in
-    let calls : r.calls ≡ q.calls = one.calls ∙ sym other.calls in
-    let visibility : r.visibility ≡ q.visibility = one.visibility ∙ sym other.visibility in
-    let read_first : r.read_first ≡ q.read_first = one.read_first ∙ flag ∙ sym other.read_first in
-    ap (λ w. options w r.calls r.visibility r.read_first) which
-    ∙ ap (λ n. options q.which n r.visibility r.read_first) calls
-    ∙ ap (λ n. options q.which q.calls n r.read_first) visibility
-    ∙ ap (options q.which q.calls q.visibility) read_first
+same_some : (v w : Verb) → Some v ≡ Some w → v ≡ w
+same_some v w e = cc
+
+pub same_verb : (v w : Verb) → verb_name v ≡ verb_name w → v ≡ w
+same_verb v w e = same_some v w (sym (named_verb v) ∙ ap verb_named e ∙ named_verb w)
+
+-- each option has a name that can be spelled
+
+pub named_well : (v : Verb) → AreNamedWell (listing (options_of v))
+named_well verb.Run = refl
+named_well verb.Gen = refl
+named_well verb.Serve = refl
+named_well verb.Ddb = refl
+named_well verb.Redrive = refl
+named_well verb.Replay = refl
+named_well _ = refl
+
+-- the words spell one list of options, of one command
+pub same_given : (words : List Text) (v w : Verb) (gs ds : List Given) → IsCommand v gs words → IsCommand w ds words → (v ≡ w) × (gs ≡ ds)
+same_given words v w gs ds a b =
+    let whole : verb_name v ∷ a.rest ≡ verb_name w ∷ b.rest = sym a.first ∙ b.first in
+    let verb : v ≡ w = same_verb v w (same_head (verb_name v) (verb_name w) a.rest b.rest whole) in
+    let rest : a.rest ≡ b.rest = same_tail (verb_name v) (verb_name w) a.rest b.rest whole in
+    let other : AreOptions (listing (options_of v)) ds a.rest =
+    subst (λ x. AreOptions (listing (options_of x)) ds a.rest) (sym verb) (subst (λ ws. AreOptions (listing (options_of w)) ds ws) (sym rest) b.others) in
+    (verb, same_options (listing (options_of v)) a.rest gs ds (named_well v) a.others other)
+
+-- the options say one command
+
+abbrev IsSmall : NumberRule → Type 0
+IsSmall rule = rule.greatest < 2 ^ 32
+
+small_number : (rule : NumberRule) (o : Option Text) (n m : ℕ) → IsSmall rule → IsNumberFrom rule o n → IsNumberFrom rule o m → n ≡ m
+small_number rule (Some text) n m small a b = decimal_injective n m (omega (arith, a.2)) (omega (arith, b.2)) (sym a.0 ∙ b.0)
+small_number rule None n m small a b = (let both : Some n ≡ Some m = sym a ∙ b in cc)
+
+pub one_number : (rule : NumberRule) (value : Values) (n m : ℕ) → IsSmall rule → IsNumber rule value n → IsNumber rule value m → n ≡ m
+one_number rule value n m small a b = small_number rule (value rule.option) n m small a b
+
+one_text : (o : Option Text) (a b : Text) → o ≡ Some a → o ≡ Some b → a ≡ b
+one_text o a b p q = (let both : Some a ≡ Some b = sym p ∙ q in cc)
+
+one_which : (value : Values) (w v : Which) → IsWhich value w → IsWhich value v → w ≡ v
+one_which value (Config a) (Config b) p q = ap Config (one_text _ a b p.0 q.0)
+one_which value (Config a) (Mapping id) p q = absurd (let both : Some a ≡ None = sym p.0 ∙ q.0 in cc)
+one_which value (Mapping id) (Config b) p q = absurd (let both : Some b ≡ None = sym q.0 ∙ p.0 in cc)
+one_which value (Mapping a) (Mapping b) p q = ap Mapping (one_text _ a b p.1 q.1)
+
+abbrev words_of : Which → ℕ → ℕ → Bool → RunWords
+words_of which calls visibility read_first = record { which = which; calls = calls; visibility = visibility; read_first = read_first }
+
+one_run : (value : Values) (first : Bool) (r q : RunWords) → IsRun value first r → IsRun value first q → r ≡ q
+one_run value first r q a b =
+    ap (λ w. words_of w r.calls r.visibility r.read_first) (one_which value r.which q.which a.which b.which)
+    ∙ ap (λ n. words_of q.which n r.visibility r.read_first) (one_number CALLS value r.calls q.calls (omega arith) a.calls b.calls)
+    ∙ ap (λ n. words_of q.which q.calls n r.read_first) (one_number VISIBILITY value r.visibility q.visibility (omega arith) a.visibility b.visibility)
+    ∙ ap (words_of q.which q.calls q.visibility) (a.read_first ∙ sym b.read_first)
+
+pub one_said : (value : Values) (first : Bool) (c d : Command) → verb_of c ≡ verb_of d → IsSaid value first c → IsSaid value first d → c ≡ d
+one_said value first Init Init e a b = refl
+one_said value first (Run r) (Run q) e a b = ap Run (one_run value first r q a b)
+one_said value first Show Show e a b = refl
+one_said value first Failures Failures e a b = refl
+one_said value first (Gen n) (Gen m) e a b = ap Gen (one_number RECORDS value n m (omega arith) a b)
+one_said value first Compact Compact e a b = refl
+one_said value first (Serve n) (Serve m) e a b = ap Serve (one_number REQUESTS value n m (omega arith) a b)
+one_said value first Migrate Migrate e a b = refl
+one_said value first (Ddb s n) (Ddb t m) e a b = ap₂ Ddb (one_text _ s t a.0 b.0) (one_number CALLS value n m (omega arith) a.1 b.1)
+one_said value first (Redrive s r n v) (Redrive t q m w) e a b =
+    ap₂ (λ x y. Redrive x y n v) (one_text _ s t a.0 b.0) (one_number MAX_RECEIVES value r q (omega arith) a.1 b.1)
+    ∙ ap₂ (λ x y. Redrive t q x y) (one_number CALLS value n m (omega arith) a.2 b.2) (one_number VISIBILITY value v w (omega arith) a.3 b.3)
+one_said value first (Replay s n) (Replay t m) e a b = ap₂ Replay (one_text _ s t a.0 b.0) (one_number CALLS value n m (omega arith) a.1 b.1)
+one_said value first c d e a b = absurd (cc)
 
 pub one_command : (words : List Text) (c d : Command) → spells words c → spells words d → c ≡ d
-one_command words (Run r) (Run q) one other =
-    let a = options_of words one.0 one.1 in
-    let b = options_of words other.0 other.1 in
-    ap Run (same_run one.0 other.0 r q (same_config words one.0 other.0 a b) (same_flag words one.0 other.0 a b) one.2 other.2)
+one_command words c d one other =
+    let same = same_given words (verb_of c) (verb_of d) one.0 other.0 one.1 other.1 in
+    one_said (values_in one.0) (reads_first one.0) c d same.0 one.2
+    (subst (λ gs. IsSaid (values_in gs) (reads_first gs) d) (sym same.1) other.2)

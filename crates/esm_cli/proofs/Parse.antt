@@ -1,40 +1,25 @@
--- `clap`'s walk over the words of `run` comes to rows exactly where the words spell options, and then to theirs.
-use Rattle.std.proofs.Common.{◌≡◌, ◌∙◌, ◌&&◌, ◌||◌, ◌⊎◌, Bool, cond, codes, true, false, refl, sym, ap, subst, arith, List, [], ◌∷◌, ◌++◌, map, length, Option, Some, None, inl, inr, true≢false, append_assoc, append-nil, is_some, lt-ltb}
+-- `clap`'s walk over the words of a command comes to rows exactly where the words spell options, and then to theirs.
+use Rattle.std.proofs.Common.{◌≡◌, ◌∙◌, ◌&&◌, ◌||◌, ◌⊎◌, ℕ, Bool, cond, codes, true, false, refl, sym, ap, subst, arith, List, [], ◌∷◌, ◌++◌, map, length, Option, Some, None, inl, inr, true≢false, append_assoc, append-nil, is_some, lt-ltb}
 use borrow.Author.Tests.{ltb-true}
 use Rattle.std.specs.Prelude.{nat_lt}
 use Rattle.std.specs.List.{list_any, list_all, IsDistinct, AllByRecursion}
+use Rattle.std.specs.Option.{option_map_or}
 use Rattle.std.specs.Str.{bytes_eq}
-use Rattle.std.proofs.lemmas.Slice.Eq.{bytes_eq-Decides}
-use Rattle.clap.specs.Walk.{Held, Row, Text, Waiting, idle, option, settled, has_row, with_default}
-use Rattle.clap.specs.Kinds.{Kinds, or_else}
-use Rattle.clap.specs.Faults.{settle_fault, use_fault, defaults_fault, default_fault, given_default_fault}
-use Rattle.esm_cli.specs.Spelling.{begins_dash, is_stray_dash, is_given, is_listed, Given, AreSpelled, IsSpelled}
-use Rattle.esm_cli.specs.Tables.{run_options}
-use Rattle.esm_cli.proofs.Steps.{IsFault, shape, at, ran, ran_end, refuses, outcome, end_fault}
-use Rattle.esm_cli.proofs.Uses.{Ready, config, read, row, given_config, given_read, with_read, with_config, waiting_config, holding_config, ready_read, ready_config, ready_holding, step_read, step_config, step_wait, step_value}
-use Rattle.esm_cli.proofs.WordKinds.{WordKind, plain, config_alone, config_with, read_alone, read_with, other, word_kind, either}
-use Rattle.esm_cli.proofs.Refusals.{plain_fault, other_fault, doomed, starved, read_repeats, config_repeats, config_empty, config_fault, read_value_fault}
+use Rattle.clap.specs.Walk.{Held, Row, Text, Waiting, idle, option, settled, finished, has_row, with_default}
+use Rattle.clap.specs.Kinds.{Kinds, or_else, check_kinds}
+use Rattle.clap.specs.Faults.{settle_fault, use_fault, defaults_fault, default_fault, given_default_fault, check_fault}
+use Rattle.esm_cli.specs.Spelling.{Options, begins_dash, dashed, has_its_value, is_stray_dash, is_given, is_listed, listed, Given, AreSpelled, IsSpelled}
+use Rattle.esm_cli.proofs.Bools.{either, and_left, and_right, or_left, or_right}
+use Rattle.esm_cli.proofs.Rules.{rules, rule_by, shape, none_needed, listed_name}
+use Rattle.esm_cli.proofs.Steps.{IsFault, IsLong, long, at, ran, ran_end, refuses, outcome, end_fault}
+use Rattle.esm_cli.proofs.Uses.{IsNew, Ready, row, given, holding, held_fault, ready_given, ready_holding, step_given, step_value, step_wait, is_full, starved_fault, uses, waiting_for, with_given}
+use Rattle.esm_cli.proofs.WordKinds.{AreNamedWell, LongWord, WordKind, listed_well, long_word, named, other, parts_of, plain, word_kind, word_of}
+use Rattle.esm_cli.proofs.Refusals.{doomed, empty_value, flag_with_value, other_fault, plain_fault, repeats, starved, use_fails}
 
 -- names, each at most once
 
 abbrev pub names : List Given → List Text
 names gs = map (λ (g : Given). g.name) gs
-
-pub or_left : (a b : Bool) → (a || b) ≡ false → a ≡ false
-or_left true b h = h
-or_left false b h = refl
-
-pub or_right : (a b : Bool) → (a || b) ≡ false → b ≡ false
-or_right true b h = absurd (true≢false h)
-or_right false b h = h
-
-and_left : (a b : Bool) → (a && b) ≡ true → a ≡ true
-and_left true b h = refl
-and_left false b h = h
-
-and_right : (a b : Bool) → (a && b) ≡ true → b ≡ true
-and_right true b h = h
-and_right false b h = absurd (true≢false (sym h))
 
 all_push : (P : Text → Type 0) (gs : List Given) (g : Given) → AllByRecursion P (names gs) → P g.name → AllByRecursion P (names (gs ++ g ∷ []))
 all_push P [] g all h = (h, tt)
@@ -44,7 +29,7 @@ all_at : (P : Text → Type 0) (gs : List Given) (g : Given) (more : List Given)
 all_at P [] g more all = all.0
 all_at P (x ∷ xs) g more all = all_at P xs g more all.1
 
-pub distinct_push : (gs : List Given) (g : Given) → IsDistinct bytes_eq (names gs) → is_given g.name gs ≡ false → IsDistinct bytes_eq (names (gs ++ g ∷ []))
+distinct_push : (gs : List Given) (g : Given) → IsDistinct bytes_eq (names gs) → is_given g.name gs ≡ false → IsDistinct bytes_eq (names (gs ++ g ∷ []))
 unfolding IsDistinct
 distinct_push [] g d h = (tt, tt)
 distinct_push (x ∷ xs) g d h = (
@@ -52,35 +37,55 @@ distinct_push (x ∷ xs) g d h = (
   distinct_push xs g d.1 (or_right (bytes_eq x.name g.name) (is_given g.name xs) h),
 )
 
-pub distinct_fresh : (gs : List Given) (g : Given) (more : List Given) → IsDistinct bytes_eq (names (gs ++ g ∷ more)) → is_given g.name gs ≡ false
+distinct_fresh : (gs : List Given) (g : Given) (more : List Given) → IsDistinct bytes_eq (names (gs ++ g ∷ more)) → is_given g.name gs ≡ false
 unfolding IsDistinct
 distinct_fresh [] g more d = refl
 distinct_fresh (x ∷ xs) g more d =
     ap (λ b. b || is_given g.name xs) (all_at (λ y. bytes_eq x.name y ≡ false) xs g more d.0) ∙ distinct_fresh xs g more d.1
 
+-- an option that the command takes
+pub record Fits (os : Options) (g : Given) : Type 0 where
+  pub has : Bool
+  pub found : listed os g.name ≡ Some (g.name, has)
+  pub fits : has_its_value has g.value ≡ true
+
+fits_by : (os : Options) (g : Given) (o : Option (Text × Bool)) → listed os g.name ≡ o → option_map_or (λ p. has_its_value p.1 g.value) o false ≡ true → Fits os g
+fits_by os g None e h = absurd (true≢false (sym h))
+fits_by os g (Some p) e h = record { has = p.1; found = e ∙ ap (λ n. Some (n, p.1)) (listed_name os g.name p e); fits = h }
+
+pub fits_of : (os : Options) (g : Given) → is_listed os g ≡ true → Fits os g
+fits_of os g h = fits_by os g (listed os g.name) refl h
+
+pub all_fit : (os : Options) (g : Given) (gs : List Given) → list_all (is_listed os) (g ∷ gs) ≡ true → Fits os g × (list_all (is_listed os) gs ≡ true)
+all_fit os g gs h = (fits_of os g (and_left (is_listed os g) (list_all (is_listed os) gs) h), and_right (is_listed os g) (list_all (is_listed os) gs) h)
+
+listed_given : (os : Options) (name : Text) (b : Bool) (v : Option Text) → listed os name ≡ Some (name, b) → has_its_value b v ≡ true → is_listed os (given name v) ≡ true
+listed_given os name b v found fits = ap (λ o. option_map_or (λ (p : Text × Bool). has_its_value p.1 v) o false) found ∙ fits
+
 -- the end of the words
 
-no_config_default : (rs : List Row) → default_fault rs config ≡ []
-no_config_default rs = elim (has_row (codes "config") rs) as (λ b. cond (b || true) [] (given_default_fault config []) ≡ []) [ true ↦ refl | false ↦ refl ]
+default_one : (rs : List Row) (name : Text) (b : Bool) → default_fault rs (rule_by name b) ≡ []
+default_one rs name true = elim (has_row name rs) as (λ b. cond (b || true) [] (given_default_fault (rule_by name true) []) ≡ []) [ true ↦ refl | false ↦ refl ]
+default_one rs name false =
+    elim (has_row name rs) as (λ b. cond (b || false) [] (given_default_fault (rule_by name false) (codes "false" ∷ [])) ≡ []) [ true ↦ refl | false ↦ refl ]
 
-no_read_default : (rs : List Row) → default_fault rs read ≡ []
-no_read_default rs =
-    elim (has_row (codes "read-first") rs) as (λ b. cond (b || false) [] (given_default_fault read (codes "false" ∷ [])) ≡ []) [ true ↦ refl | false ↦ refl ]
-
-two_empty : (a b : Kinds) → a ≡ [] → b ≡ [] → or_else a (or_else b []) ≡ []
-two_empty a b p q = ap (λ x. or_else x (or_else b [])) p ∙ ap (λ x. or_else x []) q
-
-no_default : (rs : List Row) → defaults_fault rs shape.rules ≡ []
+pub no_default : (rs : List Row) (os : Options) → defaults_fault rs (rules os) ≡ []
 unfolding defaults_fault
-no_default rs = two_empty (default_fault rs config) (default_fault (with_default rs config) read) (no_config_default rs) (no_read_default (with_default rs config))
+no_default rs [] = refl
+no_default rs (o ∷ os) =
+    ap (λ k. or_else k (defaults_fault (with_default rs (rule_by o.0 o.1)) (rules os))) (default_one rs o.0 o.1) ∙ no_default (with_default rs (rule_by o.0 o.1)) os
 
-ends_well : (a b : Kinds) (rs : List Row) → a ≡ [] → b ≡ [] → outcome (or_else a (or_else b [])) rs ≡ Some rs
-ends_well a b rs p q = ap (λ k. outcome k rs) (two_empty a b p q)
+no_check : (os : Options) (rows : List Row) → check_fault (shape os) rows false ≡ []
+no_check os rows = ap (check_kinds false false) (none_needed rows os)
 
-pub ready_end : (h : Held) (gs : List Given) → Ready h gs → ran (at h idle) [] ≡ Some (map row gs)
-ready_end h gs r =
-    ran_end (at h idle)
-    ∙ ends_well (settle_fault shape.rules false h) (defaults_fault (settled shape.rules h).rows shape.rules) (settled shape.rules h).rows r.fault (no_default (settled shape.rules h).rows)
+ends_well : (a b c : Kinds) (rs : List Row) → a ≡ [] → b ≡ [] → c ≡ [] → outcome (or_else a (or_else b c)) rs ≡ Some rs
+ends_well a b c rs p q r = ap (λ x. outcome (or_else x (or_else b c)) rs) p ∙ ap (λ x. outcome (or_else x c) rs) q ∙ ap (λ x. outcome x rs) r
+
+ready_end : (os : Options) (h : Held) (gs : List Given) → Ready os h gs → ran os (at h idle) [] ≡ Some (map row gs)
+ready_end os h gs r =
+    ran_end os (at h idle)
+    ∙ ends_well (settle_fault (rules os) false h) (defaults_fault (settled (rules os) h).rows (rules os)) (check_fault (shape os) (finished (rules os) h) false)
+    (settled (rules os) h).rows r.fault (no_default (settled (rules os) h).rows os) (no_check os (finished (rules os) h))
     ∙ ap (λ (rs : List Row). Some rs) r.rows
 
 fault_ends : (kinds : Kinds) (rs : List Row) → IsFault kinds → outcome kinds rs ≡ None
@@ -91,36 +96,36 @@ or_fault : (a b : Kinds) → IsFault a → IsFault (or_else a b)
 or_fault [] b h = absurd h
 or_fault (k ∷ ks) b h = h
 
-doomed_end : (h : Held) (w : Waiting) → IsFault (settle_fault shape.rules false h) → ran (at h w) [] ≡ None
-doomed_end h w bad = ran_end (at h w) ∙ fault_ends (end_fault h) (settled shape.rules h).rows (or_fault (settle_fault shape.rules false h) _ bad)
+doomed_end : (os : Options) (h : Held) (w : Waiting) → IsFault (settle_fault (rules os) false h) → ran os (at h w) [] ≡ None
+doomed_end os h w bad = ran_end os (at h w) ∙ fault_ends (end_fault os h) (settled (rules os) h).rows (or_fault (settle_fault (rules os) false h) _ bad)
 
-doomed_ran : (h : Held) (ws : List Text) → IsFault (settle_fault shape.rules false h) → list_any is_stray_dash ws ≡ false → ran (at h idle) ws ≡ None
-doomed_ran h [] bad clean = doomed_end h idle bad
-doomed_ran h (word ∷ ws) bad clean = refuses (at h idle) word ws
-    (doomed h word bad (word_kind word (or_left (is_stray_dash word) (list_any is_stray_dash ws) clean)))
+doomed_ran : (os : Options) (h : Held) (ws : List Text) → IsFault (settle_fault (rules os) false h) → list_any is_stray_dash ws ≡ false → ran os (at h idle) ws ≡ None
+doomed_ran os h [] bad clean = doomed_end os h idle bad
+doomed_ran os h (word ∷ ws) bad clean = refuses os (at h idle) word ws
+    (doomed os h word bad (word_kind os word (or_left (is_stray_dash word) (list_any is_stray_dash ws) clean)))
 
 -- where the walk comes to rows, the words spell options
 
-pub record Found (gs : List Given) (ws : List Text) (final : List Row) : Type 0 where
+pub record Found (os : Options) (gs : List Given) (ws : List Text) (final : List Row) : Type 0 where
   pub more : List Given
   pub spelled : AreSpelled more ws
-  pub listed : list_all (is_listed run_options) more ≡ true
+  pub listed : list_all (is_listed os) more ≡ true
   pub once : IsDistinct bytes_eq (names (gs ++ more))
   pub rows : final ≡ map row (gs ++ more)
 
 -- the facts from which the walk goes on
-record Going (h : Held) (gs : List Given) (ws : List Text) : Type 0 where
-  ready : Ready h gs
+record Going (os : Options) (h : Held) (gs : List Given) (ws : List Text) : Type 0 where
+  ready : Ready os h gs
   once : IsDistinct bytes_eq (names gs)
   clean : list_any is_stray_dash ws ≡ false
 
-abbrev Sound : List Text → Type 0
-Sound ws = (h : Held) (gs : List Given) (final : List Row) → Going h gs ws → ran (at h idle) ws ≡ Some final → Found gs ws final
+abbrev Sound : Options → List Text → Type 0
+Sound os ws = (h : Held) (gs : List Given) (final : List Row) → Going os h gs ws → ran os (at h idle) ws ≡ Some final → Found os gs ws final
 
--- the same after `--config`
-abbrev SoundWaiting : List Text → Type 0
-SoundWaiting ws = (h : Held) (gs : List Given) (final : List Row) → Going h gs ws
-    → ran (at (waiting_config h) (option (codes "config"))) ws ≡ Some final → Found gs (codes "--config" ∷ ws) final
+-- the same after `--name` of an option with a value
+abbrev SoundWaiting : Options → List Text → Type 0
+SoundWaiting os ws = (name : Text) (h : Held) (gs : List Given) (final : List Row) → listed os name ≡ Some (name, true) → Going os h gs ws
+    → ran os (at (waiting_for os name h) (option name)) ws ≡ Some final → Found os gs (word_of name None ∷ ws) final
 
 never : {P : Type 0} (o : Option (List Row)) (final : List Row) → o ≡ None → o ≡ Some final → P
 never o final none some = absurd (true≢false (ap is_some (sym some ∙ none)))
@@ -129,205 +134,224 @@ pub some_rows : (a b : List Row) → Some a ≡ Some b → a ≡ b
 some_rows a b e = cc
 
 -- one option more at the front
-found_more : (g : Given) (gs : List Given) (mine rest ws : List Text) (final : List Row) → ws ≡ mine ++ rest → IsSpelled g.name g.value mine
-    → is_listed run_options g ≡ true → Found (gs ++ g ∷ []) rest final → Found gs ws final
-found_more g gs mine rest ws final cut spelled listed f =
+found_more : (os : Options) (g : Given) (gs : List Given) (mine rest ws : List Text) (final : List Row) → ws ≡ mine ++ rest → IsSpelled g.name g.value mine
+    → is_listed os g ≡ true → Found os (gs ++ g ∷ []) rest final → Found os gs ws final
+found_more os g gs mine rest ws final cut spelled listed f =
     let whole : (gs ++ g ∷ []) ++ f.more ≡ gs ++ (g ∷ f.more) = append_assoc gs (g ∷ []) f.more in
     record {
       more = g ∷ f.more;
       spelled = (mine, rest, cut, spelled, f.spelled);
-      listed = ap (λ b. b && list_all (is_listed run_options) f.more) listed ∙ f.listed;
+      listed = ap (λ b. b && list_all (is_listed os) f.more) listed ∙ f.listed;
       once = subst (λ all. IsDistinct bytes_eq (names all)) whole f.once;
       rows = f.rows ∙ ap (λ all. map row all) whole;
     }
 
-sound_end : Sound []
-sound_end h gs final go e =
+sound_end : (os : Options) → Sound os []
+sound_end os h gs final go e =
     let none : gs ++ [] ≡ gs = append-nil gs in
     record {
       more = [];
       spelled = refl;
       listed = refl;
       once = subst (λ all. IsDistinct bytes_eq (names all)) (sym none) go.once;
-      rows = some_rows final (map row gs) (sym e ∙ ready_end h gs go.ready) ∙ ap (λ all. map row all) (sym none);
+      rows = some_rows final (map row gs) (sym e ∙ ready_end os h gs go.ready) ∙ ap (λ all. map row all) (sym none);
     }
 
-waiting_end : SoundWaiting []
-waiting_end h gs final go e = never (ran (at (waiting_config h) (option (codes "config"))) []) final (doomed_end (waiting_config h) (option (codes "config")) tt) e
+unfed : (os : Options) (h : Held) (name : Text) → listed os name ≡ Some (name, true) → IsFault (settle_fault (rules os) false (waiting_for os name h))
+unfed os h name found = subst IsFault (sym (starved_fault os name h found)) tt
 
-going : (h next : Held) (gs : List Given) (g : Given) (word : Text) (ws : List Text) → Going h gs (word ∷ ws) → is_given g.name gs ≡ false → Ready next (gs ++ g ∷ [])
-    → Going next (gs ++ g ∷ []) ws
-going h next gs g word ws go fresh ready = record {
+waiting_end : (os : Options) → SoundWaiting os []
+waiting_end os name h gs final found go e = never (ran os (at (waiting_for os name h) (option name)) []) final
+    (doomed_end os (waiting_for os name h) (option name) (unfed os h name found)) e
+
+going : (os : Options) (h next : Held) (gs : List Given) (g : Given) (word : Text) (ws : List Text) → Going os h gs (word ∷ ws) → is_given g.name gs ≡ false
+    → Ready os next (gs ++ g ∷ []) → Going os next (gs ++ g ∷ []) ws
+going os h next gs g word ws go fresh ready = record {
   ready = ready;
   once = distinct_push gs g go.once fresh;
   clean = or_right (is_stray_dash word) (list_any is_stray_dash ws) go.clean;
 }
 
--- a value that is not empty, of a `--config` that is the first
-value_fails : (v : Text) (h : Held) (gs : List Given) → Ready h gs → IsFault (use_fault false config (v ∷ []) (settled shape.rules h).rows)
-    ⊎ ((is_given (codes "config") gs ≡ false) × (nat_lt 0 (length v) ≡ true))
-value_fails [] h gs r = inl (config_empty h gs r)
-value_fails (x ∷ xs) h gs r = elim (either (is_given (codes "config") gs)) [ inl t ↦ inl (config_repeats (x ∷ xs) h gs r t) | inr f ↦ inr (f, (lt-ltb 0 (length (x ∷ xs)) (omega arith))) ]
+-- the use fails, or the option is a new one
+use_or_new : (os : Options) (h : Held) (gs : List Given) (name : Text) (b : Bool) (v : Option Text) → Ready os h gs → listed os name ≡ Some (name, b) → has_its_value b v ≡ true
+    → IsFault (use_fault false (rule_by name b) (uses v) (settled (rules os) h).rows) ⊎ IsNew os gs name b v
+use_or_new os h gs name true None r found fits = absurd (true≢false (sym fits))
+use_or_new os h gs name true (Some []) r found fits = inl (empty_value name (settled (rules os) h).rows)
+use_or_new os h gs name true (Some (x ∷ xs)) r found fits = elim (either (is_given name gs)) [
+  | inl t ↦ inl (repeats os h gs name true (Some (x ∷ xs)) r fits t)
+  | inr f ↦ inr (record { found = found; fits = fits; fresh = f; full = lt-ltb 0 (length (x ∷ xs)) (omega arith) })
+]
+use_or_new os h gs name false v r found fits = elim (either (is_given name gs)) [
+  | inl t ↦ inl (repeats os h gs name false v r fits t)
+  | inr f ↦ inr (record { found = found; fits = fits; fresh = f; full = flag_full v fits })
+]
+  where
+    flag_full : (v : Option Text) → has_its_value false v ≡ true → is_full v ≡ true
+    flag_full None h = refl
+    flag_full (Some v) h = absurd (true≢false (sym h))
 
-spelled_config : (v : Text) (mine : List Text) → nat_lt 0 (length v) ≡ true
-    → ((mine ≡ (codes "--config=" ++ v) ∷ []) ⊎ ((mine ≡ codes "--config" ∷ v ∷ []) × (begins_dash v ≡ false))) → IsSpelled (codes "config") (Some v) mine
-spelled_config v mine full how = (ltb-true 0 (length v) full, how)
+-- the spellings of an option in one word
 
-sound_read : (ws : List Text) → Sound ws → Sound (codes "--read-first" ∷ ws)
-sound_read ws ih h gs final go e = elim (either (is_given (codes "read-first") gs)) [
-  | inl t ↦ never (ran (at h idle) (codes "--read-first" ∷ ws)) final (refuses (at h idle) (codes "--read-first") ws (read_repeats h gs go.ready t)) e
-  | inr f ↦
-      let on = going h (with_read h) gs given_read (codes "--read-first") ws go f (ready_read h gs go.ready f) in
-      found_more given_read gs (codes "--read-first" ∷ []) ws (codes "--read-first" ∷ ws) final refl refl refl
-      (ih (with_read h) (gs ++ given_read ∷ []) final on (sym (step_read h gs ws go.ready f) ∙ e))
+attached : (name v : Text) → word_of name (Some v) ≡ dashed name ++ codes "=" ++ v
+attached name v = sym (append_assoc (dashed name) (codes "=") v)
+
+one_word : (os : Options) (gs : List Given) (name : Text) (b : Bool) (v : Option Text) → IsNew os gs name b v → IsSpelled name v (word_of name v ∷ [])
+one_word os gs name b None new = ap (λ n. (45 ∷ 45 ∷ n) ∷ []) (append-nil name)
+one_word os gs name b (Some v) new = (ltb-true 0 (length v) new.full, inl (ap (λ w. w ∷ []) (attached name v)))
+
+word_is : (c : ℕ) (rest name : Text) (v : Option Text) → IsLong c rest name v → long c rest ≡ word_of name v
+word_is c rest name v is = ap (λ t. 45 ∷ 45 ∷ t) (parts_of c rest name v is)
+
+sound_use : (os : Options) (c : ℕ) (rest name : Text) (b : Bool) (v : Option Text) (ws : List Text) → IsLong c rest name v → listed os name ≡ Some (name, b)
+    → has_its_value b v ≡ true → Sound os ws → Sound os (long c rest ∷ ws)
+sound_use os c rest name b v ws is found fits ih h gs final go e = elim (use_or_new os h gs name b v go.ready found fits) [
+  | inl bad ↦ never (ran os (at h idle) (long c rest ∷ ws)) final (refuses os (at h idle) (long c rest) ws (use_fails os h c rest name b v is found fits bad)) e
+  | inr new ↦
+      let on = going os h (with_given os name b v h) gs (given name v) (long c rest) ws go new.fresh (ready_given os h gs name b v go.ready new) in
+      found_more os (given name v) gs (long c rest ∷ []) ws (long c rest ∷ ws) final refl
+      (subst (λ w. IsSpelled name v (w ∷ [])) (sym (word_is c rest name v is)) (one_word os gs name b v new)) (listed_given os name b v found fits)
+      (ih (with_given os name b v h) (gs ++ given name v ∷ []) final on (sym (step_given os h gs c rest name b v ws go.ready new is) ∙ e))
 ]
 
-sound_config : (v : Text) (ws : List Text) → Sound ws → Sound ((codes "--config=" ++ v) ∷ ws)
-sound_config v ws ih h gs final go e = elim (value_fails v h gs go.ready) [
-  | inl bad ↦ never (ran (at h idle) ((codes "--config=" ++ v) ∷ ws)) final (refuses (at h idle) (codes "--config=" ++ v) ws (config_fault v h bad)) e
-  | inr good ↦
-      let on = going h (with_config v h) gs (given_config v) (codes "--config=" ++ v) ws go good.0 (ready_config v h gs go.ready good.0) in
-      found_more (given_config v) gs ((codes "--config=" ++ v) ∷ []) ws ((codes "--config=" ++ v) ∷ ws) final refl
-      (spelled_config v ((codes "--config=" ++ v) ∷ []) good.1 (inl refl)) refl
-      (ih (with_config v h) (gs ++ given_config v ∷ []) final on (sym (step_config v h gs ws go.ready good.0 good.1) ∙ e))
-]
+two_words : (name v : Text) → nat_lt 0 (length v) ≡ true → begins_dash v ≡ false → IsSpelled name (Some v) (word_of name None ∷ v ∷ [])
+two_words name v full plain_value = (ltb-true 0 (length v) full, inr (ap (λ n. (45 ∷ 45 ∷ n) ∷ v ∷ []) (append-nil name), plain_value))
 
-sound_value : (v : Text) (ws : List Text) → Sound ws → SoundWaiting (v ∷ ws)
-sound_value v ws ih h gs final go e = elim (either (begins_dash v)) [
-  | inl dash ↦ never (ran (at (waiting_config h) (option (codes "config"))) (v ∷ ws)) final
-      (refuses (at (waiting_config h) (option (codes "config"))) v ws
-      (starved (codes "config") (waiting_config h) v tt dash (word_kind v (or_left (is_stray_dash v) (list_any is_stray_dash ws) go.clean)))) e
+sound_value : (os : Options) (v : Text) (ws : List Text) → Sound os ws → SoundWaiting os (v ∷ ws)
+sound_value os v ws ih name h gs final found go e = elim (either (begins_dash v)) [
+  | inl dash ↦ never (ran os (at (waiting_for os name h) (option name)) (v ∷ ws)) final
+      (refuses os (at (waiting_for os name h) (option name)) v ws
+      (starved os h name v found dash (word_kind os v (or_left (is_stray_dash v) (list_any is_stray_dash ws) go.clean)))) e
   | inr plain_value ↦
-      let came : ran (at (holding_config v h) idle) ws ≡ Some final = sym (step_value v h ws plain_value) ∙ e in
-      elim (value_fails v h gs go.ready) [
-        | inl bad ↦ never (ran (at (holding_config v h) idle) ws) final
-            (doomed_ran (holding_config v h) ws bad (or_right (is_stray_dash v) (list_any is_stray_dash ws) go.clean)) came
-        | inr good ↦
-            let on = going h (holding_config v h) gs (given_config v) v ws go good.0 (ready_holding v h gs go.ready good.0 good.1) in
-            found_more (given_config v) gs (codes "--config" ∷ v ∷ []) ws (codes "--config" ∷ v ∷ ws) final refl
-            (spelled_config v (codes "--config" ∷ v ∷ []) good.1 (inr (refl, plain_value))) refl
-            (ih (holding_config v h) (gs ++ given_config v ∷ []) final on came)
+      let came : ran os (at (holding os name v h) idle) ws ≡ Some final = sym (step_value os name v h ws found plain_value) ∙ e in
+      elim (use_or_new os h gs name true (Some v) go.ready found refl) [
+        | inl bad ↦ never (ran os (at (holding os name v h) idle) ws) final
+            (doomed_ran os (holding os name v h) ws (subst IsFault (sym (held_fault os name v h found)) bad) (or_right (is_stray_dash v) (list_any is_stray_dash ws) go.clean)) came
+        | inr new ↦
+            let on = going os h (holding os name v h) gs (given name (Some v)) v ws go new.fresh (ready_holding os h gs name v go.ready new) in
+            found_more os (given name (Some v)) gs (word_of name None ∷ v ∷ []) ws (word_of name None ∷ v ∷ ws) final refl
+            (two_words name v new.full plain_value) (listed_given os name true (Some v) found refl)
+            (ih (holding os name v h) (gs ++ given name (Some v) ∷ []) final on came)
       ]
 ]
 
-sound_wait : (ws : List Text) → SoundWaiting ws → Sound (codes "--config" ∷ ws)
-sound_wait ws ih h gs final go e =
-    let on : Going h gs ws = record { ready = go.ready; once = go.once; clean = or_right (is_stray_dash (codes "--config")) (list_any is_stray_dash ws) go.clean } in
-    ih h gs final on (sym (step_wait h ws go.ready.fault) ∙ e)
+sound_wait : (os : Options) (c : ℕ) (rest name : Text) (ws : List Text) → IsLong c rest name None → listed os name ≡ Some (name, true) → SoundWaiting os ws
+    → Sound os (long c rest ∷ ws)
+sound_wait os c rest name ws is found ih h gs final go e =
+    let on : Going os h gs ws = record { ready = go.ready; once = go.once; clean = or_right (is_stray_dash (long c rest)) (list_any is_stray_dash ws) go.clean } in
+    subst (λ w. Found os gs (w ∷ ws) final) (sym (word_is c rest name None is))
+    (ih name h gs final found on (sym (step_wait os h c rest name ws go.ready.fault found is) ∙ e))
 
-sound_word : (word : Text) (ws : List Text) → WordKind word → Sound ws → SoundWaiting ws → Sound (word ∷ ws)
-sound_word word ws (plain p) ih after = λ h gs final go e. never (ran (at h idle) (word ∷ ws)) final (refuses (at h idle) word ws (plain_fault h word p)) e
-sound_word word ws (config_alone is) ih after = subst (λ w. Sound (w ∷ ws)) (sym is) (sound_wait ws after)
-sound_word word ws (config_with v is) ih after = subst (λ w. Sound (w ∷ ws)) (sym is) (sound_config v ws ih)
-sound_word word ws (read_alone is) ih after = subst (λ w. Sound (w ∷ ws)) (sym is) (sound_read ws ih)
-sound_word word ws (read_with v is) ih after = subst (λ w. Sound (w ∷ ws)) (sym is)
-    (λ h gs final go e. never (ran (at h idle) ((codes "--read-first=" ++ v) ∷ ws)) final (refuses (at h idle) (codes "--read-first=" ++ v) ws (read_value_fault v h)) e)
-sound_word word ws (other c rest is f g) ih after = subst (λ w. Sound (w ∷ ws)) (sym is)
-    (λ h gs final go e. never (ran (at h idle) ((45 ∷ 45 ∷ c ∷ rest) ∷ ws)) final (refuses (at h idle) (45 ∷ 45 ∷ c ∷ rest) ws (other_fault h c rest f g)) e)
+sound_named : (os : Options) (c : ℕ) (rest name : Text) (b : Bool) (v : Option Text) (ws : List Text) → IsLong c rest name v → listed os name ≡ Some (name, b)
+    → Sound os ws → SoundWaiting os ws → Sound os (long c rest ∷ ws)
+sound_named os c rest name true (Some v) ws is found ih after = sound_use os c rest name true (Some v) ws is found refl ih
+sound_named os c rest name true None ws is found ih after = sound_wait os c rest name ws is found after
+sound_named os c rest name false (Some v) ws is found ih after = λ h gs final go e.
+    never (ran os (at h idle) (long c rest ∷ ws)) final (refuses os (at h idle) (long c rest) ws (flag_with_value os h c rest name v is found)) e
+sound_named os c rest name false None ws is found ih after = sound_use os c rest name false None ws is found refl ih
 
-sound_both : (ws : List Text) → Sound ws × SoundWaiting ws
-sound_both [] = (sound_end, waiting_end)
-sound_both (word ∷ ws) = (
-  λ h gs final go e. sound_word word ws (word_kind word (or_left (is_stray_dash word) (list_any is_stray_dash ws) go.clean)) (sound_both ws).0 (sound_both ws).1 h gs final go e,
-  sound_value word ws (sound_both ws).0,
+sound_word : (os : Options) (word : Text) (ws : List Text) → WordKind os word → Sound os ws → SoundWaiting os ws → Sound os (word ∷ ws)
+sound_word os word ws (plain p) ih after = λ h gs final go e. never (ran os (at h idle) (word ∷ ws)) final (refuses os (at h idle) word ws (plain_fault os h word p)) e
+sound_word os word ws (named c rest name b v e is found) ih after = subst (λ w. Sound os (w ∷ ws)) (sym e) (sound_named os c rest name b v ws is found ih after)
+sound_word os word ws (other c rest name v e is none) ih after = subst (λ w. Sound os (w ∷ ws)) (sym e)
+    (λ h gs final go came. never (ran os (at h idle) (long c rest ∷ ws)) final (refuses os (at h idle) (long c rest) ws (other_fault os h idle c rest name v is none)) came)
+
+sound_both : (os : Options) (ws : List Text) → Sound os ws × SoundWaiting os ws
+sound_both os [] = (sound_end os, waiting_end os)
+sound_both os (word ∷ ws) = (
+  λ h gs final go e. sound_word os word ws (word_kind os word (or_left (is_stray_dash word) (list_any is_stray_dash ws) go.clean)) (sound_both os ws).0 (sound_both os ws).1 h gs final go e,
+  sound_value os word ws (sound_both os ws).0,
 )
 
 -- where the words spell options, the walk comes to their rows
 
-record Spelling (h : Held) (gs more : List Given) (ws : List Text) : Type 0 where
-  ready : Ready h gs
+record Spelling (os : Options) (h : Held) (gs more : List Given) (ws : List Text) : Type 0 where
+  ready : Ready os h gs
   spelled : AreSpelled more ws
-  listed : list_all (is_listed run_options) more ≡ true
+  listed : list_all (is_listed os) more ≡ true
   once : IsDistinct bytes_eq (names (gs ++ more))
 
-abbrev Complete : List Given → Type 0
-Complete more = (h : Held) (gs : List Given) (ws : List Text) → Spelling h gs more ws → ran (at h idle) ws ≡ Some (map row (gs ++ more))
+abbrev Complete : Options → List Given → Type 0
+Complete os more = (h : Held) (gs : List Given) (ws : List Text) → Spelling os h gs more ws → ran os (at h idle) ws ≡ Some (map row (gs ++ more))
 
-complete_end : Complete []
-complete_end h gs ws s =
-    ap (λ words. ran (at h idle) words) s.spelled ∙ ready_end h gs s.ready ∙ ap (λ all. Some (map row all)) (sym (append-nil gs))
+complete_end : (os : Options) → Complete os []
+complete_end os h gs ws s =
+    ap (λ words. ran os (at h idle) words) s.spelled ∙ ready_end os h gs s.ready ∙ ap (λ all. Some (map row all)) (sym (append-nil gs))
 
 -- the walk after the first option
-goes_on : (g : Given) (more : List Given) (h next : Held) (gs : List Given) (rest ws : List Text) → Complete more → Spelling h gs (g ∷ more) ws
-    → AreSpelled more rest → Ready next (gs ++ g ∷ []) → ran (at next idle) rest ≡ Some (map row (gs ++ (g ∷ more)))
-goes_on g more h next gs rest ws ih s spelled ready =
+goes_on : (os : Options) (g : Given) (more : List Given) (h next : Held) (gs : List Given) (rest ws : List Text) → Complete os more → Spelling os h gs (g ∷ more) ws
+    → AreSpelled more rest → Ready os next (gs ++ g ∷ []) → ran os (at next idle) rest ≡ Some (map row (gs ++ (g ∷ more)))
+goes_on os g more h next gs rest ws ih s spelled ready =
     let whole : (gs ++ g ∷ []) ++ more ≡ gs ++ (g ∷ more) = append_assoc gs (g ∷ []) more in
     ih next (gs ++ g ∷ []) rest (record {
       ready = ready;
       spelled = spelled;
-      listed = and_right (is_listed run_options g) (list_all (is_listed run_options) more) s.listed;
+      listed = and_right (is_listed os g) (list_all (is_listed os) more) s.listed;
       once = subst (λ all. IsDistinct bytes_eq (names all)) (sym whole) s.once;
     }) ∙ ap (λ all. Some (map row all)) whole
 
-complete_read : (more : List Given) → Complete more → Complete (given_read ∷ more)
-complete_read more ih h gs ws s =
-    let fresh = distinct_fresh gs given_read more s.once in
-    let rest = s.spelled.1 in
-    let words : ws ≡ codes "--read-first" ∷ rest = s.spelled.2 ∙ ap (λ mine. mine ++ rest) s.spelled.3 in
-    ap (λ all. ran (at h idle) all) words ∙ step_read h gs rest s.ready fresh
-    ∙ goes_on given_read more h (with_read h) gs rest ws ih s s.spelled.4 (ready_read h gs s.ready fresh)
+-- how the walk goes over the words of one option
+record OneMore (os : Options) (h : Held) (gs : List Given) (g : Given) (mine rest : List Text) : Type 0 where
+  next : Held
+  ready : Ready os next (gs ++ g ∷ [])
+  goes : ran os (at h idle) (mine ++ rest) ≡ ran os (at next idle) rest
 
-complete_config : (v : Text) (more : List Given) → Complete more → Complete (given_config v ∷ more)
-complete_config v more ih h gs ws s =
-    let fresh = distinct_fresh gs (given_config v) more s.once in
-    let rest = s.spelled.1 in
-    let full : nat_lt 0 (length v) ≡ true = lt-ltb 0 (length v) s.spelled.3.0 in
-    elim s.spelled.3.1 [
+in_one_word : (os : Options) (h : Held) (gs : List Given) (name : Text) (b : Bool) (v : Option Text) (rest : List Text) → Ready os h gs → IsNew os gs name b v
+    → LongWord (word_of name v) name v → OneMore os h gs (given name v) (word_of name v ∷ []) rest
+in_one_word os h gs name b v rest r new w = record {
+  next = with_given os name b v h;
+  ready = ready_given os h gs name b v r new;
+  goes = ap (λ word. ran os (at h idle) (word ∷ rest)) w.is_word ∙ step_given os h gs w.first w.rest name b v rest r new w.parts;
+}
+
+in_two_words : (os : Options) (h : Held) (gs : List Given) (name v : Text) (rest : List Text) → Ready os h gs → IsNew os gs name true (Some v) → begins_dash v ≡ false
+    → LongWord (word_of name None) name None → OneMore os h gs (given name (Some v)) (word_of name None ∷ v ∷ []) rest
+in_two_words os h gs name v rest r new plain_value w = record {
+  next = holding os name v h;
+  ready = ready_holding os h gs name v r new;
+  goes = ap (λ word. ran os (at h idle) (word ∷ v ∷ rest)) w.is_word ∙ step_wait os h w.first w.rest name (v ∷ rest) r.fault new.found w.parts
+      ∙ step_value os name v h rest new.found plain_value;
+}
+
+one_more : (os : Options) (h : Held) (gs : List Given) (name : Text) (v : Option Text) (mine rest : List Text) → AreNamedWell os → Ready os h gs → Fits os (given name v)
+    → is_given name gs ≡ false → IsSpelled name v mine → OneMore os h gs (given name v) mine rest
+one_more os h gs name None mine rest well r f fresh spelled =
+    let new : IsNew os gs name f.has None = record { found = f.found; fits = f.fits; fresh = fresh; full = refl } in
+    let word : mine ≡ word_of name None ∷ [] = spelled ∙ ap (λ n. (45 ∷ 45 ∷ n) ∷ []) (sym (append-nil name)) in
+    subst (λ m. OneMore os h gs (given name None) m rest) (sym word)
+    (in_one_word os h gs name f.has None rest r new (long_word name f.has None (listed_well os name (name, f.has) well f.found)))
+one_more os h gs name (Some v) mine rest well r f fresh spelled =
+    let has : f.has ≡ true = must_have f.has v f.fits in
+    let found : listed os name ≡ Some (name, true) = f.found ∙ ap (λ b. Some (name, b)) has in
+    let new : IsNew os gs name true (Some v) = record { found = found; fits = refl; fresh = fresh; full = lt-ltb 0 (length v) spelled.0 } in
+    let is_well = listed_well os name (name, true) well found in
+    elim spelled.1 [
       | inl one ↦
-          let words : ws ≡ (codes "--config=" ++ v) ∷ rest = s.spelled.2 ∙ ap (λ mine. mine ++ rest) one in
-          ap (λ all. ran (at h idle) all) words ∙ step_config v h gs rest s.ready fresh full
-          ∙ goes_on (given_config v) more h (with_config v h) gs rest ws ih s s.spelled.4 (ready_config v h gs s.ready fresh)
+          let word : mine ≡ word_of name (Some v) ∷ [] = one ∙ ap (λ w. w ∷ []) (sym (attached name v)) in
+          subst (λ m. OneMore os h gs (given name (Some v)) m rest) (sym word) (in_one_word os h gs name true (Some v) rest r new (long_word name true (Some v) is_well))
       | inr two ↦
-          let words : ws ≡ codes "--config" ∷ v ∷ rest = s.spelled.2 ∙ ap (λ mine. mine ++ rest) two.0 in
-          ap (λ all. ran (at h idle) all) words ∙ step_wait h (v ∷ rest) s.ready.fault ∙ step_value v h rest two.1
-          ∙ goes_on (given_config v) more h (holding_config v h) gs rest ws ih s s.spelled.4 (ready_holding v h gs s.ready fresh full)
+          let both : mine ≡ word_of name None ∷ v ∷ [] = two.0 ∙ ap (λ n. (45 ∷ 45 ∷ n) ∷ v ∷ []) (sym (append-nil name)) in
+          subst (λ m. OneMore os h gs (given name (Some v)) m rest) (sym both) (in_two_words os h gs name v rest r new two.1 (long_word name true None is_well))
     ]
+  where
+    must_have : (b : Bool) (v : Text) → has_its_value b (Some v) ≡ true → b ≡ true
+    must_have true v e = refl
+    must_have false v e = absurd (true≢false (sym e))
 
--- an option of `run`
-pub data Listed (g : Given) : Type 0 where
-  is_config : (v : Text) → g ≡ given_config v → Listed g
-  is_read : g ≡ given_read → Listed g
+complete_more : (os : Options) (g : Given) (more : List Given) → AreNamedWell os → Complete os more → Complete os (g ∷ more)
+complete_more os g more well ih h gs ws s =
+    let f = fits_of os g (and_left (is_listed os g) (list_all (is_listed os) more) s.listed) in
+    let m = one_more os h gs g.name g.value s.spelled.0 s.spelled.1 well s.ready f (distinct_fresh gs g more s.once) s.spelled.3 in
+    ap (λ all. ran os (at h idle) all) s.spelled.2 ∙ m.goes ∙ goes_on os g more h m.next gs s.spelled.1 ws ih s s.spelled.4 m.ready
 
-no_flag : (a b : Bool) → b ≡ false → ((a && false) || ((b && true) || false)) ≡ false
-no_flag true true h = h
-no_flag true false h = refl
-no_flag false true h = h
-no_flag false false h = refl
+complete_all : (os : Options) (more : List Given) → AreNamedWell os → Complete os more
+complete_all os [] well = complete_end os
+complete_all os (g ∷ more) well = λ h gs ws s. complete_more os g more well (complete_all os more well) h gs ws s
 
-no_option : (a b : Bool) → a ≡ false → ((a && true) || ((b && false) || false)) ≡ false
-no_option true b h = absurd (true≢false h)
-no_option false true h = refl
-no_option false false h = refl
-
-listed_by : (name : Text) (value : Option Text) → is_listed run_options (record { name = name; value = value }) ≡ true → Listed (record { name = name; value = value })
-listed_by name None h = elim (either (bytes_eq (codes "read-first") name)) [
-  | inl t ↦ let same : name ≡ codes "read-first" = sym ((bytes_eq-Decides (codes "read-first") name).0 t) in is_read (ap (λ n. record { name = n; value = None }) same)
-  | inr f ↦ absurd (true≢false (sym h ∙ no_flag (bytes_eq (codes "config") name) (bytes_eq (codes "read-first") name) f))
-]
-listed_by name (Some v) h = elim (either (bytes_eq (codes "config") name)) [
-  | inl t ↦ let same : name ≡ codes "config" = sym ((bytes_eq-Decides (codes "config") name).0 t) in is_config v (ap (λ n. record { name = n; value = Some v }) same)
-  | inr f ↦ absurd (true≢false (sym h ∙ no_option (bytes_eq (codes "config") name) (bytes_eq (codes "read-first") name) f))
-]
-
-pub listed_is : (g : Given) → is_listed run_options g ≡ true → Listed g
-listed_is g h = listed_by g.name g.value h
-
-complete_more : (g : Given) (more : List Given) → Listed g → Complete more → Complete (g ∷ more)
-complete_more g more (is_config v e) ih = subst (λ x. Complete (x ∷ more)) (sym e) (complete_config v more ih)
-complete_more g more (is_read e) ih = subst (λ x. Complete (x ∷ more)) (sym e) (complete_read more ih)
-
-complete_all : (more : List Given) → Complete more
-complete_all [] = complete_end
-complete_all (g ∷ more) = λ h gs ws s.
-    complete_more g more (listed_is g (and_left (is_listed run_options g) (list_all (is_listed run_options) more) s.listed)) (complete_all more) h gs ws s
-
-pub sound : (h : Held) (ws : List Text) (final : List Row) → Ready h [] → list_any is_stray_dash ws ≡ false → ran (at h idle) ws ≡ Some final → Found [] ws final
+pub sound : (os : Options) (h : Held) (ws : List Text) (final : List Row) → Ready os h [] → list_any is_stray_dash ws ≡ false → ran os (at h idle) ws ≡ Some final
+    → Found os [] ws final
 unfolding IsDistinct
-sound h ws final r clean e = (sound_both ws).0 h [] final (record { ready = r; once = tt; clean = clean }) e
+sound os h ws final r clean e = (sound_both os ws).0 h [] final (record { ready = r; once = tt; clean = clean }) e
 
-pub complete : (h : Held) (gs : List Given) (ws : List Text) → Ready h [] → AreSpelled gs ws → list_all (is_listed run_options) gs ≡ true
-    → IsDistinct bytes_eq (names gs) → ran (at h idle) ws ≡ Some (map row gs)
-complete h gs ws r spelled listed once = complete_all gs h [] ws (record { ready = r; spelled = spelled; listed = listed; once = once })
-
-pub all_listed : (g : Given) (gs : List Given) → list_all (is_listed run_options) (g ∷ gs) ≡ true → Listed g × (list_all (is_listed run_options) gs ≡ true)
-all_listed g gs h = (listed_is g (and_left (is_listed run_options g) (list_all (is_listed run_options) gs) h), and_right (is_listed run_options g) (list_all (is_listed run_options) gs) h)
+pub complete : (os : Options) (h : Held) (gs : List Given) (ws : List Text) → AreNamedWell os → Ready os h [] → AreSpelled gs ws → list_all (is_listed os) gs ≡ true
+    → IsDistinct bytes_eq (names gs) → ran os (at h idle) ws ≡ Some (map row gs)
+complete os h gs ws well r spelled listed once = complete_all os gs well h [] ws (record { ready = r; spelled = spelled; listed = listed; once = once })

@@ -1,3 +1,4 @@
+pub mod Clap
 pub mod Spelling
 pub mod Tables
 pub mod Words

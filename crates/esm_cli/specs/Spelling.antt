@@ -2,6 +2,7 @@
 -- that a value is not empty, and that options come in any order and each at most once, is this product's own.
 use Rattle.std.specs.Prelude.{◌≡◌, ◌⊎◌, ◌<◌, ◌==◌, ◌&&◌, not, ℕ, Bool, true, false, List, [], ◌∷◌, ◌++◌, length, map, codes, Option, Some, None, is_some, find, option_and_then}
 use Rattle.std.specs.List.{IsDistinct, list_all, list_any}
+use Rattle.std.specs.Option.{option_map_or}
 use Rattle.std.specs.Str.{bytes_eq}
 
 -- an option as it is given: its name, and its value where it has one
@@ -46,8 +47,12 @@ abbrev pub has_its_value : Bool → Option (List ℕ) → Bool
 has_its_value true value = is_some value
 has_its_value false value = not (is_some value)
 
+abbrev pub listed : Options → List ℕ → Option (List ℕ × Bool)
+listed options name = find (λ o. bytes_eq o.0 name) options
+
+-- the command takes this option, with its value where it has one
 abbrev pub is_listed : Options → Given → Bool
-is_listed options g = list_any (λ o. bytes_eq o.0 g.name && has_its_value o.1 g.value) options
+is_listed options g = option_map_or (λ o. has_its_value o.1 g.value) (listed options g.name) false
 
 -- the words are spellings of options of the command, in any order, each at most once
 pub record AreOptions (options : Options) (gs : List Given) (words : List (List ℕ)) : Type 0 where

@@ -3,12 +3,48 @@ ghost use Rattle.esm_cli.specs.declared.command.WordsError.TheVariants.{OutOfMem
 
 use esm_model::text::Text;
 use std::alloc::AllocError;
+use uuid::Uuid;
 
 /// What the words ask for.
 #[derive(Drop, Debug)]
 pub enum Command {
+    /// Makes the four files.
+    Init,
     /// Runs one mapping.
     Run(RunWords),
+    /// Prints the fates in the journal.
+    Show,
+    /// Prints the failure lines.
+    Failures,
+    /// Runs a generated stream of this many records.
+    Gen {
+        records: u32,
+    },
+    /// Rewrites the journal.
+    Compact,
+    /// Answers this many connections.
+    Serve {
+        requests: u32,
+    },
+    /// Brings a journal of version 1 to version 2.
+    Migrate,
+    /// Runs the mapping over a DynamoDB stream.
+    Ddb {
+        config: Text,
+        calls: u32,
+    },
+    /// Runs a queue's mapping, and moves what was received too often to the dead letters. `visibility` is in seconds.
+    Redrive {
+        config: Text,
+        max_receives: u32,
+        calls: u32,
+        visibility: u32,
+    },
+    /// Calls the records that failure lines name again.
+    Replay {
+        config: Text,
+        calls: u32,
+    },
 }
 
 /// The options of `run`.
@@ -29,6 +65,8 @@ pub struct RunWords {
 pub enum Which {
     /// The JSON text of its fields (`--config TEXT`).
     Config(Text),
+    /// The registry, which has it under this id (`--mapping UUID`).
+    Mapping(Uuid),
 }
 
 /// Why words gave no command.

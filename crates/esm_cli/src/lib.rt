@@ -4,9 +4,15 @@
 #![tactic(auto)]
 
 pub mod command;
+mod commands;
 pub mod laws;
-mod run;
+mod number;
+mod options;
+pub mod table;
+#[cfg(test)]
+mod tests;
 mod words;
 
 pub use command::{Command, RunWords, Which, WordsError};
+pub use number::whole_number;
 pub use words::read;

@@ -1,12 +1,16 @@
-ghost use Rattle.std.specs.Prelude.{◌≡◌, ◌≢◌, List, ℕ, map, true, false, IfOk, codes};
+ghost use Rattle.std.specs.Prelude.{◌≡◌, ◌≢◌, ◌∷◌, List, ℕ, map, IfOk, IfSome, IfNone};
 ghost use Rattle.std.specs.String.{string_bytes};
 ghost use Rattle.std.specs.List.{list_any};
-ghost use Rattle.esm_cli.specs.declared.command.Command.{Command};
 ghost use Rattle.esm_cli.specs.Spelling.{is_stray_dash};
+ghost use Rattle.esm_cli.specs.Tables.{verb_name};
 ghost use Rattle.esm_cli.specs.Words.{spells};
+ghost use Rattle.esm_cli.specs.declared.command.Command.{Command};
+ghost use Rattle.esm_cli.specs.declared.table.Verb.{Verb};
 
 use crate::command::{Command, WordsError};
-use crate::run::read_run;
+use crate::commands::command;
+use crate::options::read_options;
+use crate::table::Verb;
 use std::alloc::Global;
 
 /// The command that the words spell, the program's own three words left out.
@@ -18,9 +22,21 @@ pub fn read(alloc: Global, words: &[String]) -> Result<Command, WordsError>
     if has_stray_dash(words) {
         return Err(WordsError::BadWords);
     }
+    let Some(verb) = first_verb(words) else {
+        return Err(WordsError::BadWords);
+    };
+    let options = read_options(alloc, verb, words)?;
+    command(alloc, verb, &options)
+}
+
+/// The command that the first word names.
+fn first_verb(words: &[String]) -> Option<Verb>
+    ensures named { IfSome result (λ verb. (rest : List (List ℕ)) × (map string_bytes words.now ≡ verb_name verb ∷ rest)) }
+    ensures none { IfNone result ((verb : Verb) (rest : List (List ℕ)) → map string_bytes words.now ≢ verb_name verb ∷ rest) }
+{
     match words.first() {
-        Some(name) if name.as_str() == "run" => Ok(Command::Run(read_run(alloc, words)?)),
-        _ => Err(WordsError::BadWords),
+        Some(word) => Verb::named(word.as_str()),
+        None => None,
     }
 }
 

@@ -1,0 +1,170 @@
+//! One table of the commands, of the options that each takes, and of the bounds of their numbers: the definition of the
+//! command line reads it too. This product's own.
+ghost use Rattle.std.specs.Prelude.{◌≡◌};
+ghost use Rattle.esm_cli.specs.Tables.{has_value, option_name, options_of, verb_named};
+
+/// What the first word asks for.
+#[derive(Clone, Copy, Debug, PartialEq, Eq)]
+pub enum Verb {
+    Init,
+    Run,
+    Show,
+    Failures,
+    Gen,
+    Compact,
+    Serve,
+    Migrate,
+    Ddb,
+    Redrive,
+    Replay,
+}
+
+/// An option, written `--name`.
+#[derive(Clone, Copy, Debug, PartialEq, Eq)]
+pub enum OptionName {
+    Config,
+    Mapping,
+    Calls,
+    Visibility,
+    ReadFirst,
+    Records,
+    Requests,
+    MaxReceives,
+}
+
+pub const NO_OPTIONS: [OptionName; 0] = [];
+
+pub const RUN_OPTIONS: [OptionName; 5] = [
+    OptionName::Config,
+    OptionName::Mapping,
+    OptionName::Calls,
+    OptionName::Visibility,
+    OptionName::ReadFirst,
+];
+
+pub const GEN_OPTIONS: [OptionName; 1] = [OptionName::Records];
+
+pub const SERVE_OPTIONS: [OptionName; 1] = [OptionName::Requests];
+
+pub const DDB_OPTIONS: [OptionName; 2] = [OptionName::Config, OptionName::Calls];
+
+pub const REDRIVE_OPTIONS: [OptionName; 4] = [
+    OptionName::Config,
+    OptionName::MaxReceives,
+    OptionName::Calls,
+    OptionName::Visibility,
+];
+
+pub const REPLAY_OPTIONS: [OptionName; 2] = [OptionName::Config, OptionName::Calls];
+
+/// A number that an option gives.
+#[derive(Clone, Copy, Debug, PartialEq, Eq)]
+pub struct NumberRule {
+    pub option: OptionName,
+    pub least: u32,
+    pub greatest: u32,
+    /// The number where the option is absent; without one the option is needed.
+    pub default: Option<u32>,
+}
+
+/// The greatest number of calls of functions.
+pub const CALLS: NumberRule = NumberRule {
+    option: OptionName::Calls,
+    least: 0,
+    greatest: 10_000_000,
+    default: Some(1_000_000),
+};
+
+/// The visibility timeout of a queue's messages, in seconds.
+pub const VISIBILITY: NumberRule = NumberRule {
+    option: OptionName::Visibility,
+    least: 0,
+    greatest: 43_200,
+    default: Some(30),
+};
+
+/// The records of a generated stream.
+pub const RECORDS: NumberRule = NumberRule {
+    option: OptionName::Records,
+    least: 1,
+    greatest: 50_000,
+    default: None,
+};
+
+/// The connections that are served.
+pub const REQUESTS: NumberRule = NumberRule {
+    option: OptionName::Requests,
+    least: 0,
+    greatest: 10_000_000,
+    default: None,
+};
+
+/// The receives after which a message is moved to the dead letters.
+pub const MAX_RECEIVES: NumberRule = NumberRule {
+    option: OptionName::MaxReceives,
+    least: 1,
+    greatest: 1_000,
+    default: None,
+};
+
+impl Verb {
+    /// The command that the word names.
+    pub fn named(word: &str) -> Option<Verb>
+        ensures { result ≡ verb_named word.now }
+    {
+        match word {
+            "init" => Some(Verb::Init),
+            "run" => Some(Verb::Run),
+            "show" => Some(Verb::Show),
+            "failures" => Some(Verb::Failures),
+            "gen" => Some(Verb::Gen),
+            "compact" => Some(Verb::Compact),
+            "serve" => Some(Verb::Serve),
+            "migrate" => Some(Verb::Migrate),
+            "ddb" => Some(Verb::Ddb),
+            "redrive" => Some(Verb::Redrive),
+            "replay" => Some(Verb::Replay),
+            _ => None,
+        }
+    }
+
+    /// The options that the command takes.
+    pub fn options(self) -> &'static [OptionName]
+        ensures { result.now ≡ options_of self }
+    {
+        match self {
+            Verb::Run => &RUN_OPTIONS,
+            Verb::Gen => &GEN_OPTIONS,
+            Verb::Serve => &SERVE_OPTIONS,
+            Verb::Ddb => &DDB_OPTIONS,
+            Verb::Redrive => &REDRIVE_OPTIONS,
+            Verb::Replay => &REPLAY_OPTIONS,
+            _ => &NO_OPTIONS,
+        }
+    }
+}
+
+impl OptionName {
+    /// The name, without the two dashes before it.
+    pub fn name<'a>(self) -> &'a str
+        ensures { result.now ≡ option_name self }
+    {
+        match self {
+            OptionName::Config => "config",
+            OptionName::Mapping => "mapping",
+            OptionName::Calls => "calls",
+            OptionName::Visibility => "visibility",
+            OptionName::ReadFirst => "read-first",
+            OptionName::Records => "records",
+            OptionName::Requests => "requests",
+            OptionName::MaxReceives => "max-receives",
+        }
+    }
+
+    /// Whether a value belongs to the option.
+    pub fn has_value(self) -> bool
+        ensures { result ≡ has_value self }
+    {
+        !matches!(self, OptionName::ReadFirst)
+    }
+}
