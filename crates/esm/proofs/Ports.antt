@@ -1,51 +1,16 @@
--- Ports as texts: what `parse` gives of a word is its port where no plus and no leading zero stands first.
-use Rattle.std.proofs.Common.{◌≡◌, ◌≢◌, ◌⊎◌, inl, inr, ℕ, zero, suc, ◌<◌, ◌≤◌, ◌^◌, List, [], ◌∷◌, length, get_or, Option, Result, Ok, Err, IfSome, IfNone, sym, ap, ◌∙◌, arith}
+-- Ports as texts.
+use Rattle.std.proofs.Common.{◌≡◌, ℕ, ◌<◌, ◌≤◌, ◌^◌, List, length, sym, ap, ◌∙◌, arith}
 use Rattle.std.specs.Fmt.{decimal}
-use Rattle.std.specs.Result.{result_ok}
-use Rattle.std.specs.Str.Parse.{AllDigits, ParsesUnsigned, digits_value}
-use Rattle.std.proofs.lemmas.Fmt.{decimal_digit, decimal-digits_value, decimal_injective, first_decimal, parse-decimal}
-use Rattle.std.proofs.lemmas.Str.Parse.{IsNumeralModel, numerals_by_value, parse_plain, tells_digits}
+use Rattle.std.proofs.lemmas.Fmt.{decimal_digit, decimal_injective}
 use Rattle.esm.specs.Opening.{Names}
 use Rattle.esm.specs.declared.functions.Functions.{Functions}
 use Rattle.esm.specs.declared.functions.Functions.TheVariants.{Succeed, Poison, Port}
 
-numerals : IsNumeralModel (AllDigits 10) (digits_value 10)
-numerals = numerals_by_value (AllDigits 10) tells_digits
-
--- `0` is the only decimal text that begins with `0`
-begins_above : (n : ℕ) → n ≤ 65535 → (48 < get_or (decimal n) 0 0) ⊎ (decimal n ≡ 48 ∷ [])
-begins_above zero fits = inr (decimal_digit 0 (omega arith))
-begins_above (suc n) fits = inl (first_decimal (suc n) (omega arith) (omega arith))
-
-pub begins_without_plus : (n : ℕ) (word : List ℕ) → n ≤ 65535 → word ≡ decimal n → get_or word 0 0 ≢ 43
-begins_without_plus n word fits spelled plus =
-    elim (begins_above n fits) [
-      | inl above ↦ omega (arith, ap (λ w. get_or w 0 0) spelled)
-      | inr zero-text ↦ omega (arith, ap (λ w. get_or w 0 0) (spelled ∙ zero-text))
-    ]
-
-pub begins_with_zero : (n : ℕ) (word : List ℕ) → n ≤ 65535 → word ≡ decimal n → get_or word 0 0 ≡ 48 → length word ≡ 1
-begins_with_zero n word fits spelled zero-first =
-    elim (begins_above n fits) [
-      | inl above ↦ absurd (omega (arith, ap (λ w. get_or w 0 0) spelled))
-      | inr zero-text ↦ ap length (spelled ∙ zero-text)
-    ]
-
-pub port_some : {E : Type 0} (word : List ℕ) (r : Result ℕ E) (o : Option ℕ) → ParsesUnsigned 16 10 word r → o ≡ result_ok r → get_or word 0 0 ≢ 43 → (get_or word 0 0 ≡ 48 → length word ≤ 1) → IfSome o (λ port. word ≡ decimal port)
-port_some {E} word (Ok x) o parses is plus lone =
-    let read = parse_plain numerals {E = E} 16 word (Ok x) parses plus in
-    let alone : get_or word 0 0 ≡ 48 → length word ≡ 1 = λ z. omega (arith, lone z, read.0.1) in
-    let small : digits_value 10 word < 2 ^ 64 = omega (arith, read.0.2) in
-    rw is (sym (ap decimal read.1 ∙ decimal-digits_value numerals word read.0.0 read.0.1 alone small))
-port_some word (Err e) o parses is plus lone = rw is tt
-
-pub port_none : {E : Type 0} (word : List ℕ) (r : Result ℕ E) (o : Option ℕ) → ParsesUnsigned 16 10 word r → o ≡ result_ok r → IfNone o ((port : ℕ) → port ≤ 65535 → word ≢ decimal port)
-port_none word (Ok x) o parses is = rw is tt
-port_none {E} word (Err e) o parses is =
-    rw is (λ port fits spelled.
-    let r : Result ℕ E = Err e in
-    let same : r ≡ Ok port = parse-decimal {E = E} 16 port word (Err e) (omega arith) (omega arith) spelled parses in
-    cc)
+-- a number above the ports is no port's text
+pub past_ports : (number port : ℕ) (word : List ℕ) → number < 2 ^ 32 → 65535 < number → word ≡ decimal number → port ≤ 65535 → word ≡ decimal port → ⊥
+past_ports number port word small above spelled fits is =
+    let same : port ≡ number = decimal_injective port number (omega arith) (omega arith) (sym is ∙ spelled) in
+    omega arith
 
 -- the text of 0 names no functions
 pub zero_names_nothing : (port : ℕ) (word : List ℕ) → port < 1 → word ≡ decimal port → (functions : Functions) → Names word functions → ⊥

@@ -4,20 +4,19 @@ use Rattle.std.specs.Bool.{Decides}
 use Rattle.std.specs.Option.{unwrap_or}
 use Rattle.std.specs.String.{string_bytes}
 use Rattle.std.proofs.lemmas.Bool.Decides.{Decides-eqb}
-use Rattle.esm_cli.specs.Words.{spells}
+use Rattle.esm_run.specs.Built.{SpellsBuilt}
 use Rattle.esm_cli.specs.declared.command.Command.{Command}
-use Rattle.esm_cli.specs.declared.command.Command.TheVariants.{Run}
 use Rattle.esm.specs.Opening.{Opens, IsRefused}
 use Rattle.esm.specs.declared.opening.Opening.{Opening}
 
-pub refused_opening : (words : List (List ℕ)) (read : Option Opening) (default opening : Opening) → IsRefused words → IfSome read (λ o. Opens words o.functions (map string_bytes o.command.now)) → opening ≡ unwrap_or read default → opening ≡ default
+pub refused_opening : (words : List (List ℕ)) (read : Option Opening) (default opening : Opening) → IsRefused words → IfSome read (λ o. Opens words o.folder o.functions (map string_bytes o.command.now)) → opening ≡ unwrap_or read default → opening ≡ default
 refused_opening words None default opening refused some is = is
-refused_opening words (Some o) default opening refused some is = absurd (refused o.functions (map string_bytes o.command.now) some)
+refused_opening words (Some o) default opening refused some is = absurd (refused o.folder o.functions (map string_bytes o.command.now) some)
 
-no_words_spell : (c : Command) → spells [] c → ⊥
-no_words_spell (Run r) h = let is = h.1.first in cc
+no_words_spell : (c : Command) → SpellsBuilt [] c → ⊥
+no_words_spell c h = (let is = h.0.1.first in cc)
 
-pub status_of_no_words : (status : ℕ) (words : List (List ℕ)) → words ≡ [] → (status ≢ 2 → status ≢ 70 → (c : Command) × spells words c) → status ≢ 70 → status ≡ 2
+pub status_of_no_words : (status : ℕ) (words : List (List ℕ)) → words ≡ [] → (status ≢ 2 → status ≢ 70 → (c : Command) × SpellsBuilt words c) → status ≢ 70 → status ≡ 2
 status_of_no_words status words none spelled not-70 = by-test (nat_eq status 2) (Decides-eqb status 2)
   where
     by-test : (b : Bool) → Decides b (status ≡ 2) → status ≡ 2

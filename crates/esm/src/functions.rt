@@ -3,6 +3,8 @@ ghost use Rattle.std.specs.Fmt.{decimal};
 ghost use Rattle.esm.specs.Opening.{Names};
 ghost use Rattle.esm.specs.declared.functions.Functions.{Functions};
 
+use esm_cli::whole_number;
+
 /// What answers the calls of functions.
 #[derive(Clone, Copy)]
 pub enum Functions<'a> {
@@ -17,18 +19,18 @@ pub enum Functions<'a> {
 /// The least port at which a server can be called.
 const LEAST_PORT: u16 = 1;
 
+/// The greatest port.
+const GREATEST_PORT: u32 = 65_535;
+
 /// The port from 0 to 65535 that a word spells, without a leading zero.
 pub fn port(word: &str) -> Option<u16>
     ensures some { IfSome result (λ port. word.now ≡ decimal port) }
     ensures none { IfNone result ((port : ℕ) → port ≤ 65535 → word.now ≢ decimal port) }
 {
-    if word.starts_with('+') {
-        return None;
+    match whole_number(word) {
+        Some(number) if number <= GREATEST_PORT => Some(number as u16),
+        _ => None,
     }
-    if word.len() > 1 && word.starts_with('0') {
-        return None;
-    }
-    word.parse::<u16>().ok()
 }
 
 /// What the word for the functions names: `ok`, `poison:TEXT`, or a port from 1 on.

@@ -1,29 +1,66 @@
 ghost use Rattle.std.specs.Prelude.{◌≡◌, ℕ, List, map, IfSome, IfNone};
 ghost use Rattle.std.specs.String.{string_bytes};
-ghost use Rattle.esm.specs.Opening.{Opens, IsRefused};
+ghost use Rattle.esm.specs.Opening.{Opens, IsRefused, IsFolder, is_built_there};
 
 use crate::functions::{Functions, port, read_functions};
+
+/// Where the four files are.
+#[derive(Clone, Copy)]
+pub enum Folder<'a> {
+    /// In memory, as an acknowledged `init` leaves them; the input is standard input.
+    Memory,
+    /// In the folder of this path, with the input beside them.
+    Files(&'a str),
+}
 
 /// What the first three words of the command line name, and the words after them.
 #[derive(Clone, Copy)]
 pub struct Opening<'a> {
+    pub folder: Folder<'a>,
     pub functions: Functions<'a>,
     pub command: &'a [String],
 }
 
-/// Reads the folder, the functions and the door. For now the folder is `-`, and the disks are in memory.
-/// `None` where one of the three words is missing or of another form.
+/// The folder that a word names.
+fn read_folder(word: &str) -> Folder<'_>
+    ensures { IsFolder word.now result }
+{
+    if word == "-" {
+        Folder::Memory
+    } else {
+        Folder::Files(word)
+    }
+}
+
+/// Whether the command is built over this folder: until `run` opens the journal it takes no folder of files.
+fn is_built_there(folder: Folder<'_>, command: &[String]) -> bool
+    ensures { result ≡ is_built_there folder (map string_bytes command.now) }
+{
+    match (folder, command.first()) {
+        (Folder::Files(_), Some(name)) => name.as_str() != "run",
+        _ => true,
+    }
+}
+
+/// Reads the folder, the functions and the door.
+/// `None` where one of the three words is missing or of another form, or the command is not built over the folder.
 pub fn read_opening(words: &[String]) -> Option<Opening<'_>>
-    ensures some { IfSome result (λ opening. Opens (map string_bytes words.now) opening.functions (map string_bytes opening.command.now)) }
+    ensures some { IfSome result (λ opening. Opens (map string_bytes words.now) opening.folder opening.functions
+        (map string_bytes opening.command.now)) }
     ensures none { IfNone result (IsRefused (map string_bytes words.now)) }
 {
     let (folder, words) = words.split_first()?;
     let (called, words) = words.split_first()?;
     let (door, command) = words.split_first()?;
-    if folder.as_str() != "-" {
+    let folder = read_folder(folder.as_str());
+    if !is_built_there(folder, command) {
         return None;
     }
     port(door.as_str())?;
     let functions = read_functions(called.as_str())?;
-    Some(Opening { functions, command })
+    Some(Opening {
+        folder,
+        functions,
+        command,
+    })
 }

@@ -18,3 +18,5 @@ pub mod Writing
 pub mod Open
 pub mod OneReading
 pub mod OneCause
+pub mod BuiltLemmas
+pub mod Inits

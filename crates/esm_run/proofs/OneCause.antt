@@ -11,7 +11,7 @@ use Rattle.esm_model.specs.declared.entry.Entry.{Entry}
 use Rattle.esm_model.specs.Setting.{Setting}
 use Rattle.esm_model.specs.Fates.{fate}
 use Rattle.esm_cli.specs.declared.command.Command.{Command}
-use Rattle.esm_cli.specs.declared.command.Command.TheVariants.{Run}
+use Rattle.esm_cli.specs.declared.command.Command.TheVariants.{Init, Run}
 use Rattle.esm_cli.specs.declared.command.RunWords.{RunWords}
 use Rattle.esm_cli.specs.declared.command.Which.{Which}
 use Rattle.esm_cli.specs.declared.command.Which.TheVariants.{Config as Text}
@@ -25,10 +25,12 @@ use Rattle.esm_record.specs.GoesOn.{GoesOnFrom}
 use Rattle.esm_report.specs.declared.ending.Ending.{Ending}
 use Rattle.esm_report.specs.declared.ending.Ending.TheVariants as ending
 use Rattle.esm_run.specs.declared.input.InputEnd.{InputEnd}
+use Rattle.esm_run.specs.Built.{SpellsBuilt}
 use Rattle.esm_run.specs.Configured.{IsConfigured, refused_field}
 use Rattle.esm_run.specs.Endings.{ending_of, status_of, IsTold}
 use Rattle.esm_run.specs.Headline.{Read, AllFated, HasOpen, IsEnding, setting_of}
-use Rattle.esm_run.specs.Answers.{IsRefused, IsRunOf, RunCause, Written, RunOutcome, Outcome}
+use Rattle.esm_run.specs.Answers.{IsRefused, IsRunOf, RunCause, RunOutcome, RunOrBadWords, Outcome, IsInitialized}
+use Rattle.esm_run.specs.Written.{Written}
 use Rattle.esm_run.proofs.OneReading.{one_reading}
 
 -- the laws of the words and of the lines
@@ -167,18 +169,40 @@ same_options gave sends log r input output h old new a b goes told read_sound so
     ∙ ap status_of endings
     ∙ sym (told_status output.faults_before output.faults_now output.before output.after _ other.ending b sound other.told)
 
+-- the statuses of `run` and of bad words
+
 same_run : (r q : RunWords) → Run r ≡ Run q → r ≡ q
 same_run r q same = cc
 
-pub one_status : {F : Type 0} (gave : ℕ → Bool) (sends : List ℕ → List ℕ) (log : F → Option (List Called)) (words : List (List ℕ)) (input : Read) (output : Written) (h : List Entry) (old new : List F) (a b : ℕ)
+one_of_run : {F : Type 0} (gave : ℕ → Bool) (sends : List ℕ → List ℕ) (log : F → Option (List Called)) (words : List (List ℕ)) (input : Read) (output : Written) (h : List Entry) (old new : List F) (a b : ℕ)
     → OneCommand → WholeGoesOn → IsSome input.before → ¬ Rose input.faults_before input.faults_now → ¬ Rose output.faults_before output.faults_now
-    → Outcome gave sends log words input output h old new a → Outcome gave sends log words input output h old new b → a ≡ b
-one_status gave sends log words input output h old new a b one_command goes told read_sound sound (inl one) (inl other) =
-    let runs : one.0 ≡ other.0 = same_run one.0 other.0 (one_command words (Run one.0) (Run other.0) one.1 other.1) in
+    → RunOrBadWords gave sends log words input output h old new a → RunOrBadWords gave sends log words input output h old new b → a ≡ b
+one_of_run gave sends log words input output h old new a b one_command goes told read_sound sound (inl one) (inl other) =
+    let runs : one.0 ≡ other.0 = same_run one.0 other.0 (one_command words (Run one.0) (Run other.0) one.1.0 other.1.0) in
     same_options gave sends log other.0 input output h old new a b goes told read_sound sound
     (subst (λ r. RunOutcome gave sends log r input output h old new a) runs one.2) other.2
-one_status gave sends log words input output h old new a b one_command goes told read_sound sound (inl one) (inr other) = absurd (other.none_spelled (Run one.0) one.1)
-one_status gave sends log words input output h old new a b one_command goes told read_sound sound (inr one) (inl other) = absurd (one.none_spelled (Run other.0) other.1)
-one_status gave sends log words input output h old new a b one_command goes told read_sound sound (inr one) (inr other) =
+one_of_run gave sends log words input output h old new a b one_command goes told read_sound sound (inl one) (inr other) = absurd (other.none_spelled (Run one.0) one.1)
+one_of_run gave sends log words input output h old new a b one_command goes told read_sound sound (inr one) (inl other) = absurd (one.none_spelled (Run other.0) other.1)
+one_of_run gave sends log words input output h old new a b one_command goes told read_sound sound (inr one) (inr other) =
     bad_words_status output.faults_before output.faults_now output.before output.after _ a (one.told (setting_of no_config 0 []) refl)
     ∙ sym (bad_words_status output.faults_before output.faults_now output.before output.after _ b (other.told (setting_of no_config 0 []) refl))
+
+-- the statuses of `init`
+
+init_and_run : {F : Type 0} (gave : ℕ → Bool) (sends : List ℕ → List ℕ) (log : F → Option (List Called)) (words : List (List ℕ)) (input : Read) (output : Written) (h : List Entry) (old new : List F) (a : ℕ)
+    → OneCommand → SpellsBuilt words Init → RunOrBadWords gave sends log words input output h old new a → ⊥
+init_and_run gave sends log words input output h old new a one spelled (inl run) = (let same : Run run.0 ≡ Init = one words (Run run.0) Init run.1.0 spelled.0 in cc)
+init_and_run gave sends log words input output h old new a one spelled (inr bad) = bad.none_spelled Init spelled
+
+-- two outcomes of `init` have one status
+abbrev pub OneInit : (ℕ → Type 0) → Type 0
+OneInit outcome = (a b : ℕ) → outcome a → outcome b → a ≡ b
+
+pub one_status : {F : Type 0} (gave : ℕ → Bool) (sends : List ℕ → List ℕ) (log : F → Option (List Called)) (words : List (List ℕ)) (input : Read) (output : Written) (h : List Entry) (old new : List F) (init : ℕ → Type 0) (a b : ℕ)
+    → OneCommand → WholeGoesOn → (SpellsBuilt words Init → OneInit init) → IsSome input.before → ¬ Rose input.faults_before input.faults_now → ¬ Rose output.faults_before output.faults_now
+    → Outcome gave sends log words input output h old new init a → Outcome gave sends log words input output h old new init b → a ≡ b
+one_status gave sends log words input output h old new init a b one goes inits told read_sound sound (inl x) (inl y) =
+    one_of_run gave sends log words input output h old new a b one goes told read_sound sound x y
+one_status gave sends log words input output h old new init a b one goes inits told read_sound sound (inl x) (inr y) = absurd (init_and_run gave sends log words input output h old new a one y.spelled x)
+one_status gave sends log words input output h old new init a b one goes inits told read_sound sound (inr x) (inl y) = absurd (init_and_run gave sends log words input output h old new b one x.spelled y)
+one_status gave sends log words input output h old new init a b one goes inits told read_sound sound (inr x) (inr y) = inits x.spelled a b x.ended y.ended

@@ -17,7 +17,7 @@ use Rattle.esm_run.specs.Configured.{IsConfigured, refused_field}
 use Rattle.esm_run.specs.Endings.{ending_of}
 use Rattle.esm_model.specs.declared.memory.OutOfMemory.{OutOfMemory}
 use Rattle.esm_cli.specs.declared.command.Command.TheVariants.{Run}
-use Rattle.esm_cli.specs.Words.{spells}
+use Rattle.esm_run.specs.Built.{SpellsBuilt}
 use Rattle.esm_run.specs.Headline.{Read, IsEndedRun, IsCutRun, setting_of}
 use Rattle.esm_run.specs.Answers.{IsUntouched, IsRunOf, RunCause, RunEnded, IsCutOf, IsCut}
 use Rattle.esm_run.proofs.Halts.{stopped_whole}
@@ -125,6 +125,6 @@ pub whole_cut : {F : Type 0} (gave : ℕ → Bool) (sends : List ℕ → List �
 whole_cut gave sends log r input h old new e ended = whole_cause gave sends log r input h old new ended.setting e ended.cause
 
 pub cut_words : {F : Type 0} (gave : ℕ → Bool) (sends : List ℕ → List ℕ) (log : F → Option (List Called)) (words : List (List ℕ)) (r : RunWords) (input : Read) (h : List Entry) (old new : List F)
-    → spells words (Run r) → IsCutOf gave sends log r input h old new → IsCut gave sends log words input h old new
+    → SpellsBuilt words (Run r) → IsCutOf gave sends log r input h old new → IsCut gave sends log words input h old new
 cut_words gave sends log words r input h old new spelled (inl uncalled) = inl uncalled
 cut_words gave sends log words r input h old new spelled (inr stopped) = inr (r, spelled, stopped)

@@ -5,17 +5,18 @@ use Rattle.esm_model.specs.declared.config.Config.{Config}
 use Rattle.esm_model.specs.declared.entry.Entry.{Entry}
 use Rattle.esm_model.specs.Setting.{Setting}
 use Rattle.esm_cli.specs.declared.command.Command.{Command}
-use Rattle.esm_cli.specs.declared.command.Command.TheVariants.{Run}
+use Rattle.esm_cli.specs.declared.command.Command.TheVariants.{Init, Run}
 use Rattle.esm_cli.specs.declared.command.RunWords.{RunWords}
 use Rattle.esm_cli.specs.declared.command.Which.TheVariants.{Config as Text}
-use Rattle.esm_cli.specs.Words.{spells}
 use Rattle.esm_config.specs.Names.{name_of}
 use Rattle.esm_config.specs.declared.param.Param.{Param}
 use Rattle.esm_report.specs.declared.ending.Ending.{Ending}
 use Rattle.esm_report.specs.declared.ending.Ending.TheVariants as ending
 use Rattle.esm_report.specs.Report.{report_text}
+use Rattle.esm_run.specs.Built.{SpellsBuilt}
 use Rattle.esm_run.specs.Configured.{IsConfigured, refused_field}
 use Rattle.esm_run.specs.Endings.{IsTold}
+use Rattle.esm_run.specs.Written.{Written}
 use Rattle.esm_run.specs.Headline.{Read, IsEndedRun, IsUncalled, IsStoppedRun, setting_of}
 
 -- nothing came, and input and callers are as before
@@ -55,34 +56,34 @@ pub record RunEnded {F : Type 0} (gave : ℕ → Bool) (sends : List ℕ → Lis
   pub no_journal : setting.fates ≡ []
   pub cause : RunCause gave sends log r input h old new setting ending
 
--- what is seen of an output before and after
-pub record Written : Type 0 where
-  pub faults_before : ℕ
-  pub faults_now : ℕ
-  pub before : Option (List ℕ)
-  pub after : Option (List ℕ)
-
--- of a sink before and after, by what sinks tell
-abbrev pub written_of : {K : Type 0} → (faults : K → ℕ) → (written : K → Option (List ℕ)) → (old new : K) → Written
-written_of faults written old new = record { faults_before = faults old; faults_now = faults new; before = written old; after = written new }
-
 -- the options of `run` ended with the status: why, and what was told
 pub record RunOutcome {F : Type 0} (gave : ℕ → Bool) (sends : List ℕ → List ℕ) (log : F → Option (List Called)) (r : RunWords) (input : Read) (output : Written) (h : List Entry) (old new : List F) (status : ℕ) : Type 0 where
   pub ending : Ending
   pub ended : RunEnded gave sends log r input h old new ending
   pub told : IsTold output.faults_before output.faults_now output.before output.after (report_text ended.setting h ending) ending status
 
--- no command is spelled, and that was told
+-- no command that is built is spelled, and that was told
 pub record AreBadWords {F : Type 0} (words : List (List ℕ)) (input : Read) (output : Written) (h : List Entry) (old new : List F) (status : ℕ) : Type 0 where
-  pub none_spelled : (c : Command) → ¬ spells words c
+  pub none_spelled : (c : Command) → ¬ SpellsBuilt words c
   pub untouched : IsUntouched input h old new
   pub told : (s : Setting) → s.fates ≡ [] → IsTold output.faults_before output.faults_now output.before output.after (report_text s h ending.BadWords) ending.BadWords status
 
--- what the words did: the options of `run` that they spell ended with the status, or they spell no command
-abbrev pub Outcome : {F : Type 0} → (ℕ → Bool) → (List ℕ → List ℕ) → (F → Option (List Called)) → List (List ℕ) → Read → Written → List Entry → List F → List F → ℕ → Type 0
-Outcome gave sends log words input output h old new status =
-    ((r : RunWords) × spells words (Run r) × RunOutcome gave sends log r input output h old new status)
+-- the options of `run` that the words spell ended with the status, or they spell no command that is built
+abbrev pub RunOrBadWords : {F : Type 0} → (ℕ → Bool) → (List ℕ → List ℕ) → (F → Option (List Called)) → List (List ℕ) → Read → Written → List Entry → List F → List F → ℕ → Type 0
+RunOrBadWords gave sends log words input output h old new status =
+    ((r : RunWords) × SpellsBuilt words (Run r) × RunOutcome gave sends log r input output h old new status)
     ⊎ AreBadWords words input output h old new status
+
+-- `init` ended with the status, and nothing was read or called
+pub record IsInitialized {F : Type 0} (words : List (List ℕ)) (input : Read) (h : List Entry) (old new : List F) (outcome : ℕ → Type 0) (status : ℕ) : Type 0 where
+  pub spelled : SpellsBuilt words Init
+  pub untouched : IsUntouched input h old new
+  pub ended : outcome status
+
+-- what the words did; `init` is what that command did
+abbrev pub Outcome : {F : Type 0} → (ℕ → Bool) → (List ℕ → List ℕ) → (F → Option (List Called)) → List (List ℕ) → Read → Written → List Entry → List F → List F → (ℕ → Type 0) → ℕ → Type 0
+Outcome gave sends log words input output h old new init status =
+    RunOrBadWords gave sends log words input output h old new status ⊎ IsInitialized words input h old new init status
 
 -- want of memory
 
@@ -101,4 +102,4 @@ IsCutOf gave sends log r input h old new = IsUncalled h old new ⊎ IsStoppedOf 
 -- it stopped what the words ask for
 abbrev pub IsCut : {F : Type 0} → (ℕ → Bool) → (List ℕ → List ℕ) → (F → Option (List Called)) → List (List ℕ) → Read → List Entry → List F → List F → Type 0
 IsCut gave sends log words input h old new =
-    IsUncalled h old new ⊎ ((r : RunWords) × spells words (Run r) × IsStoppedOf gave sends log r input h old new)
+    IsUncalled h old new ⊎ ((r : RunWords) × SpellsBuilt words (Run r) × IsStoppedOf gave sends log r input h old new)

@@ -52,8 +52,12 @@ pub record IsCutShort (faults_before faults_now : ℕ) (before after : Option (L
   pub parts : text ≡ front ++ rest
   pub told : Grows before after front
 
--- the text was told whole, with the ending's status, or the output failed
+-- the text was told whole, with the one status, or the output failed, with the other
+abbrev pub IsToldWith : ℕ → ℕ → Option (List ℕ) → Option (List ℕ) → List ℕ → ℕ → ℕ → ℕ → Type 0
+IsToldWith faults_before faults_now before after text told failed status =
+    ((status ≡ told) × Grows before after text) ⊎ ((status ≡ failed) × IsCutShort faults_before faults_now before after text)
+
+-- the text of an ending
 abbrev pub IsTold : ℕ → ℕ → Option (List ℕ) → Option (List ℕ) → List ℕ → Ending → ℕ → Type 0
 IsTold faults_before faults_now before after text end status =
-    ((status ≡ status_of end) × Grows before after text)
-    ⊎ ((status ≡ failed_status_of end) × IsCutShort faults_before faults_now before after text)
+    IsToldWith faults_before faults_now before after text (status_of end) (failed_status_of end) status

@@ -1,6 +1,8 @@
 pub mod Limits
+pub mod Initialized
 pub mod InputRead
 pub mod Given
+pub mod Built
 pub mod Coming
 pub mod Running
 pub mod Stopping
@@ -8,3 +10,4 @@ pub mod Endings
 pub mod Configured
 pub mod Headline
 pub mod Answers
+pub mod Written

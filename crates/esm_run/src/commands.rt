@@ -1,18 +1,20 @@
-ghost use Rattle.std.specs.Prelude.{◌≡◌, ◌≢◌, List, Option, [], length, reverse, IfOk, OnErr};
+ghost use Rattle.std.specs.Prelude.{◌≡◌, ◌≢◌, List, Option, [], true, length, reverse, IfOk, OnErr};
 ghost use Rattle.esm_model.specs.declared.limits.TheConstants.{MAX_LANES};
 ghost use Rattle.esm_report.specs.declared.ending.Ending.TheVariants.{BadWords};
 ghost use Rattle.esm_model.specs.Setting.{Setting};
 ghost use Rattle.esm_report.specs.Report.{report_text};
+ghost use Rattle.esm_run.specs.Built.{is_text, is_built_run};
 ghost use Rattle.esm_run.specs.Endings.{IsTold};
 ghost use Rattle.esm_run.specs.Headline.{read_of};
-ghost use Rattle.esm_run.specs.Answers.{RunEnded, written_of, RunOutcome, IsCutOf};
+ghost use Rattle.esm_run.specs.Answers.{RunEnded, RunOutcome, IsCutOf};
+ghost use Rattle.esm_run.specs.Written.{written_of};
 
 use crate::mapping::mapping;
 use crate::output::{OUT_OF_MEMORY, tell};
 use crate::refusal::bad_parameter;
 use crate::running::run_mapping;
 use crate::world::World;
-use esm_cli::{RunWords, Which};
+use esm_cli::{RunWords, Which, WordsError};
 use esm_config::ConfigError;
 use esm_io::{Caller, Clock, Disk, Door, Sink, Source};
 use esm_model::{OutOfMemory, Text};
@@ -39,12 +41,33 @@ pub fn finish<S: Source, K: Sink, D: Disk, C: Clock, F: Caller, L: Door>(
     tell(&mut world.out, &text, ending)
 }
 
+/// Tells that the words spell no command that is built, and answers the exit status. Only the output changes.
+pub fn refuse<S: Source, K: Sink, D: Disk, C: Clock, F: Caller, L: Door>(
+    alloc: Global,
+    why: WordsError,
+    world: &mut World<S, K, D, C, F, L>,
+) -> u8
+    ensures told { result ≢ 70 → (why ≡ WordsError.BadWords) × ((s : Setting) → s.fates ≡ [] → IsTold (K.faults world.old.out)
+        (K.faults world.new.out) (K.written world.old.out) (K.written world.new.out)
+        (report_text s (reverse world.old.trace.items) BadWords) BadWords result) }
+    ensures untold { result ≡ 70 → world.new ≡ world.old }
+    ensures same { world.new ≡ record world.old { out = world.new.out } }
+{
+    match why {
+        WordsError::BadWords => finish(alloc, world, &Ending::BadWords),
+        WordsError::OutOfMemory => OUT_OF_MEMORY,
+    }
+}
+
 /// The text of the mapping that the words name.
 fn mapping_text(which: Which) -> Text
+    requires { is_text which ≡ true }
     ensures { which ≡ Which.Config result }
 {
-    let Which::Config(text) = which;
-    text
+    match which {
+        Which::Config(text) => text,
+        Which::Mapping(_) => unreachable!(),
+    }
 }
 
 /// Runs the mapping that the words name.
@@ -54,6 +77,7 @@ fn run_words<R: Wait, S: Source, K: Sink, D: Disk, C: Clock, F: Caller, L: Door>
     words: RunWords,
     world: &mut World<S, K, D, C, F, L>,
 ) -> Result<Ending, OutOfMemory>
+    requires built { is_built_run words ≡ true }
     requires callers { length world.old.callers.items ≡ MAX_LANES }
     requires trace { world.old.trace.items ≡ [] }
     ensures ended { IfOk result (RunEnded C.gave F.sends F.log words
@@ -80,6 +104,7 @@ pub fn run<R: Wait, S: Source, K: Sink, D: Disk, C: Clock, F: Caller, L: Door>(
     words: RunWords,
     world: &mut World<S, K, D, C, F, L>,
 ) -> u8
+    requires built { is_built_run words ≡ true }
     requires callers { length world.old.callers.items ≡ MAX_LANES }
     requires trace { world.old.trace.items ≡ [] }
     ensures outcome { result ≢ 70 → RunOutcome C.gave F.sends F.log words

@@ -2,9 +2,11 @@
 #![tactic(auto)]
 
 mod batchers;
+mod built;
 mod coming;
 mod commands;
 mod gathered;
+mod initializing;
 mod input;
 mod mapping;
 mod output;

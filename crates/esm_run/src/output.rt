@@ -11,7 +11,7 @@ use esm_report::Ending;
 const BAD_WORDS: u8 = 2;
 
 /// The output failed.
-const OUTPUT_FAULT: u8 = 5;
+pub const OUTPUT_FAULT: u8 = 5;
 
 /// Want of memory.
 pub const OUT_OF_MEMORY: u8 = 70;
@@ -48,7 +48,7 @@ fn failed_status_of(ending: &Ending) -> u8
 }
 
 /// Writes all of the text. After a failed write a part from its front was taken.
-fn write_all<K: Sink>(out: &mut K, text: &[u8]) -> Result<(), Failed>
+pub fn write_all<K: Sink>(out: &mut K, text: &[u8]) -> Result<(), Failed>
     ensures written { OnOk result (Grows (K.written out.old) (K.written out.new) text.now) }
     ensures cut_short { OnErr result (IsCutShort (K.faults out.old) (K.faults out.new)
         (K.written out.old) (K.written out.new) text.now) }

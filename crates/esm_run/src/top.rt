@@ -1,58 +1,67 @@
-ghost use Rattle.std.specs.Prelude.{◌≡◌, ◌≢◌, ℕ, List, [], length, map, reverse, IsSome};
+ghost use Rattle.std.specs.Prelude.{◌≡◌, ◌≢◌, ℕ, List, [], Err, IfOk, Ok, length, map, reverse, IsSome};
 ghost use Rattle.std.specs.String.{string_bytes};
 ghost use Rattle.esm_model.specs.declared.limits.TheConstants.{MAX_LANES};
-ghost use Rattle.esm_cli.specs.Words.{spells};
 ghost use Rattle.esm_cli.specs.declared.command.Command.{Command};
+ghost use Rattle.esm_init.specs.Init.{AreSafe};
 ghost use Rattle.esm_io.specs.Faults.{Rose};
+ghost use Rattle.esm_io.specs.Meanings.{disk as meaning};
+ghost use Rattle.esm_run.specs.Built.{SpellsBuilt};
 ghost use Rattle.esm_run.specs.Headline.{read_of};
-ghost use Rattle.esm_run.specs.Answers.{written_of, Outcome, IsCut};
+ghost use Rattle.esm_run.specs.Initialized.{AreSound, InitOutcome, disks};
+ghost use Rattle.esm_run.specs.Answers.{Outcome, RunOrBadWords, IsCut};
+ghost use Rattle.esm_run.specs.Written.{written_of};
 
-use crate::commands::{finish, run};
-use crate::output::OUT_OF_MEMORY;
+use crate::built::built_command;
+use crate::commands::{refuse, run};
+use crate::initializing::initialize;
 use crate::world::{Ended, World};
 use esm_cli::laws::one_command;
-use esm_cli::{Command, WordsError, read};
+use esm_cli::{Command, WordsError};
 use esm_io::{Caller, Clock, Disk, Door, Sink, Source};
 use esm_record::laws::whole_goes_on;
-use esm_report::Ending;
 use std::alloc::Global;
 use std::sync::Wait;
 use std::thread::Threads;
 
-/// Does what the words ask for in the world, and answers the exit status.
+/// Does what another command than `init` asks for, or tells that the words spell none, and answers the exit status.
 fn perform<R: Wait, S: Source, K: Sink, D: Disk, C: Clock, F: Caller, L: Door>(
     rt: &R,
     alloc: Global,
     words: &[String],
+    command: Result<Command, WordsError>,
     world: &mut World<S, K, D, C, F, L>,
 ) -> u8
+    requires spelled { IfOk command (SpellsBuilt (map string_bytes words.now)) }
+    requires none_spelled { command ≡ Err WordsError.BadWords → (c : Command) → ¬ SpellsBuilt (map string_bytes words.now) c }
+    requires other { command ≢ Ok Command.Init }
     requires callers { length world.old.callers.items ≡ MAX_LANES }
     requires trace { world.old.trace.items ≡ [] }
-    ensures outcome { result ≢ 70 → Outcome C.gave F.sends F.log (map string_bytes words.now)
+    ensures outcome { result ≢ 70 → RunOrBadWords C.gave F.sends F.log (map string_bytes words.now)
         (read_of S.faults S.left world.old.input world.new.input)
         (written_of K.faults K.written world.old.out world.new.out)
         (reverse world.new.trace.items) world.old.callers.items world.new.callers.items result }
     ensures want_of_memory { result ≡ 70 → IsCut C.gave F.sends F.log (map string_bytes words.now)
         (read_of S.faults S.left world.old.input world.new.input)
         (reverse world.new.trace.items) world.old.callers.items world.new.callers.items }
-    ensures bad_words { result ≡ 2 → (c : Command) → ¬ spells (map string_bytes words.now) c }
+    ensures bad_words { result ≡ 2 → (c : Command) → ¬ SpellsBuilt (map string_bytes words.now) c }
     ensures untold { result ≡ 70 → world.new.out ≡ world.old.out }
     ensures kept { world.new ≡ record world.old
         { input = world.new.input; out = world.new.out; callers = world.new.callers; trace = world.new.trace } }
-    ensures spelled { result ≢ 2 → result ≢ 70 → (c : Command) × spells (map string_bytes words.now) c }
+    ensures spelled { result ≢ 2 → result ≢ 70 → (c : Command) × SpellsBuilt (map string_bytes words.now) c }
 {
-    match read(alloc, words) {
+    match command {
         Ok(Command::Run(words)) => run(rt, alloc, words, world),
-        Err(WordsError::BadWords) => finish(alloc, world, &Ending::BadWords),
-        Err(WordsError::OutOfMemory) => OUT_OF_MEMORY,
+        Ok(_) => unreachable!(),
+        Err(why) => refuse(alloc, why, world),
     }
 }
 
-/// Does what the words of the command line ask for, and hands the world back with the exit status: 0 where the input
-/// was read to its end and every record has its fate, 1 where the calls allowed were spent before, 2 where the words
-/// are no command, 3 at a bad line, 4 where the input failed, 5 where the output failed, 9 where a parameter is
-/// refused, 10 past a limit, 70 for want of memory, after which nothing is told. 4 and 5 come only where the device's
-/// count of faults rose.
+/// Does what the words of the command line ask for, and hands the world back with the exit status: 0 where `init` made
+/// the files, or `run` read the input to its end and every record has its fate; 1 where the calls allowed were spent
+/// before; 2 where the words are no command that is built; 3 at a bad line; 4 where the input failed; 5 where the output
+/// failed; 6 where a disk failed; 8 where `init` found a file that is not empty; 9 where a parameter is refused; 10 past
+/// a limit; 70 for want of memory, after which nothing is told. 4, 5 and 6 come only where the device's count of faults
+/// rose.
 pub fn esm<R: Threads + Wait + Sync, S: Source, K: Sink, D: Disk, C: Clock, F: Caller, L: Door>(
     rt: &R,
     alloc: Global,
@@ -61,34 +70,65 @@ pub fn esm<R: Threads + Wait + Sync, S: Source, K: Sink, D: Disk, C: Clock, F: C
 ) -> Ended<S, K, D, C, F, L>
     requires callers { length world.callers.items ≡ MAX_LANES }
     requires trace { world.trace.items ≡ [] }
+    // What the words did.
     ensures outcome { result.status ≢ 70 → Outcome C.gave F.sends F.log (map string_bytes words.now)
         (read_of S.faults S.left world.input result.world.input)
         (written_of K.faults K.written world.out result.world.out)
-        (reverse result.world.trace.items) world.callers.items result.world.callers.items result.status }
+        (reverse result.world.trace.items) world.callers.items result.world.callers.items
+        (InitOutcome (meaning D.honest D.content D.image D.moment D.image_since D.faults)
+        (disks world.journal world.spare world.failures world.registry)
+        (disks result.world.journal result.world.spare result.world.failures result.world.registry)
+        (written_of K.faults K.written world.out result.world.out)) result.status }
     ensures exact { result.status ≢ 70 → IsSome (S.left world.input)
         → ¬ Rose (S.faults world.input) (S.faults result.world.input)
         → ¬ Rose (K.faults world.out) (K.faults result.world.out)
+        → (SpellsBuilt (map string_bytes words.now) Command.Init
+        → AreSound (meaning D.honest D.content D.image D.moment D.image_since D.faults)
+        (disks world.journal world.spare world.failures world.registry)
+        (disks result.world.journal result.world.spare result.world.failures result.world.registry))
         → (other : ℕ) → Outcome C.gave F.sends F.log (map string_bytes words.now)
         (read_of S.faults S.left world.input result.world.input)
         (written_of K.faults K.written world.out result.world.out)
-        (reverse result.world.trace.items) world.callers.items result.world.callers.items other
+        (reverse result.world.trace.items) world.callers.items result.world.callers.items
+        (InitOutcome (meaning D.honest D.content D.image D.moment D.image_since D.faults)
+        (disks world.journal world.spare world.failures world.registry)
+        (disks result.world.journal result.world.spare result.world.failures result.world.registry)
+        (written_of K.faults K.written world.out result.world.out)) other
         → other ≡ result.status }
+    ensures bad_words { result.status ≡ 2 → (c : Command) → ¬ SpellsBuilt (map string_bytes words.now) c }
+    ensures spelled { result.status ≢ 2 → result.status ≢ 70 → (c : Command) × SpellsBuilt (map string_bytes words.now) c }
+    // Want of memory.
     ensures want_of_memory { result.status ≡ 70 → IsCut C.gave F.sends F.log (map string_bytes words.now)
         (read_of S.faults S.left world.input result.world.input)
         (reverse result.world.trace.items) world.callers.items result.world.callers.items }
-    ensures bad_words { result.status ≡ 2 → (c : Command) → ¬ spells (map string_bytes words.now) c }
     ensures untold { result.status ≡ 70 → result.world.out ≡ world.out }
+    // What stays, whatever the status.
     ensures kept { result.world ≡ record world {
       input = result.world.input;
       out = result.world.out;
+      journal = result.world.journal;
+      spare = result.world.spare;
+      failures = result.world.failures;
+      registry = result.world.registry;
       callers = result.world.callers;
       trace = result.world.trace;
     } }
-    ensures spelled { result.status ≢ 2 → result.status ≢ 70 → (c : Command) × spells (map string_bytes words.now) c }
+    ensures same_disks { ¬ SpellsBuilt (map string_bytes words.now) Command.Init
+        → disks result.world.journal result.world.spare result.world.failures result.world.registry
+        ≡ disks world.journal world.spare world.failures world.registry }
+    ensures safe_disks { SpellsBuilt (map string_bytes words.now) Command.Init
+        → AreSafe (meaning D.honest D.content D.image D.moment D.image_since D.faults)
+        (disks world.journal world.spare world.failures world.registry)
+        (disks result.world.journal result.world.spare result.world.failures result.world.registry) }
 {
-    let mut world = world;
-    let status = perform(rt, alloc, words, &mut world);
     one_command();
     whole_goes_on();
-    Ended { status, world }
+    match built_command(alloc, words) {
+        Ok(Command::Init) => initialize(alloc, world),
+        command => {
+            let mut world = world;
+            let status = perform(rt, alloc, words, command, &mut world);
+            Ended { status, world }
+        }
+    }
 }

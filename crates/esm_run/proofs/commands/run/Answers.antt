@@ -2,7 +2,8 @@ use Rattle.std.proofs.Common.{subst, sym, ap, reverse}
 use Rattle.esm_report.specs.Report.{report_text}
 use Rattle.esm_run.specs.Endings.{IsTold}
 use Rattle.esm_run.specs.Headline.{read_of}
-use Rattle.esm_run.specs.Answers.{written_of, RunOutcome, IsCutOf}
+use Rattle.esm_run.specs.Answers.{RunOutcome, IsCutOf}
+use Rattle.esm_run.specs.Written.{written_of}
 use Rattle.esm_run.proofs.Outcomes.{whole_cut}
 use Rattle.esm_run.proofs.commands.run.Goals as goal
 

@@ -1,0 +1,4 @@
+pub mod Init
+pub mod Making
+pub mod Sizes
+pub mod Text

@@ -1,0 +1,46 @@
+ghost use Rattle.std.specs.Prelude.{◌≡◌, map, IfOk};
+ghost use Rattle.std.specs.String.{string_bytes};
+ghost use Rattle.esm_cli.specs.declared.command.Command.{Command};
+ghost use Rattle.esm_run.specs.Built.{is_built, is_built_run, SpellsBuilt};
+
+use esm_cli::laws::one_command;
+use esm_cli::table::VISIBILITY;
+use esm_cli::{Command, RunWords, Which, WordsError, read};
+use std::alloc::Global;
+
+/// Whether these options of `run` are built.
+fn is_built_run(words: &RunWords) -> bool
+    ensures { result ≡ is_built_run words.now }
+{
+    matches!(words.which, Which::Config(_))
+        && words.visibility == VISIBILITY.default.unwrap_or(0)
+}
+
+/// Whether the command is built.
+fn is_built(command: &Command) -> bool
+    ensures { result ≡ is_built command.now }
+{
+    match command {
+        Command::Init => true,
+        Command::Run(words) => is_built_run(words),
+        _ => false,
+    }
+}
+
+/// The command that the words spell. `BadWords` exactly where they spell none that is built.
+pub fn built_command(alloc: Global, words: &[String]) -> Result<Command, WordsError>
+    ensures spelled { IfOk result (SpellsBuilt (map string_bytes words.now)) }
+    ensures bad { result ≡ Err WordsError.BadWords → (c : Command) → ¬ SpellsBuilt (map string_bytes words.now) c }
+{
+    one_command();
+    match read(alloc, words) {
+        Ok(command) => {
+            if is_built(&command) {
+                Ok(command)
+            } else {
+                Err(WordsError::BadWords)
+            }
+        }
+        Err(why) => Err(why),
+    }
+}

@@ -1,0 +1,113 @@
+ghost use Rattle.std.specs.Prelude.{◌≡◌, ◌≢◌, Ok};
+ghost use Rattle.esm_io.specs.Meanings.{disk as meaning};
+ghost use Rattle.esm_init.specs.Init.{AreSafe};
+ghost use Rattle.esm_init.specs.Text.{init_text};
+ghost use Rattle.esm_init.specs.declared.files.InitEnd.{InitEnd};
+ghost use Rattle.esm_run.specs.Endings.{IsToldWith};
+ghost use Rattle.esm_run.specs.Initialized.{InitOutcome, disks, init_status};
+ghost use Rattle.esm_run.specs.Written.{written_of};
+
+use crate::output::{OUT_OF_MEMORY, OUTPUT_FAULT, write_all};
+use crate::world::{Ended, World};
+use esm_init::{Disks, InitEnd, Initialized, init_text};
+use esm_io::{Disk, Sink};
+use esm_model::OutOfMemory;
+use std::alloc::Global;
+
+/// A file is not empty.
+const NOT_EMPTY: u8 = 8;
+
+/// A disk failed.
+const DISK_FAULT: u8 = 6;
+
+/// The exit status that tells how `init` ended.
+fn init_status(end: InitEnd) -> u8
+    ensures { result ≡ init_status end }
+{
+    match end {
+        InitEnd::Done => 0,
+        InitEnd::NotEmpty { .. } => NOT_EMPTY,
+        InitEnd::DiskFault => DISK_FAULT,
+    }
+}
+
+/// Tells how `init` ended, and answers the exit status.
+fn tell_init<K: Sink>(alloc: Global, out: &mut K, end: Result<InitEnd, OutOfMemory>) -> u8
+    ensures told { result ≢ 70 → (e : InitEnd) × (end ≡ Ok e) × IsToldWith (K.faults out.old) (K.faults out.new)
+        (K.written out.old) (K.written out.new) (init_text e) (init_status e) OUTPUT_FAULT result }
+    ensures untold { result ≡ 70 → out.new ≡ out.old }
+    ensures good_words { result ≢ 2 }
+{
+    let Ok(end) = end else {
+        return OUT_OF_MEMORY;
+    };
+    let Ok(text) = init_text(alloc, end) else {
+        return OUT_OF_MEMORY;
+    };
+    match write_all(out, &text) {
+        Ok(()) => init_status(end),
+        Err(_) => OUTPUT_FAULT,
+    }
+}
+
+/// Makes the four files of the world's disks, tells how it ended, and hands the world back with the exit status.
+pub fn initialize<S, K: Sink, D: Disk, C, F, L>(
+    alloc: Global,
+    world: World<S, K, D, C, F, L>,
+) -> Ended<S, K, D, C, F, L>
+    ensures outcome { result.status ≢ 70 → InitOutcome (meaning D.honest D.content D.image D.moment D.image_since D.faults)
+        (disks world.journal world.spare world.failures world.registry)
+        (disks result.world.journal result.world.spare result.world.failures result.world.registry)
+        (written_of K.faults K.written world.out result.world.out) result.status }
+    ensures safe { AreSafe (meaning D.honest D.content D.image D.moment D.image_since D.faults)
+        (disks world.journal world.spare world.failures world.registry)
+        (disks result.world.journal result.world.spare result.world.failures result.world.registry) }
+    ensures untold { result.status ≡ 70 → result.world.out ≡ world.out }
+    ensures good_words { result.status ≢ 2 }
+    ensures kept { result.world ≡ record world {
+      out = result.world.out;
+      journal = result.world.journal;
+      spare = result.world.spare;
+      failures = result.world.failures;
+      registry = result.world.registry;
+    } }
+{
+    let World {
+        input,
+        out,
+        journal,
+        spare,
+        failures,
+        registry,
+        clock,
+        callers,
+        door,
+        trace,
+    } = world;
+    let Initialized { end, disks } = esm_init::init(
+        alloc,
+        Disks {
+            journal,
+            spare,
+            failures,
+            registry,
+        },
+    );
+    let mut out = out;
+    let status = tell_init(alloc, &mut out, end);
+    Ended {
+        status,
+        world: World {
+            input,
+            out,
+            journal: disks.journal,
+            spare: disks.spare,
+            failures: disks.failures,
+            registry: disks.registry,
+            clock,
+            callers,
+            door,
+            trace,
+        },
+    }
+}
