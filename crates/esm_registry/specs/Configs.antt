@@ -1,0 +1,21 @@
+-- What the registry takes of configurations, under names that proofs do not open: how a new mapping's value and an update's
+-- are judged, and the canonical text.
+use Rattle.std.specs.Prelude.{ℕ, List, Result}
+use Rattle.serde_json.specs.Data.{Data}
+use Rattle.esm_model.specs.declared.config.Config.{Config}
+use Rattle.esm_config.specs.Mapping.{judge}
+use Rattle.esm_config.specs.Merge.{judge_update}
+use Rattle.esm_config.specs.Text.{config_text}
+use Rattle.esm_config.specs.declared.param.Param.{Param}
+
+-- the configuration that a value gives, or the first field that is refused
+unfoldable pub config_judged : Data → Result Config Param
+config_judged d = judge d
+
+-- the configuration that an update makes of another, or the first field that is refused
+unfoldable pub update_judged : Config → Data → Result Config Param
+update_judged old d = judge_update old d
+
+-- the text that `esm_config` writes
+unfoldable pub canonical_text : Config → List ℕ
+canonical_text c = config_text c

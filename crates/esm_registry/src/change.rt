@@ -1,0 +1,24 @@
+use esm_model::Config;
+use uuid::Uuid;
+
+/// What one payload of a registry's journal says. Moments are milliseconds since 1970.
+#[derive(Drop, Debug)]
+pub enum Change {
+    /// A mapping was created.
+    Created {
+        id: Uuid,
+        moment: u64,
+        config: Config,
+    },
+    /// A mapping has another configuration.
+    Updated {
+        id: Uuid,
+        moment: u64,
+        config: Config,
+    },
+    /// A mapping was deleted.
+    Deleted {
+        id: Uuid,
+        moment: u64,
+    },
+}

@@ -1,0 +1,12 @@
+//! The registry of event source mappings: a list of mappings and a number of creations, kept in a journal of its own
+//! payloads, as one machine. A command answers and changes what the Lambda API reference says, whole or not at all.
+#![tactic(auto)]
+
+pub mod change;
+pub mod command;
+pub mod mapping;
+mod registry;
+
+pub use command::{Applied, Command, ErrorName, RegistryError, RegistryOpen};
+pub use mapping::Mapping;
+pub use registry::Registry;

@@ -1,0 +1,14 @@
+use esm_model::Config;
+use uuid::Uuid;
+
+/// An event source mapping.
+#[derive(Drop, Debug)]
+pub struct Mapping {
+    /// Of version 3, of the source, the function and the creation number; it never changes.
+    pub id: Uuid,
+    pub config: Config,
+    /// When it was created, in milliseconds since 1970; it never changes.
+    pub created: u64,
+    /// When it was created or last changed, in milliseconds since 1970.
+    pub modified: u64,
+}

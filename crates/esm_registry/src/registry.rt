@@ -1,0 +1,134 @@
+ghost use Rattle.std.specs.Prelude.{◌≡◌, ◌≤◌, ◌++◌, ℕ, true, false, IfOk, IfErr, OnOk, OnErr, IsErrOf};
+ghost use Rattle.std.specs.Option.{option_copied, option_to_list};
+ghost use Rattle.esm_io.specs.Faults.{Rose};
+ghost use Rattle.esm_io.specs.Images.{LeavesOnly};
+ghost use Rattle.esm_io.specs.Meanings.{disk as meaning};
+ghost use Rattle.esm_journal.specs.State.{KeepsWhileUp, KeepsWhileDown};
+ghost use Rattle.esm_registry.specs.Lists.{mapping_at};
+ghost use Rattle.esm_registry.specs.Machine.{asked, step};
+ghost use Rattle.esm_registry.specs.State.{IsFirstBad, IsRegistry, OpensToStep};
+
+use crate::command::{Applied, Command, RegistryError, RegistryOpen};
+use crate::mapping::Mapping;
+use esm_io::Disk;
+use esm_journal::Journal;
+use esm_model::Refused;
+use std::alloc::Global;
+use std::marker::Model;
+use uuid::Uuid;
+
+/// The mappings, kept in a journal. A command counts once its payload is on the disk, so a crash at any moment leaves
+/// whole commands alone.
+#[derive(Drop)]
+pub struct Registry<D: Disk> {
+    mappings: Vec<Mapping>,
+    created: u64,
+    journal: Journal<D>,
+    down: bool,
+}
+
+impl<D: Disk> Model for Registry<D> {
+    ghost use Rattle.std.specs.Prelude.{◌≡◌};
+    ghost use Rattle.esm_registry.specs.State.{RegistryState, IsRegistry};
+
+    ghost Value = { RegistryState D };
+
+    ghost view = { λ r. record { mappings = record { list = r.mappings.items; created = r.created }; journal = r.journal } };
+
+    ghost invariant = { λ r. IsRegistry (record { mappings = record { list = r.mappings.items; created = r.created }; journal = r.journal }) × (r.journal.down ≡ r.down) };
+}
+
+impl<D: Disk> Registry<D> {
+    /// The registry that a journal says. `BadPayload` where one of its payloads is none of a registry's, with the index of
+    /// the first such one. Nothing is written.
+    pub fn open(
+        alloc: Global,
+        journal: Journal<D>,
+    ) -> Result<Registry<D>, Refused<RegistryOpen, Journal<D>>>
+        requires { journal.down ≡ false }
+        ensures journal { IfOk result (λ registry. registry.journal ≡ journal) }
+        ensures kept { IfOk result IsRegistry }
+        // When each error comes, and that the journal is given back.
+        ensures bad { IfErr result (λ refused. (i : ℕ) → refused.why ≡ RegistryOpen.BadPayload i → IsFirstBad journal.payloads i) }
+        ensures back { IfErr result (λ refused. refused.back ≡ journal) }
+    {
+        let _ = alloc;
+        Err(Refused {
+            why: RegistryOpen::OutOfMemory,
+            back: journal,
+        })
+    }
+
+    /// Applies one command at a moment in milliseconds since 1970; a later one than the greatest counts as that. Memory is
+    /// taken before the disk is called. `DiskFault` only where the disk's faults rose; every later command answers `Down`.
+    pub fn apply(
+        &mut self,
+        alloc: Global,
+        command: Command,
+        moment: u64,
+    ) -> Result<Applied, RegistryError>
+        // What is answered, and what the command changes: the list, and one payload at most.
+        ensures answer { IfOk result (λ answer. answer ≡ (step self.old.mappings (asked command) moment).answer) }
+        ensures mappings { OnOk result (self.new.mappings ≡ (step self.old.mappings (asked command) moment).after) }
+        ensures payloads { OnOk result (self.new.journal.payloads
+            ≡ self.old.journal.payloads ++ option_to_list (step self.old.mappings (asked command) moment).payload) }
+        ensures up { OnOk result (self.new.journal.down ≡ false) }
+        // What an error leaves: the mappings and the payloads, and after want of memory all.
+        ensures same_mappings { OnErr result (self.new.mappings ≡ self.old.mappings) }
+        ensures same_payloads { OnErr result (self.new.journal.payloads ≡ self.old.journal.payloads) }
+        ensures no_memory { IsErrOf result RegistryError.OutOfMemory → self.new ≡ self.old }
+        // When each error comes.
+        ensures fault { IsErrOf result RegistryError.DiskFault → self.new.journal.down ≡ true }
+        ensures cause { IsErrOf result RegistryError.DiskFault → Rose (D.faults self.old.journal.disk) (D.faults self.new.journal.disk) }
+        ensures down { IsErrOf result RegistryError.Down → (self.new ≡ self.old) × (self.old.journal.down ≡ true) }
+        ensures is_down { self.old.journal.down ≡ true → IsErrOf result RegistryError.Down }
+        // What a crash leaves: since the call began, and once it has returned.
+        ensures any_moment { D.honest self.old.journal.disk ≡ true → self.old.journal.down ≡ false →
+            LeavesOnly D.moment D.image_since self.old.journal.disk self.new.journal.disk
+            (OpensToStep self.old.journal.payloads (step self.old.mappings (asked command) moment).payload) }
+        ensures kept { KeepsWhileUp (meaning D.honest D.content D.image D.moment D.image_since D.faults) self.new.journal }
+        ensures stopped { KeepsWhileDown (meaning D.honest D.content D.image D.moment D.image_since D.faults) self.new.journal }
+        // What the type keeps; the disk is as honest as it was, and its count of faults never falls.
+        ensures registry { IsRegistry self.new }
+        ensures honesty { D.honest self.new.journal.disk ≡ D.honest self.old.journal.disk }
+        ensures never_falls { D.faults self.old.journal.disk ≤ D.faults self.new.journal.disk }
+    {
+        let _ = alloc;
+        let _ = command;
+        let _ = moment;
+        let _ = self.journal.payloads();
+        if self.down {
+            return Err(RegistryError::Down);
+        }
+        Err(RegistryError::OutOfMemory)
+    }
+
+    /// The mapping with this UUID. Takes no memory.
+    pub fn find(&self, id: &Uuid) -> Option<&Mapping>
+        ensures found { option_copied result ≡ mapping_at id.now self.now.mappings.list }
+        ensures kept { IsRegistry self.now }
+    {
+        self.mappings.iter().find(|mapping| mapping.id == *id)
+    }
+
+    /// Whether a command answered `DiskFault`. Takes no memory.
+    pub fn down(&self) -> bool
+        ensures down { result ≡ self.now.journal.down }
+        ensures kept { IsRegistry self.now }
+    {
+        self.down
+    }
+
+    /// The journal, as the commands left it. Takes no memory.
+    pub fn into_journal(self) -> Journal<D>
+        ensures { result ≡ self.journal }
+    {
+        let Registry {
+            mappings: _,
+            created: _,
+            journal,
+            down: _,
+        } = self;
+        journal
+    }
+}
