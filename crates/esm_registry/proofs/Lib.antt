@@ -1,1 +1,14 @@
 pub mod Writing
+pub mod ListFacts
+pub mod Counting
+pub mod CountFacts
+pub mod IndexFacts
+pub mod IndexChanges
+pub mod IndexCounts
+pub mod TableFacts
+pub mod Written
+pub mod Commands
+pub mod PayloadFacts
+pub mod Planning
+pub mod Results
+pub mod Histories

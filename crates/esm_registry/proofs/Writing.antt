@@ -1,5 +1,5 @@
 -- What a crash leaves of a journal to which nothing, or one payload, was written.
-use Rattle.std.proofs.Common.{◌≡◌, ◌≤◌, ℕ, List, Option, Some, None, arith, inl, true, subst, sym}
+use Rattle.std.proofs.Common.{ℕ, List, Option, Some, None, arith, inl, subst, sym}
 use Rattle.esm_io.specs.Images.{LeavesOnly}
 use Rattle.esm_io.specs.Meanings.{DiskMeaning}
 use Rattle.esm_journal.specs.File.{header_of}

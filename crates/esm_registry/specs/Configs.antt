@@ -1,9 +1,10 @@
 -- What the registry takes of configurations, under names that proofs do not open: how a new mapping's value and an update's
 -- are judged, and the canonical text.
-use Rattle.std.specs.Prelude.{ℕ, List, Result}
+use Rattle.std.specs.Prelude.{◌≡◌, ℕ, List, Some, Result}
 use Rattle.serde_json.specs.Data.{Data}
+use Rattle.serde_json.specs.Read.{read}
 use Rattle.esm_model.specs.declared.config.Config.{Config}
-use Rattle.esm_config.specs.Mapping.{judge}
+use Rattle.esm_config.specs.Mapping.{config_of, judge}
 use Rattle.esm_config.specs.Merge.{judge_update}
 use Rattle.esm_config.specs.Text.{config_text}
 use Rattle.esm_config.specs.declared.param.Param.{Param}
@@ -19,3 +20,7 @@ update_judged old d = judge_update old d
 -- the text that `esm_config` writes
 unfoldable pub canonical_text : Config → List ℕ
 canonical_text c = config_text c
+
+-- its text reads as the configuration
+abbrev pub IsRead : Config → Type 0
+IsRead c = (d : Data) × (read (config_text c) ≡ Some d) × (config_of d ≡ Some c)

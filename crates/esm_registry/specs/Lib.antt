@@ -5,3 +5,10 @@ pub mod Lists
 pub mod Payload
 pub mod Machine
 pub mod State
+pub mod Index
+pub mod Pairs
+pub mod Given
+pub mod Places
+pub mod Tables
+pub mod Applying
+pub mod Kept

@@ -44,7 +44,7 @@ is_taken c list = list_any (is_alike c) list
 
 -- the source's ARN, the function's and the creation number, each on a line of its own
 abbrev pub uuid_name : Config → ℕ → List ℕ
-uuid_name c number = c.source_arn ++ 10 ∷ [] ++ c.function_arn ++ 10 ∷ [] ++ decimal number
+uuid_name c number = c.source_arn ++ (10 ∷ (c.function_arn ++ (10 ∷ decimal number)))
 
 -- the UUID of version 3 of that name, in the namespace of URLs
 unfoldable pub uuid_of : Config → ℕ → List ℕ

@@ -14,7 +14,6 @@ use Rattle.esm_registry.specs.declared.command.Applied.{Applied}
 use Rattle.esm_registry.specs.declared.command.Applied.TheVariants.{One, Many, Refused}
 use Rattle.esm_registry.specs.declared.command.Command.{Command}
 use Rattle.esm_registry.specs.declared.command.Command.TheVariants as command
-use Rattle.esm_registry.specs.declared.command.ErrorName.{ErrorName}
 use Rattle.esm_registry.specs.declared.command.ErrorName.TheVariants.{InvalidParameterValueException, ResourceConflictException, ResourceNotFoundException}
 use Rattle.esm_registry.specs.declared.mapping.Mapping.{Mapping}
 use Rattle.esm_registry.specs.Configs.{config_judged, update_judged}

@@ -1,5 +1,5 @@
 -- What contracts see of a registry, what its type keeps, and what a crash leaves of its disk.
-use Rattle.std.specs.Prelude.{◌≡◌, ◌+◌, ℕ, Bool, true, false, List, take, map, Option, Some, None, IsSome}
+use Rattle.std.specs.Prelude.{◌≡◌, ◌+◌, ℕ, List, take, map, Option, Some, None, IsSome}
 use Rattle.std.specs.List.{All, IsDistinct}
 use Rattle.std.specs.Str.{bytes_eq}
 use Rattle.esm_journal.specs.File.{header_of}

@@ -10,6 +10,9 @@ ghost use Rattle.esm_registry.specs.State.{IsFirstBad, IsRegistry, OpensToStep};
 
 use crate::command::{Applied, Command, RegistryError, RegistryOpen};
 use crate::mapping::Mapping;
+use crate::obeying::obey;
+use crate::opening::table_of;
+use crate::table::Table;
 use esm_io::Disk;
 use esm_journal::Journal;
 use esm_model::Refused;
@@ -21,21 +24,22 @@ use uuid::Uuid;
 /// whole commands alone.
 #[derive(Drop)]
 pub struct Registry<D: Disk> {
-    mappings: Vec<Mapping>,
-    created: u64,
+    table: Table,
     journal: Journal<D>,
     down: bool,
 }
 
 impl<D: Disk> Model for Registry<D> {
     ghost use Rattle.std.specs.Prelude.{◌≡◌};
-    ghost use Rattle.esm_registry.specs.State.{RegistryState, IsRegistry};
+    ghost use Rattle.esm_registry.specs.State.{RegistryState};
 
     ghost Value = { RegistryState D };
 
-    ghost view = { λ r. record { mappings = record { list = r.mappings.items; created = r.created }; journal = r.journal } };
+    ghost use Rattle.esm_registry.specs.Kept.{IsKept};
 
-    ghost invariant = { λ r. IsRegistry (record { mappings = record { list = r.mappings.items; created = r.created }; journal = r.journal }) × (r.journal.down ≡ r.down) };
+    ghost view = { λ r. record { mappings = r.table.mappings; journal = r.journal } };
+
+    ghost invariant = { λ r. IsKept r.table r.journal r.down };
 }
 
 impl<D: Disk> Registry<D> {
@@ -52,11 +56,17 @@ impl<D: Disk> Registry<D> {
         ensures bad { IfErr result (λ refused. (i : ℕ) → refused.why ≡ RegistryOpen.BadPayload i → IsFirstBad journal.payloads i) }
         ensures back { IfErr result (λ refused. refused.back ≡ journal) }
     {
-        let _ = alloc;
-        Err(Refused {
-            why: RegistryOpen::OutOfMemory,
-            back: journal,
-        })
+        match table_of(alloc, journal.payloads()) {
+            Ok(table) => {
+                let _ = table.created();
+                Ok(Registry {
+                    table,
+                    journal,
+                    down: false,
+                })
+            }
+            Err(why) => Err(Refused { why, back: journal }),
+        }
     }
 
     /// Applies one command at a moment in milliseconds since 1970; a later one than the greatest counts as that. Memory is
@@ -93,14 +103,20 @@ impl<D: Disk> Registry<D> {
         ensures honesty { D.honest self.new.journal.disk ≡ D.honest self.old.journal.disk }
         ensures never_falls { D.faults self.old.journal.disk ≤ D.faults self.new.journal.disk }
     {
-        let _ = alloc;
-        let _ = command;
-        let _ = moment;
         let _ = self.journal.payloads();
+        let _ = self.table.created();
         if self.down {
             return Err(RegistryError::Down);
         }
-        Err(RegistryError::OutOfMemory)
+        match obey(&mut self.table, &mut self.journal, alloc, command, moment) {
+            Ok(answer) => Ok(answer),
+            Err(RegistryError::DiskFault) => {
+                self.down = true;
+                Err(RegistryError::DiskFault)
+            }
+            Err(RegistryError::OutOfMemory) => Err(RegistryError::OutOfMemory),
+            Err(RegistryError::Down) => unreachable!(),
+        }
     }
 
     /// The mapping with this UUID. Takes no memory.
@@ -108,7 +124,8 @@ impl<D: Disk> Registry<D> {
         ensures found { option_copied result ≡ mapping_at id.now self.now.mappings.list }
         ensures kept { IsRegistry self.now }
     {
-        self.mappings.iter().find(|mapping| mapping.id == *id)
+        let _ = self.table.created();
+        self.table.find(id)
     }
 
     /// Whether a command answered `DiskFault`. Takes no memory.
@@ -116,6 +133,7 @@ impl<D: Disk> Registry<D> {
         ensures down { result ≡ self.now.journal.down }
         ensures kept { IsRegistry self.now }
     {
+        let _ = self.table.created();
         self.down
     }
 
@@ -124,8 +142,7 @@ impl<D: Disk> Registry<D> {
         ensures { result ≡ self.journal }
     {
         let Registry {
-            mappings: _,
-            created: _,
+            table: _,
             journal,
             down: _,
         } = self;

@@ -1,0 +1,32 @@
+use Rattle.std.proofs.Common.{sym, subst}
+use Rattle.esm_io.specs.Meanings.{disk as meaning}
+use Rattle.serde_json.specs.View.{view}
+use Rattle.esm_registry.specs.Applying.{Obeys}
+use Rattle.esm_registry.specs.Configs.{config_judged}
+use Rattle.esm_registry.specs.Machine.{created_by}
+use Rattle.esm_registry.proofs.Commands.{obeys_answer, obeys_no_memory}
+use Rattle.esm_registry.proofs.Writing.{stays}
+use Rattle.esm_registry.proofs.obeying.create.Goals as goal
+
+pub returns-in-Ok-Answer : goal.returns-in-Ok-Answer
+returns-in-Ok-Answer g c =
+    let s = c.args.table.now.mappings in
+    obeys_answer (meaning g.D.Disk.honest g.D.Disk.content g.D.Disk.image g.D.Disk.moment g.D.Disk.image_since g.D.Disk.faults) c.args.table.now c.args.journal.now
+    (created_by s c.args.moment (config_judged (view c.args.value.now))) c.in-Ok-Answer.answer c.requires.ready
+    (λ honest payload. stays (meaning g.D.Disk.honest g.D.Disk.content g.D.Disk.image g.D.Disk.moment g.D.Disk.image_since g.D.Disk.faults) c.args.journal.now payload (λ left since. g.met.D.Disk.only_now c.args.journal.now.disk left honest since) (c.payloads.ensures.kept honest c.requires.ready.up))
+    (rw c.in-Ok-Answer.field-0-is at c.in-Ok-Answer.ensures)
+
+pub create-requires-clause-creation : goal.create-requires-clause-creation
+create-requires-clause-creation g c = (rw c.in-Ok-Change.field-0-is at c.in-Ok-Change.ensures).1
+
+pub returns-in-Ok-Change : goal.returns-in-Ok-Change
+returns-in-Ok-Change g c =
+    subst (λ st. Obeys (meaning g.D.Disk.honest g.D.Disk.content g.D.Disk.image g.D.Disk.moment g.D.Disk.image_since g.D.Disk.faults) c.args.table.now c.create.new.table c.args.journal.now c.create.new.journal st c.create.result)
+    (sym (rw c.in-Ok-Change.field-0-is at c.in-Ok-Change.ensures).0) c.create.ensures
+
+pub returns-in-Err : goal.returns-in-Err
+returns-in-Err g c =
+    let s = c.args.table.now.mappings in
+    obeys_no_memory (meaning g.D.Disk.honest g.D.Disk.content g.D.Disk.image g.D.Disk.moment g.D.Disk.image_since g.D.Disk.faults) c.args.table.now c.args.journal.now
+    (created_by s c.args.moment (config_judged (view c.args.value.now))) c.requires.ready
+    (λ honest payload. stays (meaning g.D.Disk.honest g.D.Disk.content g.D.Disk.image g.D.Disk.moment g.D.Disk.image_since g.D.Disk.faults) c.args.journal.now payload (λ left since. g.met.D.Disk.only_now c.args.journal.now.disk left honest since) (c.payloads.ensures.kept honest c.requires.ready.up))

@@ -1,0 +1,42 @@
+-- What contracts see of the mappings in memory. Only this crate's proofs cite this file.
+use Rattle.std.specs.Prelude.{◌≡◌, ℕ, ◌+◌, Bool, ◌&&◌, List, [], ◌∷◌, Option, Some, None, if◌then◌else◌}
+use Rattle.std.specs.Str.{bytes_eq}
+use Rattle.esm_model.specs.declared.config.Config.{Config}
+use Rattle.esm_registry.specs.declared.mapping.Mapping.{Mapping}
+use Rattle.esm_registry.specs.Lists.{Mappings, mapping_at}
+
+-- a source's ARN and a function's
+pub record Arns : Type 0 where
+  pub source : List ℕ
+  pub function : List ℕ
+
+abbrev pub arns_of : Config → Arns
+arns_of c = record { source = c.source_arn; function = c.function_arn }
+
+-- the first are those of the second
+abbrev pub is_same : Arns → Arns → Bool
+is_same p q = bytes_eq q.source p.source && bytes_eq q.function p.function
+
+-- 1 where they are
+unfoldable pub one_of : Arns → Arns → ℕ
+one_of p q = if is_same p q then 1 else 0
+
+-- the mappings, and the source and function of one that may be put in the place of another without memory
+pub record TableState : Type 0 where
+  pub mappings : Mappings
+  pub promised : Option Arns
+
+-- how many mappings have this source and function
+abbrev pub count_in : Arns → List Mapping → ℕ
+count_in p [] = 0
+count_in p (m ∷ ms) = one_of p (arns_of m.config) + count_in p ms
+
+abbrev pub count_promised : Arns → Option Arns → ℕ
+count_promised p None = 0
+count_promised p (Some q) = one_of p q
+
+-- a mapping with the UUID is there, and has this source and function
+pub record HasPair (list : List Mapping) (id : List ℕ) (p : Arns) : Type 0 where
+  pub mapping : Mapping
+  pub there : mapping_at id list ≡ Some mapping
+  pub pair : p ≡ arns_of mapping.config
