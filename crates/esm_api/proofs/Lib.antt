@@ -1,0 +1,7 @@
+mod Lines
+mod HeadLemmas
+mod FieldLemmas
+mod RouteLemmas
+mod PlanLemmas
+mod RequestLemmas
+mod TalkLemmas

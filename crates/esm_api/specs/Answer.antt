@@ -1,0 +1,74 @@
+-- The bytes of an answer over HTTP/1.1 (RFC 9112), one to a connection. The errors and their statuses are those of the
+-- Lambda API Reference of 2015-03-31 (event source mappings); the messages, and which fields stand in which order, are this
+-- product's own.
+use Rattle.std.specs.Prelude.{ℕ, nat_le, nat_lt, ◌&&◌, List, [], ◌++◌, length, codes, unwrap_or, if◌then◌else◌}
+use Rattle.http.specs.StatusCode.{reason_phrase}
+use Rattle.httparse.specs.Ascii.{crlf_bytes}
+use Rattle.esm_model.specs.Numbers.{decimal}
+use Rattle.esm_api.specs.declared.refusal.Refusal.{Refusal}
+use Rattle.esm_api.specs.declared.refusal.Refusal.TheVariants as row
+
+-- the phrase of a status code
+abbrev pub phrase_of : ℕ → List ℕ
+phrase_of status = if nat_le 100 status && nat_lt status 1000 then unwrap_or (reason_phrase status) [] else []
+
+unfoldable pub status_lines : ℕ → List ℕ
+status_lines status =
+    codes "HTTP/1.1 " ++ decimal status ++ codes " " ++ phrase_of status ++ crlf_bytes
+    ++ codes "Content-Type: application/json" ++ crlf_bytes
+
+unfoldable pub error_line : List ℕ → List ℕ
+error_line name = codes "x-amzn-ErrorType: " ++ name ++ crlf_bytes
+
+-- the lines up to the body, which has so many bytes
+unfoldable pub last_lines : ℕ → List ℕ
+last_lines count =
+    codes "Content-Length: " ++ decimal count ++ crlf_bytes
+    ++ codes "Connection: close" ++ crlf_bytes
+    ++ crlf_bytes
+
+-- the body of a refusal; the message is of plain characters
+unfoldable pub refusal_body : List ℕ → List ℕ
+refusal_body message = codes "{\"Type\":\"User\",\"Message\":\"" ++ message ++ codes "\"}"
+
+abbrev pub answer_text : ℕ → List ℕ → List ℕ
+answer_text status content = status_lines status ++ last_lines (length content) ++ content
+
+abbrev pub refusal_text : ℕ → List ℕ → List ℕ → List ℕ
+refusal_text status name message =
+    status_lines status ++ error_line name ++ last_lines (length (refusal_body message)) ++ refusal_body message
+
+-- ---- the rows that come before a command
+
+abbrev pub status_of : Refusal → ℕ
+status_of row.Head = 400
+status_of row.Query = 400
+status_of row.Path = 404
+status_of row.Method = 405
+status_of row.Length = 411
+status_of row.Body = 413
+status_of row.Json = 400
+status_of row.Mapping = 404
+
+abbrev pub error_of : Refusal → List ℕ
+error_of row.Head = codes "InvalidRequestContentException"
+error_of row.Query = codes "InvalidParameterValueException"
+error_of row.Path = codes "ResourceNotFoundException"
+error_of row.Method = codes "MethodNotAllowed"
+error_of row.Length = codes "InvalidRequestContentException"
+error_of row.Body = codes "RequestTooLargeException"
+error_of row.Json = codes "InvalidRequestContentException"
+error_of row.Mapping = codes "ResourceNotFoundException"
+
+abbrev pub message_of : Refusal → List ℕ
+message_of row.Head = codes "head"
+message_of row.Query = codes "query"
+message_of row.Path = codes "path"
+message_of row.Method = codes "method"
+message_of row.Length = codes "length"
+message_of row.Body = codes "body"
+message_of row.Json = codes "json"
+message_of row.Mapping = codes "mapping"
+
+abbrev pub row_text : Refusal → List ℕ
+row_text row = refusal_text (status_of row) (error_of row) (message_of row)

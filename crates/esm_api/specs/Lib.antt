@@ -1,0 +1,9 @@
+pub mod Head
+pub mod Plan
+pub mod Routes
+pub mod Command
+pub mod Request
+pub mod Answer
+pub mod HeadRead
+pub mod Judged
+pub mod Receiving

@@ -1,0 +1,51 @@
+// What a request asks for.
+ghost use Rattle.std.specs.Prelude.{◌≡◌, ◌≤◌, length, take, option_map, IfOk};
+ghost use Rattle.serde_json.specs.View.{view};
+ghost use Rattle.esm_api.specs.Plan.{body_bytes};
+ghost use Rattle.esm_api.specs.Request.{judged, changing};
+ghost use Rattle.esm_api.specs.Judged.{judgement_of};
+
+use crate::command::Command;
+use crate::plan::{Change, Plan};
+use crate::refusal::Refusal;
+use esm_model::{OutOfMemory, parse_json};
+use serde_json::Value;
+use std::alloc::Global;
+
+/// What a whole request comes to before its command is applied.
+#[derive(Drop)]
+pub enum Judged {
+    Refused(Refusal),
+    Asks(Command),
+}
+
+/// What the plan makes of the bytes behind the head.
+pub fn judge(alloc: Global, plan: Plan, after: &[u8]) -> Result<Judged, OutOfMemory>
+    requires { body_bytes plan ≤ length after.now }
+    ensures { IfOk result (λ judgement. judgement_of judgement ≡ judged plan after.now) }
+{
+    match plan {
+        Plan::Refuse(row) => Ok(Judged::Refused(row)),
+        Plan::List => Ok(Judged::Asks(Command::List)),
+        Plan::Get(id) => Ok(Judged::Asks(Command::Get(id))),
+        Plan::Delete(id) => Ok(Judged::Asks(Command::Delete(id))),
+        Plan::Read(change, count) => {
+            let (body, _) = after.split_at(count);
+            Ok(changing(change, parse_json(alloc, body)?))
+        }
+    }
+}
+
+/// The change with the value of its body, where it is JSON.
+fn changing(change: Change, value: Option<Value>) -> Judged
+    ensures { judgement_of result ≡ changing change (option_map view value) }
+{
+    let Some(value) = value else {
+        return Judged::Refused(Refusal::Json);
+    };
+    match change {
+        Change::Create => Judged::Asks(Command::Create(value)),
+        Change::Update(None) => Judged::Refused(Refusal::Mapping),
+        Change::Update(Some(id)) => Judged::Asks(Command::Update(id, value)),
+    }
+}

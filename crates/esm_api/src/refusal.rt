@@ -1,0 +1,68 @@
+ghost use Rattle.std.specs.Prelude.{◌≡◌};
+ghost use Rattle.esm_api.specs.Answer.{status_of, error_of, message_of};
+
+/// The rows of the table that can refuse a request before its command is applied, in their order (Lambda API Reference of
+/// 2015-03-31, event source mappings; the rows' order and messages are this product's own).
+#[derive(Clone, Copy, Debug, PartialEq, Eq)]
+pub enum Refusal {
+    /// The head can't be one within the limits.
+    Head,
+    /// The target has a `?`.
+    Query,
+    /// The path is none of the forms.
+    Path,
+    /// The path has no such method.
+    Method,
+    /// A body's length isn't stated by one `Content-Length` of digits alone.
+    Length,
+    /// The body is too long.
+    Body,
+    /// The body isn't JSON.
+    Json,
+    /// The path ends in no UUID.
+    Mapping,
+}
+
+impl Refusal {
+    /// The status code.
+    pub fn status(self) -> u16
+        ensures { result ≡ status_of self }
+    {
+        match self {
+            Refusal::Head | Refusal::Query | Refusal::Json => 400,
+            Refusal::Path | Refusal::Mapping => 404,
+            Refusal::Method => 405,
+            Refusal::Length => 411,
+            Refusal::Body => 413,
+        }
+    }
+
+    /// The error's name.
+    pub fn error(self) -> &'static str
+        ensures { result.now ≡ error_of self }
+    {
+        match self {
+            Refusal::Head | Refusal::Length | Refusal::Json => "InvalidRequestContentException",
+            Refusal::Query => "InvalidParameterValueException",
+            Refusal::Path | Refusal::Mapping => "ResourceNotFoundException",
+            Refusal::Method => "MethodNotAllowed",
+            Refusal::Body => "RequestTooLargeException",
+        }
+    }
+
+    /// The message: the row's name.
+    pub fn message(self) -> &'static str
+        ensures { result.now ≡ message_of self }
+    {
+        match self {
+            Refusal::Head => "head",
+            Refusal::Query => "query",
+            Refusal::Path => "path",
+            Refusal::Method => "method",
+            Refusal::Length => "length",
+            Refusal::Body => "body",
+            Refusal::Json => "json",
+            Refusal::Mapping => "mapping",
+        }
+    }
+}
