@@ -5,3 +5,4 @@ mod RouteLemmas
 mod PlanLemmas
 mod RequestLemmas
 mod TalkLemmas
+mod ServeLemmas

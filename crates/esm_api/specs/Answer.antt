@@ -5,6 +5,9 @@ use Rattle.std.specs.Prelude.{ℕ, nat_le, nat_lt, ◌&&◌, List, [], ◌++◌,
 use Rattle.http.specs.StatusCode.{reason_phrase}
 use Rattle.httparse.specs.Ascii.{crlf_bytes}
 use Rattle.esm_model.specs.Numbers.{decimal}
+use Rattle.esm_registry.specs.declared.command.ErrorName.{ErrorName}
+use Rattle.esm_registry.specs.declared.command.ErrorName.TheVariants as error
+use Rattle.esm_registry.specs.Names.{error_text}
 use Rattle.esm_api.specs.declared.refusal.Refusal.{Refusal}
 use Rattle.esm_api.specs.declared.refusal.Refusal.TheVariants as row
 
@@ -34,9 +37,9 @@ refusal_body message = codes "{\"Type\":\"User\",\"Message\":\"" ++ message ++ c
 abbrev pub answer_text : ℕ → List ℕ → List ℕ
 answer_text status content = status_lines status ++ last_lines (length content) ++ content
 
-abbrev pub refusal_text : ℕ → List ℕ → List ℕ → List ℕ
-refusal_text status name message =
-    status_lines status ++ error_line name ++ last_lines (length (refusal_body message)) ++ refusal_body message
+abbrev pub refusal_text : ℕ → ErrorName → List ℕ → List ℕ
+refusal_text status error message =
+    status_lines status ++ error_line (error_text error) ++ last_lines (length (refusal_body message)) ++ refusal_body message
 
 -- ---- the rows that come before a command
 
@@ -50,15 +53,15 @@ status_of row.Body = 413
 status_of row.Json = 400
 status_of row.Mapping = 404
 
-abbrev pub error_of : Refusal → List ℕ
-error_of row.Head = codes "InvalidRequestContentException"
-error_of row.Query = codes "InvalidParameterValueException"
-error_of row.Path = codes "ResourceNotFoundException"
-error_of row.Method = codes "MethodNotAllowed"
-error_of row.Length = codes "InvalidRequestContentException"
-error_of row.Body = codes "RequestTooLargeException"
-error_of row.Json = codes "InvalidRequestContentException"
-error_of row.Mapping = codes "ResourceNotFoundException"
+abbrev pub error_of : Refusal → ErrorName
+error_of row.Head = error.InvalidRequestContentException
+error_of row.Query = error.InvalidParameterValueException
+error_of row.Path = error.ResourceNotFoundException
+error_of row.Method = error.MethodNotAllowed
+error_of row.Length = error.InvalidRequestContentException
+error_of row.Body = error.RequestTooLargeException
+error_of row.Json = error.InvalidRequestContentException
+error_of row.Mapping = error.ResourceNotFoundException
 
 abbrev pub message_of : Refusal → List ℕ
 message_of row.Head = codes "head"

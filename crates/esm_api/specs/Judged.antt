@@ -1,7 +1,7 @@
 -- What the judgement of a whole request means. Only this crate's proofs cite this file.
+use Rattle.esm_registry.specs.Machine.{asked}
 use Rattle.esm_api.specs.declared.judge.Judged.{Judged}
 use Rattle.esm_api.specs.declared.judge.Judged.TheVariants as judged
-use Rattle.esm_api.specs.Command.{asked}
 use Rattle.esm_api.specs.Request.{Judgement, Refused, Asks}
 
 abbrev pub judgement_of : Judged → Judgement

@@ -1,9 +1,11 @@
 pub mod Head
 pub mod Plan
 pub mod Routes
-pub mod Command
 pub mod Request
 pub mod Answer
+pub mod Response
+pub mod Serving
 pub mod HeadRead
 pub mod Judged
+pub mod Given
 pub mod Receiving

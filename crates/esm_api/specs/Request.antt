@@ -4,13 +4,13 @@ use Rattle.std.specs.Prelude.{◌≡◌, ◌⊎◌, ℕ, nat_lt, List, length, t
 use Rattle.serde_json.specs.Data.{Data}
 use Rattle.httparse.specs.Grammar.{RequestHead}
 use Rattle.esm_model.specs.Json.{read_json}
+use Rattle.esm_registry.specs.Machine.{Asked, Create, Listing, Get, Update, Delete}
 use Rattle.esm_api.specs.declared.refusal.Refusal.{Refusal}
 use Rattle.esm_api.specs.declared.refusal.Refusal.TheVariants as row
 use Rattle.esm_api.specs.declared.plan.Change.{Change}
 use Rattle.esm_api.specs.declared.plan.Change.TheVariants as change
 use Rattle.esm_api.specs.declared.plan.Plan.{Plan}
 use Rattle.esm_api.specs.declared.plan.Plan.TheVariants as plan
-use Rattle.esm_api.specs.Command.{Asked, Create, Listing, Get, Update, Delete}
 use Rattle.esm_api.specs.Head.{BeginsWith, HasBadHead, AwaitsHead}
 use Rattle.esm_api.specs.Plan.{plan_of}
 

@@ -5,10 +5,10 @@ ghost use Rattle.esm_api.specs.Plan.{body_bytes};
 ghost use Rattle.esm_api.specs.Request.{judged, changing};
 ghost use Rattle.esm_api.specs.Judged.{judgement_of};
 
-use crate::command::Command;
 use crate::plan::{Change, Plan};
 use crate::refusal::Refusal;
 use esm_model::{OutOfMemory, parse_json};
+use esm_registry::Command;
 use serde_json::Value;
 use std::alloc::Global;
 

@@ -4,11 +4,15 @@
 #![tactic(auto)]
 
 mod answer;
-mod command;
 mod head;
 mod judge;
+pub mod laws;
 mod length;
 mod plan;
 mod receive;
 mod refusal;
+mod respond;
 mod route;
+mod serve;
+
+pub use serve::{Served, serve_one};

@@ -1,6 +1,8 @@
 ghost use Rattle.std.specs.Prelude.{◌≡◌};
 ghost use Rattle.esm_api.specs.Answer.{status_of, error_of, message_of};
 
+use esm_registry::ErrorName;
+
 /// The rows of the table that can refuse a request before its command is applied, in their order (Lambda API Reference of
 /// 2015-03-31, event source mappings; the rows' order and messages are this product's own).
 #[derive(Clone, Copy, Debug, PartialEq, Eq)]
@@ -37,16 +39,18 @@ impl Refusal {
         }
     }
 
-    /// The error's name.
-    pub fn error(self) -> &'static str
-        ensures { result.now ≡ error_of self }
+    /// The error.
+    pub fn error(self) -> ErrorName
+        ensures { result ≡ error_of self }
     {
         match self {
-            Refusal::Head | Refusal::Length | Refusal::Json => "InvalidRequestContentException",
-            Refusal::Query => "InvalidParameterValueException",
-            Refusal::Path | Refusal::Mapping => "ResourceNotFoundException",
-            Refusal::Method => "MethodNotAllowed",
-            Refusal::Body => "RequestTooLargeException",
+            Refusal::Head | Refusal::Length | Refusal::Json => {
+                ErrorName::InvalidRequestContentException
+            }
+            Refusal::Query => ErrorName::InvalidParameterValueException,
+            Refusal::Path | Refusal::Mapping => ErrorName::ResourceNotFoundException,
+            Refusal::Method => ErrorName::MethodNotAllowed,
+            Refusal::Body => ErrorName::RequestTooLargeException,
         }
     }
 

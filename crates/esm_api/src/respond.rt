@@ -1,0 +1,81 @@
+// What a whole request does, and what is answered to it.
+ghost use Rattle.std.specs.Prelude.{◌≡◌, false, IfOk, OnErr};
+ghost use Rattle.esm_io.specs.Meanings.{disk as meaning};
+ghost use Rattle.esm_api.specs.Judged.{judgement_of};
+ghost use Rattle.esm_api.specs.Response.{applied_status, applied_text, failed_text};
+ghost use Rattle.esm_api.specs.Given.{Gives, Stands};
+
+use crate::answer::{answer, refusal};
+use crate::judge::Judged;
+use esm_io::Disk;
+use esm_model::OutOfMemory;
+use esm_registry::{Applied, ErrorName, Registry, RegistryError};
+use std::alloc::Global;
+
+/// An answer: its status code and all of its bytes.
+#[derive(Drop)]
+pub struct Response {
+    pub status: u16,
+    pub text: Vec<u8>,
+}
+
+/// Lets a judged request take effect, and gives the answer to it. After an `Err` a command that was accepted stays.
+pub fn respond<D: Disk>(
+    alloc: Global,
+    registry: &mut Registry<D>,
+    judged: Judged,
+    moment: u64,
+) -> Result<Response, OutOfMemory>
+    requires { registry.old.journal.down ≡ false }
+    ensures given { IfOk result (Gives (meaning D.honest D.content D.image D.moment D.image_since D.faults) registry.old registry.new (judgement_of judged) moment) }
+    ensures unanswered { OnErr result (Stands (meaning D.honest D.content D.image D.moment D.image_since D.faults) registry.old registry.new (judgement_of judged) moment) }
+{
+    match judged {
+        Judged::Refused(row) => Ok(Response {
+            status: row.status(),
+            text: refusal(alloc, row.status(), row.error(), row.message())?,
+        }),
+        Judged::Asks(command) => match registry.apply(alloc, command, moment) {
+            Ok(applied) => answer_to(alloc, &applied),
+            Err(RegistryError::DiskFault) => disk_failed(alloc),
+            Err(RegistryError::Down) => unreachable!(),
+            Err(RegistryError::OutOfMemory) => Err(OutOfMemory),
+        },
+    }
+}
+
+/// The answer that tells what a command came to.
+fn answer_to(alloc: Global, applied: &Applied) -> Result<Response, OutOfMemory>
+    ensures status { IfOk result (λ response. response.status ≡ applied_status applied.now) }
+    ensures text { IfOk result (λ response. response.text.items ≡ applied_text applied.now) }
+{
+    match applied {
+        Applied::One { status, mapping } => Ok(Response {
+            status: *status,
+            text: answer(alloc, *status, mapping.as_slice())?,
+        }),
+        Applied::Many { mappings } => Ok(Response {
+            status: 200,
+            text: answer(alloc, 200, mappings.as_slice())?,
+        }),
+        Applied::Refused {
+            status,
+            error,
+            message,
+        } => Ok(Response {
+            status: *status,
+            text: refusal(alloc, *status, *error, message.as_str())?,
+        }),
+    }
+}
+
+/// The answer where the registry's disk failed.
+fn disk_failed(alloc: Global) -> Result<Response, OutOfMemory>
+    ensures status { IfOk result (λ response. response.status ≡ 500) }
+    ensures text { IfOk result (λ response. response.text.items ≡ failed_text) }
+{
+    Ok(Response {
+        status: 500,
+        text: refusal(alloc, 500, ErrorName::ServiceException, "disk")?,
+    })
+}
