@@ -1,21 +1,18 @@
 -- Heads at the front of bytes that go on.
-use Rattle.std.proofs.Common.{◌≡◌, ◌≢◌, ℕ, zero, suc, ◌+◌, ◌-◌, ◌<◌, ◌≤◌, ◌⊎◌, false, List, [], ◌∷◌, ◌++◌, length, take, drop, map, get_or, sym, refl, ap, ◌∙◌, subst, Some, None, Option, inl, inr, arith, append_assoc, append-nil}
+use Rattle.std.proofs.Common.{◌≡◌, ℕ, zero, suc, ◌+◌, ◌<◌, ◌≤◌, List, [], ◌∷◌, ◌++◌, length, take, drop, sym, refl, ap, ◌∙◌, subst, Some, None, Option, inl, inr, arith, append_assoc, append-nil}
 use Rattle.std.specs.Prelude.{flat_map, IsTrue}
 use Rattle.std.proofs.lemmas.Bool.{cases_lt, false≢true}
 use Rattle.std.proofs.lemmas.List.{length-append, length-map, length-take-le, drop-append-le}
 use Rattle.httparse.specs.Grammar.{LineEnd, crlf, lf, print_end, print_blank, print_section, print_field, AllPass, is_uri_byte, RequestHead, print_request, ReadsRequest, HasNoRequest, NeverHasRequest, MayBecomeRequest}
-use Rattle.httparse.specs.Spans.{IsRequestAt, IsRequestOf, IsRequestWithin, RequestOverflows, RequestExceeds, header_bytes, name_and_value}
+use Rattle.httparse.specs.Spans.{IsRequestOf, IsRequestWithin, RequestOverflows, RequestExceeds, header_bytes, name_and_value}
 use Rattle.httparse.specs.declared.spans.HeaderSpan.{HeaderSpan}
 use Rattle.httparse.specs.declared.spans.RequestSpans.{RequestSpans}
 use Rattle.httparse.proofs.GrammarLemmas.{ReadsRequest-append}
 use Rattle.http1.proofs.TextLemmas.{front_within}
 use Rattle.esm_model.specs.declared.limits.TheConstants.{MAX_HEAD, MAX_HEADER_LINES}
 use Rattle.esm_api.specs.declared.head.Head.{Head}
-use Rattle.esm_api.specs.declared.plan.Plan.TheVariants.{Refuse}
-use Rattle.esm_api.specs.declared.refusal.Refusal.TheVariants as row
 use Rattle.esm_api.specs.Head.{BeginsWith, HasNoHead, BreaksForm, HasManyLines, HasBadHead, AwaitsHead, line_count}
 use Rattle.esm_api.specs.HeadRead.{EndsLine, HasNoLine, HasNoneYet, IsPlanned, FindsHead, LooksForHead, SaysAt}
-use Rattle.esm_api.specs.Plan.{plan_of}
 use Rattle.esm_api.proofs.Lines.{line_within, feeds_none, line_count-le-append, line_count-append_none, line_count_push, lines_of_head, exceeds_many}
 
 -- ---- a head ends with a line

@@ -1,5 +1,5 @@
 -- What a plan awaits.
-use Rattle.std.proofs.Common.{◌≡◌, ℕ, ◌+◌, ◌<◌, ◌≤◌, true, false, List, [], ◌∷◌, length, map, Option, Some, None, refl, sym, ap, ◌∙◌, arith, subst, inl, inr}
+use Rattle.std.proofs.Common.{ℕ, ◌+◌, ◌≤◌, List, [], ◌∷◌, length, map, Option, Some, None, ap, arith, inl, inr}
 use Rattle.std.specs.Prelude.{codes, bytes_eq, nat_lt}
 use Rattle.std.specs.Str.Parse.{digits_value}
 use Rattle.std.proofs.lemmas.Bool.{cond_both, ltb-false}
@@ -19,7 +19,7 @@ use Rattle.esm_api.specs.declared.refusal.Refusal.TheVariants as row
 use Rattle.esm_model.specs.declared.limits.TheConstants.{MAX_HEAD}
 use Rattle.esm_api.specs.declared.head.Head.{Head}
 use Rattle.esm_api.specs.HeadRead.{IsPlanned}
-use Rattle.esm_api.specs.Plan.{is_digits, length_of, length_by_values, body_length, reading, getting, deleting, plan_for_mappings, plan_for_mapping, plan_at, plan_by, plan_of, id_in, has_query, route_of, body_bytes}
+use Rattle.esm_api.specs.Plan.{is_digits, length_of, length_by_values, body_length, reading, getting, deleting, plan_at, plan_of, id_in, has_query, route_of, body_bytes}
 
 abbrev IsShort : Plan → Type 0
 IsShort p = body_bytes p ≤ MAX_REQUEST_BODY

@@ -1,17 +1,15 @@
 -- What the bytes so far are as a request.
-use Rattle.std.proofs.Common.{◌≡◌, ◌≢◌, ℕ, ◌+◌, ◌<◌, ◌≤◌, ◌⊎◌, true, false, List, [], ◌∷◌, ◌++◌, length, take, drop, Option, Some, None, sym, refl, ap, ◌∙◌, subst, inl, inr, arith}
-use Rattle.std.specs.Prelude.{nat_lt, cond}
+use Rattle.std.proofs.Common.{◌≡◌, ◌≢◌, ℕ, ◌+◌, ◌<◌, ◌≤◌, List, ◌++◌, length, take, drop, sym, refl, ap, ◌∙◌, inl, inr, arith}
 use Rattle.std.proofs.lemmas.Bool.{cases_lt, cond-true, cond-false, lt-ltb, le-ltb}
 use Rattle.std.proofs.lemmas.List.{length-append, length-drop, take-append-le}
 use Rattle.httparse.specs.Grammar.{RequestHead}
 use Rattle.httparse.proofs.GrammarLemmas.{request_unique}
 use Rattle.esm_model.specs.Json.{read_json}
-use Rattle.esm_model.specs.declared.limits.TheConstants.{MAX_HEAD}
 use Rattle.esm_api.specs.declared.head.Head.{Head}
 use Rattle.esm_api.specs.declared.plan.Plan.{Plan}
 use Rattle.esm_api.specs.declared.plan.Plan.TheVariants as plan
 use Rattle.esm_api.specs.declared.refusal.Refusal.TheVariants as row
-use Rattle.esm_api.specs.Head.{BeginsWith, HasNoHead, HasBadHead, AwaitsHead}
+use Rattle.esm_api.specs.Head.{BeginsWith, HasBadHead, AwaitsHead}
 use Rattle.esm_api.specs.HeadRead.{IsPlanned}
 use Rattle.esm_api.specs.Plan.{plan_of, body_bytes}
 use Rattle.esm_api.specs.Request.{Judgement, Unfinished, Refused, changing, judged, IsJudged}

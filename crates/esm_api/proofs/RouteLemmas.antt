@@ -1,21 +1,20 @@
 -- What the router's routes make of a path.
-use Rattle.std.proofs.Common.{◌≡◌, ◌≢◌, ℕ, zero, suc, ◌+◌, ◌-◌, ◌<◌, ◌≤◌, ◌⊎◌, Bool, true, false, not, cond, eqb, ltb, ◌&&◌, ◌||◌, List, [], ◌∷◌, ◌++◌, length, take, drop, Option, Some, None, sym, refl, ap, ◌∙◌, subst, inl, inr, arith, append-nil, lit<}
-use Rattle.std.specs.Prelude.{codes, nat_eq, bytes_eq, option_map}
+use Rattle.std.proofs.Common.{◌≡◌, ℕ, ◌-◌, ◌⊎◌, Bool, true, false, not, cond, eqb, ltb, ◌&&◌, ◌||◌, List, [], ◌∷◌, ◌++◌, length, drop, Option, Some, None, sym, refl, ap, ◌∙◌, subst, inl, inr, arith, append-nil}
+use Rattle.std.specs.Prelude.{nat_eq, bytes_eq, option_map}
 use Rattle.std.specs.List.{list_all, starts_with}
-use Rattle.std.specs.Cmp.Lexicographic.{pointwise}
 use Rattle.std.proofs.lemmas.Bool.{cases_eq, ne_eqb, eq-eqb, eqb-true, lt-ltb, ltb-true, and_parts, false≢true, false_from_ne_true, cond-true, cond-false}
 use Rattle.std.proofs.lemmas.List.{drop_all}
 use Rattle.std.proofs.lemmas.Slice.Eq.{bytes_eq-Decides, starts_is}
 use Rattle.std.specs.Bool.{Decides}
-use Rattle.matchit.specs.Rows.{Rows, RowsOf}
-use Rattle.matchit.specs.Seek.{first, seek, step, own, or_else, param_step, has_slash}
+use Rattle.matchit.specs.Rows.{Rows}
+use Rattle.matchit.specs.Seek.{first, seek, or_else, param_step, has_slash}
 use Rattle.matchit.specs.Router.{RouteOf, map_key}
 use Rattle.matchit.specs.Level.{IsText}
 use Rattle.matchit.proofs.SeekLemmas.{first-prefix, seek-empty, seek-drop, param_step-empty, or_else-none}
 use Rattle.matchit.proofs.RenameLemmas.{first-rename}
 use Rattle.esm_api.specs.declared.route.Route.{Route}
 use Rattle.esm_api.specs.declared.route.Route.TheVariants.{Mappings, Mapping}
-use Rattle.esm_api.specs.Plan.{mappings_path, is_mappings_path, is_mapping_path, is_segment, last_part, route_of}
+use Rattle.esm_api.specs.Plan.{mappings_path, is_mapping_path, is_segment, last_part, route_of}
 use Rattle.esm_api.specs.Routes.{routes, mapping_row, slash_row, mappings_row}
 
 -- ---- the routes' ends, by number

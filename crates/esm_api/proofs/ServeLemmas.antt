@@ -1,9 +1,11 @@
 -- From what a judged request comes to in the program to what the service of a connection leaves.
-use Rattle.std.proofs.Common.{◌≡◌, ◌≢◌, ◌⊎◌, ℕ, ◌+◌, ◌<◌, ◌≤◌, Bool, true, false, List, [], ◌++◌, length, take, drop, Option, Some, None, sym, refl, ap, ◌∙◌, subst, inl, inr, arith, append-nil}
+use Rattle.std.proofs.Common.{◌≡◌, ◌≢◌, ℕ, ◌+◌, ◌<◌, ◌≤◌, Bool, true, false, List, ◌++◌, length, Option, Some, None, sym, refl, ◌∙◌, subst, inl, inr, arith}
 use Rattle.std.specs.Prelude.{Result, Ok, Err, IfOk, OnErr}
 use Rattle.std.specs.Prelude.{min}
 use Rattle.std.proofs.lemmas.Bool.{cond_both}
+use Rattle.esm_model.specs.declared.limits.TheConstants.{MAX_HEAD}
 use Rattle.esm_model.specs.declared.moment.TheConstants.{MAX_MOMENT}
+use Rattle.esm_api.specs.declared.length.TheConstants.{MAX_REQUEST_BODY}
 use Rattle.serde_json.specs.Data.{Data}
 use Rattle.esm_io.specs.Faults.{Rose}
 use Rattle.esm_io.specs.Meanings.{DiskMeaning}
@@ -11,7 +13,7 @@ use Rattle.esm_io.specs.Talks.{Talk, Reads, Writes}
 use Rattle.esm_model.specs.declared.memory.OutOfMemory.{OutOfMemory}
 use Rattle.esm_registry.specs.declared.mapping.Mapping.{Mapping}
 use Rattle.esm_registry.specs.Lists.{Mappings, mapping_at, without, is_taken}
-use Rattle.esm_registry.specs.Machine.{Asked, Create, Listing, Get, Update, Delete, Stepped, has_conflict, conflict, created, created_by, got, updated, updated_by, updated_at, deleted, step_at, step}
+use Rattle.esm_registry.specs.Machine.{Asked, Create, Listing, Get, Update, Delete, Stepped, has_conflict, conflict, created_by, got, updated_by, updated_at, deleted, step_at}
 use Rattle.esm_registry.specs.State.{RegistryState}
 use Rattle.esm_api.specs.declared.judge.Judged.{Judged}
 use Rattle.esm_api.specs.declared.judge.Judged.TheVariants as judged
@@ -21,7 +23,7 @@ use Rattle.esm_api.specs.declared.respond.Response.{Response}
 use Rattle.esm_api.specs.Answer.{status_of}
 use Rattle.esm_api.specs.Judged.{judgement_of}
 use Rattle.esm_api.specs.Request.{Judgement, Unfinished, Refused, Asks, IsJudged}
-use Rattle.esm_api.specs.Response.{response, asked_response, applied_status, applied_text, failed_text}
+use Rattle.esm_api.specs.Response.{response, asked_response, applied_status}
 use Rattle.esm_api.specs.Serving.{IsApplied, Leaves, Responds, IsUnanswered}
 use Rattle.esm_api.specs.Given.{Gives, Stands}
 
@@ -103,13 +105,14 @@ judgement_whole (judged.Refused r) e = cc
 judgement_whole (judged.Asks command) e = cc
 
 pub responds_if : {L D : Type 0} (told : L → Option Talk) (link middle link' : L) (m : DiskMeaning D) (old new : RegistryState D) (moment : ℕ) (read : List ℕ) (j : Judged) (given : Response) (sent unsent : List ℕ)
-    → Reads (told link) (told middle) read → IsJudged read (judgement_of j) → Gives m old new (judgement_of j) moment given → given.text.items ≡ sent ++ unsent → Writes (told middle) (told link') sent
+    → length read ≤ MAX_HEAD + MAX_REQUEST_BODY → Reads (told link) (told middle) read → IsJudged read (judgement_of j) → Gives m old new (judgement_of j) moment given → given.text.items ≡ sent ++ unsent → Writes (told middle) (told link') sent
     → Responds told link link' m old new moment given.status unsent
-responds_if told link middle link' m old new moment read j given sent unsent reads is gives parts writes = record {
+responds_if told link middle link' m old new moment read j given sent unsent within reads is gives parts writes = record {
   read = read;
   judgement = judgement_of j;
   judged = is;
   whole = judgement_whole j;
+  within = within;
   failed = gives.failed;
   middle = middle;
   reads = reads;

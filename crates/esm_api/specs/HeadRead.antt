@@ -1,10 +1,9 @@
 -- What a reader of heads knows of the bytes so far. Only this crate's proofs cite this file.
 use Rattle.std.specs.Prelude.{◌≡◌, ◌≢◌, ◌⊎◌, ℕ, ◌+◌, ◌<◌, ◌≤◌, List, [], ◌∷◌, ◌++◌, length, drop, slice_index, Option, Some, None}
 use Rattle.httparse.specs.Ascii.{line_feed}
-use Rattle.httparse.specs.Grammar.{RequestHead, print_request}
+use Rattle.httparse.specs.Grammar.{RequestHead}
 use Rattle.httparse.specs.declared.spans.HeaderSpan.{HeaderSpan}
 use Rattle.httparse.specs.declared.spans.RequestSpans.{RequestSpans}
-use Rattle.httparse.specs.declared.spans.Span.{Span}
 use Rattle.httparse.specs.Spans.{IsRequestAt, IsWithin, span_bytes}
 use Rattle.esm_model.specs.declared.limits.TheConstants.{MAX_HEADER_LINES}
 use Rattle.esm_api.specs.declared.length.Named.{Named}
@@ -12,7 +11,7 @@ use Rattle.esm_api.specs.declared.length.Named.TheVariants as named
 use Rattle.esm_api.specs.declared.head.Head.{Head}
 use Rattle.esm_api.specs.declared.plan.Plan.TheVariants.{Refuse}
 use Rattle.esm_api.specs.declared.refusal.Refusal.TheVariants as row
-use Rattle.esm_api.specs.Head.{BeginsWith, HasNoHead, BreaksForm, HasManyLines, HasBadHead, AwaitsHead, line_count}
+use Rattle.esm_api.specs.Head.{BeginsWith, HasNoHead, BreaksForm, HasBadHead, AwaitsHead, line_count}
 use Rattle.esm_api.specs.Plan.{plan_of}
 
 -- what the values of the headers with one name come to

@@ -14,7 +14,6 @@ use Rattle.esm_api.specs.declared.length.BodyLength.TheVariants as body
 use Rattle.esm_api.specs.declared.length.TheConstants.{MAX_REQUEST_BODY}
 use Rattle.esm_api.specs.declared.route.Route.{Route}
 use Rattle.esm_api.specs.declared.route.Route.TheVariants as route
-use Rattle.esm_api.specs.declared.refusal.Refusal.{Refusal}
 use Rattle.esm_api.specs.declared.refusal.Refusal.TheVariants as row
 use Rattle.esm_api.specs.declared.plan.Change.{Change}
 use Rattle.esm_api.specs.declared.plan.Change.TheVariants as change

@@ -1,5 +1,5 @@
 -- The rows of the router of paths. Only this crate's proofs cite this file.
-use Rattle.std.specs.Prelude.{ℕ, List, [], ◌∷◌, ◌++◌, codes, Result, Ok}
+use Rattle.std.specs.Prelude.{[], ◌∷◌, ◌++◌, codes, Result, Ok}
 use Rattle.matchit.specs.Rows.{RowsOf, param_token}
 use Rattle.matchit.specs.Route.{Scan}
 use Rattle.matchit.specs.Router.{RouteOf, InsertsRead}

@@ -1,13 +1,15 @@
 -- What the service of one connection leaves: of the link, where it tells it, and of the registry. This product's own.
-use Rattle.std.specs.Prelude.{◌≡◌, ◌≢◌, ◌⊎◌, ℕ, List, ◌++◌, Bool, true, false, Option}
+use Rattle.std.specs.Prelude.{◌≡◌, ◌≢◌, ◌≤◌, ◌+◌, ◌⊎◌, ℕ, List, ◌++◌, length, Bool, true, false, Option}
 use Rattle.std.specs.Option.{option_to_list}
 use Rattle.esm_io.specs.Faults.{Rose}
 use Rattle.esm_io.specs.Images.{LeavesOnly}
 use Rattle.esm_io.specs.Meanings.{DiskMeaning}
-use Rattle.esm_io.specs.Talks.{Talk, Reads, Writes, IsReadOut}
+use Rattle.esm_io.specs.Talks.{Talk, Reads, Writes}
+use Rattle.esm_model.specs.declared.limits.TheConstants.{MAX_HEAD}
 use Rattle.esm_journal.specs.State.{KeepsWhileUp, KeepsWhileDown}
 use Rattle.esm_registry.specs.Machine.{Asked, step}
 use Rattle.esm_registry.specs.State.{RegistryState, OpensToStep}
+use Rattle.esm_api.specs.declared.length.TheConstants.{MAX_REQUEST_BODY}
 use Rattle.esm_api.specs.Request.{Judgement, Unfinished, Refused, Asks, IsJudged}
 use Rattle.esm_api.specs.Response.{response, asked_response}
 
@@ -37,6 +39,7 @@ pub record Responds {L D : Type 0} (told : L → Option Talk) (link link' : L) (
   pub judgement : Judgement
   pub judged : IsJudged read judgement
   pub whole : judgement ≢ Unfinished
+  pub within : length read ≤ MAX_HEAD + MAX_REQUEST_BODY
   pub failed : Bool
   pub middle : L
   pub reads : Reads (told link) (told middle) read

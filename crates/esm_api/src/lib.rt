@@ -14,5 +14,7 @@ mod refusal;
 mod respond;
 mod route;
 mod serve;
+#[cfg(test)]
+mod tests;
 
 pub use serve::{Served, serve_one};

@@ -36,6 +36,7 @@ pub fn receive<L: Link>(
     ensures fault { IfOk result (λ received. received ≡ Received.LinkFault → Rose (L.faults link.old) (L.faults link.new)) }
     ensures count { OnOk result (IsCount (L.faults link.old) (L.faults link.new)) }
     ensures never_falls { L.faults link.old ≤ L.faults link.new }
+    ensures bound { OnOk result (vec_len buffer.new ≤ MAX_HEAD + MAX_REQUEST_BODY) }
 {
     buffer.resize(MAX_HEAD, 0)?;
     let (head, filled) = match receive_head(alloc, link, buffer)? {
@@ -57,7 +58,9 @@ pub fn receive<L: Link>(
 
 /// Makes the buffer no shorter than this.
 fn make_room(buffer: &mut Vec<u8>, end: usize) -> Result<(), OutOfMemory>
-    requires { end ≤ MAX_HEAD + MAX_REQUEST_BODY }
+    requires end { end ≤ MAX_HEAD + MAX_REQUEST_BODY }
+    requires bound { vec_len buffer.old ≤ MAX_HEAD + MAX_REQUEST_BODY }
+    ensures bound { vec_len buffer.new ≤ MAX_HEAD + MAX_REQUEST_BODY }
     ensures room { OnOk result (end ≤ vec_len buffer.new) }
     ensures front { (k : ℕ) → k ≤ vec_len buffer.old → take k buffer.new.items ≡ take k buffer.old.items }
     ensures grows { vec_len buffer.old ≤ vec_len buffer.new }
@@ -115,6 +118,7 @@ fn receive_body<L: Link>(
     ensures fault { OnErr result (ReadsOnUnfinished (L.told link.old) (L.told link.new) (take first buffer.old.items)) }
     ensures cause { OnErr result (Rose (L.faults link.old) (L.faults link.new)) }
     ensures count { IsCount (L.faults link.old) (L.faults link.new) }
+    ensures room { vec_len buffer.new ≡ vec_len buffer.old }
 {
     let end = head.len + head.plan.body_bytes();
     let mut filled = first;

@@ -1,5 +1,5 @@
 // What a whole request does, and what is answered to it.
-ghost use Rattle.std.specs.Prelude.{◌≡◌, false, IfOk, OnErr};
+ghost use Rattle.std.specs.Prelude.{◌≡◌, ◌≤◌, false, IfOk, OnErr};
 ghost use Rattle.esm_io.specs.Meanings.{disk as meaning};
 ghost use Rattle.esm_api.specs.Judged.{judgement_of};
 ghost use Rattle.esm_api.specs.Response.{applied_status, applied_text, failed_text};
@@ -29,6 +29,8 @@ pub fn respond<D: Disk>(
     requires { registry.old.journal.down ≡ false }
     ensures given { IfOk result (Gives (meaning D.honest D.content D.image D.moment D.image_since D.faults) registry.old registry.new (judgement_of judged) moment) }
     ensures unanswered { OnErr result (Stands (meaning D.honest D.content D.image D.moment D.image_since D.faults) registry.old registry.new (judgement_of judged) moment) }
+    ensures honesty { D.honest registry.new.journal.disk ≡ D.honest registry.old.journal.disk }
+    ensures never_falls { D.faults registry.old.journal.disk ≤ D.faults registry.new.journal.disk }
 {
     match judged {
         Judged::Refused(row) => Ok(Response {

@@ -47,9 +47,11 @@ pub fn serve_one<L: Link, D: Disk>(
     // The causes.
     ensures link_cause { IfOk result (λ served. served ≡ Served.LinkFault → Rose (L.faults link.old) (L.faults link.new)) }
     ensures disk_cause { IfOk result (λ served. served ≡ Served.Answered 500 → Rose (D.faults registry.old.journal.disk) (D.faults registry.new.journal.disk)) }
-    // The counts.
+    // The counts; the registry's disk is as honest as it was.
     ensures count { OnOk result (IsCount (L.faults link.old) (L.faults link.new)) }
     ensures never_falls { L.faults link.old ≤ L.faults link.new }
+    ensures disk_never_falls { D.faults registry.old.journal.disk ≤ D.faults registry.new.journal.disk }
+    ensures honesty { D.honest registry.new.journal.disk ≡ D.honest registry.old.journal.disk }
 {
     let mut buffer = Vec::new(alloc);
     let (head, filled) = match receive(alloc, link, &mut buffer)? {

@@ -1,6 +1,6 @@
 use Rattle.std.proofs.Common.{sym, refl, inl, ◌∙◌, arith}
-use Rattle.std.proofs.lemmas.Bool.{leb-false, leb-true}
-use Rattle.esm_api.proofs.HeadLemmas.{planned_if_complete, none_yet_if_partial, bad_if_many, bad_if_exceeds, bad_if_never}
+use Rattle.std.proofs.lemmas.Bool.{leb-false}
+use Rattle.esm_api.proofs.HeadLemmas.{planned_if_complete, none_yet_if_partial, bad_if_exceeds}
 use Rattle.esm_api.proofs.head.parse.Goals as goal
 
 pub returns-in_ok-said-in-Ok-Complete : goal.returns-in_ok-said-in-Ok-Complete

@@ -1,6 +1,6 @@
-use Rattle.std.proofs.Common.{◌≡◌, ℕ, ◌<◌, eqb, List, length, Option, Some, None, sym, refl, ◌∙◌, arith}
+use Rattle.std.proofs.Common.{◌≡◌, ℕ, eqb, List, length, Option, Some, None, refl, ◌∙◌, arith}
 use Rattle.std.proofs.lemmas.Bool.{ne_eqb, eq-eqb, cond-true, cond-false, false≢true}
-use Rattle.uuid.specs.Text.{parsed, parsed_simple, parsed_hyphenated, parsed_braced, parsed_urn}
+use Rattle.uuid.specs.Text.{parsed, parsed_simple, parsed_hyphenated}
 use Rattle.esm_api.proofs.plan.hyphenated.Goals as goal
 
 parsed_is : (text : List ℕ) → length text ≡ 36 → parsed text ≡ parsed_hyphenated text

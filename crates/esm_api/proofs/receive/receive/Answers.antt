@@ -1,5 +1,4 @@
-use Rattle.std.proofs.Common.{◌≡◌, ◌≤◌, length, take, sym, subst, arith, rules, vec_len}
-use Rattle.esm_api.specs.HeadRead.{IsPlanned}
+use Rattle.std.proofs.Common.{◌≡◌, length, take, subst, arith, rules, vec_len}
 use Rattle.esm_api.specs.Receiving.{ReadsMore, ReceivesHead}
 use Rattle.esm_api.proofs.TalkLemmas.{reads_on}
 use Rattle.esm_api.proofs.receive.receive.Goals as goal

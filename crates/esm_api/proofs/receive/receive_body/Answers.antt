@@ -1,8 +1,6 @@
-use Rattle.std.proofs.Common.{◌≡◌, ◌≤◌, ◌<◌, ◌+◌, length, take, sym, refl, ap, subst, arith, rules, vec_len}
+use Rattle.std.proofs.Common.{◌≡◌, ◌+◌, length, take, sym, refl, subst, arith, rules, vec_len}
 use Rattle.std.proofs.lemmas.List.{length-take-le}
 use Rattle.esm_api.specs.HeadRead.{IsPlanned}
-use Rattle.esm_api.specs.Plan.{body_bytes}
-use Rattle.esm_api.specs.Receiving.{ReadsMore}
 use Rattle.esm_api.proofs.HeadLemmas.{planned_on}
 use Rattle.esm_api.proofs.RequestLemmas.{unfinished_if_short}
 use Rattle.esm_api.proofs.TalkLemmas.{no_more, more_then, more_same, more_and_none}

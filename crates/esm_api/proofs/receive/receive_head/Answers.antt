@@ -1,14 +1,13 @@
-use Rattle.std.proofs.Common.{◌≡◌, ◌≤◌, ◌<◌, ◌+◌, [], length, take, drop, sym, refl, ap, ◌∙◌, subst, arith, rules, vec_len}
+use Rattle.std.proofs.Common.{◌≡◌, ◌≤◌, ◌+◌, [], length, take, refl, subst, arith, rules, vec_len}
 use Rattle.std.proofs.lemmas.List.{length-take-le}
 use Rattle.http1.proofs.TextLemmas.{OnErr_always}
 use Rattle.esm_model.specs.declared.limits.TheConstants.{MAX_HEAD}
-use Rattle.esm_io.specs.Talks.{Reads}
 use Rattle.esm_api.specs.Head.{AwaitsHead}
-use Rattle.esm_api.specs.HeadRead.{HasNoneYet, IsPlanned, FindsHead}
-use Rattle.esm_api.proofs.HeadLemmas.{none_yet_in_none, awaits_if_short, none_yet_if_awaits}
+use Rattle.esm_api.specs.HeadRead.{IsPlanned, FindsHead}
+use Rattle.esm_api.proofs.HeadLemmas.{none_yet_in_none, awaits_if_short}
 use Rattle.esm_api.proofs.PlanLemmas.{planned_short}
 use Rattle.esm_api.proofs.RequestLemmas.{unfinished_if_awaits}
-use Rattle.esm_api.proofs.TalkLemmas.{Reads_none, Reads_same, Reads_and_none, reads_on, front_of_more, front_is}
+use Rattle.esm_api.proofs.TalkLemmas.{Reads_none, Reads_same, Reads_and_none, reads_on, front_is}
 use Rattle.esm_api.proofs.receive.receive_head.Goals as goal
 
 pub loop-count-init : goal.loop-count-init

@@ -1,6 +1,5 @@
-use Rattle.std.proofs.Common.{◌≡◌, ◌≤◌, ◌<◌, ◌-◌, length, take, vec_len}
+use Rattle.std.proofs.Common.{◌≡◌, ◌≤◌, ◌-◌, length, take, vec_len}
 use Rattle.esm_model.specs.declared.limits.TheConstants.{MAX_HEAD}
-use Rattle.esm_io.specs.Faults.{MAX_FAULTS}
 use Rattle.esm_io.specs.Talks.{Reads}
 use Rattle.esm_api.specs.Head.{AwaitsHead}
 use Rattle.esm_api.proofs.receive.receive_head.Given as goal

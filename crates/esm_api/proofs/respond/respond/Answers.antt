@@ -1,4 +1,4 @@
-use Rattle.std.proofs.Common.{◌≡◌, ◌++◌, true, false, sym, refl, ap, ◌∙◌, subst, append-nil}
+use Rattle.std.proofs.Common.{◌≡◌, true, false, sym, ap, ◌∙◌, subst, append-nil}
 use Rattle.std.specs.Prelude.{Err, IfOk, OnErr}
 use Rattle.std.proofs.lemmas.Bool.{false≢true}
 use Rattle.esm_io.specs.Meanings.{disk as meaning}
