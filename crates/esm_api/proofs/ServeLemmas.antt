@@ -76,6 +76,12 @@ fault_if m old new (Refused r) moment failed leaves is = absurd (omega (arith, i
 fault_if m old new (Asks asked) moment true leaves is = leaves.cause refl
 fault_if m old new (Asks asked) moment false leaves is = absurd (omega (arith, is, step_below old.mappings asked (min moment MAX_MOMENT)))
 
+failed_if : (mappings : Mappings) (judgement : Judgement) (moment : ℕ) (failed : Bool) → (response mappings judgement moment failed).status ≡ 500 → failed ≡ true
+failed_if mappings Unfinished moment failed is = absurd (omega (arith, is))
+failed_if mappings (Refused r) moment failed is = absurd (omega (arith, is, row_below r))
+failed_if mappings (Asks asked) moment true is = refl
+failed_if mappings (Asks asked) moment false is = absurd (omega (arith, is, step_below mappings asked (min moment MAX_MOMENT)))
+
 pub responds_fault : {L D : Type 0} (told : L → Option Talk) (link link' : L) (m : DiskMeaning D) (old new : RegistryState D) (moment status : ℕ) (unsent : List ℕ)
     → Responds told link link' m old new moment status unsent → status ≡ 500 → Rose (m.faults old.journal.disk) (m.faults new.journal.disk)
 responds_fault told link link' m old new moment status unsent responds is =
@@ -120,6 +126,7 @@ responds_if told link middle link' m old new moment read j given sent unsent wit
   parts = sym gives.text ∙ parts;
   writes = writes;
   status_is = gives.status;
+  failed_is = λ is. failed_if old.mappings (judgement_of j) moment gives.failed (sym gives.status ∙ is);
   leaves = gives.leaves;
 }
 

@@ -47,6 +47,7 @@ pub record Responds {L D : Type 0} (told : L → Option Talk) (link link' : L) (
   pub parts : (response old.mappings judgement moment failed).text ≡ sent ++ unsent
   pub writes : Writes (told middle) (told link') sent
   pub status_is : status ≡ (response old.mappings judgement moment failed).status
+  pub failed_is : status ≡ 500 → failed ≡ true
   pub leaves : Leaves m old new judgement moment failed
 
 -- bytes were read that are no whole request, and nothing else happened
