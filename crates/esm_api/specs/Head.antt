@@ -14,7 +14,7 @@ pub record BeginsWith (bytes : List ℕ) (tree : RequestHead) (after : List ℕ)
 abbrev pub HasNoHead : List ℕ → Type 0
 HasNoHead bytes = (tree : RequestHead) (after : List ℕ) → ¬ (BeginsWith bytes tree after)
 
--- a line has come whole with which no head goes on
+-- a line has come whole with which no head goes on; a line is judged once its line feed is there
 pub record BreaksForm (bytes : List ℕ) : Type 0 where
   pub front : List ℕ
   pub rest : List ℕ

@@ -55,24 +55,113 @@ fn exchange(
     Ok((served, Vec::from_slice(alloc, link.written())?))
 }
 
-/// The request of a command at the path of the mappings and this.
-fn request(alloc: Global, method: &str, part: &str, body: &str) -> Result<String, AllocError> {
+/// A step of a session: the request, and what its answer has.
+struct Step {
+    method: &'static str,
+    /// What stands behind the path of the mappings.
+    part: &'static str,
+    body: &'static str,
+    status: u16,
+    /// It stands in the answer.
+    text: &'static str,
+}
+
+const STEPS: [Step; 8] = [
+    Step {
+        method: "POST",
+        part: "",
+        body: C0,
+        status: 202,
+        text: FIRST,
+    },
+    Step {
+        method: "POST",
+        part: "",
+        body: C0,
+        status: 409,
+        text: "\"Message\":\"mapping\"}",
+    },
+    Step {
+        method: "POST",
+        part: "",
+        body: QUEUE,
+        status: 400,
+        text: "\"Message\":\"MaximumBatchingWindowInSeconds\"}",
+    },
+    Step {
+        method: "GET",
+        part: "00000000-0000-3000-8000-000000000000",
+        body: "",
+        status: 404,
+        text: "\"Message\":\"mapping\"}",
+    },
+    Step {
+        method: "GET",
+        part: "",
+        body: "",
+        status: 200,
+        text: FIRST,
+    },
+    Step {
+        method: "PUT",
+        part: FIRST,
+        body: "{\"BatchSize\":7}",
+        status: 202,
+        text: "\"BatchSize\":7",
+    },
+    Step {
+        method: "DELETE",
+        part: FIRST,
+        body: "",
+        status: 202,
+        text: FIRST,
+    },
+    Step {
+        method: "GET",
+        part: "",
+        body: "",
+        status: 200,
+        text: "\r\n\r\n{\"EventSourceMappings\":[]}",
+    },
+];
+
+/// The step's request.
+fn request(alloc: Global, step: &Step) -> Result<String, AllocError> {
+    let Step {
+        method,
+        part,
+        body,
+        status: _,
+        text: _,
+    } = step;
     let count = body.len();
     format!(in alloc;
         "{method} /2015-03-31/event-source-mappings/{part} HTTP/1.1\r\nContent-Length: {count}\r\n\r\n{body}"
     )
 }
 
-/// A command is answered with this status, and the answer has the text in it.
+/// The request comes in pieces of 7 bytes, and is answered so.
 fn is_answered(
     alloc: Global,
     registry: &mut Registry<MemDisk>,
-    request: &str,
+    request: &[u8],
     status: u16,
     text: &[u8],
 ) -> Result<bool, Fail> {
-    let (served, written) = exchange(alloc, registry, request.as_bytes(), 7, &[])?;
+    let (served, written) = exchange(alloc, registry, request, 7, &[])?;
     Ok(served == Served::Answered(status) && find(&written, text).is_some())
+}
+
+#[test]
+fn mapping_commands(rt: HostRuntime) -> Result<(), Fail> {
+    let alloc = rt.alloc();
+    let mut registry = fresh(alloc)?;
+    for step in &STEPS {
+        let request = request(alloc, step)?;
+        let text = step.text.as_bytes();
+        assert!(rt; is_answered(alloc, &mut registry, request.as_bytes(), step.status, text)?);
+    }
+    Ok(())
 }
 
 #[test]
@@ -80,29 +169,33 @@ fn api_query(rt: HostRuntime) -> Result<(), Fail> {
     let alloc = rt.alloc();
     let mut registry = fresh(alloc)?;
     let request = b"GET /2015-03-31/event-source-mappings?x=1 HTTP/1.1\r\nHost: a\r\n\r\n";
-    let (served, written) = exchange(alloc, &mut registry, request, 1, &[])?;
-    assert_eq!(rt; served, Served::Answered(400));
-    assert_eq!(rt; written.as_slice(), QUERY);
-    let (_, written) = exchange(alloc, &mut registry, request, 4_096, &[])?;
-    assert_eq!(rt; written.as_slice(), QUERY);
+    for piece in 1..200 {
+        let (served, written) = exchange(alloc, &mut registry, request, piece, &[])?;
+        assert_eq!(rt; served, Served::Answered(400));
+        assert_eq!(rt; written.as_slice(), QUERY);
+    }
     Ok(())
 }
+
+/// The link ends in the head, and in the body.
+const CUT: [&[u8]; 2] = [
+    b"GET /2015-03-31/event-source-map",
+    b"POST /2015-03-31/event-source-mappings HTTP/1.1\r\nContent-Length: 3\r\n\r\n{}",
+];
 
 #[test]
 fn cut_request(rt: HostRuntime) -> Result<(), Fail> {
     let alloc = rt.alloc();
     let mut registry = fresh(alloc)?;
-    let (served, written) = exchange(alloc, &mut registry, b"GET /2015-03-31/eve", 4_096, &[])?;
-    assert_eq!(rt; served, Served::Cut);
-    assert!(rt; written.is_empty());
-    let short = b"POST /2015-03-31/event-source-mappings HTTP/1.1\r\nContent-Length: 3\r\n\r\n{}";
-    let (served, written) = exchange(alloc, &mut registry, short, 1, &[])?;
-    assert_eq!(rt; served, Served::Cut);
-    assert!(rt; written.is_empty());
+    for request in CUT {
+        let (served, written) = exchange(alloc, &mut registry, request, 4_096, &[])?;
+        assert_eq!(rt; served, Served::Cut);
+        assert!(rt; written.is_empty());
+    }
     Ok(())
 }
 
-/// The list is one read and one write. A link that fails at its next call isn't asked again.
+/// The list is one read and one write; the link would fail at the next call.
 #[test]
 fn no_read_behind_a_request(rt: HostRuntime) -> Result<(), Fail> {
     let alloc = rt.alloc();
@@ -111,63 +204,26 @@ fn no_read_behind_a_request(rt: HostRuntime) -> Result<(), Fail> {
     let (served, written) = exchange(alloc, &mut registry, list, 4_096, &[2])?;
     assert_eq!(rt; served, Served::Answered(200));
     assert_eq!(rt; written.as_slice(), NONE);
-    let (served, written) = exchange(alloc, &mut registry, list, 4_096, &[1])?;
-    assert_eq!(rt; served, Served::LinkFault);
-    assert!(rt; written.is_empty());
     Ok(())
+}
+
+/// A head of so many bytes without an end.
+fn long_head(alloc: Global, len: usize) -> Result<Vec<u8>, AllocError> {
+    let mut head = Vec::from_slice(
+        alloc,
+        b"GET /2015-03-31/event-source-mappings HTTP/1.1\r\na: ",
+    )?;
+    head.resize(len, b'x')?;
+    Ok(head)
 }
 
 #[test]
 fn hostile_inputs(rt: HostRuntime) -> Result<(), Fail> {
     let alloc = rt.alloc();
     let mut registry = fresh(alloc)?;
-    let mut head = Vec::from_slice(
-        alloc,
-        b"GET /2015-03-31/event-source-mappings HTTP/1.1\r\na: ",
-    )?;
-    head.resize(16_385, b'x')?;
-    let (served, written) = exchange(alloc, &mut registry, &head, 4_096, &[])?;
-    assert_eq!(rt; served, Served::Answered(400));
-    assert!(rt; find(&written, b"\"Message\":\"head\"}").is_some());
-    let long = "POST /2015-03-31/event-source-mappings HTTP/1.1\r\nContent-Length: 65537\r\n\r\n";
+    let head = long_head(alloc, 16_385)?;
+    assert!(rt; is_answered(alloc, &mut registry, &head, 400, b"\"Message\":\"head\"}")?);
+    let long = b"POST /2015-03-31/event-source-mappings HTTP/1.1\r\nContent-Length: 65537\r\n\r\n";
     assert!(rt; is_answered(alloc, &mut registry, long, 413, b"\"Message\":\"body\"}")?);
-    Ok(())
-}
-
-#[test]
-fn mapping_commands(rt: HostRuntime) -> Result<(), Fail> {
-    let alloc = rt.alloc();
-    let mut registry = fresh(alloc)?;
-    let create = request(alloc, "POST", "", C0)?;
-    assert!(rt; is_answered(alloc, &mut registry, &create, 202, FIRST.as_bytes())?);
-    assert!(rt;
-        is_answered(
-            alloc,
-            &mut registry,
-            &create,
-            409,
-            b"\"Message\":\"mapping\"}"
-        )?
-    );
-    let queue = request(alloc, "POST", "", QUEUE)?;
-    let window = b"\"Message\":\"MaximumBatchingWindowInSeconds\"}";
-    assert!(rt; is_answered(alloc, &mut registry, &queue, 400, window)?);
-    let unknown = request(alloc, "GET", "00000000-0000-3000-8000-000000000000", "")?;
-    assert!(rt;
-        is_answered(
-            alloc,
-            &mut registry,
-            &unknown,
-            404,
-            b"\"Message\":\"mapping\"}"
-        )?
-    );
-    let list = request(alloc, "GET", "", "")?;
-    assert!(rt; is_answered(alloc, &mut registry, &list, 200, FIRST.as_bytes())?);
-    let update = request(alloc, "PUT", FIRST, "{\"BatchSize\":7}")?;
-    assert!(rt; is_answered(alloc, &mut registry, &update, 202, b"\"BatchSize\":7")?);
-    let delete = request(alloc, "DELETE", FIRST, "")?;
-    assert!(rt; is_answered(alloc, &mut registry, &delete, 202, FIRST.as_bytes())?);
-    assert!(rt; is_answered(alloc, &mut registry, &list, 200, NONE)?);
     Ok(())
 }
