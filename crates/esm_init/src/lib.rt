@@ -12,6 +12,3 @@ mod text;
 pub use disks::{Disks, FileName};
 pub use files::{InitEnd, Initialized, init};
 pub use text::init_text;
-
-#[cfg(test)]
-mod tests;
