@@ -36,11 +36,7 @@ mod tests;
 const OUT_OF_MEMORY: u8 = 70;
 
 /// Does what the command asks for over this input and these disks, and answers the exit status.
-fn perform<
-    R: Runtime + Threads + Wait + Net + Clone + Sync,
-    S: Source + Drop,
-    D: Disk + Drop,
->(
+fn perform<R: Runtime + Threads + Wait + Net + Clone + Sync, S: Source + Drop, D: Disk + Drop>(
     rt: &R,
     alloc: Global,
     opening: Opening<'_>,

@@ -34,7 +34,7 @@ fn read_folder(word: &str) -> Folder<'_>
 
 /// Whether the command is built over this folder: until `run` opens the journal it takes no folder of files.
 fn is_built_there(folder: Folder<'_>, command: &[String]) -> bool
-    ensures { result ≡ is_built_there folder (map string_bytes command.now) }
+    ensures { result ≡ is_built_there folder.entry (map string_bytes command.now) }
 {
     match (folder, command.first()) {
         (Folder::Files(_), Some(name)) => name.as_str() != "run",

@@ -29,7 +29,7 @@ use Rattle.esm_run.specs.Built.{SpellsBuilt}
 use Rattle.esm_run.specs.Configured.{IsConfigured, refused_field}
 use Rattle.esm_run.specs.Endings.{ending_of, status_of, IsTold}
 use Rattle.esm_run.specs.Headline.{Read, AllFated, HasOpen, IsEnding, setting_of}
-use Rattle.esm_run.specs.Answers.{IsRefused, IsRunOf, RunCause, RunOutcome, RunOrBadWords, Outcome, IsInitialized}
+use Rattle.esm_run.specs.Answers.{IsDisabled, IsRefused, IsRunOf, RunCause, RunOutcome, RunOrBadWords, Outcome, IsInitialized}
 use Rattle.esm_run.specs.Written.{Written}
 use Rattle.esm_run.proofs.OneReading.{one_reading}
 
@@ -96,15 +96,18 @@ same_config t u c d texts one other =
 
 -- why the options of `run` ended
 
+abbrev IsRefusedOrDisabled : RunWords → Ending → Type 0
+IsRefusedOrDisabled r e = ((name : List ℕ) × (e ≡ ending.BadParameter name) × IsRefused r name) ⊎ ((e ≡ ending.DisabledMapping) × IsDisabled r)
+
 abbrev IsRunOrRefused : {F : Type 0} → (ℕ → Bool) → (List ℕ → List ℕ) → (F → Option (List Called)) → RunWords → Read → List Entry → List F → List F → Setting → Ending → Type 0
-IsRunOrRefused gave sends log r input h old new s e = IsRunOf gave sends log r input h old new s e ⊎ ((name : List ℕ) × (e ≡ ending.BadParameter name) × IsRefused r name)
+IsRunOrRefused gave sends log r input h old new s e = IsRunOf gave sends log r input h old new s e ⊎ IsRefusedOrDisabled r e
 
 run_or_refused : {F : Type 0} (gave : ℕ → Bool) (sends : List ℕ → List ℕ) (log : F → Option (List Called)) (r : RunWords) (input : Read) (h : List Entry) (old new : List F) (s : Setting) (e : Ending)
     → RunCause gave sends log r input h old new s e → IsRunOrRefused gave sends log r input h old new s e
 run_or_refused gave sends log r input h old new s ending.BadWords cause = absurd cause
 run_or_refused gave sends log r input h old new s ending.UnknownMapping cause = absurd cause
-run_or_refused gave sends log r input h old new s ending.DisabledMapping cause = absurd cause
-run_or_refused gave sends log r input h old new s (ending.BadParameter name) cause = inr (name, refl, cause.0)
+run_or_refused gave sends log r input h old new s ending.DisabledMapping cause = inr (inr (refl, cause.0))
+run_or_refused gave sends log r input h old new s (ending.BadParameter name) cause = inr (inl (name, refl, cause.0))
 run_or_refused gave sends log r input h old new s ending.Done cause = inl cause
 run_or_refused gave sends log r input h old new s ending.CallsSpent cause = inl cause
 run_or_refused gave sends log r input h old new s (ending.BadLine number why) cause = inl cause
@@ -135,13 +138,37 @@ run_twice gave sends log r input h old new s z e d goes told sound one other =
     one_ending (setting_of one.config r.calls one.run.records) (setting_of other.config r.calls other.run.records) h one.run.end other.run.end e d
     settings read.0 one.run.ended other.run.ended
 
+disabled_and_refused : (r : RunWords) (name : List ℕ) → IsDisabled r → IsRefused r name → ⊥
+disabled_and_refused r name off refused =
+    let texts : off.text ≡ refused.text = one_text r.which off.text refused.text off.which refused.which in
+    accepted_or_refused (refused_field off.text) refused.field off.configured.accepted (ap refused_field texts ∙ refused.refused)
+
+run_and_disabled : {F : Type 0} (gave : ℕ → Bool) (sends : List ℕ → List ℕ) (log : F → Option (List Called)) (r : RunWords) (input : Read) (h : List Entry) (old new : List F) (s : Setting) (e : Ending)
+    → IsRunOf gave sends log r input h old new s e → IsDisabled r → ⊥
+run_and_disabled gave sends log r input h old new s e run off =
+    let texts : run.text ≡ off.text = one_text r.which run.text off.text run.which off.which in
+    let configs : run.config ≡ off.config = same_config run.text off.text run.config off.config texts run.configured off.configured in
+    let both : true ≡ false = sym run.enabled ∙ ap (λ (c : Config). c.enabled) configs ∙ off.disabled in
+    cc
+
+run_and_other : {F : Type 0} (gave : ℕ → Bool) (sends : List ℕ → List ℕ) (log : F → Option (List Called)) (r : RunWords) (input : Read) (h : List Entry) (old new : List F) (s : Setting) (e d : Ending)
+    → IsRunOf gave sends log r input h old new s e → IsRefusedOrDisabled r d → ⊥
+run_and_other gave sends log r input h old new s e d run (inl refused) = run_and_refused gave sends log r input h old new s e refused.0 run refused.2
+run_and_other gave sends log r input h old new s e d run (inr off) = run_and_disabled gave sends log r input h old new s e run off.1
+
+other_twice : (r : RunWords) (e d : Ending) → IsRefusedOrDisabled r e → IsRefusedOrDisabled r d → e ≡ d
+other_twice r e d (inl one) (inl other) = one.1 ∙ ap ending.BadParameter (refused_twice r one.0 other.0 one.2 other.2) ∙ sym other.1
+other_twice r e d (inl one) (inr off) = absurd (disabled_and_refused r one.0 off.1 one.2)
+other_twice r e d (inr off) (inl other) = absurd (disabled_and_refused r other.0 off.1 other.2)
+other_twice r e d (inr one) (inr other) = one.0 ∙ sym other.0
+
 one_cause : {F : Type 0} (gave : ℕ → Bool) (sends : List ℕ → List ℕ) (log : F → Option (List Called)) (r : RunWords) (input : Read) (h : List Entry) (old new : List F) (s z : Setting) (e d : Ending)
     → WholeGoesOn → IsSome input.before → ¬ Rose input.faults_before input.faults_now
     → IsRunOrRefused gave sends log r input h old new s e → IsRunOrRefused gave sends log r input h old new z d → e ≡ d
 one_cause gave sends log r input h old new s z e d goes told sound (inl one) (inl other) = run_twice gave sends log r input h old new s z e d goes told sound one other
-one_cause gave sends log r input h old new s z e d goes told sound (inl one) (inr other) = absurd (run_and_refused gave sends log r input h old new s e other.0 one other.2)
-one_cause gave sends log r input h old new s z e d goes told sound (inr one) (inl other) = absurd (run_and_refused gave sends log r input h old new z d one.0 other one.2)
-one_cause gave sends log r input h old new s z e d goes told sound (inr one) (inr other) = one.1 ∙ ap ending.BadParameter (refused_twice r one.0 other.0 one.2 other.2) ∙ sym other.1
+one_cause gave sends log r input h old new s z e d goes told sound (inl one) (inr other) = absurd (run_and_other gave sends log r input h old new s e d one other)
+one_cause gave sends log r input h old new s z e d goes told sound (inr one) (inl other) = absurd (run_and_other gave sends log r input h old new z d e other one)
+one_cause gave sends log r input h old new s z e d goes told sound (inr one) (inr other) = other_twice r e d one other
 
 -- an output that did not fail tells the status of the ending
 

@@ -45,25 +45,25 @@ not_ran : (e : Ending) (end : InputEnd) → ran e ≡ false → e ≡ ending_of 
 not_ran e end untrue is = (let true' : ran e ≡ true = ap ran is ∙ all_ran end in let both : true ≡ false = sym true' ∙ untrue in cc)
 
 cause_of : {F : Type 0} (gave : ℕ → Bool) (sends : List ℕ → List ℕ) (log : F → Option (List Called)) (r : RunWords) (text : List ℕ) (config : Config) (input : Read) (h : List Entry) (old new : List F) (e : Ending)
-    → r.which ≡ Text text → IsConfigured text config → (run : IsEndedRun gave sends log input config r.calls h old new e)
+    → r.which ≡ Text text → IsConfigured text config → config.enabled ≡ true → (run : IsEndedRun gave sends log input config r.calls h old new e)
     → RunCause gave sends log r input h old new (setting_of config r.calls run.records) e
 unfolding ran
-cause_of gave sends log r text config input h old new ending.BadWords which configured run = absurd (not_ran ending.BadWords run.end refl run.ended.0)
-cause_of gave sends log r text config input h old new ending.UnknownMapping which configured run = absurd (not_ran ending.UnknownMapping run.end refl run.ended.0)
-cause_of gave sends log r text config input h old new ending.DisabledMapping which configured run = absurd (not_ran ending.DisabledMapping run.end refl run.ended.0)
-cause_of gave sends log r text config input h old new (ending.BadParameter name) which configured run = absurd (not_ran (ending.BadParameter name) run.end refl run.ended.0)
-cause_of gave sends log r text config input h old new ending.Done which configured run = record { text = text; which = which; config = config; configured = configured; run = run; over_records = refl }
-cause_of gave sends log r text config input h old new ending.CallsSpent which configured run = record { text = text; which = which; config = config; configured = configured; run = run; over_records = refl }
-cause_of gave sends log r text config input h old new (ending.BadLine number why) which configured run = record { text = text; which = which; config = config; configured = configured; run = run; over_records = refl }
-cause_of gave sends log r text config input h old new ending.InputFault which configured run = record { text = text; which = which; config = config; configured = configured; run = run; over_records = refl }
-cause_of gave sends log r text config input h old new (ending.Limit limit) which configured run = record { text = text; which = which; config = config; configured = configured; run = run; over_records = refl }
+cause_of gave sends log r text config input h old new ending.BadWords which configured enabled run = absurd (not_ran ending.BadWords run.end refl run.ended.0)
+cause_of gave sends log r text config input h old new ending.UnknownMapping which configured enabled run = absurd (not_ran ending.UnknownMapping run.end refl run.ended.0)
+cause_of gave sends log r text config input h old new ending.DisabledMapping which configured enabled run = absurd (not_ran ending.DisabledMapping run.end refl run.ended.0)
+cause_of gave sends log r text config input h old new (ending.BadParameter name) which configured enabled run = absurd (not_ran (ending.BadParameter name) run.end refl run.ended.0)
+cause_of gave sends log r text config input h old new ending.Done which configured enabled run = record { text = text; which = which; config = config; configured = configured; enabled = enabled; run = run; over_records = refl }
+cause_of gave sends log r text config input h old new ending.CallsSpent which configured enabled run = record { text = text; which = which; config = config; configured = configured; enabled = enabled; run = run; over_records = refl }
+cause_of gave sends log r text config input h old new (ending.BadLine number why) which configured enabled run = record { text = text; which = which; config = config; configured = configured; enabled = enabled; run = run; over_records = refl }
+cause_of gave sends log r text config input h old new ending.InputFault which configured enabled run = record { text = text; which = which; config = config; configured = configured; enabled = enabled; run = run; over_records = refl }
+cause_of gave sends log r text config input h old new (ending.Limit limit) which configured enabled run = record { text = text; which = which; config = config; configured = configured; enabled = enabled; run = run; over_records = refl }
 
 pub ended_run : {F : Type 0} (gave : ℕ → Bool) (sends : List ℕ → List ℕ) (log : F → Option (List Called)) (r : RunWords) (text : List ℕ) (config : Config) (input : Read) (h : List Entry) (old new : List F) (e : Ending)
-    → r.which ≡ Text text → IsConfigured text config → IsEndedRun gave sends log input config r.calls h old new e → RunEnded gave sends log r input h old new e
-ended_run gave sends log r text config input h old new e which configured run = record {
+    → r.which ≡ Text text → IsConfigured text config → config.enabled ≡ true → IsEndedRun gave sends log input config r.calls h old new e → RunEnded gave sends log r input h old new e
+ended_run gave sends log r text config input h old new e which configured enabled run = record {
   setting = setting_of config r.calls run.records;
   no_journal = refl;
-  cause = cause_of gave sends log r text config input h old new e which configured run;
+  cause = cause_of gave sends log r text config input h old new e which configured enabled run;
 }
 
 pub ended_refused : {F : Type 0} (gave : ℕ → Bool) (sends : List ℕ → List ℕ) (log : F → Option (List Called)) (r : RunWords) (text : List ℕ) (field : Param) (input : Read) (h : List Entry) (old new : List F) (e : Ending) (s : Setting)
@@ -74,6 +74,14 @@ ended_refused gave sends log r text field input h old new e s none is which refu
       no_journal = none;
       cause = (record { text = text; which = which; field = field; refused = refused; name_is = refl }, untouched);
     })
+
+pub ended_disabled : {F : Type 0} (gave : ℕ → Bool) (sends : List ℕ → List ℕ) (log : F → Option (List Called)) (r : RunWords) (text : List ℕ) (config : Config) (input : Read) (h : List Entry) (old new : List F) (s : Setting)
+    → s.fates ≡ [] → r.which ≡ Text text → IsConfigured text config → config.enabled ≡ false → IsUntouched input h old new → RunEnded gave sends log r input h old new ending.DisabledMapping
+ended_disabled gave sends log r text config input h old new s none which configured disabled untouched = record {
+  setting = s;
+  no_journal = none;
+  cause = (record { text = text; which = which; config = config; configured = configured; disabled = disabled }, untouched);
+}
 
 -- no options of `run` are bad words
 pub never_bad_words : {F : Type 0} (gave : ℕ → Bool) (sends : List ℕ → List ℕ) (log : F → Option (List Called)) (r : RunWords) (input : Read) (h : List Entry) (old new : List F) (e : Ending) → e ≡ ending.BadWords → RunEnded gave sends log r input h old new e → ⊥
@@ -111,7 +119,7 @@ whole_cause : {F : Type 0} (gave : ℕ → Bool) (sends : List ℕ → List ℕ)
     → RunCause gave sends log r input h old new s e → IsCutOf gave sends log r input h old new
 whole_cause gave sends log r input h old new s ending.BadWords cause = absurd cause
 whole_cause gave sends log r input h old new s ending.UnknownMapping cause = absurd cause
-whole_cause gave sends log r input h old new s ending.DisabledMapping cause = absurd cause
+whole_cause gave sends log r input h old new s ending.DisabledMapping cause = inl (record { no_trace = cause.1.no_trace; uncalled = cause.1.uncalled })
 whole_cause gave sends log r input h old new s (ending.BadParameter name) cause = inl (record { no_trace = cause.1.no_trace; uncalled = cause.1.uncalled })
 whole_cause gave sends log r input h old new s ending.Done cause = whole gave sends log r input h old new s ending.Done cause
 whole_cause gave sends log r input h old new s ending.CallsSpent cause = whole gave sends log r input h old new s ending.CallsSpent cause

@@ -1,5 +1,5 @@
 -- What a command's words did to the world. This product's own.
-use Rattle.std.specs.Prelude.{◌≡◌, ◌⊎◌, ℕ, Bool, List, [], Option, Some}
+use Rattle.std.specs.Prelude.{◌≡◌, ◌⊎◌, ℕ, Bool, true, false, List, [], Option, Some}
 use Rattle.esm_model.specs.declared.called.Called.{Called}
 use Rattle.esm_model.specs.declared.config.Config.{Config}
 use Rattle.esm_model.specs.declared.entry.Entry.{Entry}
@@ -33,12 +33,21 @@ pub record IsRefused (r : RunWords) (name : List ℕ) : Type 0 where
   pub refused : refused_field text ≡ Some field
   pub name_is : name ≡ name_of field
 
+-- the mapping's text is accepted, and it says that the mapping is disabled
+pub record IsDisabled (r : RunWords) : Type 0 where
+  pub text : List ℕ
+  pub which : r.which ≡ Text text
+  pub config : Config
+  pub configured : IsConfigured text config
+  pub disabled : config.enabled ≡ false
+
 -- the mapping of these options ran, over this setting
 pub record IsRunOf {F : Type 0} (gave : ℕ → Bool) (sends : List ℕ → List ℕ) (log : F → Option (List Called)) (r : RunWords) (input : Read) (h : List Entry) (old new : List F) (s : Setting) (ending : Ending) : Type 0 where
   pub text : List ℕ
   pub which : r.which ≡ Text text
   pub config : Config
   pub configured : IsConfigured text config
+  pub enabled : config.enabled ≡ true
   pub run : IsEndedRun gave sends log input config r.calls h old new ending
   pub over_records : s ≡ setting_of config r.calls run.records
 
@@ -46,7 +55,7 @@ pub record IsRunOf {F : Type 0} (gave : ℕ → Bool) (sends : List ℕ → List
 abbrev pub RunCause : {F : Type 0} → (ℕ → Bool) → (List ℕ → List ℕ) → (F → Option (List Called)) → RunWords → Read → List Entry → List F → List F → Setting → Ending → Type 0
 RunCause gave sends log r input h old new s ending.BadWords = ⊥
 RunCause gave sends log r input h old new s ending.UnknownMapping = ⊥
-RunCause gave sends log r input h old new s ending.DisabledMapping = ⊥
+RunCause gave sends log r input h old new s ending.DisabledMapping = IsDisabled r × IsUntouched input h old new
 RunCause gave sends log r input h old new s (ending.BadParameter name) = IsRefused r name × IsUntouched input h old new
 RunCause gave sends log r input h old new s other = IsRunOf gave sends log r input h old new s other
 

@@ -1,30 +1,25 @@
 -- The configuration that a mapping's text gives, or the field that is refused. Source: the Lambda API reference,
 -- `CreateEventSourceMapping`.
-use Rattle.std.specs.Prelude.{◌≡◌, ℕ, List, Option, Some, None}
-use Rattle.std.specs.Option.{option_or}
+use Rattle.std.specs.Prelude.{◌≡◌, ℕ, List, Option, Some, None, option_and_then}
 use Rattle.serde_json.specs.Data.{Data}
 use Rattle.serde_json.specs.Read.{read}
 use Rattle.esm_model.specs.declared.config.Config.{Config}
-use Rattle.esm_model.specs.declared.config.Start.{Start}
-use Rattle.esm_model.specs.declared.config.Start.TheVariants.{TrimHorizon}
 use Rattle.esm_config.specs.Mapping.{config_of}
 use Rattle.esm_config.specs.Table.{refused}
 use Rattle.esm_config.specs.declared.param.Param.{Param}
-use Rattle.esm_config.specs.declared.param.Param.TheVariants.{StartingPosition, Body}
+use Rattle.esm_config.specs.declared.param.Param.TheVariants.{Body}
+use Rattle.esm_run.specs.Served.{first_refused, unserved}
 
--- a mapping that was not created has no latest record: for now its stream is read from its first record
-abbrev pub refused_start : Start → Option Param
-refused_start TrimHorizon = None
-refused_start _ = Some StartingPosition
-
-abbrev pub refused_start_of : Option Config → Option Param
-refused_start_of None = None
-refused_start_of (Some config) = refused_start config.start
+-- the field that the table refuses, or one before it that a run does not serve; where the table refuses none, the first
+-- that a run does not serve
+abbrev pub refused_or_unserved : Data → Option Param → Option Param
+refused_or_unserved value (Some p) = Some (first_refused value p)
+refused_or_unserved value None = option_and_then unserved (config_of value)
 
 -- the first field that is refused, and a text that is no JSON is a refused body
 abbrev pub refused_in : Option Data → Option Param
 refused_in None = Some Body
-refused_in (Some value) = option_or (refused value) (refused_start_of (config_of value))
+refused_in (Some value) = refused_or_unserved value (refused value)
 
 -- of a mapping's text
 abbrev pub refused_field : List ℕ → Option Param

@@ -5,6 +5,7 @@ pub mod Given
 pub mod Built
 pub mod Coming
 pub mod Running
+pub mod Served
 pub mod Stopping
 pub mod Endings
 pub mod Configured

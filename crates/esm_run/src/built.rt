@@ -12,8 +12,7 @@ use std::alloc::Global;
 fn is_built_run(words: &RunWords) -> bool
     ensures { result ≡ is_built_run words.now }
 {
-    matches!(words.which, Which::Config(_))
-        && words.visibility == VISIBILITY.default.unwrap_or(0)
+    matches!(words.which, Which::Config(_)) && words.visibility == VISIBILITY.default.unwrap_or(0)
 }
 
 /// Whether the command is built.

@@ -91,7 +91,13 @@ fn run_words<R: Wait, S: Source, K: Sink, D: Disk, C: Clock, F: Caller, L: Door>
     let calls = words.calls;
     let text = mapping_text(words.which);
     match mapping(alloc, &text) {
-        Ok(config) => run_mapping(rt, alloc, config, calls, world),
+        Ok(config) => {
+            if config.enabled {
+                run_mapping(rt, alloc, config, calls, world)
+            } else {
+                Ok(Ending::DisabledMapping)
+            }
+        }
         Err(ConfigError::BadParam(param)) => bad_parameter(alloc, param),
         Err(ConfigError::OutOfMemory) => Err(OutOfMemory),
     }

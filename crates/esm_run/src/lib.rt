@@ -12,6 +12,7 @@ mod mapping;
 mod output;
 mod refusal;
 mod running;
+mod served;
 mod top;
 mod world;
 

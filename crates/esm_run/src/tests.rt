@@ -335,14 +335,62 @@ fn refused_words(rt: HostRuntime) -> Result<(), Fail> {
     Ok(())
 }
 
+/// The world as a command left it, with new callers and without the history.
+fn again(alloc: Global, world: MemWorld) -> Result<MemWorld, OutOfMemory>
+    ensures callers { IfOk result (λ world. length world.callers.items ≡ 64) }
+    ensures trace { IfOk result (λ world. world.trace.items ≡ []) }
+{
+    let callers = callers(alloc, "bad")?;
+    Ok(World {
+        input: world.input,
+        out: world.out,
+        journal: world.journal,
+        spare: world.spare,
+        failures: world.failures,
+        registry: world.registry,
+        clock: world.clock,
+        callers,
+        door: world.door,
+        trace: Vec::new(alloc),
+    })
+}
+
 #[test]
-fn refused_option_given_twice(rt: HostRuntime) -> Result<(), Fail> {
+fn init_twice(rt: HostRuntime) -> Result<(), Fail> {
     let alloc = rt.alloc();
-    let mut words = run_words(alloc, "")?;
-    words.push(String::from_str(alloc, "--config")?)?;
-    words.push(mapping(alloc, "")?)?;
-    let seen = run_words_alone(&rt, alloc, words.as_slice())?;
-    assert!(rt; told(&seen, 2, "bad words\n"));
+    let mut words = Vec::new(alloc);
+    words.push(String::from_str(alloc, "init")?)?;
+    let first = esm(
+        &rt,
+        alloc,
+        words.as_slice(),
+        world(alloc, plain(""), Vec::new(alloc))?,
+    );
+    assert_eq!(rt; first.status, 0);
+    let second = esm(&rt, alloc, words.as_slice(), again(alloc, first.world)?);
+    assert_eq!(rt; second.status, 8);
+    assert_eq!(rt;
+        second.world.out.written(),
+        b"done\nnot empty journal.esm 18\n".as_slice()
+    );
+    Ok(())
+}
+
+#[test]
+fn calls_spent(rt: HostRuntime) -> Result<(), Fail> {
+    let alloc = rt.alloc();
+    let mut words = run_words(alloc, ",\"BatchSize\":1")?;
+    words.push(String::from_str(alloc, "--calls=1")?)?;
+    let input = lines(alloc, &[("1", "1"), ("2", "1")])?;
+    let world = world(alloc, plain(""), input)?;
+    let seen = ended(&rt, alloc, words.as_slice(), world)?;
+    assert!(rt;
+        told(
+            &seen,
+            1,
+            "shard shardId-000000000000 records 2 checkpoint 1 succeeded 1 filtered 0 expired 0 exhausted 0\ncalls 1\ncalls spent\n"
+        )
+    );
     Ok(())
 }
 
