@@ -2,7 +2,7 @@
 use Rattle.std.proofs.Common.{◌≡◌, ℕ, List, [], ◌∷◌, codes, refl}
 use Rattle.std.specs.Str.{is_utf8, chars}
 use Rattle.serde_json.proofs.OnLiterals.{serde_json_on_literals}
-use Rattle.esm_model.specs.State.{marks, last_state, state_read, answered_state}
+use Rattle.esm_model.specs.State.{places, state_read, answered_state}
 use Rattle.esm_model.specs.Reading.{item_reading}
 use Rattle.esm_model.specs.declared.verdict.Reading.{Reading}
 use Rattle.esm_model.specs.declared.verdict.Reading.TheVariants.{Whole, Failed, UpTo}
@@ -87,41 +87,57 @@ least_counts = refl
 -- ---- the bodies of `state-spans`
 
 span_in_spaces : state_read (codes "{\"state\": {\"a\" : 1},\"x\":2}") ≡ Span 10 19
-unfolding serde_json_on_literals is_utf8 chars state_read marks last_state
+unfolding serde_json_on_literals is_utf8 chars state_read places
 span_in_spaces = refl
 
 number_state : state_read (codes "{\"state\":7}") ≡ Bad
-unfolding serde_json_on_literals is_utf8 chars state_read marks last_state
+unfolding serde_json_on_literals is_utf8 chars state_read places
 number_state = refl
 
 no_json_state : state_read (codes "x") ≡ Bad
-unfolding serde_json_on_literals is_utf8 chars state_read marks last_state
+unfolding serde_json_on_literals is_utf8 chars state_read places
 no_json_state = refl
 
 null_state_body : state_read (codes "null") ≡ Empty
-unfolding serde_json_on_literals is_utf8 chars state_read marks last_state
+unfolding serde_json_on_literals is_utf8 chars state_read places
 null_state_body = refl
 
 no_state : state_read (codes "{}") ≡ Empty
-unfolding serde_json_on_literals is_utf8 chars state_read marks last_state
+unfolding serde_json_on_literals is_utf8 chars state_read places
 no_state = refl
 
 null_state : state_read (codes "{\"state\":null}") ≡ Empty
-unfolding serde_json_on_literals is_utf8 chars state_read marks last_state
+unfolding serde_json_on_literals is_utf8 chars state_read places
 null_state = refl
 
 last_state_counts : state_read (codes "{\"state\":{\"n\":1},\"x\":[\"state\",{\"state\":3}],\"st\\u0061te\" : { } }") ≡ Span 58 61
-unfolding serde_json_on_literals is_utf8 chars state_read marks last_state
+unfolding serde_json_on_literals is_utf8 chars state_read places
 last_state_counts = refl
 
 null_last : state_read (codes "{\"state\":{\"n\":1},\"state\":null}") ≡ Empty
-unfolding serde_json_on_literals is_utf8 chars state_read marks last_state
+unfolding serde_json_on_literals is_utf8 chars state_read places
 null_last = refl
 
+escaped_key : state_read (codes "{\"\\u0073tate\":{},\"x\":{\"state\":1}}") ≡ Span 14 16
+unfolding serde_json_on_literals is_utf8 chars state_read places
+escaped_key = refl
+
+nested_states : state_read (codes "{\"x\":{\"state\":{}},\"y\":[{\"state\":{}}]}") ≡ Empty
+unfolding serde_json_on_literals is_utf8 chars state_read places
+nested_states = refl
+
+state_in_a_text : state_read (codes "{\"x\":\"\\\"state\\\":{}\",\"state\":{\"}\":\"{\"}}") ≡ Span 28 37
+unfolding serde_json_on_literals is_utf8 chars state_read places
+state_in_a_text = refl
+
+white_space : state_read (codes " { \"state\" : { } , \"x\" : [ ] } ") ≡ Span 13 16
+unfolding serde_json_on_literals is_utf8 chars state_read places
+white_space = refl
+
 state_bytes : answered_state (codes "{\"state\":{\"n\":2}}") ≡ codes "{\"n\":2}"
-unfolding serde_json_on_literals is_utf8 chars answered_state state_read marks last_state
+unfolding serde_json_on_literals is_utf8 chars answered_state state_read places
 state_bytes = refl
 
 no_state_bytes : answered_state [] ≡ codes "{}"
-unfolding serde_json_on_literals is_utf8 chars answered_state state_read marks last_state
+unfolding serde_json_on_literals is_utf8 chars answered_state state_read places
 no_state_bytes = refl

@@ -1,100 +1,121 @@
--- The state in an answer. Source: the Lambda Developer Guide, tumbling windows (the answer's field `state`); that it is
--- an object of at most 1 MB is that guide's too, that other states fail the batch is this product's own.
-use Rattle.std.specs.Prelude.{ℕ, ◌+◌, ◌-◌, ◌==◌, nat_le, List, [], ◌∷◌, take, drop, reverse, slice_range, codes, Bool, false, ◌&&◌, ◌||◌, if◌then◌else◌, Option, Some, None}
-use Rattle.std.specs.List.{prefix_len}
+-- The state in an answer, by JSON's grammar. Source: the Lambda Developer Guide, tumbling windows (the answer's field
+-- `state`, an object of at most 1 MB); RFC 8259, section 4 (objects). That other states fail the batch, and that the last
+-- of several counts, is this product's own.
+use Rattle.std.specs.Prelude.{ℕ, ◌<◌, ◌≤◌, ⊤, ◌+◌, ◌-◌, nat_le, nat_lt, List, [], ◌∷◌, ◌++◌, length, drop, get_or, slice_range, codes, if◌then◌else◌, Option, Some, None}
 use Rattle.std.specs.Option.{option_or}
 use Rattle.std.specs.Str.{bytes_eq}
-use Rattle.serde_json.specs.Data.{Data, null, string, object}
+use Rattle.json.specs.Token.{Token}
+use Rattle.json.specs.Lex.{lex, between, tokens}
+use Rattle.json.specs.Json.{Json, Items, no_items, item, Members, no_members, member, value}
+use Rattle.json.specs.Json as json
+use Rattle.serde_json.specs.Data.{Data, null, object}
 use Rattle.serde_json.specs.Find.{get_member}
+use Rattle.serde_json.specs.Read.{max_depth}
 use Rattle.esm_model.specs.Json.{read_json}
 use Rattle.esm_model.specs.declared.limits.TheConstants.{MAX_DATA}
 use Rattle.esm_model.specs.declared.verdict.StateRead.{StateRead}
 use Rattle.esm_model.specs.declared.verdict.StateRead.TheVariants.{Empty, Span, Bad}
 
--- ---- where the members of the outermost object stand in a text that reads as JSON
+-- ---- the lexemes of a text: texts, numbers and words, brackets, colons and commas
 
--- where a byte stands: outside texts, in a text, or just after a backslash in one
-pub data Part : Type 0 where
-  outside : Part
-  in_text : Part
-  in_escape : Part
+-- how many begin in it
+abbrev pub begun : List ℕ → ℕ
+begun text = length (lex between text)
 
-abbrev pub part_after : Part → ℕ → Part
-part_after outside x = if x == 34 then in_text else outside
-part_after in_text x = if x == 34 then outside else (if x == 92 then in_escape else in_text)
-part_after in_escape x = in_text
+-- the places at which they begin, from the end of `before` on: with the byte there one more begins
+unfoldable pub places : List ℕ → List ℕ → List ℕ
+places before [] = []
+places before (x ∷ xs) = (if nat_lt (begun before) (begun (before ++ x ∷ [])) then length before ∷ [] else []) ++ places (before ++ x ∷ []) xs
 
--- the brackets that are open after the byte
-abbrev pub depth_after : Part → ℕ → ℕ → ℕ
-depth_after outside depth x = if (x == 123) || (x == 91) then depth + 1 else (if (x == 125) || (x == 93) then depth - 1 else depth)
-depth_after in_text depth x = depth
-depth_after in_escape depth x = depth
+-- a comma stands after each item and member but the last
+abbrev pub comma_before : Items → ℕ
+comma_before no_items = 0
+comma_before (item j js) = 1
 
--- a brace of the outermost object, or one of its colons and commas
-abbrev pub is_mark : Part → ℕ → ℕ → Bool
-is_mark outside depth x = ((x == 123) && (depth == 0)) || (((x == 125) || (x == 58) || (x == 44)) && (depth == 1))
-is_mark in_text depth x = false
-is_mark in_escape depth x = false
+abbrev pub comma_before_member : Members → ℕ
+comma_before_member no_members = 0
+comma_before_member (member k j ms) = 1
 
--- The places of these marks: the opening brace, then the end of each key and of each value in turn. The text goes on
--- at `place`, in this part and with so many brackets open.
-unfoldable pub marks : Part → ℕ → ℕ → List ℕ → List ℕ
-marks part depth place [] = []
-marks part depth place (x ∷ xs) =
-    if is_mark part depth x
-    then place ∷ marks (part_after part x) (depth_after part depth x) (place + 1) xs
-    else marks (part_after part x) (depth_after part depth x) (place + 1) xs
+-- of how many lexemes a value consists
+abbrev mutual
+  pub size : Json → ℕ
+  size json.null = 1
+  size (json.boolean b) = 1
+  size (json.number s) = 1
+  size (json.string s) = 1
+  size (json.array js) = 1 + items_size js
+  size (json.object ms) = 1 + members_size ms
 
-abbrev pub is_text : List ℕ → Option Data → Bool
-is_text text (Some (string s)) = bytes_eq s text
-is_text text _ = false
+  -- with the closing bracket
+  pub items_size : Items → ℕ
+  items_size no_items = 1
+  items_size (item j js) = size j + (comma_before js + items_size js)
 
--- the bytes between the marks `start` and `end`
-abbrev pub between : List ℕ → ℕ → ℕ → List ℕ
-between text start end = slice_range text (start + 1) end
+  -- a member has a key, a colon and a value
+  pub members_size : Members → ℕ
+  members_size no_members = 1
+  members_size (member k j ms) = 2 + (size j + (comma_before_member ms + members_size ms))
 
--- the colon and the end of the last member whose key reads as `state`
-unfoldable pub last_state : List ℕ → List ℕ → Option (ℕ × ℕ)
-last_state text [] = None
-last_state text (start ∷ []) = None
-last_state text (start ∷ colon ∷ []) = None
-last_state text (start ∷ colon ∷ end ∷ more) =
-    option_or (last_state text (end ∷ more)) (if is_text (codes "state") (read_json (between text start colon)) then Some (colon, end) else None)
+-- ---- the members of the outermost object
 
--- ---- what is read
+-- a member: its key as read, and the places of the first and of the last lexeme of its value
+pub record Member : Type 0 where
+  pub key : List ℕ
+  pub first : ℕ
+  pub last : ℕ
 
-abbrev pub is_space : ℕ → Bool
-is_space x = (x == 32) || (x == 9) || (x == 10) || (x == 13)
+-- The members of an object in the text's order. These are the places of the lexemes from the first key on: that key, its
+-- colon, its value, and the comma or brace after it; then the next key.
+abbrev pub members_at : List ℕ → Members → List Member
+members_at places no_members = []
+members_at places (member k j ms) =
+    record { key = k; first = get_or places 2 0; last = get_or places (1 + size j) 0 } ∷ members_at (drop (3 + size j) places) ms
 
--- the bytes between two marks without the spaces around them, at most a state's limit
-abbrev pub span_between : List ℕ → ℕ → ℕ → StateRead
-span_between text start end =
-    let from = start + 1 + prefix_len is_space (drop (start + 1) text) in
-    let to = end - prefix_len is_space (reverse (take end text)) in
-    if nat_le (to - from) MAX_DATA then Span from to else Bad
+-- the members that the grammar finds in what it reads
+abbrev pub members_of : Option (Json × List Token) → Members
+members_of (Some (json.object ms, rest)) = ms
+members_of _ = no_members
 
-abbrev pub state_span : List ℕ → Option (ℕ × ℕ) → StateRead
-state_span text None = Bad
-state_span text (Some p) = span_between text p.0 p.1
+-- the first lexeme is the opening brace
+abbrev pub outermost_members : List ℕ → List Member
+outermost_members text = members_at (drop 1 (places [] text)) (members_of (value max_depth (tokens text)))
 
--- by the value of the member
-abbrev pub member_state : List ℕ → Option Data → StateRead
-member_state text None = Empty
-member_state text (Some null) = Empty
-member_state text (Some (object ms)) = state_span text (last_state text (marks outside 0 0 text))
-member_state text (Some _) = Bad
+abbrev pub last_named : List ℕ → List Member → Option Member
+last_named name [] = None
+last_named name (m ∷ ms) = option_or (last_named name ms) (if bytes_eq m.key name then Some m else None)
 
--- by the whole answer
-abbrev pub body_state : List ℕ → Option Data → StateRead
-body_state text (Some null) = Empty
-body_state text (Some (object ms)) = member_state text (get_member (codes "state") ms)
-body_state text _ = Bad
+-- ---- the state
 
--- No state for an empty or null answer and for one without it or with null; the bytes of an object; anything else is
--- bad.
+-- the bytes of an object, from its opening brace to its closing one, which are its first and its last lexeme; at most a
+-- state's limit
+abbrev pub value_span : Option Member → StateRead
+value_span None = Bad
+value_span (Some m) = if nat_le (m.last + 1 - m.first) MAX_DATA then Span m.first (m.last + 1) else Bad
+
+-- by the value that reading the answer finds under `state`
+abbrev pub found_span : List ℕ → Option Data → StateRead
+found_span text None = Empty
+found_span text (Some null) = Empty
+found_span text (Some (object ms)) = value_span (last_named (codes "state") (outermost_members text))
+found_span text (Some _) = Bad
+
+-- by the value that the whole answer is
+abbrev pub answer_span : List ℕ → Option Data → StateRead
+answer_span text (Some null) = Empty
+answer_span text (Some (object ms)) = found_span text (get_member (codes "state") ms)
+answer_span text _ = Bad
+
+-- `Empty` for an empty or `null` answer and for an object without `state` or with `null` there; the bytes of the last
+-- `state` of the outermost object where it is an object of at most `MAX_DATA` bytes; `Bad` otherwise
 unfoldable pub state_read : List ℕ → StateRead
 state_read [] = Empty
-state_read (x ∷ xs) = body_state (x ∷ xs) (read_json (x ∷ xs))
+state_read (x ∷ xs) = answer_span (x ∷ xs) (read_json (x ∷ xs))
+
+-- the span lies within the text and is not empty
+abbrev pub IsSpanIn : List ℕ → StateRead → Type 0
+IsSpanIn text Empty = ⊤
+IsSpanIn text (Span from to) = (from < to) × (to ≤ length text)
+IsSpanIn text Bad = ⊤
 
 abbrev pub span_bytes : List ℕ → StateRead → List ℕ
 span_bytes body Empty = codes "{}"

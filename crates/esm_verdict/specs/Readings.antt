@@ -1,6 +1,6 @@
 -- What the contracts of this crate cite beside the definitions of `esm_model`.
 use Rattle.std.specs.Prelude.{ℕ, ◌<◌, ◌≤◌, Bool, true, false, ⊤, if◌then◌else◌, not, ◌||◌, ◌==◌}
-use Rattle.esm_model.specs.State.{state_read}
+use Rattle.esm_model.specs.State.{state_read, IsSpanIn}
 use Rattle.esm_model.specs.declared.config.Config.{Config}
 use Rattle.esm_model.specs.declared.entry.Reply.{Reply}
 use Rattle.esm_model.specs.declared.entry.Reply.TheVariants.{Answered, Garbled, Lost}
@@ -8,7 +8,6 @@ use Rattle.esm_model.specs.declared.verdict.Reading.{Reading}
 use Rattle.esm_model.specs.declared.verdict.Reading.TheVariants.{UpTo}
 use Rattle.esm_model.specs.declared.verdict.StateRead.{StateRead}
 use Rattle.esm_model.specs.declared.verdict.StateRead.TheVariants.{Empty}
-use Rattle.esm_window.specs.StateSpan.{IsSpanIn}
 use Rattle.esm_verdict.specs.declared.stream.Call.{Call}
 use Rattle.esm_verdict.specs.declared.stream.Call.TheVariants.{OfBatch, OfWindow}
 

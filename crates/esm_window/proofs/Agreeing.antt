@@ -14,9 +14,9 @@ use Rattle.serde_json.specs.Find.{get_member}
 use Rattle.serde_json.specs.Read.{of_json, max_depth, read}
 use Rattle.esm_model.specs.Json.{read_json}
 use Rattle.esm_model.specs.declared.verdict.StateRead.{StateRead}
-use Rattle.esm_model.specs.State as scan
-use Rattle.esm_model.specs.State.{state_read}
-use Rattle.esm_window.specs.StateSpan.{places, members_at, members_of, last_named, outermost_members, value_span, found_span, answer_span, state_span, IsSpanIn}
+use Rattle.esm_window.specs.Scan as scan
+use Rattle.esm_window.specs.Scan.{scanned_state}
+use Rattle.esm_model.specs.State.{places, members_at, members_of, last_named, outermost_members, value_span, found_span, answer_span, state_read, IsSpanIn}
 use Rattle.esm_window.specs.Layout.{Placed, lay, is_marked, deep, marked, NoBad, AllGood, lexemes_of, bounds_at, last_bounds}
 use Rattle.esm_window.proofs.Layouts.{lexemes-lay, places_are}
 use Rattle.esm_window.proofs.Marking.{marks_are}
@@ -51,7 +51,7 @@ some_members (member k j ms) i ls h e = e
 -- the span of the last member named `state`, where that has an object
 laid : (text : List ℕ) (ms os : Members) (ls : Placed) → is_utf8 text ≡ true → ls ≡ lay between 0 text
     → lexemes ls ≡ token Token.begin_object ∷ lexemes_of false (members_tokens ms ++ []) → find.get_member (codes "state") ms ≡ Some (json.object os)
-    → value_span (last_named (codes "state") (members_at (drop 1 (place_list ls)) ms)) ≡ scan.state_span text (scan.last_state text (marked 0 ls))
+    → value_span (last_named (codes "state") (members_at (drop 1 (place_list ls)) ms)) ≡ scan.span_of text (scan.last_state text (marked 0 ls))
 laid text ms os [] utf8 is e h = cc
 laid text ms os (q ∷ ls) utf8 is e h =
     let brace : q.1 ≡ token Token.begin_object = cc in
@@ -62,7 +62,7 @@ laid text ms os (q ∷ ls) utf8 is e h =
     let same = same_last text utf8 ms q.0 (token Token.begin_object) ls at_brace after in
     let bounds = last_bounds text (bounds_at (place_list ((q.0, token Token.begin_object) ∷ ls)) ms) in
     last_span text (last_named (codes "state") (members_at (place_list ls) ms)) bounds (find.get_member (codes "state") ms) os same h
-    ∙ ap (scan.state_span text) (sym (ap (scan.last_state text) (brace_first q ls brace) ∙ members_found text ms q.0 (token Token.begin_object) ls after))
+    ∙ ap (scan.span_of text) (sym (ap (scan.last_state text) (brace_first q ls brace) ∙ members_found text ms q.0 (token Token.begin_object) ls after))
 
 laid_within : (text : List ℕ) (ms os : Members) (ls : Placed) → is_utf8 text ≡ true → ls ≡ lay between 0 text
     → lexemes ls ≡ token Token.begin_object ∷ lexemes_of false (members_tokens ms ++ []) → find.get_member (codes "state") ms ≡ Some (json.object os)
@@ -89,7 +89,7 @@ state_within text ms os utf8 e h =
     subst P (sym same) (laid_within text ms os ls utf8 refl (lexemes-lay between 0 text ∙ lexed text ms e) h)
 
 same_state : (text : List ℕ) (ms os : Members) → is_utf8 text ≡ true → value max_depth (tokens text) ≡ Some (json.object ms, []) → find.get_member (codes "state") ms ≡ Some (json.object os)
-    → value_span (last_named (codes "state") (outermost_members text)) ≡ scan.state_span text (scan.last_state text (scan.marks scan.outside 0 0 text))
+    → value_span (last_named (codes "state") (outermost_members text)) ≡ scan.span_of text (scan.last_state text (scan.marks scan.outside 0 0 text))
 same_state text ms os utf8 e h =
     let ls = lay between 0 text in
     let all = lexed text ms e in
@@ -98,7 +98,7 @@ same_state text ms os utf8 e h =
     ap (λ o. value_span (last_named (codes "state") (members_at (drop 1 (places [] text)) (members_of o)))) e
     ∙ ap (λ ps. value_span (last_named (codes "state") (members_at (drop 1 ps) ms))) (places_are [] text)
     ∙ laid text ms os ls utf8 refl (lexemes-lay between 0 text ∙ all) h
-    ∙ ap (λ qs. scan.state_span text (scan.last_state text qs)) (sym marks)
+    ∙ ap (λ qs. scan.span_of text (scan.last_state text qs)) (sym marks)
 
 -- ---- what reads as an object is one by the grammar
 
@@ -117,7 +117,7 @@ if_text false o dm e = cc
 -- ---- the span
 
 object_found : (text : List ℕ) (dm os : data_of.Members) → read_json text ≡ Some (object dm) → get_member (codes "state") dm ≡ Some (object os)
-    → value_span (last_named (codes "state") (outermost_members text)) ≡ scan.state_span text (scan.last_state text (scan.marks scan.outside 0 0 text))
+    → value_span (last_named (codes "state") (outermost_members text)) ≡ scan.span_of text (scan.last_state text (scan.marks scan.outside 0 0 text))
 object_found text dm os e h =
     let text_read = if_text (is_utf8 text) (read text) dm e in
     let o = parsed (value max_depth (tokens text)) dm text_read.1 in
@@ -142,10 +142,10 @@ same_answer text (Some (string s)) e = refl
 same_answer text (Some (array ds)) e = refl
 same_answer text (Some (object dm)) e = same_found text dm (get_member (codes "state") dm) e refl
 
-pub state_span_is : (body : List ℕ) → state_span body ≡ state_read body
-unfolding state_span state_read
-state_span_is [] = refl
-state_span_is (x ∷ xs) = same_answer (x ∷ xs) (read_json (x ∷ xs)) refl
+pub state_is_scanned : (body : List ℕ) → state_read body ≡ scanned_state body
+unfolding state_read scanned_state
+state_is_scanned [] = refl
+state_is_scanned (x ∷ xs) = same_answer (x ∷ xs) (read_json (x ∷ xs)) refl
 
 -- ---- within the text
 
@@ -171,11 +171,11 @@ answer_within text (Some (string s)) e = tt
 answer_within text (Some (array ds)) e = tt
 answer_within text (Some (object dm)) e = found_within text dm (get_member (codes "state") dm) e refl
 
-span_within : (body : List ℕ) → IsSpanIn body (state_span body)
-unfolding state_span
+span_within : (body : List ℕ) → IsSpanIn body (state_read body)
+unfolding state_read
 span_within [] = tt
 span_within (x ∷ xs) = answer_within (x ∷ xs) (read_json (x ∷ xs)) refl
 
-pub read_within : (E : Type 0) (body : List ℕ) (r : Result StateRead E) → IfOk r (λ read. read ≡ state_span body) → IfOk r (λ read. IsSpanIn body read)
+pub read_within : (E : Type 0) (body : List ℕ) (r : Result StateRead E) → IfOk r (λ read. read ≡ state_read body) → IfOk r (λ read. IsSpanIn body read)
 read_within E body (Ok read) e = let P : StateRead → Type 0 = IsSpanIn body in subst P (sym e) (span_within body)
 read_within E body (Err why) e = tt

@@ -6,7 +6,7 @@ use Rattle.json.specs.Text.{content, plain}
 use Rattle.json.specs.Word.{is_operator, is_space, head, ends_word, after_number, number_before, word}
 use Rattle.json.specs.Lex.{token, Class, quote, backslash, operator, space, other, class, operator_lexeme, string_token, Mode, between, in_word, in_string, in_escape}
 use Rattle.json.specs.Align.{is_good, is_blank}
-use Rattle.esm_model.specs.State as scan
+use Rattle.esm_window.specs.Scan as scan
 use Rattle.esm_window.specs.Layout.{next, begin, byte_of, begins_mark, begins_deep, scanned, GoodBegin, clean_byte, clean, InWord}
 
 -- a byte that is no quote, no backslash and no operator

@@ -11,7 +11,6 @@ pub mod Members
 pub mod Punctuated
 pub mod Scans
 pub mod Skips
-pub mod SpanFacts
 pub mod States
 pub mod Values
 pub mod Words

@@ -3,7 +3,7 @@ use Rattle.std.proofs.Common.{◌≡◌, ℕ, ◌+◌, List, [], ◌∷◌, true
 use Rattle.json.specs.Word.{word}
 use Rattle.json.specs.Lex.{Lexeme, class, Mode, lex}
 use Rattle.json.specs.Align.{is_good}
-use Rattle.esm_model.specs.State as scan
+use Rattle.esm_window.specs.Scan as scan
 use Rattle.esm_window.specs.Layout.{next, begin, put, Placed, put_at, lay, begins_mark, begins_deep, marked, scanned, AllGood, GoodBegin, clean_byte, clean, InWord}
 use Rattle.esm_window.proofs.Layouts.{lex-cons}
 use Rattle.esm_window.proofs.Words.{word_clean}

@@ -7,8 +7,8 @@ use Rattle.json.specs.Lex.{Lexeme, token, comma, colon}
 use Rattle.json.specs.Json.{Members, no_members, member}
 use Rattle.json.specs.Tree.{json_tokens, members_tokens}
 use Rattle.esm_model.specs.Json.{read_json}
-use Rattle.esm_model.specs.State as scan
-use Rattle.esm_window.specs.StateSpan.{size}
+use Rattle.esm_window.specs.Scan as scan
+use Rattle.esm_model.specs.State.{size}
 use Rattle.esm_window.specs.Layout.{Placed, is_marked, deep, marked, lexemes_of, byte_of, Bounds, bounds_at, is_state, last_bounds, pair_of}
 use Rattle.esm_window.proofs.Located.{IsMark}
 use Rattle.esm_window.proofs.Skips.{lexemes, skip_value}

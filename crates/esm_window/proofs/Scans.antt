@@ -6,7 +6,7 @@ use Rattle.esm_window.specs.declared.marks.Marks.TheVariants.{Nothing, Opened, K
 use Rattle.esm_window.specs.declared.marks.Scan.{Scan}
 use Rattle.std.specs.Option.{option_or, IfSome}
 use Rattle.esm_model.specs.Json.{read_json}
-use Rattle.esm_model.specs.State.{Part, is_mark, part_after, depth_after, marks, is_text, between, last_state}
+use Rattle.esm_window.specs.Scan.{Part, is_mark, part_after, depth_after, marks, is_text, between, last_state}
 
 or_inner : {X : Type 0} (rest : Option X) (b : Bool) (this found : Option X) → option_or (option_or rest (if b then this else None)) found ≡ option_or rest (if b then option_or this found else found)
 or_inner (Some x) b this found = refl

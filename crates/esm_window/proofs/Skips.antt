@@ -5,7 +5,7 @@ use Rattle.json.specs.Token.{Token}
 use Rattle.json.specs.Lex.{Lexeme, token, comma, colon}
 use Rattle.json.specs.Json.{Json, null, boolean, number, string, array, object, Items, no_items, item, Members, no_members, member}
 use Rattle.json.specs.Tree.{json_tokens, items_tokens, members_tokens}
-use Rattle.esm_window.specs.StateSpan.{comma_before, comma_before_member, size, items_size, members_size}
+use Rattle.esm_model.specs.State.{comma_before, comma_before_member, size, items_size, members_size}
 use Rattle.esm_window.specs.Layout.{Placed, is_marked, deep, marked, lexemes_of}
 
 abbrev pub lexemes : Placed → List Lexeme

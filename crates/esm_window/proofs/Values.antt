@@ -14,10 +14,10 @@ use Rattle.json.specs.Tree.{json_tokens, members_tokens}
 use Rattle.json.specs.Find.{later_or, get_member}
 use Rattle.serde_json.specs.Data.{string}
 use Rattle.esm_model.specs.Json.{read_json}
-use Rattle.esm_model.specs.State as scan
+use Rattle.esm_window.specs.Scan as scan
 use Rattle.esm_model.specs.declared.limits.TheConstants.{MAX_DATA}
 use Rattle.esm_model.specs.declared.verdict.StateRead.TheVariants.{Span, Bad}
-use Rattle.esm_window.specs.StateSpan.{size, members_size, Member, members_at, last_named, value_span, IsSpanIn}
+use Rattle.esm_model.specs.State.{size, members_size, Member, members_at, last_named, value_span, IsSpanIn}
 use Rattle.esm_window.specs.Layout.{Placed, lay, lexemes_of, token_byte, byte_of, Bounds, bounds_at, is_state, last_bounds, pair_of, inner_start, inner_end}
 use Rattle.esm_window.proofs.Skips.{lexemes, pass, further, skip_value, members_closed}
 use Rattle.esm_window.proofs.Located.{IsMark, Located, located, later, spaces_first, trailing}
@@ -184,7 +184,7 @@ same_last text utf8 (member k j ms) start l (q ∷ r ∷ vs) at_start e =
     subst P4 (sym named) (subst P3 (sym after) (subst P2 (sym next_bounds) (subst P1 (sym next_keys) both)))
 
 -- where the last one has an object, its span is that between its marks
-pub last_span : (text : List ℕ) (o : Option Member) (p : Option Bounds) (r : Option Json) (os : Members) → SameLast text o p r → r ≡ Some (json.object os) → value_span o ≡ scan.state_span text (pair_of p)
+pub last_span : (text : List ℕ) (o : Option Member) (p : Option Bounds) (r : Option Json) (os : Members) → SameLast text o p r → r ≡ Some (json.object os) → value_span o ≡ scan.span_of text (pair_of p)
 last_span text None None None os h e = cc
 last_span text (Some m) (Some b) (Some j) os h e =
     let is : j ≡ json.object os = cc in

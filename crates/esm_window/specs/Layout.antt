@@ -10,8 +10,8 @@ use Rattle.json.specs.Align.{is_good}
 use Rattle.json.specs.Print.{begins, ends}
 use Rattle.json.specs.Json.{Members, no_members, member}
 use Rattle.esm_model.specs.Json.{read_json}
-use Rattle.esm_model.specs.State as scan
-use Rattle.esm_window.specs.StateSpan.{size}
+use Rattle.esm_window.specs.Scan as scan
+use Rattle.esm_model.specs.State.{size}
 
 -- the lexer's mode after a byte
 abbrev pub next : Mode → Class → Mode

@@ -1,3 +1,3 @@
 pub mod Layout
 pub mod Marks
-pub mod StateSpan
+pub mod Scan

@@ -1,7 +1,7 @@
 -- Only this crate's proofs cite these words: what a scan of an answer has found when it is at some place.
 use Rattle.std.specs.Prelude.{ℕ, ◌<◌, List, [], ◌∷◌, ◌++◌, Option, ⊤}
 use Rattle.std.specs.Option.{option_or, IfSome}
-use Rattle.esm_model.specs.State.{Part, outside, in_text, in_escape, last_state}
+use Rattle.esm_window.specs.Scan.{Part, outside, in_text, in_escape, last_state}
 use Rattle.esm_window.specs.declared.part.Part as scanned
 use Rattle.esm_window.specs.declared.part.Part.TheVariants as variant
 use Rattle.esm_window.specs.declared.marks.Marks.{Marks}

@@ -1,6 +1,6 @@
 ghost use Rattle.std.specs.Prelude.{◌≡◌, IfOk, codes};
 ghost use Rattle.esm_model.specs.Json.{read_json};
-ghost use Rattle.esm_model.specs.State.{is_text};
+ghost use Rattle.esm_window.specs.Scan.{is_text};
 
 use esm_model::{OutOfMemory, parse_json};
 use serde_json::Value;

@@ -1,6 +1,6 @@
 //! Where a byte of a JSON text stands, and the places that part the members of its outermost object.
 ghost use Rattle.std.specs.Prelude.{◌≡◌, ◌+◌, ◌<◌, ◌≤◌, ◌^◌};
-ghost use Rattle.esm_model.specs.State.{is_mark, depth_after, part_after, is_space};
+ghost use Rattle.esm_window.specs.Scan.{is_mark, depth_after, part_after, is_space};
 ghost use Rattle.esm_window.specs.Marks.{part_of};
 
 /// Where a byte stands.

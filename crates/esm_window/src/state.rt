@@ -1,8 +1,8 @@
 ghost use Rattle.std.specs.Prelude.{◌≡◌, ◌<◌, ◌≤◌, ◌+◌, length, drop, reverse, take, IfOk, option_map, option_copied, Some};
 ghost use Rattle.std.specs.List.{prefix_len, suffix_len};
 ghost use Rattle.serde_json.specs.View.{view};
-ghost use Rattle.esm_model.specs.State.{is_space, span_between, member_state, body_state, state_read};
-ghost use Rattle.esm_window.specs.StateSpan.{state_span, IsSpanIn};
+ghost use Rattle.esm_model.specs.State.{state_read, IsSpanIn};
+ghost use Rattle.esm_window.specs.Scan.{is_space, span_between, member_state, body_state};
 
 use crate::marks::last_state;
 use crate::part::is_space;
@@ -87,8 +87,7 @@ fn value_state(alloc: Global, body: &[u8], value: &Value) -> Result<StateRead, O
 /// for `null`, and for an object without `state` or with `null` there; `Bad` for anything else. (Lambda Developer Guide,
 /// tumbling windows.)
 pub fn read_state(alloc: Global, body: &[u8]) -> Result<StateRead, OutOfMemory>
-    ensures by_grammar { IfOk result (λ read. read ≡ state_span body.now) }
-    ensures by_scan { IfOk result (λ read. read ≡ state_read body.now) }
+    ensures read { IfOk result (λ read. read ≡ state_read body.now) }
     ensures within { IfOk result (λ read. IsSpanIn body.now read) }
 {
     if body.is_empty() {

@@ -1,5 +1,5 @@
 use Rattle.std.proofs.Common.{◌+◌, drop, get_or, ◌∙◌, sym, ap, arith}
-use Rattle.esm_model.specs.State.{marks, part_after, depth_after}
+use Rattle.esm_window.specs.Scan.{marks, part_after, depth_after}
 use Rattle.esm_window.specs.Marks.{part_of, finds}
 use Rattle.esm_window.proofs.Scans.{marked, unmarked, found_at_end, still_before}
 use Rattle.esm_window.proofs.marks.last_state.Goals as goal

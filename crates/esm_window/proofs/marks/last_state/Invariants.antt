@@ -1,5 +1,5 @@
 use Rattle.std.proofs.Common.{◌≡◌, ◌≤◌, drop}
-use Rattle.esm_model.specs.State.{marks, last_state, outside}
+use Rattle.esm_window.specs.Scan.{marks, last_state, outside}
 use Rattle.esm_window.specs.Marks.{part_of, finds, IsBefore}
 use Rattle.esm_window.proofs.marks.last_state.Given as goal
 

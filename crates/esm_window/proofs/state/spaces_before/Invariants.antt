@@ -1,6 +1,6 @@
 use Rattle.std.proofs.Common.{◌≡◌, ◌+◌, ◌≤◌, take}
 use Rattle.std.specs.List.{suffix_len}
-use Rattle.esm_model.specs.State.{is_space}
+use Rattle.esm_window.specs.Scan.{is_space}
 use Rattle.esm_window.proofs.state.spaces_before.Given as goal
 
 abbrev pub invariant-loop-at : goal.invariant-loop-at

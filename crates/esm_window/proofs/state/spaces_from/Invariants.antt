@@ -1,6 +1,6 @@
 use Rattle.std.proofs.Common.{◌≡◌, ◌+◌, ◌-◌, ◌≤◌, length, drop}
 use Rattle.std.specs.List.{prefix_len}
-use Rattle.esm_model.specs.State.{is_space}
+use Rattle.esm_window.specs.Scan.{is_space}
 use Rattle.esm_window.proofs.state.spaces_from.Given as goal
 
 abbrev pub invariant-loop-at : goal.invariant-loop-at
