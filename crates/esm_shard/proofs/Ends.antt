@@ -23,8 +23,7 @@ use Rattle.esm_model.specs.declared.verdict.Verdict.{Verdict}
 use Rattle.esm_model.specs.Setting.{Setting, over, is_in_lane, sequences_at}
 use Rattle.esm_model.specs.Entries.{Call, holds, came_count, last_call, batch_of, is_running}
 use Rattle.esm_model.specs.Fates.{below, lacks_fate, open_places}
-use Rattle.esm_model.specs.Reading.{reading, run_reading, is_bad, item_reading}
-use Rattle.esm_model.specs.State.{state_read}
+use Rattle.esm_model.specs.Reading.{reading, run_reading, has_bad_state, item_reading}
 use Rattle.esm_model.specs.Ruling.{ruling}
 use Rattle.esm_model.specs.Tries.{tries, tries_of, verdict_after, verdict_on, side}
 use Rattle.esm_model.specs.Calls.{window_of_call}
@@ -38,7 +37,7 @@ use Rattle.esm_model.proofs.Steps.{debts_ended}
 use Rattle.esm_shard.specs.declared.slot.Slot.{Slot}
 use Rattle.esm_shard.specs.declared.ledger.Ledger.{Ledger}
 use Rattle.esm_shard.specs.CoreView.{CoreView, IsRunningJob}
-use Rattle.esm_shard.specs.Plain.{plain_reading, UpToWithin}
+use Rattle.esm_verdict.specs.Readings.{IsWithin}
 use Rattle.esm_shard.specs.Table.{slot_at, is_fated, marked_slot, marked_at, nothing, IsPoint}
 use Rattle.esm_shard.specs.Book.{Table, IsBook, lane_id}
 use Rattle.esm_shard.specs.Ending.{HasEnded, given_count, owed_entries}
@@ -47,33 +46,24 @@ use Rattle.esm_shard.proofs.Bridge.{no_windows}
 use Rattle.esm_shard.proofs.Books.{book_ended, no_line, true_false}
 use Rattle.esm_shard.proofs.Kept.{pushed}
 
--- readings without windows and item failures
-pub reading_plain : (c : Config) (ids : List (List ℕ)) (reply : Reply) → c.tumbling_ms ≡ 0 → c.item_failures ≡ false → reading c ids false reply ≡ plain_reading reply
-reading_plain c ids (Garbled bytes) off none = refl
-reading_plain c ids Lost off none = refl
-reading_plain c ids (Answered status error body) off none =
-    ap (λ (r : Reading). cond (not (status == 200)) NotRun (cond error Failed r)) whole ∙ turned (status == 200)
+-- without item failures the sequence numbers have no say
+pub reading_same : (c : Config) (ids others : List (List ℕ)) (closing : Bool) (reply : Reply) → c.item_failures ≡ false → reading c ids closing reply ≡ reading c others closing reply
+reading_same c ids others closing (Garbled bytes) none = refl
+reading_same c ids others closing Lost none = refl
+reading_same c ids others closing (Answered status error body) none =
+    ap (λ (r : Reading). cond (not (status == 200)) NotRun (cond error Failed r)) (whole ids ∙ sym (whole others))
   where
-    whole : run_reading c ids false body ≡ Whole
-    whole =
-        ap (λ (w : ℕ). cond (not (w == 0) && is_bad (state_read body)) Failed (cond (not c.item_failures || false) Whole (item_reading ids body))) off
-        ∙ ap (λ (f : Bool). cond (not f || false) Whole (item_reading ids body)) none
+    whole : (numbers : List (List ℕ)) → run_reading c numbers closing body ≡ cond (has_bad_state c body) Failed Whole
+    whole numbers = ap (λ (f : Bool). cond (has_bad_state c body) Failed (cond (not f || closing) Whole (item_reading numbers body))) none
 
-    turned : (b : Bool) → cond (not b) NotRun (cond error Failed Whole) ≡ cond b (cond error Failed Whole) NotRun
-    turned true = refl
-    turned false = refl
+-- of no record, so of any number of them
+pub of_none : (count : ℕ) (r : Reading) → IsWithin 0 r → IsWithin count r
+of_none count Whole w = tt
+of_none count NotRun w = tt
+of_none count Failed w = tt
+of_none count (UpTo p) w = absurd (omega (arith, w))
 
-pub plain_within : (count : ℕ) (reply : Reply) → UpToWithin count (plain_reading reply)
-plain_within count (Garbled bytes) = tt
-plain_within count Lost = tt
-plain_within count (Answered status error body) = at (status == 200) error
-  where
-    at : (a b : Bool) → UpToWithin count (cond a (cond b Failed Whole) NotRun)
-    at true true = tt
-    at true false = tt
-    at false b = tt
-
-pub ruling_within : (config : Config) (count tries : ℕ) (r : Reading) → UpToWithin count r → (ruling config count tries r).succeeded ≤ count
+pub ruling_within : (config : Config) (count tries : ℕ) (r : Reading) → IsWithin count r → (ruling config count tries r).succeeded ≤ count
 ruling_within config count tries Whole w = omega arith
 ruling_within config count tries NotRun w = omega arith
 ruling_within config count tries Failed w = elim (cases_Bool (config.bisect && nat_lt 1 count)) [ inl a ↦ rw a (omega arith) | inr b ↦ rw b (omega arith) ]
@@ -81,13 +71,13 @@ ruling_within config count tries (UpTo p) w = elim (cases_Bool config.bisect) [ 
 
 -- the ruling by the table
 pub verdict_is : (s : Setting) (h : List Entry) (t : Table) (places : List ℕ) (reply : Reply) → IsBook s h t [] → t.running ≡ true → places ≡ batch_of (last_call h (lane_id t.shard))
-    → ruling s.config (length places) (slot_at t.slots (slice_index places 0)).tries (plain_reading reply) ≡ verdict_after s h (lane_id t.shard) reply
+    → ruling s.config (length places) (slot_at t.slots (slice_index places 0)).tries (reading s.config [] false reply) ≡ verdict_after s h (lane_id t.shard) reply
 verdict_is s h t places reply b runs is =
     let ran = b.batch runs in
     let batch_is : places ≡ ran.places = is ∙ ap batch_of ran.call in
-    ap (λ (xs : List ℕ). ruling s.config (length xs) (slot_at t.slots (slice_index xs 0)).tries (plain_reading reply)) batch_is
-    ∙ ap (λ n. ruling s.config (length ran.places) n (plain_reading reply)) (b.slots (slice_index ran.places 0)).tries
-    ∙ ap (ruling s.config (length ran.places) (tries s h t.shard (slice_index ran.places 0))) (sym (reading_plain s.config (sequences_at s t.shard ran.places) reply b.plain.no_window b.plain.no_item_failures))
+    ap (λ (xs : List ℕ). ruling s.config (length xs) (slot_at t.slots (slice_index xs 0)).tries (reading s.config [] false reply)) batch_is
+    ∙ ap (λ n. ruling s.config (length ran.places) n (reading s.config [] false reply)) (b.slots (slice_index ran.places 0)).tries
+    ∙ ap (ruling s.config (length ran.places) (tries s h t.shard (slice_index ran.places 0))) (reading_same s.config [] (sequences_at s t.shard ran.places) false reply b.plain.no_item_failures)
     ∙ sym (ap (λ (o : Option Call). verdict_on s h t.shard o reply) ran.call)
 
 -- what the end makes the lane owe, by the table

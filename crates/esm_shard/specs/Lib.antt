@@ -3,7 +3,6 @@ pub mod CoreView
 pub mod Coming
 pub mod Following
 pub mod Ending
-pub mod Plain
 pub mod Table
 pub mod Book
 pub mod Ledger

@@ -8,7 +8,6 @@ mod ledger;
 mod settling;
 mod slot;
 mod stream_core;
-mod verdict;
 
 pub use esm_model::{CameError, Job, Next};
 pub use stream_core::Core;

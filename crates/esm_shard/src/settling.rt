@@ -10,8 +10,8 @@ ghost use Rattle.esm_shard.specs.Ledger.{past_of, setting_of, view_of, lane_of_l
 
 use crate::ledger::{Ledger, MAX_ENTRIES, copied, raised_to};
 use crate::slot::{fate_slots, fated_from, mark_slots};
-use crate::verdict::{judge, read};
 use esm_model::{Entry, Fate, Job, MAX_TRIES, OutOfMemory, Places, Reply, Rest, Verdict};
+use esm_verdict::{Call, judge, read_stream};
 use std::alloc::Global;
 
 /// What an answer makes of a batch.
@@ -98,7 +98,7 @@ impl Ledger {
         ensures left { IfOk result (λ parts. parts.left ≡ drop parts.verdict.succeeded places.now) }
         ensures tries { IfOk result (λ parts. parts.tries ≡ first_tries self.now places.now) }
     {
-        let verdict = self.judged(places, reply);
+        let verdict = self.judged(alloc, places, reply)?;
         let count = verdict.succeeded as usize;
         let tries = self.front_tries(places);
         Ok(Parts {
@@ -118,15 +118,17 @@ impl Ledger {
         self.slots[places[0] as usize].tries
     }
 
-    /// The ruling of an answer to the running call.
-    fn judged(&self, places: &[u32], reply: &Reply) -> Verdict
+    /// The ruling of an answer to the running call. Where no item failures are reported, the batch's sequence numbers
+    /// have no say.
+    fn judged(&self, alloc: Global, places: &[u32], reply: &Reply) -> Result<Verdict, OutOfMemory>
         requires kept { Keeps self.now }
         requires runs { RunsPlaces self.now places.now }
-        ensures verdict { IsVerdictOf self.now reply.now result }
-        ensures within { result.succeeded ≤ length places.now }
+        ensures verdict { IfOk result (IsVerdictOf self.now reply.now) }
+        ensures within { IfOk result (λ verdict. verdict.succeeded ≤ length places.now) }
     {
         let tries = self.slots[places[0] as usize].tries;
-        judge(&self.config, places.len() as u32, tries, read(reply))
+        let answer = read_stream(alloc, &self.config, &[], Call::OfBatch, reply)?;
+        Ok(judge(&self.config, places.len() as u32, tries, answer.reading))
     }
 
     /// Notes the end of the running call.
