@@ -1,0 +1,12 @@
+pub mod LaneTables
+pub mod LanePieces
+pub mod LaneEntries
+pub mod LaneGroups
+pub mod LaneCalls
+pub mod LaneMarks
+pub mod LaneArrivals
+pub mod LaneSplits
+pub mod LaneEnds
+pub mod LaneEnded
+pub mod LaneSteps
+pub mod LaneReads

@@ -1,0 +1,3 @@
+pub mod LaneView
+pub mod LaneHistory
+pub mod LaneSteps
