@@ -1,5 +1,5 @@
 -- What is read of a lane.
-use Rattle.std.proofs.Common.{◌≡◌, ℕ, zero, suc, ◌+◌, ◌<◌, ◌≤◌, Bool, true, false, cond, ◌&&◌, List, [], ◌∷◌, ◌++◌, length, take, refl, sym, ap, ◌∙◌, subst, inl, inr, Option, Some, None, arith, length-append}
+use Rattle.std.proofs.Common.{◌≡◌, ℕ, zero, suc, ◌+◌, ◌-◌, ◌<◌, ◌≤◌, Bool, true, false, cond, ◌&&◌, List, [], ◌∷◌, ◌++◌, length, take, refl, sym, ap, ◌∙◌, subst, inl, inr, Option, Some, None, arith, length-append}
 use Rattle.std.specs.Prelude.{filter, slice_index, if◌then◌else◌}
 use Rattle.std.proofs.lemmas.Bool.{cases_Bool}
 use Rattle.std.proofs.lemmas.List.Elements.{filter-append}
@@ -23,13 +23,14 @@ use Rattle.esm_model.proofs.Sound.{same_lane-true}
 use Rattle.esm_lanes.specs.Piece.{Piece, IsFront, front_length}
 use Rattle.esm_lanes.specs.Piece as piece
 use Rattle.esm_tables.specs.declared.lane_state.Running.{Running}
-use Rattle.esm_tables.specs.LaneView.{LaneView, after_came, after_arrivals, front_places}
+use Rattle.esm_tables.specs.LaneView.{LaneView, after_came, after_arrivals, front_places, running_count, after_reserved}
 use Rattle.esm_tables.specs.LaneHistory.{tags, ArePieces, owed_places, is_passing, sorted_places, places_from, arrives, arriving, standing_at, IsLane}
-use Rattle.esm_tables.specs.LaneSteps.{IsGroupOf, IsGrouped, HasCallTries, IsBounded}
+use Rattle.esm_tables.specs.LaneSteps.{IsGroupOf, IsGrouped, HasCallTries, IsBounded, ArrivalsFit}
 use Rattle.esm_lanes.specs.declared.standing.Standing.{Standing}
 use Rattle.esm_tables.proofs.LaneGroups.{opens_are, group_is, tries_are}
 use Rattle.esm_tables.proofs.LaneGroups as groups
 use Rattle.esm_tables.proofs.LaneCalls.{front_long}
+use Rattle.esm_tables.proofs.LaneArrivals.{arrived_places}
 use Rattle.esm_tables.proofs.LaneEnded.{front_tries_are}
 
 -- the group
@@ -142,13 +143,22 @@ end_in_time s (Closed at w m ∷ h) lane legal = end_in_time s h lane legal.0
 end_in_time s (Replayed n places m ∷ h) lane legal = end_in_time s h lane legal.0
 end_in_time s (Shut m ∷ h) lane legal = end_in_time s h lane legal.0
 
+called_within : (s : Setting) (h : List Entry) (lane : LaneId) (v : LaneView) → IsLane s h lane v → (o : Option Running) → v.state.running ≡ o → running_count o ≤ front_length v.kept.pieces
+called_within s h lane v is None runs = omega arith
+called_within s h lane v is (Some r) runs = (is.call r runs).within
+
 pub lane_bounded : (s : Setting) (h : List Entry) (lane : LaneId) (v : LaneView) → Legal s h → IsLane s h lane v → IsBounded h lane v
 lane_bounded s h lane v legal is =
     let few : failures s h lane + runs_one (is_running h lane) ≤ calls_begun h = few_failures s h lane legal in
     record {
       places = few_places s h lane v is;
       failures = subst (λ n. n ≤ calls_begun h) (sym is.failures) (omega (arith, few));
+      running = λ runs. (
+          let ran : is_running h lane ≡ true = is.runs ∙ runs in
+          let fewer : failures s h lane + 1 ≤ calls_begun h = rw ran at few in
+          subst (λ n. n < calls_begun h) (sym is.failures) (omega (arith, fewer)));
       last_end = subst (λ n. n ≤ MAX_MOMENT) (sym is.last_end) (end_in_time s h lane legal);
+      called = called_within s h lane v is v.state.running refl;
     }
 
 -- arrivals one by one
@@ -169,3 +179,33 @@ one_more_arrival s lane first count v =
         ≡ cond b (after_came (standing_at s lane.shard (first + count)) (first + count) (after_arrivals (standing_at s lane.shard) (arriving s lane first count) v)) (after_arrivals (standing_at s lane.shard) (arriving s lane first count) v)
     at true = refl
     at false = refl
+
+length-from : (first count : ℕ) → length (places_from first count) ≡ count
+length-from first zero = refl
+length-from first (suc count) = length-append (places_from first count) ((first + count) ∷ []) ∙ (let rest : length (places_from first count) ≡ count = length-from first count in omega arith)
+
+adds_left : (standing : ℕ → Standing) (is : List ℕ) (v : LaneView) → v.kept.adds ≤ (after_arrivals standing is v).kept.adds + length is
+adds_left standing [] v = omega arith
+adds_left standing (i ∷ is) v = (let rest : v.kept.adds - 1 ≤ (after_arrivals standing is (after_came (standing i) i v)).kept.adds + length is = adds_left standing is (after_came (standing i) i v) in omega (arith, rest))
+
+pub arrivals_fit : (s : Setting) (lane : LaneId) (first count : ℕ) (v : LaneView) → ArrivalsFit s lane first count v (after_arrivals (standing_at s lane.shard) (arriving s lane first count) v)
+arrivals_fit s lane first count v =
+    let standing = standing_at s lane.shard in
+    let is = arriving s lane first count in
+    let few : length (arriving s lane first count) ≤ length (places_from first count) = filter_few (arrives s lane) (places_from first count) in
+    let long : length (places_from first count) ≡ count = length-from first count in
+    let places : length (piece.open_places (after_arrivals standing is v).kept.pieces) ≡ length (piece.open_places v.kept.pieces) + length is = ap length (arrived_places standing is v) ∙ length-append (piece.open_places v.kept.pieces) is in
+    let adds = adds_left standing is v in
+    record { places = omega (arith, few, long, places); adds = omega (arith, few, long, adds) }
+
+-- what is reserved is not looked at
+
+pub lane_reserved : (s : Setting) (h : List Entry) (lane : LaneId) (adds splits : ℕ) (v : LaneView) → IsLane s h lane v → IsLane s h lane (after_reserved adds splits v)
+lane_reserved s h lane adds splits v is = record {
+  places = is.places;
+  pieces = is.pieces;
+  runs = is.runs;
+  call = λ r runs. (let c = is.call r runs in record { call = c.call; last = c.last; places = c.places; within = c.within; closing = c.closing; final = c.final });
+  failures = is.failures;
+  last_end = is.last_end;
+}

@@ -1,5 +1,5 @@
 -- What one more entry makes of a lane that is kept, and what is read of it. This product's own.
-use Rattle.std.specs.Prelude.{◌≡◌, ℕ, ◌≤◌, ◌==◌, Bool, List, [], ◌∷◌, length, Some, if◌then◌else◌, slice_index}
+use Rattle.std.specs.Prelude.{◌≡◌, ℕ, ◌+◌, ◌<◌, ◌≤◌, ◌==◌, Bool, List, [], ◌∷◌, length, Some, if◌then◌else◌, slice_index, IsSome}
 use Rattle.esm_model.specs.declared.moment.TheConstants.{MAX_MOMENT}
 use Rattle.esm_model.specs.Lane.{same_lane}
 use Rattle.esm_model.specs.declared.lane.LaneId.{LaneId}
@@ -11,10 +11,10 @@ use Rattle.esm_model.specs.Entries.{Call, came_count, calls_begun, last_call}
 use Rattle.esm_model.specs.Fates.{open_places}
 use Rattle.esm_model.specs.Tries.{tries, tries_of, is_fresh, verdict_after}
 use Rattle.esm_model.specs.Batches.{group}
-use Rattle.esm_lanes.specs.Piece.{IsFront}
+use Rattle.esm_lanes.specs.Piece.{IsFront, front_length}
 use Rattle.esm_lanes.specs.Piece as piece
 use Rattle.esm_tables.specs.declared.lane_state.Running.{Running}
-use Rattle.esm_tables.specs.LaneView.{LaneView, empty_view, front_places, front_tries, after_arrivals, after_began, after_ended, after_expired}
+use Rattle.esm_tables.specs.LaneView.{LaneView, empty_view, front_places, front_tries, running_count, after_arrivals, after_began, after_ended, after_expired}
 use Rattle.esm_tables.specs.LaneHistory.{arriving, standing_at}
 
 -- records of its shard come, a call of it begins or ends, or records of it expire; every other entry leaves it
@@ -46,8 +46,16 @@ pub record IsGrouped (s : Setting) (h : List Entry) (lane : LaneId) (v : LaneVie
 abbrev pub HasCallTries : Setting → List Entry → LaneId → LaneView → Running → Type 0
 HasCallTries s h lane v r = (call : Call) → last_call h lane ≡ Some call → tries_of s h lane.shard call ≡ front_tries v.kept.pieces
 
--- no more places than records came, no more failures than calls began, and the last end is a moment
+-- no more places than records came, no more failures than calls began, fewer while a call runs; the last end is a
+-- moment, and a call has no more places than the front piece
 pub record IsBounded (h : List Entry) (lane : LaneId) (v : LaneView) : Type 0 where
   pub places : length (piece.open_places v.kept.pieces) ≤ came_count h lane.shard
   pub failures : v.state.failures ≤ calls_begun h
+  pub running : IsSome v.state.running → v.state.failures < calls_begun h
   pub last_end : v.state.last_end ≤ MAX_MOMENT
+  pub called : running_count v.state.running ≤ front_length v.kept.pieces
+
+-- so many records that come add no more places than so, and use no more of the arrivals that are reserved
+pub record ArrivalsFit (s : Setting) (lane : LaneId) (first count : ℕ) (before after : LaneView) : Type 0 where
+  pub places : length (piece.open_places after.kept.pieces) ≤ length (piece.open_places before.kept.pieces) + count
+  pub adds : before.kept.adds ≤ after.kept.adds + count

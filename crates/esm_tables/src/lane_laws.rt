@@ -9,9 +9,9 @@ ghost use Rattle.esm_model.specs.Batches.{delay_end, delay_from};
 ghost use Rattle.esm_model.specs.Owed.{debts, unsorted};
 ghost use Rattle.esm_model.specs.Step.{Legal};
 ghost use Rattle.esm_tables.specs.declared.lane_state.Running.{Running};
-ghost use Rattle.esm_tables.specs.LaneView.{LaneView, empty_view, after_came, after_arrivals};
+ghost use Rattle.esm_tables.specs.LaneView.{LaneView, empty_view, after_came, after_arrivals, after_reserved};
 ghost use Rattle.esm_tables.specs.LaneHistory.{IsLane, HasFoundTries, arrives, arriving, standing_at};
-ghost use Rattle.esm_tables.specs.LaneSteps.{after_entry, lane_told, IsGrouped, HasCallTries, IsBounded};
+ghost use Rattle.esm_tables.specs.LaneSteps.{after_entry, lane_told, IsGrouped, HasCallTries, IsBounded, ArrivalsFit};
 
 /// A lane of a shard of which no record came is empty.
 pub fn lane_begins()
@@ -52,4 +52,14 @@ pub fn lane_is_bounded()
 /// The records of a `Came` may be looked at one by one: each that arrives in the lane is added.
 pub fn arrivals_are_added()
     ensures { (s : Setting) (lane : LaneId) (first count : ℕ) (v : LaneView) → let standing = standing_at s lane.shard in let before = after_arrivals standing (arriving s lane first count) v in let place = first + count in after_arrivals standing (arriving s lane first (suc count)) v ≡ (if arrives s lane place then after_came (standing place) place before else before) }
+{}
+
+/// Records that come fit where so many arrivals are reserved.
+pub fn arrivals_do_fit()
+    ensures { (s : Setting) (lane : LaneId) (first count : ℕ) (v : LaneView) → ArrivalsFit s lane first count v (after_arrivals (standing_at s lane.shard) (arriving s lane first count) v) }
+{}
+
+/// A lane stays as the history says where memory is reserved for it.
+pub fn reserve_keeps_lane()
+    ensures { (s : Setting) (h : List Entry) (lane : LaneId) (adds splits : ℕ) (v : LaneView) → IsLane s h lane v → IsLane s h lane (after_reserved adds splits v) }
 {}

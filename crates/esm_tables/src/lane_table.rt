@@ -1,7 +1,5 @@
 ghost use Rattle.std.specs.Prelude.{◌≡◌, ◌≢◌, ℕ, ◌+◌, ◌<◌, ◌≤◌, ◌↔◌, [], length, take, OnOk, OnErr, IsOk, IfOk, IsNone, IfSome};
 ghost use Rattle.esm_model.specs.declared.limits.TheConstants.{MAX_LANES, MAX_TRIES};
-ghost use Rattle.esm_model.specs.declared.moment.TheConstants.{MAX_MOMENT};
-ghost use Rattle.esm_model.specs.Batches.{delay_from};
 ghost use Rattle.esm_lanes.specs.Piece.{IsFront, open_places, front_length};
 ghost use Rattle.esm_tables.specs.LaneView as spec;
 
@@ -164,20 +162,11 @@ impl LaneTable {
         }
     }
 
-    /// The call that runs.
-    pub fn running(&self, lane: u32) -> Option<Running>
-        requires known { lane < length self.now.lanes }
-        ensures { result ≡ (spec.lane_in self.now lane).state.running }
+    /// The call that runs, and what the delay is computed from.
+    pub fn state(&self, lane: u32) -> LaneState
+        requires { lane < length self.now.lanes }
+        ensures { result ≡ (spec.lane_in self.now lane).state }
     {
-        self.states[lane as usize].running
-    }
-
-    /// The moment at which the lane's delay runs out, in milliseconds; 0 where there is none.
-    pub fn delay_end(&self, lane: u32) -> u64
-        requires known { lane < length self.now.lanes }
-        requires in_time { (spec.lane_in self.now lane).state.last_end ≤ MAX_MOMENT }
-        ensures { let state = (spec.lane_in self.now lane).state in result ≡ delay_from state.failures state.last_end }
-    {
-        self.states[lane as usize].delay_end()
+        self.states[lane as usize]
     }
 }

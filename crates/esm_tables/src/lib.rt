@@ -4,9 +4,13 @@
 #![tactic(auto)]
 
 mod lane_end;
-mod lane_laws;
+pub mod lane_laws;
 mod lane_state;
 mod lane_table;
 
+pub use esm_lanes::Front;
 pub use lane_state::{LaneState, Running};
 pub use lane_table::LaneTable;
+
+#[cfg(test)]
+mod lane_tests;
