@@ -65,7 +65,7 @@ first_of_take zero xs some within = absurd (omega arith)
 first_of_take (suc k) [] some within = absurd (omega arith)
 first_of_take (suc k) (x ∷ xs) some within = In-here x xs x refl
 
-pub lane_call_tries : (s : Setting) (h : List Entry) (lane : LaneId) (v : LaneView) (r : Running) → IsLane s h lane v → v.state.running ≡ Some r → 1 ≤ r.count → HasCallTries s h lane v r
+pub lane_call_tries : (s : Setting) (h : List Entry) (lane : LaneId) (v : LaneView) (r : Running) → IsLane s h lane v → v.state.running ≡ Some r → 1 ≤ r.count → HasCallTries s h lane v
 lane_call_tries s h lane v r is runs some call last =
     let c = is.call r runs in
     let same : c.call ≡ call = one (sym c.last ∙ last) in

@@ -10,3 +10,4 @@ pub mod LaneEnds
 pub mod LaneEnded
 pub mod LaneSteps
 pub mod LaneReads
+pub mod LaneOver

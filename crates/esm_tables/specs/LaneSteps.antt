@@ -13,7 +13,6 @@ use Rattle.esm_model.specs.Tries.{tries, tries_of, is_fresh, verdict_after}
 use Rattle.esm_model.specs.Batches.{group}
 use Rattle.esm_lanes.specs.Piece.{IsFront, front_length}
 use Rattle.esm_lanes.specs.Piece as piece
-use Rattle.esm_tables.specs.declared.lane_state.Running.{Running}
 use Rattle.esm_tables.specs.LaneView.{LaneView, empty_view, front_places, front_tries, running_count, after_arrivals, after_began, after_ended, after_expired}
 use Rattle.esm_tables.specs.LaneHistory.{arriving, standing_at}
 
@@ -42,9 +41,9 @@ pub record IsGrouped (s : Setting) (h : List Entry) (lane : LaneId) (v : LaneVie
   pub group : group s h lane ≡ front_places v.kept.pieces
   pub front : (places : List ℕ) (fresh : Bool) (count : ℕ) → IsFront v.kept.pieces places fresh count → IsGroupOf s h lane places fresh count
 
--- the call that runs, where it is of a batch, has the tries of the front piece
-abbrev pub HasCallTries : Setting → List Entry → LaneId → LaneView → Running → Type 0
-HasCallTries s h lane v r = (call : Call) → last_call h lane ≡ Some call → tries_of s h lane.shard call ≡ front_tries v.kept.pieces
+-- the lane's last call has the tries of the front piece
+abbrev pub HasCallTries : Setting → List Entry → LaneId → LaneView → Type 0
+HasCallTries s h lane v = (call : Call) → last_call h lane ≡ Some call → tries_of s h lane.shard call ≡ front_tries v.kept.pieces
 
 -- no more places than records came, no more failures than calls began, fewer while a call runs; the last end is a
 -- moment, and a call has no more places than the front piece

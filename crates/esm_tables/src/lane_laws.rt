@@ -3,7 +3,7 @@
 ghost use Rattle.std.specs.Prelude.{◌≡◌, ℕ, suc, ◌+◌, ◌≤◌, [], List, ◌∷◌, Some, if◌then◌else◌};
 ghost use Rattle.esm_model.specs.declared.lane.LaneId.{LaneId};
 ghost use Rattle.esm_model.specs.declared.entry.Entry.{Entry};
-ghost use Rattle.esm_model.specs.Setting.{Setting};
+ghost use Rattle.esm_model.specs.Setting.{Setting, Stream, Extends, over};
 ghost use Rattle.esm_model.specs.Entries.{came_count};
 ghost use Rattle.esm_model.specs.Batches.{delay_end, delay_from};
 ghost use Rattle.esm_model.specs.Owed.{debts, unsorted};
@@ -36,7 +36,7 @@ pub fn lane_is_grouped()
 
 /// The tries of a batch that runs are those of the front piece.
 pub fn call_has_tries()
-    ensures { (s : Setting) (h : List Entry) (lane : LaneId) (v : LaneView) (r : Running) → IsLane s h lane v → v.state.running ≡ Some r → 1 ≤ r.count → HasCallTries s h lane v r }
+    ensures { (s : Setting) (h : List Entry) (lane : LaneId) (v : LaneView) (r : Running) → IsLane s h lane v → v.state.running ≡ Some r → 1 ≤ r.count → HasCallTries s h lane v }
 {}
 
 /// The lane's delay is computed from what is kept of it.
@@ -62,4 +62,14 @@ pub fn arrivals_do_fit()
 /// A lane stays as the history says where memory is reserved for it.
 pub fn reserve_keeps_lane()
     ensures { (s : Setting) (h : List Entry) (lane : LaneId) (adds splits : ℕ) (v : LaneView) → IsLane s h lane v → IsLane s h lane (after_reserved adds splits v) }
+{}
+
+/// Over lists of records that go on from its own, a lane says the same.
+pub fn lane_over_more_records()
+    ensures { (s : Setting) (after : List Stream) (h : List Entry) (lane : LaneId) (v : LaneView) → Extends s.streams after → Legal s h → IsLane s h lane v → IsLane (over s after) h lane v }
+{}
+
+/// And an entry makes the same of it.
+pub fn entry_over_more_records()
+    ensures { (s : Setting) (after : List Stream) (h : List Entry) (e : Entry) (lane : LaneId) (v : LaneView) → Extends s.streams after → Legal s (e ∷ h) → after_entry (over s after) h lane v e ≡ after_entry s h lane v e }
 {}
