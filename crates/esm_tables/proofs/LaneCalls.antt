@@ -71,12 +71,6 @@ call_begun s h lane places closing m v owes cut final is = record {
   last_end = is.last_end;
 }
   where
-    e : Entry
-    e = Began lane places closing m
-
-    begun : Running
-    begun = record { count = length places; closing = closing }
-
     none_owed : debts s (Began lane places closing m ∷ h) lane ≡ []
     none_owed = rw (same_lane-refl lane) refl
 

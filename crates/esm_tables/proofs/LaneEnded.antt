@@ -182,7 +182,6 @@ module _ (s : Setting) (h : List Entry) (lane : LaneId) (reply : Reply) (m : ℕ
   -- and the second: none of it is in the first
   second_out : (n i : ℕ) → In (drop (min n left) (take left (front_places cut))) i → holds (take n behind) i ≡ false
   second_out n i member = not_in (take n behind) i (λ inside.
-      let rest_of = take left (front_places cut) in
       let distinct : Distinct (take (min n left) (take left (front_places cut)) ++ drop (min n left) (take left (front_places cut)))
       = subst Distinct (sym (take-append-drop (min n left) (take left (front_places cut)))) (subst Distinct (sym (front_is ∙ behind_is)) (distinct_take left (piece.open_places cut) cut_distinct)) in
       Distinct-apart (take (min n left) (take left (front_places cut))) (drop (min n left) (take left (front_places cut))) i distinct (subst (λ xs. In xs i) (sym (first_is n)) inside) member)

@@ -85,9 +85,7 @@ pub halved_pieces : (g k : Tags) (at tries n left : ℕ) (ps : List Piece) → 0
 halved_pieces g k at tries n left [] some low within are first second others = absurd (omega arith)
 halved_pieces g k at tries n left (p ∷ rest) some low within are first second others =
     let long : length (take left p.places) ≡ left = length-take-le left p.places within in
-    let front : length (take n (take left p.places)) ≡ n = length-take-le n (take left p.places) (omega (arith, long)) in
-    let behind = shortened left (p ∷ rest) in
-    let half = rest_of n (first_of left tries p) in (
+    let front : length (take n (take left p.places)) ≡ n = length-take-le n (take left p.places) (omega (arith, long)) in (
       split_piece k at 0 tries (take n (take left p.places)) (omega (arith, front)) first,
       apart_all k (first_of n tries (first_of left tries p)) (ahead_of (rest_of n (first_of left tries p)) (shortened left (p ∷ rest))) (λ i j a b. elim (ahead_In (rest_of n (first_of left tries p)) (shortened left (p ∷ rest)) j b) [
         | inl here ↦ two_sides k at tries i j (first i a) (second j here)

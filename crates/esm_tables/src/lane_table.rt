@@ -93,7 +93,7 @@ impl LaneTable {
         }
     }
 
-    /// A call of the lane begins.
+    /// A call of the lane begins: of so many places of its front piece, or a final call of none.
     pub fn begin(&mut self, lane: u32, running: Running)
         requires known { lane < length self.old.lanes }
         ensures lane { spec.lane_in self.new lane ≡ spec.after_began running (spec.lane_in self.old lane) }
@@ -105,7 +105,8 @@ impl LaneTable {
     }
 
     /// The call that runs ends at this moment, in milliseconds, with this verdict: what succeeded or is given up goes,
-    /// and what is tried again or halved is set apart. Within the splits that are reserved; takes no memory.
+    /// and what is tried again or halved is set apart (Lambda Developer Guide, error handling for Kinesis). Within the
+    /// splits that are reserved; takes no memory.
     pub fn end(&mut self, alloc: Global, lane: u32, verdict: Verdict, moment: u64)
         requires known { lane < length self.old.lanes }
         requires within { spec.running_count (spec.lane_in self.old lane).state.running ≤ front_length (spec.lane_in self.old lane).kept.pieces }
@@ -120,7 +121,8 @@ impl LaneTable {
         self.states[lane as usize] = state.ended(verdict.rest, moment);
     }
 
-    /// The first so many records of the front piece expire. Takes no memory.
+    /// The first so many records of the front piece expire (Lambda Developer Guide, `MaximumRecordAgeInSeconds`).
+    /// Takes no memory.
     pub fn expire(&mut self, lane: u32, count: u32)
         requires known { lane < length self.old.lanes }
         requires within { count ≤ front_length (spec.lane_in self.old lane).kept.pieces }

@@ -8,7 +8,6 @@ pub returns-in-Split : goal.returns-in-Split
 returns-in-Split c =
     let old = c.args.lanes.now in
     let tries = c.front_tries_of-tries-in-Split.result in
-    let lane = lane_at c.args.lanes.now c.args.lane in
     twice old c.split_off-in-Split.new.lanes c.split_off-in-Split-2.new.lanes c.args.lane (set_apart c.args.left tries) (set_apart c.min-in-Split.result tries) c.requires.known c.split_off-in-Split.ensures c.split_off-in-Split-2.ensures
     ∙ ap (λ n. slice_set c.args.lanes.now c.args.lane (set_apart n c.front_tries_of-tries-in-Split.result (set_apart c.args.left c.front_tries_of-tries-in-Split.result (lane_at c.args.lanes.now c.args.lane)))) c.min-in-Split.ensures
     ∙ ap (λ t. slice_set c.args.lanes.now c.args.lane (set_apart (min c.in-Split.first c.args.left) t (set_apart c.args.left t (lane_at c.args.lanes.now c.args.lane)))) c.front_tries_of-tries-in-Split.ensures
