@@ -2,7 +2,7 @@
 use Rattle.std.proofs.Common.{◌≡◌, ℕ, zero, suc, ◌<◌, ◌≤◌, Bool, true, false, not, ◌&&◌, List, [], ◌∷◌, length, get_or, set, take, map, refl, sym, ap, ap₂, ◌∙◌, subst, inl, inr, arith, Option, Some, None}
 use Rattle.std.specs.Prelude.{◌==◌, count_by, filter, nat_lt, nat_le, slice_index, slice_get, option_map, unwrap_or}
 use Rattle.std.proofs.lemmas.List.{map-set, length-map, length-set, get_or-set_same}
-use Rattle.std.proofs.lemmas.Bool.{cases_Bool, cases_lt, or_left, or_right, eq-eqb, cond-true, cond-false, le-ltb, lt-ltb, le-leb, lt-leb, and_left, both_ways, not_from_true, not_from_false, or_cases, and_parts, not-true}
+use Rattle.std.proofs.lemmas.Bool.{cases_Bool, cases_lt, or_left, or_right, eq-eqb, cond-true, cond-false, le-ltb, lt-ltb, le-leb, lt-leb, and_left, and_from, ltb-false, both_ways, not_from_true, not_from_false, or_cases, and_parts, not-true}
 use Rattle.std.proofs.lemmas.Option.{none-some, same_Some}
 use Rattle.esm_model.specs.declared.moment.TheConstants.{MAX_MOMENT}
 use Rattle.esm_model.specs.Moment.{moment_after}
@@ -83,38 +83,21 @@ leaf_at v [] i x at = absurd (none-some x at)
 leaf_at v (y ∷ xs) zero x at = ap (leaf v) (same_Some y x at)
 leaf_at v (y ∷ xs) (suc i) x at = leaf_at v xs i x at
 
--- in a standard queue the eligible messages are those that show
-reached_is : (q : QueueState) (m i : ℕ) (o : Option Stored) → q.fifo ≡ false → m ≤ MAX_MOMENT → stored_at q i ≡ o → i < length q.messages → is_reached (leaves q.visibility q.messages) m i ≡ is_eligible q m i
-reached_is q m i None standard low at within = absurd (past q.messages i within at)
-  where
-    past : (xs : List Stored) (i : ℕ) → i < length xs → slice_get xs i ≡ None → ⊥
-    past [] i l at = omega arith
-    past (x ∷ xs) zero l at = none-some x (sym at)
-    past (x ∷ xs) (suc i) l at = past xs i (omega arith) at
-reached_is q m i (Some x) standard low at within =
-    let v = q.visibility in
-    let here : slice_index (leaves v q.messages) i ≡ leaf v x = leaf_at v q.messages i x at in
-    let eligible : is_eligible q m i ≡ is_shown v m x = ap (λ (o : Option Stored). unwrap_or (option_map (is_receivable q m (take i q.messages)) o) false) at ∙ rw standard (shown_only (is_shown v m x)) in
-    ap (λ n. nat_le n m) here ∙ (reaches v x ∙ sym eligible)
-  where
-    shown_only : (b : Bool) → (b && true) ≡ b
-    shown_only true = refl
-    shown_only false = refl
+-- the moment of a message has come where it is shown
 
-    reaches : (v : ℕ) (x : Stored) → nat_le (leaf v x) m ≡ is_shown v m x
-    reaches v x =
-        elim (cases_Bool x.deleted) [
-          | inl deleted ↦ ap (λ n. nat_le n m) (leaf_deleted v x deleted) ∙ (lt-leb NEVER m (let b = never_late in omega arith) ∙ sym (and_left (not x.deleted) (not (is_hidden v m x)) (not_from_true x.deleted deleted)))
-          | inr alive ↦ ap (λ n. nat_le n m) (leaf_alive v x alive) ∙ elim (cases_lt m (show_after v x.last)) [
-            | inl hidden ↦ lt-leb (show_after v x.last) m hidden ∙ sym (rw (not_from_false x.deleted alive, lt-ltb m (show_after v x.last) hidden) refl)
-            | inr shown ↦ le-leb (show_after v x.last) m shown ∙ sym (rw (not_from_false x.deleted alive, le-ltb m (show_after v x.last) shown) refl)
-          ]
-        ]
+pub leaf_shown : (v m : ℕ) (x : Stored) → is_shown v m x ≡ true → leaf v x ≤ m
+leaf_shown v m x shown =
+    let parts = and_parts (not x.deleted) (not (is_hidden v m x)) shown in
+    let e = leaf_alive v x (not-true x.deleted parts.0) in
+    let low : show_after v x.last ≤ m = ltb-false m (show_after v x.last) (not-true (is_hidden v m x) parts.1) in
+    omega arith
 
-pub receivable_shown : (q : QueueState) (m max : ℕ) → q.fifo ≡ false → m ≤ MAX_MOMENT → take max (filter (is_reached (leaves q.visibility q.messages) m) (below (length (leaves q.visibility q.messages)))) ≡ receivable q m max
-receivable_shown q m max standard low =
-    ap (λ n. take max (filter (is_reached (leaves q.visibility q.messages) m) (below n))) (length-map q.messages (leaf q.visibility))
-    ∙ ap (take max) (filter_same_below (is_reached (leaves q.visibility q.messages) m) (is_eligible q m) (length q.messages) (λ i l. reached_is q m i (stored_at q i) standard low refl l))
+pub shown_leaf : (v m : ℕ) (x : Stored) → m ≤ MAX_MOMENT → leaf v x ≤ m → is_shown v m x ≡ true
+shown_leaf v m x early come =
+    elim (cases_Bool x.deleted) [
+      | inl deleted ↦ (let e = leaf_deleted v x deleted in let late = never_late in absurd (omega arith))
+      | inr alive ↦ (let e = leaf_alive v x alive in and_from (not x.deleted) (not (is_hidden v m x)) (not_from_false x.deleted alive) (not_from_false (is_hidden v m x) (le-ltb m (show_after v x.last) (omega arith))))
+    ]
 
 -- what may be received is not deleted
 

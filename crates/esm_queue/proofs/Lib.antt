@@ -3,4 +3,12 @@ pub mod Fronts
 pub mod Trees
 pub mod Counting
 pub mod Leaves
-pub mod Blocking
+pub mod Places
+pub mod Linking
+pub mod Grouping
+pub mod Naming
+pub mod Removing
+pub mod Heads
+pub mod Eligible
+pub mod Waiting
+pub mod Keeping

@@ -5,5 +5,8 @@ pub mod Nodes
 pub mod Tree
 pub mod Counted
 pub mod Timeline
-pub mod Blocked
+pub mod Links
+pub mod Names
+pub mod Groups
+pub mod Waiting
 pub mod Kept

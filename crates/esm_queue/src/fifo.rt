@@ -1,12 +1,17 @@
-ghost use Rattle.std.specs.Prelude.{◌≡◌, ℕ, ◌≤◌, ◌<◌, ◌&&◌, ◌||◌, ◌++◌, ◌∷◌, [], not, List, length, true, false, IfOk, OnOk, if◌then◌else◌};
-ghost use Rattle.std.specs.BTreeSet.{contains_text};
+ghost use Rattle.std.specs.Prelude.{◌≡◌, ℕ, ◌≤◌, ◌<◌, ◌&&◌, ◌||◌, ◌==◌, not, List, length, true, false, IfOk, OnOk, IfSome, IsNone, Option, Some, None, nat_le, slice_index};
+ghost use Rattle.std.specs.Ordering.{nat_cmp};
+ghost use Rattle.std.specs.BTreeSet.{contains};
+ghost use Rattle.esm_model.specs.declared.moment.TheConstants.{MAX_MOMENT};
 ghost use Rattle.esm_queue_model.specs.Queue as spec;
-ghost use Rattle.esm_queue.specs.Moments.{leaves};
-ghost use Rattle.esm_queue.specs.Blocked.{is_named, is_blocked};
+ghost use Rattle.esm_queue.specs.Moments.{leaf, leaves};
+ghost use Rattle.esm_queue.specs.Groups.{IsGrouped, IsHeadedBy};
+ghost use Rattle.esm_queue.specs.Waiting.{IsLeast, is_place, next_shown};
 
+use crate::groups::Groups;
+use crate::links::Link;
 use crate::marking::moment_after;
-use crate::timeline::Timeline;
-use esm_model::{MAX_MOMENT, OutOfMemory};
+use crate::moment_tree::NEVER;
+use esm_model::OutOfMemory;
 use esm_queue_model::Stored;
 use std::alloc::Global;
 use std::collections::BTreeSet;
@@ -21,80 +26,79 @@ fn shows_at(stored: &Stored, visibility_ms: u64) -> u64
     }
 }
 
-fn is_in_flight(stored: &Stored, visibility_ms: u64, now: u64) -> bool
-    ensures { result ≡ spec.is_in_flight visibility_ms now stored.now }
+/// The moment at which the message shows, `NEVER` where it is deleted.
+pub fn moment_of(stored: &Stored, visibility_ms: u64) -> u64
+    ensures { result ≡ leaf visibility_ms stored.now }
 {
-    !stored.deleted && now < shows_at(stored, visibility_ms)
-}
-
-/// The message's group is one of the names.
-fn is_blocked(names: &BTreeSet<String>, stored: &Stored) -> bool
-    ensures { result ≡ is_blocked names.now stored.now.message.group }
-{
-    match &stored.message.group {
-        None => false,
-        Some(name) => names.contains(name.as_str()),
+    if stored.deleted {
+        NEVER
+    } else {
+        shows_at(stored, visibility_ms)
     }
 }
 
-/// The message's group is one of the names from now on.
-fn block(alloc: Global, names: &mut BTreeSet<String>, stored: &Stored) -> Result<(), OutOfMemory>
-    ensures { OnOk result ((t : List ℕ) → contains_text names.new t ≡ (is_named t stored.now || contains_text names.old t)) }
+/// The lesser of the next head and the first place that waits.
+fn least(head: Option<u32>, waiting: &BTreeSet<u32>) -> Option<u32>
+    ensures { IsLeast head (contains nat_cmp waiting.now) result }
 {
-    match &stored.message.group {
-        None => Ok(()),
-        Some(name) => {
-            let name = String::from_str(alloc, name.as_str())?;
-            names.insert(name)?;
-            Ok(())
-        }
+    match (head, waiting.first()) {
+        (None, None) => None,
+        (None, Some(first)) => Some(*first),
+        (Some(head), None) => Some(head),
+        (Some(head), Some(first)) => Some(head.min(*first)),
     }
 }
 
-/// The next message that is not deleted: in flight it blocks its group, else it is given where its group is not blocked.
-fn take_message(
-    alloc: Global,
-    places: &mut Vec<u32>,
-    names: &mut BTreeSet<String>,
-    place: u32,
-    stored: &Stored,
-    in_flight: bool,
-) -> Result<(), OutOfMemory>
-    ensures places { OnOk result (places.new.items ≡ (if not in_flight && not (is_blocked names.old stored.now.message.group) then places.old.items ++ place ∷ [] else places.old.items)) }
-    ensures names { OnOk result ((t : List ℕ) → contains_text names.new t ≡ ((is_named t stored.now && in_flight) || contains_text names.old t)) }
+/// The next message of the link's group, if it shows at the moment.
+fn next_shown(messages: &[Stored], link: &Link, visibility_ms: u64, now: u64) -> Option<u32>
+    ensures { result ≡ next_shown now (leaves visibility_ms messages.now) link.now.next }
 {
-    if in_flight {
-        return block(alloc, names, stored);
+    if (link.next as usize) < messages.len()
+        && moment_of(&messages[link.next as usize], visibility_ms) <= now
+    {
+        return Some(link.next);
     }
-    if !is_blocked(names, stored) {
-        places.push(place)?;
+    None
+}
+
+/// The place is given, and the next one of its group, if there is one, waits.
+fn pass(waiting: &mut BTreeSet<u32>, place: u32, next: Option<u32>) -> Result<(), OutOfMemory>
+    ensures { OnOk result ((k : ℕ) → contains nat_cmp waiting.new k ≡ (is_place next k || (contains nat_cmp waiting.old k && not (k == place)))) }
+{
+    let _ = waiting.remove(&place);
+    if let Some(next) = next {
+        waiting.insert(next)?;
     }
     Ok(())
 }
 
-/// The first places, so many at most, of the messages of a FIFO queue that may be received at the moment. It looks at
-/// no deleted message.
+/// The first places, so many at most, of the messages that may be received at the moment. Each but the first of its
+/// group waits until the one before it is given, so that no other message is looked at.
 pub fn first_places(
     alloc: Global,
     messages: &[Stored],
-    shows: &Timeline,
+    groups: &Groups,
     visibility_ms: u64,
     now: u64,
     max: u32,
 ) -> Result<Vec<u32>, OutOfMemory>
-    requires shown { shows.now.moments ≡ leaves visibility_ms messages.now }
-    ensures { IfOk result (λ places. places.items ≡ spec.receivable (record { fifo = true; visibility = visibility_ms; messages = messages.now }) now max) }
+    requires grouped { IsGrouped messages.now groups.now }
+    requires headed { IsHeadedBy (leaves visibility_ms messages.now) groups.now }
+    requires few { length messages.now ≤ u32.MAX }
+    requires early { now ≤ MAX_MOMENT }
+    ensures { IfOk result (λ places. places.items ≡ spec.receivable (record { fifo = groups.now.fifo; visibility = visibility_ms; messages = messages.now }) now max) }
 {
     let mut places = Vec::new(alloc);
-    let mut names = BTreeSet::new(alloc);
+    let mut waiting = BTreeSet::new(alloc);
     let mut from = 0;
     while places.len() < max as usize {
-        match shows.first_from(from, MAX_MOMENT) {
+        match least(groups.heads.first_from(from, now), &waiting) {
             None => return Ok(places),
             Some(place) => {
-                let stored = &messages[place as usize];
-                let in_flight = is_in_flight(stored, visibility_ms, now);
-                take_message(alloc, &mut places, &mut names, place, stored, in_flight)?;
+                let link = groups.links[place as usize];
+                let next = next_shown(messages, &link, visibility_ms, now);
+                pass(&mut waiting, place, next)?;
+                places.push(place)?;
                 from = place + 1;
             }
         }

@@ -5,8 +5,11 @@
 
 mod copying;
 mod fifo;
+mod groups;
+mod links;
 mod marking;
 mod moment_tree;
+mod names;
 mod queue;
 mod timeline;
 

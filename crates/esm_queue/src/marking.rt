@@ -3,7 +3,9 @@ ghost use Rattle.esm_model.specs.Moment.{moment_after};
 ghost use Rattle.esm_queue_model.specs.Queue.{received_once, changed_from};
 ghost use Rattle.esm_queue.specs.Receiving.{IsRising};
 ghost use Rattle.esm_queue.specs.Moments.{AreAlive, leaves};
+ghost use Rattle.esm_queue.specs.Groups.{IsHeadedBy};
 
+use crate::groups::Groups;
 use crate::timeline::Timeline;
 use esm_model::{MAX_MOMENT, OutOfMemory};
 use esm_queue_model::Stored;
@@ -29,6 +31,7 @@ fn receive_one(stored: &mut Stored, now: u64)
 pub fn receive_all(
     messages: &mut [Stored],
     shows: &mut Timeline,
+    groups: &mut Groups,
     places: &[u32],
     now: u64,
     visibility_ms: u64,
@@ -37,14 +40,22 @@ pub fn receive_all(
     requires rising { IsRising 0 places.now }
     requires alive { AreAlive messages.old places.now }
     requires shown { shows.old.moments ≡ leaves visibility_ms messages.old }
+    requires headed { IsHeadedBy (leaves visibility_ms messages.old) groups.old }
+    requires linked { length groups.old.links.items ≡ length messages.old }
     ensures ok { OnOk result (messages.new ≡ changed_from (received_once now) places.now 0 messages.old) }
     ensures err { OnErr result (messages.new ≡ messages.old) }
     ensures shown { shows.new.moments ≡ leaves visibility_ms messages.new }
     ensures spare { shows.new.spare ≡ shows.old.spare }
+    ensures headed { IsHeadedBy (leaves visibility_ms messages.new) groups.new }
+    ensures kind { groups.new.fifo ≡ groups.old.fifo }
+    ensures links { groups.new.links ≡ groups.old.links }
+    ensures buckets { groups.new.buckets ≡ groups.old.buckets }
+    ensures room { groups.new.heads.spare ≡ groups.old.heads.spare }
 {
     let show = moment_after(now, visibility_ms);
     for &place in places {
         shows.set(place, show)?;
+        groups.show(place, show);
         receive_one(&mut messages[place as usize], now);
     }
     Ok(())

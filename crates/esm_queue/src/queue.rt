@@ -7,6 +7,7 @@ ghost use Rattle.esm_queue_model.specs.Queue.{empty_queue, after_arrival, after_
 
 use crate::copying::copy_all;
 use crate::fifo::first_places;
+use crate::groups::Groups;
 use crate::marking::receive_all;
 use crate::timeline::Timeline;
 use esm_model::{MAX_MOMENT, Message, OutOfMemory, Places, Received};
@@ -19,22 +20,23 @@ use std::marker::Model;
 /// Developer Guide, "visibility timeout" and "FIFO queue delivery logic".
 #[derive(Drop, Debug)]
 pub struct Queue {
-    fifo: bool,
     visibility_ms: u64,
     messages: Vec<Stored>,
     /// The moment at which each message shows, `NEVER` where it is deleted.
     shows: Timeline,
+    groups: Groups,
 }
 
 impl Model for Queue {
     ghost use Rattle.std.specs.Prelude.{◌-◌, min};
     ghost use Rattle.std.specs.Vec.{vec_len, vec_capacity};
     ghost use Rattle.esm_queue.specs.Held.{Held};
+    ghost use Rattle.esm_queue.specs.Groups.{room};
     ghost use Rattle.esm_queue.specs.Kept.{IsKept};
 
     ghost Value = { Held };
 
-    ghost view = { λ q. record { state = record { fifo = q.fifo; visibility = q.visibility_ms; messages = q.messages.items }; spare = min (vec_capacity q.messages - vec_len q.messages) q.shows.spare } };
+    ghost view = { λ q. record { state = record { fifo = q.groups.fifo; visibility = q.visibility_ms; messages = q.messages.items }; spare = min (min (vec_capacity q.messages - vec_len q.messages) q.shows.spare) (room q.groups) } };
 
     ghost invariant = { λ q. IsKept q };
 }
@@ -45,11 +47,12 @@ impl Queue {
         ensures { IfOk result (λ q. q.state ≡ empty_queue fifo visibility_ms) }
     {
         let shows = Timeline::new(alloc)?;
+        let groups = Groups::new(alloc, fifo)?;
         Ok(Queue {
-            fifo,
             visibility_ms,
             messages: Vec::new(alloc),
             shows,
+            groups,
         })
     }
 
@@ -60,7 +63,8 @@ impl Queue {
         ensures kept { self.old.spare ≤ self.new.spare }
     {
         self.messages.reserve(n as usize)?;
-        self.shows.reserve(alloc, n)
+        self.shows.reserve(alloc, n)?;
+        self.groups.reserve(alloc, n)
     }
 
     /// A message comes: its place. After `OutOfMemory`, which does not come within what `reserve` made, nothing has
@@ -77,7 +81,9 @@ impl Queue {
     {
         self.messages.reserve(1)?;
         self.shows.reserve(alloc, 1)?;
+        self.groups.reserve(alloc, 1)?;
         let place = self.messages.len() as u32;
+        self.groups.append(self.messages.as_slice(), &message.group);
         self.messages.push_reserved(Stored {
             message,
             came: moment.min(MAX_MOMENT),
@@ -94,11 +100,8 @@ impl Queue {
         requires { now ≤ MAX_MOMENT }
         ensures { IfOk result (λ places. places.items ≡ receivable self.now.state now max) }
     {
-        if self.fifo {
-            let messages = self.messages.as_slice();
-            return first_places(alloc, messages, &self.shows, self.visibility_ms, now, max);
-        }
-        self.shows.first_places(alloc, now, max)
+        let messages = self.messages.as_slice();
+        first_places(alloc, messages, &self.groups, self.visibility_ms, now, max)
     }
 
     /// The places that `receive` would give: the first `max` eligible ones at the moment. Nothing changes.
@@ -129,6 +132,7 @@ impl Queue {
         receive_all(
             self.messages.as_mut_slice(),
             &mut self.shows,
+            &mut self.groups,
             places.as_slice(),
             moment,
             self.visibility_ms,
@@ -143,11 +147,14 @@ impl Queue {
         ensures state { self.new.state ≡ after_deletion (place ∷ []) self.old.state }
         ensures spare { self.new.spare ≡ self.old.spare }
     {
-        let stored = &mut self.messages[place as usize];
-        let was = stored.deleted;
-        stored.deleted = true;
+        if self.messages[place as usize].deleted {
+            return false;
+        }
+        self.groups
+            .remove(self.messages.as_slice(), place, self.visibility_ms);
         self.shows.clear(place);
-        !was
+        self.messages[place as usize].deleted = true;
+        true
     }
 
     /// How many messages came. Takes no memory.

@@ -11,8 +11,7 @@ use std::alloc::Global;
 use std::collections::BTreeMap;
 use std::marker::Model;
 
-/// Moments by place, in two orders: a tree finds the next place whose moment is not after a given one, and a map in
-/// order of moments the next moment. A place without a moment has 0 before its first, and `NEVER` for good.
+/// Moments by place, and a map in order of moments that finds the next moment. A place without a moment has 0 before its first, and `NEVER` for good.
 #[derive(Drop, Debug)]
 pub struct Timeline {
     tree: MomentTree,
@@ -134,35 +133,6 @@ impl Timeline {
         let old = self.tree.get(place);
         remove_one(&mut self.counts, old);
         self.tree.set(place, NEVER);
-    }
-
-    /// The first place from `from` on with a moment that is not after `at`.
-    pub fn first_from(&self, from: u32, at: u64) -> Option<u32>
-        requires early { at < NEVER }
-        ensures none { IsNone result → NoneAt self.now.moments from at }
-        ensures some { IfSome result (IsFirstAt self.now.moments from at) }
-        ensures few { length self.now.moments ≤ u32.MAX }
-    {
-        self.tree.first_from(from, at)
-    }
-
-    /// The first places, so many at most, with a moment that is not after `at`.
-    pub fn first_places(&self, alloc: Global, at: u64, max: u32) -> Result<Vec<u32>, OutOfMemory>
-        requires early { at < NEVER }
-        ensures { IfOk result (λ places. places.items ≡ take max (filter (is_reached self.now.moments at) (below (length self.now.moments)))) }
-    {
-        let mut places = Vec::new(alloc);
-        let mut from = 0;
-        while places.len() < max as usize {
-            match self.tree.first_from(from, at) {
-                None => return Ok(places),
-                Some(place) => {
-                    places.push(place)?;
-                    from = place + 1;
-                }
-            }
-        }
-        Ok(places)
     }
 
     /// The least moment after `at`.

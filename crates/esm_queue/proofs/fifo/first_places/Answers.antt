@@ -1,60 +1,75 @@
-use Rattle.std.proofs.Common.{◌≡◌, ℕ, ◌<◌, ◌≤◌, List, not, cond, ◌&&◌, ◌||◌, ◌++◌, ◌∷◌, [], length, subst, sym, ap, refl, ◌∙◌, arith, rules, Some}
-use Rattle.std.specs.BTreeSet.{contains_text}
-use Rattle.std.proofs.lemmas.Option.{slice_get-get_or}
-use Rattle.std.proofs.lemmas.List.{length-map}
-use Rattle.esm_model.specs.declared.moment.TheConstants.{MAX_MOMENT}
-use Rattle.esm_queue_model.specs.declared.stored.Stored.{Stored}
-use Rattle.esm_queue_model.specs.Queue.{is_eligible, is_in_flight}
-use Rattle.esm_queue.specs.Blocked.{is_named, is_blocked}
-use Rattle.esm_queue.specs.Moments.{IsFirstAt, NoneAt, leaf, leaves}
-use Rattle.esm_queue.proofs.Fronts.{front_full, front_whole}
-use Rattle.esm_queue.proofs.Blocking.{Step, fifo_of, blocked_now, given_now, no_more, room_kept}
+use Rattle.std.proofs.Common.{◌≡◌, ℕ, ◌+◌, ◌<◌, ◌≤◌, ◌&&◌, ◌||◌, ◌==◌, not, ◌++◌, ◌∷◌, [], List, Bool, length, length-append, sym, ap, ◌∙◌, subst, arith, rules}
+use Rattle.std.specs.Prelude.{filter, slice_index}
+use Rattle.std.specs.Ordering.{nat_cmp}
+use Rattle.std.specs.BTreeSet.{contains}
+use Rattle.std.proofs.lemmas.List.{get_or_read}
+use Rattle.esm_model.specs.Fates.{below}
+use Rattle.esm_queue_model.specs.Queue.{is_eligible}
+use Rattle.esm_queue.specs.declared.links.Link.{Link}
+use Rattle.esm_queue.specs.declared.links.TheConstants.{NONE}
+use Rattle.esm_queue.specs.Links.{blank, link_at, next_at}
+use Rattle.esm_queue.specs.Moments.{leaves}
+use Rattle.esm_queue.specs.Groups.{IsGrouped, IsHeadedBy}
+use Rattle.esm_queue.specs.Waiting.{is_place, next_shown}
+use Rattle.esm_queue.proofs.Fronts.{filter_next, front_full, front_whole}
+use Rattle.esm_queue.proofs.Eligible.{Chain, queue_of}
+use Rattle.esm_queue.proofs.Waiting.{Front, Waits, front_some, front_none, waits_more}
 use Rattle.esm_queue.proofs.fifo.first_places.Goals as goal
 
 pub returns-in-None : goal.returns-in-None
 returns-in-None c =
-    let xs = c.args.messages.now in
-    let v = c.args.visibility_ms in
-    let inv = c.loop-alloc.invariant in
-    let none : NoneAt (leaves v xs) c.loop-alloc.from MAX_MOMENT = subst (λ ms. NoneAt ms c.loop-alloc.from MAX_MOMENT) c.requires.shown (c.in-None.ensures.none refl) in
-    let n = length-map xs (leaf v) in
-    front_whole (is_eligible (fifo_of v xs) c.args.now) c.loop-alloc.from (length xs) c.args.max c.loop-alloc.places.items inv.within inv.so_far inv.few
-    (λ i low high. no_more v c.args.now xs i high (none i low (omega arith)))
-
-pub loop-alloc-preserved : goal.loop-alloc-preserved
-loop-alloc-preserved c =
+    let g = c.args.groups.now in
     let xs = c.args.messages.now in
     let v = c.args.visibility_ms in
     let m = c.args.now in
-    let inv = c.loop-alloc.invariant in
-    let from = c.loop-alloc.from in
-    let place = c.in-Some.place in
-    let x = c.index-messages-place.result in
-    let names = c.loop-alloc.names in
-    let places = c.loop-alloc.places.items in
-    let first : IsFirstAt (leaves v xs) from MAX_MOMENT place = subst (λ ms. IsFirstAt ms from MAX_MOMENT place) c.requires.shown c.in-Some.ensures.some in
-    let inside = first.within in
-    let n = length-map xs (leaf v) in
-    let within : place < length xs = omega arith in
-    let step : Step v m xs from place x = record { first = first; at = slice_get-get_or xs place x within ∙ ap (λ (y : Stored). Some y) (sym c.index-messages-place.is); within = within } in
-    let flies = c.is_in_flight-in_flight.ensures in
-    let e = c.in_ok-take_message-in-Some.ensures in
-    let given : c.take_message.new.places.items ≡ cond (not (is_in_flight v m x) && not (is_blocked names x.message.group)) (places ++ place ∷ []) places
-    = subst (λ b. c.take_message.new.places.items ≡ cond (not b && not (is_blocked names x.message.group)) (places ++ place ∷ []) places) flies e.places in
-    let next : (t : List ℕ) → contains_text c.take_message.new.names t ≡ ((is_named t x && is_in_flight v m x) || contains_text names t)
-    = subst (λ b. (t : List ℕ) → contains_text c.take_message.new.names t ≡ ((is_named t x && b) || contains_text names t)) flies e.names in
+    let links = g.links.items in
+    let heads = g.heads.moments in
+    let inv = c.loop-waiting.invariant in
+    let from = c.loop-waiting.from in
+    let w : ℕ → Bool = contains nat_cmp c.loop-waiting.waiting in
+    let chain : Chain g.fifo v m xs links heads = record { early = c.requires.early; few = c.requires.few; founded = c.requires.grouped.founded; linked = c.requires.grouped.linked; headed = c.requires.headed } in
+    front_whole (is_eligible (queue_of g.fifo v xs) m) from (length xs) c.args.max c.loop-waiting.places.items inv.within inv.so_far inv.few
+    (front_none g.fifo v m xs links heads from w c.first_from.result chain inv.waits c.first_from.ensures.none c.in-None.ensures)
+
+pub loop-waiting-preserved : goal.loop-waiting-preserved
+loop-waiting-preserved c =
+    let g = c.args.groups.now in
+    let xs = c.args.messages.now in
+    let v = c.args.visibility_ms in
+    let m = c.args.now in
+    let links = g.links.items in
+    let heads = g.heads.moments in
+    let inv = c.loop-waiting.invariant in
+    let from = c.loop-waiting.from in
+    let p = c.in-Some.place in
+    let places = c.loop-waiting.places.items in
+    let w : ℕ → Bool = contains nat_cmp c.loop-waiting.waiting in
+    let test = is_eligible (queue_of g.fifo v xs) m in
+    let chain : Chain g.fifo v m xs links heads = record { early = c.requires.early; few = c.requires.few; founded = c.requires.grouped.founded; linked = c.requires.grouped.linked; headed = c.requires.headed } in
+    let least = c.in-Some.ensures in
+    let f : Front g.fifo v m xs from p = front_some g.fifo v m xs links heads from p w c.first_from.result chain inv.waits c.first_from.ensures.none c.first_from.ensures.some least in
+    let inside = f.within in
+    let sized = c.requires.grouped.founded.sized in
+    let l = c.index.result.now in
+    let is : l ≡ link_at links p = get_or_read links p l (omega arith) c.index.ensures blank in
+    let next : c.next_shown-next.result ≡ next_shown m (leaves v xs) (next_at links p) = c.next_shown-next.ensures ∙ ap (λ (k : Link). next_shown m (leaves v xs) k.next) is in
+    let passed : (k : ℕ) → contains nat_cmp c.pass.new.waiting k ≡ (is_place (next_shown m (leaves v xs) (next_at links p)) k || (w k && not (k == p)))
+    = λ k. c.in_ok-pass-in-Some.ensures k ∙ ap (λ o. is_place o k || (w k && not (k == p))) next in
+    let items : c.push.new.self.items ≡ places ++ p ∷ [] = c.in_ok-push-in-Some.ensures.items in
+    let size = ap length items ∙ length-append places (p ∷ []) in
     let room : length places < c.args.max = search rules in
     record {
       within = omega arith;
-      few = room_kept (not (is_in_flight v m x) && not (is_blocked names x.message.group)) places c.take_message.new.places.items place c.args.max room given;
-      so_far = given_now names v m xs from place x places c.take_message.new.places.items step inv.blocked inv.so_far given;
-      blocked = blocked_now names c.take_message.new.names v m xs from place x step inv.blocked next;
+      few = omega arith;
+      so_far = items ∙ (ap (λ ys. ys ++ p ∷ []) inv.so_far ∙ sym (filter_next test from p f.not_before f.none f.given));
+      waits = waits_more g.fifo v m xs links heads from p w (contains nat_cmp c.pass.new.waiting) chain inv.waits f least.2 passed;
     }
 
 pub returns : goal.returns
 returns c =
+    let g = c.args.groups.now in
     let xs = c.args.messages.now in
-    let inv = c.loop-alloc.invariant in
+    let inv = c.loop-waiting.invariant in
     let few = inv.few in
-    let many : c.args.max ≤ length c.loop-alloc.places.items = search rules in
-    front_full (is_eligible (fifo_of c.args.visibility_ms xs) c.args.now) c.loop-alloc.from (length xs) c.args.max c.loop-alloc.places.items inv.within inv.so_far (omega arith)
+    let many : c.args.max ≤ length c.loop-waiting.places.items = search rules in
+    front_full (is_eligible (queue_of g.fifo c.args.visibility_ms xs) c.args.now) c.loop-waiting.from (length xs) c.args.max c.loop-waiting.places.items inv.within inv.so_far (omega arith)

@@ -7,7 +7,8 @@ use Rattle.std.proofs.lemmas.Option.{slice_get-get_or}
 use Rattle.esm_model.specs.Moment.{moment_after}
 use Rattle.esm_queue_model.specs.declared.stored.Stored.{Stored}
 use Rattle.esm_queue_model.specs.Queue.{received_once, changed_from}
-use Rattle.esm_queue.specs.Moments.{leaf}
+use Rattle.esm_queue.specs.Groups.{IsHeadedBy}
+use Rattle.esm_queue.specs.Moments.{leaf, leaves}
 use Rattle.esm_queue.proofs.Changing.{changed_from-none, marked_more, kept_at, length-changed_from}
 use Rattle.esm_queue.proofs.Leaves.{leaves_marked, holds_at, present_after}
 use Rattle.esm_queue.proofs.marking.receive_all.Goals as goal
@@ -18,6 +19,11 @@ loop-place-init c = record {
   shown = c.requires.shown;
   spare = refl;
   present = λ l. absurd (omega arith);
+  headed = c.requires.headed;
+  kind = refl;
+  links = refl;
+  buckets = refl;
+  room = refl;
 }
 
 pub returns-in_err-set-clause-err : goal.returns-in_err-set-clause-err
@@ -53,4 +59,9 @@ loop-place-preserved c =
       shown = moved ∙ (ap (λ (ms : List ℕ). set ms p (moment_after c.args.now v)) inv.shown ∙ leaves_marked v c.args.now c.loop-place.messages p d c.receive_one.new.stored alive_now c.receive_one.ensures);
       spare = c.set.ensures.spare ∙ inv.spare;
       present = λ _. subst (λ (ms : List ℕ). 0 < count_by (λ x. x == moment_after c.args.now v) ms) (sym moved) (present_after c.loop-place.shows.moments p (moment_after c.args.now v) here);
+      headed = subst (λ (ms : List ℕ). IsHeadedBy ms c.show.new.self) (ap (λ k. set (leaves v c.loop-place.messages) p k) c.moment_after-show.ensures ∙ leaves_marked v c.args.now c.loop-place.messages p d c.receive_one.new.stored alive_now c.receive_one.ensures) (c.show.ensures.headed (leaves v c.loop-place.messages) inv.headed);
+      kind = c.show.ensures.kind ∙ inv.kind;
+      links = c.show.ensures.links ∙ inv.links;
+      buckets = c.show.ensures.buckets ∙ inv.buckets;
+      room = c.show.ensures.spare ∙ inv.room;
     }

@@ -3,6 +3,7 @@ use Rattle.std.specs.Prelude.{count_by, ◌==◌}
 use Rattle.esm_model.specs.Moment.{moment_after}
 use Rattle.esm_queue_model.specs.Queue.{received_once, changed_from}
 use Rattle.esm_queue.specs.Moments.{leaves}
+use Rattle.esm_queue.specs.Groups.{IsHeadedBy}
 use Rattle.esm_queue.proofs.marking.receive_all.Given as goal
 
 abbrev pub invariant-loop-place : goal.invariant-loop-place
@@ -11,4 +12,9 @@ invariant-loop-place l = record {
   shown : l.shows.moments ≡ leaves l.visibility_ms l.messages;
   spare : l.shows.spare ≡ l.initial.shows.spare;
   present : 0 < l.place-index → 0 < count_by (λ x. x == moment_after l.now l.visibility_ms) l.shows.moments;
+  headed : IsHeadedBy (leaves l.visibility_ms l.messages) l.groups;
+  kind : l.groups.fifo ≡ l.initial.groups.fifo;
+  links : l.groups.links ≡ l.initial.groups.links;
+  buckets : l.groups.buckets ≡ l.initial.groups.buckets;
+  room : l.groups.heads.spare ≡ l.initial.groups.heads.spare;
 }

@@ -1,5 +1,5 @@
 use Rattle.std.specs.Prelude.{option_map, slice_get}
-use Rattle.std.proofs.Common.{ap₂, ◌≡◌, ℕ, List, filter_map, length, take, drop, ◌++◌, filter, ap, sym, ◌∙◌, rules}
+use Rattle.std.proofs.Common.{ap₂, ◌≡◌, ℕ, List, filter_map, length, take, drop, ◌++◌, filter, ap, sym, ◌∙◌, subst, rules}
 use Rattle.esm_model.specs.Fates.{below}
 use Rattle.esm_model.specs.Moment.{capped_moment}
 use Rattle.esm_queue_model.specs.declared.stored.Stored.{Stored}
@@ -7,6 +7,9 @@ use Rattle.esm_queue_model.specs.Queue.{QueueState, is_eligible, receivable, see
 use Rattle.esm_queue.specs.Held.{Held}
 use Rattle.esm_queue.specs.Receiving.{received_at}
 use Rattle.esm_queue.proofs.Changing.{length-changed_from, seen_after, written}
+use Rattle.esm_queue.specs.Moments.{leaves}
+use Rattle.esm_queue.specs.Groups.{IsHeadedBy}
+use Rattle.esm_queue.proofs.Keeping.{grouped_received, grouped_moved}
 use Rattle.esm_queue.proofs.Leaves.{receivable_alive}
 use Rattle.esm_queue.proofs.Fronts.{Rises, Rises-take, Rises-filter_below, Rises_at, Rises_rising}
 use Rattle.esm_queue.proofs.queue.Queue.receive.Goals as goal
@@ -57,3 +60,24 @@ returns-clause-given c =
     let w : take old.len (new ++ drop (length new) old.items) ≡ changed_from (received_once m) places 0 old.items = written old.len new old.items same all ∙ marked in
     let copied : c.in_ok-given.given.items ≡ filter_map (received_at m old.items) places = c.in_ok-given.ensures ∙ ap₂ (λ (xs : List Stored) (ps : List ℕ). filter_map (received_at m xs) ps) c.as_slice.ensures.value (c.as_slice-2.ensures ∙ is_given) in
     copied ∙ (seen_after m old.items places places (λ i h. h) ∙ ap (λ (xs : List Stored). filter_map (λ i. option_map (seen_at i) (slice_get xs i)) places) (sym w))
+
+pub invariant_of-self-2 : goal.invariant_of-self-2
+invariant_of-self-2 c =
+    let q = c.self.inside in
+    let old = q.messages in
+    let new = c.receive_all.new.messages in
+    let g = c.receive_all.new.groups in
+    let m = c.min-moment.result in
+    let places = c.as_slice-3.result.now in
+    let e = c.in_ok-receive_all.ensures in
+    let lent : c.as_mut_slice.result.now ≡ old.items = c.as_mut_slice.ensures.value in
+    let marked : new ≡ changed_from (received_once m) places 0 old.items = e.ok ∙ ap (λ (xs : List Stored). changed_from (received_once m) places 0 xs) lent in
+    let same : length new ≡ length old.items = ap length marked ∙ length-changed_from (received_once m) places 0 old.items in
+    let all : old.len ≡ length old.items = search rules in
+    let w : take old.len (new ++ drop (length new) old.items) ≡ new = written old.len new old.items same all in
+    record {
+      few = c.self.invariant.few;
+      shown = e.shown ∙ ap (λ (xs : List Stored). leaves q.visibility_ms xs) (sym w);
+      grouped = grouped_received m places old.items (take old.len (new ++ drop (length new) old.items)) g (w ∙ marked) (grouped_moved old.items q.groups g e.kind e.links e.buckets c.self.invariant.grouped);
+      headed = subst (λ (xs : List Stored). IsHeadedBy (leaves q.visibility_ms xs) g) (sym w) e.headed;
+    }
