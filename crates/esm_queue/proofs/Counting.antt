@@ -1,6 +1,6 @@
 -- How many places have a moment, and the least of those after another.
 use Rattle.std.proofs.Common.{◌≡◌, ℕ, zero, suc, ◌+◌, ◌<◌, ◌≤◌, min, Bool, true, false, not, cond, List, [], ◌∷◌, length, get_or, set, refl, sym, ap, ◌∙◌, subst, inl, inr, arith, Option, Some, None}
-use Rattle.std.specs.Prelude.{◌==◌, count_by, sum_by, filter, nat_lt, unwrap_or, IsSome}
+use Rattle.std.specs.Prelude.{◌==◌, ◌&&◌, ◌-◌, count_by, sum_by, filter, nat_lt, unwrap_or, IsSome}
 use Rattle.std.specs.Ordering.{is_gt, nat_cmp}
 use Rattle.std.specs.BTreeMap.{BTreeMap, get}
 use Rattle.std.specs.Cmp.{nat_cmp_is}
@@ -11,7 +11,7 @@ use Rattle.esm_queue.specs.Counted.{times, HasNoZero}
 use Rattle.std.proofs.lemmas.List.{length-set}
 use Rattle.std.proofs.lemmas.List.Sums.{sum_by-set, sum_by-append, count_by-le-length}
 use Rattle.std.proofs.lemmas.Option.{none-some, same_Some}
-use Rattle.std.proofs.lemmas.Bool.{cases_Bool, or_cases, or_left, or_right, eqb-true, eq-eqb, ne_eqb, both_ways, cond-true, cond-false, and_from, and_parts, lt-ltb, ltb-true, not_from_false}
+use Rattle.std.proofs.lemmas.Bool.{cases_Bool, cases_eq, and_right, or_cases, or_left, or_right, eqb-true, eq-eqb, ne_eqb, both_ways, cond-true, cond-false, and_from, and_parts, lt-ltb, ltb-true, not_from_false}
 use Rattle.esm_model.specs.Entries.{holds}
 use Rattle.esm_queue_model.specs.Queue.{least, least_with}
 
@@ -31,6 +31,67 @@ count_room xs i v within other =
     let most : count_by (λ y. y == v) (set xs i v) ≤ length (set xs i v) = count_by-le-length (λ y. y == v) (set xs i v) in
     let sized : length (set xs i v) ≡ length xs = length-set xs i v in
     omega (arith, e, old, new, most, sized)
+
+-- how often numbers stand after one place has another
+
+one_here : (v x : ℕ) → x ≡ v → one_at v x ≡ 1
+one_here v x e = cond-true (x == v) 1 0 (eq-eqb x v e)
+
+one_apart : (v x : ℕ) → (x ≡ v → ⊥) → one_at v x ≡ 0
+one_apart v x ne = cond-false (x == v) 1 0 (ne_eqb x v ne)
+
+-- one less of a number that is set
+less_one : (v old a c : ℕ) → is_set v ≡ true → c ≡ cond (is_set old && (v == old)) (a - 1) a → c ≡ a - one_at v old
+less_one v old a c set' is =
+    elim (cases_eq v old) [
+      | inl here ↦ (let one = one_here v old (sym here) in
+          let both = and_from (is_set old) (v == old) (ap is_set (sym here) ∙ set') (eq-eqb v old here) in
+          let e = is ∙ cond-true (is_set old && (v == old)) (a - 1) a both in omega arith)
+      | inr apart ↦ (let none = one_apart v old (λ e. apart (sym e)) in
+          let e = is ∙ cond-false (is_set old && (v == old)) (a - 1) a (and_right (is_set old) (v == old) (ne_eqb v old apart)) in omega arith)
+    ]
+
+more_one : (v m a b : ℕ) → is_set v ≡ true → b ≡ cond (is_set m && (v == m)) (a + 1) a → b ≡ a + one_at v m
+more_one v m a b set' is =
+    elim (cases_eq v m) [
+      | inl here ↦ (let one = one_here v m (sym here) in
+          let both = and_from (is_set m) (v == m) (ap is_set (sym here) ∙ set') (eq-eqb v m here) in
+          let e = is ∙ cond-true (is_set m && (v == m)) (a + 1) a both in omega arith)
+      | inr apart ↦ (let none = one_apart v m (λ e. apart (sym e)) in
+          let e = is ∙ cond-false (is_set m && (v == m)) (a + 1) a (and_right (is_set m) (v == m) (ne_eqb v m apart)) in omega arith)
+    ]
+
+-- a number that is not set is not counted
+none_less : (v old a c : ℕ) → a ≡ 0 → c ≡ cond (is_set old && (v == old)) (a - 1) a → c ≡ 0
+none_less v old a c nothing is = elim (cases_Bool (is_set old && (v == old))) [
+  | inl here ↦ (let e = is ∙ cond-true (is_set old && (v == old)) (a - 1) a here in omega arith)
+  | inr apart ↦ (let e = is ∙ cond-false (is_set old && (v == old)) (a - 1) a apart in omega arith)
+]
+
+none_more : (v m a b : ℕ) → is_set v ≡ false → a ≡ 0 → b ≡ cond (is_set m && (v == m)) (a + 1) a → b ≡ 0
+none_more v m a b blank nothing is = elim (cases_Bool (is_set m && (v == m))) [
+  | inl here ↦ (let parts = and_parts (is_set m) (v == m) here in
+      absurd (both_ways (is_set v) blank (ap is_set (eqb-true v m parts.1) ∙ parts.0)))
+  | inr apart ↦ (let e = is ∙ cond-false (is_set m && (v == m)) (a + 1) a apart in omega arith)
+]
+
+-- the counts after one place has another number
+pub counted_set : (old m p v a b c : ℕ) (xs ys : List ℕ) → p < length xs → old ≡ get_or xs p 0 → ys ≡ set xs p m → a ≡ cond (is_set v) (count_by (λ y. y == v) xs) 0 → b ≡ cond (is_set m && (v == m)) (a + 1) a → c ≡ cond (is_set old && (v == old)) (b - 1) b → c ≡ cond (is_set v) (count_by (λ y. y == v) ys) 0
+counted_set old m p v a b c xs ys within is_old is was more less =
+    elim (cases_Bool (is_set v)) [
+      | inr blank ↦
+          (let nothing : a ≡ 0 = was ∙ cond-false (is_set v) (count_by (λ y. y == v) xs) 0 blank in
+          none_less v old b c (none_more v m a b blank nothing more) less ∙ sym (cond-false (is_set v) (count_by (λ y. y == v) ys) 0 blank))
+      | inl set' ↦
+          (let n : a ≡ count_by (λ y. y == v) xs = was ∙ cond-true (is_set v) (count_by (λ y. y == v) xs) 0 set' in
+          let e1 = more_one v m a b set' more in
+          let e2 = less_one v old b c set' less in
+          let e : count_by (λ y. y == v) (set xs p m) + one_at v (get_or xs p 0) ≡ count_by (λ y. y == v) xs + one_at v m = sum_by-set (one_at v) xs p m 0 within in
+          let e3 : one_at v (get_or xs p 0) ≡ one_at v old = ap (one_at v) (sym is_old) in
+          let e4 : count_by (λ y. y == v) ys ≡ count_by (λ y. y == v) (set xs p m) = ap (λ zs. count_by (λ y. y == v) zs) is in
+          let here : c ≡ count_by (λ y. y == v) ys = omega arith in
+          here ∙ sym (cond-true (is_set v) (count_by (λ y. y == v) ys) 0 set'))
+    ]
 
 -- a number is counted where it stands in the list
 pub count_holds : (xs : List ℕ) (v : ℕ) → 0 < count_by (λ y. y == v) xs → holds xs v ≡ true

@@ -1,10 +1,10 @@
 -- Which messages may be received, by the links of their groups.
-use Rattle.std.proofs.Common.{◌≡◌, ℕ, zero, suc, ◌<◌, ◌≤◌, Bool, true, false, not, ◌&&◌, ◌==◌, List, [], ◌∷◌, length, take, refl, sym, ap, ap₂, ◌∙◌, subst, inl, inr, arith, Option, Some, None}
+use Rattle.std.proofs.Common.{◌≡◌, ℕ, zero, suc, ◌<◌, ◌≤◌, Bool, true, false, not, ◌&&◌, ◌==◌, List, [], ◌∷◌, length, take, refl, sym, ap, ap₂, ◌∙◌, subst, inl, inr, arith, Option, Some}
 use Rattle.std.specs.Prelude.{slice_get, slice_index, option_map, unwrap_or}
 use Rattle.std.specs.List.{list_any}
-use Rattle.std.proofs.lemmas.Bool.{cases_Bool, cases_lt, cases_eq, or_parts, or_from, and_left, and_right, and_parts, and_from, and_cases, both_ways, not-true, not-false, not_from_true, not_from_false, false_from_ne_true, eqb-true, eq-eqb, ne_eqb, cond-true, cond-false}
+use Rattle.std.proofs.lemmas.Bool.{cases_Bool, cases_lt, cases_eq, or_parts, or_from, and_left, and_right, and_parts, and_from, both_ways, not-true, not_from_true, not_from_false, eqb-true, eq-eqb, ne_eqb, cond-true, cond-false}
 use Rattle.std.proofs.lemmas.List.{length-map}
-use Rattle.std.proofs.lemmas.Option.{slice_get_cases, slice_get_within, none-some, same_Some, slice_get-get_or}
+use Rattle.std.proofs.lemmas.Option.{slice_get_cases, slice_get_within, none-some, same_Some}
 use Rattle.esm_queue_model.specs.declared.stored.Stored.{Stored}
 use Rattle.esm_queue_model.specs.Queue.{QueueState, is_hidden, is_shown, is_in_flight, is_group, same_group, is_held_back, is_receivable, is_eligible}
 use Rattle.esm_model.specs.declared.moment.TheConstants.{MAX_MOMENT}
@@ -12,7 +12,7 @@ use Rattle.esm_queue.specs.declared.links.Link.{Link}
 use Rattle.esm_queue.specs.declared.links.TheConstants.{NONE}
 use Rattle.esm_queue.specs.declared.moment_tree.TheConstants.{NEVER}
 use Rattle.esm_queue.specs.Moments.{leaf, leaves}
-use Rattle.esm_queue.specs.Links.{alive_at, group_in, group_at, founder_at, next_at, prev_at, head_moment, IsFounded, IsLinked, IsHeaded}
+use Rattle.esm_queue.specs.Links.{alive_at, group_in, founder_at, next_at, prev_at, head_moment, IsFounded, IsLinked, IsHeaded}
 use Rattle.esm_queue.proofs.Places.{alive_in, alive_within}
 use Rattle.esm_queue.proofs.Leaves.{leaf_at, leaf_shown, shown_leaf, never_late}
 

@@ -1,5 +1,5 @@
 -- Lists of places that rise, and fronts of what passes a test.
-use Rattle.std.proofs.Common.{◌≡◌, ℕ, zero, suc, ◌+◌, ◌<◌, ◌≤◌, Bool, true, false, List, [], ◌∷◌, ◌++◌, length, get_or, take, add-one, append_assoc, cond, ap₂, refl, sym, ap, ◌∙◌, inl, inr, arith}
+use Rattle.std.proofs.Common.{◌≡◌, ℕ, zero, suc, ◌+◌, ◌<◌, ◌≤◌, Bool, true, false, List, [], ◌∷◌, ◌++◌, length, get_or, take, add-one, append_assoc, sym, ap, ◌∙◌, inl, inr, arith}
 use Rattle.std.specs.Prelude.{filter}
 use Rattle.std.proofs.lemmas.List.{append-nil, take-append-le, take_all}
 use Rattle.std.proofs.lemmas.List.Elements.{filter-append}
@@ -88,10 +88,3 @@ pub front_whole : (p : ℕ → Bool) (from to max : ℕ) (places : List ℕ) →
 front_whole p from to max places le so_far few none =
     let whole : places ≡ filter p (below to) = so_far ∙ sym (filter_skip p from to le none) in
     whole ∙ sym (take_all max (filter p (below to)) (let l : length (filter p (below to)) ≡ length places = ap length (sym whole) in omega arith))
-
-pub filter_same_below : (p q : ℕ → Bool) (n : ℕ) → ((i : ℕ) → i < n → p i ≡ q i) → filter p (below n) ≡ filter q (below n)
-filter_same_below p q zero same = refl
-filter_same_below p q (suc n) same =
-    filter-append p (below n) (n ∷ [])
-    ∙ (ap₂ (λ (xs : List ℕ) (b : Bool). xs ++ cond b (n ∷ []) []) (filter_same_below p q n (λ i l. same i (omega arith))) (same n (omega arith))
-    ∙ sym (filter-append q (below n) (n ∷ [])))

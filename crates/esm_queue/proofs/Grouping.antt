@@ -1,16 +1,13 @@
 -- Groups of messages: what a message that comes and one that is deleted make of their links.
-use Rattle.std.proofs.Common.{◌≡◌, ℕ, ◌+◌, ◌<◌, ◌≤◌, ◌&&◌, ◌==◌, Bool, true, false, cond, List, [], ◌∷◌, ◌++◌, length, length-append, set, refl, sym, ap, ap₂, ◌∙◌, subst, inl, inr, ◌⊎◌, arith, Option, Some, None}
-use Rattle.std.specs.Prelude.{slice_get, slice_index}
-use Rattle.std.proofs.lemmas.Bool.{cases_lt, cases_eq, cases_Bool, both_ways, eqb-true, eq-eqb, ne_eqb, cond-true, cond-false}
-use Rattle.std.proofs.lemmas.List.{length-set, get_or-set_same, get_or-set_other}
+use Rattle.std.proofs.Common.{◌≡◌, ℕ, ◌+◌, ◌<◌, ◌≤◌, ◌&&◌, ◌==◌, Bool, true, false, List, [], ◌∷◌, ◌++◌, length, length-append, sym, ap, ap₂, ◌∙◌, subst, inl, inr, arith, Option}
+use Rattle.std.proofs.lemmas.Bool.{cases_lt, cases_eq, eq-eqb, ne_eqb}
 use Rattle.esm_queue_model.specs.declared.stored.Stored.{Stored}
-use Rattle.esm_queue_model.specs.Queue.{is_group, deleted_once}
+use Rattle.esm_queue_model.specs.Queue.{is_group}
 use Rattle.esm_queue.specs.declared.links.Link.{Link}
 use Rattle.esm_queue.specs.declared.links.TheConstants.{NONE}
-use Rattle.esm_queue.specs.Links.{link_at, founder_at, next_at, prev_at, last_at, earlier_at, alive_at, group_at, IsFounded, IsLinked}
-use Rattle.esm_queue.specs.Names.{bucket_of, bucket_at, IsChained}
-use Rattle.esm_queue.proofs.Places.{alive_within, alive_old, alive_new, alive_split, alive_kept, alive_left, group_old, group_new, group_kept, group_same, group_swap}
-use Rattle.esm_queue.proofs.Linking.{Appended, Removed, link_past}
+use Rattle.esm_queue.specs.Links.{founder_at, next_at, prev_at, last_at, alive_at, group_at, IsFounded, IsLinked}
+use Rattle.esm_queue.proofs.Places.{alive_within, alive_old, alive_new, alive_split, group_old, group_new, group_swap}
+use Rattle.esm_queue.proofs.Linking.{Appended, link_past}
 
 -- a message comes
 

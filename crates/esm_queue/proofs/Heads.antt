@@ -1,12 +1,12 @@
 -- The moments of the heads.
-use Rattle.std.proofs.Common.{◌≡◌, ℕ, ◌+◌, ◌<◌, ◌≤◌, ◌==◌, cond, List, [], ◌∷◌, ◌++◌, length, length-append, set, refl, sym, ap, ap₂, ◌∙◌, inl, inr, arith}
+use Rattle.std.proofs.Common.{◌≡◌, ℕ, ◌<◌, ◌==◌, List, [], ◌∷◌, ◌++◌, length, length-append, set, sym, ap, ap₂, ◌∙◌, inl, inr, arith}
 use Rattle.std.specs.Prelude.{slice_index}
 use Rattle.std.proofs.lemmas.Bool.{cases_lt, cases_eq, cases_Bool, cond-true, cond-false}
 use Rattle.std.proofs.lemmas.List.{length-set, get_or-set_same, get_or-set_other, get_or_append_left, get_or_push}
 use Rattle.esm_queue.specs.declared.links.Link.{Link}
 use Rattle.esm_queue.specs.declared.links.TheConstants.{NONE}
 use Rattle.esm_queue.specs.declared.moment_tree.TheConstants.{NEVER}
-use Rattle.esm_queue.specs.Links.{prev_at, next_at, head_moment, IsHeaded}
+use Rattle.esm_queue.specs.Links.{prev_at, head_moment, IsHeaded}
 use Rattle.esm_queue.proofs.Linking.{Appended, Removed}
 
 head_never : (v : ℕ) → head_moment v NEVER ≡ NEVER

@@ -1,18 +1,17 @@
 -- The moments at which messages show.
-use Rattle.std.proofs.Common.{◌≡◌, ℕ, zero, suc, ◌<◌, ◌≤◌, Bool, true, false, not, ◌&&◌, List, [], ◌∷◌, length, get_or, set, take, map, refl, sym, ap, ap₂, ◌∙◌, subst, inl, inr, arith, Option, Some, None}
-use Rattle.std.specs.Prelude.{◌==◌, count_by, filter, nat_lt, nat_le, slice_index, slice_get, option_map, unwrap_or}
-use Rattle.std.proofs.lemmas.List.{map-set, length-map, length-set, get_or-set_same}
-use Rattle.std.proofs.lemmas.Bool.{cases_Bool, cases_lt, or_left, or_right, eq-eqb, cond-true, cond-false, le-ltb, lt-ltb, le-leb, lt-leb, and_left, and_from, ltb-false, both_ways, not_from_true, not_from_false, or_cases, and_parts, not-true}
+use Rattle.std.proofs.Common.{◌≡◌, ℕ, zero, suc, ◌<◌, ◌≤◌, true, false, not, List, [], ◌∷◌, length, get_or, set, take, map, refl, sym, ap, ap₂, ◌∙◌, subst, inl, inr, arith, Option, Some, None}
+use Rattle.std.specs.Prelude.{◌==◌, count_by, filter, nat_lt, slice_index, slice_get, option_map, unwrap_or}
+use Rattle.std.proofs.lemmas.List.{map-set, length-set, get_or-set_same}
+use Rattle.std.proofs.lemmas.Bool.{cases_Bool, or_left, or_right, eq-eqb, cond-true, cond-false, le-ltb, lt-ltb, and_left, and_from, ltb-false, both_ways, not_from_true, not_from_false, or_cases, and_parts, not-true}
 use Rattle.std.proofs.lemmas.Option.{none-some, same_Some}
 use Rattle.esm_model.specs.declared.moment.TheConstants.{MAX_MOMENT}
 use Rattle.esm_model.specs.Moment.{moment_after}
 use Rattle.esm_model.specs.Entries.{holds}
 use Rattle.esm_model.specs.Fates.{below}
 use Rattle.esm_queue_model.specs.declared.stored.Stored.{Stored}
-use Rattle.esm_queue_model.specs.Queue.{QueueState, stored_at, show_after, is_hidden, is_shown, is_in_flight, is_receivable, is_eligible, received_once, receivable}
+use Rattle.esm_queue_model.specs.Queue.{QueueState, show_after, is_hidden, is_shown, is_in_flight, is_receivable, is_eligible, received_once, receivable}
 use Rattle.esm_queue.specs.declared.moment_tree.TheConstants.{NEVER}
-use Rattle.esm_queue.specs.Moments.{leaf, leaves, is_after, is_reached, AreAlive}
-use Rattle.esm_queue.proofs.Fronts.{filter_same_below}
+use Rattle.esm_queue.specs.Moments.{leaf, leaves, is_after, AreAlive}
 use Rattle.esm_queue.proofs.Counting.{holds_count, filter_holds}
 
 pub show_low : (v : ℕ) (o : Option ℕ) → show_after v o ≤ MAX_MOMENT

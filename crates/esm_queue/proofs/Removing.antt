@@ -1,6 +1,6 @@
 -- Groups of messages of which one is deleted, and of messages that are not.
-use Rattle.std.proofs.Common.{◌≡◌, ℕ, ◌+◌, ◌<◌, ◌≤◌, ◌&&◌, ◌==◌, Bool, true, false, cond, List, length, set, refl, sym, ap, ap₂, ◌∙◌, subst, inl, inr, arith, Option, Some}
-use Rattle.std.specs.Prelude.{slice_get, slice_index}
+use Rattle.std.proofs.Common.{◌≡◌, ℕ, ◌<◌, ◌≤◌, ◌&&◌, ◌==◌, Bool, true, cond, List, length, set, sym, ap, ap₂, ◌∙◌, subst, inl, inr, arith, Option}
+use Rattle.std.specs.Prelude.{slice_index}
 use Rattle.std.proofs.lemmas.Bool.{cases_lt, cases_eq, cond-true, cond-false, eq-eqb, ne_eqb}
 use Rattle.std.proofs.lemmas.List.{length-set}
 use Rattle.esm_queue_model.specs.declared.stored.Stored.{Stored}

@@ -1,5 +1,5 @@
 -- What holds of the groups of a queue's messages. This product's own; cited by this crate's proofs alone.
-use Rattle.std.specs.Prelude.{◌≡◌, ℕ, ◌-◌, min, Bool, List, length}
+use Rattle.std.specs.Prelude.{ℕ, ◌-◌, min, List, length}
 use Rattle.std.specs.Vec.{vec_len, vec_capacity}
 use Rattle.esm_queue_model.specs.declared.stored.Stored.{Stored}
 use Rattle.esm_queue.specs.declared.groups.Groups.{Groups}

@@ -1,5 +1,5 @@
 -- Messages that are linked within their groups. This product's own; cited by this crate's proofs alone.
-use Rattle.std.specs.Prelude.{◌≡◌, ◌≢◌, ℕ, ◌<◌, ◌≤◌, ◌==◌, ◌&&◌, Bool, true, false, not, List, length, Option, None, Some, option_map, unwrap_or, slice_get, slice_index, slice_index_or, slice_set, if◌then◌else◌}
+use Rattle.std.specs.Prelude.{◌≡◌, ℕ, ◌<◌, ◌≤◌, ◌==◌, ◌&&◌, Bool, true, false, not, List, length, Option, None, Some, option_map, unwrap_or, slice_get, slice_index, slice_index_or, slice_set, if◌then◌else◌}
 use Rattle.esm_queue_model.specs.declared.stored.Stored.{Stored}
 use Rattle.esm_queue_model.specs.Queue.{is_group}
 use Rattle.esm_queue.specs.declared.links.Link.{Link}

@@ -1,5 +1,5 @@
 -- Moments by place. This product's own.
-use Rattle.std.specs.Prelude.{◌≡◌, ℕ, ◌<◌, ◌≤◌, ◌==◌, nat_lt, nat_le, not, ◌&&◌, Bool, false, IsTrue, List, length, map, slice_index, slice_get, Some, if◌then◌else◌}
+use Rattle.std.specs.Prelude.{◌≡◌, ℕ, ◌<◌, ◌≤◌, ◌==◌, nat_lt, not, ◌&&◌, Bool, false, IsTrue, List, length, map, slice_index, slice_get, Some, if◌then◌else◌}
 use Rattle.esm_model.specs.Entries.{holds}
 use Rattle.esm_queue_model.specs.declared.stored.Stored.{Stored}
 use Rattle.esm_queue_model.specs.Queue.{show_after}
@@ -35,10 +35,6 @@ leaf visibility x = if x.deleted then NEVER else show_after visibility x.last
 
 abbrev pub leaves : ℕ → List Stored → List ℕ
 leaves visibility messages = map (leaf visibility) messages
-
--- a moment that is not after `at` stands at the place
-abbrev pub is_reached : List ℕ → ℕ → ℕ → Bool
-is_reached moments at i = nat_le (slice_index moments i) at
 
 -- the messages at the places are not deleted
 abbrev pub AreAlive : List Stored → List ℕ → Type 0

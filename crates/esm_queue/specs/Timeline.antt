@@ -7,6 +7,6 @@ use Rattle.esm_queue.specs.Counted.{times, HasNoZero}
 
 -- each moment that is set is counted
 pub record IsTimeline (t : Inside) : Type 0 where
-  pub few : length t.tree.moments ≤ MAX
-  pub counted : (v : ℕ) → times t.counts v ≡ (if is_set v then count_by (λ x. x == v) t.tree.moments else 0)
+  pub few : length t.moments.items ≤ MAX
+  pub counted : (v : ℕ) → times t.counts v ≡ (if is_set v then count_by (λ x. x == v) t.moments.items else 0)
   pub some : HasNoZero t.counts

@@ -1,4 +1,4 @@
-ghost use Rattle.std.specs.Prelude.{◌≡◌, ◌<◌, ◌+◌, length, All, filter_map, IfOk};
+ghost use Rattle.std.specs.Prelude.{◌≡◌, ◌<◌, length, All, filter_map, IfOk};
 ghost use Rattle.esm_queue_model.specs.Queue.{seen_at, received_once};
 ghost use Rattle.esm_queue.specs.Receiving.{received_at};
 

@@ -1,8 +1,8 @@
-ghost use Rattle.std.specs.Prelude.{◌≡◌, ℕ, ◌+◌, ◌≤◌, ◌<◌, ◌==◌, ◌&&◌, Bool, true, false, List, length, ◌++◌, ◌∷◌, [], slice_get, slice_index, slice_set, None, Some, IfOk, OnOk, IsOk, if◌then◌else◌};
+ghost use Rattle.std.specs.Prelude.{◌≡◌, ℕ, ◌+◌, ◌≤◌, ◌<◌, ◌==◌, ◌&&◌, true, false, List, length, ◌++◌, ◌∷◌, [], slice_get, slice_index, slice_set, Some, IfOk, OnOk, IsOk, if◌then◌else◌};
 ghost use Rattle.esm_queue_model.specs.declared.stored.Stored.{Stored};
 ghost use Rattle.esm_queue_model.specs.Queue.{is_group, deleted_once};
 ghost use Rattle.esm_queue.specs.Moments.{leaves};
-ghost use Rattle.esm_queue.specs.Links.{alive_at, group_at, founder_at, head_moment, IsHeaded};
+ghost use Rattle.esm_queue.specs.Links.{alive_at, group_at, founder_at, head_moment};
 ghost use Rattle.esm_queue.specs.Groups.{IsGrouped, IsHeadedBy, room};
 
 use crate::fifo::moment_of;

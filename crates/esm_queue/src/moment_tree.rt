@@ -1,4 +1,4 @@
-ghost use Rattle.std.specs.Prelude.{◌≡◌, ℕ, ◌+◌, ◌*◌, ◌^◌, ◌<◌, ◌≤◌, length, drop, slice_set, slice_index, ◌++◌, ◌∷◌, [], IfOk, OnOk, OnErr, IsOk, IsNone, IfSome};
+ghost use Rattle.std.specs.Prelude.{◌≡◌, ℕ, ◌+◌, ◌*◌, ◌^◌, ◌<◌, ◌≤◌, length, drop, slice_set, slice_index, ◌++◌, ◌∷◌, [], IfOk, OnOk, IsOk, IsNone, IfSome};
 ghost use Rattle.esm_queue.specs.declared.moment_tree.TheConstants.{NEVER};
 ghost use Rattle.esm_queue.specs.Moments.{Moments, IsFirstAt, NoneAt};
 ghost use Rattle.esm_queue.specs.Nodes.{HasLeast, IsFirstLeaf, NoLeaf};

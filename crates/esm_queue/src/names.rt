@@ -1,4 +1,4 @@
-ghost use Rattle.std.specs.Prelude.{◌≡◌, ℕ, ◌<◌, ◌≤◌, ◌&&◌, true, false, length};
+ghost use Rattle.std.specs.Prelude.{◌≡◌, ℕ, ◌<◌, ◌≤◌, true, false, length};
 ghost use Rattle.esm_queue_model.specs.Queue.{is_group};
 ghost use Rattle.esm_queue.specs.declared.links.TheConstants.{NONE};
 ghost use Rattle.esm_queue.specs.Links.{group_at, founder_at, IsFounded};

@@ -46,7 +46,7 @@ impl Queue {
     pub fn new(alloc: Global, fifo: bool, visibility_ms: u64) -> Result<Queue, OutOfMemory>
         ensures { IfOk result (λ q. q.state ≡ empty_queue fifo visibility_ms) }
     {
-        let shows = Timeline::new(alloc)?;
+        let shows = Timeline::new(alloc);
         let groups = Groups::new(alloc, fifo)?;
         Ok(Queue {
             visibility_ms,
@@ -63,7 +63,7 @@ impl Queue {
         ensures kept { self.old.spare ≤ self.new.spare }
     {
         self.messages.reserve(n as usize)?;
-        self.shows.reserve(alloc, n)?;
+        self.shows.reserve(n)?;
         self.groups.reserve(alloc, n)
     }
 
@@ -80,7 +80,7 @@ impl Queue {
         ensures spare { self.old.spare ≤ self.new.spare + 1 }
     {
         self.messages.reserve(1)?;
-        self.shows.reserve(alloc, 1)?;
+        self.shows.reserve(1)?;
         self.groups.reserve(alloc, 1)?;
         let place = self.messages.len() as u32;
         self.groups.append(self.messages.as_slice(), &message.group);

@@ -1,31 +1,34 @@
-ghost use Rattle.std.specs.Prelude.{◌≡◌, ℕ, ◌+◌, ◌-◌, ◌<◌, ◌≤◌, ◌==◌, ◌&&◌, length, count_by, slice_set, ◌++◌, ◌∷◌, [], if◌then◌else◌, filter, take, IfOk, OnOk, OnErr, IsOk, IsNone, IfSome, false};
-ghost use Rattle.esm_model.specs.Fates.{below};
+ghost use Rattle.std.specs.Prelude.{◌≡◌, ℕ, ◌+◌, ◌-◌, ◌<◌, ◌≤◌, ◌==◌, ◌&&◌, length, count_by, slice_index, slice_set, ◌++◌, ◌∷◌, [], if◌then◌else◌, filter, OnOk, OnErr, IsOk, false};
+ghost use Rattle.std.specs.Vec.{vec_len, vec_capacity};
 ghost use Rattle.esm_queue.specs.declared.moment_tree.TheConstants.{NEVER};
 ghost use Rattle.esm_queue_model.specs.Queue.{least};
-ghost use Rattle.esm_queue.specs.Moments.{Moments, IsFirstAt, NoneAt, is_set, is_after, is_reached};
+ghost use Rattle.esm_queue.specs.Moments.{Moments, is_set, is_after};
 ghost use Rattle.esm_queue.specs.Counted.{times, HasNoZero};
 
-use crate::moment_tree::{MomentTree, NEVER};
+use crate::moment_tree::NEVER;
 use esm_model::OutOfMemory;
 use std::alloc::Global;
 use std::collections::BTreeMap;
 use std::marker::Model;
 
-/// Moments by place, and a map in order of moments that finds the next moment. A place without a moment has 0 before its first, and `NEVER` for good.
+/// Moments by place, and how many places have each, in order of moments. A place without a moment has 0 before its
+/// first, and `NEVER` for good.
 #[derive(Drop, Debug)]
 pub struct Timeline {
-    tree: MomentTree,
+    moments: Vec<u64>,
     /// How many places have the moment, for each that one has.
     counts: BTreeMap<u64, u32>,
 }
 
 impl Model for Timeline {
+    ghost use Rattle.std.specs.Prelude.{◌-◌};
+    ghost use Rattle.std.specs.Vec.{vec_len, vec_capacity};
     ghost use Rattle.esm_queue.specs.Moments.{Moments};
     ghost use Rattle.esm_queue.specs.Timeline.{IsTimeline};
 
     ghost Value = { Moments };
 
-    ghost view = { λ t. t.tree };
+    ghost view = { λ t. record { moments = t.moments.items; spare = vec_capacity t.moments - vec_len t.moments } };
 
     ghost invariant = { λ t. IsTimeline t };
 }
@@ -34,6 +37,22 @@ fn is_set(moment: u64) -> bool
     ensures { result ≡ is_set moment }
 {
     moment != 0 && moment < NEVER
+}
+
+fn moment_at(moments: &Vec<u64>, place: u32) -> u64
+    requires { place < length moments.now.items }
+    ensures { result ≡ slice_index moments.now.items place }
+{
+    moments[place as usize]
+}
+
+fn set_moment(moments: &mut Vec<u64>, place: u32, moment: u64)
+    requires { place < length moments.old.items }
+    ensures items { moments.new.items ≡ slice_set moments.old.items place moment }
+    ensures len { vec_len moments.new ≡ vec_len moments.old }
+    ensures capacity { vec_capacity moments.new ≡ vec_capacity moments.old }
+{
+    moments[place as usize] = moment;
 }
 
 /// One more place has the moment.
@@ -75,24 +94,24 @@ fn remove_one(counts: &mut BTreeMap<u64, u32>, moment: u64)
 
 impl Timeline {
     /// A timeline without places.
-    pub fn new(alloc: Global) -> Result<Timeline, OutOfMemory>
-        ensures { IfOk result (λ t. t.moments ≡ []) }
+    pub fn new(alloc: Global) -> Timeline
+        ensures { result.moments ≡ [] }
     {
-        let tree = MomentTree::new(alloc)?;
-        Ok(Timeline {
-            tree,
+        Timeline {
+            moments: Vec::new(alloc),
             counts: BTreeMap::new(alloc),
-        })
+        }
     }
 
     /// Room for so many more places.
-    pub fn reserve(&mut self, alloc: Global, n: u32) -> Result<(), OutOfMemory>
+    pub fn reserve(&mut self, n: u32) -> Result<(), OutOfMemory>
         ensures moments { self.new.moments ≡ self.old.moments }
         ensures ok { OnOk result (n ≤ self.new.spare) }
         ensures kept { self.old.spare ≤ self.new.spare }
         ensures succeeds { n ≤ self.old.spare → IsOk result }
     {
-        self.tree.reserve(alloc, n)
+        self.moments.reserve(n as usize)?;
+        Ok(())
     }
 
     /// One more place, with the moment 0 or `NEVER`.
@@ -103,7 +122,7 @@ impl Timeline {
         ensures moments { self.new.moments ≡ self.old.moments ++ moment ∷ [] }
         ensures spare { self.new.spare + 1 ≡ self.old.spare }
     {
-        self.tree.push(moment);
+        self.moments.push_reserved(moment);
     }
 
     /// Another moment at the place. It takes no memory where the moment is 0 or `NEVER`, or another place has it.
@@ -114,13 +133,13 @@ impl Timeline {
         ensures spare { self.new.spare ≡ self.old.spare }
         ensures succeeds { 0 < count_by (λ x. x == moment) self.old.moments → IsOk result }
     {
-        let old = self.tree.get(place);
+        let old = moment_at(&self.moments, place);
         if old == moment {
             return Ok(());
         }
         add_one(&mut self.counts, moment)?;
         remove_one(&mut self.counts, old);
-        self.tree.set(place, moment);
+        set_moment(&mut self.moments, place, moment);
         Ok(())
     }
 
@@ -130,9 +149,9 @@ impl Timeline {
         ensures moments { self.new.moments ≡ slice_set self.old.moments place NEVER }
         ensures spare { self.new.spare ≡ self.old.spare }
     {
-        let old = self.tree.get(place);
+        let old = moment_at(&self.moments, place);
         remove_one(&mut self.counts, old);
-        self.tree.set(place, NEVER);
+        set_moment(&mut self.moments, place, NEVER);
     }
 
     /// The least moment after `at`.

@@ -1,19 +1,15 @@
-use Rattle.std.proofs.Common.{◌≡◌, ℕ, ◌+◌, ◌<◌, ◌≤◌, ◌&&◌, ◌||◌, ◌==◌, not, ◌++◌, ◌∷◌, [], List, Bool, length, length-append, sym, ap, ◌∙◌, subst, arith, rules}
-use Rattle.std.specs.Prelude.{filter, slice_index}
+use Rattle.std.proofs.Common.{◌≡◌, ℕ, ◌<◌, ◌≤◌, ◌&&◌, ◌||◌, ◌==◌, not, ◌++◌, ◌∷◌, [], Bool, length, length-append, sym, ap, ◌∙◌, arith, rules}
 use Rattle.std.specs.Ordering.{nat_cmp}
 use Rattle.std.specs.BTreeSet.{contains}
 use Rattle.std.proofs.lemmas.List.{get_or_read}
-use Rattle.esm_model.specs.Fates.{below}
 use Rattle.esm_queue_model.specs.Queue.{is_eligible}
 use Rattle.esm_queue.specs.declared.links.Link.{Link}
-use Rattle.esm_queue.specs.declared.links.TheConstants.{NONE}
 use Rattle.esm_queue.specs.Links.{blank, link_at, next_at}
 use Rattle.esm_queue.specs.Moments.{leaves}
-use Rattle.esm_queue.specs.Groups.{IsGrouped, IsHeadedBy}
 use Rattle.esm_queue.specs.Waiting.{is_place, next_shown}
 use Rattle.esm_queue.proofs.Fronts.{filter_next, front_full, front_whole}
 use Rattle.esm_queue.proofs.Eligible.{Chain, queue_of}
-use Rattle.esm_queue.proofs.Waiting.{Front, Waits, front_some, front_none, waits_more}
+use Rattle.esm_queue.proofs.Waiting.{Front, front_some, front_none, waits_more}
 use Rattle.esm_queue.proofs.fifo.first_places.Goals as goal
 
 pub returns-in-None : goal.returns-in-None

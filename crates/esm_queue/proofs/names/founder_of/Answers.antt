@@ -1,11 +1,10 @@
-use Rattle.std.proofs.Common.{◌≡◌, ℕ, ◌<◌, length, sym, ap, ◌∙◌, refl, false, arith, rules}
+use Rattle.std.proofs.Common.{◌≡◌, length, sym, ap, ◌∙◌, false, arith, rules}
 use Rattle.std.proofs.lemmas.List.{get_or_default}
 use Rattle.esm_queue_model.specs.Queue.{is_group}
 use Rattle.esm_queue.specs.declared.links.Link.{Link}
-use Rattle.esm_queue.specs.declared.links.TheConstants.{NONE}
-use Rattle.esm_queue.specs.Links.{blank, earlier_at, group_at, group_in}
+use Rattle.esm_queue.specs.Links.{blank, group_at, group_in}
 use Rattle.esm_queue_model.specs.declared.stored.Stored.{Stored}
-use Rattle.std.specs.Prelude.{slice_get, Option, Some}
+use Rattle.std.specs.Prelude.{Option, Some}
 use Rattle.std.proofs.lemmas.Option.{slice_get-get_or}
 use Rattle.esm_queue.proofs.Naming.{chain_stands, chain_rest, none_named}
 use Rattle.esm_queue.proofs.names.founder_of.Goals as goal

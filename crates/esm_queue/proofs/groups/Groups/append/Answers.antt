@@ -1,11 +1,10 @@
-use Rattle.std.proofs.Common.{◌≡◌, ℕ, ◌<◌, ◌≤◌, ◌&&◌, ◌==◌, Bool, cond, List, [], ◌∷◌, ◌++◌, length, set, get_or, refl, sym, ap, ◌∙◌, subst, arith, rules, Option}
+use Rattle.std.proofs.Common.{◌≡◌, ℕ, ◌<◌, ◌≤◌, ◌&&◌, ◌==◌, cond, List, [], ◌∷◌, ◌++◌, length, set, refl, sym, ap, ◌∙◌, subst, arith, rules, Option}
 use Rattle.std.specs.Prelude.{slice_index}
 use Rattle.std.proofs.lemmas.List.{get_or_read}
-use Rattle.esm_queue_model.specs.declared.stored.Stored.{Stored}
 use Rattle.esm_queue_model.specs.Queue.{is_group}
 use Rattle.esm_queue.specs.declared.links.Link.{Link}
 use Rattle.esm_queue.specs.declared.links.TheConstants.{NONE}
-use Rattle.esm_queue.specs.Links.{group_at, founder_at, last_at, with_last, with_next, head_moment}
+use Rattle.esm_queue.specs.Links.{group_at, last_at, with_last, with_next, head_moment}
 use Rattle.esm_queue.specs.Names.{bucket_of, IsChained}
 use Rattle.esm_queue.proofs.Linking.{Appended, appended_is}
 use Rattle.esm_queue.proofs.Grouping.{Arrival, linked_append, founded_append}

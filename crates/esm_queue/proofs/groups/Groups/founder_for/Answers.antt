@@ -1,9 +1,7 @@
-use Rattle.std.proofs.Common.{◌≡◌, ℕ, ◌&&◌, ◌==◌, true, length, ap, sym, ◌∙◌, subst, arith, rules, List}
-use Rattle.std.proofs.lemmas.Bool.{not-false}
+use Rattle.std.proofs.Common.{◌≡◌, true, subst, arith, rules, List}
 use Rattle.esm_queue.specs.declared.links.Link.{Link}
 use Rattle.esm_queue.proofs.Naming.{found_same}
-use Rattle.esm_queue.specs.Links.{founder_at, group_at}
-use Rattle.esm_queue_model.specs.Queue.{is_group}
+use Rattle.esm_queue.specs.Links.{founder_at}
 use Rattle.esm_queue.proofs.groups.Groups.founder_for.Goals as goal
 
 pub returns-else-found-clause-same : goal.returns-else-found-clause-same

@@ -1,6 +1,5 @@
-use Rattle.std.proofs.Common.{◌≡◌, ℕ, ◌<◌, ◌≤◌, ◌==◌, List, cond, length, set, get_or, refl, sym, ap, ap₂, ◌∙◌, subst, arith, rules, inl, inr, Option}
+use Rattle.std.proofs.Common.{◌≡◌, ℕ, ◌<◌, ◌==◌, List, cond, length, set, sym, ap, ◌∙◌, subst, arith}
 use Rattle.std.specs.Prelude.{slice_index}
-use Rattle.std.proofs.lemmas.Bool.{cases_eq}
 use Rattle.std.proofs.lemmas.List.{get_or_read, length-set, length-map}
 use Rattle.esm_queue_model.specs.declared.stored.Stored.{Stored}
 use Rattle.esm_queue_model.specs.Queue.{deleted_once}
@@ -9,7 +8,6 @@ use Rattle.esm_queue.specs.declared.links.TheConstants.{NONE}
 use Rattle.esm_queue.specs.declared.moment_tree.TheConstants.{NEVER}
 use Rattle.esm_queue.specs.Links.{blank, link_at, founder_at, next_at, prev_at, with_next, with_prev, with_last, head_moment}
 use Rattle.esm_queue.specs.Moments.{leaf, leaves}
-use Rattle.esm_queue.specs.Names.{IsChained}
 use Rattle.esm_queue.proofs.Places.{alive_within, group_kept}
 use Rattle.esm_queue.proofs.Linking.{Removed, removed_is}
 use Rattle.esm_queue.proofs.Removing.{Removal, linked_remove, founded_same, chained_same}

@@ -1,4 +1,4 @@
-use Rattle.std.proofs.Common.{◌≡◌, List, ℕ, not, true, false, ap, ap₂, sym, ◌∙◌, ◌∷◌, [], ◌<◌, length, set, subst, Bool, Option, Some}
+use Rattle.std.proofs.Common.{◌≡◌, List, ℕ, not, false, ap, ap₂, sym, ◌∙◌, ◌∷◌, [], ◌<◌, length, set, subst, Bool, Option, Some}
 use Rattle.std.specs.Prelude.{slice_get, unwrap_or, option_map}
 use Rattle.std.proofs.lemmas.Bool.{not_from_false}
 use Rattle.std.proofs.lemmas.List.{map-set}

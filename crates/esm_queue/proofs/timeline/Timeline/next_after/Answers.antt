@@ -12,7 +12,7 @@ pub returns-in-None : goal.returns-in-None
 returns-in-None c =
     let t = c.self.inside in
     let r : IsRangeOf nat_cmp (Included (c.args.at + 1)) Unbounded t.counts c.range.result = c.range.ensures.in_range tt in
-    next_none t.counts t.tree.moments c.args.at c.self.invariant.counted (λ q from. r.5 c.in-None.ensures.steps.0 q (from, tt))
+    next_none t.counts t.moments.items c.args.at c.self.invariant.counted (λ q from. r.5 c.in-None.ensures.steps.0 q (from, tt))
     ∙ ap (λ (v : Moments). least (filter (is_after c.args.at) v.moments)) c.self.view_is
 
 pub returns-in-Some : goal.returns-in-Some
@@ -23,6 +23,6 @@ returns-in-Some c =
     let r : IsRangeOf nat_cmp (Included (c.args.at + 1)) Unbounded t.counts c.range.result = c.range.ensures.in_range tt in
     let head : c.range.result ≡ (k, n) ∷ c.next.new.self = c.in-Some.ensures.steps in
     let first : IsEntryInRange nat_cmp (Included (c.args.at + 1)) Unbounded t.counts (k, n) = subst (λ (es : List (ℕ × ℕ)). IfSome (slice_get es 0) (IsEntryInRange nat_cmp (Included (c.args.at + 1)) Unbounded t.counts)) head r.1 in
-    next_some t.counts t.tree.moments c.args.at k n c.self.invariant.counted c.self.invariant.some first.0.0 first.1
+    next_some t.counts t.moments.items c.args.at k n c.self.invariant.counted c.self.invariant.some first.0.0 first.1
     (λ q from has. subst (λ (es : List (ℕ × ℕ)). IfSome (slice_get es 0) (λ e. IsLeBy nat_cmp e.0 q)) head (r.2 q (from, tt) has))
     ∙ ap (λ (v : Moments). least (filter (is_after c.args.at) v.moments)) c.self.view_is
