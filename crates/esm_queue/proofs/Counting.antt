@@ -1,13 +1,13 @@
 -- How many places have a moment, and the least of those after another.
 use Rattle.std.proofs.Common.{◌≡◌, ℕ, zero, suc, ◌+◌, ◌<◌, ◌≤◌, min, Bool, true, false, not, cond, List, [], ◌∷◌, length, get_or, set, refl, sym, ap, ◌∙◌, subst, inl, inr, arith, Option, Some, None}
-use Rattle.std.specs.Prelude.{◌==◌, ◌&&◌, ◌-◌, count_by, sum_by, filter, nat_lt, unwrap_or, IsSome}
+use Rattle.std.specs.Prelude.{◌==◌, ◌&&◌, ◌-◌, count_by, sum_by, filter, nat_lt, unwrap_or, IsSome, IfSome, IfNone}
 use Rattle.std.specs.Ordering.{is_gt, nat_cmp}
 use Rattle.std.specs.BTreeMap.{BTreeMap, get}
 use Rattle.std.specs.Cmp.{nat_cmp_is}
 use Rattle.std.proofs.lemmas.Map.Keys.{le_from_not_gt}
 use Rattle.esm_queue.specs.declared.moment_tree.TheConstants.{NEVER}
 use Rattle.esm_queue.specs.Moments.{is_set, is_after}
-use Rattle.esm_queue.specs.Counted.{times, HasNoZero}
+use Rattle.esm_queue.specs.Counted.{times, IsNextKey}
 use Rattle.std.proofs.lemmas.List.{length-set}
 use Rattle.std.proofs.lemmas.List.Sums.{sum_by-set, sum_by-append, count_by-le-length}
 use Rattle.std.proofs.lemmas.Option.{none-some, same_Some}
@@ -175,16 +175,16 @@ least_none (x ∷ xs) none = absurd (none x (or_left (x == x) (holds xs x) (eq-e
 
 -- by the map of counts
 
-le_not_gt : (a b : ℕ) → a ≤ b → is_gt (nat_cmp a b) ≡ false
+pub le_not_gt : (a b : ℕ) → a ≤ b → is_gt (nat_cmp a b) ≡ false
 le_not_gt a b le = grind (arith, nat_cmp_is)
 
-not_gt_le : (a b : ℕ) → is_gt (nat_cmp a b) ≡ false → a ≤ b
+pub not_gt_le : (a b : ℕ) → is_gt (nat_cmp a b) ≡ false → a ≤ b
 not_gt_le a b h = le_from_not_gt a b h
 
 -- the map's key is a moment after `at` that some place has
-stands_after : (counts : BTreeMap ℕ ℕ) (moments : List ℕ) (at v : ℕ) → ((w : ℕ) → times counts w ≡ cond (is_set w) (count_by (λ y. y == w) moments) 0) → HasNoZero counts → at < v → IsSome (get nat_cmp counts v) → holds (filter (is_after at) moments) v ≡ true
+stands_after : (counts : BTreeMap ℕ ℕ) (moments : List ℕ) (at v : ℕ) → ((w : ℕ) → times counts w ≡ cond (is_set w) (count_by (λ y. y == w) moments) 0) → (get nat_cmp counts v ≡ Some 0 → ⊥) → at < v → IsSome (get nat_cmp counts v) → holds (filter (is_after at) moments) v ≡ true
 stands_after counts moments at v counted some after has =
-    let positive : 0 < times counts v = has_positive (get nat_cmp counts v) has (some v) in
+    let positive : 0 < times counts v = has_positive (get nat_cmp counts v) has some in
     elim (cases_Bool (is_set v)) [
       | inl is ↦
           (let n : times counts v ≡ count_by (λ y. y == v) moments = counted v ∙ cond-true (is_set v) (count_by (λ y. y == v) moments) 0 is in
@@ -198,8 +198,8 @@ stands_after counts moments at v counted some after has =
     has_positive (Some zero) has never = absurd (never refl)
     has_positive (Some (suc n)) has never = omega arith
 
--- and each such moment is a key
-key_of : (counts : BTreeMap ℕ ℕ) (moments : List ℕ) (at v : ℕ) → ((w : ℕ) → times counts w ≡ cond (is_set w) (count_by (λ y. y == w) moments) 0) → holds (filter (is_after at) moments) v ≡ true → (at < v) × IsSome (get nat_cmp counts v)
+-- and each such moment is a key, of some place
+pub key_of : (counts : BTreeMap ℕ ℕ) (moments : List ℕ) (at v : ℕ) → ((w : ℕ) → times counts w ≡ cond (is_set w) (count_by (λ y. y == w) moments) 0) → holds (filter (is_after at) moments) v ≡ true → (at < v) × IsSome (get nat_cmp counts v) × (get nat_cmp counts v ≡ Some 0 → ⊥)
 key_of counts moments at v counted member =
     let parts = filter_holds (is_after at) moments v member in
     let both = and_parts (nat_lt at v) (nat_lt v NEVER) parts.1 in
@@ -208,26 +208,75 @@ key_of counts moments at v counted member =
     let is : is_set v ≡ true = and_from (not (v == 0)) (nat_lt v NEVER) nonzero both.1 in
     let n : times counts v ≡ count_by (λ y. y == v) moments = counted v ∙ cond-true (is_set v) (count_by (λ y. y == v) moments) 0 is in
     let some = holds_count moments v parts.0 in
-    (after, from_positive (get nat_cmp counts v) (omega arith))
+    let positive : 0 < times counts v = omega arith in
+    (after, from_positive (get nat_cmp counts v) positive, not_zero (get nat_cmp counts v) positive)
   where
     from_positive : (o : Option ℕ) → 0 < unwrap_or o 0 → IsSome o
     from_positive None l = absurd (omega arith)
     from_positive (Some n) l = refl
 
-pub next_none : (counts : BTreeMap ℕ ℕ) (moments : List ℕ) (at : ℕ) → ((w : ℕ) → times counts w ≡ cond (is_set w) (count_by (λ y. y == w) moments) 0) → ((q : ℕ) → is_gt (nat_cmp (at + 1) q) ≡ false → get nat_cmp counts q ≡ None) → None ≡ least (filter (is_after at) moments)
+    not_zero : (o : Option ℕ) → 0 < unwrap_or o 0 → o ≡ Some 0 → ⊥
+    not_zero o l is = let e : unwrap_or o 0 ≡ 0 = ap (λ p. unwrap_or p 0) is in omega arith
+
+missing : (o : Option ℕ) → o ≡ None → IsSome o → ⊥
+missing o is has = both_ways false refl (subst (λ p. IsSome p) is has)
+
+pub next_none : (counts : BTreeMap ℕ ℕ) (moments : List ℕ) (at : ℕ) → ((w : ℕ) → times counts w ≡ cond (is_set w) (count_by (λ y. y == w) moments) 0) → ((q : ℕ) → at < q → get nat_cmp counts q ≡ None) → None ≡ least (filter (is_after at) moments)
 next_none counts moments at counted none =
     sym (least_none (filter (is_after at) moments) (λ v member.
     let key = key_of counts moments at v counted member in
-    let after : at + 1 ≤ v = (let l = key.0 in omega arith) in
-    let P : Option ℕ → Type 0 = λ o. IsSome o in
-    both_ways false refl (subst P (none v (le_not_gt (at + 1) v after)) key.1)))
+    missing (get nat_cmp counts v) (none v key.0) key.1))
 
-pub next_some : (counts : BTreeMap ℕ ℕ) (moments : List ℕ) (at k n : ℕ) → ((w : ℕ) → times counts w ≡ cond (is_set w) (count_by (λ y. y == w) moments) 0) → HasNoZero counts → is_gt (nat_cmp (at + 1) k) ≡ false → get nat_cmp counts k ≡ Some n → ((q : ℕ) → is_gt (nat_cmp (at + 1) q) ≡ false → IsSome (get nat_cmp counts q) → is_gt (nat_cmp k q) ≡ false) → Some k ≡ least (filter (is_after at) moments)
-next_some counts moments at k n counted some from has low =
-    let later : at + 1 ≤ k = not_gt_le (at + 1) k from in
-    let P : Option ℕ → Type 0 = λ o. IsSome o in
-    let here = stands_after counts moments at k counted some (omega arith) (subst P (sym has) refl) in
+pub next_some : (counts : BTreeMap ℕ ℕ) (moments : List ℕ) (at k : ℕ) → ((w : ℕ) → times counts w ≡ cond (is_set w) (count_by (λ y. y == w) moments) 0) → (get nat_cmp counts k ≡ Some 0 → ⊥) → IsNextKey counts at k → Some k ≡ least (filter (is_after at) moments)
+next_some counts moments at k counted some next =
+    let here = stands_after counts moments at k counted some next.after next.has in
     sym (least_is (filter (is_after at) moments) k here (λ v member.
     let key = key_of counts moments at v counted member in
-    let after : at + 1 ≤ v = (let l = key.0 in omega arith) in
-    not_gt_le k v (low v (le_not_gt (at + 1) v after) key.1)))
+    next.low v key.0 key.1))
+
+-- a moment of no place is passed over
+pub next_past : (counts : BTreeMap ℕ ℕ) (moments : List ℕ) (at blank : ℕ) (r : Option ℕ) → ((w : ℕ) → times counts w ≡ cond (is_set w) (count_by (λ y. y == w) moments) 0) → ((w : ℕ) → get nat_cmp counts w ≡ Some 0 → w ≡ blank) → get nat_cmp counts blank ≡ Some 0 → IsNextKey counts at blank
+    → IfNone r ((q : ℕ) → blank < q → get nat_cmp counts q ≡ None) → IfSome r (IsNextKey counts blank) → r ≡ least (filter (is_after at) moments)
+next_past counts moments at blank None counted one blank_is first none some =
+    sym (least_none (filter (is_after at) moments) (λ v member.
+    let key = key_of counts moments at v counted member in
+    let low : blank ≤ v = first.low v key.0 key.1 in
+    let other : v ≡ blank → ⊥ = λ e. key.2 (ap (get nat_cmp counts) e ∙ blank_is) in
+    missing (get nat_cmp counts v) (none v (omega arith)) key.1))
+next_past counts moments at blank (Some k) counted one blank_is first none next =
+    let after = first.after in
+    let beyond = next.after in
+    let here = stands_after counts moments at k counted (λ is. let e : k ≡ blank = one k is in omega arith) (omega arith) next.has in
+    sym (least_is (filter (is_after at) moments) k here (λ v member.
+    let key = key_of counts moments at v counted member in
+    let low : blank ≤ v = first.low v key.0 key.1 in
+    let other : v ≡ blank → ⊥ = λ e. key.2 (ap (get nat_cmp counts) e ∙ blank_is) in
+    next.low v (omega arith) key.1))
+
+-- the moment that is ready after a place has another one
+
+pub still_some : (ready old v now : ℕ) → now ≡ cond (ready == old) 0 ready → v ≡ ready → ready < NEVER → (is_set old ≡ true → v ≡ old → ⊥) → v ≡ now
+still_some ready old v now after is early gone =
+    elim (cases_eq ready old) [
+      | inl same ↦ elim (cases_eq v 0) [
+        | inl nothing ↦ nothing ∙ sym (after ∙ cond-true (ready == old) 0 ready (eq-eqb ready old same))
+        | inr nonzero ↦ absurd (gone (ap is_set (sym (is ∙ same)) ∙ and_from (not (v == 0)) (nat_lt v NEVER) (not_from_false (v == 0) (ne_eqb v 0 nonzero)) (lt-ltb v NEVER (omega arith))) (is ∙ same))
+      ]
+      | inr apart ↦ is ∙ sym (after ∙ cond-false (ready == old) 0 ready (ne_eqb ready old apart))
+    ]
+
+pub still_key : (counts : BTreeMap ℕ ℕ) (ready old now : ℕ) → now ≡ cond (ready == old) 0 ready → (is_set ready ≡ true → (ready ≡ old → ⊥) → IsSome (get nat_cmp counts ready)) → is_set now ≡ true → IsSome (get nat_cmp counts now)
+still_key counts ready old now after key set' =
+    elim (cases_eq ready old) [
+      | inl same ↦ absurd (both_ways false refl (ap is_set (sym (after ∙ cond-true (ready == old) 0 ready (eq-eqb ready old same))) ∙ set'))
+      | inr apart ↦
+          (let e : now ≡ ready = after ∙ cond-false (ready == old) 0 ready (ne_eqb ready old apart) in
+          subst (λ v. IsSome (get nat_cmp counts v)) (sym e) (key (ap is_set (sym e) ∙ set') apart))
+    ]
+
+pub still_early : (ready old now : ℕ) → now ≡ cond (ready == old) 0 ready → ready < NEVER → now < NEVER
+still_early ready old now after early =
+    elim (cases_Bool (ready == old)) [
+      | inl same ↦ (let e = after ∙ cond-true (ready == old) 0 ready same in omega arith)
+      | inr apart ↦ (let e = after ∙ cond-false (ready == old) 0 ready apart in omega arith)
+    ]

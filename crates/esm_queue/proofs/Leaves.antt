@@ -1,7 +1,7 @@
 -- The moments at which messages show.
-use Rattle.std.proofs.Common.{◌≡◌, ℕ, zero, suc, ◌<◌, ◌≤◌, true, false, not, List, [], ◌∷◌, length, get_or, set, take, map, refl, sym, ap, ap₂, ◌∙◌, subst, inl, inr, arith, Option, Some, None}
-use Rattle.std.specs.Prelude.{◌==◌, count_by, filter, nat_lt, slice_index, slice_get, option_map, unwrap_or}
-use Rattle.std.proofs.lemmas.List.{map-set, length-set, get_or-set_same}
+use Rattle.std.proofs.Common.{◌≡◌, ℕ, zero, suc, ◌<◌, ◌≤◌, true, false, not, List, [], ◌∷◌, length, get_or, set, take, map, refl, sym, ap, ap₂, ◌∙◌, inl, inr, arith, Option, Some, None}
+use Rattle.std.specs.Prelude.{◌==◌, filter, nat_lt, slice_index, slice_get, option_map, unwrap_or}
+use Rattle.std.proofs.lemmas.List.{map-set}
 use Rattle.std.proofs.lemmas.Bool.{cases_Bool, or_left, or_right, eq-eqb, cond-true, cond-false, le-ltb, lt-ltb, and_left, and_from, ltb-false, both_ways, not_from_true, not_from_false, or_cases, and_parts, not-true}
 use Rattle.std.proofs.lemmas.Option.{none-some, same_Some}
 use Rattle.esm_model.specs.declared.moment.TheConstants.{MAX_MOMENT}
@@ -12,7 +12,7 @@ use Rattle.esm_queue_model.specs.declared.stored.Stored.{Stored}
 use Rattle.esm_queue_model.specs.Queue.{QueueState, show_after, is_hidden, is_shown, is_in_flight, is_receivable, is_eligible, received_once, receivable}
 use Rattle.esm_queue.specs.declared.moment_tree.TheConstants.{NEVER}
 use Rattle.esm_queue.specs.Moments.{leaf, leaves, is_after, AreAlive}
-use Rattle.esm_queue.proofs.Counting.{holds_count, filter_holds}
+use Rattle.esm_queue.proofs.Counting.{filter_holds}
 
 pub show_low : (v : ℕ) (o : Option ℕ) → show_after v o ≤ MAX_MOMENT
 show_low v None = omega arith
@@ -39,12 +39,6 @@ pub holds_at : (xs : List ℕ) (i : ℕ) → i < length xs → holds xs (get_or 
 holds_at [] i within = absurd (omega arith)
 holds_at (x ∷ xs) zero within = or_left (x == x) (holds xs x) (eq-eqb x x refl)
 holds_at (x ∷ xs) (suc i) within = or_right (x == get_or xs i 0) (holds xs (get_or xs i 0)) (holds_at xs i (omega arith))
-
-pub present_after : (xs : List ℕ) (i v : ℕ) → i < length xs → 0 < count_by (λ y. y == v) (set xs i v)
-present_after xs i v within =
-    let n = length-set xs i v in
-    let l : i < length (set xs i v) = omega arith in
-    holds_count (set xs i v) v (subst (λ w. holds (set xs i v) w ≡ true) (get_or-set_same xs i v 0 within) (holds_at (set xs i v) i l))
 
 -- the moments after another at which messages show
 pub shows_are : (v m : ℕ) (xs : List Stored) → filter (is_after m) (leaves v xs) ≡ map (λ (x : Stored). show_after v x.last) (filter (is_in_flight v m) xs)

@@ -10,6 +10,12 @@ pub record Moments : Type 0 where
   pub moments : List ℕ
   pub spare : ℕ
 
+-- the moments, how many more find room, and the moment that one of them may become without memory
+pub record Timed : Type 0 where
+  pub moments : List ℕ
+  pub spare : ℕ
+  pub ready : ℕ
+
 -- the first place from `from` on with a moment that is not after `at`
 pub record IsFirstAt (moments : List ℕ) (from at place : ℕ) : Type 0 where
   pub not_before : from ≤ place

@@ -1,4 +1,4 @@
-ghost use Rattle.std.specs.Prelude.{◌≡◌, ◌<◌, length, All, OnOk, OnErr};
+ghost use Rattle.std.specs.Prelude.{◌≡◌, ◌<◌, length, All};
 ghost use Rattle.esm_model.specs.Moment.{moment_after};
 ghost use Rattle.esm_queue_model.specs.Queue.{received_once, changed_from};
 ghost use Rattle.esm_queue.specs.Receiving.{IsRising};
@@ -7,7 +7,7 @@ ghost use Rattle.esm_queue.specs.Groups.{IsHeadedBy};
 
 use crate::groups::Groups;
 use crate::timeline::Timeline;
-use esm_model::{MAX_MOMENT, OutOfMemory};
+use esm_model::MAX_MOMENT;
 use esm_queue_model::Stored;
 
 /// So many milliseconds after the moment; sums stop at `MAX_MOMENT`.
@@ -26,24 +26,23 @@ fn receive_one(stored: &mut Stored, now: u64)
     stored.count = stored.count.saturating_add(1);
 }
 
-/// One more receipt of the messages at the places, which rise. Only the first of them may want memory, before anything
-/// has changed.
-pub fn receive_all(
+/// One more receipt of the messages at the places, which rise. Takes no memory: the moment at which they show is ready.
+pub fn hide_all(
     messages: &mut [Stored],
     shows: &mut Timeline,
     groups: &mut Groups,
     places: &[u32],
     now: u64,
     visibility_ms: u64,
-) -> Result<(), OutOfMemory>
+)
     requires within { All (λ i. i < length messages.old) places.now }
     requires rising { IsRising 0 places.now }
     requires alive { AreAlive messages.old places.now }
     requires shown { shows.old.moments ≡ leaves visibility_ms messages.old }
     requires headed { IsHeadedBy (leaves visibility_ms messages.old) groups.old }
     requires linked { length groups.old.links.items ≡ length messages.old }
-    ensures ok { OnOk result (messages.new ≡ changed_from (received_once now) places.now 0 messages.old) }
-    ensures err { OnErr result (messages.new ≡ messages.old) }
+    requires ready { shows.old.ready ≡ moment_after now visibility_ms }
+    ensures hidden { messages.new ≡ changed_from (received_once now) places.now 0 messages.old }
     ensures shown { shows.new.moments ≡ leaves visibility_ms messages.new }
     ensures spare { shows.new.spare ≡ shows.old.spare }
     ensures headed { IsHeadedBy (leaves visibility_ms messages.new) groups.new }
@@ -54,9 +53,8 @@ pub fn receive_all(
 {
     let show = moment_after(now, visibility_ms);
     for &place in places {
-        shows.set(place, show)?;
+        let _ = shows.set(place, show);
         groups.show(place, show);
         receive_one(&mut messages[place as usize], now);
     }
-    Ok(())
 }

@@ -1,6 +1,7 @@
 ghost use Rattle.std.specs.Prelude.{◌≡◌, ◌+◌, ◌≤◌, ◌<◌, not, length, ◌∷◌, [], OnOk, OnErr, IfOk, IsOk, IsTrue, ◌↔◌, option_map};
 ghost use Rattle.std.specs.Option.{option_copied};
 ghost use Rattle.esm_model.specs.Moment.{capped_moment};
+ghost use Rattle.esm_model.specs.Moment as moments;
 ghost use Rattle.esm_model.specs.declared.moment.TheConstants.{MAX_MOMENT};
 ghost use Rattle.esm_queue_model.specs.declared.stored.Stored.{Stored};
 ghost use Rattle.esm_queue_model.specs.Queue.{empty_queue, after_arrival, after_receipt, after_deletion, receivable, seen, stored_at, is_deleted_at, count_at, first_at, next_show};
@@ -8,7 +9,7 @@ ghost use Rattle.esm_queue_model.specs.Queue.{empty_queue, after_arrival, after_
 use crate::copying::copy_all;
 use crate::fifo::first_places;
 use crate::groups::Groups;
-use crate::marking::receive_all;
+use crate::marking::{hide_all, moment_after};
 use crate::timeline::Timeline;
 use esm_model::{MAX_MOMENT, Message, OutOfMemory, Places, Received};
 use esm_queue_model::Stored;
@@ -36,7 +37,7 @@ impl Model for Queue {
 
     ghost Value = { Held };
 
-    ghost view = { λ q. record { state = record { fifo = q.groups.fifo; visibility = q.visibility_ms; messages = q.messages.items }; spare = min (min (vec_capacity q.messages - vec_len q.messages) q.shows.spare) (room q.groups) } };
+    ghost view = { λ q. record { state = record { fifo = q.groups.fifo; visibility = q.visibility_ms; messages = q.messages.items }; spare = min (min (vec_capacity q.messages - vec_len q.messages) q.shows.spare) (room q.groups); ready = q.shows.ready } };
 
     ghost invariant = { λ q. IsKept q };
 }
@@ -129,15 +130,37 @@ impl Queue {
         let moment = now.min(MAX_MOMENT);
         let places = self.peek(alloc, now, max)?;
         let given = copy_all(alloc, self.messages.as_slice(), places.as_slice(), moment)?;
-        receive_all(
+        self.prepare(now)?;
+        self.hide(places.as_slice(), now);
+        Ok(given)
+    }
+
+    /// Memory for a receipt at this moment: the next `hide` at it takes none. No message changes.
+    pub fn prepare(&mut self, now: u64) -> Result<(), OutOfMemory>
+        ensures ready { OnOk result (self.new.ready ≡ moments.moment_after (capped_moment now) self.old.state.visibility) }
+        ensures state { self.new.state ≡ self.old.state }
+        ensures spare { self.new.spare ≡ self.old.spare }
+    {
+        let show = moment_after(now.min(MAX_MOMENT), self.visibility_ms);
+        self.shows.prepare(show)
+    }
+
+    /// Receives the messages at the places, which are the first eligible ones: they are hidden from then on for the
+    /// visibility timeout, and were received once more. Takes no memory.
+    pub fn hide(&mut self, places: &[u32], now: u64)
+        requires ready { self.old.ready ≡ moments.moment_after (capped_moment now) self.old.state.visibility }
+        requires first { places.now ≡ receivable self.old.state (capped_moment now) (length places.now) }
+        ensures state { self.new.state ≡ after_receipt (capped_moment now) places.now self.old.state }
+        ensures spare { self.new.spare ≡ self.old.spare }
+    {
+        hide_all(
             self.messages.as_mut_slice(),
             &mut self.shows,
             &mut self.groups,
-            places.as_slice(),
-            moment,
+            places,
+            now.min(MAX_MOMENT),
             self.visibility_ms,
-        )?;
-        Ok(given)
+        );
     }
 
     /// The message is deleted: whether it was not before. Takes no memory.
@@ -155,6 +178,16 @@ impl Queue {
         self.shows.clear(place);
         self.messages[place as usize].deleted = true;
         true
+    }
+
+    /// Whether a message has the place and is deleted. Takes no memory.
+    pub fn is_deleted(&self, place: u32) -> bool
+        ensures { result ≡ is_deleted_at self.now.state place }
+    {
+        match self.messages.get(place as usize) {
+            None => false,
+            Some(stored) => stored.deleted,
+        }
     }
 
     /// How many messages came. Takes no memory.
@@ -178,6 +211,16 @@ impl Queue {
         match self.messages.get(place as usize) {
             None => None,
             Some(stored) => Some(&stored.message),
+        }
+    }
+
+    /// The moment at which the message came; `None` exactly where none has the place. Takes no memory.
+    pub fn arrival(&self, place: u32) -> Option<u64>
+        ensures { result ≡ option_map (λ (x : Stored). x.came) (stored_at self.now.state place) }
+    {
+        match self.messages.get(place as usize) {
+            None => None,
+            Some(stored) => Some(stored.came),
         }
     }
 

@@ -1,9 +1,11 @@
-ghost use Rattle.std.specs.Prelude.{◌≡◌, ℕ, ◌+◌, ◌-◌, ◌<◌, ◌≤◌, ◌==◌, ◌&&◌, length, count_by, slice_index, slice_set, ◌++◌, ◌∷◌, [], if◌then◌else◌, filter, OnOk, OnErr, IsOk, false};
+ghost use Rattle.std.specs.Prelude.{◌≡◌, ℕ, ◌+◌, ◌-◌, ◌<◌, ◌≤◌, ◌==◌, ◌&&◌, length, slice_index, slice_set, ◌++◌, ◌∷◌, [], if◌then◌else◌, filter, Some, None, IfSome, IfNone, IsSome, OnOk, OnErr, IsOk, IsTrue, ◌↔◌, true, false};
 ghost use Rattle.std.specs.Vec.{vec_len, vec_capacity};
+ghost use Rattle.std.specs.Ordering.{nat_cmp};
+ghost use Rattle.std.specs.BTreeMap.{get};
 ghost use Rattle.esm_queue.specs.declared.moment_tree.TheConstants.{NEVER};
 ghost use Rattle.esm_queue_model.specs.Queue.{least};
-ghost use Rattle.esm_queue.specs.Moments.{Moments, is_set, is_after};
-ghost use Rattle.esm_queue.specs.Counted.{times, HasNoZero};
+ghost use Rattle.esm_queue.specs.Moments.{is_set, is_after};
+ghost use Rattle.esm_queue.specs.Counted.{times, IsNextKey, KeepsKeys, KeepsOtherKeys, AddsNoZero, LeavesNoZero};
 
 use crate::moment_tree::NEVER;
 use esm_model::OutOfMemory;
@@ -16,19 +18,21 @@ use std::marker::Model;
 #[derive(Drop, Debug)]
 pub struct Timeline {
     moments: Vec<u64>,
-    /// How many places have the moment, for each that one has.
+    /// How many places have the moment, for each that one has, and for the one that is ready.
     counts: BTreeMap<u64, u32>,
+    /// The moment that a place may have without memory.
+    ready: u64,
 }
 
 impl Model for Timeline {
     ghost use Rattle.std.specs.Prelude.{◌-◌};
     ghost use Rattle.std.specs.Vec.{vec_len, vec_capacity};
-    ghost use Rattle.esm_queue.specs.Moments.{Moments};
+    ghost use Rattle.esm_queue.specs.Moments.{Timed};
     ghost use Rattle.esm_queue.specs.Timeline.{IsTimeline};
 
-    ghost Value = { Moments };
+    ghost Value = { Timed };
 
-    ghost view = { λ t. record { moments = t.moments.items; spare = vec_capacity t.moments - vec_len t.moments } };
+    ghost view = { λ t. record { moments = t.moments.items; spare = vec_capacity t.moments - vec_len t.moments; ready = t.ready } };
 
     ghost invariant = { λ t. IsTimeline t };
 }
@@ -57,12 +61,12 @@ fn set_moment(moments: &mut Vec<u64>, place: u32, moment: u64)
 
 /// One more place has the moment.
 fn add_one(counts: &mut BTreeMap<u64, u32>, moment: u64) -> Result<(), OutOfMemory>
-    requires some { HasNoZero counts.old }
     requires few { times counts.old moment < u32.MAX }
     ensures ok { OnOk result ((v : ℕ) → times counts.new v ≡ (if is_set moment && (v == moment) then times counts.old v + 1 else times counts.old v)) }
     ensures err { OnErr result ((v : ℕ) → times counts.new v ≡ times counts.old v) }
-    ensures some { HasNoZero counts.new }
-    ensures succeeds { 0 < times counts.old moment → IsOk result }
+    ensures zero { AddsNoZero counts.old counts.new }
+    ensures keys { KeepsKeys counts.old counts.new }
+    ensures succeeds { IsSome (get nat_cmp counts.old moment) → IsOk result }
     ensures blank { is_set moment ≡ false → IsOk result }
 {
     if !is_set(moment) {
@@ -75,9 +79,10 @@ fn add_one(counts: &mut BTreeMap<u64, u32>, moment: u64) -> Result<(), OutOfMemo
 
 /// One place less has the moment.
 fn remove_one(counts: &mut BTreeMap<u64, u32>, moment: u64)
-    requires some { HasNoZero counts.old }
     ensures times { (v : ℕ) → times counts.new v ≡ (if is_set moment && (v == moment) then times counts.old v - 1 else times counts.old v) }
-    ensures some { HasNoZero counts.new }
+    ensures zero { AddsNoZero counts.old counts.new }
+    ensures gone { is_set moment ≡ true → LeavesNoZero counts.new moment }
+    ensures keys { KeepsOtherKeys moment counts.old counts.new }
 {
     if !is_set(moment) {
         return;
@@ -92,6 +97,61 @@ fn remove_one(counts: &mut BTreeMap<u64, u32>, moment: u64)
     }
 }
 
+/// The moment is in the map, be it of no place.
+fn keep_key(counts: &mut BTreeMap<u64, u32>, moment: u64) -> Result<(), OutOfMemory>
+    ensures times { (v : ℕ) → times counts.new v ≡ times counts.old v }
+    ensures zero { (v : ℕ) → (v ≡ moment → ⊥) → get nat_cmp counts.new v ≡ Some 0 → get nat_cmp counts.old v ≡ Some 0 }
+    ensures keys { KeepsKeys counts.old counts.new }
+    ensures ok { OnOk result (is_set moment ≡ true → IsSome (get nat_cmp counts.new moment)) }
+    ensures err { OnErr result (AddsNoZero counts.old counts.new) }
+{
+    if is_set(moment) && !counts.contains_key(&moment) {
+        counts.insert(moment, 0)?;
+    }
+    Ok(())
+}
+
+/// The moment is in the map, and no place has it.
+fn is_blank(counts: &BTreeMap<u64, u32>, moment: u64) -> bool
+    ensures { IsTrue result ↔ (get nat_cmp counts.now moment ≡ Some 0) }
+{
+    match counts.get(&moment) {
+        None => false,
+        Some(n) => *n == 0,
+    }
+}
+
+/// The moment is in the map only where some place has it.
+fn drop_blank(counts: &mut BTreeMap<u64, u32>, moment: u64)
+    ensures times { (v : ℕ) → times counts.new v ≡ times counts.old v }
+    ensures zero { AddsNoZero counts.old counts.new }
+    ensures gone { LeavesNoZero counts.new moment }
+    ensures keys { KeepsOtherKeys moment counts.old counts.new }
+{
+    if is_blank(counts, moment) {
+        let _ = counts.remove(&moment);
+    }
+}
+
+/// The first moment after `at` that is in the map.
+fn key_after(counts: &BTreeMap<u64, u32>, at: u64) -> Option<u64>
+    requires { at < NEVER }
+    ensures none { IfNone result ((q : ℕ) → at < q → get nat_cmp counts.now q ≡ None) }
+    ensures some { IfSome result (IsNextKey counts.now at) }
+{
+    match counts.range(at + 1..).next() {
+        None => None,
+        Some((moment, _)) => Some(*moment),
+    }
+}
+
+/// The moment that is ready where a place had the moment `old`, and has it no more.
+fn still_ready(ready: u64, old: u64) -> u64
+    ensures { result ≡ (if ready == old then 0 else ready) }
+{
+    if ready == old { 0 } else { ready }
+}
+
 impl Timeline {
     /// A timeline without places.
     pub fn new(alloc: Global) -> Timeline
@@ -100,6 +160,7 @@ impl Timeline {
         Timeline {
             moments: Vec::new(alloc),
             counts: BTreeMap::new(alloc),
+            ready: 0,
         }
     }
 
@@ -108,9 +169,26 @@ impl Timeline {
         ensures moments { self.new.moments ≡ self.old.moments }
         ensures ok { OnOk result (n ≤ self.new.spare) }
         ensures kept { self.old.spare ≤ self.new.spare }
+        ensures ready { self.new.ready ≡ self.old.ready }
         ensures succeeds { n ≤ self.old.spare → IsOk result }
     {
         self.moments.reserve(n as usize)?;
+        Ok(())
+    }
+
+    /// A place may have the moment from now on without memory.
+    pub fn prepare(&mut self, moment: u64) -> Result<(), OutOfMemory>
+        requires { moment < NEVER }
+        ensures ok { OnOk result (self.new.ready ≡ moment) }
+        ensures moments { self.new.moments ≡ self.old.moments }
+        ensures spare { self.new.spare ≡ self.old.spare }
+    {
+        if self.ready == moment {
+            return Ok(());
+        }
+        keep_key(&mut self.counts, moment)?;
+        drop_blank(&mut self.counts, self.ready);
+        self.ready = moment;
         Ok(())
     }
 
@@ -125,13 +203,14 @@ impl Timeline {
         self.moments.push_reserved(moment);
     }
 
-    /// Another moment at the place. It takes no memory where the moment is 0 or `NEVER`, or another place has it.
+    /// Another moment at the place. It takes no memory where the moment is 0 or `NEVER`, or is ready, and then stays so.
     pub fn set(&mut self, place: u32, moment: u64) -> Result<(), OutOfMemory>
         requires { place < length self.old.moments }
         ensures ok { OnOk result (self.new.moments ≡ slice_set self.old.moments place moment) }
         ensures err { OnErr result (self.new.moments ≡ self.old.moments) }
         ensures spare { self.new.spare ≡ self.old.spare }
-        ensures succeeds { 0 < count_by (λ x. x == moment) self.old.moments → IsOk result }
+        ensures succeeds { moment ≡ self.old.ready → IsOk result }
+        ensures ready { moment ≡ self.old.ready → self.new.ready ≡ self.old.ready }
     {
         let old = moment_at(&self.moments, place);
         if old == moment {
@@ -139,6 +218,7 @@ impl Timeline {
         }
         add_one(&mut self.counts, moment)?;
         remove_one(&mut self.counts, old);
+        self.ready = still_ready(self.ready, old);
         set_moment(&mut self.moments, place, moment);
         Ok(())
     }
@@ -151,6 +231,7 @@ impl Timeline {
     {
         let old = moment_at(&self.moments, place);
         remove_one(&mut self.counts, old);
+        self.ready = still_ready(self.ready, old);
         set_moment(&mut self.moments, place, NEVER);
     }
 
@@ -159,9 +240,14 @@ impl Timeline {
         requires early { at < NEVER }
         ensures { result ≡ least (filter (is_after at) self.now.moments) }
     {
-        match self.counts.range(at + 1..).next() {
+        match key_after(&self.counts, at) {
             None => None,
-            Some((moment, _)) => Some(*moment),
+            Some(moment) => {
+                if is_blank(&self.counts, moment) {
+                    return key_after(&self.counts, moment);
+                }
+                Some(moment)
+            }
         }
     }
 }
