@@ -11,3 +11,10 @@ pub mod LaneEnded
 pub mod LaneSteps
 pub mod LaneReads
 pub mod LaneOver
+pub mod Places
+pub mod ArrivalSteps
+pub mod CallingSteps
+pub mod Tallies
+pub mod ProgressSteps
+pub mod WindowLeast
+pub mod WindowSteps

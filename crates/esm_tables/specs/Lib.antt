@@ -1,3 +1,16 @@
 pub mod LaneView
 pub mod LaneHistory
 pub mod LaneSteps
+pub mod Places
+pub mod FateCounts
+pub mod Arrivals
+pub mod ArrivalsKept
+pub mod ArrivalsLaws
+pub mod Callings
+pub mod CallingsLaws
+pub mod Progress
+pub mod ProgressKept
+pub mod ProgressLaws
+pub mod WindowEntries
+pub mod Windows
+pub mod WindowsLaws
