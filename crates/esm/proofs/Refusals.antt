@@ -9,9 +9,9 @@ use Rattle.esm_cli.specs.declared.command.Command.{Command}
 use Rattle.esm.specs.Opening.{Opens, IsRefused}
 use Rattle.esm.specs.declared.opening.Opening.{Opening}
 
-pub refused_opening : (words : List (List ℕ)) (read : Option Opening) (default opening : Opening) → IsRefused words → IfSome read (λ o. Opens words o.folder o.functions (map string_bytes o.command.now)) → opening ≡ unwrap_or read default → opening ≡ default
+pub refused_opening : (words : List (List ℕ)) (read : Option Opening) (default opening : Opening) → IsRefused words → IfSome read (λ o. Opens words o.folder o.functions o.door (map string_bytes o.command.now)) → opening ≡ unwrap_or read default → opening ≡ default
 refused_opening words None default opening refused some is = is
-refused_opening words (Some o) default opening refused some is = absurd (refused o.folder o.functions (map string_bytes o.command.now) some)
+refused_opening words (Some o) default opening refused some is = absurd (refused o.folder o.functions o.door (map string_bytes o.command.now) some)
 
 no_words_spell : (c : Command) → SpellsBuilt [] c → ⊥
 no_words_spell c h = (let is = h.0.1.first in cc)

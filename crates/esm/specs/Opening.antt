@@ -28,10 +28,9 @@ is_built_there Memory command = true
 is_built_there (Files path) command = is_not_run command
 
 -- this folder, these functions, a door's port from 0 to 65535 without a leading zero, and the words of the command
-pub record Opens (words : List (List ℕ)) (folder : Folder) (functions : Functions) (command : List (List ℕ)) : Type 0 where
+pub record Opens (words : List (List ℕ)) (folder : Folder) (functions : Functions) (door : ℕ) (command : List (List ℕ)) : Type 0 where
   pub first : List ℕ
   pub called : List ℕ
-  pub door : ℕ
   pub words_are : words ≡ first ∷ called ∷ decimal door ∷ command
   pub folder_is : IsFolder first folder
   pub named : Names called functions
@@ -40,4 +39,4 @@ pub record Opens (words : List (List ℕ)) (folder : Folder) (functions : Functi
 
 -- the words name nothing
 abbrev pub IsRefused : List (List ℕ) → Type 0
-IsRefused words = (folder : Folder) (functions : Functions) (command : List (List ℕ)) → ¬ Opens words folder functions command
+IsRefused words = (folder : Folder) (functions : Functions) (door : ℕ) (command : List (List ℕ)) → ¬ Opens words folder functions door command

@@ -15,7 +15,7 @@ mod words;
 use callers::callers;
 use disks::{disks_in, fresh_disks, input_in};
 use esm_init::Disks;
-use esm_io::{Disk, HostClock, MemDoor, Source, StdinSource, StdoutSink};
+use esm_io::{Disk, HostClock, Source, StdinSource, StdoutSink, TcpDoor};
 use esm_model::OutOfMemory;
 use esm_run::{World, esm};
 use functions::Functions;
@@ -54,7 +54,7 @@ fn perform<R: Runtime + Threads + Wait + Net + Clone + Sync, S: Source + Drop, D
         registry: disks.registry,
         clock: HostClock::new(rt)?,
         callers: callers(rt, alloc, opening.functions)?,
-        door: MemDoor::new(alloc, Vec::new(alloc), Vec::new(alloc)),
+        door: TcpDoor::new(rt, opening.door)?,
         trace: Vec::new(alloc),
     };
     let ended = esm(rt, alloc, opening.command, world);
@@ -73,6 +73,7 @@ fn run<R: Runtime + Files<File = File> + Threads + Wait + Net + Clone + Sync>(
     let opening = read_opening(words).unwrap_or(Opening {
         folder: Folder::Memory,
         functions: Functions::Succeed,
+        door: 0,
         command: &[],
     });
     match opening.folder {

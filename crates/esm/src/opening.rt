@@ -18,6 +18,8 @@ pub enum Folder<'a> {
 pub struct Opening<'a> {
     pub folder: Folder<'a>,
     pub functions: Functions<'a>,
+    /// The port on which `serve` listens; for 0 the system chooses one.
+    pub door: u16,
     pub command: &'a [String],
 }
 
@@ -46,7 +48,7 @@ fn is_built_there(folder: Folder<'_>, command: &[String]) -> bool
 /// `None` where one of the three words is missing or of another form, or the command is not built over the folder.
 pub fn read_opening(words: &[String]) -> Option<Opening<'_>>
     ensures some { IfSome result (λ opening. Opens (map string_bytes words.now) opening.folder opening.functions
-        (map string_bytes opening.command.now)) }
+        opening.door (map string_bytes opening.command.now)) }
     ensures none { IfNone result (IsRefused (map string_bytes words.now)) }
 {
     let (folder, words) = words.split_first()?;
@@ -56,11 +58,12 @@ pub fn read_opening(words: &[String]) -> Option<Opening<'_>>
     if !is_built_there(folder, command) {
         return None;
     }
-    port(door.as_str())?;
+    let door = port(door.as_str())?;
     let functions = read_functions(called.as_str())?;
     Some(Opening {
         folder,
         functions,
+        door,
         command,
     })
 }

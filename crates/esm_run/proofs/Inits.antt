@@ -1,8 +1,8 @@
 -- Two outcomes of `init` over the same disks have one status, where the disks are honest and neither they nor the output failed.
-use Rattle.std.proofs.Common.{◌≡◌, ◌∙◌, ℕ, List, Option, inl, inr, refl, sym, ap}
+use Rattle.std.proofs.Common.{◌≡◌, ◌∙◌, ℕ, List, Option, inl, inr, refl, sym}
 use Rattle.esm_io.specs.Faults.{Rose}
 use Rattle.esm_io.specs.Meanings.{DiskMeaning}
-use Rattle.esm_init.specs.Init.{IsInitEnd, IsFirstNotEmpty, disk_of, size_in}
+use Rattle.esm_init.specs.Init.{IsInitEnd, IsFirstNotEmpty, size_in}
 use Rattle.esm_init.specs.declared.disks.Disks.{Disks}
 use Rattle.esm_init.specs.declared.disks.FileName.{FileName}
 use Rattle.esm_init.specs.declared.files.InitEnd.{InitEnd}
@@ -32,7 +32,7 @@ same_status m old new (NotEmpty f size) (NotEmpty g more) sound one other = refl
 same_status m old new (NotEmpty f size) DiskFault sound one other = absurd (no_fault m old new sound other)
 same_status m old new DiskFault d sound one other = absurd (no_fault m old new sound one)
 
-told_with : (faults_before faults_now : ℕ) (before after : Option (List ℕ)) (text : List ℕ) (told failed status : ℕ)
+pub told_with : (faults_before faults_now : ℕ) (before after : Option (List ℕ)) (text : List ℕ) (told failed status : ℕ)
     → (Rose faults_before faults_now → ⊥) → IsToldWith faults_before faults_now before after text told failed status → status ≡ told
 told_with faults_before faults_now before after text told failed status sound (inl is) = is.0
 told_with faults_before faults_now before after text told failed status sound (inr cut) = absurd (sound cut.1.fault)

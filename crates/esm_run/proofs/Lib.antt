@@ -20,3 +20,7 @@ pub mod OneReading
 pub mod OneCause
 pub mod BuiltLemmas
 pub mod Inits
+pub mod Visits
+pub mod Kept
+pub mod Serves
+pub mod OneServe

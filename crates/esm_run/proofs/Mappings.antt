@@ -1,5 +1,5 @@
 -- What a run may rely on of a mapping that is accepted.
-use Rattle.std.proofs.Common.{◌≡◌, ◌∙◌, ℕ, Bool, true, false, not, List, [], ◌∷◌, length, refl, sym, ap, subst, Option, Some, None, Result, Ok, Err, true≢false, is_some}
+use Rattle.std.proofs.Common.{◌≡◌, ◌∙◌, ℕ, Bool, true, false, not, List, [], ◌∷◌, length, refl, sym, ap, Option, Some, None, Result, Ok, Err, true≢false, is_some}
 use Rattle.std.specs.Prelude.{◌==◌, find, is_none, option_and_then, option_map}
 use Rattle.std.specs.Result.{result_err, result_ok}
 use Rattle.std.proofs.lemmas.Bool.{eqb-true}

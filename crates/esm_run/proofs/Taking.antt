@@ -9,7 +9,6 @@ use Rattle.esm_model.specs.declared.item.Record.{Record}
 use Rattle.esm_model.specs.declared.memory.OutOfMemory.{OutOfMemory}
 use Rattle.esm_record.specs.declared.error.BadLine.{BadLine}
 use Rattle.esm_record.specs.declared.item.Item.{Item}
-use Rattle.esm_record.specs.declared.item.LineKind.{LineKind}
 use Rattle.esm_record.specs.declared.item.LineKind.TheVariants as kinds
 use Rattle.esm_record.specs.Input.{Input, Feeding, input_so_far, input_of}
 use Rattle.esm_report.specs.declared.ending.LimitName.{LimitName}

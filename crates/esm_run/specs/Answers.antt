@@ -5,7 +5,7 @@ use Rattle.esm_model.specs.declared.config.Config.{Config}
 use Rattle.esm_model.specs.declared.entry.Entry.{Entry}
 use Rattle.esm_model.specs.Setting.{Setting}
 use Rattle.esm_cli.specs.declared.command.Command.{Command}
-use Rattle.esm_cli.specs.declared.command.Command.TheVariants.{Init, Run}
+use Rattle.esm_cli.specs.declared.command.Command.TheVariants.{Init, Run, Serve}
 use Rattle.esm_cli.specs.declared.command.RunWords.{RunWords}
 use Rattle.esm_cli.specs.declared.command.Which.TheVariants.{Config as Text}
 use Rattle.esm_config.specs.Names.{name_of}
@@ -89,10 +89,18 @@ pub record IsInitialized {F : Type 0} (words : List (List ℕ)) (input : Read) (
   pub untouched : IsUntouched input h old new
   pub ended : outcome status
 
--- what the words did; `init` is what that command did
-abbrev pub Outcome : {F : Type 0} → (ℕ → Bool) → (List ℕ → List ℕ) → (F → Option (List Called)) → List (List ℕ) → Read → Written → List Entry → List F → List F → (ℕ → Type 0) → ℕ → Type 0
-Outcome gave sends log words input output h old new init status =
-    RunOrBadWords gave sends log words input output h old new status ⊎ IsInitialized words input h old new init status
+-- `serve` ended with the status, and nothing was read or called
+pub record IsServer {F : Type 0} (words : List (List ℕ)) (input : Read) (h : List Entry) (old new : List F) (outcome : (requests status : ℕ) → Type 0) (status : ℕ) : Type 0 where
+  pub requests : ℕ
+  pub spelled : SpellsBuilt words (Serve requests)
+  pub untouched : IsUntouched input h old new
+  pub ended : outcome requests status
+
+-- what the words did; `init` and `serve` are what these commands did
+abbrev pub Outcome : {F : Type 0} → (ℕ → Bool) → (List ℕ → List ℕ) → (F → Option (List Called)) → List (List ℕ) → Read → Written → List Entry → List F → List F → (init : ℕ → Type 0) → (serve : ℕ → ℕ → Type 0) → ℕ → Type 0
+Outcome gave sends log words input output h old new init serve status =
+    RunOrBadWords gave sends log words input output h old new status
+    ⊎ (IsInitialized words input h old new init status ⊎ IsServer words input h old new serve status)
 
 -- want of memory
 

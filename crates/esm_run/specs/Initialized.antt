@@ -1,5 +1,5 @@
 -- How `init` ended: why, what was told, and with which exit status. This product's own.
-use Rattle.std.specs.Prelude.{◌≡◌, ℕ, List, Option}
+use Rattle.std.specs.Prelude.{ℕ}
 use Rattle.esm_io.specs.Faults.{Rose}
 use Rattle.esm_io.specs.Meanings.{DiskMeaning}
 use Rattle.esm_init.specs.Init.{AreHonest, IsInitEnd, disk_of}

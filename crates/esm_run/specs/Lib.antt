@@ -1,5 +1,8 @@
 pub mod Limits
 pub mod Initialized
+pub mod Serving
+pub mod Serve
+pub mod Refusals
 pub mod InputRead
 pub mod Given
 pub mod Built

@@ -1,6 +1,6 @@
 -- What a run serves of a mapping so far. A field that it does not serve is refused by its name, in its place in the order of
 -- the table; a row leaves this file when it is built. This product's own.
-use Rattle.std.specs.Prelude.{ℕ, nat_eq, ◌==◌, ◌||◌, Bool, true, false, not, List, [], ◌∷◌, codes, length, Option, Some, None, is_none, is_some, option_and_then, option_map, find, unwrap_or}
+use Rattle.std.specs.Prelude.{nat_eq, ◌==◌, ◌||◌, Bool, true, false, not, List, [], ◌∷◌, codes, length, Option, is_none, is_some, option_and_then, option_map, find, unwrap_or}
 use Rattle.std.specs.List.{starts_with}
 use Rattle.std.specs.Option.{option_map_or}
 use Rattle.std.specs.Str.{bytes_eq}
@@ -9,7 +9,7 @@ use Rattle.serde_json.specs.Find.{as_str, get}
 use Rattle.esm_model.specs.Valid.{is_stream}
 use Rattle.esm_model.specs.declared.config.Config.{Config}
 use Rattle.esm_model.specs.declared.config.Start.{Start}
-use Rattle.esm_model.specs.declared.config.Start.TheVariants.{TrimHorizon, Latest, At}
+use Rattle.esm_model.specs.declared.config.Start.TheVariants.{Latest, At}
 use Rattle.esm_config.specs.Fields.{field}
 use Rattle.esm_config.specs.Names.{name_of}
 use Rattle.esm_config.specs.declared.param.Param.{Param}

@@ -22,6 +22,7 @@ fn is_built(command: &Command) -> bool
     match command {
         Command::Init => true,
         Command::Run(words) => is_built_run(words),
+        Command::Serve { .. } => true,
         _ => false,
     }
 }

@@ -5,14 +5,17 @@ mod batchers;
 mod built;
 mod coming;
 mod commands;
+mod connections;
 mod gathered;
 mod initializing;
 mod input;
 mod mapping;
 mod output;
 mod refusal;
+mod registry_file;
 mod running;
 mod served;
+mod serving;
 mod top;
 mod world;
 

@@ -9,11 +9,14 @@ ghost use Rattle.esm_run.specs.Built.{SpellsBuilt};
 ghost use Rattle.esm_run.specs.Headline.{read_of};
 ghost use Rattle.esm_run.specs.Initialized.{AreSound, InitOutcome, disks};
 ghost use Rattle.esm_run.specs.Answers.{Outcome, RunOrBadWords, IsCut};
+ghost use Rattle.esm_run.specs.Serve.{IsServeCut, IsSoundServe, ServeOutcome};
+ghost use Rattle.esm_run.specs.Serving.{door_of, outside};
 ghost use Rattle.esm_run.specs.Written.{written_of};
 
 use crate::built::built_command;
 use crate::commands::{refuse, run};
 use crate::initializing::initialize;
+use crate::serving::serve;
 use crate::world::{Ended, World};
 use esm_cli::laws::one_command;
 use esm_cli::{Command, WordsError};
@@ -23,7 +26,7 @@ use std::alloc::Global;
 use std::sync::Wait;
 use std::thread::Threads;
 
-/// Does what another command than `init` asks for, or tells that the words spell none, and answers the exit status.
+/// Does what another command than `init` and `serve` asks for, or tells that the words spell none, and answers the exit status.
 fn perform<R: Wait, S: Source, K: Sink, D: Disk, C: Clock, F: Caller, L: Door>(
     rt: &R,
     alloc: Global,
@@ -33,7 +36,8 @@ fn perform<R: Wait, S: Source, K: Sink, D: Disk, C: Clock, F: Caller, L: Door>(
 ) -> u8
     requires spelled { IfOk command (SpellsBuilt (map string_bytes words.now)) }
     requires none_spelled { command ≡ Err WordsError.BadWords → (c : Command) → ¬ SpellsBuilt (map string_bytes words.now) c }
-    requires other { command ≢ Ok Command.Init }
+    requires not_init { command ≢ Ok Command.Init }
+    requires not_serve { (requests : ℕ) → command ≢ Ok (Command.Serve requests) }
     requires callers { length world.old.callers.items ≡ MAX_LANES }
     requires trace { world.old.trace.items ≡ [] }
     ensures outcome { result ≢ 70 → RunOrBadWords C.gave F.sends F.log (map string_bytes words.now)
@@ -47,8 +51,10 @@ fn perform<R: Wait, S: Source, K: Sink, D: Disk, C: Clock, F: Caller, L: Door>(
     ensures untold { result ≡ 70 → world.new.out ≡ world.old.out }
     ensures kept { world.new ≡ record world.old
         { input = world.new.input; out = world.new.out; callers = world.new.callers; trace = world.new.trace } }
+    ensures unserved { (requests : ℕ) → SpellsBuilt (map string_bytes words.now) (Command.Serve requests) → world.new ≡ record world.old { out = world.new.out } }
     ensures spelled { result ≢ 2 → result ≢ 70 → (c : Command) × SpellsBuilt (map string_bytes words.now) c }
 {
+    one_command();
     match command {
         Ok(Command::Run(words)) => run(rt, alloc, words, world),
         Ok(_) => unreachable!(),
@@ -57,10 +63,11 @@ fn perform<R: Wait, S: Source, K: Sink, D: Disk, C: Clock, F: Caller, L: Door>(
 }
 
 /// Does what the words of the command line ask for, and hands the world back with the exit status: 0 where `init` made
-/// the files, or `run` read the input to its end and every record has its fate; 1 where the calls allowed were spent
-/// before; 2 where the words are no command that is built; 3 at a bad line; 4 where the input failed; 5 where the output
-/// failed; 6 where a disk failed; 8 where `init` found a file that is not empty; 9 where a parameter is refused; 10 past
-/// a limit; 70 for want of memory, after which nothing is told. 4, 5 and 6 come only where the device's count of faults
+/// the files, `run` read the input to its end and every record has its fate, or `serve` served as many connections as it
+/// was asked to; 1 where the calls allowed were spent before; 2 where the words are no command that is built; 3 at a bad
+/// line; 4 where the input failed; 5 where the output failed; 6 where a disk failed; 8 where `init` found a file that is
+/// not empty, or `serve` a registry's file that is none; 9 where a parameter is refused; 10 past a limit; 11 where the door
+/// failed; 70 for want of memory, after which nothing is told. 4, 5, 6 and 11 come only where the device's count of faults
 /// rose.
 pub fn esm<R: Threads + Wait + Sync, S: Source, K: Sink, D: Disk, C: Clock, F: Caller, L: Door>(
     rt: &R,
@@ -78,6 +85,9 @@ pub fn esm<R: Threads + Wait + Sync, S: Source, K: Sink, D: Disk, C: Clock, F: C
         (InitOutcome (meaning D.honest D.content D.image D.moment D.image_since D.faults)
         (disks world.journal world.spare world.failures world.registry)
         (disks result.world.journal result.world.spare result.world.failures result.world.registry)
+        (written_of K.faults K.written world.out result.world.out))
+        (ServeOutcome (outside C.gave L.Conn.told L.Conn.faults (meaning D.honest D.content D.image D.moment D.image_since D.faults))
+        world.registry result.world.registry (door_of L.faults L.closed world.door result.world.door)
         (written_of K.faults K.written world.out result.world.out)) result.status }
     ensures exact { result.status ≢ 70 → IsSome (S.left world.input)
         → ¬ Rose (S.faults world.input) (S.faults result.world.input)
@@ -86,6 +96,9 @@ pub fn esm<R: Threads + Wait + Sync, S: Source, K: Sink, D: Disk, C: Clock, F: C
         → AreSound (meaning D.honest D.content D.image D.moment D.image_since D.faults)
         (disks world.journal world.spare world.failures world.registry)
         (disks result.world.journal result.world.spare result.world.failures result.world.registry))
+        → ((requests : ℕ) → SpellsBuilt (map string_bytes words.now) (Command.Serve requests)
+        → IsSoundServe (outside C.gave L.Conn.told L.Conn.faults (meaning D.honest D.content D.image D.moment D.image_since D.faults))
+        world.registry result.world.registry (door_of L.faults L.closed world.door result.world.door))
         → (other : ℕ) → Outcome C.gave F.sends F.log (map string_bytes words.now)
         (read_of S.faults S.left world.input result.world.input)
         (written_of K.faults K.written world.out result.world.out)
@@ -93,6 +106,9 @@ pub fn esm<R: Threads + Wait + Sync, S: Source, K: Sink, D: Disk, C: Clock, F: C
         (InitOutcome (meaning D.honest D.content D.image D.moment D.image_since D.faults)
         (disks world.journal world.spare world.failures world.registry)
         (disks result.world.journal result.world.spare result.world.failures result.world.registry)
+        (written_of K.faults K.written world.out result.world.out))
+        (ServeOutcome (outside C.gave L.Conn.told L.Conn.faults (meaning D.honest D.content D.image D.moment D.image_since D.faults))
+        world.registry result.world.registry (door_of L.faults L.closed world.door result.world.door)
         (written_of K.faults K.written world.out result.world.out)) other
         → other ≡ result.status }
     ensures bad_words { result.status ≡ 2 → (c : Command) → ¬ SpellsBuilt (map string_bytes words.now) c }
@@ -101,9 +117,12 @@ pub fn esm<R: Threads + Wait + Sync, S: Source, K: Sink, D: Disk, C: Clock, F: C
     ensures want_of_memory { result.status ≡ 70 → IsCut C.gave F.sends F.log (map string_bytes words.now)
         (read_of S.faults S.left world.input result.world.input)
         (reverse result.world.trace.items) world.callers.items result.world.callers.items }
+    ensures serve_cut { result.status ≡ 70 → (requests : ℕ) → SpellsBuilt (map string_bytes words.now) (Command.Serve requests)
+        → IsServeCut (outside C.gave L.Conn.told L.Conn.faults (meaning D.honest D.content D.image D.moment D.image_since D.faults))
+        world.registry result.world.registry (door_of L.faults L.closed world.door result.world.door) }
     ensures untold { result.status ≡ 70 → result.world.out ≡ world.out }
     // What stays, whatever the status.
-    ensures kept { result.world ≡ record world {
+    ensures kept { ((requests : ℕ) → ¬ SpellsBuilt (map string_bytes words.now) (Command.Serve requests)) → result.world ≡ record world {
       input = result.world.input;
       out = result.world.out;
       journal = result.world.journal;
@@ -113,7 +132,10 @@ pub fn esm<R: Threads + Wait + Sync, S: Source, K: Sink, D: Disk, C: Clock, F: C
       callers = result.world.callers;
       trace = result.world.trace;
     } }
+    ensures kept_by_serve { (requests : ℕ) → SpellsBuilt (map string_bytes words.now) (Command.Serve requests)
+        → result.world ≡ record world { out = result.world.out; registry = result.world.registry; door = result.world.door } }
     ensures same_disks { ¬ SpellsBuilt (map string_bytes words.now) Command.Init
+        → ((requests : ℕ) → ¬ SpellsBuilt (map string_bytes words.now) (Command.Serve requests))
         → disks result.world.journal result.world.spare result.world.failures result.world.registry
         ≡ disks world.journal world.spare world.failures world.registry }
     ensures safe_disks { SpellsBuilt (map string_bytes words.now) Command.Init
@@ -125,6 +147,7 @@ pub fn esm<R: Threads + Wait + Sync, S: Source, K: Sink, D: Disk, C: Clock, F: C
     whole_goes_on();
     match built_command(alloc, words) {
         Ok(Command::Init) => initialize(alloc, world),
+        Ok(Command::Serve { requests }) => serve(alloc, requests, world),
         command => {
             let mut world = world;
             let status = perform(rt, alloc, words, command, &mut world);

@@ -1,4 +1,4 @@
-use Rattle.std.proofs.Common.{◌≡◌, ◌∙◌, ap, sym, Some}
+use Rattle.std.proofs.Common.{◌∙◌, ap, sym, Some}
 use Rattle.serde_json.specs.View.{view}
 use Rattle.esm_run.proofs.Mappings.{configured, same_refusal, served, unserved_field}
 use Rattle.esm_run.proofs.mapping.mapping_of.Goals as goal

@@ -1,11 +1,14 @@
-use Rattle.std.proofs.Common.{[], subst, sym, ap, reverse, refl, inl, inr, ◌≢◌, arith}
+use Rattle.std.proofs.Common.{◌∙◌, [], Ok, subst, sym, ap, reverse, refl, inl, inr, ◌≢◌, arith}
 use Rattle.std.specs.Prelude.{map}
 use Rattle.std.specs.String.{string_bytes}
+use Rattle.std.proofs.lemmas.Result.{IfOk-at_ok}
 use Rattle.esm_model.specs.Setup.{no_config}
 use Rattle.esm_run.specs.Answers.{RunOrBadWords}
+use Rattle.esm_run.specs.Built.{SpellsBuilt}
 use Rattle.esm_run.specs.Written.{written_of}
 use Rattle.esm_run.specs.Headline.{setting_of, read_of}
-use Rattle.esm_run.proofs.BuiltLemmas.{no_words}
+use Rattle.esm_run.proofs.BuiltLemmas.{no_words, serve_not_run}
+use Rattle.esm_run.proofs.Outcomes.{cut_words}
 use Rattle.esm_run.proofs.top.perform.Goals as goal
 
 pub returns-in-Err-clause-outcome : goal.returns-in-Err-clause-outcome
@@ -30,3 +33,17 @@ returns-in-Err-clause-bad_words g c = λ two.
 pub returns-in-Err-clause-spelled : goal.returns-in-Err-clause-spelled
 returns-in-Err-clause-spelled g c = λ good known.
     elim ((c.refuse.ensures.told known).1 (setting_of no_config 0 []) refl) [ inl told ↦ absurd (good told.0) | inr told ↦ absurd (good told.0) ]
+
+pub returns-in-Ok-Run-clause-unserved : goal.returns-in-Ok-Run-clause-unserved
+returns-in-Ok-Run-clause-unserved g c = λ requests spelled.
+    absurd (serve_not_run (map string_bytes c.args.words.now) c.args.command requests c.one_command.ensures c.requires.spelled spelled c.in-Ok-Run.words
+    (c.in-Ok-Run.is ∙ ap Ok c.in-Ok-Run.field-0-is))
+
+pub returns-in-Ok-Run-clause-want_of_memory : goal.returns-in-Ok-Run-clause-want_of_memory
+returns-in-Ok-Run-clause-want_of_memory g c = λ short.
+    let words = map string_bytes c.args.words.now in
+    let before = c.args.world.now in
+    let after = c.run.new.world in
+    cut_words g.C.Clock.gave g.F.Caller.sends g.F.Caller.log words c.in-Ok-Run.words (read_of g.S.Source.faults g.S.Source.left before.input after.input)
+    (reverse after.trace.items) before.callers.items after.callers.items
+    (IfOk-at_ok (SpellsBuilt words) (c.in-Ok-Run.is ∙ ap Ok c.in-Ok-Run.field-0-is) c.requires.spelled) (c.run.ensures.want_of_memory short)

@@ -1,0 +1,118 @@
+ghost use Rattle.std.specs.Prelude.{◌≡◌, false, IfOk, OnErr};
+ghost use Rattle.esm_io.specs.Meanings.{disk as meaning};
+ghost use Rattle.esm_run.specs.Refusals.{end_of_file, end_of_payloads};
+ghost use Rattle.esm_run.specs.Serve.{IsOpened, IsServeCut, IsServeEnd};
+ghost use Rattle.esm_run.specs.Serving.{door_of, outside};
+
+use crate::connections::{Accepted, serve_connections};
+use esm_io::{Clock, Disk, Door};
+use esm_journal::{Journal, OpenError};
+use esm_model::OutOfMemory;
+use esm_registry::{Registry, RegistryOpen};
+use std::alloc::Global;
+
+/// How `serve` ended.
+#[derive(Clone, Copy, Debug, PartialEq, Eq)]
+pub enum ServeEnd {
+    /// The registry's file does not begin with a journal's header.
+    NotAJournal,
+    /// It is damaged at this place, in bytes from its start.
+    Damaged { place: u64 },
+    /// Its payload with this index is the first that is none of a registry's.
+    BadPayload { index: u32 },
+    /// Its disk's count of faults rose while it was opened.
+    OpenFault,
+    /// So many connections were accepted.
+    Served(Accepted),
+}
+
+/// How `serve` ended, and the registry's disk as it left it.
+#[derive(Drop)]
+pub struct ServedFile<D> {
+    pub end: Result<ServeEnd, OutOfMemory>,
+    pub disk: D,
+}
+
+/// The end where the file was not opened.
+fn end_of_file(why: OpenError) -> Result<ServeEnd, OutOfMemory>
+    ensures { result ≡ end_of_file why }
+{
+    match why {
+        OpenError::NotAJournal(_) => Ok(ServeEnd::NotAJournal),
+        OpenError::Damaged(place) => Ok(ServeEnd::Damaged { place }),
+        OpenError::DiskFault => Ok(ServeEnd::OpenFault),
+        OpenError::OutOfMemory => Err(OutOfMemory),
+    }
+}
+
+/// The end where the file's payloads are none of a registry's.
+fn end_of_payloads(why: RegistryOpen) -> Result<ServeEnd, OutOfMemory>
+    ensures { result ≡ end_of_payloads why }
+{
+    match why {
+        RegistryOpen::BadPayload(index) => Ok(ServeEnd::BadPayload { index }),
+        RegistryOpen::OutOfMemory => Err(OutOfMemory),
+    }
+}
+
+/// Serves so many connections over a registry that was opened, from whichever disk.
+fn serve_registry<D: Disk, C: Clock, L: Door>(
+    alloc: Global,
+    requests: u32,
+    clock: &C,
+    door: &mut L,
+    registry: Registry<D>,
+) -> ServedFile<D>
+    requires up { registry.journal.down ≡ false }
+    ensures end { IfOk result.end (λ end. (disk : D) → IsOpened (meaning D.honest D.content D.image D.moment D.image_since D.faults) disk registry
+        → IsServeEnd (outside C.gave L.Conn.told L.Conn.faults (meaning D.honest D.content D.image D.moment D.image_since D.faults))
+        disk result.disk (door_of L.faults L.closed door.old door.new) requests end) }
+    ensures cut { OnErr result.end ((disk : D) → IsOpened (meaning D.honest D.content D.image D.moment D.image_since D.faults) disk registry
+        → IsServeCut (outside C.gave L.Conn.told L.Conn.faults (meaning D.honest D.content D.image D.moment D.image_since D.faults))
+        disk result.disk (door_of L.faults L.closed door.old door.new)) }
+{
+    let mut registry = registry;
+    let served = serve_connections(alloc, requests, clock, door, &mut registry);
+    let disk = registry.into_journal().into_disk();
+    match served {
+        Ok(accepted) => ServedFile {
+            end: Ok(ServeEnd::Served(accepted)),
+            disk,
+        },
+        Err(OutOfMemory) => ServedFile {
+            end: Err(OutOfMemory),
+            disk,
+        },
+    }
+}
+
+/// Opens the registry's file, and serves so many connections over what it says.
+pub fn serve_file<D: Disk, C: Clock, L: Door>(
+    alloc: Global,
+    requests: u32,
+    clock: &C,
+    door: &mut L,
+    disk: D,
+) -> ServedFile<D>
+    ensures end { IfOk result.end (IsServeEnd (outside C.gave L.Conn.told L.Conn.faults (meaning D.honest D.content D.image D.moment D.image_since D.faults))
+        disk result.disk (door_of L.faults L.closed door.old door.new) requests) }
+    ensures cut { OnErr result.end (IsServeCut (outside C.gave L.Conn.told L.Conn.faults (meaning D.honest D.content D.image D.moment D.image_since D.faults))
+        disk result.disk (door_of L.faults L.closed door.old door.new)) }
+{
+    let journal = match Journal::open(alloc, disk) {
+        Ok(journal) => journal,
+        Err(refused) => {
+            return ServedFile {
+                end: end_of_file(refused.why),
+                disk: refused.back,
+            };
+        }
+    };
+    match Registry::open(alloc, journal) {
+        Ok(registry) => serve_registry(alloc, requests, clock, door, registry),
+        Err(refused) => ServedFile {
+            end: end_of_payloads(refused.why),
+            disk: refused.back.into_disk(),
+        },
+    }
+}

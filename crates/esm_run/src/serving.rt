@@ -1,0 +1,158 @@
+ghost use Rattle.std.specs.Prelude.{◌≡◌, ◌≢◌, Ok, IfOk};
+ghost use Rattle.esm_io.specs.Meanings.{disk as meaning};
+ghost use Rattle.esm_run.specs.Endings.{IsToldWith};
+ghost use Rattle.esm_run.specs.Serve.{IsServeCut, ServeOutcome, last_line, serve_status, serve_text, served_text, stop_status};
+ghost use Rattle.esm_run.specs.Serving.{door_of, outside};
+ghost use Rattle.esm_run.specs.Written.{written_of};
+ghost use Rattle.esm_run.specs.declared.registry_file.ServeEnd.{ServeEnd};
+
+use crate::connections::Stop;
+use crate::output::{OUT_OF_MEMORY, OUTPUT_FAULT, write_all};
+use crate::registry_file::{ServeEnd, ServedFile, serve_file};
+use crate::world::{Ended, World};
+use esm_init::FileName;
+use esm_io::{Clock, Disk, Door, Sink};
+use esm_model::OutOfMemory;
+use std::alloc::Global;
+
+/// A file is no journal, is damaged, or has a bad payload.
+const BAD_FILE: u8 = 8;
+
+/// A disk failed.
+const DISK_FAULT: u8 = 6;
+
+/// The door failed.
+const DOOR_FAULT: u8 = 11;
+
+/// The exit status that tells why no more connections were accepted.
+fn stop_status(stop: Stop) -> u8
+    ensures value { result ≡ stop_status stop }
+    ensures good_words { result ≢ 2 }
+    ensures known { result ≢ 70 }
+{
+    match stop {
+        Stop::Done => 0,
+        Stop::DiskFault => DISK_FAULT,
+        Stop::DoorFault => DOOR_FAULT,
+    }
+}
+
+/// The exit status that tells how `serve` ended.
+fn serve_status(end: ServeEnd) -> u8
+    ensures value { result ≡ serve_status end }
+    ensures good_words { result ≢ 2 }
+    ensures known { result ≢ 70 }
+{
+    match end {
+        ServeEnd::NotAJournal => BAD_FILE,
+        ServeEnd::Damaged { .. } => BAD_FILE,
+        ServeEnd::BadPayload { .. } => BAD_FILE,
+        ServeEnd::OpenFault => DISK_FAULT,
+        ServeEnd::Served(accepted) => stop_status(accepted.stop),
+    }
+}
+
+/// The last line, where connections were accepted.
+fn last_line(stop: Stop) -> &'static str
+    ensures { result.now ≡ last_line stop }
+{
+    match stop {
+        Stop::Done => "done",
+        Stop::DiskFault => "disk fault",
+        Stop::DoorFault => "door fault",
+    }
+}
+
+/// The two lines that are printed where so many connections were accepted.
+fn served_text(alloc: Global, count: u32, line: &str) -> Result<Vec<u8>, OutOfMemory>
+    ensures { IfOk result (λ text. text.items ≡ served_text count line.now) }
+{
+    Ok(format!(in alloc; "served {count}\n{line}\n")?.into_bytes())
+}
+
+/// What `serve` prints.
+fn serve_text(alloc: Global, end: ServeEnd) -> Result<Vec<u8>, OutOfMemory>
+    ensures { IfOk result (λ text. text.items ≡ serve_text end) }
+{
+    let name = FileName::Registry.name();
+    match end {
+        ServeEnd::NotAJournal => Ok(format!(in alloc; "not a journal {name}\n")?.into_bytes()),
+        ServeEnd::Damaged { place } => {
+            Ok(format!(in alloc; "damaged {name} {place}\n")?.into_bytes())
+        }
+        ServeEnd::BadPayload { index } => {
+            Ok(format!(in alloc; "bad payload {name} {index}\n")?.into_bytes())
+        }
+        ServeEnd::OpenFault => Ok(String::from_str(alloc, "disk fault\n")?.into_bytes()),
+        ServeEnd::Served(accepted) => served_text(alloc, accepted.count, last_line(accepted.stop)),
+    }
+}
+
+/// Tells how `serve` ended, and answers the exit status.
+fn tell_serve<K: Sink>(alloc: Global, out: &mut K, end: Result<ServeEnd, OutOfMemory>) -> u8
+    ensures told { result ≢ 70 → (e : ServeEnd) × (end ≡ Ok e) × IsToldWith (K.faults out.old) (K.faults out.new)
+        (K.written out.old) (K.written out.new) (serve_text e) (serve_status e) OUTPUT_FAULT result }
+    ensures untold { result ≡ 70 → out.new ≡ out.old }
+    ensures good_words { result ≢ 2 }
+{
+    let Ok(end) = end else {
+        return OUT_OF_MEMORY;
+    };
+    let Ok(text) = serve_text(alloc, end) else {
+        return OUT_OF_MEMORY;
+    };
+    match write_all(out, &text) {
+        Ok(()) => serve_status(end),
+        Err(_) => OUTPUT_FAULT,
+    }
+}
+
+/// Serves so many connections of the world's door over its registry, tells how it ended, and hands the world back with the
+/// exit status.
+pub fn serve<S, K: Sink, D: Disk, C: Clock, F, L: Door>(
+    alloc: Global,
+    requests: u32,
+    world: World<S, K, D, C, F, L>,
+) -> Ended<S, K, D, C, F, L>
+    ensures outcome { result.status ≢ 70 → ServeOutcome (outside C.gave L.Conn.told L.Conn.faults (meaning D.honest D.content D.image D.moment D.image_since D.faults))
+        world.registry result.world.registry (door_of L.faults L.closed world.door result.world.door)
+        (written_of K.faults K.written world.out result.world.out) requests result.status }
+    ensures want_of_memory { result.status ≡ 70 → IsServeCut (outside C.gave L.Conn.told L.Conn.faults (meaning D.honest D.content D.image D.moment D.image_since D.faults))
+        world.registry result.world.registry (door_of L.faults L.closed world.door result.world.door) }
+    ensures untold { result.status ≡ 70 → result.world.out ≡ world.out }
+    ensures good_words { result.status ≢ 2 }
+    ensures kept { result.world ≡ record world
+        { out = result.world.out; registry = result.world.registry; door = result.world.door } }
+{
+    let World {
+        input,
+        out,
+        journal,
+        spare,
+        failures,
+        registry,
+        clock,
+        callers,
+        door,
+        trace,
+    } = world;
+    let mut door = door;
+    let ServedFile { end, disk } = serve_file(alloc, requests, &clock, &mut door, registry);
+    let mut out = out;
+    let status = tell_serve(alloc, &mut out, end);
+    Ended {
+        status,
+        world: World {
+            input,
+            out,
+            journal,
+            spare,
+            failures,
+            registry: disk,
+            clock,
+            callers,
+            door,
+            trace,
+        },
+    }
+}
