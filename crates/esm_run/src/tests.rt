@@ -1,7 +1,7 @@
 ghost use Rattle.std.specs.Prelude.{◌≡◌, [], length, IfOk};
 
 use crate::{Ended, World, esm};
-use esm_io::{MemDisk, MemDoor, MemLink, MemSink, MemSource, Script, ScriptCaller, StepClock};
+use esm_io::{MemDisk, MemDoor, MemSink, MemSource, Script, ScriptCaller, StepClock};
 use esm_model::{Bytes, Entry, OutOfMemory};
 use std::alloc::Global;
 use std::sync::Wait;
@@ -514,122 +514,5 @@ fn device_fault_of_the_output(rt: HostRuntime) -> Result<(), Fail> {
     case.out_fails = &[0];
     let seen = run(&rt, alloc, case, input)?;
     assert!(rt; told(&seen, 5, ""));
-    Ok(())
-}
-
-/// The bytes of a registry's file without payloads.
-const FRESH: &[u8] = b"ESMJ0001\0\0\0\0\0\0\0\x01\x01\0";
-
-/// The creation of a mapping.
-const POST: &str =
-    "POST /2015-03-31/event-source-mappings/ HTTP/1.1\r\nContent-Length: 121\r\n\r\n{\"EventSourceArn\":\"arn:aws:kinesis:us-east-1:123456789012:stream/s\",\"FunctionName\":\"f\",\"StartingPosition\":\"TRIM_HORIZON\"}";
-
-/// The list of all mappings.
-const LIST: &str = "GET /2015-03-31/event-source-mappings/ HTTP/1.1\r\n\r\n";
-
-/// What `serve` is asked for, and what is seen of it.
-#[derive(Clone, Copy)]
-struct Session<'a> {
-    option: &'a str,
-    /// The bytes of the registry's file.
-    registry: &'a [u8],
-    /// What each connection sends.
-    links: &'a [&'a str],
-    status: u8,
-    out: &'a str,
-    /// The front of each answer, up to its status code.
-    answers: &'a str,
-}
-
-/// A door with connections that send these texts.
-fn door(alloc: Global, links: &[&str]) -> Result<MemDoor, OutOfMemory> {
-    let mut conns = Vec::new(alloc);
-    for text in links {
-        let bytes = Vec::from_slice(alloc, text.as_bytes())?;
-        let link = MemLink::new(alloc, bytes, 7, Vec::new(alloc));
-        conns.push(link)?;
-    }
-    Ok(MemDoor::new(alloc, conns, Vec::new(alloc)))
-}
-
-/// The fronts of what the closed connections were answered.
-fn answers(alloc: Global, door: &MemDoor) -> Result<Vec<u8>, OutOfMemory> {
-    let mut fronts = Vec::new(alloc);
-    for link in door.closed() {
-        if let Some(front) = link.written().get(..12) {
-            fronts.extend_from_slice(front)?;
-        }
-    }
-    Ok(fronts)
-}
-
-/// Whether `serve` does what the session says.
-fn serves<R: Threads + Wait + Sync>(
-    rt: &R,
-    alloc: Global,
-    session: Session<'_>,
-) -> Result<bool, OutOfMemory> {
-    let mut world = world(alloc, plain(""), Vec::new(alloc))?;
-    let bytes = Vec::from_slice(alloc, session.registry)?;
-    world.registry = MemDisk::new(alloc, bytes, Vec::new(alloc));
-    world.door = door(alloc, session.links)?;
-    let mut words = Vec::new(alloc);
-    words.push(String::from_str(alloc, "serve")?)?;
-    words.push(String::from_str(alloc, session.option)?)?;
-    let ended = esm(rt, alloc, words.as_slice(), world);
-    let seen = seen_of(alloc, &ended)?;
-    let answers = answers(alloc, &ended.world.door)?;
-    Ok(told(&seen, session.status, session.out) && answers.as_slice() == session.answers.as_bytes())
-}
-
-const SESSIONS: [Session<'static>; 5] = [
-    Session {
-        option: "--requests=0",
-        registry: FRESH,
-        links: &[],
-        status: 0,
-        out: "served 0\ndone\n",
-        answers: "",
-    },
-    Session {
-        option: "--requests=1",
-        registry: FRESH,
-        links: &[],
-        status: 11,
-        out: "served 0\ndoor fault\n",
-        answers: "",
-    },
-    Session {
-        option: "--requests=1",
-        registry: FRESH,
-        links: &["GET /2015-03-31/event-source-map"],
-        status: 0,
-        out: "served 1\ndone\n",
-        answers: "",
-    },
-    Session {
-        option: "--requests=2",
-        registry: FRESH,
-        links: &[POST, LIST],
-        status: 0,
-        out: "served 2\ndone\n",
-        answers: "HTTP/1.1 202HTTP/1.1 200",
-    },
-    Session {
-        option: "--requests=1",
-        registry: b"{}",
-        links: &[LIST],
-        status: 8,
-        out: "not a journal registry.esm\n",
-        answers: "",
-    },
-];
-
-#[test]
-fn serve_edges(rt: HostRuntime) -> Result<(), Fail> {
-    let alloc = rt.alloc();
-    for session in &SESSIONS {
-        assert!(rt; serves(&rt, alloc, *session)?);
-    }
     Ok(())
 }
