@@ -21,6 +21,3 @@ mod world;
 
 pub use top::esm;
 pub use world::{Ended, World};
-
-#[cfg(test)]
-mod tests;

@@ -1,0 +1,11 @@
+//! Worked examples through the top call: what a command's words, its input and its connections come to, over devices
+//! in memory. The crate has nothing but these tests, so that the crate of the top call is proved once and they are
+//! proved apart from it.
+#![tactic(auto)]
+
+#[cfg(test)]
+mod runs;
+#[cfg(test)]
+mod serves;
+#[cfg(test)]
+mod worlds;

@@ -1,0 +1,324 @@
+// The worked examples of `run`.
+ghost use Rattle.std.specs.Prelude.{◌≡◌, [], length, IfOk};
+
+use crate::worlds::{MemWorld, Seen, bare, disk, left, told, world};
+use esm_io::{MemDoor, MemSink, MemSource};
+use esm_model::OutOfMemory;
+use std::alloc::Global;
+use std::sync::Wait;
+use std::test::Fail;
+use std::thread::Threads;
+
+/// The mapping `C0` of the worked examples, up to its last brace.
+const SOURCE: &str =
+    "{\"EventSourceArn\":\"arn:aws:kinesis:us-east-1:123456789012:stream/s\",\"FunctionName\":\"f\",\"StartingPosition\":\"TRIM_HORIZON\"";
+
+/// The mapping with more fields, each after a comma.
+fn mapping(alloc: Global, fields: &str) -> Result<String, OutOfMemory> {
+    let mut text = String::from_str(alloc, SOURCE)?;
+    text.push_str(fields)?;
+    text.push_str("}")?;
+    Ok(text)
+}
+
+/// Adds a record's line: its shard, sequence number, key and data.
+fn add_line(
+    input: &mut Vec<u8>,
+    shard: u8,
+    seq: &str,
+    key: &str,
+    data: &str,
+) -> Result<(), OutOfMemory> {
+    input.extend_from_slice(b"{\"shardId\":\"shardId-00000000000")?;
+    input.push(shard)?;
+    input.extend_from_slice(b"\",\"sequenceNumber\":\"")?;
+    input.extend_from_slice(seq.as_bytes())?;
+    input.extend_from_slice(b"\",\"partitionKey\":\"")?;
+    input.extend_from_slice(key.as_bytes())?;
+    input.extend_from_slice(b"\",\"data\":\"")?;
+    input.extend_from_slice(data.as_bytes())?;
+    input.extend_from_slice(b"\",\"approximateArrivalTimestamp\":0}\n")?;
+    Ok(())
+}
+
+/// Records of the first shard with data `Hello` and these sequence numbers and keys.
+fn lines(alloc: Global, records: &[(&str, &str)]) -> Result<Vec<u8>, OutOfMemory> {
+    let mut input = Vec::new(alloc);
+    for (seq, key) in records {
+        add_line(&mut input, b'0', *seq, *key, "SGVsbG8=")?;
+    }
+    Ok(input)
+}
+
+/// A world with this input, whose calls of input and output with these numbers fail.
+fn reading(
+    alloc: Global,
+    input: Vec<u8>,
+    input_fails: &[u64],
+    out_fails: &[u64],
+) -> Result<MemWorld, OutOfMemory>
+    ensures callers { IfOk result (λ world. length world.callers.items ≡ 64) }
+    ensures trace { IfOk result (λ world. world.trace.items ≡ []) }
+{
+    let input = MemSource::new(input, 65536, Vec::from_slice(alloc, input_fails)?);
+    let out = MemSink::new(alloc, 5, Vec::from_slice(alloc, out_fails)?);
+    let door = MemDoor::new(alloc, Vec::new(alloc), Vec::new(alloc));
+    world(alloc, input, out, disk(alloc), door)
+}
+
+/// What a run of the mapping with these fields leaves of a world.
+fn run_over<R: Threads + Wait + Sync>(
+    rt: &R,
+    alloc: Global,
+    fields: &str,
+    world: MemWorld,
+) -> Result<Seen, OutOfMemory>
+    requires callers { length world.callers.items ≡ 64 }
+    requires trace { world.trace.items ≡ [] }
+{
+    let config = mapping(alloc, fields)?;
+    left(
+        rt,
+        alloc,
+        &["run", "--config", config.as_str(), "--read-first"],
+        world,
+    )
+}
+
+/// What a run of the mapping with these fields leaves of a world with this input.
+fn run<R: Threads + Wait + Sync>(
+    rt: &R,
+    alloc: Global,
+    fields: &str,
+    input: Vec<u8>,
+) -> Result<Seen, OutOfMemory> {
+    let world = reading(alloc, input, &[], &[])?;
+    run_over(rt, alloc, fields, world)
+}
+
+#[test]
+fn empty_input(rt: HostRuntime) -> Result<(), Fail> {
+    let alloc = rt.alloc();
+    let seen = run(&rt, alloc, "", Vec::new(alloc))?;
+    assert!(rt; told(&seen, 0, "calls 0\ndone\n"));
+    assert_eq!(rt; seen.entries, 1);
+    Ok(())
+}
+
+#[test]
+fn one_record(rt: HostRuntime) -> Result<(), Fail> {
+    let alloc = rt.alloc();
+    let input = lines(alloc, &[("1", "1")])?;
+    let seen = run(&rt, alloc, "", input)?;
+    assert!(rt;
+        told(
+            &seen,
+            0,
+            "shard shardId-000000000000 records 1 checkpoint 1 succeeded 1 filtered 0 expired 0 exhausted 0\ncalls 1\ndone\n"
+        )
+    );
+    assert_eq!(rt; seen.events.as_slice(), [415].as_slice());
+    Ok(())
+}
+
+#[test]
+fn poison_one_by_one(rt: HostRuntime) -> Result<(), Fail> {
+    let alloc = rt.alloc();
+    let input = lines(alloc, &[("1", "1"), ("2", "bad"), ("3", "1")])?;
+    let seen = run(
+        &rt,
+        alloc,
+        ",\"BatchSize\":1,\"MaximumRetryAttempts\":1",
+        input,
+    )?;
+    assert!(rt;
+        told(
+            &seen,
+            0,
+            "shard shardId-000000000000 records 3 checkpoint 3 succeeded 2 filtered 0 expired 0 exhausted 1\ncalls 4\ndone\n"
+        )
+    );
+    Ok(())
+}
+
+#[test]
+fn poison_whole_batch(rt: HostRuntime) -> Result<(), Fail> {
+    let alloc = rt.alloc();
+    let input = lines(alloc, &[("1", "1"), ("2", "bad"), ("3", "1")])?;
+    let seen = run(&rt, alloc, ",\"MaximumRetryAttempts\":1", input)?;
+    assert!(rt;
+        told(
+            &seen,
+            0,
+            "shard shardId-000000000000 records 3 checkpoint 3 succeeded 0 filtered 0 expired 0 exhausted 3\ncalls 2\ndone\n"
+        )
+    );
+    Ok(())
+}
+
+#[test]
+fn retry_delays(rt: HostRuntime) -> Result<(), Fail> {
+    let alloc = rt.alloc();
+    let input = lines(alloc, &[("1", "bad")])?;
+    let seen = run(&rt, alloc, ",\"MaximumRetryAttempts\":2", input)?;
+    assert!(rt;
+        told(
+            &seen,
+            0,
+            "shard shardId-000000000000 records 1 checkpoint 1 succeeded 0 filtered 0 expired 0 exhausted 1\ncalls 3\ndone\n"
+        )
+    );
+    assert_eq!(rt;
+        seen.calls.as_slice(),
+        [(0, 1), (250, 1), (750, 1)].as_slice()
+    );
+    Ok(())
+}
+
+/// 300 bytes of data.
+fn long_data(alloc: Global) -> Result<String, OutOfMemory> {
+    let mut data = String::new(alloc);
+    for _ in 0..100 {
+        data.push_str("QUFB")?;
+    }
+    Ok(data)
+}
+
+/// 10,000 records with the sequence numbers 10000 to 19999 and 300 bytes of data each.
+fn many(alloc: Global) -> Result<Vec<u8>, OutOfMemory> {
+    let data = long_data(alloc)?;
+    let mut input = Vec::new(alloc);
+    for seq in 10000..20000u32 {
+        let seq = format!(in alloc; "{seq}")?;
+        add_line(&mut input, b'0', seq.as_str(), "1", data.as_str())?;
+    }
+    Ok(input)
+}
+
+#[test]
+fn payload_limit(rt: HostRuntime) -> Result<(), Fail> {
+    let alloc = rt.alloc();
+    let input = many(alloc)?;
+    let seen = run(&rt, alloc, ",\"BatchSize\":10000", input)?;
+    assert_eq!(rt; seen.status, 0);
+    assert_eq!(rt; seen.calls.as_slice(), [(0, 7844), (0, 2156)].as_slice());
+    assert_eq!(rt; seen.events.first().copied(), Some(6290901));
+    Ok(())
+}
+
+#[test]
+fn refused_words(rt: HostRuntime) -> Result<(), Fail> {
+    let alloc = rt.alloc();
+    let seen = left(&rt, alloc, &["run"], bare(alloc)?)?;
+    assert!(rt; told(&seen, 2, "bad words\n"));
+    let seen = run(&rt, alloc, ",\"BatchSize\":0", Vec::new(alloc))?;
+    assert!(rt; told(&seen, 9, "bad parameter BatchSize\n"));
+    Ok(())
+}
+
+#[test]
+fn calls_spent(rt: HostRuntime) -> Result<(), Fail> {
+    let alloc = rt.alloc();
+    let input = lines(alloc, &[("1", "1"), ("2", "1")])?;
+    let config = mapping(alloc, ",\"BatchSize\":1")?;
+    let world = reading(alloc, input, &[], &[])?;
+    let words = [
+        "run",
+        "--config",
+        config.as_str(),
+        "--read-first",
+        "--calls=1",
+    ];
+    let seen = left(&rt, alloc, &words, world)?;
+    assert!(rt;
+        told(
+            &seen,
+            1,
+            "shard shardId-000000000000 records 2 checkpoint 1 succeeded 1 filtered 0 expired 0 exhausted 0\ncalls 1\ncalls spent\n"
+        )
+    );
+    Ok(())
+}
+
+#[test]
+fn backwards_number(rt: HostRuntime) -> Result<(), Fail> {
+    let alloc = rt.alloc();
+    let input = lines(alloc, &[("99", "1"), ("100", "1")])?;
+    let seen = run(&rt, alloc, "", input)?;
+    assert_eq!(rt; seen.status, 0);
+    let input = lines(alloc, &[("100", "1"), ("99", "1")])?;
+    let seen = run(&rt, alloc, "", input)?;
+    assert!(rt;
+        told(
+            &seen,
+            3,
+            "shard shardId-000000000000 records 1 checkpoint 1 succeeded 1 filtered 0 expired 0 exhausted 0\ncalls 1\nbad line 2: Backwards kept 100 given 99\n"
+        )
+    );
+    Ok(())
+}
+
+#[test]
+fn cut_line(rt: HostRuntime) -> Result<(), Fail> {
+    let alloc = rt.alloc();
+    let mut input = lines(alloc, &[("1", "1"), ("2", "1")])?;
+    input.extend_from_slice(b"{\"shardId\":\"sh")?;
+    let seen = run(&rt, alloc, "", input)?;
+    assert!(rt;
+        told(
+            &seen,
+            3,
+            "shard shardId-000000000000 records 2 checkpoint 2 succeeded 2 filtered 0 expired 0 exhausted 0\ncalls 1\nbad line 3: NotJson\n"
+        )
+    );
+    Ok(())
+}
+
+/// A line without data; the other refused lines stand with the crate that reads them.
+#[test]
+fn refused_lines(rt: HostRuntime) -> Result<(), Fail> {
+    let alloc = rt.alloc();
+    let input = Vec::from_slice(
+        alloc,
+        b"{\"shardId\":\"shardId-000000000000\",\"sequenceNumber\":\"1\",\"partitionKey\":\"1\",\"approximateArrivalTimestamp\":0}",
+    )?;
+    let seen = run(&rt, alloc, "", input)?;
+    assert!(rt; told(&seen, 3, "calls 0\nbad line 1: Missing data\n"));
+    Ok(())
+}
+
+#[test]
+fn second_shard(rt: HostRuntime) -> Result<(), Fail> {
+    let alloc = rt.alloc();
+    let mut input = lines(alloc, &[("1", "1")])?;
+    add_line(&mut input, b'1', "2", "1", "SGVsbG8=")?;
+    let seen = run(&rt, alloc, "", input)?;
+    assert!(rt;
+        told(
+            &seen,
+            10,
+            "shard shardId-000000000000 records 1 checkpoint 1 succeeded 1 filtered 0 expired 0 exhausted 0\ncalls 1\nlimit shards\n"
+        )
+    );
+    Ok(())
+}
+
+#[test]
+fn device_faults(rt: HostRuntime) -> Result<(), Fail> {
+    let alloc = rt.alloc();
+    let input = lines(alloc, &[("1", "1")])?;
+    let world = reading(alloc, input, &[1], &[])?;
+    let seen = run_over(&rt, alloc, "", world)?;
+    assert!(rt;
+        told(
+            &seen,
+            4,
+            "shard shardId-000000000000 records 1 checkpoint 1 succeeded 1 filtered 0 expired 0 exhausted 0\ncalls 1\ninput fault\n"
+        )
+    );
+    let input = lines(alloc, &[("1", "1")])?;
+    let world = reading(alloc, input, &[], &[0])?;
+    let seen = run_over(&rt, alloc, "", world)?;
+    assert!(rt; told(&seen, 5, ""));
+    Ok(())
+}
