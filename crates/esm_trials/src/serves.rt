@@ -21,6 +21,14 @@ const POST: &str =
 /// The list of all mappings.
 const LIST: &str = "GET /2015-03-31/event-source-mappings/ HTTP/1.1\r\n\r\n";
 
+/// The deletion of the mapping of the first creation: its UUID is that of version 3 for source, function and number 1.
+const DELETE_FIRST: &str =
+    "DELETE /2015-03-31/event-source-mappings/672934be-806f-3fc2-bcb8-8f5b02118ff0 HTTP/1.1\r\n\r\n";
+
+/// The mapping of the second creation, whose UUID has the number 2.
+const GET_SECOND: &str =
+    "GET /2015-03-31/event-source-mappings/a70ffdc6-b448-3f32-b516-e020c9287e23 HTTP/1.1\r\n\r\n";
+
 /// A request that ends in the middle of its head.
 const CUT: &str = "GET /2015-03-31/event-source-map";
 
@@ -90,6 +98,19 @@ fn mapping_commands(rt: HostRuntime) -> Result<(), Fail> {
     assert_eq!(rt;
         seen.answers.as_slice(),
         b"HTTP/1.1 202HTTP/1.1 200".as_slice()
+    );
+    Ok(())
+}
+
+/// A creation number never comes again, so a mapping that is created again has another UUID.
+#[test]
+fn mapping_run(rt: HostRuntime) -> Result<(), Fail> {
+    let texts = [POST, DELETE_FIRST, POST, GET_SECOND];
+    let seen = served(&rt, rt.alloc(), "4", FRESH, &texts)?;
+    assert!(rt; told(&seen, 0, "served 4\ndone\n"));
+    assert_eq!(rt;
+        seen.answers.as_slice(),
+        b"HTTP/1.1 202HTTP/1.1 202HTTP/1.1 202HTTP/1.1 200".as_slice()
     );
     Ok(())
 }
