@@ -1,0 +1,4 @@
+pub mod Shards
+pub mod Gifts
+pub mod Staying
+pub mod Fitting

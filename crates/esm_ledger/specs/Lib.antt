@@ -1,0 +1,3 @@
+pub mod Shard
+pub mod Arriving
+pub mod ShardLaws

@@ -1,0 +1,14 @@
+//! What a stream's book keeps beside its history: one value a shard that says in constant or logarithmic time what the
+//! history says of it, and adds one entry at a time.
+//! It decides nothing. Adding an entry takes no memory. No device, clock or thread.
+#![tactic(auto)]
+
+mod arriving;
+mod measure;
+mod shard;
+pub mod shard_laws;
+mod shard_steps;
+
+pub use arriving::{Arriving, Landing};
+pub use measure::Measure;
+pub use shard::ShardLedger;
