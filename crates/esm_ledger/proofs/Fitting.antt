@@ -1,6 +1,6 @@
 -- What the entries of a legal history need of a shard that is kept.
 use Rattle.std.proofs.Common.{◌≡◌, ℕ, suc, ◌+◌, ◌<◌, ◌≤◌, Bool, true, false, ◌&&◌, cond, List, [], ◌∷◌, ◌++◌, length, take, filter, refl, sym, ap, ◌∙◌, subst, inl, inr, Option, Some, None, arith, is_some}
-use Rattle.std.specs.Prelude.{IsSome, take_while, count_by}
+use Rattle.std.specs.Prelude.{take_while, count_by}
 use Rattle.std.specs.List.{prefix_len}
 use Rattle.std.proofs.lemmas.List.{length-take}
 use Rattle.std.proofs.lemmas.List.Sums.{length-filter, count_by-le-length}
@@ -18,7 +18,7 @@ use Rattle.esm_model.specs.declared.entry.Entry.TheVariants.{Came, Began, Ended,
 use Rattle.esm_model.specs.Setting.{Setting, is_in_lane}
 use Rattle.esm_model.specs.Entries.{holds, came_count, calls_begun, is_running}
 use Rattle.esm_model.specs.FailureLine.{calls_of}
-use Rattle.esm_model.specs.Fates.{below, lacks_fate, open_places as model_open}
+use Rattle.esm_model.specs.Fates.{below, came_places, lacks_fate, open_places as model_open}
 use Rattle.esm_model.specs.Batches.{group, is_expired}
 use Rattle.esm_model.specs.Step.{Legal}
 use Rattle.esm_model.proofs.Lists.{IsFront, take_front}
@@ -30,12 +30,15 @@ use Rattle.esm_model.proofs.Records.{covered_running}
 use Rattle.esm_lanes.specs.Piece.{Piece, front_length}
 use Rattle.esm_tables.specs.LaneView.{lane_in, front_places}
 use Rattle.esm_tables.specs.LaneHistory.{IsLane}
+use Rattle.esm_tables.specs.Windows.{is_open_in}
 use Rattle.esm_tables.proofs.CallingSteps.{batch_stands_once}
 use Rattle.esm_tables.proofs.LaneReads.{lane_bounded}
 use Rattle.esm_tables.proofs.LaneGroups.{group_is}
 use Rattle.esm_tables.proofs.ProgressSteps.{progress_tells}
 use Rattle.esm_ledger.specs.declared.shard.ShardLedger.{ShardLedger}
 use Rattle.esm_ledger.specs.Shard.{IsShard, lane_id}
+use Rattle.esm_ledger.specs.declared.arriving.Arriving.{Arriving}
+use Rattle.esm_ledger.specs.Arriving.{IsEven, FitsNumbers}
 use Rattle.esm_ledger.specs.ShardLaws.{CallFits, EndFits, GiftFits, ExpiryFits, ShardTells}
 use Rattle.esm_ledger.proofs.Shards.{call_runs}
 use Rattle.esm_ledger.proofs.Gifts.{gave_came}
@@ -94,7 +97,7 @@ running_below s (Shut m ∷ h) lane legal runs = running_below s h lane legal.0 
 -- the open places of a lane are no more than the records that came
 open_short : (s : Setting) (h : List Entry) (lane : LaneId) → length (model_open s h lane) ≤ came_count h lane.shard
 open_short s h lane =
-    let p = λ i. is_in_lane s lane i && lacks_fate s h lane.shard i in
+    let p : ℕ → Bool = λ i. is_in_lane s lane i && lacks_fate s h lane.shard i in
     let counted : length (model_open s h lane) ≡ count_by p (below (came_count h lane.shard)) = length-filter p (below (came_count h lane.shard)) in
     omega (arith, counted, count_by-le-length p (below (came_count h lane.shard)), length-below (came_count h lane.shard))
 
@@ -126,10 +129,6 @@ call_may_begin s h lane places closing m c legal calls few there is =
 
 -- ends
 
-some_true : {A : Type 0} (o : Option A) → is_some o ≡ true → IsSome o
-some_true None is = cc
-some_true (Some x) is = tt
-
 pub end_may_come : (s : Setting) (h : List Entry) (lane : LaneId) (reply : Reply) (m : ℕ) (c : ShardLedger) → Legal s (Ended lane reply m ∷ h)
     → s.calls < 4294967296 → lane.shard ≡ c.shard → IsShard s h c → EndFits c lane.lane
 end_may_come s h lane reply m c legal calls there is =
@@ -141,7 +140,7 @@ end_may_come s h lane reply m c legal calls there is =
     let ran : is_running h (lane_id c.shard lane.lane) ≡ true = subst (λ (l : LaneId). is_running h l ≡ true) here runs in
     let bounds = lane_bounded s h (lane_id c.shard lane.lane) v legal.0 kept in
     let call = call_runs s h (lane_id c.shard lane.lane) v ran kept in
-    let fewer : v.state.failures < calls_begun h = bounds.running (some_true v.state.running (sym kept.runs ∙ ran)) in
+    let fewer : v.state.failures < calls_begun h = bounds.running (sym kept.runs ∙ ran) in
     record {
       known = subst (λ n. lane.lane < n) (sym is.factor) low;
       within = bounds.called;
@@ -187,6 +186,23 @@ expiry_may_come s h lane places line state m c legal few low is =
       within = omega (arith, exact, front);
       short = omega (arith, short, there, few);
     }
+
+-- records
+
+open_within : (s : Setting) (h : List Entry) (n w : ℕ) → length (filter (is_open_in s h n w) (came_places h n)) ≤ came_count h n
+open_within s h n w =
+    omega (arith, length-filter (is_open_in s h n w) (came_places h n), count_by-le-length (is_open_in s h n w) (came_places h n), length-below (came_count h n))
+
+pub records_may_come : (s : Setting) (h : List Entry) (a : Arriving) (c : ShardLedger) → Legal s h → IsEven a
+    → came_count h c.shard + length a.records.items < 4294967296 → IsShard s h c → FitsNumbers c a
+records_may_come s h a c legal even few is = record {
+  fates = omega (arith, is.progress.came, even.fates, few);
+  came = omega (arith, is.arrivals.came, few);
+  windows = λ w. omega (arith, is.windows.opened w, open_within s h c.shard w, even.windows, few);
+  lanes = λ k low. (
+      let bounds = lane_bounded s h (lane_id c.shard k) (lane_in c.lanes k) legal (is.lanes k (subst (λ n. k < n) is.factor low)) in
+      omega (arith, bounds.places, even.landings, few));
+}
 
 -- what is read
 

@@ -1,5 +1,5 @@
 -- What a fate makes of a shard that is kept.
-use Rattle.std.proofs.Common.{◌≡◌, ℕ, ◌+◌, ◌-◌, ◌<◌, ◌≤◌, Bool, true, false, ◌||◌, List, [], ◌∷◌, ◌++◌, length, map, refl, sym, ap, ◌∙◌, subst, Option, Some, None, get_or}
+use Rattle.std.proofs.Common.{◌≡◌, ℕ, ◌+◌, ◌-◌, ◌<◌, ◌≤◌, Bool, true, false, ◌||◌, List, [], ◌∷◌, ◌++◌, length, drop, map, refl, sym, ap, ◌∙◌, subst, Option, Some, None, get_or}
 use Rattle.std.specs.Prelude.{◌≢◌, if◌then◌else◌}
 use Rattle.esm_model.specs.declared.lane.LaneId.{LaneId}
 use Rattle.esm_model.specs.declared.entry.Fate.{Fate}
@@ -42,11 +42,11 @@ gave_front s h at n places Expired line state m legal = expired_front s h at n p
 gave_front s h at n places Succeeded line state m legal =
     let was = sound s h legal.0 at in
     let p = paid s h at (Gave (Some at) n places Succeeded line state m) legal.1.1 was in
-    front_front places (pending s h at) (open_places s h at) (debt_places _, p.pend) was.front
+    front_front places (pending s h at) (open_places s h at) (debt_places (drop 1 (debts s h at)), p.pend) was.front
 gave_front s h at n places Exhausted line state m legal =
     let was = sound s h legal.0 at in
     let p = paid s h at (Gave (Some at) n places Exhausted line state m) legal.1.1 was in
-    front_front places (pending s h at) (open_places s h at) (debt_places _, p.pend) was.front
+    front_front places (pending s h at) (open_places s h at) (debt_places (drop 1 (debts s h at)), p.pend) was.front
 
 once_front : (xs rest : List ℕ) → Distinct (xs ++ rest) → StandOnce xs
 once_front [] rest d = tt
@@ -139,4 +139,4 @@ pub shard_expired : (s : Setting) (h : List Entry) (c : ShardLedger) (progress :
     → IsShard s (Gave (Some (lane_id c.shard lane)) c.shard places Expired line None m ∷ h) (record c { progress = progress; windows = windows; lanes = lanes })
 shard_expired s h c progress windows lanes lane places line m gives here others size some legal is =
     shard_given s h c progress windows lanes (Some (lane_id c.shard lane)) places Expired line None m gives
-    (at_lane c.shard lane (after_expired (length places)) c.lanes lanes here others) size some legal is
+    (at_lane c.shard lane (λ k. after_expired (length places)) c.lanes lanes here others) size some legal is

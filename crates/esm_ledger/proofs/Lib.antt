@@ -2,3 +2,4 @@ pub mod Shards
 pub mod Gifts
 pub mod Staying
 pub mod Fitting
+pub mod Landings

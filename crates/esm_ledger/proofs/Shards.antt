@@ -55,13 +55,13 @@ lanes_step s h e n old new some legal is same k low =
     subst (λ (v : LaneView). IsLane s (e ∷ h) (lane_id n k) v) (sym (same k)) (lane_step s h e (lane_id n k) (lane_in old k) some legal (is k low))
 
 -- one lane changes, and the others stay
-pub at_lane : (n j : ℕ) (f : LaneView → LaneView) (old new : Table) → lane_in new j ≡ f (lane_in old j) → ((k : ℕ) → k ≢ j → lane_in new k ≡ lane_in old k)
-    → (k : ℕ) → lane_in new k ≡ (if same_lane (lane_id n j) (lane_id n k) then f (lane_in old k) else lane_in old k)
+pub at_lane : (n j : ℕ) (f : ℕ → LaneView → LaneView) (old new : Table) → lane_in new j ≡ f j (lane_in old j) → ((k : ℕ) → k ≢ j → lane_in new k ≡ lane_in old k)
+    → (k : ℕ) → lane_in new k ≡ (if same_lane (lane_id n j) (lane_id n k) then f k (lane_in old k) else lane_in old k)
 at_lane n j f old new here others k = elim (cases_Bool (same_lane (lane_id n j) (lane_id n k))) [
   | inl is ↦ (
       let e : lane_id n j ≡ lane_id n k = same_lane-true (lane_id n j) (lane_id n k) is in
       let i : j ≡ k = ap (λ (l : LaneId). l.lane) e in
-      rw is (subst (λ (x : ℕ). lane_in new x ≡ f (lane_in old x)) i here))
+      rw is (subst (λ (x : ℕ). lane_in new x ≡ f x (lane_in old x)) i here))
   | inr off ↦ rw off (others k (λ i.
       let itself : same_lane (lane_id n k) (lane_id n k) ≡ false = subst (λ (x : ℕ). same_lane (lane_id n x) (lane_id n k) ≡ false) (sym i) off in
       let clash : true ≡ false = sym (same_lane-refl (lane_id n k)) ∙ itself in cc))
@@ -104,7 +104,7 @@ shard_began s h c callings lanes lane places closing m len calls responses here 
       callings = call_begins h (lane_id c.shard lane) c.callings callings places closing m is.callings len calls responses;
       windows = windows_stay s h c.shard c.windows e tt is.windows;
       factor = size ∙ is.factor;
-      lanes = lanes_step s h e c.shard c.lanes lanes some legal is.lanes (at_lane c.shard lane (after_began (record { count = length places; closing = closing })) c.lanes lanes here others);
+      lanes = lanes_step s h e c.shard c.lanes lanes some legal is.lanes (at_lane c.shard lane (λ k. after_began (record { count = length places; closing = closing })) c.lanes lanes here others);
     }
 
 pub shard_ended : (s : Setting) (h : List Entry) (c : ShardLedger) (callings : Called) (windows : WindowTable) (lanes : Table) (lane : ℕ) (response : Option Response) (verdict : Verdict) (reply : Reply) (m : ℕ)
@@ -138,7 +138,7 @@ shard_ended s h c callings windows lanes lane response verdict reply m known len
           opened states last;
       factor = size ∙ is.factor;
       lanes = lanes_step s h e c.shard c.lanes lanes some legal is.lanes
-          (at_lane c.shard lane (after_ended (verdict_after s h (lane_id c.shard lane) reply) m) c.lanes lanes
+          (at_lane c.shard lane (λ k. after_ended (verdict_after s h (lane_id c.shard k) reply) m) c.lanes lanes
           (here ∙ ap (λ (v : Verdict). after_ended v m (lane_in c.lanes lane)) ruled) others);
     }
 

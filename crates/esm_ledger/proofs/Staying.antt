@@ -15,7 +15,7 @@ use Rattle.esm_model.specs.Entries.{came_count, is_running}
 use Rattle.esm_model.specs.Fates.{below, lacks_fate, came_places}
 use Rattle.esm_model.specs.Ruling.{capped_tries}
 use Rattle.esm_model.specs.Windows.{window_of}
-use Rattle.esm_model.specs.Owed.{Debt, debts}
+use Rattle.esm_model.specs.Owed.{Debt, debts, is_unsorted}
 use Rattle.esm_model.specs.Step.{Legal}
 use Rattle.esm_model.proofs.Lists.{In, In-here, In-below}
 use Rattle.esm_model.proofs.Steps.{came_grows}
@@ -26,13 +26,13 @@ use Rattle.esm_model.proofs.Records.{SameRecords, same_records, filter_same, win
 use Rattle.esm_tables.specs.LaneView.{LaneView, lane_in, empty_view}
 use Rattle.esm_tables.specs.LaneHistory.{IsLane, HasFoundTries}
 use Rattle.esm_tables.specs.LaneSteps.{after_entry}
-use Rattle.esm_tables.specs.Progress.{IsProgress}
+use Rattle.esm_tables.specs.FateCounts.{count_in}
 use Rattle.esm_tables.specs.Windows.{WindowTable, IsWindows, window_before, is_open_in}
-use Rattle.esm_tables.proofs.LaneSteps.{unused}
+use Rattle.esm_tables.proofs.LaneSteps.{unused, lane_begins}
 use Rattle.esm_tables.proofs.LaneOver.{lane_over}
-use Rattle.esm_tables.proofs.ArrivalSteps.{arrivals_stay}
-use Rattle.esm_tables.proofs.CallingSteps.{callings_stay}
-use Rattle.esm_tables.proofs.ProgressSteps.{progress_stays}
+use Rattle.esm_tables.proofs.ArrivalSteps.{arrivals_begin, arrivals_stay}
+use Rattle.esm_tables.proofs.CallingSteps.{callings_begin, callings_stay}
+use Rattle.esm_tables.proofs.ProgressSteps.{progress_begins, progress_stays}
 use Rattle.esm_tables.proofs.WindowSteps.{windows_stay}
 use Rattle.esm_ledger.specs.declared.measure.Measure.{Measure}
 use Rattle.esm_ledger.specs.declared.shard.ShardLedger.{ShardLedger}
@@ -195,7 +195,7 @@ first_In (x ∷ xs) some = In-here x xs x refl
 gave_before : (s : Setting) (h : List Entry) (n : ℕ) (by : Option LaneId) (shard : ℕ) (places : List ℕ) (f : Fate) (line : Option (List ℕ)) (state : Option WindowState) (m : ℕ)
     → Legal s (Gave by shard places f line state m ∷ h) → came_count h n ≡ 0 → shard ≡ n → ⊥
 gave_before s h n None shard places Filtered line state m legal none same =
-    let short : places ≡ [] = legal.1.1.exact ∙ ap (λ k. filter _ (below k)) (ap (came_count h) same ∙ none) in
+    let short : places ≡ [] = legal.1.1.exact ∙ ap (λ k. filter (is_unsorted s h shard) (below k)) (ap (came_count h) same ∙ none) in
     let some : 1 ≤ length places = legal.1.1.some in
     omega (arith, some, ap length short)
 gave_before s h n None shard places Succeeded line state m legal none same = legal.1.1
@@ -237,3 +237,25 @@ shard_before s [] c some legal none is = is
 shard_before s (e ∷ h) c some legal none is =
     let grows : came_count h c.shard ≤ came_count (e ∷ h) c.shard = came_grows e h c.shard in
     shard_stays s h e c some (leaves_before s h e c.shard legal none) legal (shard_before s h c some legal.0 (omega (arith, grows, none)) is)
+
+-- a shard of which no record came
+
+pub shard_new : (s : Setting) (h : List Entry) (c : ShardLedger) → c.records.items ≡ [] → c.measures.items ≡ [] → c.progress.fated ≡ [] → ((f : Fate) → count_in c.progress.counts f ≡ 0)
+    → c.arrivals.runs ≡ [] → c.arrivals.came ≡ 0 → c.callings.records ≡ [] → length c.lanes.lanes ≡ s.config.factor → ((k : ℕ) → lane_in c.lanes k ≡ empty_view)
+    → HasFoundTries s c.shard → Legal s h → came_count h c.shard ≡ 0 → IsWindows s [] c.shard c.windows → IsShard s h c
+shard_new s h c records measures fated counts runs came callings size empty some legal none windows =
+    shard_before s h c some legal none (record {
+      records = record {
+        came = ap length records;
+        measured = ap length measures;
+        stand = λ i r at. (let never : None ≡ Some r = sym (ap (λ (rs : List Record). slice_get rs i) records) ∙ at in absurd cc);
+        lengths = λ i r at. (let never : None ≡ Some r = sym (ap (λ (rs : List Record). slice_get rs i) records) ∙ at in absurd cc);
+        windows = λ i low. absurd (omega (arith, low));
+      };
+      progress = progress_begins s c.shard c.progress fated counts;
+      arrivals = arrivals_begin c.shard c.arrivals runs came;
+      callings = callings_begin c.shard c.callings callings;
+      windows = windows;
+      factor = size;
+      lanes = λ k low. subst (λ (v : LaneView). IsLane s [] (lane_id c.shard k) v) (sym (empty k)) (lane_begins s [] (lane_id c.shard k) tt refl);
+    })

@@ -89,4 +89,4 @@ pub record FitsNumbers (c : ShardLedger) (a : Arriving) : Type 0 where
   pub fates : length c.progress.fated + length a.fates.items < 4294967296
   pub came : c.arrivals.came + length a.records.items < 4294967296
   pub windows : (w : ℕ) → open_in c.windows w + length a.windows.items < 4294967296
-  pub lanes : (k : ℕ) → length (open_places (lane_in c.lanes k).kept.pieces) + length a.landings.items < 4294967296
+  pub lanes : (k : ℕ) → k < length c.lanes.lanes → length (open_places (lane_in c.lanes k).kept.pieces) + length a.landings.items < 4294967296

@@ -20,7 +20,7 @@ ghost use Rattle.esm_ledger.specs.Arriving.{AreArriving, IsEven, IsWithin, HasRo
 
 use crate::arriving::Arriving;
 use crate::measure::Measure;
-use crate::shard_steps::{count_try, land, leave_windows};
+use crate::shard_steps::{count_try, land, leave_windows, take_state};
 use esm_model::{Fate, OutOfMemory, Record, Response, Verdict, WindowState};
 use esm_tables::{Arrivals, Callings, LaneTable, Progress, Running, Windows};
 use std::alloc::Global;
@@ -51,7 +51,7 @@ impl ShardLedger {
         requires some { 1 ≤ lanes }
         requires most { lanes ≤ MAX_LANES }
         ensures shard { IfOk result (λ c. c.shard ≡ shard) }
-        ensures kept { IfOk result (λ c. (s : Setting) (h : List Entry) → s.config.factor ≡ lanes → Legal s h → came_count h shard ≡ 0 →
+        ensures kept { IfOk result (λ c. (s : Setting) (h : List Entry) → HasFoundTries s shard → s.config.factor ≡ lanes → Legal s h → came_count h shard ≡ 0 →
             IsWindows s [] shard windows → IsShard s h c) }
     {
         Ok(ShardLedger {
@@ -157,9 +157,7 @@ impl ShardLedger {
     {
         self.progress.give(places, fate);
         leave_windows(&mut self.windows, self.measures.as_slice(), places);
-        if let Some(state) = state {
-            self.windows.state_given(state.window, state.text);
-        }
+        take_state(&mut self.windows, state);
     }
 
     /// The records at the places, the first of the lane's front piece, expire (Lambda Developer Guide,
@@ -210,13 +208,14 @@ impl ShardLedger {
         ensures states { self.new.windows.states ≡ self.old.windows.states }
         ensures tries { self.new.windows.tries ≡ self.old.windows.tries }
     {
-        let first = self.records.len() as u32;
+        let first = self.progress.len();
         let count = arriving.records.len();
         let mut arriving = arriving;
         self.progress.came(arriving.fates.as_slice());
         self.arrivals.came(count as u32, moment);
         self.callings.came(count);
-        self.windows.came(arriving.windows.as_slice(), arriving.last);
+        self.windows
+            .came(arriving.windows.as_slice(), arriving.last);
         land(&mut self.lanes, alloc, first, arriving.landings.as_slice());
         let _ = self.records.append(&mut arriving.records);
         let _ = self.measures.append(&mut arriving.measures);

@@ -7,13 +7,14 @@ ghost use Rattle.esm_model.specs.Tries.{is_closed_by};
 ghost use Rattle.esm_lanes.specs.Piece.{open_places};
 ghost use Rattle.esm_tables.specs.LaneView.{lane_in};
 ghost use Rattle.esm_tables.specs.WindowEntries.{has_entry};
-ghost use Rattle.esm_tables.specs.Windows.{open_in, tries_in, times};
+ghost use Rattle.esm_tables.specs.Windows.{open_in, state_in, tries_in, times};
+ghost use Rattle.esm_model.specs.Windows.{text_for};
 ghost use Rattle.esm_ledger.specs.Shard.{closing_in, windows_at};
 ghost use Rattle.esm_ledger.specs.Arriving.{IsWithin, landing_count, landed, land_in};
 
 use crate::arriving::Landing;
 use crate::measure::Measure;
-use esm_model::Rest;
+use esm_model::{Rest, WindowState};
 use esm_tables::{LaneTable, Running, Windows};
 use std::alloc::Global;
 
@@ -50,11 +51,24 @@ pub fn leave_windows(windows: &mut Windows, measures: &[Measure], places: &[u32]
     }
 }
 
+/// The state, if there is one, is that of its window.
+pub fn take_state(windows: &mut Windows, state: Option<WindowState>)
+    requires { IfSome state (λ x. has_entry windows.old.states x.window ≡ true) }
+    ensures states { (w : ℕ) → state_in windows.new w ≡ text_for w (state_in windows.old w) state }
+    ensures opened { windows.new.opened ≡ windows.old.opened }
+    ensures tries { windows.new.tries ≡ windows.old.tries }
+    ensures last { windows.new.last ≡ windows.old.last }
+{
+    if let Some(state) = state {
+        windows.state_given(state.window, state.text);
+    }
+}
+
 /// The records from the place `first` on come to their lanes.
 pub fn land(lanes: &mut LaneTable, alloc: Global, first: u32, landings: &[Option<Landing>])
     requires within { All (IsWithin (length lanes.old.lanes)) landings.now }
     requires room { (k : ℕ) → landing_count k landings.now ≤ (lane_in lanes.old k).kept.adds }
-    requires few { (k : ℕ) → length (open_places (lane_in lanes.old k).kept.pieces) + length landings.now ≤ u32.MAX }
+    requires few { (k : ℕ) → k < length lanes.old.lanes → length (open_places (lane_in lanes.old k).kept.pieces) + length landings.now ≤ u32.MAX }
     requires short { first + length landings.now ≤ u32.MAX }
     ensures lane { (k : ℕ) → lane_in lanes.new k ≡ landed k first landings.now (lane_in lanes.old k) }
     ensures lanes { length lanes.new.lanes ≡ length lanes.old.lanes }
