@@ -1,15 +1,15 @@
 -- What a fate makes of a shard that is kept.
-use Rattle.std.proofs.Common.{◌≡◌, ℕ, ◌+◌, ◌-◌, ◌<◌, ◌≤◌, Bool, true, false, ◌||◌, List, [], ◌∷◌, ◌++◌, length, drop, map, refl, sym, ap, ◌∙◌, subst, Option, Some, None, get_or}
-use Rattle.std.specs.Prelude.{◌≢◌, if◌then◌else◌}
+use Rattle.std.proofs.Common.{◌≡◌, ℕ, ◌+◌, ◌-◌, ◌<◌, true, false, ◌||◌, List, [], ◌∷◌, ◌++◌, length, drop, map, refl, sym, ap, ◌∙◌, subst, Option, Some, None, get_or}
+use Rattle.std.specs.Prelude.{◌≢◌}
 use Rattle.esm_model.specs.declared.lane.LaneId.{LaneId}
 use Rattle.esm_model.specs.declared.entry.Fate.{Fate}
 use Rattle.esm_model.specs.declared.entry.Fate.TheVariants.{Succeeded, Filtered, Expired, Exhausted}
 use Rattle.esm_model.specs.declared.entry.WindowState.{WindowState}
 use Rattle.esm_model.specs.declared.entry.Entry.{Entry}
 use Rattle.esm_model.specs.declared.entry.Entry.TheVariants.{Gave}
-use Rattle.esm_model.specs.Setting.{Setting, is_in_lane}
+use Rattle.esm_model.specs.Setting.{Setting}
 use Rattle.esm_model.specs.Entries.{holds, came_count}
-use Rattle.esm_model.specs.Fates.{same_fate, lacks_fate, open_places, below}
+use Rattle.esm_model.specs.Fates.{same_fate, open_places, below}
 use Rattle.esm_model.specs.Windows.{window_of, text_for}
 use Rattle.esm_model.specs.Owed.{debts, is_unsorted}
 use Rattle.esm_model.specs.Step.{Legal}
@@ -29,7 +29,6 @@ use Rattle.esm_tables.proofs.ArrivalSteps.{arrivals_stay}
 use Rattle.esm_tables.proofs.CallingSteps.{callings_stay}
 use Rattle.esm_tables.proofs.ProgressSteps.{progress_gives}
 use Rattle.esm_tables.proofs.WindowSteps.{windows_give}
-use Rattle.esm_ledger.specs.declared.measure.Measure.{Measure}
 use Rattle.esm_ledger.specs.declared.shard.ShardLedger.{ShardLedger}
 use Rattle.esm_ledger.specs.Shard.{IsShard, lane_id, measure_at, windows_at}
 use Rattle.esm_ledger.proofs.Shards.{records_stay, lanes_step, at_lane}

@@ -8,7 +8,6 @@ use Rattle.std.proofs.Math.Seq.{drop-cons}
 use Rattle.std.proofs.lemmas.List.{get_or-append-add, map_more}
 use Rattle.std.proofs.lemmas.List.Elements.{filter-append}
 use Rattle.esm_model.specs.declared.item.Record.{Record}
-use Rattle.esm_model.specs.declared.lane.LaneId.{LaneId}
 use Rattle.esm_model.specs.declared.entry.Fate.{Fate}
 use Rattle.esm_model.specs.declared.entry.Entry.{Entry}
 use Rattle.esm_model.specs.declared.entry.Entry.TheVariants.{Came}
@@ -254,10 +253,10 @@ few_left k place i n ls l v low is few =
 
 -- what one landing needs
 
-pub some_room : (o : Option Landing) (i : ℕ) (ls : List (Option Landing)) (lanes : Table) → i < length ls → o ≡ get_or ls i None
-    → ((k : ℕ) → landing_count k (drop i ls) ≤ (lane_in lanes k).kept.adds) → IfSome o (λ (l : Landing). 1 ≤ (lane_in lanes l.lane).kept.adds)
-some_room None i ls lanes low is room = tt
-some_room (Some l) i ls lanes low is room = room_here i ls l (lane_in lanes l.lane).kept.adds low is (room l.lane)
+pub some_room : (o : Option Landing) (i : ℕ) (ls : List (Option Landing)) (lanes : Table) → i < length ls → o ≡ get_or ls i None → IsWithin (length lanes.lanes) o
+    → ((k : ℕ) → k < length lanes.lanes → landing_count k (drop i ls) ≤ (lane_in lanes k).kept.adds) → IfSome o (λ (l : Landing). 1 ≤ (lane_in lanes l.lane).kept.adds)
+some_room None i ls lanes low is within room = tt
+some_room (Some l) i ls lanes low is within room = room_here i ls l (lane_in lanes l.lane).kept.adds low is (room l.lane within.0)
 
 pub some_few : (o : Option Landing) (i : ℕ) (ls : List (Option Landing)) (lanes : Table) → i < length ls → o ≡ get_or ls i None → IsWithin (length lanes.lanes) o
     → ((k : ℕ) → k < length lanes.lanes → length (piece.open_places (lane_in lanes k).kept.pieces) + length (drop i ls) ≤ 4294967295)

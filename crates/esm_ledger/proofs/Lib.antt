@@ -3,3 +3,4 @@ pub mod Gifts
 pub mod Staying
 pub mod Fitting
 pub mod Landings
+pub mod Besides

@@ -1,5 +1,5 @@
 -- What one entry makes of a shard that is kept.
-use Rattle.std.proofs.Common.{◌≡◌, ℕ, suc, ◌+◌, ◌<◌, ◌≤◌, Bool, true, false, ◌&&◌, cond, List, [], ◌∷◌, length, take, refl, sym, ap, ◌∙◌, subst, inl, inr, Option, Some, None, arith, is_some}
+use Rattle.std.proofs.Common.{◌≡◌, ℕ, suc, ◌+◌, ◌<◌, true, false, ◌&&◌, List, ◌∷◌, length, take, refl, sym, ap, ◌∙◌, subst, inl, inr, Option, Some, None, is_some}
 use Rattle.std.specs.Prelude.{◌==◌, ◌≢◌, if◌then◌else◌}
 use Rattle.std.proofs.lemmas.Bool.{cases_Bool}
 use Rattle.esm_model.specs.Lane.{same_lane}
@@ -9,9 +9,9 @@ use Rattle.esm_model.specs.declared.event.Response.{Response}
 use Rattle.esm_model.specs.declared.verdict.Verdict.{Verdict}
 use Rattle.esm_model.specs.declared.entry.Reply.{Reply}
 use Rattle.esm_model.specs.declared.entry.Entry.{Entry}
-use Rattle.esm_model.specs.declared.entry.Entry.TheVariants.{Came, Began, Ended, Gave, Closed}
+use Rattle.esm_model.specs.declared.entry.Entry.TheVariants.{Began, Ended, Closed}
 use Rattle.esm_model.specs.Setting.{Setting}
-use Rattle.esm_model.specs.Entries.{Call, holds, came_count, is_running, last_call, batch_of}
+use Rattle.esm_model.specs.Entries.{holds, came_count, is_running, last_call, batch_of}
 use Rattle.esm_model.specs.FailureLine.{response_in}
 use Rattle.esm_model.specs.Ruling.{capped_tries, is_counted}
 use Rattle.esm_model.specs.Tries.{is_closed_by, verdict_after}

@@ -1,8 +1,7 @@
 -- What changes nothing of a shard that is kept: entries elsewhere, more records, and all before its first record.
-use Rattle.std.proofs.Common.{◌≡◌, ℕ, zero, suc, ◌+◌, ◌<◌, ◌≤◌, Bool, true, false, ◌&&◌, List, [], ◌∷◌, length, refl, sym, ap, ◌∙◌, subst, inl, inr, Option, Some, None, arith, get_or}
-use Rattle.std.specs.Prelude.{◌==◌, ⊤, ◌≢◌, filter, slice_get, slice_index, if◌then◌else◌}
-use Rattle.std.proofs.lemmas.Bool.{cases_Bool, eqb-true, eq-eqb}
-use Rattle.esm_model.specs.Lane.{same_lane}
+use Rattle.std.proofs.Common.{◌≡◌, ℕ, zero, suc, ◌+◌, ◌<◌, ◌≤◌, Bool, true, false, ◌&&◌, List, [], ◌∷◌, length, refl, sym, ap, ◌∙◌, subst, inl, inr, Option, Some, None, arith}
+use Rattle.std.specs.Prelude.{◌==◌, filter, slice_get, slice_index, if◌then◌else◌}
+use Rattle.std.proofs.lemmas.Bool.{cases_Bool, eqb-true}
 use Rattle.esm_model.specs.declared.item.Record.{Record}
 use Rattle.esm_model.specs.declared.lane.LaneId.{LaneId}
 use Rattle.esm_model.specs.declared.entry.Fate.{Fate}
@@ -10,11 +9,10 @@ use Rattle.esm_model.specs.declared.entry.Fate.TheVariants.{Succeeded, Filtered,
 use Rattle.esm_model.specs.declared.entry.WindowState.{WindowState}
 use Rattle.esm_model.specs.declared.entry.Entry.{Entry}
 use Rattle.esm_model.specs.declared.entry.Entry.TheVariants.{Came, Began, Ended, Gave, Tried, Closed, Replayed, Shut}
-use Rattle.esm_model.specs.Setting.{Setting, Stream, Extends, over, record_at}
+use Rattle.esm_model.specs.Setting.{Setting, Stream, Extends, over}
 use Rattle.esm_model.specs.Entries.{came_count, is_running}
 use Rattle.esm_model.specs.Fates.{below, lacks_fate, came_places}
 use Rattle.esm_model.specs.Ruling.{capped_tries}
-use Rattle.esm_model.specs.Windows.{window_of}
 use Rattle.esm_model.specs.Owed.{Debt, debts, is_unsorted}
 use Rattle.esm_model.specs.Step.{Legal}
 use Rattle.esm_model.proofs.Lists.{In, In-here, In-below}

@@ -1,11 +1,10 @@
 -- Records of a shard that are about to come, and what is kept of them. This product's own.
-use Rattle.std.specs.Prelude.{◌≡◌, ℕ, suc, ◌+◌, ◌<◌, ◌≤◌, ◌==◌, Bool, true, false, List, [], ◌∷◌, length, filter, map, Option, Some, None, IfSome, slice_get, slice_index_or, unwrap_or, option_map, if◌then◌else◌, vec_len, vec_capacity}
+use Rattle.std.specs.Prelude.{◌≡◌, ℕ, suc, ◌+◌, ◌<◌, ◌≤◌, ◌==◌, Bool, true, false, List, [], ◌∷◌, length, filter, Option, Some, None, IfSome, slice_get, slice_index_or, option_map, if◌then◌else◌, vec_len, vec_capacity}
 use Rattle.esm_model.specs.declared.item.Record.{Record}
 use Rattle.esm_model.specs.declared.limits.TheConstants.{MAX_TRIES}
 use Rattle.esm_model.specs.declared.setup.FoundTries.{FoundTries}
 use Rattle.esm_model.specs.Setting.{Setting, record_at, found_try}
 use Rattle.esm_model.specs.EventText.{record_text}
-use Rattle.esm_model.specs.Lane.{lane_of}
 use Rattle.esm_model.specs.Entries.{holds}
 use Rattle.esm_model.specs.Ruling.{capped_tries}
 use Rattle.esm_model.specs.Windows.{window_of}
@@ -82,7 +81,7 @@ pub record HasRoomFor (c : ShardLedger) (a : Arriving) : Type 0 where
   pub arrivals : 0 < c.arrivals.room
   pub callings : length a.records.items ≤ c.callings.room
   pub windows : (w : ℕ) → holds a.windows.items w ≡ true → has_entry c.windows.opened w ≡ true
-  pub lanes : (k : ℕ) → landing_count k a.landings.items ≤ (lane_in c.lanes k).kept.adds
+  pub lanes : (k : ℕ) → k < length c.lanes.lanes → landing_count k a.landings.items ≤ (lane_in c.lanes k).kept.adds
 
 -- their number fits 32 bits
 pub record FitsNumbers (c : ShardLedger) (a : Arriving) : Type 0 where

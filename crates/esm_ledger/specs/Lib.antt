@@ -1,3 +1,4 @@
 pub mod Shard
 pub mod Arriving
 pub mod ShardLaws
+pub mod Measuring

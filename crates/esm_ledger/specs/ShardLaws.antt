@@ -1,6 +1,5 @@
 -- What the entries of a legal history need of a shard that is kept, and what is read of it. This product's own.
 use Rattle.std.specs.Prelude.{◌≡◌, ℕ, ◌<◌, ◌≤◌, ◌+◌, true, List, length}
-use Rattle.esm_model.specs.declared.lane.LaneId.{LaneId}
 use Rattle.esm_model.specs.declared.entry.Entry.{Entry}
 use Rattle.esm_model.specs.Setting.{Setting}
 use Rattle.esm_model.specs.Entries.{holds}

@@ -5,6 +5,8 @@
 
 mod arriving;
 mod measure;
+mod measuring;
+mod preparing;
 mod shard;
 pub mod shard_laws;
 mod shard_steps;

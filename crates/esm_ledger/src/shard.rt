@@ -1,4 +1,4 @@
-ghost use Rattle.std.specs.Prelude.{◌≡◌, ◌≢◌, ℕ, List, Option, ◌+◌, ◌<◌, ◌≤◌, ◌∷◌, [], true, Some, None, length, OnOk, OnErr, IfOk, IfSome, IsOk};
+ghost use Rattle.std.specs.Prelude.{◌≡◌, ◌≢◌, ℕ, List, Option, ◌+◌, ◌<◌, ◌≤◌, ◌∷◌, ◌++◌, [], true, Some, None, length, OnOk, OnErr, IfOk, IfSome, IsOk};
 ghost use Rattle.std.specs.List.{All};
 ghost use Rattle.esm_model.specs.declared.limits.TheConstants.{MAX_LANES};
 ghost use Rattle.esm_model.specs.declared.lane.LaneId.{LaneId};
@@ -20,6 +20,7 @@ ghost use Rattle.esm_ledger.specs.Arriving.{AreArriving, IsEven, IsWithin, HasRo
 
 use crate::arriving::Arriving;
 use crate::measure::Measure;
+use crate::preparing::{reserve_lanes, reserve_records, reserve_tables};
 use crate::shard_steps::{count_try, land, leave_windows, take_state};
 use esm_model::{Fate, OutOfMemory, Record, Response, Verdict, WindowState};
 use esm_tables::{Arrivals, Callings, LaneTable, Progress, Running, Windows};
@@ -70,6 +71,8 @@ impl ShardLedger {
     /// `OutOfMemory` nothing has changed.
     pub fn prepare_call(&mut self, alloc: Global, lane: u32) -> Result<(), OutOfMemory>
         requires known { lane < length self.old.lanes.lanes }
+        ensures shard { self.new.shard ≡ self.old.shard }
+        ensures records { self.new.records ≡ self.old.records }
         ensures ok { OnOk result (2 ≤ (lane_in self.new.lanes lane).kept.splits) }
         ensures kept { (s : Setting) (h : List Entry) → IsShard s h self.old → IsShard s h self.new }
         ensures others { (k : ℕ) → k ≢ lane → lane_in self.new.lanes k ≡ lane_in self.old.lanes k }
@@ -83,12 +86,44 @@ impl ShardLedger {
     /// Memory for a state of the window and for a failed try of its final call. After `OutOfMemory` what is told of
     /// windows has not changed.
     pub fn prepare_window(&mut self, window: u64) -> Result<(), OutOfMemory>
+        ensures shard { self.new.shard ≡ self.old.shard }
+        ensures records { self.new.records ≡ self.old.records }
         ensures state { OnOk result (has_entry self.new.windows.states window ≡ true) }
         ensures tries { OnOk result (has_entry self.new.windows.tries window ≡ true) }
         ensures kept { (s : Setting) (h : List Entry) → IsShard s h self.old → IsShard s h self.new }
         ensures lanes { self.new.lanes ≡ self.old.lanes }
     {
         self.windows.prepare_window(window)
+    }
+
+    /// Memory for records that are about to come; there are so many lanes. After `OutOfMemory` what is told of the shard
+    /// has not changed.
+    pub fn prepare_records(
+        &mut self,
+        alloc: Global,
+        lanes: u32,
+        arriving: &Arriving,
+    ) -> Result<(), OutOfMemory>
+        requires lanes { lanes ≡ length self.old.lanes.lanes }
+        requires few { length arriving.now.landings.items ≤ u32.MAX }
+        ensures shard { self.new.shard ≡ self.old.shard }
+        ensures records { self.new.records.items ≡ self.old.records.items }
+        ensures ok { OnOk result (HasRoomFor self.new arriving.now) }
+        ensures kept { (s : Setting) (h : List Entry) → IsShard s h self.old → IsShard s h self.new }
+        ensures splits { (k : ℕ) → (lane_in self.old.lanes k).kept.splits ≤ (lane_in self.new.lanes k).kept.splits }
+        ensures running { (k : ℕ) → (lane_in self.new.lanes k).state ≡ (lane_in self.old.lanes k).state }
+        ensures size { length self.new.lanes.lanes ≡ length self.old.lanes.lanes }
+    {
+        reserve_records(&mut self.records, &mut self.measures, arriving)?;
+        reserve_tables(
+            &mut self.progress,
+            &mut self.arrivals,
+            &mut self.callings,
+            &mut self.windows,
+            arriving,
+        )?;
+        let landings = arriving.landings.as_slice();
+        reserve_lanes(&mut self.lanes, alloc, lanes, landings)
     }
 
     /// A call of the lane begins: of these places, or a final call of the window `closing` with none. Takes no memory.
@@ -99,6 +134,7 @@ impl ShardLedger {
         requires few { (i : ℕ) → holds places.now i ≡ true → calls_at self.old.callings i < u32.MAX }
         requires short { length places.now ≤ u32.MAX }
         ensures shard { self.new.shard ≡ self.old.shard }
+        ensures records { self.new.records ≡ self.old.records }
         ensures kept { (s : Setting) (h : List Entry) (m : ℕ) → HasFoundTries s self.old.shard →
             Legal s (Entry.Began (lane_id self.old.shard lane) places.now closing m ∷ h) →
             IsShard s h self.old → IsShard s (Entry.Began (lane_id self.old.shard lane) places.now closing m ∷ h) self.new }
@@ -127,6 +163,7 @@ impl ShardLedger {
         requires came { (i : ℕ) → holds (called_places (lane_in self.old.lanes lane)) i ≡ true → i < length self.old.callings.records }
         requires window { IfSome (closing_in (lane_in self.old.lanes lane).state.running) (λ w. has_entry self.old.windows.tries w ≡ true) }
         ensures shard { self.new.shard ≡ self.old.shard }
+        ensures records { self.new.records ≡ self.old.records }
         ensures kept { (s : Setting) (h : List Entry) (reply : Reply) → HasFoundTries s self.old.shard →
             Legal s (Entry.Ended (lane_id self.old.shard lane) reply moment ∷ h) →
             verdict ≡ verdict_after s h (lane_id self.old.shard lane) reply → response ≡ response_in reply →
@@ -149,6 +186,7 @@ impl ShardLedger {
         requires answered { fate ≢ Fate.Expired }
         requires prepared { IfSome state (λ x. has_entry self.old.windows.states x.window ≡ true) }
         ensures shard { self.new.shard ≡ self.old.shard }
+        ensures records { self.new.records ≡ self.old.records }
         ensures kept { (s : Setting) (h : List Entry) (by : Option LaneId) (line : Option (List ℕ)) (m : ℕ) → HasFoundTries s self.old.shard →
             Legal s (Entry.Gave by self.old.shard places.now fate line state m ∷ h) →
             IsShard s h self.old → IsShard s (Entry.Gave by self.old.shard places.now fate line state m ∷ h) self.new }
@@ -169,6 +207,7 @@ impl ShardLedger {
         requires within { length places.now ≤ front_length (lane_in self.old.lanes lane).kept.pieces }
         requires short { length places.now ≤ u32.MAX }
         ensures shard { self.new.shard ≡ self.old.shard }
+        ensures records { self.new.records ≡ self.old.records }
         ensures kept { (s : Setting) (h : List Entry) (line : Option (List ℕ)) (m : ℕ) → HasFoundTries s self.old.shard →
             Legal s (Entry.Gave (Some (lane_id self.old.shard lane)) self.old.shard places.now Fate.Expired line None m ∷ h) →
             IsShard s h self.old →
@@ -185,6 +224,7 @@ impl ShardLedger {
     /// The window was closed. Takes no memory.
     pub fn closed(&mut self, window: u64)
         ensures shard { self.new.shard ≡ self.old.shard }
+        ensures records { self.new.records ≡ self.old.records }
         ensures kept { (s : Setting) (h : List Entry) (lane m : ℕ) → HasFoundTries s self.old.shard →
             Legal s (Entry.Closed (lane_id self.old.shard lane) window m ∷ h) →
             IsShard s h self.old → IsShard s (Entry.Closed (lane_id self.old.shard lane) window m ∷ h) self.new }
@@ -200,6 +240,7 @@ impl ShardLedger {
         requires few { FitsNumbers self.old arriving }
         requires within { All (IsWithin (length self.old.lanes.lanes)) arriving.landings.items }
         ensures shard { self.new.shard ≡ self.old.shard }
+        ensures records { self.new.records.items ≡ self.old.records.items ++ arriving.records.items }
         ensures kept { (s : Setting) (h : List Entry) → HasFoundTries s self.old.shard →
             Legal s (Entry.Came self.old.shard (came_count h self.old.shard) (length arriving.records.items) moment ∷ h) →
             AreArriving s self.old.shard (came_count h self.old.shard) arriving → IsShard s h self.old →

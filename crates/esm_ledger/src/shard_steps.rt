@@ -67,7 +67,7 @@ pub fn take_state(windows: &mut Windows, state: Option<WindowState>)
 /// The records from the place `first` on come to their lanes.
 pub fn land(lanes: &mut LaneTable, alloc: Global, first: u32, landings: &[Option<Landing>])
     requires within { All (IsWithin (length lanes.old.lanes)) landings.now }
-    requires room { (k : ℕ) → landing_count k landings.now ≤ (lane_in lanes.old k).kept.adds }
+    requires room { (k : ℕ) → k < length lanes.old.lanes → landing_count k landings.now ≤ (lane_in lanes.old k).kept.adds }
     requires few { (k : ℕ) → k < length lanes.old.lanes → length (open_places (lane_in lanes.old k).kept.pieces) + length landings.now ≤ u32.MAX }
     requires short { first + length landings.now ≤ u32.MAX }
     ensures lane { (k : ℕ) → lane_in lanes.new k ≡ landed k first landings.now (lane_in lanes.old k) }

@@ -11,7 +11,11 @@ land_one-requires-clause-within c =
     (c.requires.within c.loop-landing.landing-index None c.loop-landing-test.true)
 
 pub land_one-requires-clause-room : goal.land_one-requires-clause-room
-land_one-requires-clause-room c = some_room (get_or c.args.landings.now c.loop-landing.landing-index None) c.loop-landing.landing-index c.args.landings.now c.loop-landing.lanes c.loop-landing-test.true refl c.loop-landing.invariant.room
+land_one-requires-clause-room c =
+    some_room (get_or c.args.landings.now c.loop-landing.landing-index None) c.loop-landing.landing-index c.args.landings.now c.loop-landing.lanes c.loop-landing-test.true refl
+    (subst (λ (n : ℕ). IsWithin n (get_or c.args.landings.now c.loop-landing.landing-index None)) (sym c.loop-landing.invariant.lanes)
+    (c.requires.within c.loop-landing.landing-index None c.loop-landing-test.true))
+    c.loop-landing.invariant.room
 
 pub land_one-requires-clause-few : goal.land_one-requires-clause-few
 land_one-requires-clause-few c =
@@ -31,8 +35,9 @@ loop-landing-preserved c =
       lanes = c.land_one.ensures.lanes ∙ c.loop-landing.invariant.lanes;
       landed = λ k. ap (λ (v : LaneView). landed k (place + 1) (drop (i + 1) ls) v) (c.land_one.ensures.lane k)
           ∙ sym (one_lands k place i ls l (lane_in c.loop-landing.lanes k) c.loop-landing-test.true refl) ∙ c.loop-landing.invariant.landed k;
-      room = λ k. subst (λ (v : LaneView). landing_count k (drop (i + 1) ls) ≤ v.kept.adds) (sym (c.land_one.ensures.lane k))
-          (room_left k place i ls l (lane_in c.loop-landing.lanes k) c.loop-landing-test.true refl (c.loop-landing.invariant.room k));
+      room = λ k low. subst (λ (v : LaneView). landing_count k (drop (i + 1) ls) ≤ v.kept.adds) (sym (c.land_one.ensures.lane k))
+          (room_left k place i ls l (lane_in c.loop-landing.lanes k) c.loop-landing-test.true refl
+          (c.loop-landing.invariant.room k (subst (λ (n : ℕ). k < n) c.land_one.ensures.lanes low)));
       few = λ k low. subst (λ (v : LaneView). length (open_places v.kept.pieces) + length (drop (i + 1) ls) ≤ 4294967295) (sym (c.land_one.ensures.lane k))
           (few_left k place i 4294967295 ls l (lane_in c.loop-landing.lanes k) c.loop-landing-test.true refl
           (c.loop-landing.invariant.few k (subst (λ (n : ℕ). k < n) c.land_one.ensures.lanes low)));
