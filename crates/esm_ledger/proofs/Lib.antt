@@ -3,4 +3,9 @@ pub mod Gifts
 pub mod Staying
 pub mod Fitting
 pub mod Landings
+pub mod Unended
+pub mod Ledgers
+pub mod Additions
+pub mod Comes
 pub mod Besides
+pub mod Readings

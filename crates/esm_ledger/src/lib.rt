@@ -3,14 +3,21 @@
 //! It decides nothing. Adding an entry takes no memory. No device, clock or thread.
 #![tactic(auto)]
 
+mod adding;
 mod arriving;
+mod changing;
+mod coming;
+mod ledger;
 mod measure;
 mod measuring;
 mod preparing;
+mod reading;
 mod shard;
 pub mod shard_laws;
 mod shard_steps;
 
 pub use arriving::{Arriving, Landing};
+pub use coming::Coming;
+pub use ledger::Ledger;
 pub use measure::Measure;
 pub use shard::ShardLedger;

@@ -1,0 +1,30 @@
+use Rattle.std.proofs.Common.{refl, arith, ◌∷◌}
+use Rattle.esm_model.specs.declared.entry.Entry.TheVariants.{Ended}
+use Rattle.esm_ledger.specs.Ledger.{past_of, setting_of}
+use Rattle.esm_ledger.proofs.Fitting.{running_below}
+use Rattle.esm_ledger.proofs.Ledgers.{own_legal}
+use Rattle.esm_ledger.proofs.Additions.{ended_rests, note_room, end_spare}
+use Rattle.esm_ledger.proofs.ledger.Ledger.note_ended.Goals as goal
+
+pub lane_rests-requires-clause-known : goal.lane_rests-requires-clause-known
+lane_rests-requires-clause-known c =
+    let self = c.args.self.now in
+    let legal = own_legal (setting_of self) (Ended c.args.lane c.args.reply c.args.moment ∷ past_of self) c.requires.legal in
+    running_below (setting_of self) (past_of self) c.args.lane legal.0 legal.1.1
+
+pub lane_rests-requires-clause-ends : goal.lane_rests-requires-clause-ends
+lane_rests-requires-clause-ends c = λ x at.
+    let self = c.args.self.now in
+    let legal = own_legal (setting_of self) (Ended c.args.lane c.args.reply c.args.moment ∷ past_of self) c.requires.legal in
+    c.requires.rests.ends c.args.lane x at legal.1.1
+
+pub note-requires : goal.note-requires
+note-requires c =
+    let self = c.args.self.now in
+    note_room self c.lane_rests.new.self 0 c.lane_rests.ensures.before c.requires.rests.room (end_spare self c.args.lane c.args.reply c.args.moment c.requires.legal)
+
+pub returns : goal.returns
+returns c =
+    let done = ended_rests c.args.self.now c.lane_rests.new.self c.note.new.self c.args.lane c.args.reply c.args.moment c.saturating_sub-self.result c.requires.rests c.requires.legal
+    c.lane_rests.ensures.before c.saturating_sub-self.ensures c.note.ensures.others c.note.ensures.history c.note.ensures.len c.note.ensures.capacity c.lane_rests.ensures.changed in
+    record { rests = done.rests; past = done.past; setting = done.setting }

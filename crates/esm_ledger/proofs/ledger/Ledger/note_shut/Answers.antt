@@ -1,0 +1,11 @@
+use Rattle.std.proofs.Common.{refl, arith}
+use Rattle.esm_ledger.proofs.Additions.{shut_rests, note_room, shut_spare}
+use Rattle.esm_ledger.proofs.ledger.Ledger.note_shut.Goals as goal
+
+pub note-requires : goal.note-requires
+note-requires c = note_room c.args.self.now c.args.self.now 0 refl c.requires.rests.room (shut_spare c.args.self.now c.args.moment c.requires.legal)
+
+pub returns : goal.returns
+returns c =
+    let done = shut_rests c.args.self.now c.note.new.self c.args.moment c.requires.rests c.requires.legal c.note.ensures.others c.note.ensures.history c.note.ensures.len c.note.ensures.capacity in
+    record { rests = done.rests; past = done.past; setting = done.setting }

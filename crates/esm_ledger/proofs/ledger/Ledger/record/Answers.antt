@@ -1,0 +1,10 @@
+use Rattle.std.proofs.Common.{◌∙◌, sym}
+use Rattle.esm_ledger.proofs.Readings.{record_here, record_absent}
+use Rattle.esm_ledger.proofs.ledger.Ledger.record.Goals as goal
+
+pub returns-in-None : goal.returns-in-None
+returns-in-None c = sym (record_absent c.args.self.now c.args.shard c.args.place c.in-None.ensures.none)
+
+pub returns-in-Some : goal.returns-in-Some
+returns-in-Some c =
+    c.record_of.ensures ∙ sym (record_here c.args.self.now c.args.shard c.args.place c.in-Some.kept.now c.requires.rests c.in-Some.ensures.at)

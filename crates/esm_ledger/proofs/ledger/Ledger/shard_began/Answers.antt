@@ -1,0 +1,67 @@
+use Rattle.std.proofs.Common.{ℕ, refl, arith, ◌∷◌}
+use Rattle.std.specs.Vec.{with_item}
+use Rattle.esm_model.specs.declared.entry.Entry.TheVariants.{Began}
+use Rattle.esm_ledger.specs.declared.ledger.Ledger.{Ledger}
+use Rattle.esm_ledger.specs.Shard.{lane_id}
+use Rattle.esm_ledger.specs.Ledger.{past_of, setting_of}
+use Rattle.esm_ledger.specs.Adding.{KeepsSplits}
+use Rattle.esm_ledger.proofs.Additions.{found_at, set_at, changed_set, shards_set, shards_none, splits_stay, leaves_began, relabel}
+use Rattle.esm_ledger.proofs.ledger.Ledger.shard_began.Goals as goal
+
+pub began-requires-clause-came : goal.began-requires-clause-came
+began-requires-clause-came c =
+    let here = found_at c.args.self.now c.args.lane.shard c.in-Some.at c.index_mut.result.now c.in-Some.ensures.at c.index_mut.ensures.value in
+    let fits = c.requires.fits c.index_mut.result.now here in
+    fits.came
+
+pub began-requires-clause-once : goal.began-requires-clause-once
+began-requires-clause-once c =
+    let here = found_at c.args.self.now c.args.lane.shard c.in-Some.at c.index_mut.result.now c.in-Some.ensures.at c.index_mut.ensures.value in
+    let fits = c.requires.fits c.index_mut.result.now here in
+    fits.once
+
+pub began-requires-clause-few : goal.began-requires-clause-few
+began-requires-clause-few c =
+    let here = found_at c.args.self.now c.args.lane.shard c.in-Some.at c.index_mut.result.now c.in-Some.ensures.at c.index_mut.ensures.value in
+    let fits = c.requires.fits c.index_mut.result.now here in
+    fits.few
+
+pub began-requires-clause-short : goal.began-requires-clause-short
+began-requires-clause-short c =
+    let here = found_at c.args.self.now c.args.lane.shard c.in-Some.at c.index_mut.result.now c.in-Some.ensures.at c.index_mut.ensures.value in
+    let fits = c.requires.fits c.index_mut.result.now here in
+    omega (arith, fits.short)
+
+pub returns-in-None-clause-goes_on : goal.returns-in-None-clause-goes_on
+returns-in-None-clause-goes_on c = λ m legal.
+    let self = c.args.self.now in
+    let lane = c.args.lane in
+    shards_none self lane.shard (Began lane c.args.places.now c.args.closing m ∷ past_of self) c.requires.kept legal (leaves_began lane c.args.places.now c.args.closing m (past_of self)) c.in-None.ensures.none
+
+pub returns-in-Some-clause-changed : goal.returns-in-Some-clause-changed
+returns-in-Some-clause-changed c =
+    let self = c.args.self.now in
+    let x = c.index_mut.result.now in
+    let y = c.began.new.self in
+    let at = c.in-Some.at in
+    let d : Ledger = record self { shards = with_item self.shards at y } in
+    let here = found_at self c.args.lane.shard at x c.in-Some.ensures.at c.index_mut.ensures.value in
+    let is = set_at self.shards.items d.shards.items at x y c.in-Some.ensures.at.0 c.index_mut.ensures.value refl c.began.ensures.shard c.began.ensures.records in
+    changed_set self d c.args.lane.shard at x y KeepsSplits c.requires.kept.rests is here.2 c.began.ensures.splits (splits_stay c.args.lane.shard)
+
+pub returns-in-Some-clause-goes_on : goal.returns-in-Some-clause-goes_on
+returns-in-Some-clause-goes_on c = λ m legal.
+    let self = c.args.self.now in
+    let x = c.index_mut.result.now in
+    let y = c.began.new.self in
+    let at = c.in-Some.at in
+    let d : Ledger = record self { shards = with_item self.shards at y } in
+    let here = found_at self c.args.lane.shard at x c.in-Some.ensures.at c.index_mut.ensures.value in
+    let is = set_at self.shards.items d.shards.items at x y c.in-Some.ensures.at.0 c.index_mut.ensures.value refl c.began.ensures.shard c.began.ensures.records in
+    let lane = c.args.lane in
+    let places = c.args.places.now in
+    let closing = c.args.closing in
+    let s = setting_of self in
+    let h = past_of self in
+    shards_set self d lane.shard at x y (Began lane places closing m ∷ h) c.requires.kept legal (leaves_began lane places closing m h) is here.2
+    (λ shard. relabel s h lane.shard x y (λ n. Began (lane_id n lane.lane) places closing m) here.2 (λ own. c.began.ensures.kept s h m (c.requires.kept.found x.shard) own shard) legal)

@@ -1,0 +1,9 @@
+use Rattle.std.proofs.Common.{◌∙◌, arith}
+use Rattle.esm_ledger.proofs.Readings.{tries_here, absent}
+use Rattle.esm_ledger.proofs.ledger.Ledger.window_tries.Goals as goal
+
+pub returns-in-None : goal.returns-in-None
+returns-in-None c = absent c.args.self.now c.args.shard 0 c.requires.kept c.in-None.ensures.none (omega arith)
+
+pub returns-in-Some : goal.returns-in-Some
+returns-in-Some c = c.tries.ensures ∙ tries_here c.args.self.now c.args.shard c.args.window c.in-Some.kept.now c.requires.kept c.in-Some.ensures.at
