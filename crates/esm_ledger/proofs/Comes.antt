@@ -1,5 +1,5 @@
 -- Records that come to a ledger.
-use Rattle.std.proofs.Common.{◌≡◌, ℕ, zero, suc, ◌+◌, ◌<◌, ◌≤◌, Bool, true, false, not, ◌||◌, List, [], ◌∷◌, ◌++◌, length, map, set, reverse, refl, sym, ap, ◌∙◌, subst, ◌⊎◌, inl, inr, Option, Some, None, arith, Vec, Global, append-nil}
+use Rattle.std.proofs.Common.{◌≡◌, ℕ, zero, suc, ◌+◌, ◌<◌, ◌≤◌, Bool, true, false, not, ◌||◌, List, [], ◌∷◌, ◌++◌, length, map, set, refl, sym, ap, ◌∙◌, subst, ◌⊎◌, inl, inr, Option, Some, None, arith, Vec, Global, append-nil}
 use Rattle.std.specs.Prelude.{◌==◌, slice_get, is_some, IfSome, All, vec_len, vec_capacity, if◌then◌else◌}
 use Rattle.std.proofs.Math.Seq.{map-set_same}
 use Rattle.std.proofs.lemmas.Option.{get_or_from_slice_get}
@@ -27,7 +27,8 @@ use Rattle.esm_ledger.specs.Ledger.{past_of, setting_of, stream_of, LegalOver, H
 use Rattle.esm_ledger.proofs.Fitting.{records_may_come}
 use Rattle.esm_ledger.proofs.Staying.{shard_stays, shard_over}
 use Rattle.esm_ledger.proofs.Ledgers.{own_legal, names, shards_distinct, came_none, is_that, shard_in, shard_found, one_place, set_cases}
-use Rattle.esm_ledger.proofs.Additions.{keeps_from, past_added, SameBase, config_same, calls_same, room_after, with_room}
+use Rattle.esm_ledger.proofs.KeptLedgers.{keeps_from, SameBase, config_same, calls_same, room_after, with_room}
+use Rattle.esm_ledger.proofs.Additions.{past_added}
 
 -- streams
 
@@ -41,11 +42,11 @@ grown_set [] i x y rs d at same more = cc
 grown_set (z ∷ xs) zero x y rs d at same more =
     let e : z ≡ x = is_that z x at in
     let here : stream_of y ≡ record { shard = z.shard; records = z.records.items ++ rs } =
-        make_stream y.shard z.shard y.records.items (z.records.items ++ rs) (same ∙ sym (ap (λ (w : ShardLedger). w.shard) e)) (more ∙ ap (λ (w : ShardLedger). w.records.items ++ rs) (sym e)) in
+    make_stream y.shard z.shard y.records.items (z.records.items ++ rs) (same ∙ sym (ap (λ (w : ShardLedger). w.shard) e)) (more ∙ ap (λ (w : ShardLedger). w.records.items ++ rs) (sym e)) in
     rw (eq-eqb z.shard x.shard (ap (λ (w : ShardLedger). w.shard) e)) (ap (λ (t : Stream). t ∷ map stream_of xs) here)
 grown_set (z ∷ xs) (suc i) x y rs d at same more =
     let off : (z.shard == x.shard) ≡ false = false_from_ne_true (z.shard == x.shard)
-        (λ equal. apart (names xs) z.shard d.0 (subst (λ n. In (names xs) n) (sym (eqb-true z.shard x.shard equal)) (shard_in xs i x at))) in
+    (λ equal. apart (names xs) z.shard d.0 (subst (λ n. In (names xs) n) (sym (eqb-true z.shard x.shard equal)) (shard_in xs i x at))) in
     rw off (ap (λ (ts : List Stream). stream_of z ∷ ts) (grown_set xs i x y rs d.1 at same more))
 
 or_off : (a b : Bool) → (a || b) ≡ false → (a ≡ false) × (b ≡ false)
@@ -207,12 +208,12 @@ came_added c d n m a xs i z w k room legal few is at there took after sets items
     let past : past_of d ≡ e ∷ h = past_added c d e items in
     let base : SameBase c d = record { config = ap (λ (y : Ledger). y.config) after; calls = ap (λ (y : Ledger). y.calls) after; found = ap (λ (y : Ledger). y.found) after } in
     let streams : map stream_of d.shards.items ≡ ts =
-        ap (map stream_of) sets ∙ grown_set xs i z w rs distinct at took.shard took.records ∙ ap (λ (x : ℕ). with_list (map stream_of xs) x rs) there ∙ is.streams in
+    ap (map stream_of) sets ∙ grown_set xs i z w rs distinct at took.shard took.records ∙ ap (λ (x : ℕ). with_list (map stream_of xs) x rs) there ∙ is.streams in
     let setting : setting_of d ≡ g = setting_grown c d base ts streams in
     let spare : spare_of (e ∷ h) ≡ spare_of h = refl in
     let leaves : (k' : ℕ) → HasRoom c (k' + 1) → HasRoom d k' = λ k' r. room_after c d e k' 1 past len capacity (omega (arith, spare)) r in
     let names' : names d.shards.items ≡ names xs =
-        ap names sets ∙ map-set_same (λ (y : ShardLedger). y.shard) xs i w z (took.shard ∙ ap (λ (y : ShardLedger). y.shard) (sym (get_or_from_slice_get xs i z z at))) in
+    ap names sets ∙ map-set_same (λ (y : ShardLedger). y.shard) xs i w z (took.shard ∙ ap (λ (y : ShardLedger). y.shard) (sym (get_or_from_slice_get xs i z z at))) in
     record {
       kept = keeps_from d g (e ∷ h) setting past (config_same c d base k) (calls_same c d base k) (leaves 0 (with_room c 1 room)) (record {
         legal = legal;

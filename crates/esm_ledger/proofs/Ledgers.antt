@@ -1,20 +1,18 @@
 -- The shards of a ledger: their names, their places and their records.
-use Rattle.std.proofs.Common.{◌≡◌, ℕ, zero, suc, ◌+◌, ◌<◌, ◌≤◌, Bool, true, false, List, [], ◌∷◌, ◌++◌, length, map, set, refl, sym, ap, ◌∙◌, subst, ◌⊎◌, inl, inr, Option, Some, None, arith}
-use Rattle.std.specs.Prelude.{◌==◌, slice_get, is_some, if◌then◌else◌}
+use Rattle.std.proofs.Common.{◌≡◌, ℕ, zero, suc, ◌≤◌, Bool, true, false, List, [], ◌∷◌, ◌++◌, map, set, refl, sym, ap, ◌∙◌, subst, ◌⊎◌, inl, inr, Option, Some, arith}
+use Rattle.std.specs.Prelude.{◌==◌, slice_get, if◌then◌else◌}
 use Rattle.std.proofs.Math.Seq.{map-set_same}
 use Rattle.std.proofs.lemmas.Bool.{cases_Bool, eq-eqb, eqb-true, false_from_ne_true}
 use Rattle.std.proofs.lemmas.Option.{get_or_from_slice_get}
-use Rattle.esm_model.specs.declared.item.Record.{Record}
 use Rattle.esm_model.specs.declared.entry.Entry.{Entry}
 use Rattle.esm_model.specs.declared.entry.Entry.TheVariants.{Came, Began, Ended, Gave, Tried, Closed, Replayed, Shut}
-use Rattle.esm_model.specs.Setting.{Setting, Stream, records_in}
+use Rattle.esm_model.specs.Setting.{Setting, records_in}
 use Rattle.esm_model.specs.Entries.{holds, came_count, shards_that_came}
 use Rattle.esm_model.specs.Step.{Legal}
 use Rattle.esm_model.proofs.Lists.{In, In-here, In-there, In-cases, In-one, In-append_left, In-append_right, In-append_cases, apart, not_in, Distinct, Distinct-push}
 use Rattle.esm_ledger.specs.declared.ledger.Ledger.{Ledger}
 use Rattle.esm_ledger.specs.declared.shard.ShardLedger.{ShardLedger}
-use Rattle.esm_ledger.specs.Shard.{IsShard}
-use Rattle.esm_ledger.specs.Ledger.{past_of, setting_of, stream_of, LegalOver, IsAt, Keeps, Rests}
+use Rattle.esm_ledger.specs.Ledger.{past_of, setting_of, stream_of, LegalOver, IsAt, Rests}
 
 -- a history that is legal over all lists that go on is so over its own
 pub own_legal : (s : Setting) (h : List Entry) → LegalOver s h → Legal s h

@@ -5,7 +5,10 @@ pub mod Fitting
 pub mod Landings
 pub mod Unended
 pub mod Ledgers
+pub mod KeptLedgers
+pub mod ShardChanges
 pub mod Additions
+pub mod Endings
 pub mod Comes
 pub mod Besides
 pub mod Readings

@@ -1,17 +1,15 @@
 -- What is read of a ledger.
-use Rattle.std.proofs.Common.{◌≡◌, ℕ, zero, suc, ◌+◌, ◌<◌, ◌≤◌, ◌/◌, ◌%◌, Bool, true, false, ◌&&◌, List, [], ◌∷◌, length, map, take, get_or, refl, sym, ap, ◌∙◌, subst, inl, inr, Option, Some, None, arith}
-use Rattle.std.specs.Prelude.{◌==◌, ◌↔◌, not, nat_lt, slice_get, slice_index_or, is_some, IsSome, IfSome, IsNone, option_map, MatchOption, filter, if◌then◌else◌}
-use Rattle.std.proofs.lemmas.Bool.{cases_Bool, eqb-true, false_from_ne_true, lt-ltb, and_parts}
-use Rattle.std.proofs.lemmas.Option.{slice_get-map, slice_get_within, get_or_from_slice_get, IfSome_then}
+use Rattle.std.proofs.Common.{◌≡◌, ℕ, ◌<◌, ◌≤◌, ◌/◌, ◌%◌, Bool, true, false, ◌&&◌, List, [], length, refl, sym, ap, ◌∙◌, subst, Option, Some, None, arith}
+use Rattle.std.specs.Prelude.{◌==◌, not, nat_lt, slice_get, is_some, option_map, filter}
+use Rattle.std.proofs.lemmas.Bool.{eqb-true, false_from_ne_true, lt-ltb}
+use Rattle.std.proofs.lemmas.Option.{slice_get-map, slice_get_within}
 use Rattle.esm_model.specs.declared.item.Record.{Record}
-use Rattle.esm_model.specs.declared.moment.TheConstants.{MAX_MOMENT}
 use Rattle.esm_model.specs.declared.lane.LaneId.{LaneId}
-use Rattle.esm_model.specs.declared.event.Response.{Response}
 use Rattle.esm_model.specs.declared.entry.Fate.{Fate}
 use Rattle.esm_model.specs.declared.entry.Entry.{Entry}
-use Rattle.esm_model.specs.Setting.{Setting, record_at, records_in, is_in_lane}
+use Rattle.esm_model.specs.Setting.{Setting, record_at, is_in_lane}
 use Rattle.esm_model.specs.EventText.{record_text}
-use Rattle.esm_model.specs.Entries.{came_count, came_moment, is_running, is_shut, last_call, batch_of, shards_that_came}
+use Rattle.esm_model.specs.Entries.{came_count, came_moment, is_running, is_shut, last_call, batch_of}
 use Rattle.esm_model.specs.Fates.{open_places, lacks_fate, fate, fate_count, is_fate, below}
 use Rattle.esm_model.specs.declared.config.Config.{Config}
 use Rattle.esm_model.specs.Tries.{window_tries}
@@ -20,16 +18,14 @@ use Rattle.esm_model.specs.Batches.{delay_end, delay_from}
 use Rattle.esm_model.specs.FailureLine.{calls_of, response_of}
 use Rattle.esm_model.specs.Checkpoint.{checkpoint, spread}
 use Rattle.esm_model.specs.Step.{Legal}
-use Rattle.esm_lanes.specs.Piece.{IsFront, front_length}
-use Rattle.esm_lanes.specs.Piece as piece
-use Rattle.esm_tables.specs.LaneView.{lane_in, empty_view, front_places, running_count}
+use Rattle.esm_tables.specs.LaneView.{lane_in, empty_view}
 use Rattle.esm_tables.specs.LaneHistory.{IsLane}
-use Rattle.esm_tables.specs.LaneSteps.{IsGroupOf, IsGrouped, IsBounded}
+use Rattle.esm_tables.specs.LaneSteps.{IsGrouped, IsBounded}
 use Rattle.esm_tables.specs.Arrivals.{moment_in}
 use Rattle.esm_tables.specs.Callings.{calls_at, response_at}
 use Rattle.esm_tables.specs.FateCounts.{count_in}
 use Rattle.esm_tables.specs.Progress.{front_of, past_of as spread_in}
-use Rattle.esm_tables.specs.Windows.{WindowTable, HasState, IsLeastDue, IsWindows, is_due_in, state_in, tries_in}
+use Rattle.esm_tables.specs.Windows.{WindowTable, HasState, IsLeastDue, IsWindows, state_in, tries_in}
 use Rattle.esm_tables.specs.WindowsLaws.{WindowsTell, closing_of}
 use Rattle.esm_tables.proofs.LaneSteps.{lane_begins}
 use Rattle.esm_tables.proofs.LaneReads.{lane_bounded, lane_grouped}
@@ -37,13 +33,13 @@ use Rattle.esm_tables.proofs.LaneGroups.{delay_is}
 use Rattle.esm_tables.proofs.WindowSteps.{windows_tell}
 use Rattle.esm_ledger.specs.declared.ledger.Ledger.{Ledger}
 use Rattle.esm_ledger.specs.declared.shard.ShardLedger.{ShardLedger}
-use Rattle.esm_ledger.specs.Shard.{IsShard, measure_at, called_places, closing_in}
-use Rattle.esm_ledger.specs.Ledger.{past_of, setting_of, LegalOver, IsAt, Rests, Keeps}
+use Rattle.esm_ledger.specs.Shard.{measure_at, called_places, closing_in}
+use Rattle.esm_ledger.specs.Ledger.{past_of, setting_of, IsAt, Rests, Keeps}
 use Rattle.esm_ledger.specs.Reading.{lane_of_batcher, checkpoint_of, spread_of, IsLaneSettled, IsLeastDueWindow}
 use Rattle.esm_ledger.proofs.Shards.{call_runs}
 use Rattle.esm_ledger.proofs.Fitting.{running_below, tells}
-use Rattle.esm_ledger.proofs.Ledgers.{own_legal, names, IsNowhere, nowhere_none, somewhere_some, records_here, records_absent}
-use Rattle.esm_ledger.proofs.Additions.{lane_here}
+use Rattle.esm_ledger.proofs.Ledgers.{own_legal, IsNowhere, nowhere_none, somewhere_some, records_here, records_absent}
+use Rattle.esm_ledger.proofs.KeptLedgers.{lane_here}
 
 pub legal_of : (c : Ledger) → Rests c → Legal (setting_of c) (past_of c)
 legal_of c r = own_legal (setting_of c) (past_of c) r.legal

@@ -6,7 +6,8 @@ use Rattle.esm_ledger.specs.Ledger.{past_of, setting_of}
 use Rattle.esm_ledger.specs.Adding.{AreShards}
 use Rattle.esm_ledger.proofs.Fitting.{call_may_begin}
 use Rattle.esm_ledger.proofs.Ledgers.{own_legal}
-use Rattle.esm_ledger.proofs.Additions.{began_added, note_room, call_counts}
+use Rattle.esm_ledger.proofs.KeptLedgers.{note_room}
+use Rattle.esm_ledger.proofs.Additions.{began_added, call_counts}
 use Rattle.esm_ledger.proofs.ledger.Ledger.began.Goals as goal
 
 pub shard_began-requires-clause-fits : goal.shard_began-requires-clause-fits

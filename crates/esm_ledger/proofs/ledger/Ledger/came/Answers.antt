@@ -8,7 +8,7 @@ use Rattle.esm_ledger.specs.declared.ledger.Ledger.{Ledger}
 use Rattle.esm_ledger.specs.Coming.{grown, listed, Takes}
 use Rattle.esm_ledger.specs.Ledger.{past_of, setting_of}
 use Rattle.esm_ledger.proofs.Ledgers.{own_legal}
-use Rattle.esm_ledger.proofs.Additions.{note_room}
+use Rattle.esm_ledger.proofs.KeptLedgers.{note_room}
 use Rattle.esm_ledger.proofs.Comes.{ready, fresh_room, can_take, took_here, came_added, same_but}
 use Rattle.esm_ledger.proofs.ledger.Ledger.came.Goals as goal
 
@@ -40,20 +40,20 @@ returns c =
     let ys = c.shard_came.new.self.shards.items in
     let is = ready self x c.requires.kept c.requires.coming in
     let took : Takes xs ys c.args.coming.shard c.args.moment c.args.coming.arriving =
-        subst (λ (zs : List ShardLedger). Takes zs ys x.shard m x.arriving) c.push_fresh.ensures c.shard_came.ensures.took in
+    subst (λ (zs : List ShardLedger). Takes zs ys x.shard m x.arriving) c.push_fresh.ensures c.shard_came.ensures.took in
     let all : vec_len c.args.coming.arriving.records ≡ length c.args.coming.arriving.records.items = search rules in
     let count : c.len-count.result ≡ length c.args.coming.arriving.records.items = cc in
     let first : c.came_of-first.result ≡ came_count (past_of c.args.self.now) c.args.coming.shard = c.came_of-first.ensures in
     let history : c.shard_came.new.self.history ≡ c.args.self.now.history = ap (λ (z : Ledger). z.history) c.shard_came.ensures.before in
     let legal = own_legal (grown (setting_of self) x.shard x.arriving.records.items) (Came x.shard (came_count (past_of self) x.shard) (length x.arriving.records.items) m ∷ past_of self) c.requires.legal in
     let done = came_added self d x.shard m x.arriving xs took.place took.was took.now c.requires.kept c.requires.room c.requires.legal c.requires.coming.few is took.at took.there
-        (took_here self x m xs ys took c.requires.kept c.requires.coming legal)
-        (same_but self w d m c.shard_came.ensures.before c.note.ensures.others)
-        (ap (λ (z : Ledger). z.shards.items) c.note.ensures.others ∙ took.items)
-        (c.note.ensures.history
-        ∙ ap (λ (v : Vec Entry Global). v.items ++ Came x.shard c.came_of-first.result c.len-count.result m ∷ []) history
-        ∙ ap (λ (n : ℕ). self.history.items ++ Came x.shard n c.len-count.result m ∷ []) first
-        ∙ ap (λ (n : ℕ). self.history.items ++ Came x.shard (came_count (past_of self) x.shard) n m ∷ []) count)
-        (c.note.ensures.len ∙ ap (λ (v : Vec Entry Global). vec_len v + 1) history)
-        (c.note.ensures.capacity ∙ ap (λ (v : Vec Entry Global). vec_capacity v) history) in
+    (took_here self x m xs ys took c.requires.kept c.requires.coming legal)
+    (same_but self w d m c.shard_came.ensures.before c.note.ensures.others)
+    (ap (λ (z : Ledger). z.shards.items) c.note.ensures.others ∙ took.items)
+    (c.note.ensures.history
+    ∙ ap (λ (v : Vec Entry Global). v.items ++ Came x.shard c.came_of-first.result c.len-count.result m ∷ []) history
+    ∙ ap (λ (n : ℕ). self.history.items ++ Came x.shard n c.len-count.result m ∷ []) first
+    ∙ ap (λ (n : ℕ). self.history.items ++ Came x.shard (came_count (past_of self) x.shard) n m ∷ []) count)
+    (c.note.ensures.len ∙ ap (λ (v : Vec Entry Global). vec_len v + 1) history)
+    (c.note.ensures.capacity ∙ ap (λ (v : Vec Entry Global). vec_capacity v) history) in
     record { kept = done.kept; past = done.past; setting = done.setting; room = done.room }

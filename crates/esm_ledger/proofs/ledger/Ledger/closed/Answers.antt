@@ -1,8 +1,9 @@
-use Rattle.std.proofs.Common.{refl, arith, ◌∷◌}
+use Rattle.std.proofs.Common.{arith, ◌∷◌}
 use Rattle.esm_model.specs.declared.entry.Entry.TheVariants.{Closed}
 use Rattle.esm_ledger.specs.Ledger.{past_of, setting_of}
 use Rattle.esm_ledger.proofs.Ledgers.{own_legal}
-use Rattle.esm_ledger.proofs.Additions.{quiet_added, quiet_closed, note_room}
+use Rattle.esm_ledger.proofs.KeptLedgers.{note_room}
+use Rattle.esm_ledger.proofs.Additions.{quiet_added, quiet_closed}
 use Rattle.esm_ledger.proofs.ledger.Ledger.closed.Goals as goal
 
 pub note-requires : goal.note-requires

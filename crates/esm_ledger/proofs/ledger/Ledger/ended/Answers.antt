@@ -4,7 +4,8 @@ use Rattle.esm_ledger.specs.declared.ledger.Ledger.{Ledger}
 use Rattle.esm_ledger.specs.Ledger.{past_of, setting_of, HasRoom}
 use Rattle.esm_ledger.proofs.Fitting.{end_may_come}
 use Rattle.esm_ledger.proofs.Ledgers.{own_legal}
-use Rattle.esm_ledger.proofs.Additions.{ended_added, ended_states, note_room, end_spare}
+use Rattle.esm_ledger.proofs.KeptLedgers.{note_room}
+use Rattle.esm_ledger.proofs.Additions.{ended_added, ended_states, end_spare}
 use Rattle.esm_ledger.proofs.ledger.Ledger.ended.Goals as goal
 
 -- no entry more

@@ -1,7 +1,8 @@
 use Rattle.std.proofs.Common.{ℕ, ◌+◌, refl, arith}
 use Rattle.esm_ledger.specs.declared.ledger.Ledger.{Ledger}
 use Rattle.esm_ledger.specs.Ledger.{HasRoom}
-use Rattle.esm_ledger.proofs.Additions.{shut_added, note_room, shut_spare}
+use Rattle.esm_ledger.proofs.KeptLedgers.{note_room}
+use Rattle.esm_ledger.proofs.Additions.{shut_added, shut_spare}
 use Rattle.esm_ledger.proofs.ledger.Ledger.ended_input.Goals as goal
 
 -- no entry more

@@ -7,7 +7,8 @@ use Rattle.esm_ledger.specs.Ledger.{past_of, setting_of}
 use Rattle.esm_ledger.specs.Adding.{AreShards}
 use Rattle.esm_ledger.proofs.Fitting.{expiry_may_come}
 use Rattle.esm_ledger.proofs.Ledgers.{own_legal}
-use Rattle.esm_ledger.proofs.Additions.{quiet_added, quiet_gave, note_room}
+use Rattle.esm_ledger.proofs.KeptLedgers.{note_room}
+use Rattle.esm_ledger.proofs.Additions.{quiet_added, quiet_gave}
 use Rattle.esm_ledger.proofs.ledger.Ledger.expired.Goals as goal
 
 pub shard_expired-requires-clause-fits : goal.shard_expired-requires-clause-fits

@@ -8,7 +8,8 @@ use Rattle.esm_ledger.specs.Ledger.{past_of, setting_of, HasState}
 use Rattle.esm_ledger.specs.Adding.{AreShards}
 use Rattle.esm_ledger.proofs.Fitting.{gift_may_come}
 use Rattle.esm_ledger.proofs.Ledgers.{own_legal}
-use Rattle.esm_ledger.proofs.Additions.{quiet_added, quiet_gave, note_room}
+use Rattle.esm_ledger.proofs.KeptLedgers.{note_room}
+use Rattle.esm_ledger.proofs.Additions.{quiet_added, quiet_gave}
 use Rattle.esm_ledger.proofs.ledger.Ledger.gave.Goals as goal
 
 pub shard_gave-requires-clause-fits : goal.shard_gave-requires-clause-fits

@@ -1,10 +1,10 @@
-use Rattle.std.proofs.Common.{ℕ, ◌≡◌, ◌≤◌, ◌<◌, refl, ap, subst, sym}
+use Rattle.std.proofs.Common.{refl, ap}
 use Rattle.std.specs.Vec.{with_item}
 use Rattle.esm_tables.specs.LaneView.{LaneView}
 use Rattle.esm_ledger.specs.declared.ledger.Ledger.{Ledger}
 use Rattle.esm_ledger.specs.declared.shard.ShardLedger.{ShardLedger}
 use Rattle.esm_ledger.specs.Adding.{RestsAt}
-use Rattle.esm_ledger.proofs.Additions.{found_at, set_at, changed_none, changed_set, rests_stay, other_number}
+use Rattle.esm_ledger.proofs.ShardChanges.{found_at, set_at, changed_none, changed_set, rests_stay, other_number}
 use Rattle.esm_ledger.proofs.Readings.{lane_known}
 use Rattle.esm_ledger.proofs.ledger.Ledger.lane_rests.Goals as goal
 

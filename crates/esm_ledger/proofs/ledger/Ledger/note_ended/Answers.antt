@@ -1,9 +1,11 @@
-use Rattle.std.proofs.Common.{refl, arith, ◌∷◌}
+use Rattle.std.proofs.Common.{◌∷◌}
 use Rattle.esm_model.specs.declared.entry.Entry.TheVariants.{Ended}
 use Rattle.esm_ledger.specs.Ledger.{past_of, setting_of}
 use Rattle.esm_ledger.proofs.Fitting.{running_below}
 use Rattle.esm_ledger.proofs.Ledgers.{own_legal}
-use Rattle.esm_ledger.proofs.Additions.{ended_rests, note_room, end_spare}
+use Rattle.esm_ledger.proofs.KeptLedgers.{note_room}
+use Rattle.esm_ledger.proofs.Additions.{end_spare}
+use Rattle.esm_ledger.proofs.Endings.{ended_rests}
 use Rattle.esm_ledger.proofs.ledger.Ledger.note_ended.Goals as goal
 
 pub lane_rests-requires-clause-known : goal.lane_rests-requires-clause-known

@@ -1,5 +1,7 @@
-use Rattle.std.proofs.Common.{refl, arith}
-use Rattle.esm_ledger.proofs.Additions.{shut_rests, note_room, shut_spare}
+use Rattle.std.proofs.Common.{refl}
+use Rattle.esm_ledger.proofs.KeptLedgers.{note_room}
+use Rattle.esm_ledger.proofs.Additions.{shut_spare}
+use Rattle.esm_ledger.proofs.Endings.{shut_rests}
 use Rattle.esm_ledger.proofs.ledger.Ledger.note_shut.Goals as goal
 
 pub note-requires : goal.note-requires

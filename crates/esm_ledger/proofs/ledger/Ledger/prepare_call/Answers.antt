@@ -1,10 +1,10 @@
-use Rattle.std.proofs.Common.{ℕ, ◌≤◌, refl}
+use Rattle.std.proofs.Common.{◌≤◌, refl}
 use Rattle.std.specs.Vec.{with_item}
 use Rattle.std.proofs.lemmas.Result.{on_ok_weaker}
 use Rattle.esm_tables.specs.LaneView.{lane_in}
 use Rattle.esm_ledger.specs.declared.ledger.Ledger.{Ledger}
 use Rattle.esm_ledger.specs.declared.shard.ShardLedger.{ShardLedger}
-use Rattle.esm_ledger.proofs.Additions.{found_at, set_at, at_set, prepared, prepared_splits}
+use Rattle.esm_ledger.proofs.ShardChanges.{found_at, set_at, at_set, prepared, prepared_splits}
 use Rattle.esm_ledger.proofs.Readings.{lane_known}
 use Rattle.esm_ledger.proofs.ledger.Ledger.prepare_call.Goals as goal
 

@@ -1,6 +1,6 @@
 use Rattle.std.proofs.Common.{refl}
 use Rattle.esm_ledger.specs.declared.ledger.Ledger.{Ledger}
-use Rattle.esm_ledger.proofs.Additions.{keeps_reserved}
+use Rattle.esm_ledger.proofs.KeptLedgers.{keeps_reserved}
 use Rattle.esm_ledger.proofs.ledger.Ledger.prepare_entries.Goals as goal
 
 pub returns-in_err-reserve-clause-kept : goal.returns-in_err-reserve-clause-kept

@@ -1,11 +1,11 @@
-use Rattle.std.proofs.Common.{ℕ, refl, arith, ◌∷◌}
+use Rattle.std.proofs.Common.{refl, arith, ◌∷◌}
 use Rattle.std.specs.Vec.{with_item}
 use Rattle.esm_model.specs.declared.entry.Entry.TheVariants.{Began}
 use Rattle.esm_ledger.specs.declared.ledger.Ledger.{Ledger}
 use Rattle.esm_ledger.specs.Shard.{lane_id}
 use Rattle.esm_ledger.specs.Ledger.{past_of, setting_of}
 use Rattle.esm_ledger.specs.Adding.{KeepsSplits}
-use Rattle.esm_ledger.proofs.Additions.{found_at, set_at, changed_set, shards_set, shards_none, splits_stay, leaves_began, relabel}
+use Rattle.esm_ledger.proofs.ShardChanges.{found_at, set_at, changed_set, shards_set, shards_none, splits_stay, leaves_began, relabel}
 use Rattle.esm_ledger.proofs.ledger.Ledger.shard_began.Goals as goal
 
 pub began-requires-clause-came : goal.began-requires-clause-came

@@ -1,5 +1,5 @@
 use Rattle.std.proofs.Common.{refl}
-use Rattle.esm_ledger.proofs.Additions.{found_at, read_at}
+use Rattle.esm_ledger.proofs.ShardChanges.{found_at, read_at}
 use Rattle.esm_ledger.proofs.ledger.Ledger.shard_came.Goals as goal
 
 pub came-requires-clause-room : goal.came-requires-clause-room

@@ -6,7 +6,7 @@ use Rattle.esm_ledger.specs.declared.ledger.Ledger.{Ledger}
 use Rattle.esm_ledger.specs.Shard.{lane_id}
 use Rattle.esm_ledger.specs.Ledger.{past_of, setting_of}
 use Rattle.esm_ledger.specs.Adding.{EndsAt}
-use Rattle.esm_ledger.proofs.Additions.{found_at, set_at, changed_set, shards_set, shards_none, ends_stay, other_number, leaves_ended, relabel}
+use Rattle.esm_ledger.proofs.ShardChanges.{found_at, set_at, changed_set, shards_set, shards_none, ends_stay, other_number, leaves_ended, relabel}
 use Rattle.esm_ledger.proofs.ledger.Ledger.shard_ended.Goals as goal
 
 pub returns-in-None-clause-goes_on : goal.returns-in-None-clause-goes_on

@@ -1,4 +1,4 @@
-use Rattle.std.proofs.Common.{ℕ, Some, None, refl, arith, ◌∷◌}
+use Rattle.std.proofs.Common.{Some, None, refl, arith, ◌∷◌}
 use Rattle.std.specs.Vec.{with_item}
 use Rattle.esm_model.specs.declared.entry.Entry.TheVariants.{Gave}
 use Rattle.esm_model.specs.declared.entry.Fate.TheVariants.{Expired}
@@ -6,7 +6,7 @@ use Rattle.esm_ledger.specs.declared.ledger.Ledger.{Ledger}
 use Rattle.esm_ledger.specs.Shard.{lane_id}
 use Rattle.esm_ledger.specs.Ledger.{past_of, setting_of}
 use Rattle.esm_ledger.specs.Adding.{KeepsSplits}
-use Rattle.esm_ledger.proofs.Additions.{found_at, set_at, changed_set, shards_set, shards_none, splits_stay, leaves_gave, relabel}
+use Rattle.esm_ledger.proofs.ShardChanges.{found_at, set_at, changed_set, shards_set, shards_none, splits_stay, leaves_gave, relabel}
 use Rattle.esm_ledger.proofs.ledger.Ledger.shard_expired.Goals as goal
 
 pub expired-requires-clause-known : goal.expired-requires-clause-known

@@ -1,4 +1,4 @@
-use Rattle.std.proofs.Common.{ℕ, refl, ap, ◌∷◌}
+use Rattle.std.proofs.Common.{refl, ap, ◌∷◌}
 use Rattle.std.specs.Vec.{with_item}
 use Rattle.esm_model.specs.declared.entry.Entry.TheVariants.{Gave}
 use Rattle.std.proofs.lemmas.Option.{IfSome_then}
@@ -6,7 +6,7 @@ use Rattle.esm_tables.specs.LaneView.{Table, lane_in}
 use Rattle.esm_ledger.specs.declared.ledger.Ledger.{Ledger}
 use Rattle.esm_ledger.specs.Ledger.{past_of, setting_of}
 use Rattle.esm_ledger.specs.Adding.{KeepsSplits}
-use Rattle.esm_ledger.proofs.Additions.{found_at, set_at, changed_set, shards_set, shards_none, splits_stay, leaves_gave, relabel}
+use Rattle.esm_ledger.proofs.ShardChanges.{found_at, set_at, changed_set, shards_set, shards_none, splits_stay, leaves_gave, relabel}
 use Rattle.esm_ledger.proofs.ledger.Ledger.shard_gave.Goals as goal
 
 pub gave-requires-clause-came : goal.gave-requires-clause-came

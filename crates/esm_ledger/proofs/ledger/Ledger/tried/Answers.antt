@@ -2,7 +2,9 @@ use Rattle.std.proofs.Common.{refl, arith, ◌∷◌}
 use Rattle.esm_model.specs.declared.entry.Entry.TheVariants.{Tried}
 use Rattle.esm_ledger.specs.Ledger.{past_of, setting_of}
 use Rattle.esm_ledger.proofs.Ledgers.{own_legal}
-use Rattle.esm_ledger.proofs.Additions.{quiet_added, quiet_tried, changed_nowhere, shards_stay, note_room}
+use Rattle.esm_ledger.proofs.KeptLedgers.{note_room}
+use Rattle.esm_ledger.proofs.ShardChanges.{changed_nowhere, shards_stay}
+use Rattle.esm_ledger.proofs.Additions.{quiet_added, quiet_tried}
 use Rattle.esm_ledger.proofs.ledger.Ledger.tried.Goals as goal
 
 pub note-requires : goal.note-requires
