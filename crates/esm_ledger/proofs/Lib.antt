@@ -12,3 +12,4 @@ pub mod Endings
 pub mod Comes
 pub mod Besides
 pub mod Readings
+pub mod Notes

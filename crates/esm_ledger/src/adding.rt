@@ -1,6 +1,8 @@
 //! Adding an entry to a ledger: each takes no memory, within what is prepared.
 ghost use Rattle.std.specs.Prelude.{◌≡◌, ◌≢◌, ℕ, List, Option, ◌+◌, ◌<◌, ◌≤◌, ◌∷◌, [], true, false, length, IfSome, Some, None};
 ghost use Rattle.esm_model.specs.Entries.{came_count, is_running, is_shut};
+ghost use Rattle.esm_model.specs.Lane.{same_lane};
+ghost use Rattle.esm_model.specs.declared.lane.LaneId.{LaneId};
 ghost use Rattle.esm_model.specs.Tries.{verdict_after};
 ghost use Rattle.esm_ledger.specs.Ledger.{past_of, setting_of, LegalOver, HasRoom, Rests, Keeps, HasSplits, HasState, IsClosingPrepared};
 ghost use Rattle.esm_model.specs.FailureLine.{response_in};
@@ -237,6 +239,7 @@ impl Ledger {
         requires rests { Rests self.old }
         requires splits { HasSplits self.old lane }
         requires legal { LegalOver (setting_of self.old) (Entry.Ended lane reply moment ∷ past_of self.old) }
+        ensures splits { (other : LaneId) → same_lane lane other ≡ false → HasSplits self.old other → HasSplits self.new other }
         ensures rests { Rests self.new }
         ensures past { past_of self.new ≡ Entry.Ended lane reply moment ∷ past_of self.old }
         ensures setting { setting_of self.new ≡ setting_of self.old }
@@ -257,6 +260,7 @@ impl Ledger {
     pub fn note_shut(&mut self, moment: u64)
         requires rests { Rests self.old }
         requires legal { LegalOver (setting_of self.old) (Entry.Shut moment ∷ past_of self.old) }
+        ensures splits { (lane : LaneId) → HasSplits self.old lane → HasSplits self.new lane }
         ensures rests { Rests self.new }
         ensures past { past_of self.new ≡ Entry.Shut moment ∷ past_of self.old }
         ensures setting { setting_of self.new ≡ setting_of self.old }
