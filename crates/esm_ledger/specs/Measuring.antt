@@ -1,4 +1,4 @@
--- What is kept beside records that come, one after the other. This product's own.
+-- What is kept beside records that come, one after the other. Only this crate's proofs cite this.
 use Rattle.std.specs.Prelude.{ℕ, max, List, [], ◌∷◌, length, Option, is_none, if◌then◌else◌}
 use Rattle.esm_model.specs.declared.config.Config.{Config}
 use Rattle.esm_model.specs.declared.item.Record.{Record}
