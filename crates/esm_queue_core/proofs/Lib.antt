@@ -1,0 +1,13 @@
+pub mod More
+pub mod Settling
+pub mod Named
+pub mod Walking
+pub mod ByPlace
+pub mod StoredMessages
+pub mod Arrivals
+pub mod Deleted
+pub mod Cutting
+pub mod Gathered
+pub mod Choosing
+pub mod Beginning
+pub mod Judging

@@ -1,0 +1,84 @@
+// A deletion that is owed.
+ghost use Rattle.std.specs.Prelude.{◌≡◌, ◌+◌, ◌<◌, ◌≤◌, ◌++◌, [], Some, All, IfOk, length, slice_get};
+ghost use Rattle.esm_payload.specs.EntryPayload.{ids_at};
+ghost use Rattle.esm_queue_core.specs.Kept.{messages_stored, IsGift, MayBeGiven, gift_entries};
+ghost use Rattle.esm_queue_core.specs.Coming.{gave_entries};
+
+use esm_model::{Fate, LaneId, Message, OutOfMemory, Places, Text, Texts};
+use esm_payload::{Said, said_bytes};
+use esm_queue::Queue;
+use std::alloc::Global;
+
+/// A deletion of messages that a call owes, with its payload.
+#[derive(Drop, Debug)]
+pub struct Gift {
+    pub by: Option<LaneId>,
+    pub places: Places,
+    pub fate: Fate,
+    pub moment: u64,
+    pub payload: Vec<u8>,
+}
+
+/// The message at the place, among those of the queue and then those that are coming.
+fn message_for<'a>(queue: &'a Queue, coming: &'a [Message], place: u32) -> &'a Message
+    requires { place < length queue.now.state.messages + length coming.now }
+    ensures { Some result.now ≡ slice_get (messages_stored queue.entry.now.state ++ coming.entry.now) place }
+{
+    match queue.message(place) {
+        Some(message) => message,
+        None => &coming[(place - queue.len()) as usize],
+    }
+}
+
+/// Copies of the ids of the messages at the places, in order.
+pub fn ids_at(
+    alloc: Global,
+    queue: &Queue,
+    coming: &[Message],
+    places: &[u32],
+) -> Result<Vec<Text>, OutOfMemory>
+    requires { All (λ i. i < length queue.now.state.messages + length coming.now) places.now }
+    ensures { IfOk result (λ ids. ids.items ≡ ids_at (messages_stored queue.now.state ++ coming.now) places.now) }
+{
+    let mut ids = Vec::with_capacity(alloc, places.len())?;
+    for place in places {
+        let id = message_for(queue, coming, *place).id.copy(alloc)?;
+        ids.push(id)?;
+    }
+    Ok(ids)
+}
+
+/// The deletion of the places, where there are any.
+pub fn gift_of(
+    alloc: Global,
+    queue: &Queue,
+    coming: &[Message],
+    by: Option<LaneId>,
+    places: Vec<u32>,
+    fate: Fate,
+    moment: u64,
+) -> Result<Option<Gift>, OutOfMemory>
+    requires { MayBeGiven (messages_stored queue.now.state ++ coming.now) places.items fate moment }
+    ensures entry { IfOk result (λ gift. gift_entries gift ≡ gave_entries by places.items fate moment) }
+    ensures written { IfOk result (IsGift (messages_stored queue.now.state ++ coming.now)) }
+{
+    if places.is_empty() {
+        return Ok(None);
+    }
+    let ids = ids_at(alloc, queue, coming, places.as_slice())?;
+    let copy = Vec::from_slice(alloc, places.as_slice())?;
+    let said = Said::Deleted {
+        fate,
+        moment,
+        places: Places::from_vec(copy),
+        texts: Texts::from_vec(ids),
+    };
+    let payload = said_bytes(alloc, &said)?;
+    Ok(Some(Gift {
+        by,
+        places: Places::from_vec(places),
+        fate,
+        moment,
+        payload,
+    }))
+}
