@@ -11,3 +11,4 @@ pub mod Gathered
 pub mod Choosing
 pub mod Beginning
 pub mod Judging
+pub mod WorkedNext

@@ -5,3 +5,4 @@ pub mod Next
 pub mod Choosing
 pub mod Kept
 pub mod Judged
+pub mod WorkedNext

@@ -9,6 +9,7 @@ mod gather;
 mod gift;
 pub mod laws;
 mod next;
+pub mod worked;
 
 pub use coming::{change_at, first_changed, refused};
 pub use ending::succeeded;
