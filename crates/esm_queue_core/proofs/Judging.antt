@@ -23,7 +23,7 @@ pub found_none : (o : Option FoundDeletion) → None ≡ option_map deletion_of_
 found_none None is = refl
 found_none (Some f) is = absurd (cc)
 
-found_told : (s : QueueSetting) (said : SaidLists) (i : ℕ) → s.deletions ≡ said.deletions → is_found s i ≡ is_some (deletion_told said i)
+pub found_told : (s : QueueSetting) (said : SaidLists) (i : ℕ) → s.deletions ≡ said.deletions → is_found s i ≡ is_some (deletion_told said i)
 found_told s said i same = ap (λ (ds : List FoundDeletion). is_some (find (λ (f : FoundDeletion). f.place == i) ds)) same
 
 pub refused_found : (s : QueueSetting) (said : SaidLists) (criteria : Criteria) (i : ℕ) (m : Message) (x : KeptFate) → IsJudgedBy s said criteria → Some x ≡ option_map deletion_of_found (deletion_told said i) → false ≡ is_refused_at s i m

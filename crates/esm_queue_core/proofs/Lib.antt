@@ -1,7 +1,20 @@
 pub mod More
 pub mod Settling
+pub mod Rooms
 pub mod Named
 pub mod Walking
+pub mod Keeping
+pub mod Added
+pub mod Judging
+pub mod Giving
+pub mod Deciding
+pub mod Comes
+pub mod Ends
+pub mod Tellings
+pub mod Deletions
+pub mod Bringing
+pub mod Adding
+pub mod Shutting
 pub mod ByPlace
 pub mod StoredMessages
 pub mod Arrivals
@@ -10,5 +23,5 @@ pub mod Cutting
 pub mod Gathered
 pub mod Choosing
 pub mod Beginning
-pub mod Judging
+pub mod Following
 pub mod WorkedNext

@@ -31,7 +31,7 @@ use Rattle.esm_queue_model.specs.QueueEntries.{queue_of}
 use Rattle.esm_queue_model.specs.QueueBatch.{queue_event, queue_fits, eligible_after}
 use Rattle.esm_queue_model.specs.QueueStep.{not_failed, succeeded_by, QueueMayFollow, LegalQueue}
 use Rattle.esm_queue_model.proofs.QueueHistories.{called_exactly}
-use Rattle.esm_queue_core.specs.declared.gift.Gift.{Gift}
+use Rattle.esm_queue_core.specs.declared.owed.Gift.{Gift}
 use Rattle.esm_queue_core.specs.Kept.{IsRisingFrom, MayBeGiven, IsGiftOf}
 
 -- rising lists

@@ -1,16 +1,18 @@
 -- What a list of messages that comes adds, and when it is refused. Source: the Lambda Developer Guide, event filtering for
 -- Amazon SQS (a message that does not pass is deleted).
-use Rattle.std.specs.Prelude.{◌≡◌, ℕ, ◌+◌, ◌<◌, Bool, true, false, not, ◌&&◌, ◌==◌, List, [], ◌∷◌, find, slice_get, Option, Some, None, option_map, unwrap_or, if◌then◌else◌}
+use Rattle.std.specs.Prelude.{◌≡◌, ℕ, ◌+◌, ◌<◌, Bool, true, false, not, ◌&&◌, ◌==◌, List, [], ◌∷◌, length, find, slice_get, Option, Some, None, option_map, unwrap_or, if◌then◌else◌}
 use Rattle.std.specs.Str.{bytes_eq}
 use Rattle.esm_model.specs.declared.item.Message.{Message}
 use Rattle.esm_model.specs.declared.lane.LaneId.{LaneId}
 use Rattle.esm_model.specs.declared.book.Change.{Change}
 use Rattle.esm_model.specs.declared.entry.Fate.{Fate}
+use Rattle.esm_model.specs.declared.entry.Fate.TheVariants.{Filtered}
 use Rattle.esm_model.specs.declared.entry.Entry.{Entry}
-use Rattle.esm_model.specs.declared.entry.Entry.TheVariants.{Gave}
+use Rattle.esm_model.specs.declared.entry.Entry.TheVariants.{Came, Gave}
 use Rattle.esm_model.specs.declared.setup.FoundDeletion.{FoundDeletion}
 use Rattle.esm_queue_model.specs.QueueSetting.{QueueSetting, is_found}
 use Rattle.esm_queue_model.specs.QueueStep.{is_refused_message}
+use Rattle.esm_queue_core.specs.CoreView.{CoreView, moment_for}
 
 -- what is added
 
@@ -27,6 +29,14 @@ is_refused_at s k x = not (is_found s k) && is_refused_message s x
 abbrev pub refused_from : QueueSetting → ℕ → List Message → List ℕ
 refused_from s k [] = []
 refused_from s k (x ∷ xs) = if is_refused_at s k x then k ∷ refused_from s (k + 1) xs else refused_from s (k + 1) xs
+
+-- the entries of a list from place k on
+abbrev pub came_from : QueueSetting → ℕ → List Message → ℕ → List Entry
+came_from s k [] m = []
+came_from s k (x ∷ xs) m = Came 0 k (length (x ∷ xs)) m ∷ gave_entries None (refused_from s k (x ∷ xs)) Filtered m
+
+abbrev pub came_entries : CoreView → List Message → ℕ → List Entry
+came_entries v items moment = came_from v.setting (length v.setting.messages) items (moment_for v.past moment)
 
 -- what is refused
 
@@ -58,3 +68,11 @@ pub record IsChangeOf (deletions : List FoundDeletion) (place : ℕ) (message : 
   pub place_is : change.place ≡ place
   pub kept : change.kept ≡ found.text
   pub given : change.given ≡ message.id
+
+-- of the first message of a list that has changed
+pub record IsFirstChange (v : CoreView) (items : List Message) (change : Change) : Type 0 where
+  pub position : ℕ
+  pub message : Message
+  pub at : slice_get items position ≡ Some message
+  pub change_is : IsChangeOf v.setting.deletions (length v.setting.messages + position) message change
+  pub before : NoneHasChanged v.setting.deletions (length v.setting.messages) items position

@@ -1,4 +1,4 @@
--- What messages that come are judged by. This product's own.
+-- What messages that come are judged by. Only this crate's proofs cite this.
 use Rattle.std.specs.Prelude.{◌≡◌, false}
 use Rattle.esm_model.specs.Valid.{is_stream}
 use Rattle.esm_filter.specs.Criteria.{JudgesMessages}

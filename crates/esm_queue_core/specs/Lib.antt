@@ -1,8 +1,13 @@
+pub mod CoreView
 pub mod Coming
 pub mod Ending
-pub mod Sound
 pub mod Next
-pub mod Choosing
+pub mod Told
+pub mod Standing
 pub mod Kept
+pub mod Inside
+pub mod Choosing
+pub mod Ready
 pub mod Judged
+pub mod Sound
 pub mod WorkedNext

@@ -33,7 +33,7 @@ fn kept_places(
 }
 
 /// The places of a batch that the reading of its answer counts as succeeded, and whose messages are not deleted.
-pub fn succeeded(
+pub(crate) fn succeeded(
     alloc: Global,
     queue: &Queue,
     reading: &QueueReading,

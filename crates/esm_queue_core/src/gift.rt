@@ -4,20 +4,11 @@ ghost use Rattle.esm_payload.specs.EntryPayload.{ids_at};
 ghost use Rattle.esm_queue_core.specs.Kept.{messages_stored, IsGift, MayBeGiven, gift_entries};
 ghost use Rattle.esm_queue_core.specs.Coming.{gave_entries};
 
+use crate::owed::Gift;
 use esm_model::{Fate, LaneId, Message, OutOfMemory, Places, Text, Texts};
 use esm_payload::{Said, said_bytes};
 use esm_queue::Queue;
 use std::alloc::Global;
-
-/// A deletion of messages that a call owes, with its payload.
-#[derive(Drop, Debug)]
-pub struct Gift {
-    pub by: Option<LaneId>,
-    pub places: Places,
-    pub fate: Fate,
-    pub moment: u64,
-    pub payload: Vec<u8>,
-}
 
 /// The message at the place, among those of the queue and then those that are coming.
 fn message_for<'a>(queue: &'a Queue, coming: &'a [Message], place: u32) -> &'a Message
@@ -31,7 +22,7 @@ fn message_for<'a>(queue: &'a Queue, coming: &'a [Message], place: u32) -> &'a M
 }
 
 /// Copies of the ids of the messages at the places, in order.
-pub fn ids_at(
+pub(crate) fn ids_at(
     alloc: Global,
     queue: &Queue,
     coming: &[Message],
@@ -49,7 +40,7 @@ pub fn ids_at(
 }
 
 /// The deletion of the places, where there are any.
-pub fn gift_of(
+pub(crate) fn gift_of(
     alloc: Global,
     queue: &Queue,
     coming: &[Message],

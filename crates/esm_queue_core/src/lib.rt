@@ -1,17 +1,20 @@
-//! The parts of the decisions of a queue's book, without its devices: what messages that come make deleted, what a batcher
-//! is to do next, what an answer makes deleted, and that a history stays legal and settled by what is added.
+//! The decisions of a queue's book, without its devices: which entry may come next, and what a batcher is to do.
+//! A core holds the history, the queue, and the entries that were decided and are not yet added, for all batchers.
 //! Pure: values in, values out. No device, clock or thread.
 #![tactic(auto)]
 
 mod coming;
+mod decisions;
 mod ending;
 mod gather;
 mod gift;
 pub mod laws;
 mod next;
+mod owed;
+mod paying;
+mod queue_core;
+mod standing;
 pub mod worked;
 
-pub use coming::{change_at, first_changed, refused};
-pub use ending::succeeded;
-pub use gift::{Gift, gift_of, ids_at};
-pub use next::{Counts, decide_next};
+pub use decisions::{Opened, QueueAnswer, QueueCall, QueueEntry};
+pub use queue_core::QueueCore;

@@ -1,5 +1,5 @@
 // What a batcher does next, from what is kept beside the history.
-ghost use Rattle.std.specs.Prelude.{◌≡◌, ◌+◌, ◌≤◌, [], All, IfOk, List, None, length, take};
+ghost use Rattle.std.specs.Prelude.{◌≡◌, ◌+◌, ◌≤◌, [], All, IfOk, List, None, OnOk, length, take};
 ghost use Rattle.esm_model.specs.declared.moment.TheConstants.{MAX_MOMENT};
 ghost use Rattle.esm_model.specs.declared.entry.Entry.{Entry};
 ghost use Rattle.esm_model.specs.Batches.{longest};
@@ -8,9 +8,11 @@ ghost use Rattle.esm_queue_model.specs.Queue.{eligible};
 ghost use Rattle.esm_queue_model.specs.QueueSetting.{QueueSetting};
 ghost use Rattle.esm_queue_model.specs.QueueEntries.{queue_lane};
 ghost use Rattle.esm_queue_core.specs.Next.{next_for, lesser_of, IsToldBy, IsValidStored, deleted_number};
+ghost use Rattle.esm_queue_core.specs.Ready.{IsReadyFor};
 ghost use Rattle.esm_queue_core.specs.Choosing.{received, fits_in, batch_in, window_of, ready_test, rest_of, pause_with, next_in};
 
 use crate::gather::gather;
+use crate::owed::First;
 use esm_event::queue_event;
 use esm_model::{Bytes, Config, Job, LaneId, MAX_MOMENT, Next, OutOfMemory, Places, Received};
 use esm_queue::Queue;
@@ -19,7 +21,7 @@ use std::alloc::Global;
 /// What a decision looks at beside the queue: the calls allowed, those that began, the messages that are deleted, and
 /// whether the input ended.
 #[derive(Clone, Copy, Debug)]
-pub struct Counts {
+pub(crate) struct Counts {
     pub calls: u32,
     pub begun: u64,
     pub deleted: u32,
@@ -27,7 +29,7 @@ pub struct Counts {
 }
 
 /// What the batcher does next, by the first rule that holds. It looks at one eligible message more than a batch takes.
-pub fn decide_next(
+pub(crate) fn decide_next(
     alloc: Global,
     config: &Config,
     queue: &Queue,
@@ -186,5 +188,21 @@ fn lesser(one: Option<u64>, other: Option<u64>) -> Option<u64>
         (None, other) => other,
         (Some(one), None) => Some(one),
         (Some(one), Some(other)) => Some(one.min(other)),
+    }
+}
+
+/// Memory for the receipt of the call that begins at the moment, if one does. No message changes.
+pub(crate) fn prepare_for(
+    queue: &mut Queue,
+    began: &Option<First>,
+    now: u64,
+) -> Result<(), OutOfMemory>
+    ensures ready { OnOk result (IsReadyFor began.now queue.new now) }
+    ensures state { queue.new.state ≡ queue.old.state }
+    ensures spare { queue.new.spare ≡ queue.old.spare }
+{
+    match began {
+        None => Ok(()),
+        Some(_) => queue.prepare(now),
     }
 }

@@ -1,0 +1,5 @@
+use Rattle.esm_queue_core.proofs.Deletions.{HasDeleted}
+use Rattle.esm_queue_core.proofs.paying.delete_all.Given as goal
+
+abbrev pub invariant-loop-place : goal.invariant-loop-place
+invariant-loop-place l = HasDeleted l.initial.queue.state l.places l.place-index l.queue.state l.deleted
