@@ -18,3 +18,6 @@ pub mod worked;
 
 pub use decisions::{Opened, QueueAnswer, QueueCall, QueueEntry};
 pub use queue_core::QueueCore;
+
+#[cfg(test)]
+mod tests;
