@@ -2,7 +2,7 @@
 
 use crate::{Disk, Door, Failed, FileDisk, FileSource, Link, Source, TcpDoor, TcpLink};
 use esm_model::Text;
-use std::net::{Ipv4Addr, Net, OpenListener, TcpListener};
+use std::net::{Ipv4Addr, Net, OpenListener, TcpListener, TcpStream};
 use std::process::{Abort, Process};
 use std::rt::{Clock, Env};
 use std::time::Duration;
@@ -92,4 +92,20 @@ fn bytes_go_over_a_door_and_back(rt: HostRuntime) {
     let (heard, answered) = thread::join(&rt, || echo(&rt, port), || ask(&rt, port));
     assert_eq!(rt; heard, Some(7));
     assert_eq!(rt; answered, Some(7));
+}
+
+/// Whether a read of the next connection fails, where it waits a hundredth of a second for its peer.
+fn hear_silence<R: Net + Clone>(rt: &R, listener: &R::Listener) -> Option<bool> {
+    let (stream, _) = listener.accept().ok()?;
+    let mut link = TcpLink::<R>::accepted(stream, Duration::from_millis(10));
+    Some(link.read(&mut [0]) == Err(Failed))
+}
+
+#[test]
+fn a_silent_peer_is_a_fault(rt: HostRuntime) {
+    let listener = TcpListener::bind(&rt, (Ipv4Addr::LOCALHOST, 0)).expect(&rt, "a free port");
+    let at = listener.local_addr().expect(&rt, "its address");
+    let silent = TcpStream::connect(&rt, at).expect(&rt, "a connection");
+    assert_eq!(rt; hear_silence(&rt, &listener), Some(true));
+    drop(silent);
 }

@@ -9,10 +9,14 @@ use std::alloc::Global;
 use std::io;
 use std::marker::Model;
 use std::net::{Ipv4Addr, Net, OpenListener, TcpListener};
+use std::time::Duration;
+
+/// How many seconds a read or a write of an accepted connection waits for its peer.
+const PATIENCE: u64 = 10;
 
 /// A port of 127.0.0.1 where connections over TCP come in. The first `accept` listens there; where that fails, as at
-/// a port that another process has, the next one tries again. `close` drops the connection, which ends it, and keeps
-/// no list.
+/// a port that another process has, the next one tries again. A read or a write of an accepted connection fails once it has waited
+/// ten seconds for its peer. `close` drops the connection, which ends it, and keeps no list.
 #[derive(Drop)]
 pub struct TcpDoor<R: Net + Clone> {
     rt: R,
@@ -65,7 +69,7 @@ impl<R: Net + Clone> Door for TcpDoor<R> {
         let accepted = counted(&mut self.faults, listener.accept());
         self.listener = Some(listener);
         let (stream, _) = accepted?;
-        Ok(TcpLink::accepted(stream))
+        Ok(TcpLink::accepted(stream, Duration::from_secs(PATIENCE)))
     }
 
     fn close(&mut self, _alloc: Global, _conn: TcpLink<R>) -> Result<(), OutOfMemory> {

@@ -7,7 +7,8 @@ use esm_model::OutOfMemory;
 use std::io;
 use std::io::{Read, Write};
 use std::marker::Model;
-use std::net::{Ipv4Addr, Net, TcpStream};
+use std::net::{Ipv4Addr, Net, OpenStream, TcpStream};
+use std::time::Duration;
 
 /// A connection over TCP. One to a port of 127.0.0.1 is made by its first call; where that fails, the next call tries
 /// again. One that a door accepted is there from the start.
@@ -50,16 +51,24 @@ impl<R: Net + Clone> TcpLink<R> {
         })
     }
 
-    /// A connection that a listener has accepted.
-    pub(crate) fn accepted(stream: R::Stream) -> Self
+    /// A connection that a listener has accepted. A read or a write that would wait for its peer longer than `patience`
+    /// fails, and so does each where the system takes no such limit.
+    pub(crate) fn accepted(stream: R::Stream, patience: Duration) -> Self
         ensures faultless { result.faults ≡ 0 }
     {
         TcpLink {
             peer: None,
-            stream: Some(stream),
+            stream: limited(stream, patience),
             faults: 0,
         }
     }
+}
+
+/// The connection with a limit of time for each read and each write.
+fn limited<S: OpenStream + Drop>(stream: S, patience: Duration) -> Option<S> {
+    stream.set_read_timeout(Some(patience)).ok()?;
+    stream.set_write_timeout(Some(patience)).ok()?;
+    Some(stream)
 }
 
 /// The connection, made by the first call.
