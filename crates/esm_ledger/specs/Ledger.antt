@@ -1,5 +1,6 @@
 -- A ledger as a setting and a history, and what it keeps of them. This product's own.
 use Rattle.std.specs.Prelude.{◌≡◌, ℕ, suc, ◌+◌, ◌-◌, ◌<◌, ◌≤◌, true, is_some, List, [], ◌∷◌, length, map, reverse, Some, IfSome, slice_get, vec_len, vec_capacity, if◌then◌else◌}
+use Rattle.esm_model.specs.declared.limits.TheConstants.{MAX_ENTRIES}
 use Rattle.esm_model.specs.declared.config.Config.{Config}
 use Rattle.esm_model.specs.declared.lane.LaneId.{LaneId}
 use Rattle.esm_model.specs.declared.entry.Entry.{Entry}
@@ -65,7 +66,7 @@ spare_of h = unended h + (if is_shut h then 0 else 1)
 -- room for so many more entries besides, and the history stays short
 pub record HasRoom (c : Ledger) (n : ℕ) : Type 0 where
   pub room : vec_len c.history + spare_of (past_of c) + n ≤ vec_capacity c.history
-  pub short : vec_len c.history + spare_of (past_of c) + n < 1099511627776
+  pub short : vec_len c.history + spare_of (past_of c) + n < MAX_ENTRIES
 
 -- the lane's call may end
 pub record MayEnd (x : ShardLedger) (lane : ℕ) : Type 0 where

@@ -9,12 +9,9 @@ ghost use Rattle.esm_ledger.specs.Ledger.{past_of, setting_of, opened_with, Lega
 ghost use Rattle.esm_tables.specs.WindowEntries.{has_entry};
 
 use crate::shard::ShardLedger;
-use esm_model::{Config, Entry, LaneId, OutOfMemory};
+use esm_model::{Config, Entry, LaneId, MAX_ENTRIES, OutOfMemory};
 use esm_said::Says;
 use std::alloc::Global;
-
-/// A history is refused as want of memory where it would come to so many entries.
-pub const MAX_ENTRIES: usize = 1 << 40;
 
 /// A stream's book without its decisions: the history, and beside it what says in constant or logarithmic time what the
 /// history says. All memory is prepared first; then adding an entry takes none and cannot fail.

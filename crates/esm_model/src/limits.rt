@@ -61,3 +61,6 @@ pub const MAX_FILTERS: usize = 10;
 
 /// Characters of a filter pattern.
 pub const MAX_PATTERN: usize = 4_096;
+
+/// Entries of a history: what would go past it is refused as want of memory.
+pub const MAX_ENTRIES: usize = 1_099_511_627_776;

@@ -26,16 +26,15 @@ use crate::paying::{bring, delete_all};
 use crate::standing::Standing;
 use esm_book::Refusal;
 use esm_filter::Criteria;
-use esm_model::{Config, Entry, Fate, Job, Kind, MAX_MOMENT, Message, Next, OutOfMemory, Reply};
+use esm_model::{
+    Config, Entry, Fate, Job, Kind, MAX_ENTRIES, MAX_MOMENT, Message, Next, OutOfMemory, Reply,
+};
 use esm_queue::Queue;
 use esm_said::Says;
 use esm_verdict::read_queue;
 use std::alloc::Global;
 use std::marker::Model;
 use std::mem;
-
-/// A history is refused where it would come to so many entries.
-const MAX_ENTRIES: usize = 1 << 40;
 
 /// The decisions of a queue's book, seen as what its history is judged over, the history, and the entries that were
 /// decided and are not yet added.

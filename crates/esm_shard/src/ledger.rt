@@ -17,11 +17,10 @@ ghost use Rattle.esm_shard.specs.Ledger.{past_of, setting_of, view_of, lane_of_l
 use crate::gather::{gathered, side_by_side};
 use crate::slot::{Slot, cut, delay_end, fated_past, first_group, is_ready};
 use esm_event::stream_event;
-use esm_model::{Bytes, Config, Entry, Job, LaneId, MAX_MOMENT, Next, OutOfMemory, Places, Record};
+use esm_model::{
+    Bytes, Config, Entry, Job, LaneId, MAX_ENTRIES, MAX_MOMENT, Next, OutOfMemory, Places, Record,
+};
 use std::alloc::Global;
-
-/// A history is refused where it would come to so many entries.
-pub const MAX_ENTRIES: usize = 1 << 40;
 
 /// A history beside what it says of its shard's records, one slot for each place, and how many of the first of them all
 /// have a fate.

@@ -8,9 +8,11 @@ ghost use Rattle.esm_shard.specs.CoreView.{moment_for, IsRunningJob};
 ghost use Rattle.esm_shard.specs.Ending.{HasEnded, owed_entries, given_count};
 ghost use Rattle.esm_shard.specs.Ledger.{past_of, setting_of, view_of, lane_of_ledger, Keeps, Owing, HasRoom, IsAnswered, fate_debt, gave, plain_debts, IsVerdictOf, RunsPlaces, running_places, first_tries, success_entries, rest_entries, left_given};
 
-use crate::ledger::{Ledger, MAX_ENTRIES, copied, raised_to};
+use crate::ledger::{Ledger, copied, raised_to};
 use crate::slot::{fate_slots, fated_from, mark_slots};
-use esm_model::{Entry, Fate, Job, MAX_TRIES, OutOfMemory, Places, Reply, Rest, Verdict};
+use esm_model::{
+    Entry, Fate, Job, MAX_ENTRIES, MAX_TRIES, OutOfMemory, Places, Reply, Rest, Verdict,
+};
 use esm_verdict::{Call, judge, read_stream};
 use std::alloc::Global;
 
