@@ -1,0 +1,11 @@
+pub mod Shards
+pub mod Streams
+pub mod Places
+pub mod Unchanged
+pub mod Arriving
+pub mod Filtering
+pub mod Soundness
+pub mod Counted
+pub mod Groups
+pub mod Partwise
+pub mod Changing
