@@ -12,6 +12,7 @@ use Rattle.esm_model.specs.declared.setup.FoundWindowTries.{FoundWindowTries}
 use Rattle.esm_said.specs.declared.kept.KeptFate.{KeptFate}
 use Rattle.esm_said.specs.declared.kept.KeptTries.{KeptTries}
 use Rattle.esm_said.specs.declared.lookup.SaidState.{SaidState}
+use Rattle.esm_said.specs.declared.lookup.SaidWindowTries.{SaidWindowTries}
 use Rattle.esm_said.specs.declared.lookup.Says.TheInside.{Inside}
 use Rattle.esm_model.specs.declared.setup.FoundDeletion.{FoundDeletion}
 use Rattle.esm_said.specs.SaidLists.{SaidLists, FoundReplay, fate_told, fates_count, has_shard, IsInOrder}
@@ -27,6 +28,10 @@ found_state s = record { shard = s.shard; window = s.state.window; text = s.stat
 
 abbrev pub found_window_tries : (ℕ × ℕ) × ℕ → FoundWindowTries
 found_window_tries e = record { shard = e.0.0; window = e.0.1; tries = e.1 }
+
+-- of the shard's window
+abbrev pub of_window : ℕ → SaidWindowTries → FoundWindowTries
+of_window n t = record { shard = n; window = t.window; tries = t.tries }
 
 abbrev pub found_replay : ℕ × ℕ → FoundReplay
 found_replay k = record { shard = k.0; place = k.1 }

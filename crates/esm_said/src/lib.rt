@@ -21,4 +21,4 @@ mod tests;
 pub use compact::compacted;
 pub use error::SaysError;
 pub use history::says;
-pub use lookup::{Found, FoundTries, SaidState, Says};
+pub use lookup::{Found, FoundTries, SaidState, SaidWindowTries, Says};

@@ -1,17 +1,18 @@
 // What a list of payloads says.
-ghost use Rattle.std.specs.Prelude.{◌≡◌, ℕ, ◌<◌, nat_eq, List, true, Some, None, length, map, option_map, is_some, unwrap_or};
+ghost use Rattle.std.specs.Prelude.{◌≡◌, ℕ, ◌<◌, ◌==◌, nat_eq, List, true, Some, None, length, map, filter, option_map, is_some, unwrap_or, IfOk};
 ghost use Rattle.std.specs.List.{list_any};
 ghost use Rattle.std.specs.List.Sorted.{IsStrictlyIncreasing};
 ghost use Rattle.esm_model.specs.declared.setup.FoundWindowTries.{FoundWindowTries};
 ghost use Rattle.esm_said.specs.Meaning.{fate_kept, tries_kept};
 ghost use Rattle.esm_said.specs.SaidLists.{fate_told, tries_told, state_told, window_tries_told, is_replay_told, deletion_told, fates_count, has_shard};
 ghost use Rattle.esm_said.specs.Tells.{fate_of_found, tries_of_found, deletion_of_found};
-ghost use Rattle.esm_said.specs.View.{found_state};
+ghost use Rattle.esm_said.specs.View.{found_state, found_window_tries, of_window};
 
 use crate::gather::number_at;
 use crate::kept::{KeptFate, KeptTries};
 use crate::table::{Place, Window};
-use esm_model::{Fate, Text, WindowState};
+use esm_model::{Fate, OutOfMemory, Text, WindowState};
+use std::alloc::Global;
 use std::collections::{BTreeMap, BTreeSet};
 use std::marker::Model;
 
@@ -47,6 +48,13 @@ impl Model for Says {
 pub struct SaidState {
     pub shard: u64,
     pub state: WindowState,
+}
+
+/// The failed tries of the final call of a shard's tumbling window, which is named by its start in milliseconds.
+#[derive(Clone, Copy, Debug)]
+pub struct SaidWindowTries {
+    pub window: u64,
+    pub tries: u32,
 }
 
 /// The fate of a record or a message, with the sequence number or message id that is kept of it.
@@ -113,6 +121,18 @@ impl Says {
         }
     }
 
+    /// The tries of the final calls of all windows of the shard, in the order of the windows. It looks at the windows of
+    /// every shard.
+    pub fn shard_window_tries(
+        &self,
+        alloc: Global,
+        shard: u64,
+    ) -> Result<Vec<SaidWindowTries>, OutOfMemory>
+        ensures { IfOk result (λ found. map (of_window shard) found.items ≡ filter (λ (f : FoundWindowTries). f.shard == shard) self.now.window_tries) }
+    {
+        tries_of_shard(alloc, &self.window_tries, shard)
+    }
+
     /// Whether the shard's record at the place was called again by a replay.
     pub fn replayed(&self, shard: u64, place: u32) -> bool
         ensures { result ≡ is_replay_told self.now shard place }
@@ -156,4 +176,21 @@ impl Says {
     {
         self.deletions.len() as u32
     }
+}
+
+fn tries_of_shard(
+    alloc: Global,
+    window_tries: &BTreeMap<Window, u32>,
+    shard: u64,
+) -> Result<Vec<SaidWindowTries>, OutOfMemory>
+    ensures { IfOk result (λ found. map (of_window shard) found.items ≡ filter (λ (f : FoundWindowTries). f.shard == shard) (map found_window_tries window_tries.now.entries)) }
+{
+    let mut found = Vec::new(alloc);
+    for (of, tries) in window_tries {
+        if of.0 == shard {
+            let (window, tries) = (of.1, *tries);
+            found.push(SaidWindowTries { window, tries })?;
+        }
+    }
+    Ok(found)
 }
