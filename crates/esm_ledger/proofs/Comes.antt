@@ -1,6 +1,6 @@
 -- Records that come to a ledger.
 use Rattle.std.proofs.Common.{◌≡◌, ℕ, zero, suc, ◌+◌, ◌<◌, ◌≤◌, Bool, true, false, not, ◌||◌, List, [], ◌∷◌, ◌++◌, length, map, set, refl, sym, ap, ◌∙◌, subst, ◌⊎◌, inl, inr, Option, Some, None, arith, Vec, Global, append-nil}
-use Rattle.std.specs.Prelude.{◌==◌, slice_get, is_some, IfSome, All, vec_len, vec_capacity, if◌then◌else◌}
+use Rattle.std.specs.Prelude.{◌==◌, slice_get, is_some, All, vec_len, vec_capacity, if◌then◌else◌}
 use Rattle.std.proofs.Math.Seq.{map-set_same}
 use Rattle.std.proofs.lemmas.Option.{get_or_from_slice_get}
 use Rattle.std.proofs.lemmas.Bool.{cases_Bool, eq-eqb, eqb-true, false_from_ne_true}
@@ -92,7 +92,7 @@ pub record AreReady (c : Ledger) (n : ℕ) (a : Arriving) (xs : List ShardLedger
   pub splits : (lane : LaneId) (i : ℕ) (z : ShardLedger) → slice_get xs i ≡ Some z → z.shard ≡ lane.shard → is_running (past_of c) lane ≡ true → 2 ≤ (lane_in z.lanes lane.lane).kept.splits
   pub some : (i : ℕ) × (z : ShardLedger) × (slice_get xs i ≡ Some z) × (z.shard ≡ n)
 
-push_cases : (xs : List ShardLedger) (y : ShardLedger) (i : ℕ) (z : ShardLedger) → slice_get (xs ++ y ∷ []) i ≡ Some z → (slice_get xs i ≡ Some z) ⊎ (z ≡ y)
+pub push_cases : (xs : List ShardLedger) (y : ShardLedger) (i : ℕ) (z : ShardLedger) → slice_get (xs ++ y ∷ []) i ≡ Some z → (slice_get xs i ≡ Some z) ⊎ (z ≡ y)
 push_cases [] y zero z at = inr (sym (is_that y z at))
 push_cases [] y (suc i) z at = cc
 push_cases (x ∷ xs) y zero z at = inl at
@@ -106,7 +106,7 @@ names_push : (xs : List ShardLedger) (y : ShardLedger) → names (xs ++ y ∷ []
 names_push [] y = refl
 names_push (x ∷ xs) y = ap (λ (ns : List ℕ). x.shard ∷ ns) (names_push xs y)
 
-known_of : (b : Bool) → false ≡ not b → b ≡ true
+pub known_of : (b : Bool) → false ≡ not b → b ≡ true
 known_of true e = refl
 known_of false e = (let clash : false ≡ true = e in cc)
 
@@ -256,10 +256,6 @@ came_added c d n m a xs i z w k room legal few is at there took after sets items
         ∙ ap (λ (f : SaidLists). make c.config c.calls ts f) b.found
 
 -- what the code needs
-
-pub fresh_room : (c : Ledger) (x : Coming) (o : Option ShardLedger) → IsComing c x → x.fresh ≡ o → IfSome o (λ (y : ShardLedger). vec_len c.shards < vec_capacity c.shards)
-fresh_room c x None is e = tt
-fresh_room c x (Some y) is e = (is.fresh y e).3
 
 pub can_take : (c : Ledger) (x : Coming) (xs : List ShardLedger) (i : ℕ) (z : ShardLedger) → Keeps c → IsComing c x → AreReady c x.shard x.arriving xs → slice_get xs i ≡ Some z → z.shard ≡ x.shard → CanTake z x.arriving
 can_take c x xs i z k is ready at there =

@@ -86,6 +86,14 @@ pub landed_splits : (k first : ℕ) (ls : List (Option Landing)) (v : LaneView) 
 landed_splits k first [] v = refl
 landed_splits k first (l ∷ ls) v = landed_splits k (suc first) ls (land_in k first l v) ∙ land_splits k first l v
 
+land_state : (k place : ℕ) (l : Option Landing) (v : LaneView) → (land_in k place l v).state ≡ v.state
+land_state k place None v = refl
+land_state k place (Some l) v = elim (cases_Bool (l.lane == k)) [ inl is ↦ rw is refl | inr off ↦ rw off refl ]
+
+pub landed_state : (k first : ℕ) (ls : List (Option Landing)) (v : LaneView) → (landed k first ls v).state ≡ v.state
+landed_state k first [] v = refl
+landed_state k first (l ∷ ls) v = landed_state k (suc first) ls (land_in k first l v) ∙ land_state k first l v
+
 -- records
 
 -- an element of two lists is one of the first or of the second

@@ -137,14 +137,14 @@ pub record IsSet (xs ys : List ShardLedger) (i : ℕ) (x y : ShardLedger) : Type
   pub at : slice_get xs i ≡ Some x
   pub now : ys ≡ set xs i y
   pub shard : y.shard ≡ x.shard
-  pub records : y.records ≡ x.records
+  pub records : y.records.items ≡ x.records.items
 
 pub names_set : (xs ys : List ShardLedger) (i : ℕ) (x y : ShardLedger) → IsSet xs ys i x y → names ys ≡ names xs
 names_set xs ys i x y is =
     ap names is.now
     ∙ map-set_same (λ (z : ShardLedger). z.shard) xs i y x (is.shard ∙ ap (λ (z : ShardLedger). z.shard) (sym (get_or_from_slice_get xs i x x is.at)))
 
-same_stream : (x y : ShardLedger) → y.shard ≡ x.shard → y.records ≡ x.records → stream_of y ≡ stream_of x
+same_stream : (x y : ShardLedger) → y.shard ≡ x.shard → y.records.items ≡ x.records.items → stream_of y ≡ stream_of x
 same_stream x y a b = cc
 
 pub streams_set : (xs ys : List ShardLedger) (i : ℕ) (x y : ShardLedger) → IsSet xs ys i x y → map stream_of ys ≡ map stream_of xs

@@ -13,3 +13,4 @@ pub mod Comes
 pub mod Besides
 pub mod Readings
 pub mod Notes
+pub mod Prepared

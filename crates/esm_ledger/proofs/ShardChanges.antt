@@ -1,8 +1,9 @@
 -- What a change of one shard makes of a ledger.
-use Rattle.std.proofs.Common.{◌≡◌, ℕ, ◌<◌, ◌≤◌, true, false, List, ◌∷◌, length, set, get_or, refl, sym, ap, ◌∙◌, subst, inl, inr, Option, Some, arith}
+use Rattle.std.proofs.Common.{◌≡◌, ℕ, ◌<◌, ◌≤◌, true, false, List, ◌∷◌, length, set, get_or, refl, sym, ap, ◌∙◌, subst, inl, inr, Option, Some, arith, Vec, Global}
 use Rattle.std.specs.Prelude.{◌==◌, ◌≢◌, OnOk, OnErr, Ok, Err, Result, slice_get}
 use Rattle.std.proofs.lemmas.Bool.{cases_eq, eqb-true, false_from_ne_true}
 use Rattle.std.proofs.lemmas.Option.{slice_get_read}
+use Rattle.esm_model.specs.declared.item.Record.{Record}
 use Rattle.esm_model.specs.declared.lane.LaneId.{LaneId}
 use Rattle.esm_model.specs.declared.entry.Fate.{Fate}
 use Rattle.esm_model.specs.declared.entry.Reply.{Reply}
@@ -117,7 +118,10 @@ pub read_at : (xs : List ShardLedger) (i : ℕ) (x : ShardLedger) → i < length
 read_at xs i x low is = slice_get_read xs (length xs) i x refl low is
 
 pub set_at : (xs ys : List ShardLedger) (i : ℕ) (x y : ShardLedger) → i < length xs → x ≡ get_or xs i x → ys ≡ set xs i y → y.shard ≡ x.shard → y.records ≡ x.records → IsSet xs ys i x y
-set_at xs ys i x y low is now shard records = record { at = read_at xs i x low is; now = now; shard = shard; records = records }
+set_at xs ys i x y low is now shard records = record { at = read_at xs i x low is; now = now; shard = shard; records = ap (λ (v : Vec Record Global). v.items) records }
+
+pub set_items_at : (xs ys : List ShardLedger) (i : ℕ) (x y : ShardLedger) → i < length xs → x ≡ get_or xs i x → ys ≡ set xs i y → y.shard ≡ x.shard → y.records.items ≡ x.records.items → IsSet xs ys i x y
+set_items_at xs ys i x y low is now shard records = record { at = read_at xs i x low is; now = now; shard = shard; records = records }
 
 pub splits_stay : (n : ℕ) → StaysSo n KeepsSplits
 splits_stay n x off k = refl

@@ -1,5 +1,5 @@
 -- What a change of one shard makes of a ledger. Only this crate's proofs cite this.
-use Rattle.std.specs.Prelude.{◌≡◌, ℕ, false, List, map, length, None}
+use Rattle.std.specs.Prelude.{◌≡◌, ◌≢◌, ℕ, false, List, map, length, None, vec_len, vec_capacity}
 use Rattle.esm_model.specs.Lane.{same_lane}
 use Rattle.esm_model.specs.declared.lane.LaneId.{LaneId}
 use Rattle.esm_model.specs.declared.entry.Entry.{Entry}
@@ -18,6 +18,21 @@ pub record IsChanged (c d : Ledger) (P : ShardLedger → ShardLedger → Type 0)
 -- each shard is as the history says
 abbrev pub AreShards : Ledger → Ledger → List Entry → Type 0
 AreShards c d h = (n : ℕ) (x : ShardLedger) → IsAt d n x → IsShard (setting_of c) h x
+
+-- every other shard is as it was, and there is the same room
+pub record KeepsOthers (c d : Ledger) (n : ℕ) : Type 0 where
+  pub others : (m : ℕ) (y : ShardLedger) → m ≢ n → IsAt d m y → IsAt c m y
+  pub len : vec_len d.shards ≡ vec_len c.shards
+  pub capacity : vec_capacity d.shards ≡ vec_capacity c.shards
+
+-- each window keeps its place for a state
+abbrev pub KeepsStates : ShardLedger → ShardLedger → Type 0
+KeepsStates x y = y.windows.states ≡ x.windows.states
+
+-- each lane's call is the same, and each window keeps its tries
+pub record KeepsClosings (x y : ShardLedger) : Type 0 where
+  pub lanes : y.lanes ≡ x.lanes
+  pub tries : y.windows.tries ≡ x.windows.tries
 
 -- each lane has the splits that were prepared for it
 abbrev pub KeepsSplits : ShardLedger → ShardLedger → Type 0

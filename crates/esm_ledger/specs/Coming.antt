@@ -1,12 +1,14 @@
 -- Records of a shard that a ledger is about to take, and the setting with them. This product's own.
-use Rattle.std.specs.Prelude.{◌≡◌, ℕ, ◌+◌, ◌<◌, ◌≤◌, ◌==◌, not, is_some, List, [], ◌∷◌, ◌++◌, length, Option, Some, None, slice_get, slice_set, vec_len, vec_capacity, if◌then◌else◌}
+use Rattle.std.specs.Prelude.{◌≡◌, ℕ, ◌+◌, ◌<◌, ◌≤◌, ◌==◌, Bool, false, not, is_some, List, [], ◌∷◌, ◌++◌, length, Option, Some, None, slice_get, slice_set, slice_index_or, if◌then◌else◌}
 use Rattle.std.specs.List.{All}
 use Rattle.esm_model.specs.declared.item.Record.{Record}
-use Rattle.esm_model.specs.Setting.{Setting, Stream, over}
+use Rattle.esm_model.specs.Setting.{Setting, Stream, over, found_fate}
 use Rattle.esm_model.specs.Entries.{holds, came_count, shards_that_came}
 use Rattle.esm_model.specs.declared.entry.Entry.{Entry}
 use Rattle.esm_model.specs.declared.entry.Entry.TheVariants.{Came}
+use Rattle.esm_model.specs.Owed.{is_refused}
 use Rattle.esm_model.specs.Step.{Legal}
+use Rattle.esm_tables.specs.LaneView.{lane_in}
 use Rattle.esm_tables.specs.LaneHistory.{HasFoundTries}
 use Rattle.esm_ledger.specs.declared.arriving.Arriving.{Arriving}
 use Rattle.esm_ledger.specs.declared.coming.Coming.{Coming}
@@ -46,6 +48,9 @@ pub record Takes (xs ys : List ShardLedger) (n m : ℕ) (a : Arriving) : Type 0 
   pub shard : now.shard ≡ was.shard
   pub records : now.records.items ≡ was.records.items ++ a.records.items
   pub splits : SameSplits was.lanes now.lanes
+  pub running : (k : ℕ) → (lane_in now.lanes k).state ≡ (lane_in was.lanes k).state
+  pub states : now.windows.states ≡ was.windows.states
+  pub tries : now.windows.tries ≡ was.windows.tries
   pub goes : (s : Setting) (h : List Entry) → HasFoundTries s was.shard → Legal s (Came was.shard (came_count h was.shard) (length a.records.items) m ∷ h) → AreArriving s was.shard (came_count h was.shard) a → IsShard s h was → IsShard s (Came was.shard (came_count h was.shard) (length a.records.items) m ∷ h) now
 
 -- the records of a shard, with all that is kept of them, find their memory; where the shard did not come before, what
@@ -59,4 +64,9 @@ pub record IsComing (c : Ledger) (x : Coming) : Type 0 where
   pub stand : AreArriving (grown (setting_of c) x.shard x.arriving.records.items) x.shard (came_count (past_of c) x.shard) x.arriving
   pub known : (y : ShardLedger) → IsAt c x.shard y → HasRoomFor y x.arriving
   pub named : is_some x.fresh ≡ not (holds (shards_that_came (past_of c)) x.shard)
-  pub fresh : (y : ShardLedger) → x.fresh ≡ Some y → (y.shard ≡ x.shard) × IsShard (setting_of c) (past_of c) y × HasRoomFor y x.arriving × (vec_len c.shards < vec_capacity c.shards)
+  pub fresh : (y : ShardLedger) → x.fresh ≡ Some y → (y.shard ≡ x.shard) × IsShard (setting_of c) (past_of c) y × HasRoomFor y x.arriving
+
+-- of each record from the place on whether it passes the filter; of one with a found fate this may say either
+pub record TellsPassing (s : Setting) (n first : ℕ) (rs : List Record) (passing : List Bool) : Type 0 where
+  pub all : length passing ≡ length rs
+  pub each : (k : ℕ) (r : Record) → slice_get rs k ≡ Some r → found_fate s n (first + k) ≡ None → slice_index_or passing k false ≡ not (is_refused s r)

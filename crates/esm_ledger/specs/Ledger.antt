@@ -68,6 +68,10 @@ pub record HasRoom (c : Ledger) (n : ℕ) : Type 0 where
   pub room : vec_len c.history + spare_of (past_of c) + n ≤ vec_capacity c.history
   pub short : vec_len c.history + spare_of (past_of c) + n < MAX_ENTRIES
 
+-- room for so many shards that come for the first time
+abbrev pub HasShardRoom : Ledger → ℕ → Type 0
+HasShardRoom c n = vec_len c.shards + n ≤ vec_capacity c.shards
+
 -- the lane's call may end
 pub record MayEnd (x : ShardLedger) (lane : ℕ) : Type 0 where
   pub within : running_count (lane_in x.lanes lane).state.running ≤ front_length (lane_in x.lanes lane).kept.pieces

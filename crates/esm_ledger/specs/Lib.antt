@@ -3,6 +3,7 @@ pub mod Arriving
 pub mod ShardLaws
 pub mod Ledger
 pub mod Coming
+pub mod Prepared
 pub mod Reading
 pub mod Adding
 pub mod Measuring

@@ -4,7 +4,8 @@ ghost use Rattle.esm_model.specs.Entries.{came_count, is_running, is_shut};
 ghost use Rattle.esm_model.specs.Lane.{same_lane};
 ghost use Rattle.esm_model.specs.declared.lane.LaneId.{LaneId};
 ghost use Rattle.esm_model.specs.Tries.{verdict_after};
-ghost use Rattle.esm_ledger.specs.Ledger.{past_of, setting_of, LegalOver, HasRoom, Rests, Keeps, HasSplits, HasState, IsClosingPrepared};
+ghost use Rattle.esm_ledger.specs.Ledger.{past_of, setting_of, LegalOver, HasRoom, HasShardRoom, Rests, Keeps, HasSplits, HasState, IsClosingPrepared};
+ghost use Rattle.esm_ledger.specs.Prepared.{StaysAt, StaysElsewhere, Stays};
 ghost use Rattle.esm_model.specs.FailureLine.{response_in};
 ghost use Rattle.esm_ledger.specs.Coming.{grown, IsComing};
 
@@ -19,6 +20,7 @@ impl Ledger {
     pub fn came(&mut self, alloc: Global, coming: Coming, moment: u64)
         requires kept { Keeps self.old }
         requires room { HasRoom self.old 1 }
+        requires shards { IfSome coming.fresh (λ _. HasShardRoom self.old 1) }
         requires coming { IsComing self.old coming }
         requires legal { LegalOver (grown (setting_of self.old) coming.shard coming.arriving.records.items)
             (Entry.Came coming.shard (came_count (past_of self.old) coming.shard) (length coming.arriving.records.items) moment ∷ past_of self.old) }
@@ -26,6 +28,11 @@ impl Ledger {
         ensures past { past_of self.new ≡ Entry.Came coming.shard (came_count (past_of self.old) coming.shard) (length coming.arriving.records.items) moment ∷ past_of self.old }
         ensures setting { setting_of self.new ≡ grown (setting_of self.old) coming.shard coming.arriving.records.items }
         ensures room { (n : ℕ) → HasRoom self.old (n + 1) → HasRoom self.new n }
+        // What is prepared for further entries stays; a shard that comes for the first time takes the room of one.
+        ensures shards { (n : ℕ) → HasShardRoom self.old (n + 1) → HasShardRoom self.new n }
+        ensures shards_known { coming.fresh ≡ None → (n : ℕ) → HasShardRoom self.old n → HasShardRoom self.new n }
+        ensures elsewhere { StaysElsewhere self.old self.new coming.shard }
+        ensures own { coming.fresh ≡ None → StaysAt self.old self.new coming.shard }
     {
         let Coming {
             shard,
@@ -58,6 +65,10 @@ impl Ledger {
         ensures past { past_of self.new ≡ Entry.Began lane places closing moment ∷ past_of self.old }
         ensures setting { setting_of self.new ≡ setting_of self.old }
         ensures room { (n : ℕ) → HasRoom self.old (n + 2) → HasRoom self.new n }
+        ensures shards { (n : ℕ) → HasShardRoom self.old n → HasShardRoom self.new n }
+        ensures elsewhere { StaysElsewhere self.old self.new lane.shard }
+        ensures splits { (other : LaneId) → HasSplits self.old other → HasSplits self.new other }
+        ensures states { (n w : ℕ) → HasState self.old n w → HasState self.new n w }
     {
         self.shard_began(lane, places.as_slice(), closing);
         self.begun += 1;
@@ -90,6 +101,9 @@ impl Ledger {
         ensures past { past_of self.new ≡ Entry.Ended lane reply moment ∷ past_of self.old }
         ensures setting { setting_of self.new ≡ setting_of self.old }
         ensures room { (n : ℕ) → HasRoom self.old n → HasRoom self.new n }
+        ensures shards { (n : ℕ) → HasShardRoom self.old n → HasShardRoom self.new n }
+        ensures elsewhere { StaysElsewhere self.old self.new lane.shard }
+        ensures splits { (other : LaneId) → same_lane lane other ≡ false → HasSplits self.old other → HasSplits self.new other }
         ensures states { (n w : ℕ) → HasState self.old n w → HasState self.new n w }
     {
         let response = response_of(&reply);
@@ -128,6 +142,11 @@ impl Ledger {
         ensures past { past_of self.new ≡ Entry.Gave by shard places fate line state moment ∷ past_of self.old }
         ensures setting { setting_of self.new ≡ setting_of self.old }
         ensures room { (n : ℕ) → HasRoom self.old (n + 1) → HasRoom self.new n }
+        ensures shards { (n : ℕ) → HasShardRoom self.old n → HasShardRoom self.new n }
+        ensures elsewhere { StaysElsewhere self.old self.new shard }
+        ensures splits { (other : LaneId) → HasSplits self.old other → HasSplits self.new other }
+        ensures states { state ≡ None → (n w : ℕ) → HasState self.old n w → HasState self.new n w }
+        ensures closings { (other : LaneId) → IsClosingPrepared self.old other → IsClosingPrepared self.new other }
     {
         self.shard_gave(shard, places.as_slice(), fate, copy);
         self.note(
@@ -154,6 +173,10 @@ impl Ledger {
         ensures past { past_of self.new ≡ Entry.Gave (Some lane) lane.shard places Fate.Expired line None moment ∷ past_of self.old }
         ensures setting { setting_of self.new ≡ setting_of self.old }
         ensures room { (n : ℕ) → HasRoom self.old (n + 1) → HasRoom self.new n }
+        ensures shards { (n : ℕ) → HasShardRoom self.old n → HasShardRoom self.new n }
+        ensures elsewhere { StaysElsewhere self.old self.new lane.shard }
+        ensures splits { (other : LaneId) → HasSplits self.old other → HasSplits self.new other }
+        ensures states { (n w : ℕ) → HasState self.old n w → HasState self.new n w }
     {
         self.shard_expired(lane, places.as_slice());
         let (by, shard, fate, state) = (Some(lane), lane.shard, Fate::Expired, None);
@@ -187,6 +210,8 @@ impl Ledger {
         ensures past { past_of self.new ≡ Entry.Tried lane places closing tries moment ∷ past_of self.old }
         ensures setting { setting_of self.new ≡ setting_of self.old }
         ensures room { (n : ℕ) → HasRoom self.old (n + 1) → HasRoom self.new n }
+        ensures shards { (n : ℕ) → HasShardRoom self.old n → HasShardRoom self.new n }
+        ensures stays { Stays self.old self.new }
     {
         self.note(
             Entry::Tried {
@@ -209,6 +234,9 @@ impl Ledger {
         ensures past { past_of self.new ≡ Entry.Closed lane window moment ∷ past_of self.old }
         ensures setting { setting_of self.new ≡ setting_of self.old }
         ensures room { (n : ℕ) → HasRoom self.old (n + 1) → HasRoom self.new n }
+        ensures shards { (n : ℕ) → HasShardRoom self.old n → HasShardRoom self.new n }
+        ensures elsewhere { StaysElsewhere self.old self.new lane.shard }
+        ensures splits { (other : LaneId) → HasSplits self.old other → HasSplits self.new other }
     {
         self.shard_closed(lane, window);
         self.note(
@@ -229,6 +257,8 @@ impl Ledger {
         ensures past { past_of self.new ≡ Entry.Shut moment ∷ past_of self.old }
         ensures setting { setting_of self.new ≡ setting_of self.old }
         ensures room { (n : ℕ) → HasRoom self.old n → HasRoom self.new n }
+        ensures shards { (n : ℕ) → HasShardRoom self.old n → HasShardRoom self.new n }
+        ensures stays { Stays self.old self.new }
     {
         self.shut = true;
         self.note(Entry::Shut { moment }, moment);

@@ -1,5 +1,5 @@
 //! What an entry changes of the shard that it is of, where the ledger has it.
-ghost use Rattle.std.specs.Prelude.{◌≡◌, ◌≢◌, ℕ, List, Option, ◌≤◌, ◌<◌, ◌∷◌, [], true, length, IfSome, Some, None, ◌++◌, vec_len, vec_capacity};
+ghost use Rattle.std.specs.Prelude.{◌≡◌, ◌≢◌, ℕ, List, Option, ◌≤◌, ◌<◌, ◌∷◌, [], true, length, IfSome, IfNone, Some, None, ◌+◌, ◌++◌, vec_len, vec_capacity};
 ghost use Rattle.esm_ledger.specs.Arriving.{IsEven};
 ghost use Rattle.esm_ledger.specs.Coming.{CanTake, Takes, listed};
 ghost use Rattle.esm_model.specs.declared.lane.LaneId.{LaneId};
@@ -11,7 +11,7 @@ ghost use Rattle.esm_model.specs.Step.{Legal};
 ghost use Rattle.esm_ledger.specs.declared.shard.ShardLedger.{ShardLedger};
 ghost use Rattle.esm_ledger.specs.ShardLaws.{CallFits, EndFits, GiftFits, ExpiryFits};
 ghost use Rattle.esm_ledger.specs.Ledger.{past_of, setting_of, IsAt, Rests, Keeps, MayEnd, HasSplits, HasState, IsClosingPrepared};
-ghost use Rattle.esm_ledger.specs.Adding.{IsChanged, AreShards, KeepsSplits, EndsAt, RestsAt};
+ghost use Rattle.esm_ledger.specs.Adding.{IsChanged, AreShards, KeepsOthers, KeepsSplits, KeepsStates, KeepsClosings, EndsAt, RestsAt};
 
 use crate::arriving::Arriving;
 use crate::ledger::Ledger;
@@ -27,6 +27,8 @@ impl Ledger {
         requires fits { (x : ShardLedger) → IsAt self.old shard x → CanTake x arriving }
         ensures before { self.new ≡ record self.old { shards = self.new.shards } }
         ensures took { Takes self.old.shards.items self.new.shards.items shard moment arriving }
+        ensures len { vec_len self.new.shards ≡ vec_len self.old.shards }
+        ensures capacity { vec_capacity self.new.shards ≡ vec_capacity self.old.shards }
     {
         match self.find(shard) {
             None => let_go(arriving),
@@ -40,6 +42,8 @@ impl Ledger {
         requires fits { (x : ShardLedger) → IsAt self.old lane.shard x → CallFits x lane.lane places.now }
         ensures before { self.new ≡ record self.old { shards = self.new.shards } }
         ensures changed { IsChanged self.old self.new KeepsSplits }
+        ensures others { KeepsOthers self.old self.new lane.shard }
+        ensures states { IsChanged self.old self.new KeepsStates }
         ensures goes_on { (m : ℕ) → Legal (setting_of self.old) (Entry.Began lane places.now closing m ∷ past_of self.old) →
             AreShards self.old self.new (Entry.Began lane places.now closing m ∷ past_of self.old) }
     {
@@ -64,6 +68,7 @@ impl Ledger {
         requires window { IsClosingPrepared self.old lane }
         ensures before { self.new ≡ record self.old { shards = self.new.shards } }
         ensures changed { IsChanged self.old self.new (EndsAt lane) }
+        ensures others { KeepsOthers self.old self.new lane.shard }
         ensures goes_on { (reply : Reply) → Legal (setting_of self.old) (Entry.Ended lane reply moment ∷ past_of self.old) →
             verdict ≡ verdict_after (setting_of self.old) (past_of self.old) lane reply → response ≡ response_in reply →
             AreShards self.old self.new (Entry.Ended lane reply moment ∷ past_of self.old) }
@@ -88,6 +93,9 @@ impl Ledger {
         requires state { IfSome state (λ x. HasState self.old shard x.window) }
         ensures before { self.new ≡ record self.old { shards = self.new.shards } }
         ensures changed { IsChanged self.old self.new KeepsSplits }
+        ensures others { KeepsOthers self.old self.new shard }
+        ensures states { IfNone state (IsChanged self.old self.new KeepsStates) }
+        ensures closings { IsChanged self.old self.new KeepsClosings }
         ensures goes_on { (by : Option LaneId) (line : Option (List ℕ)) (m : ℕ) →
             Legal (setting_of self.old) (Entry.Gave by shard places.now fate line state m ∷ past_of self.old) →
             AreShards self.old self.new (Entry.Gave by shard places.now fate line state m ∷ past_of self.old) }
@@ -104,6 +112,8 @@ impl Ledger {
         requires fits { (x : ShardLedger) → IsAt self.old lane.shard x → ExpiryFits x lane.lane places.now }
         ensures before { self.new ≡ record self.old { shards = self.new.shards } }
         ensures changed { IsChanged self.old self.new KeepsSplits }
+        ensures others { KeepsOthers self.old self.new lane.shard }
+        ensures states { IsChanged self.old self.new KeepsStates }
         ensures goes_on { (line : Option (List ℕ)) (m : ℕ) →
             Legal (setting_of self.old) (Entry.Gave (Some lane) lane.shard places.now Fate.Expired line None m ∷ past_of self.old) →
             AreShards self.old self.new (Entry.Gave (Some lane) lane.shard places.now Fate.Expired line None m ∷ past_of self.old) }
@@ -119,6 +129,7 @@ impl Ledger {
         requires kept { Keeps self.old }
         ensures before { self.new ≡ record self.old { shards = self.new.shards } }
         ensures changed { IsChanged self.old self.new KeepsSplits }
+        ensures others { KeepsOthers self.old self.new lane.shard }
         ensures goes_on { (m : ℕ) → Legal (setting_of self.old) (Entry.Closed lane window m ∷ past_of self.old) →
             AreShards self.old self.new (Entry.Closed lane window m ∷ past_of self.old) }
     {
@@ -155,7 +166,9 @@ fn let_go(_arriving: Arriving) {}
 /// What is to be kept of a shard that comes for the first time stands behind the others.
 pub fn push_fresh(shards: &mut Vec<ShardLedger>, fresh: Option<ShardLedger>)
     requires { IfSome fresh (λ _. vec_len shards.old < vec_capacity shards.old) }
-    ensures { shards.new.items ≡ shards.old.items ++ listed fresh }
+    ensures items { shards.new.items ≡ shards.old.items ++ listed fresh }
+    ensures len { vec_len shards.new ≡ vec_len shards.old + length (listed fresh) }
+    ensures capacity { vec_capacity shards.new ≡ vec_capacity shards.old }
 {
     if let Some(fresh) = fresh {
         shards.push_reserved(fresh);

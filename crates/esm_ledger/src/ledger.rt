@@ -5,7 +5,8 @@ ghost use Rattle.esm_model.specs.Setting.{Setting};
 ghost use Rattle.esm_model.specs.Entries.{last_moment, came_count, is_shut, calls_begun, is_running};
 ghost use Rattle.esm_model.specs.Tries.{verdict_after};
 ghost use Rattle.esm_tables.specs.LaneHistory.{HasFoundTries};
-ghost use Rattle.esm_ledger.specs.Ledger.{past_of, setting_of, opened_with, LegalOver, IsAt, HasRoom, Rests, Keeps, HasSplits, HasState};
+ghost use Rattle.esm_ledger.specs.Ledger.{past_of, setting_of, opened_with, LegalOver, IsAt, HasRoom, HasShardRoom, Rests, Keeps, HasSplits, HasState};
+ghost use Rattle.esm_ledger.specs.Prepared.{StaysElsewhere, Stays};
 ghost use Rattle.esm_tables.specs.WindowEntries.{has_entry};
 
 use crate::shard::ShardLedger;
@@ -71,12 +72,29 @@ impl Ledger {
         ensures ok { OnOk result (HasRoom self.new count) }
         ensures past { past_of self.new ≡ past_of self.old }
         ensures setting { setting_of self.new ≡ setting_of self.old }
+        ensures shards { (n : ℕ) → HasShardRoom self.old n → HasShardRoom self.new n }
+        ensures stays { Stays self.old self.new }
     {
         let spare = self.unended as usize + usize::from(!self.shut);
         if count >= MAX_ENTRIES || self.history.len() + spare + count >= MAX_ENTRIES {
             return Err(OutOfMemory);
         }
         self.history.reserve(spare + count)?;
+        Ok(())
+    }
+
+    /// Memory for so many shards that come for the first time. After `OutOfMemory` nothing has changed.
+    pub fn prepare_shards(&mut self, count: usize) -> Result<(), OutOfMemory>
+        requires kept { Keeps self.old }
+        ensures kept { Keeps self.new }
+        ensures ok { OnOk result (HasShardRoom self.new count) }
+        ensures past { past_of self.new ≡ past_of self.old }
+        ensures setting { setting_of self.new ≡ setting_of self.old }
+        ensures room { (n : ℕ) → HasRoom self.old n → HasRoom self.new n }
+        ensures shards { (n : ℕ) → HasShardRoom self.old n → HasShardRoom self.new n }
+        ensures stays { Stays self.old self.new }
+    {
+        self.shards.reserve(count)?;
         Ok(())
     }
 
@@ -90,6 +108,10 @@ impl Ledger {
         ensures past { past_of self.new ≡ past_of self.old }
         ensures setting { setting_of self.new ≡ setting_of self.old }
         ensures room { (n : ℕ) → HasRoom self.old n → HasRoom self.new n }
+        ensures shards { (n : ℕ) → HasShardRoom self.old n → HasShardRoom self.new n }
+        ensures elsewhere { StaysElsewhere self.old self.new lane.shard }
+        ensures splits { (other : LaneId) → HasSplits self.old other → HasSplits self.new other }
+        ensures states { (n w : ℕ) → HasState self.old n w → HasState self.new n w }
     {
         match self.find(lane.shard) {
             None => Ok(()),
@@ -107,6 +129,9 @@ impl Ledger {
         ensures past { past_of self.new ≡ past_of self.old }
         ensures setting { setting_of self.new ≡ setting_of self.old }
         ensures room { (n : ℕ) → HasRoom self.old n → HasRoom self.new n }
+        ensures shards { (n : ℕ) → HasShardRoom self.old n → HasShardRoom self.new n }
+        ensures elsewhere { StaysElsewhere self.old self.new shard }
+        ensures splits { (other : LaneId) → HasSplits self.old other → HasSplits self.new other }
     {
         match self.find(shard) {
             None => Ok(()),

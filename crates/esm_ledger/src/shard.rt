@@ -1,4 +1,4 @@
-ghost use Rattle.std.specs.Prelude.{◌≡◌, ◌≢◌, ℕ, List, Option, ◌+◌, ◌<◌, ◌≤◌, ◌∷◌, ◌++◌, [], true, Some, None, length, OnOk, OnErr, IfOk, IfSome, IsOk};
+ghost use Rattle.std.specs.Prelude.{◌≡◌, ◌≢◌, ℕ, List, Option, ◌+◌, ◌<◌, ◌≤◌, ◌∷◌, ◌++◌, [], true, Some, None, length, OnOk, OnErr, IfOk, IfSome, IfNone, IsOk};
 ghost use Rattle.std.specs.List.{All};
 ghost use Rattle.esm_model.specs.declared.limits.TheConstants.{MAX_LANES};
 ghost use Rattle.esm_model.specs.declared.lane.LaneId.{LaneId};
@@ -191,6 +191,7 @@ impl ShardLedger {
             Legal s (Entry.Gave by self.old.shard places.now fate line state m ∷ h) →
             IsShard s h self.old → IsShard s (Entry.Gave by self.old.shard places.now fate line state m ∷ h) self.new }
         ensures lanes { self.new.lanes ≡ self.old.lanes }
+        ensures states { IfNone state (self.new.windows.states ≡ self.old.windows.states) }
         ensures tries { self.new.windows.tries ≡ self.old.windows.tries }
     {
         self.progress.give(places, fate);
@@ -246,6 +247,7 @@ impl ShardLedger {
             AreArriving s self.old.shard (came_count h self.old.shard) arriving → IsShard s h self.old →
             IsShard s (Entry.Came self.old.shard (came_count h self.old.shard) (length arriving.records.items) moment ∷ h) self.new }
         ensures splits { SameSplits self.old.lanes self.new.lanes }
+        ensures running { (k : ℕ) → (lane_in self.new.lanes k).state ≡ (lane_in self.old.lanes k).state }
         ensures states { self.new.windows.states ≡ self.old.windows.states }
         ensures tries { self.new.windows.tries ≡ self.old.windows.tries }
     {

@@ -1,5 +1,5 @@
 //! What one entry does to the windows and the lanes of a shard.
-ghost use Rattle.std.specs.Prelude.{◌≡◌, ℕ, ◌+◌, ◌-◌, ◌<◌, ◌≤◌, ◌&&◌, true, Some, length, if◌then◌else◌, IfSome};
+ghost use Rattle.std.specs.Prelude.{◌≡◌, ℕ, ◌+◌, ◌-◌, ◌<◌, ◌≤◌, ◌&&◌, true, Some, length, if◌then◌else◌, IfSome, IfNone};
 ghost use Rattle.std.specs.List.{All};
 ghost use Rattle.esm_model.specs.Entries.{holds};
 ghost use Rattle.esm_model.specs.Ruling.{capped_tries, is_counted};
@@ -55,6 +55,7 @@ pub fn leave_windows(windows: &mut Windows, measures: &[Measure], places: &[u32]
 pub fn take_state(windows: &mut Windows, state: Option<WindowState>)
     requires { IfSome state (λ x. has_entry windows.old.states x.window ≡ true) }
     ensures states { (w : ℕ) → state_in windows.new w ≡ text_for w (state_in windows.old w) state }
+    ensures none { IfNone state (windows.new.states ≡ windows.old.states) }
     ensures opened { windows.new.opened ≡ windows.old.opened }
     ensures tries { windows.new.tries ≡ windows.old.tries }
     ensures last { windows.new.last ≡ windows.old.last }

@@ -1,4 +1,4 @@
-use Rattle.std.proofs.Common.{ℕ, ◌+◌, sym, arith, ◌∷◌}
+use Rattle.std.proofs.Common.{ℕ, ◌+◌, sym, arith, ◌∷◌, ◌≡◌, ap, refl}
 use Rattle.esm_model.specs.declared.entry.Entry.TheVariants.{Ended}
 use Rattle.esm_ledger.specs.declared.ledger.Ledger.{Ledger}
 use Rattle.esm_ledger.specs.Ledger.{past_of, setting_of, HasRoom}
@@ -6,6 +6,7 @@ use Rattle.esm_ledger.proofs.Fitting.{end_may_come}
 use Rattle.esm_ledger.proofs.Ledgers.{own_legal}
 use Rattle.esm_ledger.proofs.KeptLedgers.{note_room}
 use Rattle.esm_ledger.proofs.Additions.{ended_added, ended_states, end_spare}
+use Rattle.esm_ledger.proofs.Prepared.{room_kept, elsewhere_over, off_shard, splits_besides}
 use Rattle.esm_ledger.proofs.ledger.Ledger.ended.Goals as goal
 
 -- no entry more
@@ -42,4 +43,15 @@ returns c =
     let each = c.shard_ended.ensures.goes_on reply legal c.requires.verdict c.response_of-response.ensures in
     let done = ended_added self w c.note.new.self lane reply m c.saturating_sub-self.result c.requires.kept c.requires.legal
     c.shard_ended.ensures.before c.saturating_sub-self.ensures c.note.ensures.others c.note.ensures.history c.note.ensures.len c.note.ensures.capacity c.shard_ended.ensures.changed each in
-    record { kept = done.kept; past = done.past; setting = done.setting; room = λ n r. done.room n (with_none c.args.self.now n r); states = ended_states self w c.note.new.self lane c.note.ensures.others c.shard_ended.ensures.changed }
+    let shards : c.note.new.self.shards ≡ c.shard_ended.new.self.shards = ap (λ (z : Ledger). z.shards) c.note.ensures.others in
+    record {
+      kept = done.kept;
+      past = done.past;
+      setting = done.setting;
+      room = λ n r. done.room n (with_none c.args.self.now n r);
+      shards = λ n r. room_kept self w c.note.new.self lane.shard n shards c.shard_ended.ensures.others r;
+      elsewhere = elsewhere_over self w c.note.new.self lane.shard (Ended lane reply m) c.requires.kept legal done.past done.setting (record { shards = refl; count = λ n. refl })
+          (λ k off. off_shard lane.shard k off) shards c.shard_ended.ensures.others;
+      splits = λ other off has. splits_besides self w c.note.new.self lane other shards c.shard_ended.ensures.changed off has;
+      states = ended_states self w c.note.new.self lane c.note.ensures.others c.shard_ended.ensures.changed;
+    }

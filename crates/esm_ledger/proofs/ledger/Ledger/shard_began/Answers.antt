@@ -1,11 +1,13 @@
-use Rattle.std.proofs.Common.{refl, arith, ◌∷◌}
+use Rattle.std.proofs.Common.{refl, arith, ◌∷◌, ap}
 use Rattle.std.specs.Vec.{with_item}
 use Rattle.esm_model.specs.declared.entry.Entry.TheVariants.{Began}
 use Rattle.esm_ledger.specs.declared.ledger.Ledger.{Ledger}
 use Rattle.esm_ledger.specs.Shard.{lane_id}
 use Rattle.esm_ledger.specs.Ledger.{past_of, setting_of}
-use Rattle.esm_ledger.specs.Adding.{KeepsSplits}
-use Rattle.esm_ledger.proofs.ShardChanges.{found_at, set_at, changed_set, shards_set, shards_none, splits_stay, leaves_began, relabel}
+use Rattle.esm_ledger.specs.Adding.{KeepsSplits, KeepsStates}
+use Rattle.esm_ledger.proofs.ShardChanges.{found_at, set_at, changed_set, shards_set, shards_none, splits_stay, leaves_began, relabel, changed_none}
+use Rattle.esm_ledger.proofs.Prepared.{others_set, others_none}
+use Rattle.esm_tables.specs.Windows.{WindowTable}
 use Rattle.esm_ledger.proofs.ledger.Ledger.shard_began.Goals as goal
 
 pub began-requires-clause-came : goal.began-requires-clause-came
@@ -65,3 +67,31 @@ returns-in-Some-clause-goes_on c = λ m legal.
     let h = past_of self in
     shards_set self d lane.shard at x y (Began lane places closing m ∷ h) c.requires.kept legal (leaves_began lane places closing m h) is here.2
     (λ shard. relabel s h lane.shard x y (λ n. Began (lane_id n lane.lane) places closing m) here.2 (λ own. c.began.ensures.kept s h m (c.requires.kept.found x.shard) own shard) legal)
+
+pub returns-in-None-clause-others : goal.returns-in-None-clause-others
+returns-in-None-clause-others c = others_none c.args.self.now c.args.lane.shard
+
+pub returns-in-Some-clause-others : goal.returns-in-Some-clause-others
+returns-in-Some-clause-others c =
+    let self = c.args.self.now in
+    let x = c.index_mut.result.now in
+    let y = c.began.new.self in
+    let at = c.in-Some.at in
+    let d : Ledger = record self { shards = with_item self.shards at y } in
+    let here = found_at self c.args.lane.shard at x c.in-Some.ensures.at c.index_mut.ensures.value in
+    let is = set_at self.shards.items d.shards.items at x y c.in-Some.ensures.at.0 c.index_mut.ensures.value refl c.began.ensures.shard c.began.ensures.records in
+    others_set self d c.args.lane.shard at x y is here.2 refl refl
+
+pub returns-in-None-clause-states : goal.returns-in-None-clause-states
+returns-in-None-clause-states c = changed_none c.args.self.now c.args.lane.shard KeepsStates c.in-None.ensures.none (λ x off. refl)
+
+pub returns-in-Some-clause-states : goal.returns-in-Some-clause-states
+returns-in-Some-clause-states c =
+    let self = c.args.self.now in
+    let x = c.index_mut.result.now in
+    let y = c.began.new.self in
+    let at = c.in-Some.at in
+    let d : Ledger = record self { shards = with_item self.shards at y } in
+    let here = found_at self c.args.lane.shard at x c.in-Some.ensures.at c.index_mut.ensures.value in
+    let is = set_at self.shards.items d.shards.items at x y c.in-Some.ensures.at.0 c.index_mut.ensures.value refl c.began.ensures.shard c.began.ensures.records in
+    changed_set self d c.args.lane.shard at x y KeepsStates c.requires.kept.rests is here.2 (ap (λ (v : WindowTable). v.states) c.began.ensures.windows) (λ z off. refl)

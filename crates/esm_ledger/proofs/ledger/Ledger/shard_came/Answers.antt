@@ -33,5 +33,8 @@ returns-in-Some-clause-took c =
       shard = c.came.ensures.shard;
       records = c.came.ensures.records;
       splits = c.came.ensures.splits;
+      running = c.came.ensures.running;
+      states = c.came.ensures.states;
+      tries = c.came.ensures.tries;
       goes = c.came.ensures.kept;
     }

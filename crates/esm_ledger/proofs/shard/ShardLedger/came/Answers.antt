@@ -6,7 +6,7 @@ use Rattle.esm_tables.specs.LaneView.{LaneView, lane_in}
 use Rattle.esm_tables.specs.Windows.{open_in, times}
 use Rattle.esm_ledger.specs.declared.arriving.Landing.{Landing}
 use Rattle.esm_ledger.specs.Arriving.{landed}
-use Rattle.esm_ledger.proofs.Landings.{shard_came, landed_splits}
+use Rattle.esm_ledger.proofs.Landings.{shard_came, landed_splits, landed_state}
 use Rattle.esm_ledger.proofs.shard.ShardLedger.came.Goals as goal
 
 pub land-requires-clause-short : goal.land-requires-clause-short
@@ -14,6 +14,9 @@ land-requires-clause-short c = omega (arith, ap length c.as_slice-3.ensures.valu
 
 pub returns-clause-splits : goal.returns-clause-splits
 returns-clause-splits c = λ k. ap (λ (v : LaneView). v.kept.splits) (c.land.ensures.lane k) ∙ landed_splits k c.len-first.result c.as_slice-3.result.now (lane_in c.args.self.now.lanes k)
+
+pub returns-clause-running : goal.returns-clause-running
+returns-clause-running c = λ k. ap (λ (v : LaneView). v.state) (c.land.ensures.lane k) ∙ landed_state k c.len-first.result c.as_slice-3.result.now (lane_in c.args.self.now.lanes k)
 
 pub returns-clause-kept : goal.returns-clause-kept
 returns-clause-kept c = λ s h.
