@@ -1,0 +1,4 @@
+pub mod Opened
+pub mod Shown
+pub mod Text
+pub mod Upkeep
