@@ -1,0 +1,9 @@
+pub mod Rising
+pub mod Texts
+pub mod Fitting
+pub mod Saying
+pub mod Lines
+pub mod Few
+pub mod Lengths
+pub mod Telling
+pub mod Filtering
