@@ -14,3 +14,5 @@ pub mod Besides
 pub mod Readings
 pub mod Notes
 pub mod Prepared
+pub mod Founds
+pub mod NextRecords

@@ -7,3 +7,4 @@ pub mod Prepared
 pub mod Reading
 pub mod Adding
 pub mod Measuring
+pub mod Found

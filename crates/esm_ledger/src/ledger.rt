@@ -162,7 +162,7 @@ impl Ledger {
     }
 
     /// The number of records of the shard that came.
-    pub(crate) fn came_of(&self, shard: u64) -> u32
+    pub fn came_of(&self, shard: u64) -> u32
         requires { Keeps self.now }
         ensures { result ≡ came_count (past_of self.now) shard }
     {

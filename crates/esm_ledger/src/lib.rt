@@ -7,6 +7,7 @@ mod adding;
 mod arriving;
 mod changing;
 mod coming;
+mod found;
 mod ledger;
 mod measure;
 mod measuring;
@@ -15,6 +16,7 @@ mod reading;
 mod shard;
 pub mod shard_laws;
 mod shard_steps;
+mod upcoming;
 
 pub use arriving::{Arriving, Landing};
 pub use coming::Coming;

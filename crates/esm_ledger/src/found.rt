@@ -1,0 +1,160 @@
+//! What the journal told at opening of records and windows of a shard that is about to come.
+ghost use Rattle.std.specs.Prelude.{◌≡◌, ℕ, ◌+◌, ◌≤◌, ◌==◌, ◌&&◌, Some, length, if◌then◌else◌, IfOk, OnOk};
+ghost use Rattle.esm_model.specs.Ruling.{capped_tries};
+ghost use Rattle.esm_tables.specs.Windows.{state_in, tries_in};
+ghost use Rattle.esm_ledger.specs.Measuring.{fate_for, tries_for, landing_for, fates_from, landings_from, state_from, tries_from};
+ghost use Rattle.esm_ledger.specs.Found.{HasFoundWindows};
+
+use crate::arriving::Landing;
+use esm_model::{Fate, MAX_TRIES, OutOfMemory, Record, lane_of};
+use esm_said::{SaidState, SaidWindowTries, Says};
+use esm_tables::Windows;
+use std::alloc::Global;
+
+/// The fate that was found of the record at the place.
+fn fate_of(found: &Says, shard: u64, place: u32) -> Option<Fate>
+    ensures { result ≡ fate_for found.now shard place }
+{
+    match found.fate(shard, place) {
+        None => None,
+        Some(told) => Some(told.fate),
+    }
+}
+
+/// The tries that were found of it, 10,001 at most.
+fn tries_of(found: &Says, shard: u64, place: u32) -> Option<u32>
+    ensures { result ≡ tries_for found.now shard place }
+{
+    match found.tries(shard, place) {
+        None => None,
+        Some(told) => Some(capped(told.tries)),
+    }
+}
+
+fn capped(tries: u32) -> u32
+    ensures { result ≡ capped_tries tries }
+{
+    MAX_TRIES.min(tries)
+}
+
+/// Where the record at the place comes to, if it has no found fate and passes the filter.
+fn landing_of(
+    found: &Says,
+    factor: u32,
+    shard: u64,
+    place: u32,
+    item: &Record,
+    passes: bool,
+) -> Option<Landing>
+    requires some { 1 ≤ factor }
+    requires most { factor ≤ 10 }
+    ensures { result ≡ landing_for factor found.now shard place item.now passes }
+{
+    let fate = fate_of(found, shard, place);
+    if passes && fate.is_none() {
+        Some(Landing {
+            lane: lane_of(&item.key, factor),
+            tries: tries_of(found, shard, place),
+        })
+    } else {
+        None
+    }
+}
+
+/// The fates that were found of records, and where the records come to.
+#[derive(Drop)]
+pub struct Fated {
+    pub fates: Vec<Option<Fate>>,
+    pub landings: Vec<Option<Landing>>,
+}
+
+/// Of these records of the shard, from the place `first` on.
+pub fn found_records(
+    alloc: Global,
+    found: &Says,
+    factor: u32,
+    shard: u64,
+    first: u32,
+    records: &[Record],
+    passing: &[bool],
+) -> Result<Fated, OutOfMemory>
+    requires some { 1 ≤ factor }
+    requires most { factor ≤ 10 }
+    requires few { first + length records.now ≤ u32.MAX }
+    requires all { length passing.now ≡ length records.now }
+    ensures fates { IfOk result (λ f. f.fates.items ≡ fates_from found.now shard first records.now) }
+    ensures landings { IfOk result (λ f. f.landings.items ≡ landings_from factor found.now shard first records.now passing.now) }
+{
+    let mut fates = Vec::new(alloc);
+    let mut landings = Vec::new(alloc);
+    for i in 0..records.len() {
+        let place = first + i as u32;
+        fates.push(fate_of(found, shard, place))?;
+        let landing = landing_of(found, factor, shard, place, &records[i], passing[i]);
+        landings.push(landing)?;
+    }
+    Ok(Fated { fates, landings })
+}
+
+/// The shard's windows before any record of it came.
+pub fn found_windows(alloc: Global, found: &Says, shard: u64) -> Result<Windows, OutOfMemory>
+    ensures { IfOk result (λ windows. HasFoundWindows found.now shard windows) }
+{
+    let tries = found.shard_window_tries(alloc, shard)?;
+    let mut windows = Windows::new(alloc);
+    load_states(alloc, &mut windows, found.states(), shard)?;
+    load_tries(&mut windows, tries.as_slice())?;
+    Ok(windows)
+}
+
+fn load_states(
+    alloc: Global,
+    windows: &mut Windows,
+    states: &[SaidState],
+    shard: u64,
+) -> Result<(), OutOfMemory>
+    ensures states { OnOk result ((w : ℕ) → state_in windows.new w ≡ state_from states.now shard w (state_in windows.old w)) }
+    ensures opened { windows.new.opened ≡ windows.old.opened }
+    ensures tries { windows.new.tries ≡ windows.old.tries }
+    ensures last { windows.new.last ≡ windows.old.last }
+{
+    let mut index = states.len();
+    while index > 0 {
+        index -= 1;
+        load_state(alloc, windows, &states[index], shard)?;
+    }
+    Ok(())
+}
+
+fn load_state(
+    alloc: Global,
+    windows: &mut Windows,
+    state: &SaidState,
+    shard: u64,
+) -> Result<(), OutOfMemory>
+    ensures states { OnOk result ((w : ℕ) → state_in windows.new w ≡ (if (state.now.shard == shard) && (state.now.state.window == w) then Some state.now.state.text else state_in windows.old w)) }
+    ensures opened { windows.new.opened ≡ windows.old.opened }
+    ensures tries { windows.new.tries ≡ windows.old.tries }
+    ensures last { windows.new.last ≡ windows.old.last }
+{
+    if state.shard != shard {
+        return Ok(());
+    }
+    let text = state.state.text.copy(alloc)?;
+    windows.found_state(state.state.window, text)
+}
+
+fn load_tries(windows: &mut Windows, tries: &[SaidWindowTries]) -> Result<(), OutOfMemory>
+    ensures tries { OnOk result ((w : ℕ) → tries_in windows.new w ≡ tries_from tries.now w (tries_in windows.old w)) }
+    ensures opened { windows.new.opened ≡ windows.old.opened }
+    ensures states { windows.new.states ≡ windows.old.states }
+    ensures last { windows.new.last ≡ windows.old.last }
+{
+    let mut index = tries.len();
+    while index > 0 {
+        index -= 1;
+        let told = tries[index];
+        windows.found_tries(told.window, capped(told.tries))?;
+    }
+    Ok(())
+}
