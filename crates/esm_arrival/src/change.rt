@@ -9,7 +9,6 @@ ghost use Rattle.esm_ledger.specs.Ledger.{past_of, setting_of, Keeps};
 ghost use Rattle.esm_arrival.specs.Coming.{FitPlaces};
 ghost use Rattle.esm_arrival.specs.Changes.{change_at, change_of, first_change, kept_otherwise, other_text};
 
-use crate::parts::came_of;
 use esm_ledger::Ledger;
 use esm_model::{Change, OutOfMemory, Record, Seq, Text};
 use esm_said::Says;
@@ -103,7 +102,7 @@ fn next_place(ledger: &Ledger, next: &BTreeMap<u64, u32>, shard: u64) -> u32
     ensures { result ≡ unwrap_or (get nat_cmp next.now shard) (came_count (past_of ledger.now) shard) }
 {
     match next.get(&shard) {
-        None => came_of(ledger, shard),
+        None => ledger.came_of(shard),
         Some(place) => *place,
     }
 }

@@ -1,14 +1,14 @@
-ghost use Rattle.std.specs.Prelude.{◌≡◌, ℕ, ◌+◌, ◌<◌, Some, All, map, IfOk, IfSome, IfNone, length, slice_get};
+ghost use Rattle.std.specs.Prelude.{◌≡◌, ◌+◌, ◌<◌, All, map, IfOk, length};
 ghost use Rattle.esm_model.specs.Entries.{came_count};
 ghost use Rattle.esm_filter.specs.Criteria.{JudgesRecords};
-ghost use Rattle.esm_ledger.specs.Ledger.{past_of, setting_of, IsAt, Keeps};
+ghost use Rattle.esm_ledger.specs.Ledger.{past_of, setting_of, Keeps};
 ghost use Rattle.esm_arrival.specs.Coming.{FitPlaces, with_records};
 ghost use Rattle.esm_arrival.specs.Parts.{CanCome, grown_by, next_part, part, parts_of};
 
 use crate::group::{Group, grouped};
 use crate::refusing::refused;
 use esm_filter::Criteria;
-use esm_ledger::{Ledger, ShardLedger};
+use esm_ledger::Ledger;
 use esm_model::{OutOfMemory, Places, Record};
 use std::alloc::Global;
 
@@ -21,40 +21,6 @@ pub struct ShardRecords {
     pub records: Vec<Record>,
     /// The places of those that have no found fate and do not pass the filter, rising.
     pub refused: Places,
-}
-
-/// The index of the shard among those that came, if it came.
-fn find(ledger: &Ledger, shard: u64) -> Option<usize>
-    ensures at { IfSome result (λ i. (i < length ledger.now.shards.items) × ((x : ShardLedger) → slice_get ledger.now.shards.items i ≡ Some x → x.shard ≡ shard)) }
-    ensures none { IfNone result ((x : ShardLedger) → IsAt ledger.now shard x → ⊥) }
-{
-    ledger
-        .shards
-        .as_slice()
-        .iter()
-        .position(|kept| kept.shard == shard)
-}
-
-/// What is kept of the shard, if it came.
-fn kept(ledger: &Ledger, shard: u64) -> Option<&ShardLedger>
-    ensures at { IfSome result (λ x. IsAt ledger.now shard x.now) }
-    ensures none { IfNone result ((x : ShardLedger) → IsAt ledger.now shard x → ⊥) }
-{
-    match find(ledger, shard) {
-        None => None,
-        Some(at) => Some(&ledger.shards[at]),
-    }
-}
-
-/// The number of records of the shard that came.
-pub fn came_of(ledger: &Ledger, shard: u64) -> u32
-    requires { Keeps ledger.now }
-    ensures { result ≡ came_count (past_of ledger.now) shard }
-{
-    match kept(ledger, shard) {
-        None => 0,
-        Some(kept) => kept.progress.len(),
-    }
 }
 
 /// The records come next to those of their shard that came.
@@ -70,7 +36,7 @@ fn part_of(
     ensures { IfOk result (λ p. part p ≡ next_part (setting_of ledger.now) (past_of ledger.now) group.shard group.records.items) }
 {
     let Group { shard, records } = group;
-    let first = came_of(ledger, shard);
+    let first = ledger.came_of(shard);
     let places = refused(
         alloc,
         &ledger.found,
