@@ -1,0 +1,4 @@
+pub mod Dues
+pub mod Ending
+pub mod Preparing
+pub mod Parts
