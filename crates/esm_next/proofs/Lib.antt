@@ -1,0 +1,15 @@
+mod Over
+mod Told
+mod Rules
+mod Fronts
+mod Cuts
+mod Bounds
+mod Lanes
+mod Serving
+mod Expiries
+mod Batches
+mod Lines
+mod Texts
+mod Groups
+mod Results
+mod Served
