@@ -14,7 +14,5 @@ mod refusal;
 mod respond;
 mod route;
 mod serve;
-#[cfg(test)]
-mod tests;
 
 pub use serve::{Served, serve_one};

@@ -4,8 +4,6 @@
 
 mod piece;
 mod prefix;
-#[cfg(test)]
-mod tests;
 
 pub use piece::{Cut, Limits, Piece1, Why};
 pub use prefix::cut;

@@ -6,4 +6,3 @@ pub mod Growing
 pub mod Writings
 pub mod Keeping
 pub mod Leaving
-pub mod Toys

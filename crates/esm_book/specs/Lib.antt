@@ -3,4 +3,3 @@ pub mod Growth
 pub mod State
 pub mod Answers
 pub mod Writing
-pub mod Toy

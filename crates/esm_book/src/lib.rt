@@ -14,8 +14,3 @@ pub use decisions::Decisions;
 pub use durable::{Durable, Parts};
 pub use error::{CallError, Refusal};
 pub use nowhere::Nowhere;
-
-#[cfg(test)]
-mod tests;
-#[cfg(test)]
-mod toy;

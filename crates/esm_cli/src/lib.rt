@@ -9,8 +9,6 @@ pub mod laws;
 mod number;
 mod options;
 pub mod table;
-#[cfg(test)]
-mod tests;
 mod words;
 
 pub use command::{Command, RunWords, Which, WordsError};

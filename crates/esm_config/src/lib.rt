@@ -32,6 +32,3 @@ pub use object::{object_string, object_text};
 pub use param::{ConfigError, Param};
 pub use to_json::{config_string, settings, text};
 pub use update::merge;
-
-#[cfg(test)]
-mod tests;

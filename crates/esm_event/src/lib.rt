@@ -21,6 +21,3 @@ pub use failure::failure_text;
 pub use length::{frame_bytes, stream_bytes};
 pub use queue::queue_event;
 pub use queue_length::queue_bytes;
-
-#[cfg(test)]
-mod tests;

@@ -15,6 +15,3 @@ mod scalar;
 
 pub use criteria::Criteria;
 pub use error::{FilterError, PatternError};
-
-#[cfg(test)]
-mod tests;

@@ -10,8 +10,6 @@ mod head;
 mod http_caller;
 mod program_caller;
 mod request;
-#[cfg(test)]
-mod tests;
 
 pub use call::{call_over, invoke};
 pub use http_caller::HttpCaller;

@@ -22,7 +22,7 @@ mod mem_link;
 mod mem_sink;
 mod mem_source;
 mod pieces;
-mod put_byte;
+pub mod put_byte;
 mod real;
 mod schedule;
 mod script;
@@ -61,10 +61,3 @@ pub use stdout_sink::StdoutSink;
 pub use step_clock::StepClock;
 pub use tcp_door::TcpDoor;
 pub use tcp_link::TcpLink;
-
-#[cfg(test)]
-mod crossing;
-#[cfg(test)]
-mod real_tests;
-#[cfg(test)]
-mod tests;

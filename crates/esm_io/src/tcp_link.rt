@@ -53,7 +53,7 @@ impl<R: Net + Clone> TcpLink<R> {
 
     /// A connection that a listener has accepted. A read or a write that would wait for its peer longer than `patience`
     /// fails, and so does each where the system takes no such limit.
-    pub(crate) fn accepted(stream: R::Stream, patience: Duration) -> Self
+    pub fn accepted(stream: R::Stream, patience: Duration) -> Self
         ensures faultless { result.faults ≡ 0 }
     {
         TcpLink {

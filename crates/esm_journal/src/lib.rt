@@ -28,6 +28,3 @@ pub use file_dest::FileDest;
 pub use journal::Journal;
 pub use migrate::Migrated;
 pub use pair::Pair;
-
-#[cfg(test)]
-mod tests;

@@ -12,6 +12,3 @@ mod standing;
 pub use lanes::Lanes;
 pub use queue::Front;
 pub use standing::Standing;
-
-#[cfg(test)]
-mod tests;

@@ -22,8 +22,6 @@ pub mod received;
 pub mod sequence;
 pub mod setup;
 pub mod spelling;
-#[cfg(test)]
-mod tests;
 pub mod text;
 pub mod verdict;
 pub mod worked;

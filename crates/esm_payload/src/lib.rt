@@ -7,8 +7,6 @@ pub mod laws;
 mod names;
 mod parsing;
 pub mod said;
-#[cfg(test)]
-mod tests;
 mod word;
 mod writing;
 

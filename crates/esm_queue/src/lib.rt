@@ -14,6 +14,3 @@ mod queue;
 mod timeline;
 
 pub use queue::Queue;
-
-#[cfg(test)]
-mod tests;

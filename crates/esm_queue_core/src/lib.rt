@@ -18,6 +18,3 @@ pub mod worked;
 
 pub use decisions::{Opened, QueueAnswer, QueueCall, QueueEntry};
 pub use queue_core::QueueCore;
-
-#[cfg(test)]
-mod tests;

@@ -21,6 +21,3 @@ mod stream;
 pub use error::{BadLine, Field, LineError};
 pub use item::{Fed, Item, LineKind};
 pub use lines::Lines;
-
-#[cfg(test)]
-mod tests;

@@ -6,8 +6,6 @@
 pub mod ending;
 mod fates;
 mod output;
-#[cfg(test)]
-mod tests;
 mod totals;
 
 pub use ending::{Ending, LimitName};

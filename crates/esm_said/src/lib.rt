@@ -15,8 +15,6 @@ mod lookup;
 mod piece;
 mod regroup;
 mod table;
-#[cfg(test)]
-mod tests;
 
 pub use compact::compacted;
 pub use error::SaysError;

@@ -25,8 +25,3 @@ pub use lane_table::LaneTable;
 pub use progress::{FateCounts, Progress};
 pub use window_counts::WindowCounts;
 pub use windows::Windows;
-
-#[cfg(test)]
-mod lane_tests;
-#[cfg(test)]
-mod shard_tests;

@@ -11,8 +11,6 @@ mod migrating;
 mod opened;
 mod showing;
 mod summary;
-#[cfg(test)]
-mod tests;
 mod text;
 
 pub use compacting::compact;

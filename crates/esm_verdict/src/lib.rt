@@ -8,8 +8,6 @@ mod queue;
 mod reported;
 mod ruling;
 mod stream;
-#[cfg(test)]
-mod tests;
 
 pub use esm_model::{Answer, QueueReading, Reading, Rest, StateRead, Verdict};
 pub use queue::read_queue;

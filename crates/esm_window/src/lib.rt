@@ -6,8 +6,6 @@ mod key;
 mod marks;
 mod part;
 mod state;
-#[cfg(test)]
-mod tests;
 mod window;
 
 pub use esm_model::StateRead;

@@ -1,5 +1,0 @@
-use Rattle.std.proofs.Common.{◌<◌, length}
-use Rattle.esm_tables.proofs.lane_tests.calls.Given as goal
-
-abbrev pub invariant-loop-verdict : goal.invariant-loop-verdict
-invariant-loop-verdict l = 0 < length l.table.lanes

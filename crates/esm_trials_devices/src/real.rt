@@ -1,0 +1,111 @@
+// The real forms over a real file and a real connection. Standard input and output have none: a test's are not its own.
+
+use esm_io::{Disk, Door, Failed, FileDisk, FileSource, Link, Source, TcpDoor, TcpLink};
+use esm_model::Text;
+use std::net::{Ipv4Addr, Net, OpenListener, TcpListener, TcpStream};
+use std::process::{Abort, Process};
+use std::rt::{Clock, Env};
+use std::time::Duration;
+use std::{env, fs, process, thread};
+
+/// A path among the temporary files that no other process of tests has.
+fn temporary<R: Env + AllocGlobal + Abort>(rt: &R, process: Process, name: &str) -> String {
+    let folder = env::temp_dir(rt).expect(rt, "a folder");
+    let id = process::id(process);
+    format!(in rt.alloc(); "{}/esm_io-{id}-{name}", folder.as_str()).expect(rt, "memory")
+}
+
+fn text<R: AllocGlobal + Abort>(rt: &R, path: &str) -> Text {
+    Text::from_vec(String::from_str(rt.alloc(), path).expect(rt, "memory"))
+}
+
+#[test]
+fn file_disk_keeps_its_bytes_and_its_lock(rt: HostRuntime) {
+    let path = temporary(&rt, rt.process(), "disk");
+    let mut disk = FileDisk::new(&rt, text(&rt, path.as_str())).expect(&rt, "memory");
+    let mut other = FileDisk::new(&rt, text(&rt, path.as_str())).expect(&rt, "memory");
+    assert!(rt; disk.len() == Ok(0));
+    assert!(rt; disk.write_at(0, &[1, 2, 3]) == Ok(()));
+    assert!(rt; disk.sync() == Ok(()));
+    let mut into = [0; 2];
+    assert!(rt; disk.read(1, &mut into) == Ok(()));
+    assert_eq!(rt; into, [2, 3]);
+    assert!(rt; other.len() == Err(Failed));
+    drop(disk);
+    assert!(rt; other.len() == Ok(3));
+    assert!(rt; fs::remove_file(&rt, path.as_str()).is_ok());
+}
+
+#[test]
+fn file_disk_wants_its_folder(rt: HostRuntime) {
+    let path = temporary(&rt, rt.process(), "none/disk");
+    let mut disk = FileDisk::new(&rt, text(&rt, path.as_str())).expect(&rt, "memory");
+    assert!(rt; disk.len() == Err(Failed));
+}
+
+#[test]
+fn file_source_gives_a_file(rt: HostRuntime) {
+    let path = temporary(&rt, rt.process(), "source");
+    let mut source = FileSource::new(&rt, text(&rt, path.as_str())).expect(&rt, "memory");
+    let mut into = [0; 4];
+    assert!(rt; source.read(&mut into) == Err(Failed));
+    assert!(rt; fs::write(&rt, path.as_str(), "ab").is_ok());
+    assert!(rt; source.read(&mut into) == Ok(2));
+    assert_eq!(rt; into, [97, 98, 0, 0]);
+    assert!(rt; source.read(&mut into) == Ok(0));
+    assert!(rt; fs::remove_file(&rt, path.as_str()).is_ok());
+}
+
+fn free_port<R: Net + Abort>(rt: &R) -> u16 {
+    let listener = TcpListener::bind(rt, (Ipv4Addr::LOCALHOST, 0)).expect(rt, "a free port");
+    listener.local_addr().expect(rt, "its address").port()
+}
+
+/// Reads a byte on the next connection, and sends it back.
+fn echo<R: Net + Clone + AllocGlobal>(rt: &R, port: u16) -> Option<u8> {
+    let mut door = TcpDoor::new(rt, port).ok()?;
+    let mut link = door.accept().ok()?;
+    let mut into = [0];
+    link.read(&mut into).ok()?;
+    link.write(&into).ok()?;
+    door.close(rt.alloc(), link).ok()?;
+    Some(into[0])
+}
+
+/// Sends a byte as soon as the door is open, and reads one.
+fn ask<R: Net + Clone + Clock>(rt: &R, port: u16) -> Option<u8> {
+    let mut link = TcpLink::new(rt, port).ok()?;
+    for _ in 0..1000 {
+        if link.write(&[7]).is_ok() {
+            break;
+        }
+        rt.sleep(Duration::from_millis(5));
+    }
+    let mut into = [0];
+    link.read(&mut into).ok()?;
+    Some(into[0])
+}
+
+#[test]
+fn bytes_go_over_a_door_and_back(rt: HostRuntime) {
+    let port = free_port(&rt);
+    let (heard, answered) = thread::join(&rt, || echo(&rt, port), || ask(&rt, port));
+    assert_eq!(rt; heard, Some(7));
+    assert_eq!(rt; answered, Some(7));
+}
+
+/// Whether a read of the next connection fails, where it waits a hundredth of a second for its peer.
+fn hear_silence<R: Net + Clone>(rt: &R, listener: &R::Listener) -> Option<bool> {
+    let (stream, _) = listener.accept().ok()?;
+    let mut link = TcpLink::<R>::accepted(stream, Duration::from_millis(10));
+    Some(link.read(&mut [0]) == Err(Failed))
+}
+
+#[test]
+fn a_silent_peer_is_a_fault(rt: HostRuntime) {
+    let listener = TcpListener::bind(&rt, (Ipv4Addr::LOCALHOST, 0)).expect(&rt, "a free port");
+    let at = listener.local_addr().expect(&rt, "its address");
+    let silent = TcpStream::connect(&rt, at).expect(&rt, "a connection");
+    assert_eq!(rt; hear_silence(&rt, &listener), Some(true));
+    drop(silent);
+}

@@ -1,0 +1,260 @@
+use esm_config::{ConfigError, Param, merge, read, text};
+use esm_model::{Config, Kind};
+use serde_json::Value;
+use std::alloc::Global;
+use std::test::Fail;
+
+/// The mapping of a stream, of a queue and of a FIFO queue, each without its closing brace.
+const STREAM: &str =
+    "{\"EventSourceArn\":\"arn:aws:kinesis:us-east-1:123456789012:stream/s\",\"FunctionName\":\"f\",\"StartingPosition\":\"TRIM_HORIZON\"";
+
+const QUEUE: &str =
+    "{\"EventSourceArn\":\"arn:aws:sqs:us-east-1:123456789012:q\",\"FunctionName\":\"f\"";
+
+const FIFO: &str =
+    "{\"EventSourceArn\":\"arn:aws:sqs:us-east-1:123456789012:q.fifo\",\"FunctionName\":\"f\"";
+
+/// What follows a mapping's first members, and the field that is refused. Of a name that stands
+/// twice the last value counts.
+const ROWS: [(&str, &str, Option<Param>); 42] = [
+    (STREAM, "", None),
+    (QUEUE, "", None),
+    (FIFO, ",\"Colour\":null", None),
+    (QUEUE, ",\"Colour\":\"red\"", Some(Param::Unknown)),
+    (
+        STREAM,
+        ",\"EventSourceArn\":\"arn:aws:dynamodb:us-east-1:123456789012:table/t/stream/l\"",
+        Some(Param::EventSourceArn),
+    ),
+    (
+        STREAM,
+        ",\"FunctionName\":\"f g\",\"BatchSize\":0",
+        Some(Param::FunctionName),
+    ),
+    (STREAM, ",\"Enabled\":1", Some(Param::Enabled)),
+    (STREAM, ",\"BatchSize\":10000", None),
+    (STREAM, ",\"BatchSize\":10001", Some(Param::BatchSize)),
+    (STREAM, ",\"BatchSize\":1.0", Some(Param::BatchSize)),
+    (FIFO, ",\"BatchSize\":11", Some(Param::BatchSize)),
+    (
+        QUEUE,
+        ",\"BatchSize\":11",
+        Some(Param::MaximumBatchingWindowInSeconds),
+    ),
+    (
+        QUEUE,
+        ",\"BatchSize\":11,\"MaximumBatchingWindowInSeconds\":1",
+        None,
+    ),
+    (
+        FIFO,
+        ",\"MaximumBatchingWindowInSeconds\":1",
+        Some(Param::MaximumBatchingWindowInSeconds),
+    ),
+    (
+        STREAM,
+        ",\"MaximumBatchingWindowInSeconds\":301",
+        Some(Param::MaximumBatchingWindowInSeconds),
+    ),
+    (
+        STREAM,
+        ",\"FilterCriteria\":{\"Filters\":[{\"Pattern\":\"{\\\"data\\\":{\\\"n\\\":[1]}}\"}]}",
+        None,
+    ),
+    (
+        STREAM,
+        ",\"FilterCriteria\":{\"Filters\":[{\"Pattern\":\"{\\\"data\\\":[1]}\"}]}",
+        Some(Param::FilterCriteria),
+    ),
+    (
+        QUEUE,
+        ",\"FilterCriteria\":{\"Filters\":[{\"Pattern\":\"{\\\"data\\\":[1]}\"}]}",
+        None,
+    ),
+    (
+        STREAM,
+        ",\"FilterCriteria\":{\"Filters\":[],\"More\":1}",
+        Some(Param::FilterCriteria),
+    ),
+    (
+        STREAM,
+        ",\"FunctionResponseTypes\":[\"ReportBatchItemFailures\"]",
+        None,
+    ),
+    (
+        STREAM,
+        ",\"FunctionResponseTypes\":[\"ReportBatchItemFailures\",\"ReportBatchItemFailures\"]",
+        Some(Param::FunctionResponseTypes),
+    ),
+    (
+        STREAM,
+        ",\"StartingPosition\":null",
+        Some(Param::StartingPosition),
+    ),
+    (
+        QUEUE,
+        ",\"StartingPosition\":\"LATEST\"",
+        Some(Param::StartingPosition),
+    ),
+    (
+        STREAM,
+        ",\"StartingPosition\":\"AT_TIMESTAMP\"",
+        Some(Param::StartingPositionTimestamp),
+    ),
+    (
+        STREAM,
+        ",\"StartingPosition\":\"AT_TIMESTAMP\",\"StartingPositionTimestamp\":253402300799",
+        None,
+    ),
+    (
+        STREAM,
+        ",\"StartingPosition\":\"AT_TIMESTAMP\",\"StartingPositionTimestamp\":253402300800",
+        Some(Param::StartingPositionTimestamp),
+    ),
+    (
+        STREAM,
+        ",\"StartingPositionTimestamp\":0",
+        Some(Param::StartingPositionTimestamp),
+    ),
+    (STREAM, ",\"ParallelizationFactor\":10", None),
+    (
+        STREAM,
+        ",\"ParallelizationFactor\":11",
+        Some(Param::ParallelizationFactor),
+    ),
+    (
+        STREAM,
+        ",\"MaximumRetryAttempts\":10000,\"MaximumRecordAgeInSeconds\":60",
+        None,
+    ),
+    (
+        STREAM,
+        ",\"MaximumRetryAttempts\":-2",
+        Some(Param::MaximumRetryAttempts),
+    ),
+    (
+        STREAM,
+        ",\"MaximumRecordAgeInSeconds\":59",
+        Some(Param::MaximumRecordAgeInSeconds),
+    ),
+    (
+        QUEUE,
+        ",\"MaximumRecordAgeInSeconds\":-1",
+        Some(Param::MaximumRecordAgeInSeconds),
+    ),
+    (
+        STREAM,
+        ",\"BisectBatchOnFunctionError\":\"true\"",
+        Some(Param::BisectBatchOnFunctionError),
+    ),
+    (STREAM, ",\"TumblingWindowInSeconds\":900", None),
+    (
+        STREAM,
+        ",\"TumblingWindowInSeconds\":1,\"ParallelizationFactor\":2",
+        Some(Param::TumblingWindowInSeconds),
+    ),
+    (
+        STREAM,
+        ",\"DestinationConfig\":{\"OnFailure\":{\"Destination\":\"arn:aws:sqs:us-east-1:123456789012:d\"}}",
+        None,
+    ),
+    (
+        STREAM,
+        ",\"DestinationConfig\":{\"OnFailure\":{\"Destination\":\"arn:aws:sns:us-east-1:123456789012:d\"}}",
+        Some(Param::DestinationConfig),
+    ),
+    (
+        STREAM,
+        ",\"ScalingConfig\":{\"MaximumConcurrency\":2}",
+        Some(Param::ScalingConfig),
+    ),
+    (
+        QUEUE,
+        ",\"ScalingConfig\":{\"MaximumConcurrency\":1000}",
+        None,
+    ),
+    (
+        QUEUE,
+        ",\"ScalingConfig\":{\"MaximumConcurrency\":1001}",
+        Some(Param::ScalingConfig),
+    ),
+    (
+        QUEUE,
+        ",\"ScalingConfig\":{\"MaximumConcurrency\":1}",
+        Some(Param::ScalingConfig),
+    ),
+];
+
+const STREAM_TEXT: &str =
+    "{\"EventSourceArn\":\"arn:aws:kinesis:us-east-1:123456789012:stream/s\",\"FunctionName\":\"arn:aws:lambda:us-east-1:123456789012:function:f\",\"Enabled\":true,\"BatchSize\":100,\"MaximumBatchingWindowInSeconds\":0,\"FunctionResponseTypes\":[],\"StartingPosition\":\"TRIM_HORIZON\",\"ParallelizationFactor\":1,\"MaximumRetryAttempts\":-1,\"MaximumRecordAgeInSeconds\":-1,\"BisectBatchOnFunctionError\":false,\"TumblingWindowInSeconds\":0}";
+
+/// Updates of a stream's mapping, each with the field that is refused.
+const UPDATES: [(&str, Option<Param>); 7] = [
+    ("{}", None),
+    ("{\"BatchSize\":7,\"StartingPosition\":null}", None),
+    (
+        "{\"BatchSize\":0,\"StartingPosition\":\"LATEST\"}",
+        Some(Param::BatchSize),
+    ),
+    (
+        "{\"BatchSize\":7,\"StartingPosition\":\"TRIM_HORIZON\"}",
+        Some(Param::StartingPosition),
+    ),
+    (
+        "{\"EventSourceArn\":\"arn:aws:kinesis:us-east-1:123456789012:stream/s\",\"BatchSize\":0}",
+        Some(Param::EventSourceArn),
+    ),
+    (
+        "{\"ScalingConfig\":{\"MaximumConcurrency\":2},\"Colour\":1}",
+        Some(Param::ScalingConfig),
+    ),
+    ("7", Some(Param::Body)),
+];
+
+fn mapping(alloc: Global, first: &str, more: &str) -> Result<Value, Fail> {
+    let text = format!(in alloc; "{first}{more}}}")?;
+    Ok(Value::from_str(alloc, text.as_str())?)
+}
+
+/// The field that the answer refuses.
+fn refusal(answer: Result<Config, ConfigError>) -> Result<Option<Param>, Fail> {
+    match answer {
+        Ok(_) => Ok(None),
+        Err(ConfigError::BadParam(param)) => Ok(Some(param)),
+        Err(ConfigError::OutOfMemory) => Err(Fail::from("no memory")),
+    }
+}
+
+#[test]
+fn judged_rows(rt: HostRuntime) -> Result<(), Fail> {
+    for (first, more, expected) in &ROWS {
+        let value = mapping(rt.alloc(), first, more)?;
+        let refused = refusal(read(rt.alloc(), &value))?;
+        assert_eq!(rt; refused, *expected, "{first}{more}");
+    }
+    Ok(())
+}
+
+#[test]
+fn judged_updates(rt: HostRuntime) -> Result<(), Fail> {
+    let old = read(rt.alloc(), &mapping(rt.alloc(), STREAM, "")?)?;
+    for (update, expected) in &UPDATES {
+        let value = Value::from_str(rt.alloc(), update)?;
+        let refused = refusal(merge(rt.alloc(), &old, &value))?;
+        assert_eq!(rt; refused, *expected, "{update}");
+    }
+    Ok(())
+}
+
+#[test]
+fn written_mappings(rt: HostRuntime) -> Result<(), Fail> {
+    let config = read(rt.alloc(), &mapping(rt.alloc(), STREAM, "")?)?;
+    assert_eq!(rt;
+        text(rt.alloc(), &config)?.as_slice(),
+        STREAM_TEXT.as_bytes()
+    );
+    let queue = read(rt.alloc(), &mapping(rt.alloc(), FIFO, "")?)?;
+    assert_eq!(rt; queue.kind, Kind::Fifo);
+    assert_eq!(rt; queue.batch_size, 10);
+    Ok(())
+}
