@@ -5,3 +5,4 @@ pub mod PlainMapping
 pub mod QueueLengths
 pub mod QueueExample
 pub mod EventBytes
+mod FailureLines

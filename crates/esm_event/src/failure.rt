@@ -8,17 +8,29 @@ use crate::bytes::push_bytes;
 use crate::dates::push_date;
 use crate::digits::{push_decimal, push_hexadecimal};
 use crate::record::push_shard_id;
-use esm_model::{Config, Failure, OutOfMemory, Response};
+use esm_model::{Config, Failure, OutOfMemory, Response, Text};
 use std::alloc::Global;
 
 /// The failure line of records that were given up, without a line feed
 /// (Lambda Developer Guide, "Retaining discarded batch records").
+pub fn failure_text(alloc: Global, config: &Config, failure: &Failure) -> Result<Text, OutOfMemory>
+    requires config { IsStreamConfig config.now }
+    requires failure { IsValidFailure failure.now }
+    ensures { IfOk result (λ text. text ≡ spec.failure_text config.now failure.now) }
+{
+    let _function = config.function_arn.as_str();
+    let _source = config.source_arn.as_str();
+    let _first = failure.first.text();
+    let _last = failure.last.text();
+    let bytes = failure_bytes(alloc, config, failure)?;
+    match String::from_utf8(bytes) {
+        Ok(line) => Ok(Text::from_vec(line)),
+        Err(_) => unreachable!(),
+    }
+}
+
 #[tactic(auto, unfolding(esm_model::specs::FailureText::failure_text))]
-pub fn failure_text(
-    alloc: Global,
-    config: &Config,
-    failure: &Failure,
-) -> Result<Vec<u8>, OutOfMemory>
+fn failure_bytes(alloc: Global, config: &Config, failure: &Failure) -> Result<Vec<u8>, OutOfMemory>
     requires config { IsStreamConfig config.now }
     requires failure { IsValidFailure failure.now }
     ensures { IfOk result (λ text. text.items ≡ spec.failure_text config.now failure.now) }

@@ -9,7 +9,6 @@ mod Serving
 mod Expiries
 mod Batches
 mod Lines
-mod Texts
 mod Groups
 mod Results
 mod Served

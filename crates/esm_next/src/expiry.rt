@@ -4,7 +4,6 @@ ghost use Rattle.std.specs.List.{All};
 ghost use Rattle.esm_model.specs.declared.limits.TheConstants.{MAX_EXPIRED};
 ghost use Rattle.esm_model.specs.declared.moment.TheConstants.{MAX_MOMENT};
 ghost use Rattle.esm_model.specs.declared.book.Next.TheVariants as next;
-ghost use Rattle.esm_model.specs.Valid.{IsStreamConfig};
 ghost use Rattle.esm_model.specs.ValidCall.{IsValidFailure};
 ghost use Rattle.esm_model.specs.Entries.{came_count};
 ghost use Rattle.esm_model.specs.Batches as spec;
@@ -18,7 +17,7 @@ use crate::decision::Decision;
 use crate::event::copied;
 use esm_event::failure_text;
 use esm_ledger::Ledger;
-use esm_model::{Config, Failure, LaneId, MAX_EXPIRED, OutOfMemory, Record, Seq, Text};
+use esm_model::{Failure, LaneId, MAX_EXPIRED, OutOfMemory, Record, Seq, Text};
 use std::alloc::Global;
 
 /// How many of the first places expire at the moment, at most 10,000. It looks at these places and at one more.
@@ -124,24 +123,7 @@ fn told_line(
     ensures { IfOk result (λ line. line ≡ text.failure_text ledger.now.config (failure_of (setting_of ledger.now) (past_of ledger.now) shard places.now true now)) }
 {
     let failure = failure(alloc, ledger, shard, places, now)?;
-    line_text(alloc, &ledger.config, &failure)
-}
-
-/// The line as a text.
-fn line_text(alloc: Global, config: &Config, failure: &Failure) -> Result<Text, OutOfMemory>
-    requires config { IsStreamConfig config.now }
-    requires failure { IsValidFailure failure.now }
-    ensures { IfOk result (λ line. line ≡ text.failure_text config.now failure.now) }
-{
-    let _function = config.function_arn.as_str();
-    let _source = config.source_arn.as_str();
-    let _first = failure.first.text();
-    let _last = failure.last.text();
-    let bytes = failure_text(alloc, config, failure)?;
-    match String::from_utf8(bytes) {
-        Ok(line) => Ok(Text::from_vec(line)),
-        Err(_) => unreachable!(),
-    }
+    failure_text(alloc, &ledger.config, &failure)
 }
 
 /// What the line says.

@@ -3,6 +3,5 @@ mod Verdicts
 mod Owing
 mod Counting
 mod Lines
-mod Texts
 mod Called
 mod Outcomes

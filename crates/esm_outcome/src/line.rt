@@ -1,11 +1,9 @@
 //! The line that the failure destination gets for records that are given up.
 ghost use Rattle.std.specs.Prelude.{◌≡◌, ◌≤◌, ◌<◌, ◌∷◌, false, length, slice_index, IfOk};
-ghost use Rattle.std.specs.Str.{IsUtf8};
 ghost use Rattle.esm_model.specs.declared.moment.TheConstants.{MAX_MOMENT};
 ghost use Rattle.esm_model.specs.declared.limits.TheConstants.{MAX_SHARD};
 ghost use Rattle.esm_model.specs.declared.entry.Entry.{Entry};
 ghost use Rattle.esm_model.specs.declared.verdict.Rest.{Rest};
-ghost use Rattle.esm_model.specs.Valid.{IsStreamConfig};
 ghost use Rattle.esm_model.specs.ValidCall.{IsValidFailure};
 ghost use Rattle.esm_model.specs.Entries.{came_count};
 ghost use Rattle.esm_model.specs.FailureLine.{failure_line, failure_of, sequence_at, arrival_at, response_in};
@@ -16,7 +14,7 @@ ghost use Rattle.esm_outcome.specs.Parts.{IsRest};
 
 use esm_event::failure_text;
 use esm_ledger::Ledger;
-use esm_model::{Config, Failure, LaneId, OutOfMemory, Reply, Response, Rest, Seq, Text};
+use esm_model::{Failure, LaneId, OutOfMemory, Reply, Response, Rest, Seq, Text};
 use std::alloc::Global;
 
 /// The line for the records of the lane's running call that did not succeed, where they are given up at the moment and a
@@ -84,7 +82,7 @@ fn told_line(
         (failure_of (setting_of ledger.now) (Entry.Ended lane reply.now now ∷ past_of ledger.now) lane.shard left.now false now)) }
 {
     let failure = failure_of(alloc, ledger, lane, left, reply, now)?;
-    line_text(alloc, &ledger.config, &failure)
+    failure_text(alloc, &ledger.config, &failure)
 }
 
 /// What the line tells: the answer is that of the call that ends.
@@ -161,22 +159,5 @@ fn response_in(reply: &Reply) -> Option<Response>
             error: *error,
         }),
         Reply::Garbled { bytes: _ } | Reply::Lost => None,
-    }
-}
-
-/// The line as a text.
-fn line_text(alloc: Global, config: &Config, failure: &Failure) -> Result<Text, OutOfMemory>
-    requires config { IsStreamConfig config.now }
-    requires failure { IsValidFailure failure.now }
-    ensures { IfOk result (λ line. line ≡ text.failure_text config.now failure.now) }
-{
-    let _function = config.function_arn.as_str();
-    let _source = config.source_arn.as_str();
-    let _first = failure.first.text();
-    let _last = failure.last.text();
-    let bytes = failure_text(alloc, config, failure)?;
-    match String::from_utf8(bytes) {
-        Ok(line) => Ok(Text::from_vec(line)),
-        Err(_) => unreachable!(),
     }
 }

@@ -1,6 +1,6 @@
 use Rattle.std.proofs.Common.{◌≡◌, true, false, sym, subst, IsUtf8}
-use Rattle.esm_outcome.proofs.Texts.{line_utf8}
-use Rattle.esm_outcome.proofs.line.line_text.Goals as goal
+use Rattle.esm_event.proofs.FailureLines.{line_utf8}
+use Rattle.esm_event.proofs.failure.failure_text.Goals as goal
 
 pub unreachable-requires : goal.unreachable-requires
 unreachable-requires c =
