@@ -32,6 +32,9 @@ pub trait Decisions {
     /// The entries that were decided and are not yet paid, in the order in which they are to be written.
     ghost owed: { Self → List Self.Entry };
 
+    /// What is owed can be paid: so after each decision, and until something is noted.
+    ghost payable: { Self → Type 0 };
+
     /// What an entry has in the journal, where it has anything there.
     ghost payload: { Self.Entry → Option (List ℕ) };
 
@@ -63,6 +66,7 @@ pub trait Decisions {
         ensures decided { IfOk result (λ answer. decides self.old call answer (owed self.new)) }
         ensures origin { origin self.new ≡ origin self.old }
         ensures history { history self.new ≡ history self.old }
+        ensures payable { OnOk result (payable self.new) }
         ensures undone { OnOk result (forgotten self.new ≡ self.old) }
         ensures refused { IfErr result (IsRefused (λ change. refuses self.old call change × is_change (origin self.old) change)) }
         ensures unchanged { OnErr result (self.new ≡ self.old) };
@@ -101,7 +105,9 @@ pub trait Decisions {
 
     /// Adds the first owed entry, which is written, to the history. Takes no memory.
     fn pay(&mut self)
-        requires { 0 < length (owed self.old) }
+        requires owes { 0 < length (owed self.old) }
+        requires payable { payable self.old }
+        ensures payable { payable self.new }
         ensures origin { origin self.new ≡ origin self.old }
         ensures history { history self.new ≡ take 1 (owed self.old) ++ history self.old }
         ensures owed { owed self.new ≡ drop 1 (owed self.old) };

@@ -70,6 +70,7 @@ fn write_first<C: Decisions, D: Disk, T: Dest>(
     dest: &mut T,
 ) -> Result<(), Fault>
     requires owes { 0 < length (C.owed core.old) }
+    requires payable { C.payable core.old }
     requires ready { IsReady (decisions C.history C.owed C.payload C.line) (destination T.honest T.faults T.lines T.sends T.failed) T.has_room core.old pair.old dest.old }
     ensures written { OnOk result (Writes (decisions C.history C.owed C.payload C.line) (disk D.honest D.content D.image D.moment D.image_since D.faults) (destination T.honest T.faults T.lines T.sends T.failed)
         (C.history core.old) (C.owed core.old) core.new pair.old pair.new dest.old dest.new (take 1 (C.owed core.old)) []) }
@@ -77,6 +78,7 @@ fn write_first<C: Decisions, D: Disk, T: Dest>(
     ensures stopped { IfErr result (λ fault. Writes (decisions C.history C.owed C.payload C.line) (disk D.honest D.content D.image D.moment D.image_since D.faults) (destination T.honest T.faults T.lines T.sends T.failed)
         (C.history core.old) (C.owed core.old) core.new pair.old pair.new dest.old dest.new [] (hand_of fault (C.owed core.new))) }
     ensures failed { IfErr result (λ fault. HasFailed fault pair.new.down (T.failed dest.new)) }
+    ensures payable { OnOk result (C.payable core.new) }
     ensures left { OnErr result (0 < length (C.owed core.new)) }
     ensures origin { C.origin core.new ≡ C.origin core.old }
 {
@@ -121,7 +123,8 @@ pub(crate) fn write_owed<C: Decisions, D: Disk, T: Dest>(
     pair: &mut Pair<D>,
     dest: &mut T,
 ) -> Result<(), Fault>
-    requires { IsReady (decisions C.history C.owed C.payload C.line) (destination T.honest T.faults T.lines T.sends T.failed) T.has_room core.old pair.old dest.old }
+    requires payable { C.payable core.old }
+    requires ready { IsReady (decisions C.history C.owed C.payload C.line) (destination T.honest T.faults T.lines T.sends T.failed) T.has_room core.old pair.old dest.old }
     ensures written { OnOk result (Writes (decisions C.history C.owed C.payload C.line) (disk D.honest D.content D.image D.moment D.image_since D.faults) (destination T.honest T.faults T.lines T.sends T.failed)
         (C.history core.old) (C.owed core.old) core.new pair.old pair.new dest.old dest.new (added (C.history core.old) (C.history core.new)) []) }
     ensures settled { OnOk result (C.owed core.new ≡ []) }
@@ -147,6 +150,7 @@ pub(crate) fn write_out<C: Decisions, D: Disk, T: Dest>(
     pair: &mut Pair<D>,
     dest: &mut T,
 ) -> Outcome
+    requires payable { C.payable core.old }
     requires up { pair.old.down ≡ false }
     requires usable { T.failed dest.old ≡ false }
     ensures came { HasCome (decisions C.history C.owed C.payload C.line) (disk D.honest D.content D.image D.moment D.image_since D.faults) (destination T.honest T.faults T.lines T.sends T.failed)

@@ -59,6 +59,8 @@ impl Decisions for QueueCore {
 
     ghost owed = { owed_of };
 
+    ghost payable = { λ v. Unit {0} };
+
     ghost payload = { λ e. e.payload };
 
     ghost line = { no_line };

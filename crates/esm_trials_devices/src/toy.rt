@@ -83,6 +83,8 @@ impl Decisions for Names {
 
     ghost owed = { λ n. owed_by n.names n.coming n.calling };
 
+    ghost payable = { λ n. Unit {0} };
+
     ghost payload = { λ e. e.0 };
 
     ghost line = { λ e. e.1 };

@@ -15,10 +15,11 @@ owed-init g c =
     let pair = c.args.pair.now in
     let dest = c.args.dest.now in
     record {
-      ready = c.requires;
+      payable = c.requires.payable;
+      ready = c.requires.ready;
       so_far = writes_named k m n (k.history core) (k.owed core) core pair pair dest dest [] []
           (writes_none k m n core pair pair dest dest []
-          (grown_none k m n g.met.D.Disk.only_now pair pair dest dest c.requires.up c.requires.usable c.payloads.ensures.kept refl (record { lines = refl; failed = refl; honesty = refl; faults = refl })));
+          (grown_none k m n g.met.D.Disk.only_now pair pair dest dest c.requires.ready.up c.requires.ready.usable c.payloads.ensures.kept refl (record { lines = refl; failed = refl; honesty = refl; faults = refl })));
       origin = refl;
     }
 
@@ -31,6 +32,7 @@ owed-preserved g c =
     let mid = c.owed.core in
     let step = c.in_ok-write_first.ensures in
     record {
+      payable = step.payable;
       ready = step.ready;
       so_far = writes_then k m n (k.history first) (k.owed first) mid c.write_first.new.core c.args.pair.now c.owed.pair c.write_first.new.pair c.args.dest.now c.owed.dest c.write_first.new.dest
           (added (k.history first) (k.history mid)) (take 1 (k.owed mid)) [] c.owed.invariant.so_far step.written;
