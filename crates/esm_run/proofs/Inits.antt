@@ -10,7 +10,7 @@ use Rattle.esm_init.specs.declared.files.InitEnd.TheVariants.{Done, NotEmpty, Di
 use Rattle.esm_run.specs.Endings.{IsToldWith}
 use Rattle.esm_run.specs.Initialized.{AreSound, InitOutcome, init_status}
 use Rattle.esm_run.specs.Written.{Written}
-use Rattle.esm_run.proofs.OneCause.{OneInit}
+use Rattle.esm_run.proofs.OneCause.{OneStatus}
 
 made_not_empty : {D : Type 0} (m : DiskMeaning D) (old new : Disks D) (f : FileName) (size : ℕ) → AreSound m old new
     → IsInitEnd m old new Done → IsInitEnd m old new (NotEmpty f size) → ⊥
@@ -38,7 +38,7 @@ told_with faults_before faults_now before after text told failed status sound (i
 told_with faults_before faults_now before after text told failed status sound (inr cut) = absurd (sound cut.1.fault)
 
 pub one_init : {D : Type 0} (m : DiskMeaning D) (old new : Disks D) (output : Written) → (Rose output.faults_before output.faults_now → ⊥) → AreSound m old new
-    → OneInit (InitOutcome m old new output)
+    → OneStatus (InitOutcome m old new output)
 one_init m old new output sound disks_sound a b one other =
     told_with output.faults_before output.faults_now output.before output.after _ _ _ a sound one.told
     ∙ same_status m old new one.end other.end disks_sound one.cause other.cause

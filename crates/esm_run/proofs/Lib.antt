@@ -17,6 +17,7 @@ pub mod Mappings
 pub mod Writing
 pub mod Open
 pub mod OneReading
+pub mod FilesCommands
 pub mod OneCause
 pub mod BuiltLemmas
 pub mod Inits
@@ -24,3 +25,5 @@ pub mod Visits
 pub mod Kept
 pub mod Serves
 pub mod OneServe
+pub mod Lefts
+pub mod OneFiles

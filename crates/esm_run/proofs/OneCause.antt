@@ -11,7 +11,7 @@ use Rattle.esm_model.specs.declared.entry.Entry.{Entry}
 use Rattle.esm_model.specs.Setting.{Setting}
 use Rattle.esm_model.specs.Fates.{fate}
 use Rattle.esm_cli.specs.declared.command.Command.{Command}
-use Rattle.esm_cli.specs.declared.command.Command.TheVariants.{Init, Run, Serve}
+use Rattle.esm_cli.specs.declared.command.Command.TheVariants.{Run, Serve}
 use Rattle.esm_cli.specs.declared.command.RunWords.{RunWords}
 use Rattle.esm_cli.specs.declared.command.Which.{Which}
 use Rattle.esm_cli.specs.declared.command.Which.TheVariants.{Config as Text}
@@ -29,8 +29,11 @@ use Rattle.esm_run.specs.Built.{SpellsBuilt}
 use Rattle.esm_run.specs.Configured.{IsConfigured, refused_field}
 use Rattle.esm_run.specs.Endings.{ending_of, status_of, IsTold}
 use Rattle.esm_run.specs.Headline.{Read, AllFated, HasOpen, IsEnding, setting_of}
-use Rattle.esm_run.specs.Answers.{IsDisabled, IsRefused, IsRunOf, RunCause, RunOutcome, RunOrBadWords, Outcome, IsServer}
+use Rattle.esm_run.specs.Answers.{IsDisabled, IsRefused, IsRunOf, RunCause, RunOutcome, RunOrBadWords, Outcome, IsOverFiles, IsServer}
+use Rattle.esm_run.specs.Tended.{command_of}
 use Rattle.esm_run.specs.Written.{Written}
+use Rattle.esm_run.specs.declared.tending.FilesCommand.{FilesCommand}
+use Rattle.esm_run.proofs.FilesCommands.{not_run, not_serve, same_files}
 use Rattle.esm_run.proofs.OneReading.{one_reading}
 
 -- the laws of the words and of the lines
@@ -214,53 +217,57 @@ one_of_run gave sends log words input output h old new a b one_command goes told
     bad_words_status output.faults_before output.faults_now output.before output.after _ a (one.told (setting_of no_config 0 []) refl)
     ∙ sym (bad_words_status output.faults_before output.faults_now output.before output.after _ b (other.told (setting_of no_config 0 []) refl))
 
--- the statuses of `init` and of `serve`
+-- the statuses of the commands over the files alone and of `serve`
 
 other_and_run : {F : Type 0} (gave : ℕ → Bool) (sends : List ℕ → List ℕ) (log : F → Option (List Called)) (words : List (List ℕ)) (input : Read) (output : Written) (h : List Entry) (old new : List F) (c : Command) (a : ℕ)
-    → OneCommand → ((r : RunWords) → Run r ≡ c → ⊥) → SpellsBuilt words c → RunOrBadWords gave sends log words input output h old new a → ⊥
-other_and_run gave sends log words input output h old new c a one other spelled (inl run) = other run.0 (one words (Run run.0) c run.1.0 spelled.0)
+    → OneCommand → ((r : RunWords) → c ≡ Run r → ⊥) → SpellsBuilt words c → RunOrBadWords gave sends log words input output h old new a → ⊥
+other_and_run gave sends log words input output h old new c a one other spelled (inl run) = other run.0 (one words c (Run run.0) spelled.0 run.1.0)
 other_and_run gave sends log words input output h old new c a one other spelled (inr bad) = bad.none_spelled c spelled
 
-no_init : (r : RunWords) → Run r ≡ Init → ⊥
-no_init r same = cc
-
-no_serve : (requests : ℕ) (r : RunWords) → Run r ≡ Serve requests → ⊥
+pub no_serve : (requests : ℕ) (r : RunWords) → Serve requests ≡ Run r → ⊥
 no_serve requests r same = cc
 
-pub init_and_serve : (words : List (List ℕ)) (requests : ℕ) → OneCommand → SpellsBuilt words Init → SpellsBuilt words (Serve requests) → ⊥
-init_and_serve words requests one spelled other = (let same : Init ≡ Serve requests = one words Init (Serve requests) spelled.0 other.0 in cc)
+pub files_and_serve : (words : List (List ℕ)) (c : FilesCommand) (requests : ℕ) → OneCommand → SpellsBuilt words (command_of c) → SpellsBuilt words (Serve requests) → ⊥
+files_and_serve words c requests one spelled other = not_serve c requests (one words (command_of c) (Serve requests) spelled.0 other.0)
 
 same_requests : (n m : ℕ) → Serve n ≡ Serve m → n ≡ m
 same_requests n m same = cc
 
--- two outcomes of `init`, or of `serve`, have one status
-abbrev pub OneInit : (ℕ → Type 0) → Type 0
-OneInit outcome = (a b : ℕ) → outcome a → outcome b → a ≡ b
+-- two outcomes of a command have one status
+abbrev pub OneStatus : (ℕ → Type 0) → Type 0
+OneStatus outcome = (a b : ℕ) → outcome a → outcome b → a ≡ b
+
+one_of_files : {F : Type 0} (words : List (List ℕ)) (input : Read) (h : List Entry) (old new : List F) (files : FilesCommand → ℕ → Type 0) (a b : ℕ)
+    → OneCommand → ((c : FilesCommand) → SpellsBuilt words (command_of c) → OneStatus (files c)) → IsOverFiles words input h old new files a → IsOverFiles words input h old new files b → a ≡ b
+one_of_files words input h old new files a b one each x y =
+    let same : y.which ≡ x.which = same_files y.which x.which (one words (command_of y.which) (command_of x.which) y.spelled.0 x.spelled.0) in
+    each x.which x.spelled a b x.ended (subst (λ c. files c b) same y.ended)
 
 one_of_serve : {F : Type 0} (words : List (List ℕ)) (input : Read) (h : List Entry) (old new : List F) (serve : ℕ → ℕ → Type 0) (a b : ℕ)
-    → OneCommand → ((requests : ℕ) → SpellsBuilt words (Serve requests) → OneInit (serve requests)) → IsServer words input h old new serve a → IsServer words input h old new serve b → a ≡ b
+    → OneCommand → ((requests : ℕ) → SpellsBuilt words (Serve requests) → OneStatus (serve requests)) → IsServer words input h old new serve a → IsServer words input h old new serve b → a ≡ b
 one_of_serve words input h old new serve a b one serves x y =
     let same : y.requests ≡ x.requests = same_requests y.requests x.requests (one words (Serve y.requests) (Serve x.requests) y.spelled.0 x.spelled.0) in
     serves x.requests x.spelled a b x.ended (subst (λ n. serve n b) same y.ended)
 
-pub one_status : {F : Type 0} (gave : ℕ → Bool) (sends : List ℕ → List ℕ) (log : F → Option (List Called)) (words : List (List ℕ)) (input : Read) (output : Written) (h : List Entry) (old new : List F) (init : ℕ → Type 0) (serve : ℕ → ℕ → Type 0) (a b : ℕ)
-    → OneCommand → WholeGoesOn → (SpellsBuilt words Init → OneInit init) → ((requests : ℕ) → SpellsBuilt words (Serve requests) → OneInit (serve requests))
+pub one_status : {F : Type 0} (gave : ℕ → Bool) (sends : List ℕ → List ℕ) (log : F → Option (List Called)) (words : List (List ℕ)) (input : Read) (output : Written) (h : List Entry) (old new : List F) (files : FilesCommand → ℕ → Type 0) (serve : ℕ → ℕ → Type 0) (a b : ℕ)
+    → OneCommand → WholeGoesOn → ((c : FilesCommand) → SpellsBuilt words (command_of c) → OneStatus (files c)) → ((requests : ℕ) → SpellsBuilt words (Serve requests) → OneStatus (serve requests))
     → IsSome input.before → ¬ Rose input.faults_before input.faults_now → ¬ Rose output.faults_before output.faults_now
-    → Outcome gave sends log words input output h old new init serve a → Outcome gave sends log words input output h old new init serve b → a ≡ b
-one_status gave sends log words input output h old new init serve a b one goes inits serves told read_sound sound (inl x) (inl y) =
+    → Outcome gave sends log words input output h old new files serve a → Outcome gave sends log words input output h old new files serve b → a ≡ b
+one_status gave sends log words input output h old new files serve a b one goes each serves told read_sound sound (inl x) (inl y) =
     one_of_run gave sends log words input output h old new a b one goes told read_sound sound x y
-one_status gave sends log words input output h old new init serve a b one goes inits serves told read_sound sound (inl x) (inr (inl y)) =
-    absurd (other_and_run gave sends log words input output h old new Init a one no_init y.spelled x)
-one_status gave sends log words input output h old new init serve a b one goes inits serves told read_sound sound (inl x) (inr (inr y)) =
+one_status gave sends log words input output h old new files serve a b one goes each serves told read_sound sound (inl x) (inr (inl y)) =
+    absurd (other_and_run gave sends log words input output h old new (command_of y.which) a one (not_run y.which) y.spelled x)
+one_status gave sends log words input output h old new files serve a b one goes each serves told read_sound sound (inl x) (inr (inr y)) =
     absurd (other_and_run gave sends log words input output h old new (Serve y.requests) a one (no_serve y.requests) y.spelled x)
-one_status gave sends log words input output h old new init serve a b one goes inits serves told read_sound sound (inr (inl x)) (inl y) =
-    absurd (other_and_run gave sends log words input output h old new Init b one no_init x.spelled y)
-one_status gave sends log words input output h old new init serve a b one goes inits serves told read_sound sound (inr (inr x)) (inl y) =
+one_status gave sends log words input output h old new files serve a b one goes each serves told read_sound sound (inr (inl x)) (inl y) =
+    absurd (other_and_run gave sends log words input output h old new (command_of x.which) b one (not_run x.which) x.spelled y)
+one_status gave sends log words input output h old new files serve a b one goes each serves told read_sound sound (inr (inr x)) (inl y) =
     absurd (other_and_run gave sends log words input output h old new (Serve x.requests) b one (no_serve x.requests) x.spelled y)
-one_status gave sends log words input output h old new init serve a b one goes inits serves told read_sound sound (inr (inl x)) (inr (inl y)) = inits x.spelled a b x.ended y.ended
-one_status gave sends log words input output h old new init serve a b one goes inits serves told read_sound sound (inr (inl x)) (inr (inr y)) =
-    absurd (init_and_serve words y.requests one x.spelled y.spelled)
-one_status gave sends log words input output h old new init serve a b one goes inits serves told read_sound sound (inr (inr x)) (inr (inl y)) =
-    absurd (init_and_serve words x.requests one y.spelled x.spelled)
-one_status gave sends log words input output h old new init serve a b one goes inits serves told read_sound sound (inr (inr x)) (inr (inr y)) =
+one_status gave sends log words input output h old new files serve a b one goes each serves told read_sound sound (inr (inl x)) (inr (inl y)) =
+    one_of_files words input h old new files a b one each x y
+one_status gave sends log words input output h old new files serve a b one goes each serves told read_sound sound (inr (inl x)) (inr (inr y)) =
+    absurd (files_and_serve words x.which y.requests one x.spelled y.spelled)
+one_status gave sends log words input output h old new files serve a b one goes each serves told read_sound sound (inr (inr x)) (inr (inl y)) =
+    absurd (files_and_serve words y.which x.requests one y.spelled x.spelled)
+one_status gave sends log words input output h old new files serve a b one goes each serves told read_sound sound (inr (inr x)) (inr (inr y)) =
     one_of_serve words input h old new serve a b one serves x y

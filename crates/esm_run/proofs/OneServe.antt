@@ -16,7 +16,7 @@ use Rattle.esm_run.specs.Serve.{IsServeEnd, IsSoundServe, ServeOutcome, serve_st
 use Rattle.esm_run.specs.Serving.{DoorSeen, Outside, StopsFor}
 use Rattle.esm_run.specs.Written.{Written}
 use Rattle.esm_run.proofs.Inits.{told_with}
-use Rattle.esm_run.proofs.OneCause.{OneInit}
+use Rattle.esm_run.proofs.OneCause.{OneStatus}
 
 -- payloads of which a front is no registry's are none
 
@@ -80,7 +80,7 @@ one_of_both bytes a b (inr one) (inl other) = absurd (one.1 other.1)
 one_of_both bytes a b (inr one) (inr other) = one.0 ∙ sym other.0
 
 pub one_serve : {C D : Type 0} (o : Outside C D) (old new : D) (door : DoorSeen) (output : Written) (requests : ℕ) → (Rose output.faults_before output.faults_now → ⊥) → IsSoundServe o old new door
-    → OneInit (ServeOutcome o old new door output requests)
+    → OneStatus (ServeOutcome o old new door output requests)
 one_serve o old new door output requests sound serve_sound a b one other =
     told_with output.faults_before output.faults_now output.before output.after _ _ _ a sound one.told
     ∙ one_of_both (o.disk.content old) (serve_status one.end) (serve_status other.end)

@@ -85,7 +85,7 @@ serve_cut o old new door requests (Err e) ended cut = cut
 
 -- nothing was done to the disk
 
-only_read_same : {D : Type 0} (m : DiskMeaning D) (disk : D) → ((bytes : List ℕ) → m.honest disk ≡ true → m.since disk (m.moment disk) bytes → m.image disk bytes) → IsOnlyRead m disk disk
+pub only_read_same : {D : Type 0} (m : DiskMeaning D) (disk : D) → ((bytes : List ℕ) → m.honest disk ≡ true → m.since disk (m.moment disk) bytes → m.image disk bytes) → IsOnlyRead m disk disk
 only_read_same m disk only_now = record {
   honesty = refl;
   same = λ honest. refl;

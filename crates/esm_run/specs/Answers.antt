@@ -5,7 +5,7 @@ use Rattle.esm_model.specs.declared.config.Config.{Config}
 use Rattle.esm_model.specs.declared.entry.Entry.{Entry}
 use Rattle.esm_model.specs.Setting.{Setting}
 use Rattle.esm_cli.specs.declared.command.Command.{Command}
-use Rattle.esm_cli.specs.declared.command.Command.TheVariants.{Init, Run, Serve}
+use Rattle.esm_cli.specs.declared.command.Command.TheVariants.{Run, Serve}
 use Rattle.esm_cli.specs.declared.command.RunWords.{RunWords}
 use Rattle.esm_cli.specs.declared.command.Which.TheVariants.{Config as Text}
 use Rattle.esm_config.specs.Names.{name_of}
@@ -17,6 +17,8 @@ use Rattle.esm_run.specs.Built.{SpellsBuilt}
 use Rattle.esm_run.specs.Configured.{IsConfigured, refused_field}
 use Rattle.esm_run.specs.Endings.{IsTold}
 use Rattle.esm_run.specs.Written.{Written}
+use Rattle.esm_run.specs.declared.tending.FilesCommand.{FilesCommand}
+use Rattle.esm_run.specs.Tended.{command_of}
 use Rattle.esm_run.specs.Headline.{Read, IsEndedRun, IsUncalled, IsStoppedRun, setting_of}
 
 -- nothing came, and input and callers are as before
@@ -83,11 +85,12 @@ RunOrBadWords gave sends log words input output h old new status =
     ((r : RunWords) × SpellsBuilt words (Run r) × RunOutcome gave sends log r input output h old new status)
     ⊎ AreBadWords words input output h old new status
 
--- `init` ended with the status, and nothing was read or called
-pub record IsInitialized {F : Type 0} (words : List (List ℕ)) (input : Read) (h : List Entry) (old new : List F) (outcome : ℕ → Type 0) (status : ℕ) : Type 0 where
-  pub spelled : SpellsBuilt words Init
+-- a command over the files alone ended with the status, and nothing was read or called
+pub record IsOverFiles {F : Type 0} (words : List (List ℕ)) (input : Read) (h : List Entry) (old new : List F) (outcome : FilesCommand → (status : ℕ) → Type 0) (status : ℕ) : Type 0 where
+  pub which : FilesCommand
+  pub spelled : SpellsBuilt words (command_of which)
   pub untouched : IsUntouched input h old new
-  pub ended : outcome status
+  pub ended : outcome which status
 
 -- `serve` ended with the status, and nothing was read or called
 pub record IsServer {F : Type 0} (words : List (List ℕ)) (input : Read) (h : List Entry) (old new : List F) (outcome : (requests status : ℕ) → Type 0) (status : ℕ) : Type 0 where
@@ -96,11 +99,11 @@ pub record IsServer {F : Type 0} (words : List (List ℕ)) (input : Read) (h : L
   pub untouched : IsUntouched input h old new
   pub ended : outcome requests status
 
--- what the words did; `init` and `serve` are what these commands did
-abbrev pub Outcome : {F : Type 0} → (ℕ → Bool) → (List ℕ → List ℕ) → (F → Option (List Called)) → List (List ℕ) → Read → Written → List Entry → List F → List F → (init : ℕ → Type 0) → (serve : ℕ → ℕ → Type 0) → ℕ → Type 0
-Outcome gave sends log words input output h old new init serve status =
+-- what the words did; `files` and `serve` are what the commands over the files alone and `serve` did
+abbrev pub Outcome : {F : Type 0} → (ℕ → Bool) → (List ℕ → List ℕ) → (F → Option (List Called)) → List (List ℕ) → Read → Written → List Entry → List F → List F → (files : FilesCommand → ℕ → Type 0) → (serve : ℕ → ℕ → Type 0) → ℕ → Type 0
+Outcome gave sends log words input output h old new files serve status =
     RunOrBadWords gave sends log words input output h old new status
-    ⊎ (IsInitialized words input h old new init status ⊎ IsServer words input h old new serve status)
+    ⊎ (IsOverFiles words input h old new files status ⊎ IsServer words input h old new serve status)
 
 -- want of memory
 

@@ -3,7 +3,7 @@
 use Rattle.std.specs.Prelude.{◌≡◌, ◌==◌, ◌&&◌, ℕ, Bool, true, false, List, unwrap_or}
 use Rattle.esm_cli.specs.Words.{spells}
 use Rattle.esm_cli.specs.declared.command.Command.{Command}
-use Rattle.esm_cli.specs.declared.command.Command.TheVariants.{Init, Run, Serve}
+use Rattle.esm_cli.specs.declared.command.Command.TheVariants.{Init, Run, Show, Failures, Compact, Serve, Migrate}
 use Rattle.esm_cli.specs.declared.command.RunWords.{RunWords}
 use Rattle.esm_cli.specs.declared.command.Which.{Which}
 use Rattle.esm_cli.specs.declared.command.Which.TheVariants.{Config, Mapping}
@@ -20,7 +20,11 @@ is_built_run r = is_text r.which && (r.visibility == unwrap_or VISIBILITY.defaul
 abbrev pub is_built : Command → Bool
 is_built Init = true
 is_built (Run r) = is_built_run r
+is_built Show = true
+is_built Failures = true
+is_built Compact = true
 is_built (Serve requests) = true
+is_built Migrate = true
 is_built _ = false
 
 -- the words spell the command, and it is built

@@ -1,11 +1,13 @@
 pub mod Limits
 pub mod Initialized
+pub mod Tended
 pub mod Serving
 pub mod Serve
 pub mod Refusals
 pub mod InputRead
 pub mod Given
 pub mod Built
+pub mod Asked
 pub mod Coming
 pub mod Running
 pub mod Served

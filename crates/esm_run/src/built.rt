@@ -20,9 +20,13 @@ fn is_built(command: &Command) -> bool
     ensures { result ≡ is_built command.now }
 {
     match command {
-        Command::Init => true,
         Command::Run(words) => is_built_run(words),
-        Command::Serve { .. } => true,
+        Command::Init
+        | Command::Show
+        | Command::Failures
+        | Command::Compact
+        | Command::Serve { .. }
+        | Command::Migrate => true,
         _ => false,
     }
 }

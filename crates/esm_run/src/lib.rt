@@ -1,6 +1,7 @@
 //! The top call: what a command's words do to the world. It composes the crates below by their public contracts.
 #![tactic(auto)]
 
+mod asked;
 mod batchers;
 mod built;
 mod coming;
@@ -16,6 +17,7 @@ mod registry_file;
 mod running;
 mod served;
 mod serving;
+mod tending;
 mod top;
 mod world;
 

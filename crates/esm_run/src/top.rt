@@ -2,42 +2,42 @@ ghost use Rattle.std.specs.Prelude.{◌≡◌, ◌≢◌, ℕ, List, [], Err, If
 ghost use Rattle.std.specs.String.{string_bytes};
 ghost use Rattle.esm_model.specs.declared.limits.TheConstants.{MAX_LANES};
 ghost use Rattle.esm_cli.specs.declared.command.Command.{Command};
-ghost use Rattle.esm_init.specs.Init.{AreSafe};
+ghost use Rattle.esm_cli.specs.declared.command.RunWords.{RunWords};
 ghost use Rattle.esm_io.specs.Faults.{Rose};
 ghost use Rattle.esm_io.specs.Meanings.{disk as meaning};
 ghost use Rattle.esm_run.specs.Built.{SpellsBuilt};
 ghost use Rattle.esm_run.specs.Headline.{read_of};
-ghost use Rattle.esm_run.specs.Initialized.{AreSound, InitOutcome, disks};
+ghost use Rattle.esm_run.specs.Initialized.{disks};
 ghost use Rattle.esm_run.specs.Answers.{Outcome, RunOrBadWords, IsCut};
 ghost use Rattle.esm_run.specs.Serve.{IsServeCut, IsSoundServe, ServeOutcome};
 ghost use Rattle.esm_run.specs.Serving.{door_of, outside};
+ghost use Rattle.esm_run.specs.Tended.{AreLeft, AreSoundUnder, FilesOutcome, IsCompactCut, command_of};
 ghost use Rattle.esm_run.specs.Written.{written_of};
+ghost use Rattle.esm_run.specs.declared.tending.FilesCommand.{FilesCommand};
 
-use crate::built::built_command;
+use crate::asked::{Asked, asked_by};
 use crate::commands::{refuse, run};
-use crate::initializing::initialize;
 use crate::serving::serve;
+use crate::tending::tend;
 use crate::world::{Ended, World};
 use esm_cli::laws::one_command;
-use esm_cli::{Command, WordsError};
+use esm_cli::{RunWords, WordsError};
 use esm_io::{Caller, Clock, Disk, Door, Sink, Source};
 use esm_record::laws::whole_goes_on;
 use std::alloc::Global;
 use std::sync::Wait;
 use std::thread::Threads;
 
-/// Does what another command than `init` and `serve` asks for, or tells that the words spell none, and answers the exit status.
+/// Runs what the options of `run` ask for, or tells that the words spell no command, and answers the exit status.
 fn perform<R: Wait, S: Source, K: Sink, D: Disk, C: Clock, F: Caller, L: Door>(
     rt: &R,
     alloc: Global,
     words: &[String],
-    command: Result<Command, WordsError>,
+    options: Result<RunWords, WordsError>,
     world: &mut World<S, K, D, C, F, L>,
 ) -> u8
-    requires spelled { IfOk command (SpellsBuilt (map string_bytes words.now)) }
-    requires none_spelled { command ≡ Err WordsError.BadWords → (c : Command) → ¬ SpellsBuilt (map string_bytes words.now) c }
-    requires not_init { command ≢ Ok Command.Init }
-    requires not_serve { (requests : ℕ) → command ≢ Ok (Command.Serve requests) }
+    requires spelled { IfOk options (λ o. SpellsBuilt (map string_bytes words.now) (Command.Run o)) }
+    requires none_spelled { options ≡ Err WordsError.BadWords → (c : Command) → ¬ SpellsBuilt (map string_bytes words.now) c }
     requires callers { length world.old.callers.items ≡ MAX_LANES }
     requires trace { world.old.trace.items ≡ [] }
     ensures outcome { result ≢ 70 → RunOrBadWords C.gave F.sends F.log (map string_bytes words.now)
@@ -51,24 +51,24 @@ fn perform<R: Wait, S: Source, K: Sink, D: Disk, C: Clock, F: Caller, L: Door>(
     ensures untold { result ≡ 70 → world.new.out ≡ world.old.out }
     ensures kept { world.new ≡ record world.old
         { input = world.new.input; out = world.new.out; callers = world.new.callers; trace = world.new.trace } }
-    ensures unserved { (requests : ℕ) → SpellsBuilt (map string_bytes words.now) (Command.Serve requests) → world.new ≡ record world.old { out = world.new.out } }
+    ensures undone { (c : Command) → ((r : RunWords) → c ≢ Command.Run r) → SpellsBuilt (map string_bytes words.now) c → world.new ≡ record world.old { out = world.new.out } }
     ensures spelled { result ≢ 2 → result ≢ 70 → (c : Command) × SpellsBuilt (map string_bytes words.now) c }
 {
     one_command();
-    match command {
-        Ok(Command::Run(words)) => run(rt, alloc, words, world),
-        Ok(_) => unreachable!(),
+    match options {
+        Ok(options) => run(rt, alloc, options, world),
         Err(why) => refuse(alloc, why, world),
     }
 }
 
 /// Does what the words of the command line ask for, and hands the world back with the exit status: 0 where `init` made
-/// the files, `run` read the input to its end and every record has its fate, or `serve` served as many connections as it
-/// was asked to; 1 where the calls allowed were spent before; 2 where the words are no command that is built; 3 at a bad
-/// line; 4 where the input failed; 5 where the output failed; 6 where a disk failed; 8 where `init` found a file that is
-/// not empty, or `serve` a registry's file that is none; 9 where a parameter is refused; 10 past a limit; 11 where the door
-/// failed; 70 for want of memory, after which nothing is told. 4, 5, 6 and 11 come only where the device's count of faults
-/// rose.
+/// the files, `show` told what the journal says or `failures` its lines, `compact` or `migrate` wrote the journal anew or
+/// found it of version 2, `run` read the input to its end and every record has its fate, or `serve` served as many
+/// connections as it was asked to; 1 where the calls allowed were spent before; 2 where the words are no command that is
+/// built; 3 at a bad line; 4 where the input failed; 5 where the output failed; 6 where a disk failed; 8 where `init` found
+/// a file that is not empty, or another command one that is no journal, is damaged or has a bad payload; 9 where a
+/// parameter is refused; 10 past a limit; 11 where the door failed; 70 for want of memory, after which nothing is told. 4,
+/// 5, 6 and 11 come only where the device's count of faults rose.
 pub fn esm<R: Threads + Wait + Sync, S: Source, K: Sink, D: Disk, C: Clock, F: Caller, L: Door>(
     rt: &R,
     alloc: Global,
@@ -82,7 +82,7 @@ pub fn esm<R: Threads + Wait + Sync, S: Source, K: Sink, D: Disk, C: Clock, F: C
         (read_of S.faults S.left world.input result.world.input)
         (written_of K.faults K.written world.out result.world.out)
         (reverse result.world.trace.items) world.callers.items result.world.callers.items
-        (InitOutcome (meaning D.honest D.content D.image D.moment D.image_since D.faults)
+        (FilesOutcome (meaning D.honest D.content D.image D.moment D.image_since D.faults)
         (disks world.journal world.spare world.failures world.registry)
         (disks result.world.journal result.world.spare result.world.failures result.world.registry)
         (written_of K.faults K.written world.out result.world.out))
@@ -92,10 +92,10 @@ pub fn esm<R: Threads + Wait + Sync, S: Source, K: Sink, D: Disk, C: Clock, F: C
     ensures exact { result.status ≢ 70 → IsSome (S.left world.input)
         → ¬ Rose (S.faults world.input) (S.faults result.world.input)
         → ¬ Rose (K.faults world.out) (K.faults result.world.out)
-        → (SpellsBuilt (map string_bytes words.now) Command.Init
-        → AreSound (meaning D.honest D.content D.image D.moment D.image_since D.faults)
+        → ((c : FilesCommand) → SpellsBuilt (map string_bytes words.now) (command_of c)
+        → AreSoundUnder (meaning D.honest D.content D.image D.moment D.image_since D.faults)
         (disks world.journal world.spare world.failures world.registry)
-        (disks result.world.journal result.world.spare result.world.failures result.world.registry))
+        (disks result.world.journal result.world.spare result.world.failures result.world.registry) c)
         → ((requests : ℕ) → SpellsBuilt (map string_bytes words.now) (Command.Serve requests)
         → IsSoundServe (outside C.gave L.Conn.told L.Conn.faults (meaning D.honest D.content D.image D.moment D.image_since D.faults))
         world.registry result.world.registry (door_of L.faults L.closed world.door result.world.door))
@@ -103,7 +103,7 @@ pub fn esm<R: Threads + Wait + Sync, S: Source, K: Sink, D: Disk, C: Clock, F: C
         (read_of S.faults S.left world.input result.world.input)
         (written_of K.faults K.written world.out result.world.out)
         (reverse result.world.trace.items) world.callers.items result.world.callers.items
-        (InitOutcome (meaning D.honest D.content D.image D.moment D.image_since D.faults)
+        (FilesOutcome (meaning D.honest D.content D.image D.moment D.image_since D.faults)
         (disks world.journal world.spare world.failures world.registry)
         (disks result.world.journal result.world.spare result.world.failures result.world.registry)
         (written_of K.faults K.written world.out result.world.out))
@@ -120,6 +120,10 @@ pub fn esm<R: Threads + Wait + Sync, S: Source, K: Sink, D: Disk, C: Clock, F: C
     ensures serve_cut { result.status ≡ 70 → (requests : ℕ) → SpellsBuilt (map string_bytes words.now) (Command.Serve requests)
         → IsServeCut (outside C.gave L.Conn.told L.Conn.faults (meaning D.honest D.content D.image D.moment D.image_since D.faults))
         world.registry result.world.registry (door_of L.faults L.closed world.door result.world.door) }
+    ensures compact_cut { result.status ≡ 70 → SpellsBuilt (map string_bytes words.now) Command.Compact
+        → IsCompactCut (meaning D.honest D.content D.image D.moment D.image_since D.faults)
+        (disks world.journal world.spare world.failures world.registry)
+        (disks result.world.journal result.world.spare result.world.failures result.world.registry) }
     ensures untold { result.status ≡ 70 → result.world.out ≡ world.out }
     // What stays, whatever the status.
     ensures kept { ((requests : ℕ) → ¬ SpellsBuilt (map string_bytes words.now) (Command.Serve requests)) → result.world ≡ record world {
@@ -132,25 +136,32 @@ pub fn esm<R: Threads + Wait + Sync, S: Source, K: Sink, D: Disk, C: Clock, F: C
       callers = result.world.callers;
       trace = result.world.trace;
     } }
+    ensures kept_by_files { (c : FilesCommand) → SpellsBuilt (map string_bytes words.now) (command_of c) → result.world ≡ record world {
+      out = result.world.out;
+      journal = result.world.journal;
+      spare = result.world.spare;
+      failures = result.world.failures;
+      registry = result.world.registry;
+    } }
     ensures kept_by_serve { (requests : ℕ) → SpellsBuilt (map string_bytes words.now) (Command.Serve requests)
         → result.world ≡ record world { out = result.world.out; registry = result.world.registry; door = result.world.door } }
-    ensures same_disks { ¬ SpellsBuilt (map string_bytes words.now) Command.Init
+    ensures same_disks { ((c : FilesCommand) → ¬ SpellsBuilt (map string_bytes words.now) (command_of c))
         → ((requests : ℕ) → ¬ SpellsBuilt (map string_bytes words.now) (Command.Serve requests))
         → disks result.world.journal result.world.spare result.world.failures result.world.registry
         ≡ disks world.journal world.spare world.failures world.registry }
-    ensures safe_disks { SpellsBuilt (map string_bytes words.now) Command.Init
-        → AreSafe (meaning D.honest D.content D.image D.moment D.image_since D.faults)
+    ensures safe_disks { (c : FilesCommand) → SpellsBuilt (map string_bytes words.now) (command_of c)
+        → AreLeft (meaning D.honest D.content D.image D.moment D.image_since D.faults)
         (disks world.journal world.spare world.failures world.registry)
-        (disks result.world.journal result.world.spare result.world.failures result.world.registry) }
+        (disks result.world.journal result.world.spare result.world.failures result.world.registry) c }
 {
     one_command();
     whole_goes_on();
-    match built_command(alloc, words) {
-        Ok(Command::Init) => initialize(alloc, world),
-        Ok(Command::Serve { requests }) => serve(alloc, requests, world),
-        command => {
+    match asked_by(alloc, words) {
+        Asked::Files(command) => tend(alloc, command, world),
+        Asked::Serve { requests } => serve(alloc, requests, world),
+        Asked::Run(options) => {
             let mut world = world;
-            let status = perform(rt, alloc, words, command, &mut world);
+            let status = perform(rt, alloc, words, options, &mut world);
             Ended { status, world }
         }
     }

@@ -8,4 +8,6 @@ mod runs;
 #[cfg(test)]
 mod serves;
 #[cfg(test)]
+mod upkeeps;
+#[cfg(test)]
 mod worlds;

@@ -1,9 +1,7 @@
 // The worked examples of `init` and of `serve`.
 ghost use Rattle.std.specs.Prelude.{◌≡◌, [], length, IfOk};
 
-use crate::worlds::{
-    MemEnded, MemWorld, Seen, bare, callers, disk, enact, left, told, words, world,
-};
+use crate::worlds::{MemWorld, Seen, again, bare, disk, enact, left, told, words, world};
 use esm_io::{MemDisk, MemDoor, MemLink, MemSink, MemSource};
 use esm_model::OutOfMemory;
 use std::alloc::Global;
@@ -121,39 +119,6 @@ fn no_registry(rt: HostRuntime) -> Result<(), Fail> {
     assert!(rt; told(&seen, 8, "not a journal registry.esm\n"));
     assert!(rt; seen.answers.is_empty());
     Ok(())
-}
-
-/// The world as a command left it, with new callers and without the history.
-fn again(alloc: Global, ended: MemEnded) -> Result<MemWorld, OutOfMemory>
-    ensures callers { IfOk result (λ world. length world.callers.items ≡ 64) }
-    ensures trace { IfOk result (λ world. world.trace.items ≡ []) }
-{
-    let callers = callers(alloc)?;
-    let MemEnded { status: _, world } = ended;
-    let MemWorld {
-        input,
-        out,
-        journal,
-        spare,
-        failures,
-        registry,
-        clock,
-        callers: _,
-        door,
-        trace: _,
-    } = world;
-    Ok(MemWorld {
-        input,
-        out,
-        journal,
-        spare,
-        failures,
-        registry,
-        clock,
-        callers,
-        door,
-        trace: Vec::new(alloc),
-    })
 }
 
 #[test]

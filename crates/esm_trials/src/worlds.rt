@@ -159,6 +159,39 @@ pub fn enact<R: Threads + Wait + Sync>(
     esm(rt, alloc, words, world)
 }
 
+/// The world as a command left it, with new callers and without the history.
+pub fn again(alloc: Global, ended: MemEnded) -> Result<MemWorld, OutOfMemory>
+    ensures callers { IfOk result (λ world. length world.callers.items ≡ 64) }
+    ensures trace { IfOk result (λ world. world.trace.items ≡ []) }
+{
+    let callers = callers(alloc)?;
+    let MemEnded { status: _, world } = ended;
+    let MemWorld {
+        input,
+        out,
+        journal,
+        spare,
+        failures,
+        registry,
+        clock,
+        callers: _,
+        door,
+        trace: _,
+    } = world;
+    Ok(MemWorld {
+        input,
+        out,
+        journal,
+        spare,
+        failures,
+        registry,
+        clock,
+        callers,
+        door,
+        trace: Vec::new(alloc),
+    })
+}
+
 /// What the words leave of a world.
 pub fn left<R: Threads + Wait + Sync>(
     rt: &R,

@@ -1,0 +1,47 @@
+ghost use Rattle.std.specs.Prelude.{◌≡◌, map, true};
+ghost use Rattle.std.specs.String.{string_bytes};
+ghost use Rattle.esm_run.specs.Asked.{AsksFor, IsAsked};
+ghost use Rattle.esm_run.specs.Built.{is_built};
+
+use crate::built::built_command;
+use crate::tending::{FilesCommand, Upkeep};
+use esm_cli::{Command, RunWords, WordsError};
+use std::alloc::Global;
+
+/// What words ask for, by what it is over.
+#[derive(Drop)]
+pub enum Asked {
+    /// A command over the four files alone.
+    Files(FilesCommand),
+    /// That so many connections are served.
+    Serve { requests: u32 },
+    /// A run, or why there is no command.
+    Run(Result<RunWords, WordsError>),
+}
+
+/// What a command that is built asks for.
+fn part(command: Command) -> Asked
+    requires { is_built command ≡ true }
+    ensures { AsksFor command result }
+{
+    match command {
+        Command::Init => Asked::Files(FilesCommand::Init),
+        Command::Show => Asked::Files(FilesCommand::Upkeep(Upkeep::Show)),
+        Command::Failures => Asked::Files(FilesCommand::Upkeep(Upkeep::Failures)),
+        Command::Compact => Asked::Files(FilesCommand::Upkeep(Upkeep::Compact)),
+        Command::Migrate => Asked::Files(FilesCommand::Upkeep(Upkeep::Migrate)),
+        Command::Serve { requests } => Asked::Serve { requests },
+        Command::Run(options) => Asked::Run(Ok(options)),
+        _ => unreachable!(),
+    }
+}
+
+/// What the words ask for. `BadWords` exactly where they spell no command that is built.
+pub fn asked_by(alloc: Global, words: &[String]) -> Asked
+    ensures { IsAsked (map string_bytes words.now) result }
+{
+    match built_command(alloc, words) {
+        Ok(command) => part(command),
+        Err(why) => Asked::Run(Err(why)),
+    }
+}
