@@ -1,77 +1,90 @@
 -- What is kept stays true where an owed entry is added, is given up, or an entry is noted.
-use Rattle.std.proofs.Common.{◌≡◌, ◌+◌, ◌<◌, ◌≤◌, Bool, true, false, not, List, [], ◌∷◌, ◌++◌, reverse, length, refl, sym, ap, ap₂, ◌∙◌, subst, inl, inr, arith}
-use Rattle.std.proofs.lemmas.Bool.{cases_Bool, not-false, eqb-true}
-use Rattle.std.proofs.lemmas.List.{reverse-append}
-use Rattle.std.specs.Prelude.{◌==◌, vec_len, vec_capacity}
-use Rattle.esm_model.specs.declared.moment.TheConstants.{MAX_MOMENT}
+use Rattle.std.proofs.Common.{◌≡◌, ℕ, ◌≤◌, Bool, true, false, not, List, [], ◌∷◌, ◌++◌, drop, reverse, length, refl, sym, ap, ap₂, ◌∙◌, subst, Option, Some, None, arith}
+use Rattle.std.proofs.lemmas.Bool.{not-false, eqb-true, false_from_ne_true}
+use Rattle.std.proofs.lemmas.List.{reverse-append, length-reverse, length-map}
+use Rattle.std.specs.Prelude.{◌==◌}
+use Rattle.std.specs.List.{cons_option}
 use Rattle.esm_model.specs.declared.entry.Entry.{Entry}
-use Rattle.esm_model.specs.Setting.{Setting}
+use Rattle.esm_model.specs.Setting.{Setting, Stream}
 use Rattle.esm_model.specs.Entries.{moment_of, last_moment}
+use Rattle.esm_model.specs.Books.{entry_line}
 use Rattle.esm_ledger.specs.declared.ledger.Ledger.{Ledger}
-use Rattle.esm_ledger.specs.Ledger.{past_of, setting_of, HasRoom}
+use Rattle.esm_ledger.specs.declared.coming.Coming.{Coming}
+use Rattle.esm_ledger.specs.Ledger.{past_of, setting_of}
+use Rattle.esm_outcome.specs.Ending.{SettledOver}
+use Rattle.esm_writable.specs.Bounds.{AreWithinBounds}
+use Rattle.esm_owing.specs.declared.owed.Act.{Act}
 use Rattle.esm_owing.specs.declared.owed.Owed.{Owed}
 use Rattle.esm_owing.specs.declared.standing.Standing.{Standing}
 use Rattle.esm_owing.specs.declared.standing.Standing.TheVariants.{Whole, Paying, Left}
-use Rattle.esm_owing.specs.OwingView.{OwingView, SettledOver, MaySettle, paid, noted}
-use Rattle.esm_owing.specs.Standing.{standing_paid, standing_forgotten, is_sound}
-use Rattle.esm_owing.specs.Acts.{owed_entry, entries_of, costs, ArePayable, AreWritten}
-use Rattle.esm_owing.specs.Kept.{ends_of, HasPlaces, IsPushed, IsAdded, CanAdd, Stands, StandsSo, IsKept}
-use Rattle.esm_owing.proofs.Rooms.{places_of, pushed_places, act_ends}
+use Rattle.esm_owing.specs.OwingView.{OwingView, MayAdd, setting_after, setting_with, lines_of, is_none_left, are_left, paid}
+use Rattle.esm_owing.specs.Standing.{standing_paid, standing_forgotten, can_pay}
+use Rattle.esm_owing.specs.Acts.{owed_entry, entries_of, parts_of, costs, IsAdded, AreWritten}
+use Rattle.esm_owing.specs.Kept.{CanAdd, Stands, StandsSo, IsKept}
+use Rattle.esm_owing.proofs.Settling.{full_after, bounds_before}
+use Rattle.esm_owing.proofs.Leaving.{left_of}
 
 -- as it is seen
-abbrev pub seen : Ledger → List Owed → OwingView
-seen c owed = record { setting = setting_of c; past = past_of c; coming = []; owed = entries_of owed }
+abbrev pub seen : Ledger → List Coming → List Owed → Standing → OwingView
+seen c xs owed st = record { setting = setting_of c; past = past_of c; coming = parts_of xs; owed = entries_of owed; standing = st }
 
-pub stands_of : (c : Ledger) (owed : List Owed) (st : Standing) → StandsSo c owed st → is_sound st ≡ true → Stands c owed
-stands_of c owed Whole s sound = s.0
-stands_of c owed Paying s sound = s
-stands_of c owed Left s sound = absurd (cc)
-
-pub places_left : (c : Ledger) (owed : List Owed) (st : Standing) → StandsSo c owed st → HasPlaces c (costs owed)
-places_left c owed Whole s = places_of c (costs owed) s.0.keeps s.0.room
-places_left c owed Paying s = places_of c (costs owed) s.keeps s.room
-places_left c owed Left s = s
-
--- nothing follows
-rest_payable : (d : Ledger) (owed : List Owed) → owed ≡ [] → ArePayable d owed
-rest_payable d owed none = subst (λ (os : List Owed). ArePayable d os) (sym none) tt
+pub stands_of : (c : Ledger) (xs : List Coming) (owed : List Owed) (st : Standing) → StandsSo c xs owed st → can_pay st ≡ true → Stands c xs owed
+stands_of c xs owed Whole s can = s.0
+stands_of c xs owed Paying s can = s
+stands_of c xs owed Left s can = absurd (cc)
 
 -- an owed entry is added
 
-settles_after : (c d : Ledger) (o : Owed) (rest : List Owed) → IsAdded c d o.act → MaySettle (setting_of c) (owed_entry o ∷ past_of c) (entries_of rest) → MaySettle (setting_of d) (past_of d) (entries_of rest)
-settles_after c d o rest a may =
-    subst (λ (h : List Entry). MaySettle (setting_of d) h (entries_of rest)) (sym a.past)
-    (subst (λ (s : Setting). MaySettle s (owed_entry o ∷ past_of c) (entries_of rest)) (sym a.setting) may)
+-- the parts that are still coming
+pub parts_left : (xs : List Coming) → parts_of (drop 1 xs) ≡ drop 1 (parts_of xs)
+parts_left [] = refl
+parts_left (x ∷ xs) = refl
 
-stands_added : (c d : Ledger) (o : Owed) (rest : List Owed) → Stands c (o ∷ rest) → IsAdded c d o.act → Stands d rest
-stands_added c d o rest s a = record {
+settles_after : (c d : Ledger) (xs : List Coming) (o : Owed) (rest : List Owed) → IsAdded c d xs o.act
+    → MayAdd (setting_after (setting_of c) (parts_of xs)) (owed_entry o ∷ past_of c) (drop 1 (parts_of xs)) (entries_of rest) → MayAdd (setting_of d) (past_of d) (parts_of (drop 1 xs)) (entries_of rest)
+settles_after c d xs o rest a may =
+    subst (λ (ps : List Stream). MayAdd (setting_of d) (past_of d) ps (entries_of rest)) (sym (parts_left xs))
+    (subst (λ (h : List Entry). MayAdd (setting_of d) h (drop 1 (parts_of xs)) (entries_of rest)) (sym a.past)
+    (subst (λ (s : Setting). MayAdd s (owed_entry o ∷ past_of c) (drop 1 (parts_of xs)) (entries_of rest)) (sym a.setting) may))
+
+stands_added : (c d : Ledger) (xs : List Coming) (o : Owed) (rest : List Owed) → Stands c xs (o ∷ rest) → IsAdded c d xs o.act → Stands d (drop 1 xs) rest
+stands_added c d xs o rest s a = record {
   keeps = a.keeps;
-  settles = settles_after c d o rest a s.settles.1;
+  settles = settles_after c d xs o rest a s.settles.1;
   room = a.room (costs rest) (
       let r = s.room in
       record {
         room = (let q = r.room in omega (arith, q));
         short = (let q = r.short in omega (arith, q));
       });
-  payable = rest_payable d rest s.payable.1;
+  payable = s.payable.1 d a;
 }
 
-no_rest : (d : Ledger) (rest : List Owed) → rest ≡ [] → Stands d rest → SettledOver (setting_of d) (past_of d)
-no_rest d rest none s = subst (λ (xs : List Owed). MaySettle (setting_of d) (past_of d) (entries_of xs)) none s.settles
+no_rest : (d : Ledger) (xs : List Coming) (rest : List Owed) → rest ≡ [] → Stands d xs rest → SettledOver (setting_of d) (past_of d)
+no_rest d xs rest none s = subst (λ (os : List Owed). MayAdd (setting_of d) (past_of d) (parts_of xs) (entries_of os)) none s.settles
 
-stands_paid : (d : Ledger) (rest : List Owed) (st : Standing) (more : Bool) → (more ≡ false → rest ≡ []) → is_sound st ≡ true → Stands d rest → StandsSo d rest (standing_paid st more)
-stands_paid d rest Whole true none sound s = s
-stands_paid d rest Whole false none sound s = (s, no_rest d rest (none refl) s)
-stands_paid d rest Paying true none sound s = s
-stands_paid d rest Paying false none sound s = (s, no_rest d rest (none refl) s)
-stands_paid d rest Left more none sound s = absurd (cc)
+stands_paid : (d : Ledger) (xs : List Coming) (rest : List Owed) (st : Standing) (more : Bool) → (more ≡ false → rest ≡ []) → can_pay st ≡ true → Stands d xs rest → StandsSo d xs rest (standing_paid st more)
+stands_paid d xs rest Whole true none can s = s
+stands_paid d xs rest Whole false none can s = (s, no_rest d xs rest (none refl) s)
+stands_paid d xs rest Paying true none can s = s
+stands_paid d xs rest Paying false none can s = (s, no_rest d xs rest (none refl) s)
+stands_paid d xs rest Left more none can s = absurd (cc)
 
-written_over : (s t : Setting) (owed : List Owed) → t ≡ s → AreWritten s owed → AreWritten t owed
-written_over s t owed same written = subst (λ (x : Setting). AreWritten x owed) (sym same) written
+-- the setting with all that is coming stays the same
+pub full_added : (c d : Ledger) (xs : List Coming) (a : Act) → IsAdded c d xs a → setting_with (setting_of d) (parts_of (drop 1 xs)) ≡ setting_with (setting_of c) (parts_of xs)
+full_added c d xs a added =
+    ap₂ setting_with added.setting (parts_left xs) ∙ full_after (setting_of c) (parts_of xs)
 
-pub can_add : (c : Ledger) (o : Owed) (rest : List Owed) (st : Standing) → IsKept c (o ∷ rest) st → is_sound st ≡ true → CanAdd c o.act
-can_add c o rest st k sound =
-    let s = stands_of c (o ∷ rest) st k.stands sound in
+fewer_lines : (e : Entry) (es : List Entry) → length (lines_of (e ∷ es)) ≤ 1 → length (lines_of es) ≤ 1
+fewer_lines e es few = fewer_with (entry_line e) (lines_of es) few
+  where
+    fewer_with : (o : Option (List ℕ)) (ls : List (List ℕ)) → length (cons_option o ls) ≤ 1 → length ls ≤ 1
+    fewer_with None ls few = few
+    fewer_with (Some l) ls few = omega (arith, few)
+
+pub can_add : (c : Ledger) (xs : List Coming) (o : Owed) (rest : List Owed) (st : Standing) → IsKept c xs (o ∷ rest) st → can_pay st ≡ true → CanAdd c xs o.act
+can_add c xs o rest st k can =
+    let s = stands_of c xs (o ∷ rest) st k.stands can in
     record {
       keeps = s.keeps;
       ready = s.payable.0;
@@ -83,111 +96,90 @@ can_add c o rest st k sound =
       legal = s.settles.0;
     }
 
-kept_added : (c d : Ledger) (o : Owed) (rest : List Owed) (st : Standing) (more : Bool) → (more ≡ false → rest ≡ []) → IsKept c (o ∷ rest) st → is_sound st ≡ true → IsAdded c d o.act → IsKept d rest (standing_paid st more)
-kept_added c d o rest st more none k sound a =
-    let stands = stands_added c d o rest (stands_of c (o ∷ rest) st k.stands sound) a in
+pub kept_paid : (c d : Ledger) (xs : List Coming) (o : Owed) (rest : List Owed) (st : Standing) (more : Bool) → (more ≡ false → rest ≡ []) → IsKept c xs (o ∷ rest) st → can_pay st ≡ true → IsAdded c d xs o.act → IsKept d (drop 1 xs) rest (standing_paid st more)
+kept_paid c d xs o rest st more none k can a =
+    let stands = stands_added c d xs o rest (stands_of c xs (o ∷ rest) st k.stands can) a in
     let last : d.last ≡ last_moment (past_of d) = stands.keeps.rests.last in
     let moment : last_moment (past_of d) ≡ moment_of (owed_entry o) = ap last_moment a.past in
     let within = k.written.0.in_time in
+    let same : setting_with (setting_of c) (parts_of xs) ≡ setting_with (setting_of d) (parts_of (drop 1 xs)) = sym (full_added c d xs o.act a) in
     record {
       last = last;
       in_time = omega (arith, last, moment, within);
-      written = written_over (setting_of c) (setting_of d) rest a.setting k.written.1;
-      stands = stands_paid d rest st more none sound stands;
+      written = subst (λ (s : Setting). AreWritten s rest) same k.written.1;
+      lines = fewer_lines (owed_entry o) (entries_of rest) k.lines;
+      bounds = subst AreWithinBounds same k.bounds;
+      stands = stands_paid d (drop 1 xs) rest st more none can stands;
     }
-
-seen_added : (c d : Ledger) (o : Owed) (rest : List Owed) → setting_of d ≡ setting_of c → past_of d ≡ owed_entry o ∷ past_of c → seen d rest ≡ paid (seen c (o ∷ rest))
-seen_added c d o rest same past = ap₂ (λ (s : Setting) (h : List Entry). record { setting = s; past = h; coming = []; owed = entries_of rest }) same past
-
--- and pushed
-
-stands_left : (d : Ledger) (rest : List Owed) (st : Standing) (more : Bool) → is_sound st ≡ false → HasPlaces d (costs rest) → StandsSo d rest (standing_paid st more)
-stands_left d rest Whole more sound s = absurd (cc)
-stands_left d rest Paying more sound s = absurd (cc)
-stands_left d rest Left more sound s = s
-
-pub room_to_pay : (c : Ledger) (o : Owed) (rest : List Owed) (st : Standing) → IsKept c (o ∷ rest) st → vec_len c.history < vec_capacity c.history
-room_to_pay c o rest st k =
-    let r = (places_left c (o ∷ rest) st k.stands).room in
-    let cost = act_ends o.act (past_of c) in
-    omega (arith, r, cost)
-
-kept_pushed : (c d : Ledger) (o : Owed) (rest : List Owed) (st : Standing) (more : Bool) → IsKept c (o ∷ rest) st → is_sound st ≡ false → IsPushed c d (owed_entry o) → IsKept d rest (standing_paid st more)
-kept_pushed c d o rest st more k sound p =
-    let cost = act_ends o.act (past_of c) in
-    let within : ends_of (owed_entry o ∷ past_of c) + 1 + costs rest ≤ ends_of (past_of c) + costs (o ∷ rest) = omega (arith, cost) in
-    let last = p.last in
-    let in_time = k.written.0.in_time in
-    record {
-      last = last ∙ sym (ap last_moment p.past);
-      in_time = omega (arith, last, in_time);
-      written = written_over (setting_of c) (setting_of d) rest p.setting k.written.1;
-      stands = stands_left d rest st more sound (pushed_places c d (owed_entry o) (costs rest) (costs (o ∷ rest)) p (places_left c (o ∷ rest) st k.stands) within);
-    }
-
--- either
-
-pub kept_paid : (c d : Ledger) (o : Owed) (rest : List Owed) (st : Standing) (more : Bool) → (more ≡ false → rest ≡ []) → IsKept c (o ∷ rest) st → (is_sound st ≡ true → IsAdded c d o.act) → (is_sound st ≡ false → IsPushed c d (owed_entry o)) → IsKept d rest (standing_paid st more)
-kept_paid c d o rest st more none k added pushed = elim (cases_Bool (is_sound st)) [
-  | inl sound ↦ kept_added c d o rest st more none k sound (added sound)
-  | inr left ↦ kept_pushed c d o rest st more k left (pushed left)
-]
-
-pub seen_paid : (c d : Ledger) (o : Owed) (rest : List Owed) (st : Standing) → (is_sound st ≡ true → IsAdded c d o.act) → (is_sound st ≡ false → IsPushed c d (owed_entry o)) → seen d rest ≡ paid (seen c (o ∷ rest))
-seen_paid c d o rest st added pushed = elim (cases_Bool (is_sound st)) [
-  | inl sound ↦ seen_added c d o rest (added sound).setting (added sound).past
-  | inr left ↦ seen_added c d o rest (pushed left).setting (pushed left).past
-]
 
 -- what is owed, when the first is taken
-pub popped : (xs ys : List Owed) (o : Owed) → xs ≡ ys ++ o ∷ [] → reverse xs ≡ o ∷ reverse ys
-popped xs ys o is = ap reverse is ∙ reverse-append ys (o ∷ [])
+pub popped : {A : Type 0} (xs ys : List A) (x : A) → xs ≡ ys ++ x ∷ [] → reverse xs ≡ x ∷ reverse ys
+popped xs ys x is = ap reverse is ∙ reverse-append ys (x ∷ [])
 
-pub no_more : (ys zs : List Owed) (b : Bool) → zs ≡ ys → b ≡ (length zs == 0) → not b ≡ false → reverse ys ≡ []
-no_more [] zs b same is none = refl
-no_more (y ∷ ys) zs b same is none =
-    let empty : (length zs == 0) ≡ true = sym is ∙ not-false b none in
-    let long : length zs ≡ length (y ∷ ys) = ap (λ (xs : List Owed). length xs) same in
-    absurd (omega (arith, long, eqb-true (length zs) 0 empty))
+none_left_is : (es : List Entry) → (length es == 0) ≡ is_none_left es
+none_left_is [] = refl
+none_left_is (e ∷ es) = false_from_ne_true (length (e ∷ es) == 0) (λ is. omega (arith, eqb-true (length (e ∷ es)) 0 is))
+
+are_left_is : (es : List Entry) → not (length es == 0) ≡ are_left es
+are_left_is [] = refl
+are_left_is (e ∷ es) = ap not (none_left_is (e ∷ es))
+
+entries_count : (xs : List Owed) → length xs ≡ length (entries_of (reverse xs))
+entries_count xs = sym (length-map (reverse xs) owed_entry ∙ length-reverse xs)
+
+-- whether more is owed
+pub no_owed_left : (xs : List Owed) → (length xs == 0) ≡ is_none_left (entries_of (reverse xs))
+no_owed_left xs = ap (λ (n : ℕ). n == 0) (entries_count xs) ∙ none_left_is (entries_of (reverse xs))
+
+pub more_left : (xs : List Owed) → not (length xs == 0) ≡ are_left (entries_of (reverse xs))
+more_left xs = ap (λ (n : ℕ). not (n == 0)) (entries_count xs) ∙ are_left_is (entries_of (reverse xs))
+
+no_more : (xs : List Owed) → not (length xs == 0) ≡ false → reverse xs ≡ []
+no_more [] none = refl
+no_more (x ∷ xs) none = absurd (omega (arith, eqb-true (length (x ∷ xs)) 0 (not-false (length (x ∷ xs) == 0) none)))
+
+-- the next one is taken from the end of the lists
+pub record Pays (c d : Ledger) (us vs : List Coming) (xs ys : List Owed) (st : Standing) (o : Owed) (more : Bool) : Type 0 where
+  pub kept : IsKept c (reverse us) (reverse xs) st
+  pub can : can_pay st ≡ true
+  pub owed : xs ≡ ys ++ o ∷ []
+  pub coming : reverse vs ≡ drop 1 (reverse us)
+  pub added : IsAdded c d (reverse us) o.act
+  pub more_is : more ≡ not (length ys == 0)
+
+pub kept_pays : (c d : Ledger) (us vs : List Coming) (xs ys : List Owed) (st : Standing) (o : Owed) (more : Bool) → Pays c d us vs xs ys st o more → IsKept d (reverse vs) (reverse ys) (standing_paid st more)
+kept_pays c d us vs xs ys st o more p =
+    subst (λ (ps : List Coming). IsKept d ps (reverse ys) (standing_paid st more)) (sym p.coming)
+    (kept_paid c d (reverse us) o (reverse ys) st more (λ none. no_more ys (sym p.more_is ∙ none)) (subst (λ (os : List Owed). IsKept c (reverse us) os st) (popped xs ys o p.owed) p.kept) p.can p.added)
+
+pub seen_pays : (c d : Ledger) (us vs : List Coming) (xs ys : List Owed) (st : Standing) (o : Owed) (more : Bool) → Pays c d us vs xs ys st o more → seen d (reverse vs) (reverse ys) (standing_paid st more) ≡ paid (seen c (reverse us) (reverse xs) st)
+seen_pays c d us vs xs ys st o more p =
+    ap₂ (λ (s : Setting) (h : List Entry). let v : OwingView = record (seen d (reverse vs) (reverse ys) (standing_paid st more)) { setting = s; past = h } in v) p.added.setting p.added.past
+    ∙ ap₂ (λ (ps : List Stream) (b : Bool). paid_to c us ys st o ps b) (ap parts_of p.coming ∙ parts_left (reverse us)) (p.more_is ∙ more_left ys)
+    ∙ ap (λ (os : List Owed). paid (seen c (reverse us) os st)) (sym (popped xs ys o p.owed))
+  where
+    paid_to : Ledger → List Coming → List Owed → Standing → Owed → List Stream → Bool → OwingView
+    paid_to c us ys st o ps b = record {
+      setting = setting_after (setting_of c) (parts_of (reverse us));
+      past = owed_entry o ∷ past_of c;
+      coming = ps;
+      owed = entries_of (reverse ys);
+      standing = standing_paid st b;
+    }
 
 -- what is owed is given up
 
-none_costs : (c : Ledger) (owed : List Owed) → HasRoom c (costs owed) → HasRoom c 0
-none_costs c owed r = record {
-  room = (let q = r.room in omega (arith, q));
-  short = (let q = r.short in omega (arith, q));
+stands_forgotten : (c : Ledger) (xs : List Coming) (owed : List Owed) (st : Standing) → StandsSo c xs owed st → StandsSo c [] [] (standing_forgotten st)
+stands_forgotten c xs owed Whole s = (record { keeps = s.0.keeps; settles = s.1; room = s.0.keeps.rests.room; payable = refl }, s.1)
+stands_forgotten c xs owed Paying s = left_of c (costs owed) s.keeps s.room
+stands_forgotten c xs owed Left s = s
+
+pub kept_forgotten : (c : Ledger) (xs : List Coming) (owed : List Owed) (st : Standing) → IsKept c xs owed st → IsKept c [] [] (standing_forgotten st)
+kept_forgotten c xs owed st k = record {
+  last = k.last;
+  in_time = k.in_time;
+  written = tt;
+  lines = omega arith;
+  bounds = bounds_before (setting_of c) (parts_of xs) k.bounds;
+  stands = stands_forgotten c xs owed st k.stands;
 }
-
-no_places : (c : Ledger) (owed : List Owed) → HasPlaces c (costs owed) → HasPlaces c 0
-no_places c owed r = record {
-  room = (let q = r.room in omega (arith, q));
-  short = (let q = r.short in omega (arith, q));
-}
-
-stands_forgotten : (c : Ledger) (owed : List Owed) (st : Standing) → StandsSo c owed st → StandsSo c [] (standing_forgotten st)
-stands_forgotten c owed Whole s = (record { keeps = s.0.keeps; settles = s.1; room = none_costs c owed s.0.room; payable = tt }, s.1)
-stands_forgotten c owed Paying s = no_places c owed (places_of c (costs owed) s.keeps s.room)
-stands_forgotten c owed Left s = no_places c owed s
-
-pub kept_forgotten : (c : Ledger) (owed : List Owed) (st : Standing) → IsKept c owed st → IsKept c [] (standing_forgotten st)
-kept_forgotten c owed st k = record { last = k.last; in_time = k.in_time; written = tt; stands = stands_forgotten c owed st k.stands }
-
--- an entry is noted
-
-pub room_to_note : (c : Ledger) (owed : List Owed) (st : Standing) (e : Entry) → IsKept c owed st → ends_of (e ∷ past_of c) + 1 ≤ ends_of (past_of c) → vec_len c.history < vec_capacity c.history
-room_to_note c owed st e k fewer =
-    let r = (places_left c owed st k.stands).room in
-    omega (arith, r, fewer)
-
-pub kept_noted : (c d : Ledger) (owed : List Owed) (st : Standing) (e : Entry) → IsKept c owed st → ends_of (e ∷ past_of c) + 1 ≤ ends_of (past_of c) → moment_of e ≤ MAX_MOMENT → IsPushed c d e → IsKept d owed Left
-kept_noted c d owed st e k fewer within p =
-    let last = p.last in
-    record {
-      last = last ∙ sym (ap last_moment p.past);
-      in_time = omega (arith, last, within);
-      written = written_over (setting_of c) (setting_of d) owed p.setting k.written;
-      stands = pushed_places c d e (costs owed) (costs owed) p (places_left c owed st k.stands) (omega (arith, fewer));
-    }
-
-pub seen_noted : (c d : Ledger) (owed : List Owed) (e : Entry) → setting_of d ≡ setting_of c → past_of d ≡ e ∷ past_of c → seen d owed ≡ noted (seen c owed) e
-seen_noted c d owed e same past = ap₂ (λ (s : Setting) (h : List Entry). record { setting = s; past = h; coming = []; owed = entries_of owed }) same past

@@ -13,8 +13,6 @@ use Rattle.esm_model.specs.Setting.{Setting}
 use Rattle.esm_model.specs.Step.{Legal}
 use Rattle.esm_ledger.specs.declared.ledger.Ledger.{Ledger}
 use Rattle.esm_ledger.specs.Ledger.{past_of, setting_of, LegalOver, HasRoom, Keeps, unended}
-use Rattle.esm_owing.specs.declared.owed.Act.{Act}
-use Rattle.esm_owing.specs.Acts.{act_entry, cost_of}
 use Rattle.esm_owing.specs.Kept.{running_lanes, ends_of, HasPlaces, IsPushed}
 
 -- a filter keeps no more
@@ -102,7 +100,7 @@ pub own_legal : (s : Setting) (h : List Entry) → LegalOver s h → Legal s h
 own_legal s h legal = legal s.streams (λ n i r at. at)
 
 -- a ledger's room is room for the ends
-pub places_of : (c : Ledger) (n : ℕ) → Keeps c → HasRoom c n → HasPlaces c n
+pub places_of : (c : Ledger) (n : ℕ) → Keeps c → HasRoom c n → HasPlaces c
 places_of c n keeps room =
     let within = running_within (setting_of c) (past_of c) (own_legal (setting_of c) (past_of c) keeps.rests.legal) in
     record {
@@ -110,21 +108,16 @@ places_of c n keeps room =
       short = (let r = room.short in omega (arith, r, within));
     }
 
--- entries that are pushed
-
-pub pushed_places : (c d : Ledger) (e : Entry) (n k : ℕ) → IsPushed c d e → HasPlaces c k → ends_of (e ∷ past_of c) + 1 + n ≤ ends_of (past_of c) + k → HasPlaces d n
-pushed_places c d e n k p has within =
+-- an entry that is pushed takes the place of one that was kept
+pub pushed_places : (c d : Ledger) (e : Entry) → IsPushed c d e → HasPlaces c → ends_of (e ∷ past_of c) + 1 ≤ ends_of (past_of c) → HasPlaces d
+pushed_places c d e p has fewer =
     let past : ends_of (past_of d) ≡ ends_of (e ∷ past_of c) = ap ends_of p.past in
     let len = p.len in
     let capacity = p.capacity in
     record {
-      room = (let r = has.room in omega (arith, r, past, len, capacity, within));
-      short = (let r = has.short in omega (arith, r, past, len, within));
+      room = (let r = has.room in omega (arith, r, past, len, capacity, fewer));
+      short = (let r = has.short in omega (arith, r, past, len, fewer));
     }
-
--- an owed entry takes no more than its cost
-pub act_ends : (a : Act) (h : List Entry) → ends_of (act_entry a ∷ h) + 1 ≤ ends_of h + cost_of a
-act_ends a h = omega arith
 
 -- the end of a call that runs takes the place that was kept for it
 pub ended_ends : (h : List Entry) (lane : LaneId) (reply : Reply) (m : ℕ) → is_running h lane ≡ true → ends_of (Ended lane reply m ∷ h) + 1 ≤ ends_of h

@@ -6,15 +6,20 @@ use Rattle.esm_model.specs.declared.lane.LaneId.{LaneId}
 use Rattle.esm_model.specs.declared.entry.Entry.{Entry}
 use Rattle.esm_model.specs.declared.entry.Entry.TheVariants as entry
 use Rattle.esm_model.specs.Lane.{same_lane}
-use Rattle.esm_model.specs.Entries.{moment_of, last_moment, is_shut}
+use Rattle.esm_model.specs.Entries.{moment_of, last_moment, is_shut, came_count}
+use Rattle.esm_tables.specs.Progress.{IsProgress}
 use Rattle.esm_ledger.specs.declared.ledger.Ledger.{Ledger}
-use Rattle.esm_ledger.specs.Ledger.{past_of, setting_of, LegalOver, HasRoom, Keeps}
+use Rattle.esm_ledger.specs.declared.coming.Coming.{Coming}
+use Rattle.esm_ledger.specs.declared.shard.ShardLedger.{ShardLedger}
+use Rattle.esm_ledger.specs.Ledger.{past_of, setting_of, LegalOver, IsAt, HasRoom, Keeps}
+use Rattle.esm_outcome.specs.Ending.{SettledOver}
+use Rattle.esm_writable.specs.Bounds.{AreWithinBounds}
 use Rattle.esm_owing.specs.declared.owed.Act.{Act}
 use Rattle.esm_owing.specs.declared.owed.Owed.{Owed}
 use Rattle.esm_owing.specs.declared.standing.Standing.{Standing}
 use Rattle.esm_owing.specs.declared.standing.Standing.TheVariants.{Whole, Paying, Left}
-use Rattle.esm_owing.specs.OwingView.{SettledOver, MaySettle}
-use Rattle.esm_owing.specs.Acts.{act_entry, cost_of, IsReady, entries_of, costs, ArePayable, AreWritten}
+use Rattle.esm_owing.specs.OwingView.{MayAdd, setting_after, setting_with, lines_of}
+use Rattle.esm_owing.specs.Acts.{act_entry, cost_of, IsReady, entries_of, parts_of, costs, ArePayable, AreWritten}
 
 -- room
 
@@ -32,14 +37,15 @@ running_lanes (e ∷ h) = lanes_after (running_lanes h) e
 abbrev pub ends_of : List Entry → ℕ
 ends_of h = length (running_lanes h) + (if is_shut h then 0 else 1)
 
--- they have their places in the history, and so many more entries
-pub record HasPlaces (c : Ledger) (n : ℕ) : Type 0 where
-  pub room : vec_len c.history + ends_of (past_of c) + n ≤ vec_capacity c.history
-  pub short : vec_len c.history + ends_of (past_of c) + n < MAX_ENTRIES
+-- they have their places in the history
+pub record HasPlaces (c : Ledger) : Type 0 where
+  pub room : vec_len c.history + ends_of (past_of c) ≤ vec_capacity c.history
+  pub short : vec_len c.history + ends_of (past_of c) < MAX_ENTRIES
 
 -- the history alone went on by an entry
 pub record IsPushed (c d : Ledger) (e : Entry) : Type 0 where
   pub past : past_of d ≡ e ∷ past_of c
+  pub shards : d.shards ≡ c.shards
   pub setting : setting_of d ≡ setting_of c
   pub last : d.last ≡ moment_of e
   pub len : vec_len d.history ≡ vec_len c.history + 1
@@ -48,23 +54,33 @@ pub record IsPushed (c d : Ledger) (e : Entry) : Type 0 where
 -- how far more is decided
 
 -- the ledger keeps what the history says, and can add what is owed; then nothing is called for
-pub record Stands (c : Ledger) (owed : List Owed) : Type 0 where
+pub record Stands (c : Ledger) (xs : List Coming) (owed : List Owed) : Type 0 where
   pub keeps : Keeps c
-  pub settles : MaySettle (setting_of c) (past_of c) (entries_of owed)
+  pub settles : MayAdd (setting_of c) (past_of c) (parts_of xs) (entries_of owed)
   pub room : HasRoom c (costs owed)
-  pub payable : ArePayable c owed
+  pub payable : ArePayable c xs owed
 
-abbrev pub StandsSo : Ledger → List Owed → Standing → Type 0
-StandsSo c owed Whole = Stands c owed × SettledOver (setting_of c) (past_of c)
-StandsSo c owed Paying = Stands c owed
-StandsSo c owed Left = HasPlaces c (costs owed)
+-- the shards that are kept came, no other did, and their fates are kept
+pub record AreCounted (c : Ledger) : Type 0 where
+  pub some : (n : ℕ) (x : ShardLedger) → IsAt c n x → 1 ≤ came_count (past_of c) n
+  pub none : (n : ℕ) → ((x : ShardLedger) → IsAt c n x → ⊥) → came_count (past_of c) n ≡ 0
+  pub each : (n : ℕ) (x : ShardLedger) → IsAt c n x → IsProgress (setting_of c) (past_of c) n x.progress
+
+pub record IsLeft (c : Ledger) : Type 0 where
+  pub places : HasPlaces c
+  pub counted : AreCounted c
+
+abbrev pub StandsSo : Ledger → List Coming → List Owed → Standing → Type 0
+StandsSo c xs owed Whole = Stands c xs owed × SettledOver (setting_of c) (past_of c)
+StandsSo c xs owed Paying = Stands c xs owed
+StandsSo c xs owed Left = IsLeft c
 
 -- all is prepared for the entry
-pub record CanAdd (c : Ledger) (a : Act) : Type 0 where
+pub record CanAdd (c : Ledger) (xs : List Coming) (a : Act) : Type 0 where
   pub keeps : Keeps c
-  pub ready : IsReady c a
+  pub ready : IsReady c xs a
   pub room : HasRoom c (cost_of a)
-  pub legal : LegalOver (setting_of c) (act_entry a ∷ past_of c)
+  pub legal : LegalOver (setting_after (setting_of c) (parts_of xs)) (act_entry a ∷ past_of c)
 
 -- the input may end
 pub record CanShut (c : Ledger) (m : ℕ) : Type 0 where
@@ -77,16 +93,29 @@ pub record IsShut (c d : Ledger) (m : ℕ) : Type 0 where
   pub past : past_of d ≡ entry.Shut m ∷ past_of c
   pub setting : setting_of d ≡ setting_of c
 
--- a ledger took an entry, for which all was prepared
-pub record IsAdded (c d : Ledger) (a : Act) : Type 0 where
-  pub keeps : Keeps d
-  pub past : past_of d ≡ act_entry a ∷ past_of c
-  pub setting : setting_of d ≡ setting_of c
-  pub room : (n : ℕ) → HasRoom c (n + cost_of a) → HasRoom d n
-
--- all that is kept; the owed entries stand oldest first
-pub record IsKept (c : Ledger) (owed : List Owed) (standing : Standing) : Type 0 where
+-- all that is kept; what is coming and what is owed stand oldest first
+pub record IsKept (c : Ledger) (xs : List Coming) (owed : List Owed) (standing : Standing) : Type 0 where
   pub last : c.last ≡ last_moment (past_of c)
   pub in_time : c.last ≤ MAX_MOMENT
-  pub written : AreWritten (setting_of c) owed
-  pub stands : StandsSo c owed standing
+  pub written : AreWritten (setting_with (setting_of c) (parts_of xs)) owed
+  pub lines : length (lines_of (entries_of owed)) ≤ 1
+  pub bounds : AreWithinBounds (setting_with (setting_of c) (parts_of xs))
+  pub stands : StandsSo c xs owed standing
+
+-- what is decided, of a ledger that prepared it: the history and the setting are as before
+pub record Decides (c d : Ledger) (xs : List Coming) (owed : List Owed) : Type 0 where
+  pub keeps : Keeps d
+  pub past : past_of d ≡ past_of c
+  pub setting : setting_of d ≡ setting_of c
+  pub room : HasRoom d (costs owed)
+  pub payable : ArePayable d xs owed
+  pub may : MayAdd (setting_of c) (past_of c) (parts_of xs) (entries_of owed)
+  pub written : AreWritten (setting_with (setting_of c) (parts_of xs)) owed
+  pub lines : length (lines_of (entries_of owed)) ≤ 1
+  pub bounds : AreWithinBounds (setting_with (setting_of c) (parts_of xs))
+
+-- memory was taken, and no more
+pub record IsSame (c d : Ledger) : Type 0 where
+  pub keeps : Keeps d
+  pub past : past_of d ≡ past_of c
+  pub setting : setting_of d ≡ setting_of c

@@ -1,5 +1,8 @@
-pub mod OwingView
 pub mod Standing
+pub mod OwingView
+pub mod Arrival
 pub mod Acts
+pub mod Writing
 pub mod Kept
 pub mod Inside
+pub mod Gathered

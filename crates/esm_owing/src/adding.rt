@@ -1,22 +1,96 @@
-//! Adding an owed entry to a ledger, where its tables are kept and where they are not.
-ghost use Rattle.std.specs.Prelude.{◌≡◌, ◌<◌, true, false, OnOk, vec_len, vec_capacity};
+//! Adding an owed entry to a ledger, or one that is noted to its history alone.
+ghost use Rattle.std.specs.Prelude.{◌≡◌, ◌<◌, [], ◌∷◌, true, false, reverse, drop, vec_len, vec_capacity};
 ghost use Rattle.esm_model.specs.Entries.{moment_of as entry_moment};
-ghost use Rattle.esm_ledger.specs.Ledger.{past_of, setting_of, HasRoom, HasSplits, Keeps};
 ghost use Rattle.esm_model.specs.declared.entry.Entry.{Entry};
-ghost use Rattle.esm_owing.specs.Acts.{act_entry};
-ghost use Rattle.esm_owing.specs.Kept.{IsPushed, IsAdded, IsShut, CanAdd, CanShut};
+ghost use Rattle.esm_owing.specs.Kept.{IsPushed, IsShut, CanAdd, CanShut};
+ghost use Rattle.esm_owing.specs.Acts.{IsAdded};
 
-use crate::owed::{Act, entry_of};
-use esm_ledger::Ledger;
-use esm_model::{Entry, LaneId, OutOfMemory};
+use crate::owed::Act;
+use esm_ledger::{Coming, Ledger};
+use esm_model::Entry;
 use std::alloc::Global;
 
-/// The ledger takes the entry, for which all is prepared.
-pub(crate) fn add(ledger: &mut Ledger, act: Act)
-    requires { CanAdd ledger.old act }
-    ensures { IsAdded ledger.old ledger.new act }
+/// The ledger takes the `Came`, for which all is prepared, and with it the records that come.
+fn add_coming(ledger: &mut Ledger, alloc: Global, coming: Coming, act: Act)
+    requires { CanAdd ledger.old (coming ∷ []) act }
+    ensures { IsAdded ledger.old ledger.new (coming ∷ []) act }
 {
-    ledger.began(act.lane, act.places, act.closing, act.moment);
+    match act {
+        Act::Came {
+            shard: _,
+            first: _,
+            count: _,
+            moment,
+        } => ledger.came(alloc, coming, moment),
+        _ => unreachable!(),
+    }
+}
+
+/// The ledger takes the entry, for which all is prepared.
+fn add(ledger: &mut Ledger, alloc: Global, act: Act)
+    requires { CanAdd ledger.old [] act }
+    ensures { IsAdded ledger.old ledger.new [] act }
+{
+    match act {
+        Act::Came {
+            shard: _,
+            first: _,
+            count: _,
+            moment: _,
+        } => unreachable!(),
+        Act::Began {
+            lane,
+            places,
+            closing,
+            moment,
+        } => ledger.began(lane, places, closing, moment),
+        Act::Ended {
+            lane,
+            reply,
+            verdict,
+            moment,
+        } => ledger.ended(alloc, lane, reply, verdict, moment),
+        Act::Gave {
+            by,
+            shard,
+            places,
+            fate,
+            line,
+            state,
+            copy,
+            moment,
+        } => ledger.gave(by, shard, places, fate, line, state, copy, moment),
+        Act::Expired {
+            lane,
+            places,
+            line,
+            moment,
+        } => ledger.expired(lane, places, line, moment),
+        Act::Tried {
+            lane,
+            places,
+            closing,
+            tries,
+            moment,
+        } => ledger.tried(lane, places, closing, tries, moment),
+        Act::Closed {
+            lane,
+            window,
+            moment,
+        } => ledger.closed(lane, window, moment),
+    }
+}
+
+/// The ledger takes the next owed entry, and the records that come with it, which stand last, if any are coming.
+pub(crate) fn add_next(ledger: &mut Ledger, alloc: Global, coming: &mut Vec<Coming>, act: Act)
+    requires { CanAdd ledger.old (reverse coming.old.items) act }
+    ensures added { IsAdded ledger.old ledger.new (reverse coming.old.items) act }
+    ensures coming { reverse coming.new.items ≡ drop 1 (reverse coming.old.items) }
+{
+    match coming.pop() {
+        Some(next) => add_coming(ledger, alloc, next, act),
+        None => add(ledger, alloc, act),
+    }
 }
 
 /// The history alone goes on, within its room.
@@ -27,29 +101,6 @@ pub(crate) fn push(ledger: &mut Ledger, entry: Entry, moment: u64)
 {
     ledger.history.push_reserved(entry);
     ledger.last = moment;
-}
-
-/// The same for an owed entry.
-pub(crate) fn push_act(ledger: &mut Ledger, act: Act)
-    requires { vec_len ledger.old.history < vec_capacity ledger.old.history }
-    ensures { IsPushed ledger.old ledger.new (act_entry act) }
-{
-    let moment = act.moment;
-    push(ledger, entry_of(act), moment);
-}
-
-/// The ledger takes the entry where its tables are kept, else the history alone goes on.
-pub(crate) fn settle(ledger: &mut Ledger, sound: bool, act: Act)
-    requires sound { sound ≡ true → CanAdd ledger.old act }
-    requires room { vec_len ledger.old.history < vec_capacity ledger.old.history }
-    ensures added { sound ≡ true → IsAdded ledger.old ledger.new act }
-    ensures pushed { sound ≡ false → IsPushed ledger.old ledger.new (act_entry act) }
-{
-    if sound {
-        add(ledger, act);
-    } else {
-        push_act(ledger, act);
-    }
 }
 
 /// The input ends: in the tables too, where they are kept and nothing is owed.
@@ -64,23 +115,4 @@ pub(crate) fn shut(ledger: &mut Ledger, whole: bool, moment: u64)
     } else {
         push(ledger, Entry::Shut { moment }, moment);
     }
-}
-
-/// Memory for a call that begins, and for its end. After `OutOfMemory` nothing has changed that contracts see.
-pub(crate) fn prepare_call(
-    ledger: &mut Ledger,
-    alloc: Global,
-    lane: LaneId,
-) -> Result<(), OutOfMemory>
-    requires kept { Keeps ledger.old }
-    requires known { lane.lane < ledger.old.config.factor }
-    ensures kept { Keeps ledger.new }
-    ensures past { past_of ledger.new ≡ past_of ledger.old }
-    ensures setting { setting_of ledger.new ≡ setting_of ledger.old }
-    ensures splits { OnOk result (HasSplits ledger.new lane) }
-    ensures room { OnOk result (HasRoom ledger.new 2) }
-{
-    ledger.prepare_entries(2)?;
-    ledger.prepare_call(alloc, lane)?;
-    Ok(())
 }

@@ -4,9 +4,14 @@
 #![tactic(auto)]
 
 mod adding;
+mod arriving;
+mod calling;
+mod ending;
 mod owed;
 mod owing;
+mod payload;
 mod reading;
 mod standing;
 
 pub use owing::OwingLedger;
+pub use standing::Standing;

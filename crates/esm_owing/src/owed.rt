@@ -1,15 +1,56 @@
-ghost use Rattle.std.specs.Prelude.{◌≡◌};
-ghost use Rattle.esm_owing.specs.Acts.{act_entry};
+use esm_model::{Bytes, Fate, LaneId, Places, Reply, Text, Verdict, WindowState};
 
-use esm_model::{Bytes, Entry, LaneId, Places};
-
-/// A call of the function that begins: of these places, or a final call of the window `closing` with none.
+/// An entry that is to be added, with what a ledger needs for it beside the entry. The records of a `Came` are kept apart.
 #[derive(Drop)]
-pub(crate) struct Act {
-    pub lane: LaneId,
-    pub places: Places,
-    pub closing: Option<u64>,
-    pub moment: u64,
+pub(crate) enum Act {
+    Came {
+        shard: u64,
+        first: u32,
+        count: u32,
+        moment: u64,
+    },
+    /// A call of the function begins: of these places, or a final call of the window `closing` with none.
+    Began {
+        lane: LaneId,
+        places: Places,
+        closing: Option<u64>,
+        moment: u64,
+    },
+    Ended {
+        lane: LaneId,
+        reply: Reply,
+        verdict: Verdict,
+        moment: u64,
+    },
+    /// Records get another fate than that they expire; `copy` is one of the state.
+    Gave {
+        by: Option<LaneId>,
+        shard: u64,
+        places: Places,
+        fate: Fate,
+        line: Option<Text>,
+        state: Option<WindowState>,
+        copy: Option<WindowState>,
+        moment: u64,
+    },
+    Expired {
+        lane: LaneId,
+        places: Places,
+        line: Option<Text>,
+        moment: u64,
+    },
+    Tried {
+        lane: LaneId,
+        places: Places,
+        closing: Option<u64>,
+        tries: u32,
+        moment: u64,
+    },
+    Closed {
+        lane: LaneId,
+        window: u64,
+        moment: u64,
+    },
 }
 
 /// An act, and what is written of its entry in the journal.
@@ -17,16 +58,4 @@ pub(crate) struct Act {
 pub(crate) struct Owed {
     pub act: Act,
     pub payload: Option<Bytes>,
-}
-
-/// As it stands in the history.
-pub(crate) fn entry_of(act: Act) -> Entry
-    ensures { result ≡ act_entry act }
-{
-    Entry::Began {
-        lane: act.lane,
-        places: act.places,
-        closing: act.closing,
-        moment: act.moment,
-    }
 }

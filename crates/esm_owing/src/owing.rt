@@ -1,4 +1,4 @@
-ghost use Rattle.std.specs.Prelude.{◌≡◌, ℕ, ◌<◌, ◌≤◌, ◌^◌, ◌∷◌, [], true, false, IfOk, IfSome, IfNone, OnOk, OnErr, length, take, reverse};
+ghost use Rattle.std.specs.Prelude.{◌≡◌, ℕ, ◌<◌, ◌≤◌, ◌^◌, ◌∷◌, [], true, false, IfOk, IfSome, IfNone, length, take, reverse};
 ghost use Rattle.esm_model.specs.declared.limits.TheConstants.{MAX_PAYLOAD};
 ghost use Rattle.esm_model.specs.declared.moment.TheConstants.{MAX_MOMENT};
 ghost use Rattle.esm_model.specs.declared.entry.Entry.{Entry};
@@ -7,32 +7,38 @@ ghost use Rattle.esm_model.specs.Entries.{last_moment, is_shut, is_running};
 ghost use Rattle.esm_model.specs.Step.{IsLater};
 ghost use Rattle.esm_tables.specs.LaneHistory.{HasFoundTries};
 ghost use Rattle.esm_ledger.specs.Ledger.{opened_with};
-ghost use Rattle.esm_owing.specs.Standing.{is_whole};
-ghost use Rattle.esm_owing.specs.OwingView.{new_view, payloads_of, lengths_of, IsLedgerOf, LegalAhead, SettledAhead, MaySettle, owing, paid, forgotten, noted};
+ghost use Rattle.esm_ledger.specs.Reading.{checkpoint_of, spread_of};
+ghost use Rattle.esm_writable.specs.Bounds.{AreStatesWithin};
+ghost use Rattle.esm_owing.specs.Standing.{can_pay};
+ghost use Rattle.esm_owing.specs.OwingView.{new_view, payloads_of, lines_of, lengths_of, IsLineWithin, IsLedgerOf, paid, forgotten, noted, noted_shut};
+ghost use Rattle.esm_owing.specs.declared.standing.Standing.TheVariants.{Whole};
 
-use crate::adding::{prepare_call, push, settle, shut};
-use crate::owed::{Act, Owed};
-use crate::reading::lengths_in;
+use crate::adding::{add_next, push, shut};
+use crate::owed::Owed;
+use crate::reading::{kept_in, lengths_in, line_bound, line_in};
 use crate::standing::Standing;
-use esm_ledger::Ledger;
-use esm_model::{Config, Entry, LaneId, OutOfMemory, Places, Reply};
+use esm_ledger::{Coming, Ledger};
+use esm_model::{Config, Entry, LaneId, OutOfMemory, Reply};
 use esm_said::Says;
+use esm_tables::progress_laws::{progress_stays, progress_tells};
 use std::alloc::Global;
 use std::marker::Model;
 
 /// A stream's ledger with the entries that are decided and not yet added, seen as what its history is judged over, the
-/// history, and what is owed.
+/// history, what is coming and owed, and how far more can be decided.
 ///
 /// Moments are in milliseconds since 1970, none before that of the last entry, and at most 9999-12-31T23:59:59.999Z.
 /// Places count a shard's records from 0. A history that would come to more than 2^40 entries is refused as want of
-/// memory, and so is all that would be owed where what a history calls for was left: where an end or the end of the input
-/// was noted over what it calls for, or what was owed was forgotten when half paid.
+/// memory, and so is all that would be owed where what a history calls for was left: where an end was noted over what it
+/// calls for, the end of the input over what was owed, or what was owed was forgotten when half paid.
 #[derive(Drop)]
 pub struct OwingLedger {
-    ledger: Ledger,
+    pub(crate) ledger: Ledger,
+    /// The records whose `Came` is owed, shard by shard, the next ones last.
+    pub(crate) coming: Vec<Coming>,
     /// The owed entries, the next one last.
-    owed: Vec<Owed>,
-    standing: Standing,
+    pub(crate) owed: Vec<Owed>,
+    pub(crate) standing: Standing,
 }
 
 impl Model for OwingLedger {
@@ -47,18 +53,6 @@ impl Model for OwingLedger {
     ghost invariant = { IsOwing };
 }
 
-/// Whether the history calls for nothing, and nothing is owed.
-fn is_settled(standing: Standing, owed: &[Owed]) -> bool
-    ensures whole { result ≡ true → is_whole standing ≡ true }
-    ensures none { result ≡ true → owed.now ≡ [] }
-{
-    if owed.is_empty() {
-        standing.is_whole()
-    } else {
-        false
-    }
-}
-
 impl OwingLedger {
     /// One in which no record came, for so many calls in all, with what the journal told at opening.
     pub fn new(
@@ -68,12 +62,14 @@ impl OwingLedger {
         found: Says,
     ) -> Result<OwingLedger, OutOfMemory>
         requires config { IsStreamConfig config }
-        requires found { (n : ℕ) → HasFoundTries (opened_with config calls found) n }
+        requires tries { (n : ℕ) → HasFoundTries (opened_with config calls found) n }
+        requires states { AreStatesWithin found.states }
         ensures { IfOk result (λ ledger. ledger ≡ new_view (opened_with config calls found)) }
     {
         let ledger = Ledger::new(alloc, config, calls, found)?;
         Ok(OwingLedger {
             ledger,
+            coming: Vec::new(alloc),
             owed: Vec::new(alloc),
             standing: Standing::Whole,
         })
@@ -82,7 +78,8 @@ impl OwingLedger {
     /// What is decided by, unless what the history calls for was left. Takes no memory.
     pub fn ledger(&self) -> Option<&Ledger>
         requires { self.now.owed ≡ [] }
-        ensures { IfSome result (λ ledger. IsLedgerOf self.entry.now ledger.now) }
+        ensures some { IfSome result (λ ledger. IsLedgerOf self.entry.now ledger.now) }
+        ensures none { IfNone result (self.entry.now.standing ≡ Whole → ⊥) }
     {
         if self.standing.is_whole() {
             Some(&self.ledger)
@@ -99,55 +96,26 @@ impl OwingLedger {
         self.ledger.last
     }
 
-    /// A call of the function is owed: of these places, or a final call of the window `closing` with none. The memory for
-    /// its end is taken too. After `OutOfMemory` nothing has changed.
-    pub fn owe_call(
-        &mut self,
-        alloc: Global,
-        lane: LaneId,
-        places: Places,
-        closing: Option<u64>,
-        moment: u64,
-    ) -> Result<(), OutOfMemory>
-        requires settled { self.old.owed ≡ [] }
-        requires may { MaySettle self.old.setting self.old.past (Entry.Began lane places closing moment ∷ []) }
-        ensures owes { OnOk result (self.new ≡ owing self.old [] (Entry.Began lane places closing moment ∷ [])) }
-        ensures undone { OnOk result (forgotten self.new ≡ self.old) }
-        ensures legal { OnOk result (LegalAhead self.new) }
-        ensures settled { OnOk result (SettledAhead self.new) }
-        ensures unchanged { OnErr result (self.new ≡ self.old) }
-    {
-        if !self.standing.is_whole() {
-            return Err(OutOfMemory);
-        }
-        prepare_call(&mut self.ledger, alloc, lane)?;
-        let act = Act {
-            lane,
-            places,
-            closing,
-            moment,
-        };
-        self.owed.push(Owed { act, payload: None })?;
-        Ok(())
-    }
-
     /// Gives up what is owed. Takes no memory.
     pub fn forget(&mut self)
         ensures { self.new ≡ forgotten self.old }
     {
+        self.coming.clear();
         self.owed.clear();
         self.standing = self.standing.forgotten();
     }
 
     /// Adds the first owed entry to the history. Takes no memory, and cannot fail.
     pub fn pay(&mut self)
-        requires { 0 < length self.old.owed }
+        requires owes { 0 < length self.old.owed }
+        requires payable { can_pay self.old.standing ≡ true }
         ensures { self.new ≡ paid self.old }
     {
+        let alloc = *self.ledger.history.allocator();
         let Some(owed) = self.owed.pop() else {
             unreachable!()
         };
-        settle(&mut self.ledger, self.standing.is_sound(), owed.act);
+        add_next(&mut self.ledger, alloc, &mut self.coming, owed.act);
         self.standing = self.standing.paid(!self.owed.as_slice().is_empty());
     }
 
@@ -163,6 +131,7 @@ impl OwingLedger {
             reply,
             moment,
         };
+        progress_stays();
         push(&mut self.ledger, entry, moment);
         self.standing = Standing::Left;
     }
@@ -171,11 +140,12 @@ impl OwingLedger {
     pub fn note_shut(&mut self, moment: u64)
         requires going { is_shut self.old.past ≡ false }
         requires in_time { IsLater self.old.past moment }
-        ensures { self.new ≡ noted self.old (Entry.Shut moment) }
+        ensures { self.new ≡ noted_shut self.old (Entry.Shut moment) }
     {
-        let whole = is_settled(self.standing, self.owed.as_slice());
-        shut(&mut self.ledger, whole, moment);
-        self.standing = self.standing.shut(whole);
+        progress_stays();
+        let standing = self.standing.shut(self.owed.as_slice().is_empty());
+        shut(&mut self.ledger, standing.is_whole(), moment);
+        self.standing = standing;
     }
 
     /// How many entries are owed. Takes no memory.
@@ -193,6 +163,14 @@ impl OwingLedger {
         Ok(lengths)
     }
 
+    /// The number of bytes of the owed line, where an owed entry has one; no two of them have. Takes no memory.
+    pub fn owed_line_bound(&self) -> Option<u64>
+        ensures within { IfSome result (IsLineWithin (lines_of self.now.owed)) }
+        ensures none { IfNone result (lines_of self.now.owed ≡ []) }
+    {
+        line_bound(self.owed.as_slice())
+    }
+
     /// The payload of the first owed entry, where it has one. Takes no memory.
     pub fn first_payload(&self) -> Option<&[u8]>
         requires { 0 < length self.now.owed }
@@ -206,6 +184,41 @@ impl OwingLedger {
                 None => None,
                 Some(payload) => Some(payload.as_slice()),
             },
+        }
+    }
+
+    /// The line of the first owed entry, where it has one. Takes no memory.
+    pub fn first_line(&self) -> Option<&[u8]>
+        requires { 0 < length self.now.owed }
+        ensures line { IfSome result (λ bytes. lines_of (take 1 self.entry.now.owed) ≡ bytes.now ∷ []) }
+        ensures short { IfSome result (λ bytes. length bytes.now ≤ MAX_PAYLOAD) }
+        ensures none { IfNone result (lines_of (take 1 self.entry.now.owed) ≡ []) }
+    {
+        match self.owed.last() {
+            None => None,
+            Some(owed) => line_in(&owed.act),
+        }
+    }
+
+    /// How many of the shard's first records all have a fate; `None` where it has not come. Takes no memory.
+    pub fn checkpoint(&self, shard: u64) -> Option<u32>
+        ensures { result ≡ checkpoint_of self.now.setting self.now.past shard }
+    {
+        progress_tells();
+        match kept_in(&self.ledger, shard) {
+            None => None,
+            Some(kept) => Some(kept.progress.checkpoint()),
+        }
+    }
+
+    /// How many of its records have a fate and stand past the checkpoint; `None` where it has not come. Takes no memory.
+    pub fn spread(&self, shard: u64) -> Option<u32>
+        ensures { result ≡ spread_of self.now.setting self.now.past shard }
+    {
+        progress_tells();
+        match kept_in(&self.ledger, shard) {
+            None => None,
+            Some(kept) => Some(kept.progress.spread()),
         }
     }
 

@@ -1,14 +1,14 @@
 ghost use Rattle.std.specs.Prelude.{◌≡◌};
-ghost use Rattle.esm_owing.specs.Standing.{standing_paid, standing_forgotten, standing_shut, is_sound, is_whole};
+ghost use Rattle.esm_owing.specs.Standing.{standing_paid, standing_forgotten, standing_shut, is_whole};
 
-/// How far more can be owed.
+/// How far more can be decided.
 #[derive(Clone, Copy, Debug, PartialEq, Eq)]
-pub(crate) enum Standing {
+pub enum Standing {
     /// The history is legal and settled, and is so with what is owed.
     Whole,
     /// Some of the owed entries were added: with the others the history is legal and settled.
     Paying,
-    /// What the history calls for was left: nothing more is owed, and the tables are not kept any more.
+    /// What the history calls for was left: nothing more is decided, and what is owed is added no more.
     Left,
 }
 
@@ -34,25 +34,18 @@ impl Standing {
         }
     }
 
-    /// After the end of the input; `whole` tells that nothing was left by it.
-    pub(crate) fn shut(self, whole: bool) -> Standing
-        ensures { result ≡ standing_shut self whole }
-    {
-        if whole { self } else { Standing::Left }
-    }
-
-    /// Whether the ledger's tables are kept.
-    pub(crate) fn is_sound(self) -> bool
-        ensures { result ≡ is_sound self }
+    /// After the end of the input; `none` tells that nothing was owed.
+    pub(crate) fn shut(self, none: bool) -> Standing
+        ensures { result ≡ standing_shut self none }
     {
         match self {
-            Standing::Whole | Standing::Paying => true,
-            Standing::Left => false,
+            Standing::Whole if none => Standing::Whole,
+            Standing::Whole | Standing::Paying | Standing::Left => Standing::Left,
         }
     }
 
-    /// Whether more may be owed, once nothing is.
-    pub(crate) fn is_whole(self) -> bool
+    /// Whether more may be decided, once nothing is owed.
+    pub fn is_whole(self) -> bool
         ensures { result ≡ is_whole self }
     {
         match self {

@@ -4,8 +4,8 @@ use Rattle.esm_model.specs.declared.entry.Entry.TheVariants.{Ended}
 use Rattle.esm_model.specs.Entries.{is_running}
 use Rattle.esm_ledger.specs.Ledger.{past_of}
 use Rattle.esm_owing.specs.OwingView.{OwingView, noted}
-use Rattle.esm_owing.proofs.Rooms.{ended_ends}
-use Rattle.esm_owing.proofs.Paying.{room_to_note, kept_noted, seen_noted}
+use Rattle.esm_owing.proofs.Leaving.{room_to_note, kept_noted}
+use Rattle.esm_owing.proofs.Shutting.{ended_quiet, seen_noted}
 use Rattle.esm_owing.proofs.owing.OwingLedger.note_ended.Goals as goal
 
 pub push-requires-clause-room : goal.push-requires-clause-room
@@ -13,17 +13,18 @@ push-requires-clause-room c =
     let x = c.self.inside in
     let e : Entry = Ended c.args.lane c.args.reply c.args.moment in
     let runs : is_running (past_of x.ledger) c.args.lane ≡ true = ap (λ (v : OwingView). is_running v.past c.args.lane) c.self.view_is ∙ c.requires.runs in
-    room_to_note x.ledger (reverse x.owed.items) x.standing e c.self.invariant (ended_ends (past_of x.ledger) c.args.lane c.args.reply c.args.moment runs)
+    room_to_note x.ledger (reverse x.coming.items) (reverse x.owed.items) x.standing e c.self.invariant (ended_quiet (past_of x.ledger) c.args.lane c.args.reply c.args.moment runs c.requires.in_time.within)
 
 pub invariant_of-self : goal.invariant_of-self
 invariant_of-self c =
     let x = c.self.inside in
     let e : Entry = Ended c.args.lane c.args.reply c.args.moment in
     let runs : is_running (past_of x.ledger) c.args.lane ≡ true = ap (λ (v : OwingView). is_running v.past c.args.lane) c.self.view_is ∙ c.requires.runs in
-    kept_noted x.ledger c.push.new.ledger (reverse x.owed.items) x.standing e c.self.invariant (ended_ends (past_of x.ledger) c.args.lane c.args.reply c.args.moment runs) c.requires.in_time.within c.push.ensures
+    kept_noted c.progress_stays.ensures x.ledger c.push.new.ledger (reverse x.coming.items) (reverse x.owed.items) x.standing e c.self.invariant
+    (ended_quiet (past_of x.ledger) c.args.lane c.args.reply c.args.moment runs c.requires.in_time.within) c.push.ensures
 
 pub returns : goal.returns
 returns c =
     let x = c.self.inside in
     let e : Entry = Ended c.args.lane c.args.reply c.args.moment in
-    seen_noted x.ledger c.push.new.ledger (reverse x.owed.items) e c.push.ensures.setting c.push.ensures.past ∙ ap (λ (v : OwingView). noted v e) c.self.view_is
+    seen_noted x.ledger c.push.new.ledger (reverse x.coming.items) (reverse x.owed.items) x.standing e c.push.ensures ∙ ap (λ (v : OwingView). noted v e) c.self.view_is

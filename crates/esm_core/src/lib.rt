@@ -1,0 +1,11 @@
+//! The decisions of a stream's book over every valid configuration: what records that come, a batcher that asks and the
+//! end of a call add to its history, each decided at once and then owed entry by entry, for a layer over devices to write.
+//! Pure: values in, values out. No device, clock or thread.
+#![tactic(auto)]
+
+mod decisions;
+mod fitting;
+mod stream_core;
+
+pub use decisions::{Opened, StreamAnswer, StreamCall, StreamEntry};
+pub use stream_core::StreamCore;
