@@ -25,3 +25,4 @@ pub mod Choosing
 pub mod Beginning
 pub mod Following
 pub mod WorkedNext
+pub mod ToldMessages

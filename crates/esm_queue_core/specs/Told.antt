@@ -1,5 +1,5 @@
 -- A core's entries as a book over devices tells them, and what its calls decide. This product's own.
-use Rattle.std.specs.Prelude.{◌≡◌, ℕ, ◌+◌, ◌^◌, ◌<◌, ◌≤◌, List, [], ◌∷◌, ◌++◌, length, map, take, drop, Option, Some, None, false}
+use Rattle.std.specs.Prelude.{◌≡◌, ℕ, ◌+◌, ◌^◌, ◌<◌, ◌≤◌, List, [], ◌∷◌, ◌++◌, length, map, take, drop, reverse, Option, Some, None, false}
 use Rattle.std.specs.List.{All}
 use Rattle.esm_model.specs.declared.limits.TheConstants.{MAX_BATCH}
 use Rattle.esm_model.specs.declared.item.Message.{Message}
@@ -9,6 +9,7 @@ use Rattle.esm_model.specs.declared.entry.Reply.{Reply}
 use Rattle.esm_model.specs.declared.entry.Entry.{Entry}
 use Rattle.esm_model.specs.declared.entry.Entry.TheVariants.{Came, Ended, Shut}
 use Rattle.esm_model.specs.declared.setup.FoundDeletion.{FoundDeletion}
+use Rattle.esm_model.specs.declared.setup.Told.{Told}
 use Rattle.esm_model.specs.Entries.{is_shut, is_running}
 use Rattle.esm_model.specs.ValidMessage.{IsValidMessage}
 use Rattle.esm_payload.specs.EntryPayload.{queue_payload}
@@ -43,6 +44,14 @@ history_of v = queue_entries (all_messages v) v.past
 
 abbrev pub owed_of : CoreView → List QueueEntry
 owed_of v = queue_entries (all_messages v) v.owed
+
+-- as threads hand them on
+abbrev pub told_entries : List Message → List Entry → List Told
+told_entries messages es = map (λ (x : QueueEntry). x.told) (queue_entries messages es)
+
+-- the whole history so, its oldest entry first
+abbrev pub told_of : CoreView → List Told
+told_of v = told_entries (all_messages v) (reverse v.past)
 
 abbrev pub no_line : QueueEntry → Option (List ℕ)
 no_line e = None

@@ -1,20 +1,23 @@
 ghost use Rattle.std.specs.Prelude.{◌≡◌, ℕ, ◌+◌, ◌<◌, ◌≤◌, ◌^◌, ◌∷◌, [], min, max, IfOk, IfErr, IfSome, IfNone, OnOk, OnErr, All, length, take, reverse, false, true};
 ghost use Rattle.std.specs.Vec.{vec_capacity};
 ghost use Rattle.esm_model.specs.declared.limits.TheConstants.{MAX_BATCH, MAX_PAYLOAD};
+ghost use Rattle.esm_model.specs.declared.moment.TheConstants.{MAX_MOMENT};
 ghost use Rattle.esm_model.specs.QueueEvent.{IsQueueConfig};
 ghost use Rattle.esm_model.specs.ValidMessage.{IsValidMessage};
 ghost use Rattle.esm_model.specs.declared.entry.Entry.{Entry};
-ghost use Rattle.esm_model.specs.Entries.{is_shut, is_running};
+ghost use Rattle.esm_model.specs.Entries.{is_shut, is_running, last_moment};
 ghost use Rattle.esm_filter.specs.Criteria.{JudgesMessages};
 ghost use Rattle.esm_book.specs.Decided.{written_of, lengths_of, IsRefused};
 ghost use Rattle.esm_payload.specs.EntryPayload.{queue_payload};
 ghost use Rattle.esm_queue_model.specs.QueueSetting.{is_fifo};
 ghost use Rattle.esm_queue_model.specs.QueueEntries.{queue_lane};
+ghost use Rattle.esm_queue_model.specs.QueueBooks.{messages_told};
 ghost use Rattle.esm_queue_core.specs.declared.standing.Standing.TheVariants.{Whole};
 ghost use Rattle.esm_queue_core.specs.CoreView.{new_setting, new_view, moment_for, all_messages, LegalAhead, SettledAhead, IsRunningJob, owing, paid, forgotten, noted};
 ghost use Rattle.esm_queue_core.specs.Coming.{came_entries, IsFirstChange};
 ghost use Rattle.esm_queue_core.specs.Ending.{ended_places, ended_entries};
 ghost use Rattle.esm_queue_core.specs.Next.{next_for, next_entries};
+ghost use Rattle.esm_queue_core.specs.Told.{told_of};
 ghost use Rattle.esm_queue_core.specs.Kept.{IsBegunBy};
 
 use crate::coming::{change_at, first_changed, refused};
@@ -445,6 +448,16 @@ impl QueueCore {
             (None, Some(gift)) => Some(gift.payload.as_slice()),
             _ => None,
         }
+    }
+
+    /// What is true of every core, whoever made its calls: the messages that came are those that its history tells, none is
+    /// coming where nothing is owed, and no moment is past the last one. Does nothing.
+    pub fn keeps(&self)
+        ensures messages { self.now.setting.messages ≡ messages_told (told_of self.now) }
+        ensures rests { self.now.owed ≡ [] → self.now.coming ≡ [] }
+        ensures in_time { last_moment self.now.past ≤ MAX_MOMENT }
+    {
+        let _ = &self.standing;
     }
 
     /// The number of entries of the history. Takes no memory.

@@ -1,0 +1,6 @@
+pub mod Entries
+pub mod Deciding
+pub mod Going
+pub mod Endings
+pub mod Noting
+pub mod Standing
