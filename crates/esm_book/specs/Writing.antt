@@ -1,5 +1,5 @@
 -- How far a call has come that writes what is owed. Only this crate's proofs cite it.
-use Rattle.std.specs.Prelude.{◌≡◌, ◌++◌, ℕ, Bool, true, false, List, [], ◌∷◌, ◌<◌, length, take, reverse}
+use Rattle.std.specs.Prelude.{◌≡◌, ◌++◌, ℕ, Bool, true, false, List, [], ◌∷◌, ◌<◌, length, take, reverse, Option}
 use Rattle.esm_io.specs.Meanings.{DiskMeaning, DestMeaning}
 use Rattle.esm_journal.specs.Pair.{PairState}
 use Rattle.esm_book.specs.Decided.{CoreMeaning, written_of, lengths_of, added}
@@ -39,6 +39,11 @@ abbrev pub HasFailed : Fault → Bool → Bool → Type 0
 HasFailed Disk disk dest = (disk ≡ true) × (dest ≡ false)
 HasFailed Dest disk dest = (disk ≡ false) × (dest ≡ true)
 
+-- the device that failed was to take what is written of the first of these entries
+abbrev pub WasWriting : {E : Type 0} → (payload line : E → Option (List ℕ)) → Fault → List E → Type 0
+WasWriting payload line Disk owed = 0 < length (written_of payload (take 1 owed))
+WasWriting payload line Dest owed = 0 < length (written_of line (take 1 owed))
+
 -- all that was owed is written
 pub record WroteAll {C E D T : Type 0} (k : CoreMeaning C E) (m : DiskMeaning D) (n : DestMeaning T) (core core' : C) (pair pair' : PairState D) (dest dest' : T) : Type 0 where
   pub writes : Writes k m n (k.history core) (k.owed core) core' pair pair' dest dest' (added (k.history core) (k.history core')) []
@@ -51,6 +56,7 @@ pub record WroteSome {C E D T : Type 0} (k : CoreMeaning C E) (m : DiskMeaning D
   pub writes : Writes k m n (k.history core) (k.owed core) core' pair pair' dest dest' (added (k.history core) (k.history core')) (hand_of fault (k.owed core'))
   pub failed : HasFailed fault pair'.down (n.failed dest')
   pub left : 0 < length (k.owed core')
+  pub writing : WasWriting k.payload k.line fault (k.owed core')
 
 -- nothing is written, and nothing is owed any more
 pub record WroteNone {C D T : Type 0} (n : DestMeaning T) (forgotten : C → C) (core core' : C) (pair pair' : PairState D) (dest dest' : T) : Type 0 where

@@ -1,11 +1,11 @@
-ghost use Rattle.std.specs.Prelude.{◌≡◌, ◌↔◌, ◌<◌, ◌++◌, [], ℕ, List, None, length, reverse, true, false, OnOk, IfOk, IfErr, IsErrOf, IsSome};
+ghost use Rattle.std.specs.Prelude.{◌≡◌, ◌↔◌, ◌<◌, ◌++◌, [], ℕ, List, None, length, take, reverse, true, false, OnOk, IfOk, IfErr, IsErrOf, IsSome};
 ghost use Rattle.std.specs.Option.{option_copied};
 ghost use Rattle.esm_io.specs.Faults.{Rose};
 ghost use Rattle.esm_io.specs.Images.{Only};
 ghost use Rattle.esm_io.specs.Meanings.{disk, destination};
 ghost use Rattle.esm_journal.specs.Pair.{PairKeepsWhileUp, first_disk, second_disk};
 ghost use Rattle.esm_journal.specs.Reads.{IsOnlyRead};
-ghost use Rattle.esm_book.specs.Decided.{decisions, added};
+ghost use Rattle.esm_book.specs.Decided.{decisions, added, written_of};
 ghost use Rattle.esm_book.specs.Growth.{HasGrown, LeavesFronts, OpensToFront};
 ghost use Rattle.esm_book.specs.State.{in_hand, IsReason, IsKept};
 ghost use Rattle.esm_book.specs.Answers.{IsFault, in_doubt, trouble_after, IsLeftBy, IsChangeOf};
@@ -96,6 +96,8 @@ impl<C: Decisions, D: Disk, T: Dest> Durable<C, D, T> {
         ensures history { C.history self.new.core ≡ reverse (added (C.history self.old.core) (C.history self.new.core)) ++ C.history self.old.core }
         ensures settled { OnOk result (C.owed self.new.core ≡ []) }
         ensures left { IsFault result → 0 < length (C.owed self.new.core) }
+        ensures appending { IsErrOf result CallError.DiskFault → 0 < length (written_of C.payload (take 1 (C.owed self.new.core))) }
+        ensures delivering { IsErrOf result CallError.DestFault → 0 < length (written_of C.line (take 1 (C.owed self.new.core))) }
         ensures origin { C.origin self.new.core ≡ C.origin self.old.core }
         // What is written of it.
         ensures grown { self.old.trouble ≡ None → HasGrown (decisions C.history C.owed C.payload C.line) (disk D.honest D.content D.image D.moment D.image_since D.faults) (destination T.honest T.faults T.lines T.sends T.failed)

@@ -4,7 +4,7 @@ ghost use Rattle.esm_io.specs.Meanings.{disk, destination};
 ghost use Rattle.esm_book.specs.Decided.{decisions, written_of, lengths_of, added};
 ghost use Rattle.esm_book.specs.Growth.{HasAppended, HasDelivered};
 ghost use Rattle.esm_book.specs.Answers.{IsSameDest};
-ghost use Rattle.esm_book.specs.Writing.{HasLineRoom, IsReady, Writes, hand_of, HasFailed, HasCome};
+ghost use Rattle.esm_book.specs.Writing.{HasLineRoom, IsReady, Writes, hand_of, HasFailed, WasWriting, HasCome};
 
 use crate::decisions::Decisions;
 use crate::error::{Fault, Outcome};
@@ -22,6 +22,7 @@ fn deliver_first<C: Decisions, T: Dest>(alloc: Global, core: &C, dest: &mut T) -
     ensures not_delivered { OnErr result (HasDelivered (decisions C.history C.owed C.payload C.line) (destination T.honest T.faults T.lines T.sends T.failed) dest.old dest.new []) }
     ensures usable { OnOk result (T.failed dest.new ≡ false) }
     ensures failed { OnErr result (T.failed dest.new ≡ true) }
+    ensures delivering { OnErr result (0 < length (written_of C.line (take 1 (C.owed core.now)))) }
     ensures room { OnOk result (HasLineRoom (T.has_room dest.new) (written_of C.line (drop 1 (C.owed core.now)))) }
 {
     match core.first_line() {
@@ -47,6 +48,7 @@ fn append_first<C: Decisions, D: Disk>(
     ensures not_appended { OnErr result (HasAppended (decisions C.history C.owed C.payload C.line) (disk D.honest D.content D.image D.moment D.image_since D.faults) pair.old pair.new [] (take 1 (C.owed core.now))) }
     ensures up { OnOk result (pair.new.down ≡ false) }
     ensures down { OnErr result (pair.new.down ≡ true) }
+    ensures appending { OnErr result (0 < length (written_of C.payload (take 1 (C.owed core.now)))) }
     ensures room { OnOk result (pair.new.room ≡ lengths_of (written_of C.payload (drop 1 (C.owed core.now)))) }
 {
     let _ = pair.payloads();
@@ -80,6 +82,7 @@ fn write_first<C: Decisions, D: Disk, T: Dest>(
     ensures failed { IfErr result (λ fault. HasFailed fault pair.new.down (T.failed dest.new)) }
     ensures payable { OnOk result (C.payable core.new) }
     ensures left { OnErr result (0 < length (C.owed core.new)) }
+    ensures writing { IfErr result (λ fault. WasWriting C.payload C.line fault (C.owed core.new)) }
     ensures origin { C.origin core.new ≡ C.origin core.old }
 {
     let _ = pair.payloads();
@@ -134,6 +137,7 @@ pub(crate) fn write_owed<C: Decisions, D: Disk, T: Dest>(
         (C.history core.old) (C.owed core.old) core.new pair.old pair.new dest.old dest.new (added (C.history core.old) (C.history core.new)) (hand_of fault (C.owed core.new))) }
     ensures failed { IfErr result (λ fault. HasFailed fault pair.new.down (T.failed dest.new)) }
     ensures left { OnErr result (0 < length (C.owed core.new)) }
+    ensures writing { IfErr result (λ fault. WasWriting C.payload C.line fault (C.owed core.new)) }
     ensures origin { C.origin core.new ≡ C.origin core.old }
 {
     let _ = pair.payloads();

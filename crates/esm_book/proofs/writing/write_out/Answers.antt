@@ -52,6 +52,7 @@ returns-in-Err-Disk-clause-came g c =
           (rw c.in-Err-Disk.field-0-is at c.in-Err-Disk.ensures.stopped);
       failed = rw c.in-Err-Disk.field-0-is at c.in-Err-Disk.ensures.failed;
       left = c.in-Err-Disk.ensures.left;
+      writing = rw c.in-Err-Disk.field-0-is at c.in-Err-Disk.ensures.writing;
     }
 
 pub returns-in-Err-Dest-clause-came : goal.returns-in-Err-Dest-clause-came
@@ -67,4 +68,5 @@ returns-in-Err-Dest-clause-came g c =
           (rw c.in-Err-Dest.field-0-is at c.in-Err-Dest.ensures.stopped);
       failed = rw c.in-Err-Dest.field-0-is at c.in-Err-Dest.ensures.failed;
       left = c.in-Err-Dest.ensures.left;
+      writing = rw c.in-Err-Dest.field-0-is at c.in-Err-Dest.ensures.writing;
     }
