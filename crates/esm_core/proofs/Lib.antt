@@ -5,3 +5,5 @@ pub mod Tellings
 pub mod Changes
 pub mod Fits
 pub mod Keeping
+pub mod ToldRecords
+pub mod Bringing

@@ -1,5 +1,5 @@
 -- A core's entries as a book over devices tells them, and what its calls decide. This product's own.
-use Rattle.std.specs.Prelude.{◌≡◌, ℕ, ◌≤◌, List, [], ◌∷◌, length, map, take, drop, Some, true, false}
+use Rattle.std.specs.Prelude.{◌≡◌, ℕ, ◌≤◌, List, [], ◌∷◌, length, map, take, drop, reverse, Some, true, false}
 use Rattle.std.specs.List.{All}
 use Rattle.esm_model.specs.declared.limits.TheConstants.{MAX_BATCH}
 use Rattle.esm_model.specs.declared.item.Record.{Record}
@@ -7,6 +7,7 @@ use Rattle.esm_model.specs.declared.book.Change.{Change}
 use Rattle.esm_model.specs.declared.book.Job.{Job}
 use Rattle.esm_model.specs.declared.entry.Reply.{Reply}
 use Rattle.esm_model.specs.declared.entry.Entry.{Entry}
+use Rattle.esm_model.specs.declared.setup.Told.{Told}
 use Rattle.esm_model.specs.declared.entry.Entry.TheVariants.{Came, Ended, Shut}
 use Rattle.esm_model.specs.Setting.{Setting, Stream, records_of}
 use Rattle.esm_model.specs.Entries.{is_shut}
@@ -43,6 +44,14 @@ history_of v = stream_entries (full_setting v) v.past
 
 abbrev pub owed_of : OwingView → List StreamEntry
 owed_of v = stream_entries (full_setting v) v.owed
+
+-- as threads hand them on
+abbrev pub told_entries : Setting → List Entry → List Told
+told_entries s es = map (λ (x : StreamEntry). x.told) (stream_entries s es)
+
+-- the whole history so, its oldest entry first
+abbrev pub told_of : OwingView → List Told
+told_of v = told_entries (full_setting v) (reverse v.past)
 
 abbrev pub opened : OwingView → Opened
 opened v = record {

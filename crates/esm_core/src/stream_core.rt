@@ -1,17 +1,22 @@
 ghost use Rattle.std.specs.Prelude.{◌≡◌, ℕ, ◌<◌, ◌≤◌, ◌^◌, ◌∷◌, [], true, false, min, max, All, IfOk, IfErr, IfSome, IfNone, OnOk, OnErr, length, take, reverse};
+ghost use Rattle.std.specs.List.{filter_map};
 ghost use Rattle.esm_model.specs.declared.limits.TheConstants.{MAX_BATCH, MAX_PAYLOAD};
 ghost use Rattle.esm_model.specs.declared.entry.Entry.{Entry};
 ghost use Rattle.esm_model.specs.Valid.{IsStreamConfig, IsValidRecord};
-ghost use Rattle.esm_model.specs.Entries.{is_shut};
+ghost use Rattle.esm_model.specs.declared.moment.TheConstants.{MAX_MOMENT};
+ghost use Rattle.esm_model.specs.Books.{streams_told};
+ghost use Rattle.esm_model.specs.Entries.{is_shut, last_moment};
 ghost use Rattle.esm_filter.specs.Criteria.{JudgesRecords};
+ghost use Rattle.esm_payload.specs.EntryPayload.{entry_payload};
 ghost use Rattle.esm_tables.specs.LaneHistory.{HasFoundTries};
 ghost use Rattle.esm_ledger.specs.Ledger.{opened_with, LegalOver};
 ghost use Rattle.esm_ledger.specs.Reading.{checkpoint_of, spread_of};
-ghost use Rattle.esm_writable.specs.Bounds.{AreStatesWithin};
+ghost use Rattle.esm_writable.specs.Bounds.{AreStatesWithin, AreWithinBounds};
 ghost use Rattle.esm_book.specs.Decided.{IsRefused};
 ghost use Rattle.esm_owing.specs.Standing.{can_pay};
-ghost use Rattle.esm_owing.specs.OwingView.{new_view, payloads_of, lines_of, lengths_of, IsLineWithin, LegalAhead, SettledAhead, owing, paid, forgotten, noted, noted_shut};
+ghost use Rattle.esm_owing.specs.OwingView.{new_view, full_setting, payloads_of, lines_of, lengths_of, IsLineWithin, LegalAhead, SettledAhead, owing, paid, forgotten, noted, noted_shut};
 ghost use Rattle.esm_core.specs.Calls.{moment_for, coming_lists, came_entries, Differs, NoneDiffers, IsResting, IsNextOver, next_adds, IsRunningJob, ended_entries, given_by_end};
+ghost use Rattle.esm_core.specs.Told.{told_of};
 
 use crate::fitting::fit_places;
 use esm_arrival::{by_shard, first_change};
@@ -278,6 +283,19 @@ impl StreamCore {
         ensures { result ≡ spread_of self.now.setting self.now.past shard }
     {
         self.owing.spread(shard)
+    }
+
+    /// What is true of every core, whoever made its calls: the records that came are those that its history tells, none is
+    /// coming where nothing is owed, the payload of the first owed entry is one of records that came, no moment is past the
+    /// last one, and each record is valid, in the list of its shard. Does nothing.
+    pub fn keeps(&self)
+        ensures records { self.now.setting.streams ≡ streams_told (told_of self.now) }
+        ensures rests { self.now.owed ≡ [] → self.now.coming ≡ [] }
+        ensures first { payloads_of self.now (take 1 self.now.owed) ≡ filter_map (entry_payload self.now.setting) (take 1 self.now.owed) }
+        ensures in_time { last_moment self.now.past ≤ MAX_MOMENT }
+        ensures bounds { AreWithinBounds (full_setting self.now) }
+    {
+        self.owing.keeps();
     }
 
     /// The number of entries of the history. Takes no memory.

@@ -8,9 +8,9 @@ ghost use Rattle.esm_model.specs.Step.{IsLater};
 ghost use Rattle.esm_tables.specs.LaneHistory.{HasFoundTries};
 ghost use Rattle.esm_ledger.specs.Ledger.{opened_with};
 ghost use Rattle.esm_ledger.specs.Reading.{checkpoint_of, spread_of};
-ghost use Rattle.esm_writable.specs.Bounds.{AreStatesWithin};
+ghost use Rattle.esm_writable.specs.Bounds.{AreStatesWithin, AreWithinBounds};
 ghost use Rattle.esm_owing.specs.Standing.{can_pay};
-ghost use Rattle.esm_owing.specs.OwingView.{new_view, payloads_of, lines_of, lengths_of, IsLineWithin, IsLedgerOf, paid, forgotten, noted, noted_shut};
+ghost use Rattle.esm_owing.specs.OwingView.{new_view, full_setting, payloads_of, lines_of, lengths_of, IsLineWithin, IsLedgerOf, paid, forgotten, noted, noted_shut};
 ghost use Rattle.esm_owing.specs.declared.standing.Standing.TheVariants.{Whole};
 
 use crate::adding::{add_next, push, shut};
@@ -220,6 +220,15 @@ impl OwingLedger {
             None => None,
             Some(kept) => Some(kept.progress.spread()),
         }
+    }
+
+    /// What is true of every one, whoever made its calls: no moment is past the last one, and each record that came or is coming
+    /// is valid and in the list of its shard. Does nothing.
+    pub fn keeps(&self)
+        ensures in_time { last_moment self.now.past ≤ MAX_MOMENT }
+        ensures bounds { AreWithinBounds (full_setting self.now) }
+    {
+        let _ = &self.ledger;
     }
 
     /// The number of entries of the history. Takes no memory.

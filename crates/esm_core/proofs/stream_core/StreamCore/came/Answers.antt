@@ -8,7 +8,7 @@ use Rattle.esm_arrival.specs.Entries.{part_entries}
 use Rattle.esm_owing.specs.Arrival.{streams_of}
 use Rattle.esm_owing.specs.OwingView.{OwingView, IsLedgerOf}
 use Rattle.esm_core.proofs.Ledgers.{may_come, none_differs, is_later}
-use Rattle.esm_core.proofs.Keeping.{judges_by, few_parts, keeps_owing, keeps_same}
+use Rattle.esm_core.proofs.Keeping.{judges_by, brought_arrival, keeps_owing, keeps_same}
 use Rattle.esm_core.proofs.stream_core.StreamCore.came.Goals as goal
 
 pub owe_records-requires-clause-may : goal.owe_records-requires-clause-may
@@ -39,7 +39,8 @@ invariant_of-self c = keeps_same c.self.inside c.owe_records.new.self c.self.inv
 pub invariant_of-self-2 : goal.invariant_of-self-2
 invariant_of-self-2 c =
     let ps = map part c.in_ok-parts.parts.items in
-    keeps_owing c.self.inside c.owe_records.new.self (streams_of ps) (part_entries c.raised_to-now.result ps) c.self.invariant c.in_ok-owe_records.ensures.owes (few_parts c.raised_to-now.result ps)
+    keeps_owing c.self.inside c.owe_records.new.self (streams_of ps) (part_entries c.raised_to-now.result ps) c.self.invariant c.in_ok-owe_records.ensures.owes
+    (brought_arrival c.self.inside.owing c.in-Some.ledger.now c.args.items.items ps c.raised_to-now.result c.in-Some.ensures.some c.in_ok-parts.ensures.parts)
 
 pub returns-clause-same : goal.returns-clause-same
 returns-clause-same c =

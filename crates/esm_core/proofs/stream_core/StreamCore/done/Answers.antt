@@ -1,4 +1,4 @@
-use Rattle.std.proofs.Common.{List, subst, arith, ◌≡◌, [], ◌∷◌, map, refl, ap, ◌∙◌}
+use Rattle.std.proofs.Common.{List, subst, ◌≡◌, [], ◌∷◌, map, refl, ap, ◌∙◌}
 use Rattle.esm_model.specs.declared.entry.Entry.{Entry}
 use Rattle.esm_model.specs.declared.entry.Entry.TheVariants.{Ended}
 use Rattle.esm_outcome.specs.Dues.{due_entry}
@@ -7,6 +7,7 @@ use Rattle.esm_owing.specs.OwingView.{OwingView, owing}
 use Rattle.esm_core.specs.Calls.{moment_for}
 use Rattle.esm_core.proofs.Ledgers.{moment_is, valid_records, settled_over}
 use Rattle.esm_core.proofs.Endings.{may_settle, dues_are, few_lines, owes_end, given_is}
+use Rattle.esm_core.proofs.Bringing.{dues_none}
 use Rattle.esm_core.proofs.Keeping.{keeps_owing, keeps_same}
 use Rattle.esm_core.proofs.stream_core.StreamCore.done.Goals as goal
 
@@ -40,7 +41,7 @@ pub invariant_of-self-2 : goal.invariant_of-self-2
 invariant_of-self-2 c =
     let m = c.raised_to-now.result in
     let lane = c.args.job.lane in
-    keeps_owing c.self.inside c.owe_end.new.self [] (Ended lane c.args.reply m ∷ map (due_entry lane m) c.in_ok-outcome.outcome.dues.items) c.self.invariant c.in_ok-owe_end.ensures.owes (omega arith)
+    keeps_owing c.self.inside c.owe_end.new.self [] (Ended lane c.args.reply m ∷ map (due_entry lane m) c.in_ok-outcome.outcome.dues.items) c.self.invariant c.in_ok-owe_end.ensures.owes (tt, dues_none lane m c.in_ok-outcome.outcome.dues.items)
 
 pub returns-clause-owes : goal.returns-clause-owes
 returns-clause-owes c =

@@ -1,4 +1,4 @@
-use Rattle.std.proofs.Common.{arith, ◌≡◌, ℕ, List, [], ◌∷◌, ◌<◌, length, refl, sym, ap, ◌∙◌, subst, rules, Fits, w32}
+use Rattle.std.proofs.Common.{◌≡◌, ℕ, List, [], ◌∷◌, ◌<◌, length, refl, sym, ap, ◌∙◌, subst, rules, Fits, w32}
 use Rattle.esm_model.specs.declared.book.Next.TheVariants as next
 use Rattle.esm_model.specs.declared.entry.Entry.TheVariants.{Began}
 use Rattle.esm_next.specs.declared.decision.Decision.TheVariants as decision
@@ -32,7 +32,7 @@ invariant_of-self c = keeps_same c.self.inside c.owe_call.new.self c.self.invari
 pub invariant_of-self-in-Call : goal.invariant_of-self-in-Call
 invariant_of-self-in-Call c =
     let job = c.in-Call.job in
-    keeps_owing c.self.inside c.owe_call.new.self [] (Began job.lane c.in_ok-places-in-Call.places job.closing c.raised_to-now.result ∷ []) c.self.invariant c.in_ok-owe_call-in-Call.ensures.owes (omega arith)
+    keeps_owing c.self.inside c.owe_call.new.self [] (Began job.lane c.in_ok-places-in-Call.places job.closing c.raised_to-now.result ∷ []) c.self.invariant c.in_ok-owe_call-in-Call.ensures.owes (tt, tt)
 
 pub invariant_of-self-in_err-owe_expiry-in-Expire : goal.invariant_of-self-in_err-owe_expiry-in-Expire
 invariant_of-self-in_err-owe_expiry-in-Expire c = keeps_same c.self.inside c.owe_expiry.new.self c.self.invariant c.in_err-owe_expiry-in-Expire.ensures.unchanged
@@ -87,16 +87,16 @@ returns-in-Idle-clause-answer c =
     answers c.args.self.now c.args.batcher m (moment_for c.args.self.now.past c.args.moment) (decision.Idle c.in-Idle.until) f same
 
 pub returns-in-Idle-clause-owes : goal.returns-in-Idle-clause-owes
-returns-in-Idle-clause-owes c = (idle c.self.inside.owing c.args.self.now c.in-Some.ledger.now c.self.view_is c.in-Some.ensures.some c.self.invariant.few c.requires.settled c.in-Some.ensures.some.whole).owes
+returns-in-Idle-clause-owes c = (idle c.self.inside.owing c.args.self.now c.in-Some.ledger.now c.self.view_is c.in-Some.ensures.some c.self.invariant.brought c.requires.settled c.in-Some.ensures.some.whole).owes
 
 pub returns-in-Idle-clause-undone : goal.returns-in-Idle-clause-undone
-returns-in-Idle-clause-undone c = (idle c.self.inside.owing c.args.self.now c.in-Some.ledger.now c.self.view_is c.in-Some.ensures.some c.self.invariant.few c.requires.settled c.in-Some.ensures.some.whole).undone
+returns-in-Idle-clause-undone c = (idle c.self.inside.owing c.args.self.now c.in-Some.ledger.now c.self.view_is c.in-Some.ensures.some c.self.invariant.brought c.requires.settled c.in-Some.ensures.some.whole).undone
 
 pub returns-in-Idle-clause-legal : goal.returns-in-Idle-clause-legal
-returns-in-Idle-clause-legal c = (idle c.self.inside.owing c.args.self.now c.in-Some.ledger.now c.self.view_is c.in-Some.ensures.some c.self.invariant.few c.requires.settled c.in-Some.ensures.some.whole).legal
+returns-in-Idle-clause-legal c = (idle c.self.inside.owing c.args.self.now c.in-Some.ledger.now c.self.view_is c.in-Some.ensures.some c.self.invariant.brought c.requires.settled c.in-Some.ensures.some.whole).legal
 
 pub returns-in-Idle-clause-settled : goal.returns-in-Idle-clause-settled
-returns-in-Idle-clause-settled c = (idle c.self.inside.owing c.args.self.now c.in-Some.ledger.now c.self.view_is c.in-Some.ensures.some c.self.invariant.few c.requires.settled c.in-Some.ensures.some.whole).settled
+returns-in-Idle-clause-settled c = (idle c.self.inside.owing c.args.self.now c.in-Some.ledger.now c.self.view_is c.in-Some.ensures.some c.self.invariant.brought c.requires.settled c.in-Some.ensures.some.whole).settled
 
 pub returns-in-Spent-clause-answer : goal.returns-in-Spent-clause-answer
 returns-in-Spent-clause-answer c =
@@ -107,16 +107,16 @@ returns-in-Spent-clause-answer c =
     answers c.args.self.now c.args.batcher m (moment_for c.args.self.now.past c.args.moment) (decision.Spent) f same
 
 pub returns-in-Spent-clause-owes : goal.returns-in-Spent-clause-owes
-returns-in-Spent-clause-owes c = (idle c.self.inside.owing c.args.self.now c.in-Some.ledger.now c.self.view_is c.in-Some.ensures.some c.self.invariant.few c.requires.settled c.in-Some.ensures.some.whole).owes
+returns-in-Spent-clause-owes c = (idle c.self.inside.owing c.args.self.now c.in-Some.ledger.now c.self.view_is c.in-Some.ensures.some c.self.invariant.brought c.requires.settled c.in-Some.ensures.some.whole).owes
 
 pub returns-in-Spent-clause-undone : goal.returns-in-Spent-clause-undone
-returns-in-Spent-clause-undone c = (idle c.self.inside.owing c.args.self.now c.in-Some.ledger.now c.self.view_is c.in-Some.ensures.some c.self.invariant.few c.requires.settled c.in-Some.ensures.some.whole).undone
+returns-in-Spent-clause-undone c = (idle c.self.inside.owing c.args.self.now c.in-Some.ledger.now c.self.view_is c.in-Some.ensures.some c.self.invariant.brought c.requires.settled c.in-Some.ensures.some.whole).undone
 
 pub returns-in-Spent-clause-legal : goal.returns-in-Spent-clause-legal
-returns-in-Spent-clause-legal c = (idle c.self.inside.owing c.args.self.now c.in-Some.ledger.now c.self.view_is c.in-Some.ensures.some c.self.invariant.few c.requires.settled c.in-Some.ensures.some.whole).legal
+returns-in-Spent-clause-legal c = (idle c.self.inside.owing c.args.self.now c.in-Some.ledger.now c.self.view_is c.in-Some.ensures.some c.self.invariant.brought c.requires.settled c.in-Some.ensures.some.whole).legal
 
 pub returns-in-Spent-clause-settled : goal.returns-in-Spent-clause-settled
-returns-in-Spent-clause-settled c = (idle c.self.inside.owing c.args.self.now c.in-Some.ledger.now c.self.view_is c.in-Some.ensures.some c.self.invariant.few c.requires.settled c.in-Some.ensures.some.whole).settled
+returns-in-Spent-clause-settled c = (idle c.self.inside.owing c.args.self.now c.in-Some.ledger.now c.self.view_is c.in-Some.ensures.some c.self.invariant.brought c.requires.settled c.in-Some.ensures.some.whole).settled
 
 pub returns-in-Finished-clause-answer : goal.returns-in-Finished-clause-answer
 returns-in-Finished-clause-answer c =
@@ -127,13 +127,13 @@ returns-in-Finished-clause-answer c =
     answers c.args.self.now c.args.batcher m (moment_for c.args.self.now.past c.args.moment) (decision.Finished) f same
 
 pub returns-in-Finished-clause-owes : goal.returns-in-Finished-clause-owes
-returns-in-Finished-clause-owes c = (idle c.self.inside.owing c.args.self.now c.in-Some.ledger.now c.self.view_is c.in-Some.ensures.some c.self.invariant.few c.requires.settled c.in-Some.ensures.some.whole).owes
+returns-in-Finished-clause-owes c = (idle c.self.inside.owing c.args.self.now c.in-Some.ledger.now c.self.view_is c.in-Some.ensures.some c.self.invariant.brought c.requires.settled c.in-Some.ensures.some.whole).owes
 
 pub returns-in-Finished-clause-undone : goal.returns-in-Finished-clause-undone
-returns-in-Finished-clause-undone c = (idle c.self.inside.owing c.args.self.now c.in-Some.ledger.now c.self.view_is c.in-Some.ensures.some c.self.invariant.few c.requires.settled c.in-Some.ensures.some.whole).undone
+returns-in-Finished-clause-undone c = (idle c.self.inside.owing c.args.self.now c.in-Some.ledger.now c.self.view_is c.in-Some.ensures.some c.self.invariant.brought c.requires.settled c.in-Some.ensures.some.whole).undone
 
 pub returns-in-Finished-clause-legal : goal.returns-in-Finished-clause-legal
-returns-in-Finished-clause-legal c = (idle c.self.inside.owing c.args.self.now c.in-Some.ledger.now c.self.view_is c.in-Some.ensures.some c.self.invariant.few c.requires.settled c.in-Some.ensures.some.whole).legal
+returns-in-Finished-clause-legal c = (idle c.self.inside.owing c.args.self.now c.in-Some.ledger.now c.self.view_is c.in-Some.ensures.some c.self.invariant.brought c.requires.settled c.in-Some.ensures.some.whole).legal
 
 pub returns-in-Finished-clause-settled : goal.returns-in-Finished-clause-settled
-returns-in-Finished-clause-settled c = (idle c.self.inside.owing c.args.self.now c.in-Some.ledger.now c.self.view_is c.in-Some.ensures.some c.self.invariant.few c.requires.settled c.in-Some.ensures.some.whole).settled
+returns-in-Finished-clause-settled c = (idle c.self.inside.owing c.args.self.now c.in-Some.ledger.now c.self.view_is c.in-Some.ensures.some c.self.invariant.brought c.requires.settled c.in-Some.ensures.some.whole).settled
