@@ -1,0 +1,3 @@
+pub mod WorkedHistories
+pub mod WorkedNext
+pub mod WorkedArrivals

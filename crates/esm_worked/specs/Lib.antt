@@ -1,0 +1,4 @@
+pub mod Decided
+pub mod WorkedHistories
+pub mod WorkedNext
+pub mod WorkedArrivals
