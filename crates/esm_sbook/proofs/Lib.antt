@@ -1,0 +1,10 @@
+pub mod Entries
+pub mod Tellings
+pub mod Records
+pub mod Bringing
+pub mod Deciding
+pub mod Going
+pub mod Endings
+pub mod Noting
+pub mod Standing
+pub mod Founds
