@@ -1,7 +1,6 @@
 -- What the program's first three words name: the folder, the functions, the door. This product's own.
-use Rattle.std.specs.Prelude.{◌≡◌, ◌≢◌, ◌<◌, ◌≤◌, ℕ, Bool, true, not, List, [], ◌∷◌, ◌++◌, codes}
+use Rattle.std.specs.Prelude.{◌≡◌, ◌≢◌, ◌<◌, ◌≤◌, ℕ, List, ◌∷◌, ◌++◌, codes}
 use Rattle.std.specs.Fmt.{decimal}
-use Rattle.std.specs.Str.{bytes_eq}
 use Rattle.esm.specs.declared.functions.Functions.{Functions}
 use Rattle.esm.specs.declared.functions.Functions.TheVariants.{Succeed, Poison, Port}
 use Rattle.esm.specs.declared.opening.Folder.{Folder}
@@ -18,15 +17,6 @@ abbrev pub IsFolder : List ℕ → Folder → Type 0
 IsFolder word Memory = word ≡ codes "-"
 IsFolder word (Files path) = (word ≡ path.now) × (word ≢ codes "-")
 
--- until `run` opens the journal it takes no folder of files
-abbrev pub is_not_run : List (List ℕ) → Bool
-is_not_run [] = true
-is_not_run (name ∷ words) = not (bytes_eq name (codes "run"))
-
-abbrev pub is_built_there : Folder → List (List ℕ) → Bool
-is_built_there Memory command = true
-is_built_there (Files path) command = is_not_run command
-
 -- this folder, these functions, a door's port from 0 to 65535 without a leading zero, and the words of the command
 pub record Opens (words : List (List ℕ)) (folder : Folder) (functions : Functions) (door : ℕ) (command : List (List ℕ)) : Type 0 where
   pub first : List ℕ
@@ -35,7 +25,6 @@ pub record Opens (words : List (List ℕ)) (folder : Folder) (functions : Functi
   pub folder_is : IsFolder first folder
   pub named : Names called functions
   pub door_fits : door ≤ 65535
-  pub built : is_built_there folder command ≡ true
 
 -- the words name nothing
 abbrev pub IsRefused : List (List ℕ) → Type 0

@@ -1,6 +1,6 @@
 ghost use Rattle.std.specs.Prelude.{◌≡◌, ℕ, List, map, IfSome, IfNone};
 ghost use Rattle.std.specs.String.{string_bytes};
-ghost use Rattle.esm.specs.Opening.{Opens, IsRefused, IsFolder, is_built_there};
+ghost use Rattle.esm.specs.Opening.{Opens, IsRefused, IsFolder};
 
 use crate::functions::{Functions, port, read_functions};
 
@@ -34,18 +34,8 @@ fn read_folder(word: &str) -> Folder<'_>
     }
 }
 
-/// Whether the command is built over this folder: until `run` opens the journal it takes no folder of files.
-fn is_built_there(folder: Folder<'_>, command: &[String]) -> bool
-    ensures { result ≡ is_built_there folder.entry (map string_bytes command.now) }
-{
-    match (folder, command.first()) {
-        (Folder::Files(_), Some(name)) => name.as_str() != "run",
-        _ => true,
-    }
-}
-
 /// Reads the folder, the functions and the door.
-/// `None` where one of the three words is missing or of another form, or the command is not built over the folder.
+/// `None` where one of the three words is missing or of another form.
 pub fn read_opening(words: &[String]) -> Option<Opening<'_>>
     ensures some { IfSome result (λ opening. Opens (map string_bytes words.now) opening.folder opening.functions
         opening.door (map string_bytes opening.command.now)) }
@@ -55,9 +45,6 @@ pub fn read_opening(words: &[String]) -> Option<Opening<'_>>
     let (called, words) = words.split_first()?;
     let (door, command) = words.split_first()?;
     let folder = read_folder(folder.as_str());
-    if !is_built_there(folder, command) {
-        return None;
-    }
     let door = port(door.as_str())?;
     let functions = read_functions(called.as_str())?;
     Some(Opening {

@@ -13,8 +13,10 @@ use Rattle.esm_model.specs.Fates.{fate_count}
 use Rattle.esm_model.specs.Checkpoint.{checkpoint}
 use Rattle.esm_model.specs.Numbers.{decimal}
 use Rattle.esm_model.specs.EventText.{shard_id}
+use Rattle.esm_model.specs.declared.book.Change.{Change}
+use Rattle.esm_init.specs.Text.{file_name}
 use Rattle.esm_report.specs.declared.ending.Ending.{Ending}
-use Rattle.esm_report.specs.declared.ending.Ending.TheVariants.{Done, CallsSpent, BadWords, BadLine, InputFault, UnknownMapping, DisabledMapping, BadParameter, Limit}
+use Rattle.esm_report.specs.declared.ending.Ending.TheVariants.{Done, CallsSpent, BadWords, BadLine, InputFault, DiskFault, OpenFault, DestFault, NotAJournal, Damaged, BadPayload, StreamChanged, UnknownMapping, DisabledMapping, BadParameter, Limit}
 use Rattle.esm_report.specs.declared.ending.LimitName.{LimitName}
 use Rattle.esm_report.specs.declared.ending.LimitName.TheVariants.{Records, Bytes, Shards, Lanes}
 
@@ -60,6 +62,19 @@ limit_name Bytes = codes "bytes"
 limit_name Shards = codes "shards"
 limit_name Lanes = codes "lanes"
 
+-- a record's place in the stream
+abbrev pub place_part : ℕ → ℕ → List ℕ
+place_part n i = shard_id n ++ codes " place " ++ decimal i
+
+-- the text that the journal kept of a record, and the one that stands in the stream
+abbrev pub texts_part : List ℕ → List ℕ → List ℕ
+texts_part kept given = codes " kept " ++ kept ++ codes " given " ++ given
+
+-- a record that stands in the stream with another text than the journal kept of it
+abbrev pub change_text : Change → List ℕ
+change_text change =
+    codes "stream changed " ++ place_part change.shard change.place ++ texts_part change.kept change.given
+
 -- how the run ended
 abbrev pub ending_text : Ending → List ℕ
 ending_text Done = codes "done"
@@ -67,6 +82,13 @@ ending_text CallsSpent = codes "calls spent"
 ending_text BadWords = codes "bad words"
 ending_text (BadLine number why) = codes "bad line " ++ decimal number ++ codes ": " ++ why
 ending_text InputFault = codes "input fault"
+ending_text DiskFault = codes "disk fault"
+ending_text OpenFault = codes "disk fault"
+ending_text DestFault = codes "destination fault"
+ending_text (NotAJournal file) = codes "not a journal " ++ file_name file
+ending_text (Damaged file place) = codes "damaged " ++ file_name file ++ codes " " ++ decimal place
+ending_text (BadPayload file index) = codes "bad payload " ++ file_name file ++ codes " " ++ decimal index
+ending_text (StreamChanged change) = change_text change
 ending_text UnknownMapping = codes "unknown mapping"
 ending_text DisabledMapping = codes "disabled mapping"
 ending_text (BadParameter name) = codes "bad parameter " ++ name
@@ -75,9 +97,13 @@ ending_text (Limit name) = codes "limit " ++ limit_name name
 abbrev pub last_line : Ending → List ℕ
 last_line ending = line (ending_text ending)
 
--- the run was refused before it began, so there is nothing else to tell
+-- nothing ran, so there is nothing else to tell
 abbrev pub stands_alone : Ending → Bool
 stands_alone BadWords = true
+stands_alone OpenFault = true
+stands_alone (NotAJournal file) = true
+stands_alone (Damaged file place) = true
+stands_alone (BadPayload file index) = true
 stands_alone UnknownMapping = true
 stands_alone DisabledMapping = true
 stands_alone (BadParameter name) = true

@@ -1,6 +1,7 @@
 -- What a history comes to, shard by shard, and the lines that tell of it.
-use Rattle.std.specs.Prelude.{ℕ, ◌≡◌, List, ◌++◌, codes, length, get_or, filter, take_while, is_some, Option, Some, None}
+use Rattle.std.specs.Prelude.{ℕ, ◌≡◌, List, ◌++◌, codes, length, get_or, filter, take_while, is_some, Option, Some, None, option_map}
 use Rattle.std.specs.List.{flat_map}
+use Rattle.std.specs.Option.{option_copied, option_or}
 use Rattle.std.specs.Ordering.{nat_cmp}
 use Rattle.std.specs.Map.{count_at}
 use Rattle.std.specs.BTreeMap as map
@@ -10,15 +11,30 @@ use Rattle.esm_model.specs.declared.entry.Fate.TheVariants.{Succeeded, Filtered,
 use Rattle.esm_model.specs.declared.entry.Entry.{Entry}
 use Rattle.esm_model.specs.Entries.{holds, came_count, shards_that_came}
 use Rattle.esm_model.specs.Fates.{below, given, is_fate}
+use Rattle.esm_model.specs.declared.setup.FoundFate.{FoundFate}
 use Rattle.esm_model.specs.Numbers.{decimal}
 use Rattle.esm_model.specs.EventText.{shard_id}
+use Rattle.esm_said.specs.SaidLists.{SaidLists, fate_told}
 use Rattle.esm_report.specs.Report.{line, rising}
+use Rattle.esm_report.specs.declared.shard.ShardFates.{ShardFates}
 use Rattle.esm_report.specs.declared.totals.Totals.{Totals}
 
 -- the fate of the place by a list of fates by place, if there is one
 abbrev pub fate_at : Option (List (Option Fate)) → ℕ → Option Fate
 fate_at None i = None
 fate_at (Some fates) i = get_or fates i None
+
+-- the fate of the shard's place that the journal told, if there is one
+abbrev pub fate_found : SaidLists → ℕ → ℕ → Option Fate
+fate_found said n i = option_map (λ (f : FoundFate). f.fate) (fate_told said n i)
+
+-- the found fate of the shard's place, else that by the list
+abbrev pub fate_of : SaidLists → Option (List (Option Fate)) → ℕ → ℕ → Option Fate
+fate_of said fates n i = option_or (fate_found said n i) (fate_at fates i)
+
+-- the fates of a shard by place
+abbrev pub place_fate : ShardFates → ℕ → Option Fate
+place_fate f = fate_of f.found.now (option_copied f.given) f.shard
 
 -- the totals of a history: the shards that came, the number of records that came of each, and the fates of its places
 pub record IsTotal (t : Totals) (h : List Entry) : Type 0 where
@@ -52,8 +68,9 @@ numbers_part n count front =
 unfoldable pub count_text : ℕ → ℕ → (ℕ → Option Fate) → List ℕ
 count_text n count fates = numbers_part n count (front_count count fates) ++ counts_part count fates
 
-unfoldable pub total_line : Totals → ℕ → List ℕ
-total_line t n = line (count_text n (count_at (map.get nat_cmp t.records) n) (fate_at (map.get nat_cmp t.fates n)))
+-- the line of a shard, by what the journal told and what the history came to
+unfoldable pub total_line : SaidLists → Totals → ℕ → List ℕ
+total_line said t n = line (count_text n (count_at (map.get nat_cmp t.records) n) (fate_of said (map.get nat_cmp t.fates n) n))
 
-abbrev pub total_lines : Totals → List ℕ
-total_lines t = flat_map (total_line t) t.shards.keys
+abbrev pub total_lines : SaidLists → Totals → List ℕ
+total_lines said t = flat_map (total_line said t) t.shards.keys

@@ -1,4 +1,6 @@
-use esm_model::Text;
+// The endings of a run.
+use esm_init::FileName;
+use esm_model::{Change, Text};
 
 /// A limit of the engine that an input went past: records, bytes of records, shards, or lanes.
 #[derive(Clone, Copy, Debug, PartialEq, Eq)]
@@ -9,7 +11,7 @@ pub enum LimitName {
     Lanes,
 }
 
-/// How the run of a stream's mapping ended.
+/// How the run of a stream's mapping ended, or why nothing ran.
 #[derive(Drop, Debug)]
 pub enum Ending {
     /// All that came has its fate.
@@ -22,6 +24,20 @@ pub enum Ending {
     BadLine { number: u64, why: Text },
     /// The input failed.
     InputFault,
+    /// A disk of the journal failed in the run.
+    DiskFault,
+    /// A disk failed while the files were opened; nothing ran.
+    OpenFault,
+    /// The failure destination failed in the run.
+    DestFault,
+    /// The file is no journal; nothing ran.
+    NotAJournal { file: FileName },
+    /// The file is damaged at this place, in bytes from its start; nothing ran.
+    Damaged { file: FileName, place: u64 },
+    /// The file's payload with this index, counted from 0, is the first that no book could have written; nothing ran.
+    BadPayload { file: FileName, index: u32 },
+    /// A record stands in the stream with another text than the journal kept of it.
+    StreamChanged(Change),
     /// The registry has no such mapping; nothing ran.
     UnknownMapping,
     /// The mapping is disabled; nothing ran.

@@ -1,9 +1,7 @@
 // The fates that a history gave to the places of one shard.
-ghost use Rattle.std.specs.Prelude.{◌≡◌, ℕ, ◌<◌, ◌^◌, ◌==◌, [], Some, None, length, get_or, filter, OnOk, if◌then◌else◌};
-ghost use Rattle.std.specs.Option.{option_copied, option_or};
+ghost use Rattle.std.specs.Prelude.{◌≡◌, ℕ, ◌<◌, ◌^◌, ◌==◌, [], Some, None, length, get_or, OnOk, if◌then◌else◌};
+ghost use Rattle.std.specs.Option.{option_or};
 ghost use Rattle.esm_model.specs.Entries.{holds};
-ghost use Rattle.esm_model.specs.Fates.{below, is_fate};
-ghost use Rattle.esm_report.specs.Totals.{fate_at, front_count};
 
 use esm_model::{Fate, OutOfMemory, Places};
 use std::alloc::Global;
@@ -67,7 +65,8 @@ impl Fates {
         Ok(())
     }
 
-    fn get(&self, place: u64) -> Option<Fate>
+    /// The fate of the place.
+    pub(crate) fn get(&self, place: u32) -> Option<Fate>
         ensures { result ≡ get_or self.now place None }
     {
         match self.fates.get(place as usize) {
@@ -75,50 +74,4 @@ impl Fates {
             Some(fate) => *fate,
         }
     }
-}
-
-fn fate_at(fates: Option<&Fates>, place: u64) -> Option<Fate>
-    ensures { result ≡ fate_at (option_copied fates.entry) place }
-{
-    match fates {
-        None => None,
-        Some(fates) => fates.get(place),
-    }
-}
-
-fn is_fate(fate: Fate, given: Option<Fate>) -> bool
-    ensures { result ≡ is_fate fate given }
-{
-    match (fate, given) {
-        (Fate::Succeeded, Some(Fate::Succeeded)) => true,
-        (Fate::Filtered, Some(Fate::Filtered)) => true,
-        (Fate::Expired, Some(Fate::Expired)) => true,
-        (Fate::Exhausted, Some(Fate::Exhausted)) => true,
-        _ => false,
-    }
-}
-
-/// How many of the first places have this fate.
-pub(crate) fn count(fates: Option<&Fates>, records: u64, fate: Fate) -> u64
-    ensures { result ≡ length (filter (λ i. is_fate fate (fate_at (option_copied fates.entry) i)) (below records)) }
-{
-    let mut total = 0;
-    for place in 0..records {
-        if is_fate(fate, fate_at(fates, place)) {
-            total += 1;
-        }
-    }
-    total
-}
-
-/// The length of the longest prefix of the first places in which each has a fate.
-pub(crate) fn checkpoint(fates: Option<&Fates>, records: u64) -> u64
-    ensures { result ≡ front_count records (fate_at (option_copied fates.entry)) }
-{
-    for place in 0..records {
-        if fate_at(fates, place).is_none() {
-            return place;
-        }
-    }
-    records
 }

@@ -1,44 +1,66 @@
 // The report of a stream's run.
-ghost use Rattle.std.specs.Prelude.{◌≡◌, ◌++◌, [], codes, reverse, IfOk, OnOk};
-ghost use Rattle.std.specs.Option.{option_copied};
+ghost use Rattle.std.specs.Prelude.{◌≡◌, ◌++◌, List, true, codes, reverse, IfOk, OnOk};
+ghost use Rattle.esm_model.specs.declared.entry.Entry.{Entry};
 ghost use Rattle.esm_model.specs.Setting.{Setting};
 ghost use Rattle.esm_model.specs.Entries.{calls_begun};
 ghost use Rattle.esm_model.specs.Numbers.{decimal};
-ghost use Rattle.esm_report.specs.Report.{report_text, shard_lines, calls_text, line, limit_name, last_line, ending_text, stands_alone};
-ghost use Rattle.esm_report.specs.Totals.{fate_at, numbers_part, count_part, counts_part, count_text, total_line, total_lines};
+ghost use Rattle.esm_init.specs.Text.{file_name};
+ghost use Rattle.esm_report.specs.Report.{report_text, shard_lines, calls_text, line, limit_name, place_part, texts_part, change_text, last_line, ending_text, stands_alone};
+ghost use Rattle.esm_report.specs.Totals.{place_fate, numbers_part, count_part, counts_part, count_text, total_line, total_lines};
 
 use crate::ending::{Ending, LimitName};
-use crate::fates::{Fates, checkpoint, count};
+use crate::shard::ShardFates;
 use crate::totals::{Totals, records_of, totals_of};
 use esm_event::bytes::push_bytes;
 use esm_event::digits::push_decimal;
 use esm_event::record::push_shard_id;
-use esm_model::{Entry, Fate, OutOfMemory, Text};
+use esm_init::FileName;
+use esm_model::{Change, Entry, Fate, OutOfMemory, Text};
+use esm_said::Says;
 use std::alloc::Global;
 
-/// The report of a run whose history is `trace`, the oldest entry first, and that ended so, where no fate was found in
-/// a journal. Linear in the entries, the places that they name and the records that came, but for the logarithm of
-/// the number of shards.
-pub fn report(alloc: Global, trace: &[Entry], ending: &Ending) -> Result<Vec<u8>, OutOfMemory>
-    ensures { IfOk result (λ text. (s : Setting) → s.fates ≡ []
+/// The report of a run whose history is `trace`, the oldest entry first, and that ended so, where the journal said
+/// `said` at the run's opening. Linear in the entries, the places that they name and the records that came, but for
+/// the logarithms of the number of shards and of the number of found fates.
+pub fn report(
+    alloc: Global,
+    said: &Says,
+    trace: &[Entry],
+    ending: &Ending,
+) -> Result<Vec<u8>, OutOfMemory>
+    ensures { IfOk result (λ text. (s : Setting) → s.fates ≡ said.now.fates
         → text.items ≡ report_text s (reverse trace.now) ending.now) }
 {
-    let mut out = Vec::new(alloc);
     if stands_alone(ending) {
-        push_ending(&mut out, ending)?;
-        return Ok(out);
+        return last_line(alloc, ending);
     }
-    push_history(alloc, &mut out, trace)?;
+    let mut out = Vec::new(alloc);
+    push_history(alloc, &mut out, said, trace)?;
     push_ending(&mut out, ending)?;
     Ok(out)
 }
 
-fn push_history(alloc: Global, out: &mut Vec<u8>, trace: &[Entry]) -> Result<(), OutOfMemory>
-    ensures { OnOk result ((s : Setting) → s.fates ≡ [] → out.new.items ≡ out.old.items
+/// The report where nothing ran: the last line alone.
+pub fn last_line(alloc: Global, ending: &Ending) -> Result<Vec<u8>, OutOfMemory>
+    requires { stands_alone ending.now ≡ true }
+    ensures { IfOk result (λ text. (s : Setting) (h : List Entry) → text.items ≡ report_text s h ending.now) }
+{
+    let mut text = Vec::new(alloc);
+    push_ending(&mut text, ending)?;
+    Ok(text)
+}
+
+fn push_history(
+    alloc: Global,
+    out: &mut Vec<u8>,
+    said: &Says,
+    trace: &[Entry],
+) -> Result<(), OutOfMemory>
+    ensures { OnOk result ((s : Setting) → s.fates ≡ said.now.fates → out.new.items ≡ out.old.items
         ++ shard_lines s (reverse trace.now) ++ line (calls_text (reverse trace.now))) }
 {
     let totals = totals_of(alloc, trace)?;
-    push_totals(out, &totals)?;
+    push_totals(out, said, &totals)?;
     push_calls(out, calls_begun(trace))?;
     Ok(())
 }
@@ -48,6 +70,10 @@ fn stands_alone(ending: &Ending) -> bool
 {
     match ending {
         Ending::BadWords
+        | Ending::OpenFault
+        | Ending::NotAJournal { .. }
+        | Ending::Damaged { .. }
+        | Ending::BadPayload { .. }
         | Ending::UnknownMapping
         | Ending::DisabledMapping
         | Ending::BadParameter { .. } => true,
@@ -55,22 +81,31 @@ fn stands_alone(ending: &Ending) -> bool
     }
 }
 
-fn push_totals(out: &mut Vec<u8>, totals: &Totals) -> Result<(), OutOfMemory>
-    ensures { OnOk result (out.new.items ≡ out.old.items ++ total_lines totals.now) }
+fn push_totals(out: &mut Vec<u8>, said: &Says, totals: &Totals) -> Result<(), OutOfMemory>
+    ensures { OnOk result (out.new.items ≡ out.old.items ++ total_lines said.now totals.now) }
 {
     for shard in &totals.shards {
-        push_shard(out, totals, *shard)?;
+        push_shard(out, said, totals, *shard)?;
     }
     Ok(())
 }
 
 #[tactic(auto, unfolding(crate::specs::Totals::total_line))]
-fn push_shard(out: &mut Vec<u8>, totals: &Totals, shard: u64) -> Result<(), OutOfMemory>
-    ensures { OnOk result (out.new.items ≡ out.old.items ++ total_line totals.now shard) }
+fn push_shard(
+    out: &mut Vec<u8>,
+    said: &Says,
+    totals: &Totals,
+    shard: u64,
+) -> Result<(), OutOfMemory>
+    ensures { OnOk result (out.new.items ≡ out.old.items ++ total_line said.now totals.now shard) }
 {
     let records = records_of(&totals.records, shard);
-    let fates = totals.fates.get(&shard);
-    push_shard_text(out, shard, records, fates)?;
+    let fates = ShardFates {
+        shard,
+        found: said,
+        given: totals.fates.get(&shard),
+    };
+    push_shard_text(out, &fates, records)?;
     push_bytes(out, b"\n")?;
     Ok(())
 }
@@ -78,14 +113,13 @@ fn push_shard(out: &mut Vec<u8>, totals: &Totals, shard: u64) -> Result<(), OutO
 #[tactic(auto, unfolding(crate::specs::Totals::count_text))]
 fn push_shard_text(
     out: &mut Vec<u8>,
-    shard: u64,
-    records: u64,
-    fates: Option<&Fates>,
+    fates: &ShardFates<'_>,
+    records: u32,
 ) -> Result<(), OutOfMemory>
     ensures { OnOk result (out.new.items
-        ≡ out.old.items ++ count_text shard records (fate_at (option_copied fates.entry))) }
+        ≡ out.old.items ++ count_text fates.now.shard records (place_fate fates.now)) }
 {
-    push_numbers(out, shard, records, checkpoint(fates, records))?;
+    push_numbers(out, fates.shard, records, fates.checkpoint(records))?;
     push_counts(out, fates, records)?;
     Ok(())
 }
@@ -93,23 +127,22 @@ fn push_shard_text(
 fn push_numbers(
     out: &mut Vec<u8>,
     shard: u64,
-    records: u64,
-    checkpoint: u64,
+    records: u32,
+    checkpoint: u32,
 ) -> Result<(), OutOfMemory>
     ensures { OnOk result (out.new.items ≡ out.old.items ++ numbers_part shard records checkpoint) }
 {
     push_bytes(out, b"shard ")?;
     push_shard_id(out, shard)?;
     push_bytes(out, b" records ")?;
-    push_decimal(out, records)?;
+    push_decimal(out, records as u64)?;
     push_bytes(out, b" checkpoint ")?;
-    push_decimal(out, checkpoint)?;
+    push_decimal(out, checkpoint as u64)?;
     Ok(())
 }
 
-fn push_counts(out: &mut Vec<u8>, fates: Option<&Fates>, records: u64) -> Result<(), OutOfMemory>
-    ensures { OnOk result (out.new.items
-        ≡ out.old.items ++ counts_part records (fate_at (option_copied fates.entry))) }
+fn push_counts(out: &mut Vec<u8>, fates: &ShardFates<'_>, records: u32) -> Result<(), OutOfMemory>
+    ensures { OnOk result (out.new.items ≡ out.old.items ++ counts_part records (place_fate fates.now)) }
 {
     push_count(out, b"succeeded", fates, records, Fate::Succeeded)?;
     push_count(out, b"filtered", fates, records, Fate::Filtered)?;
@@ -121,17 +154,17 @@ fn push_counts(out: &mut Vec<u8>, fates: Option<&Fates>, records: u64) -> Result
 fn push_count(
     out: &mut Vec<u8>,
     word: &[u8],
-    fates: Option<&Fates>,
-    records: u64,
+    fates: &ShardFates<'_>,
+    records: u32,
     fate: Fate,
 ) -> Result<(), OutOfMemory>
     ensures { OnOk result (out.new.items
-        ≡ out.old.items ++ count_part word.now fate records (fate_at (option_copied fates.entry))) }
+        ≡ out.old.items ++ count_part word.now fate records (place_fate fates.now)) }
 {
     push_bytes(out, b" ")?;
     push_bytes(out, word)?;
     push_bytes(out, b" ")?;
-    push_decimal(out, count(fates, records, fate))?;
+    push_decimal(out, fates.count(records, fate) as u64)?;
     Ok(())
 }
 
@@ -174,6 +207,13 @@ fn push_ending_text(out: &mut Vec<u8>, ending: &Ending) -> Result<(), OutOfMemor
         Ending::BadWords => push_bytes(out, b"bad words"),
         Ending::BadLine { number, why } => push_bad_line(out, *number, why),
         Ending::InputFault => push_bytes(out, b"input fault"),
+        Ending::DiskFault => push_bytes(out, b"disk fault"),
+        Ending::OpenFault => push_bytes(out, b"disk fault"),
+        Ending::DestFault => push_bytes(out, b"destination fault"),
+        Ending::NotAJournal { file } => push_not_a_journal(out, *file),
+        Ending::Damaged { file, place } => push_damaged(out, *file, *place),
+        Ending::BadPayload { file, index } => push_bad_payload(out, *file, *index),
+        Ending::StreamChanged(change) => push_change(out, change),
         Ending::UnknownMapping => push_bytes(out, b"unknown mapping"),
         Ending::DisabledMapping => push_bytes(out, b"disabled mapping"),
         Ending::BadParameter { name } => push_parameter(out, name),
@@ -189,6 +229,64 @@ fn push_bad_line(out: &mut Vec<u8>, number: u64, why: &Text) -> Result<(), OutOf
     push_decimal(out, number)?;
     push_bytes(out, b": ")?;
     push_bytes(out, why.as_slice())?;
+    Ok(())
+}
+
+fn push_not_a_journal(out: &mut Vec<u8>, file: FileName) -> Result<(), OutOfMemory>
+    ensures { OnOk result (out.new.items ≡ out.old.items ++ codes "not a journal " ++ file_name file) }
+{
+    push_bytes(out, b"not a journal ")?;
+    push_bytes(out, file.name().as_bytes())?;
+    Ok(())
+}
+
+fn push_damaged(out: &mut Vec<u8>, file: FileName, place: u64) -> Result<(), OutOfMemory>
+    ensures { OnOk result (out.new.items
+        ≡ out.old.items ++ codes "damaged " ++ file_name file ++ codes " " ++ decimal place) }
+{
+    push_bytes(out, b"damaged ")?;
+    push_bytes(out, file.name().as_bytes())?;
+    push_bytes(out, b" ")?;
+    push_decimal(out, place)?;
+    Ok(())
+}
+
+fn push_bad_payload(out: &mut Vec<u8>, file: FileName, index: u32) -> Result<(), OutOfMemory>
+    ensures { OnOk result (out.new.items
+        ≡ out.old.items ++ codes "bad payload " ++ file_name file ++ codes " " ++ decimal index) }
+{
+    push_bytes(out, b"bad payload ")?;
+    push_bytes(out, file.name().as_bytes())?;
+    push_bytes(out, b" ")?;
+    push_decimal(out, index as u64)?;
+    Ok(())
+}
+
+fn push_change(out: &mut Vec<u8>, change: &Change) -> Result<(), OutOfMemory>
+    ensures { OnOk result (out.new.items ≡ out.old.items ++ change_text change.now) }
+{
+    push_bytes(out, b"stream changed ")?;
+    push_place(out, change.shard, change.place)?;
+    push_texts(out, &change.kept, &change.given)?;
+    Ok(())
+}
+
+fn push_place(out: &mut Vec<u8>, shard: u64, place: u32) -> Result<(), OutOfMemory>
+    ensures { OnOk result (out.new.items ≡ out.old.items ++ place_part shard place) }
+{
+    push_shard_id(out, shard)?;
+    push_bytes(out, b" place ")?;
+    push_decimal(out, place as u64)?;
+    Ok(())
+}
+
+fn push_texts(out: &mut Vec<u8>, kept: &Text, given: &Text) -> Result<(), OutOfMemory>
+    ensures { OnOk result (out.new.items ≡ out.old.items ++ texts_part kept.now given.now) }
+{
+    push_bytes(out, b" kept ")?;
+    push_bytes(out, kept.as_slice())?;
+    push_bytes(out, b" given ")?;
+    push_bytes(out, given.as_slice())?;
     Ok(())
 }
 

@@ -17,7 +17,7 @@ use std::collections::{BTreeMap, BTreeSet};
 #[derive(Drop)]
 pub(crate) struct Totals {
     pub shards: BTreeSet<u64>,
-    pub records: BTreeMap<u64, u64>,
+    pub records: BTreeMap<u64, u32>,
     pub fates: BTreeMap<u64, Fates>,
 }
 
@@ -55,13 +55,14 @@ fn add(alloc: Global, totals: &mut Totals, entry: &Entry) -> Result<(), OutOfMem
     }
 }
 
-/// Counts that so many more records of the shard came; more of them than 64 bits count do not fit into memory.
-fn add_records(records: &mut BTreeMap<u64, u64>, shard: u64, count: u32) -> Result<(), OutOfMemory>
+/// Counts that so many more records of the shard came; more of them than 32 bits count, as places are, do not fit into
+/// memory.
+fn add_records(records: &mut BTreeMap<u64, u32>, shard: u64, count: u32) -> Result<(), OutOfMemory>
     ensures { OnOk result ((n : ℕ) → count_at (map.get nat_cmp records.new) n
         ≡ (if shard == n then count + count_at (map.get nat_cmp records.old) n else count_at (map.get nat_cmp records.old) n)) }
 {
     let before = records_of(records, shard);
-    let Some(after) = before.checked_add(count as u64) else {
+    let Some(after) = before.checked_add(count) else {
         return Err(OutOfMemory);
     };
     records.insert(shard, after)?;
@@ -69,7 +70,7 @@ fn add_records(records: &mut BTreeMap<u64, u64>, shard: u64, count: u32) -> Resu
 }
 
 /// The number of the shard's records that came.
-pub(crate) fn records_of(records: &BTreeMap<u64, u64>, shard: u64) -> u64
+pub(crate) fn records_of(records: &BTreeMap<u64, u32>, shard: u64) -> u32
     ensures { result ≡ count_at (map.get nat_cmp records.now) shard }
 {
     match records.get(&shard) {

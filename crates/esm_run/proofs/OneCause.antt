@@ -1,15 +1,13 @@
--- The causes of statuses exclude one another, where the input tells its bytes and neither it nor the output failed.
-use Rattle.std.proofs.Common.{◌≡◌, ℕ, Bool, true, false, List, [], refl, sym, ap, ◌∙◌, subst, inl, inr, Option, Some, None}
-use Rattle.std.specs.Prelude.{◌⊎◌, IsSome, is_some}
+-- The causes of statuses exclude one another, where no device failed.
+use Rattle.std.proofs.Common.{◌≡◌, ℕ, true, false, List, [], refl, sym, ap, ◌∙◌, subst, inl, inr, Option, Some, None}
+use Rattle.std.specs.Prelude.{◌⊎◌}
 use Rattle.serde_json.specs.Data.{Data}
 use Rattle.serde_json.specs.Read.{read}
 use Rattle.esm_io.specs.Faults.{Rose}
 use Rattle.esm_model.specs.Setup.{no_config}
-use Rattle.esm_model.specs.declared.called.Called.{Called}
 use Rattle.esm_model.specs.declared.config.Config.{Config}
 use Rattle.esm_model.specs.declared.entry.Entry.{Entry}
 use Rattle.esm_model.specs.Setting.{Setting}
-use Rattle.esm_model.specs.Fates.{fate}
 use Rattle.esm_cli.specs.declared.command.Command.{Command}
 use Rattle.esm_cli.specs.declared.command.Command.TheVariants.{Run, Serve}
 use Rattle.esm_cli.specs.declared.command.RunWords.{RunWords}
@@ -17,63 +15,26 @@ use Rattle.esm_cli.specs.declared.command.Which.{Which}
 use Rattle.esm_cli.specs.declared.command.Which.TheVariants.{Config as Text}
 use Rattle.esm_cli.specs.Words.{spells}
 use Rattle.esm_config.specs.Mapping.{config_of}
-use Rattle.esm_config.specs.Names.{name_of}
 use Rattle.esm_config.specs.declared.param.Param.{Param}
-use Rattle.esm_record.specs.declared.item.LineKind.{LineKind}
-use Rattle.esm_record.specs.Input.{input_so_far, input_of}
-use Rattle.esm_record.specs.GoesOn.{GoesOnFrom}
 use Rattle.esm_report.specs.declared.ending.Ending.{Ending}
 use Rattle.esm_report.specs.declared.ending.Ending.TheVariants as ending
-use Rattle.esm_run.specs.declared.input.InputEnd.{InputEnd}
 use Rattle.esm_run.specs.Built.{SpellsBuilt}
 use Rattle.esm_run.specs.Configured.{IsConfigured, refused_field}
-use Rattle.esm_run.specs.Endings.{ending_of, status_of, IsTold}
-use Rattle.esm_run.specs.Headline.{Read, AllFated, HasOpen, IsEnding, setting_of}
-use Rattle.esm_run.specs.Answers.{IsDisabled, IsRefused, IsRunOf, RunCause, RunOutcome, RunOrBadWords, Outcome, IsOverFiles, IsServer}
+use Rattle.esm_run.specs.Endings.{status_of, IsTold}
+use Rattle.esm_run.specs.Answers.{AreGoodFiles, HasRefusedFiles, IsDisabled, IsOverFiles, IsRefused, IsRunOf, IsServer, IsSoundRun, Outcome, Outside, RunCause, RunOrBadWords, RunOutcome, Seen}
 use Rattle.esm_run.specs.Tended.{command_of}
 use Rattle.esm_run.specs.Written.{Written}
 use Rattle.esm_run.specs.declared.tending.FilesCommand.{FilesCommand}
 use Rattle.esm_run.proofs.FilesCommands.{not_run, not_serve, same_files}
-use Rattle.esm_run.proofs.OneReading.{one_reading}
+use Rattle.esm_run.proofs.OneReading.{WholeGoesOn}
+use Rattle.esm_run.proofs.OneRefusal.{good_of_ready, refused_files}
+use Rattle.esm_run.proofs.OneRun.{one_run}
+use Rattle.esm_run.proofs.OneSetting.{SameTold}
 
--- the laws of the words and of the lines
+-- the law of the words
 
 abbrev pub OneCommand : Type 0
 OneCommand = (words : List (List ℕ)) (c d : Command) → spells words c → spells words d → c ≡ d
-
-abbrev pub WholeGoesOn : Type 0
-WholeGoesOn = (kind : LineKind) (bytes : List ℕ) → GoesOnFrom (input_so_far kind bytes) (input_of kind bytes)
-
--- a history over one setting, and one end of the reading, have one ending
-
-fated_or_open : (s : Setting) (h : List Entry) → HasOpen s h → AllFated s h → ⊥
-fated_or_open s h open' all = (let some : IsSome (fate s h open'.shard open'.place) = all open'.shard open'.place open'.came in let none : true ≡ false = sym some ∙ ap is_some open'.no_fate in cc)
-
-abbrev IsSpentOrDone : Setting → List Entry → InputEnd → Ending → Type 0
-IsSpentOrDone s h end e = ((e ≡ ending.CallsSpent) × HasOpen s h) ⊎ ((e ≡ ending_of end) × AllFated s h)
-
-spent_or_done : (s : Setting) (h : List Entry) (end : InputEnd) (e : Ending) → IsEnding s h end e → IsSpentOrDone s h end e
-spent_or_done s h end ending.CallsSpent is = inl (refl, is.open')
-spent_or_done s h end ending.Done is = inr is
-spent_or_done s h end ending.BadWords is = inr is
-spent_or_done s h end ending.UnknownMapping is = inr is
-spent_or_done s h end ending.DisabledMapping is = inr is
-spent_or_done s h end (ending.BadParameter name) is = inr is
-spent_or_done s h end (ending.BadLine number why) is = inr is
-spent_or_done s h end ending.InputFault is = inr is
-spent_or_done s h end (ending.Limit limit) is = inr is
-
-one_for_both : (s : Setting) (h : List Entry) (end : InputEnd) (e d : Ending) → IsSpentOrDone s h end e → IsSpentOrDone s h end d → e ≡ d
-one_for_both s h end e d (inl one) (inl other) = one.0 ∙ sym other.0
-one_for_both s h end e d (inl one) (inr other) = absurd (fated_or_open s h one.1 other.1)
-one_for_both s h end e d (inr one) (inl other) = absurd (fated_or_open s h other.1 one.1)
-one_for_both s h end e d (inr one) (inr other) = one.0 ∙ sym other.0
-
-one_ending : (s z : Setting) (h : List Entry) (x y : InputEnd) (e d : Ending) → s ≡ z → x ≡ y → IsEnding s h x e → IsEnding z h y d → e ≡ d
-one_ending s z h x y e d settings ends one other =
-    one_for_both z h y e d
-    (subst (λ end. IsSpentOrDone z h end e) ends (subst (λ t. IsSpentOrDone t h x e) settings (spent_or_done s h x e one)))
-    (spent_or_done z h y d other)
 
 -- the mapping's text, and the configuration that it gives
 
@@ -86,9 +47,6 @@ one_value o a b one other = cc
 one_config : (o : Option Config) (a b : Config) → o ≡ Some a → o ≡ Some b → a ≡ b
 one_config o a b one other = cc
 
-one_param : (o : Option Param) (a b : Param) → o ≡ Some a → o ≡ Some b → a ≡ b
-one_param o a b one other = cc
-
 accepted_or_refused : (o : Option Param) (a : Param) → o ≡ None → o ≡ Some a → ⊥
 accepted_or_refused o a one other = cc
 
@@ -97,81 +55,69 @@ same_config t u c d texts one other =
     let values : one.value ≡ other.value = one_value (read t) one.value other.value one.read (ap read texts ∙ other.read) in
     one_config (config_of one.value) c d one.fields (ap config_of values ∙ other.fields)
 
--- why the options of `run` ended
+-- why the options of `run` ended: a mapping ran over good files, or was refused or disabled, or the files were refused
 
-abbrev IsRefusedOrDisabled : RunWords → Ending → Type 0
-IsRefusedOrDisabled r e = ((name : List ℕ) × (e ≡ ending.BadParameter name) × IsRefused r name) ⊎ ((e ≡ ending.DisabledMapping) × IsDisabled r)
+-- the mapping is refused or disabled
+abbrev IsUnused : RunWords → Type 0
+IsUnused r = ((name : List ℕ) × IsRefused r name) ⊎ IsDisabled r
 
-abbrev IsRunOrRefused : {F : Type 0} → (ℕ → Bool) → (List ℕ → List ℕ) → (F → Option (List Called)) → RunWords → Read → List Entry → List F → List F → Setting → Ending → Type 0
-IsRunOrRefused gave sends log r input h old new s e = IsRunOf gave sends log r input h old new s e ⊎ IsRefusedOrDisabled r e
+abbrev HasUnused : {S D F : Type 0} → Outside S D F → RunWords → Seen S D F → Ending → Type 0
+HasUnused o r old e = AreGoodFiles o.run.disk old.disks × (status_of e ≡ 9) × IsUnused r
 
-run_or_refused : {F : Type 0} (gave : ℕ → Bool) (sends : List ℕ → List ℕ) (log : F → Option (List Called)) (r : RunWords) (input : Read) (h : List Entry) (old new : List F) (s : Setting) (e : Ending)
-    → RunCause gave sends log r input h old new s e → IsRunOrRefused gave sends log r input h old new s e
-run_or_refused gave sends log r input h old new s ending.BadWords cause = absurd cause
-run_or_refused gave sends log r input h old new s ending.UnknownMapping cause = absurd cause
-run_or_refused gave sends log r input h old new s ending.DisabledMapping cause = inr (inr (refl, cause.0))
-run_or_refused gave sends log r input h old new s (ending.BadParameter name) cause = inr (inl (name, refl, cause.0))
-run_or_refused gave sends log r input h old new s ending.Done cause = inl cause
-run_or_refused gave sends log r input h old new s ending.CallsSpent cause = inl cause
-run_or_refused gave sends log r input h old new s (ending.BadLine number why) cause = inl cause
-run_or_refused gave sends log r input h old new s ending.InputFault cause = inl cause
-run_or_refused gave sends log r input h old new s (ending.Limit limit) cause = inl cause
+abbrev IsCause : {S D F : Type 0} → Outside S D F → RunWords → List Entry → (old new : Seen S D F) → Setting → Ending → Type 0
+IsCause o r h old new s e = IsRunOf o r h old new s e ⊎ (HasUnused o r old e ⊎ HasRefusedFiles o.run.disk old new e)
 
-run_and_refused : {F : Type 0} (gave : ℕ → Bool) (sends : List ℕ → List ℕ) (log : F → Option (List Called)) (r : RunWords) (input : Read) (h : List Entry) (old new : List F) (s : Setting) (e : Ending) (name : List ℕ)
-    → IsRunOf gave sends log r input h old new s e → IsRefused r name → ⊥
-run_and_refused gave sends log r input h old new s e name run refused =
-    let texts : run.text ≡ refused.text = one_text r.which run.text refused.text run.which refused.which in
-    accepted_or_refused (refused_field run.text) refused.field run.configured.accepted (ap refused_field texts ∙ refused.refused)
+cause_of : {S D F : Type 0} (o : Outside S D F) (r : RunWords) (h : List Entry) (old new : Seen S D F) (s : Setting) (e : Ending) → RunCause o r h old new s e → IsCause o r h old new s e
+cause_of o r h old new s ending.BadWords cause = absurd cause
+cause_of o r h old new s ending.UnknownMapping cause = absurd cause
+cause_of o r h old new s ending.OpenFault cause = inr (inr cause.0)
+cause_of o r h old new s (ending.NotAJournal file) cause = inr (inr cause.0)
+cause_of o r h old new s (ending.Damaged file place) cause = inr (inr cause.0)
+cause_of o r h old new s (ending.BadPayload file index) cause = inr (inr cause.0)
+cause_of o r h old new s ending.DisabledMapping cause = inr (inl (cause.0, refl, inr cause.1))
+cause_of o r h old new s (ending.BadParameter name) cause = inr (inl (cause.0, refl, inl (name, cause.1)))
+cause_of o r h old new s ending.Done cause = inl cause
+cause_of o r h old new s ending.CallsSpent cause = inl cause
+cause_of o r h old new s (ending.BadLine number why) cause = inl cause
+cause_of o r h old new s ending.InputFault cause = inl cause
+cause_of o r h old new s ending.DiskFault cause = inl cause
+cause_of o r h old new s ending.DestFault cause = inl cause
+cause_of o r h old new s (ending.StreamChanged change) cause = inl cause
+cause_of o r h old new s (ending.Limit limit) cause = inl cause
 
-refused_twice : (r : RunWords) (n m : List ℕ) → IsRefused r n → IsRefused r m → n ≡ m
-refused_twice r n m one other =
-    let texts : one.text ≡ other.text = one_text r.which one.text other.text one.which other.which in
-    let fields : one.field ≡ other.field = one_param (refused_field one.text) one.field other.field one.refused (ap refused_field texts ∙ other.refused) in
-    one.name_is ∙ ap name_of fields ∙ sym other.name_is
+run_twice : {S D F : Type 0} (o : Outside S D F) (r : RunWords) (h : List Entry) (old new : Seen S D F) (s z : Setting) (e d : Ending)
+    → WholeGoesOn → SameTold → IsSoundRun o old new → IsRunOf o r h old new s e → IsRunOf o r h old new z d → status_of e ≡ status_of d
+run_twice o r h old new s z e d goes told sound one other =
+    let texts : one.ready.text ≡ other.ready.text = one_text r.which one.ready.text other.ready.text one.ready.which other.ready.which in
+    one_run o r h old new s z e d goes told sound one other
+    (same_config one.ready.text other.ready.text one.config other.config texts one.ready.configured other.ready.configured)
 
-run_twice : {F : Type 0} (gave : ℕ → Bool) (sends : List ℕ → List ℕ) (log : F → Option (List Called)) (r : RunWords) (input : Read) (h : List Entry) (old new : List F) (s z : Setting) (e d : Ending)
-    → WholeGoesOn → IsSome input.before → ¬ Rose input.faults_before input.faults_now
-    → IsRunOf gave sends log r input h old new s e → IsRunOf gave sends log r input h old new z d → e ≡ d
-run_twice gave sends log r input h old new s z e d goes told sound one other =
-    let texts : one.text ≡ other.text = one_text r.which one.text other.text one.which other.which in
-    let configs : one.config ≡ other.config = same_config one.text other.text one.config other.config texts one.configured other.configured in
-    let read = one_reading input.faults_before input.faults_now input.before input.left one.run.end other.run.end one.run.records other.run.records goes told sound one.run.read other.run.read in
-    let settings : setting_of one.config r.calls one.run.records ≡ setting_of other.config r.calls other.run.records =
-    ap (λ c. setting_of c r.calls one.run.records) configs ∙ ap (λ rs. setting_of other.config r.calls rs) read.1 in
-    one_ending (setting_of one.config r.calls one.run.records) (setting_of other.config r.calls other.run.records) h one.run.end other.run.end e d
-    settings read.0 one.run.ended other.run.ended
-
-disabled_and_refused : (r : RunWords) (name : List ℕ) → IsDisabled r → IsRefused r name → ⊥
-disabled_and_refused r name off refused =
-    let texts : off.text ≡ refused.text = one_text r.which off.text refused.text off.which refused.which in
-    accepted_or_refused (refused_field off.text) refused.field off.configured.accepted (ap refused_field texts ∙ refused.refused)
-
-run_and_disabled : {F : Type 0} (gave : ℕ → Bool) (sends : List ℕ → List ℕ) (log : F → Option (List Called)) (r : RunWords) (input : Read) (h : List Entry) (old new : List F) (s : Setting) (e : Ending)
-    → IsRunOf gave sends log r input h old new s e → IsDisabled r → ⊥
-run_and_disabled gave sends log r input h old new s e run off =
-    let texts : run.text ≡ off.text = one_text r.which run.text off.text run.which off.which in
-    let configs : run.config ≡ off.config = same_config run.text off.text run.config off.config texts run.configured off.configured in
-    let both : true ≡ false = sym run.enabled ∙ ap (λ (c : Config). c.enabled) configs ∙ off.disabled in
+run_and_unused : {S D F : Type 0} (o : Outside S D F) (r : RunWords) (h : List Entry) (old new : Seen S D F) (s : Setting) (e : Ending) → IsRunOf o r h old new s e → IsUnused r → ⊥
+run_and_unused o r h old new s e run (inl refused) =
+    let texts : run.ready.text ≡ refused.1.text = one_text r.which run.ready.text refused.1.text run.ready.which refused.1.which in
+    accepted_or_refused (refused_field run.ready.text) refused.1.field run.ready.configured.accepted (ap refused_field texts ∙ refused.1.refused)
+run_and_unused o r h old new s e run (inr off) =
+    let texts : run.ready.text ≡ off.text = one_text r.which run.ready.text off.text run.ready.which off.which in
+    let configs : run.config ≡ off.config = same_config run.ready.text off.text run.config off.config texts run.ready.configured off.configured in
+    let both : true ≡ false = sym run.ready.enabled ∙ ap (λ (c : Config). c.enabled) configs ∙ off.disabled in
     cc
 
-run_and_other : {F : Type 0} (gave : ℕ → Bool) (sends : List ℕ → List ℕ) (log : F → Option (List Called)) (r : RunWords) (input : Read) (h : List Entry) (old new : List F) (s : Setting) (e d : Ending)
-    → IsRunOf gave sends log r input h old new s e → IsRefusedOrDisabled r d → ⊥
-run_and_other gave sends log r input h old new s e d run (inl refused) = run_and_refused gave sends log r input h old new s e refused.0 run refused.2
-run_and_other gave sends log r input h old new s e d run (inr off) = run_and_disabled gave sends log r input h old new s e run off.1
+-- the files of a run, and of a mapping that is not used, are good
+run_and_refused : {S D F : Type 0} (o : Outside S D F) (r : RunWords) (h : List Entry) (old new : Seen S D F) (s : Setting) (e d : Ending) → IsSoundRun o old new
+    → IsRunOf o r h old new s e → HasRefusedFiles o.run.disk old new d → ⊥
+run_and_refused o r h old new s e d sound run refused = (refused_files o old new d sound refused).1 (good_of_ready o.run.disk r old run.config run.files run.ready)
 
-other_twice : (r : RunWords) (e d : Ending) → IsRefusedOrDisabled r e → IsRefusedOrDisabled r d → e ≡ d
-other_twice r e d (inl one) (inl other) = one.1 ∙ ap ending.BadParameter (refused_twice r one.0 other.0 one.2 other.2) ∙ sym other.1
-other_twice r e d (inl one) (inr off) = absurd (disabled_and_refused r one.0 off.1 one.2)
-other_twice r e d (inr off) (inl other) = absurd (disabled_and_refused r other.0 off.1 other.2)
-other_twice r e d (inr one) (inr other) = one.0 ∙ sym other.0
-
-one_cause : {F : Type 0} (gave : ℕ → Bool) (sends : List ℕ → List ℕ) (log : F → Option (List Called)) (r : RunWords) (input : Read) (h : List Entry) (old new : List F) (s z : Setting) (e d : Ending)
-    → WholeGoesOn → IsSome input.before → ¬ Rose input.faults_before input.faults_now
-    → IsRunOrRefused gave sends log r input h old new s e → IsRunOrRefused gave sends log r input h old new z d → e ≡ d
-one_cause gave sends log r input h old new s z e d goes told sound (inl one) (inl other) = run_twice gave sends log r input h old new s z e d goes told sound one other
-one_cause gave sends log r input h old new s z e d goes told sound (inl one) (inr other) = absurd (run_and_other gave sends log r input h old new s e d one other)
-one_cause gave sends log r input h old new s z e d goes told sound (inr one) (inl other) = absurd (run_and_other gave sends log r input h old new z d e other one)
-one_cause gave sends log r input h old new s z e d goes told sound (inr one) (inr other) = other_twice r e d one other
+one_cause : {S D F : Type 0} (o : Outside S D F) (r : RunWords) (h : List Entry) (old new : Seen S D F) (s z : Setting) (e d : Ending)
+    → WholeGoesOn → SameTold → IsSoundRun o old new → IsCause o r h old new s e → IsCause o r h old new z d → status_of e ≡ status_of d
+one_cause o r h old new s z e d goes told sound (inl one) (inl other) = run_twice o r h old new s z e d goes told sound one other
+one_cause o r h old new s z e d goes told sound (inl one) (inr (inl other)) = absurd (run_and_unused o r h old new s e one other.2)
+one_cause o r h old new s z e d goes told sound (inl one) (inr (inr other)) = absurd (run_and_refused o r h old new s e d sound one other)
+one_cause o r h old new s z e d goes told sound (inr (inl one)) (inl other) = absurd (run_and_unused o r h old new z d other one.2)
+one_cause o r h old new s z e d goes told sound (inr (inr one)) (inl other) = absurd (run_and_refused o r h old new z d e sound other one)
+one_cause o r h old new s z e d goes told sound (inr (inl one)) (inr (inl other)) = one.1 ∙ sym other.1
+one_cause o r h old new s z e d goes told sound (inr (inl one)) (inr (inr other)) = absurd ((refused_files o old new d sound other).1 one.0)
+one_cause o r h old new s z e d goes told sound (inr (inr one)) (inr (inl other)) = absurd ((refused_files o old new e sound one).1 other.0)
+one_cause o r h old new s z e d goes told sound (inr (inr one)) (inr (inr other)) = (refused_files o old new e sound one).0 ∙ sym (refused_files o old new d sound other).0
 
 -- an output that did not fail tells the status of the ending
 
@@ -187,16 +133,13 @@ bad_words_status faults_before faults_now before after text status (inr failed) 
 
 -- two outcomes of the same run have one status
 
-same_options : {F : Type 0} (gave : ℕ → Bool) (sends : List ℕ → List ℕ) (log : F → Option (List Called)) (r : RunWords) (input : Read) (output : Written) (h : List Entry) (old new : List F) (a b : ℕ)
-    → WholeGoesOn → IsSome input.before → ¬ Rose input.faults_before input.faults_now → ¬ Rose output.faults_before output.faults_now
-    → RunOutcome gave sends log r input output h old new a → RunOutcome gave sends log r input output h old new b → a ≡ b
-same_options gave sends log r input output h old new a b goes told read_sound sound one other =
-    let endings : one.ending ≡ other.ending =
-    one_cause gave sends log r input h old new one.ended.setting other.ended.setting one.ending other.ending goes told read_sound
-    (run_or_refused gave sends log r input h old new one.ended.setting one.ending one.ended.cause)
-    (run_or_refused gave sends log r input h old new other.ended.setting other.ending other.ended.cause) in
+same_options : {S D F : Type 0} (o : Outside S D F) (r : RunWords) (output : Written) (h : List Entry) (old new : Seen S D F) (a b : ℕ)
+    → WholeGoesOn → SameTold → IsSoundRun o old new → ¬ Rose output.faults_before output.faults_now → RunOutcome o r output h old new a → RunOutcome o r output h old new b → a ≡ b
+same_options o r output h old new a b goes told run_sound sound one other =
     told_status output.faults_before output.faults_now output.before output.after _ one.ending a sound one.told
-    ∙ ap status_of endings
+    ∙ one_cause o r h old new one.ended.setting other.ended.setting one.ending other.ending goes told run_sound
+    (cause_of o r h old new one.ended.setting one.ending one.ended.cause)
+    (cause_of o r h old new other.ended.setting other.ending other.ended.cause)
     ∙ sym (told_status output.faults_before output.faults_now output.before output.after _ other.ending b sound other.told)
 
 -- the statuses of `run` and of bad words
@@ -204,25 +147,31 @@ same_options gave sends log r input output h old new a b goes told read_sound so
 same_run : (r q : RunWords) → Run r ≡ Run q → r ≡ q
 same_run r q same = cc
 
-one_of_run : {F : Type 0} (gave : ℕ → Bool) (sends : List ℕ → List ℕ) (log : F → Option (List Called)) (words : List (List ℕ)) (input : Read) (output : Written) (h : List Entry) (old new : List F) (a b : ℕ)
-    → OneCommand → WholeGoesOn → IsSome input.before → ¬ Rose input.faults_before input.faults_now → ¬ Rose output.faults_before output.faults_now
-    → RunOrBadWords gave sends log words input output h old new a → RunOrBadWords gave sends log words input output h old new b → a ≡ b
-one_of_run gave sends log words input output h old new a b one_command goes told read_sound sound (inl one) (inl other) =
+pub no_setting : Setting
+no_setting = record { config = no_config; calls = 0; streams = []; fates = []; tries = []; states = []; window_tries = [] }
+
+-- the words name options of which each run was without faults
+abbrev AreSoundRuns : {S D F : Type 0} → Outside S D F → List (List ℕ) → (old new : Seen S D F) → Type 0
+AreSoundRuns o words old new = (r : RunWords) → SpellsBuilt words (Run r) → IsSoundRun o old new
+
+one_of_run : {S D F : Type 0} (o : Outside S D F) (words : List (List ℕ)) (output : Written) (h : List Entry) (old new : Seen S D F) (a b : ℕ)
+    → OneCommand → WholeGoesOn → SameTold → AreSoundRuns o words old new → ¬ Rose output.faults_before output.faults_now
+    → RunOrBadWords o words output h old new a → RunOrBadWords o words output h old new b → a ≡ b
+one_of_run o words output h old new a b one_command goes told runs_sound sound (inl one) (inl other) =
     let runs : one.0 ≡ other.0 = same_run one.0 other.0 (one_command words (Run one.0) (Run other.0) one.1.0 other.1.0) in
-    same_options gave sends log other.0 input output h old new a b goes told read_sound sound
-    (subst (λ r. RunOutcome gave sends log r input output h old new a) runs one.2) other.2
-one_of_run gave sends log words input output h old new a b one_command goes told read_sound sound (inl one) (inr other) = absurd (other.none_spelled (Run one.0) one.1)
-one_of_run gave sends log words input output h old new a b one_command goes told read_sound sound (inr one) (inl other) = absurd (one.none_spelled (Run other.0) other.1)
-one_of_run gave sends log words input output h old new a b one_command goes told read_sound sound (inr one) (inr other) =
-    bad_words_status output.faults_before output.faults_now output.before output.after _ a (one.told (setting_of no_config 0 []) refl)
-    ∙ sym (bad_words_status output.faults_before output.faults_now output.before output.after _ b (other.told (setting_of no_config 0 []) refl))
+    same_options o other.0 output h old new a b goes told (runs_sound one.0 one.1) sound (subst (λ r. RunOutcome o r output h old new a) runs one.2) other.2
+one_of_run o words output h old new a b one_command goes told runs_sound sound (inl one) (inr other) = absurd (other.none_spelled (Run one.0) one.1)
+one_of_run o words output h old new a b one_command goes told runs_sound sound (inr one) (inl other) = absurd (one.none_spelled (Run other.0) other.1)
+one_of_run o words output h old new a b one_command goes told runs_sound sound (inr one) (inr other) =
+    bad_words_status output.faults_before output.faults_now output.before output.after _ a (one.told no_setting)
+    ∙ sym (bad_words_status output.faults_before output.faults_now output.before output.after _ b (other.told no_setting))
 
 -- the statuses of the commands over the files alone and of `serve`
 
-other_and_run : {F : Type 0} (gave : ℕ → Bool) (sends : List ℕ → List ℕ) (log : F → Option (List Called)) (words : List (List ℕ)) (input : Read) (output : Written) (h : List Entry) (old new : List F) (c : Command) (a : ℕ)
-    → OneCommand → ((r : RunWords) → c ≡ Run r → ⊥) → SpellsBuilt words c → RunOrBadWords gave sends log words input output h old new a → ⊥
-other_and_run gave sends log words input output h old new c a one other spelled (inl run) = other run.0 (one words c (Run run.0) spelled.0 run.1.0)
-other_and_run gave sends log words input output h old new c a one other spelled (inr bad) = bad.none_spelled c spelled
+other_and_run : {S D F : Type 0} (o : Outside S D F) (words : List (List ℕ)) (output : Written) (h : List Entry) (old new : Seen S D F) (c : Command) (a : ℕ)
+    → OneCommand → ((r : RunWords) → c ≡ Run r → ⊥) → SpellsBuilt words c → RunOrBadWords o words output h old new a → ⊥
+other_and_run o words output h old new c a one other spelled (inl run) = other run.0 (one words c (Run run.0) spelled.0 run.1.0)
+other_and_run o words output h old new c a one other spelled (inr bad) = bad.none_spelled c spelled
 
 pub no_serve : (requests : ℕ) (r : RunWords) → Serve requests ≡ Run r → ⊥
 no_serve requests r same = cc
@@ -237,37 +186,49 @@ same_requests n m same = cc
 abbrev pub OneStatus : (ℕ → Type 0) → Type 0
 OneStatus outcome = (a b : ℕ) → outcome a → outcome b → a ≡ b
 
-one_of_files : {F : Type 0} (words : List (List ℕ)) (input : Read) (h : List Entry) (old new : List F) (files : FilesCommand → ℕ → Type 0) (a b : ℕ)
-    → OneCommand → ((c : FilesCommand) → SpellsBuilt words (command_of c) → OneStatus (files c)) → IsOverFiles words input h old new files a → IsOverFiles words input h old new files b → a ≡ b
-one_of_files words input h old new files a b one each x y =
+one_of_files : {S D F : Type 0} (words : List (List ℕ)) (h : List Entry) (old new : Seen S D F) (files : FilesCommand → ℕ → Type 0) (a b : ℕ)
+    → OneCommand → ((c : FilesCommand) → SpellsBuilt words (command_of c) → OneStatus (files c)) → IsOverFiles words h old new files a → IsOverFiles words h old new files b → a ≡ b
+one_of_files words h old new files a b one each x y =
     let same : y.which ≡ x.which = same_files y.which x.which (one words (command_of y.which) (command_of x.which) y.spelled.0 x.spelled.0) in
     each x.which x.spelled a b x.ended (subst (λ c. files c b) same y.ended)
 
-one_of_serve : {F : Type 0} (words : List (List ℕ)) (input : Read) (h : List Entry) (old new : List F) (serve : ℕ → ℕ → Type 0) (a b : ℕ)
-    → OneCommand → ((requests : ℕ) → SpellsBuilt words (Serve requests) → OneStatus (serve requests)) → IsServer words input h old new serve a → IsServer words input h old new serve b → a ≡ b
-one_of_serve words input h old new serve a b one serves x y =
+one_of_serve : {S D F : Type 0} (words : List (List ℕ)) (h : List Entry) (old new : Seen S D F) (serve : ℕ → ℕ → Type 0) (a b : ℕ)
+    → OneCommand → ((requests : ℕ) → SpellsBuilt words (Serve requests) → OneStatus (serve requests)) → IsServer words h old new serve a → IsServer words h old new serve b → a ≡ b
+one_of_serve words h old new serve a b one serves x y =
     let same : y.requests ≡ x.requests = same_requests y.requests x.requests (one words (Serve y.requests) (Serve x.requests) y.spelled.0 x.spelled.0) in
     serves x.requests x.spelled a b x.ended (subst (λ n. serve n b) same y.ended)
 
-pub one_status : {F : Type 0} (gave : ℕ → Bool) (sends : List ℕ → List ℕ) (log : F → Option (List Called)) (words : List (List ℕ)) (input : Read) (output : Written) (h : List Entry) (old new : List F) (files : FilesCommand → ℕ → Type 0) (serve : ℕ → ℕ → Type 0) (a b : ℕ)
-    → OneCommand → WholeGoesOn → ((c : FilesCommand) → SpellsBuilt words (command_of c) → OneStatus (files c)) → ((requests : ℕ) → SpellsBuilt words (Serve requests) → OneStatus (serve requests))
-    → IsSome input.before → ¬ Rose input.faults_before input.faults_now → ¬ Rose output.faults_before output.faults_now
-    → Outcome gave sends log words input output h old new files serve a → Outcome gave sends log words input output h old new files serve b → a ≡ b
-one_status gave sends log words input output h old new files serve a b one goes each serves told read_sound sound (inl x) (inl y) =
-    one_of_run gave sends log words input output h old new a b one goes told read_sound sound x y
-one_status gave sends log words input output h old new files serve a b one goes each serves told read_sound sound (inl x) (inr (inl y)) =
-    absurd (other_and_run gave sends log words input output h old new (command_of y.which) a one (not_run y.which) y.spelled x)
-one_status gave sends log words input output h old new files serve a b one goes each serves told read_sound sound (inl x) (inr (inr y)) =
-    absurd (other_and_run gave sends log words input output h old new (Serve y.requests) a one (no_serve y.requests) y.spelled x)
-one_status gave sends log words input output h old new files serve a b one goes each serves told read_sound sound (inr (inl x)) (inl y) =
-    absurd (other_and_run gave sends log words input output h old new (command_of x.which) b one (not_run x.which) x.spelled y)
-one_status gave sends log words input output h old new files serve a b one goes each serves told read_sound sound (inr (inr x)) (inl y) =
-    absurd (other_and_run gave sends log words input output h old new (Serve x.requests) b one (no_serve x.requests) x.spelled y)
-one_status gave sends log words input output h old new files serve a b one goes each serves told read_sound sound (inr (inl x)) (inr (inl y)) =
-    one_of_files words input h old new files a b one each x y
-one_status gave sends log words input output h old new files serve a b one goes each serves told read_sound sound (inr (inl x)) (inr (inr y)) =
-    absurd (files_and_serve words x.which y.requests one x.spelled y.spelled)
-one_status gave sends log words input output h old new files serve a b one goes each serves told read_sound sound (inr (inr x)) (inr (inl y)) =
-    absurd (files_and_serve words y.which x.requests one y.spelled x.spelled)
-one_status gave sends log words input output h old new files serve a b one goes each serves told read_sound sound (inr (inr x)) (inr (inr y)) =
-    one_of_serve words input h old new serve a b one serves x y
+-- the laws of the words, of the lines and of what payloads say
+pub record AreLaws : Type 0 where
+  pub one_command : OneCommand
+  pub whole_goes_on : WholeGoesOn
+  pub same_told : SameTold
+
+-- and that no device of the command failed
+pub record AreOne {S D F : Type 0} (o : Outside S D F) (words : List (List ℕ)) (output : Written) (old new : Seen S D F) (files : FilesCommand → ℕ → Type 0) (serve : ℕ → ℕ → Type 0) : Type 0 where
+  pub laws : AreLaws
+  pub of_files : (c : FilesCommand) → SpellsBuilt words (command_of c) → OneStatus (files c)
+  pub of_serve : (requests : ℕ) → SpellsBuilt words (Serve requests) → OneStatus (serve requests)
+  pub of_run : (r : RunWords) → SpellsBuilt words (Run r) → IsSoundRun o old new
+  pub sound : ¬ Rose output.faults_before output.faults_now
+
+pub one_status : {S D F : Type 0} (o : Outside S D F) (words : List (List ℕ)) (output : Written) (h : List Entry) (old new : Seen S D F) (files : FilesCommand → ℕ → Type 0) (serve : ℕ → ℕ → Type 0) (a b : ℕ)
+    → AreOne o words output old new files serve → Outcome o words output h old new files serve a → Outcome o words output h old new files serve b → a ≡ b
+one_status o words output h old new files serve a b is (inl x) (inl y) =
+    one_of_run o words output h old new a b is.laws.one_command is.laws.whole_goes_on is.laws.same_told is.of_run is.sound x y
+one_status o words output h old new files serve a b is (inl x) (inr (inl y)) =
+    absurd (other_and_run o words output h old new (command_of y.which) a is.laws.one_command (not_run y.which) y.spelled x)
+one_status o words output h old new files serve a b is (inl x) (inr (inr y)) =
+    absurd (other_and_run o words output h old new (Serve y.requests) a is.laws.one_command (no_serve y.requests) y.spelled x)
+one_status o words output h old new files serve a b is (inr (inl x)) (inl y) =
+    absurd (other_and_run o words output h old new (command_of x.which) b is.laws.one_command (not_run x.which) x.spelled y)
+one_status o words output h old new files serve a b is (inr (inr x)) (inl y) =
+    absurd (other_and_run o words output h old new (Serve x.requests) b is.laws.one_command (no_serve x.requests) x.spelled y)
+one_status o words output h old new files serve a b is (inr (inl x)) (inr (inl y)) =
+    one_of_files words h old new files a b is.laws.one_command is.of_files x y
+one_status o words output h old new files serve a b is (inr (inl x)) (inr (inr y)) =
+    absurd (files_and_serve words x.which y.requests is.laws.one_command x.spelled y.spelled)
+one_status o words output h old new files serve a b is (inr (inr x)) (inr (inl y)) =
+    absurd (files_and_serve words y.which x.requests is.laws.one_command y.spelled x.spelled)
+one_status o words output h old new files serve a b is (inr (inr x)) (inr (inr y)) =
+    one_of_serve words h old new serve a b is.laws.one_command is.of_serve x y

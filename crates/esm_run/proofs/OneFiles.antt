@@ -1,13 +1,11 @@
 -- Two outcomes of a command over the files have one status, where the disks that it uses are honest and neither they nor
 -- the output failed.
-use Rattle.std.proofs.Common.{◌≡◌, ◌∙◌, ℕ, ◌+◌, Bool, true, false, List, [], ◌∷◌, ◌++◌, take, drop, reverse, ap, inl, inr, refl, sym}
-use Rattle.std.specs.Prelude.{◌⊎◌, ◌&&◌}
-use Rattle.std.proofs.lemmas.List.{reverse-append, take-append-drop}
+use Rattle.std.proofs.Common.{◌≡◌, ◌∙◌, ℕ, ◌+◌, List, inl, inr, refl, sym}
+use Rattle.std.specs.Prelude.{◌⊎◌}
 use Rattle.esm_init.specs.declared.disks.Disks.{Disks}
 use Rattle.esm_io.specs.Faults.{Rose}
 use Rattle.esm_io.specs.Meanings.{DiskMeaning}
-use Rattle.esm_journal.specs.File.{header_of, opened, Opening, Foreign, Damaged, Holding}
-use Rattle.esm_said.specs.Meaning.{are_good, history, is_good}
+use Rattle.esm_journal.specs.File.{header_of, opened, Opening}
 use Rattle.esm_upkeep.specs.Text.{upkeep_status}
 use Rattle.esm_upkeep.specs.Upkeep.{AreFound, AreHonest, AreOnlyRead, HasBadPayload, HasFound, HasMigrated, IsCompactEnd, IsFailuresEnd, IsMigrateEnd, IsRefused, IsRefusedPair, IsShowEnd, OneRose, found, found_of_any_version, found_to_write}
 use Rattle.esm_upkeep.specs.declared.ending.JournalFile.{JournalFile}
@@ -20,31 +18,11 @@ use Rattle.esm_run.specs.declared.tending.FilesCommand.{FilesCommand}
 use Rattle.esm_run.specs.declared.tending.FilesCommand.TheVariants.{Init, Upkeep}
 use Rattle.esm_run.specs.declared.tending.Upkeep.{Upkeep as Named}
 use Rattle.esm_run.specs.declared.tending.Upkeep.TheVariants.{Show, Failures, Compact, Migrate}
+use Rattle.esm_run.proofs.BadPayloads.{AreAny, AreGood, Holds, not_bad, not_damaged, not_foreign}
 use Rattle.esm_run.proofs.Inits.{one_init, told_with}
 use Rattle.esm_run.proofs.OneCause.{OneStatus}
 
--- payloads of which a front is bad are bad
-
-bad_behind : (more payloads : List (List ℕ)) → are_good payloads ≡ false → are_good (more ++ payloads) ≡ false
-bad_behind [] payloads bad = bad
-bad_behind (payload ∷ more) payloads bad = ap (λ (good : Bool). good && is_good (history (more ++ payloads)) payload) (bad_behind more payloads bad)
-
-bad_front : (payloads : List (List ℕ)) (n : ℕ) → are_good (reverse (take n payloads)) ≡ false → are_good (reverse payloads) ≡ false
-bad_front payloads n bad =
-    ap (λ (ps : List (List ℕ)). are_good (reverse ps)) (sym (take-append-drop n payloads))
-    ∙ ap are_good (reverse-append (take n payloads) (drop n payloads))
-    ∙ bad_behind (reverse (drop n payloads)) (reverse (take n payloads)) bad
-
 -- what was opened holds payloads of which this is true, or does not
-
-abbrev Holds : (List (List ℕ) → Type 0) → Opening → Type 0
-Holds P opening = (epoch : ℕ) × (payloads : List (List ℕ)) × (opening ≡ Holding epoch payloads) × P payloads
-
-abbrev AreGood : List (List ℕ) → Type 0
-AreGood payloads = are_good (reverse payloads) ≡ true
-
-abbrev AreAny : List (List ℕ) → Type 0
-AreAny payloads = Unit {0}
 
 abbrev IsGoodOrBad : Type 0 → ℕ → Type 0
 IsGoodOrBad good status = ((status ≡ 0) × good) ⊎ ((status ≡ 8) × (good → ⊥))
@@ -54,21 +32,6 @@ one_of_both good a b (inl one) (inl other) = one.0 ∙ sym other.0
 one_of_both good a b (inl one) (inr other) = absurd (other.1 one.1)
 one_of_both good a b (inr one) (inl other) = absurd (one.1 other.1)
 one_of_both good a b (inr one) (inr other) = one.0 ∙ sym other.0
-
-not_foreign : (P : List (List ℕ) → Type 0) (opening : Opening) → opening ≡ Foreign → Holds P opening → ⊥
-not_foreign P opening foreign (epoch, payloads, holding, is) = (let both : Holding epoch payloads ≡ Foreign = sym holding ∙ foreign in cc)
-
-not_damaged : (P : List (List ℕ) → Type 0) (opening : Opening) (place : ℕ) → opening ≡ Damaged place → Holds P opening → ⊥
-not_damaged P opening place damaged (epoch, payloads, holding, is) = (let both : Holding epoch payloads ≡ Damaged place = sym holding ∙ damaged in cc)
-
-same_payloads : (e d : ℕ) (a b : List (List ℕ)) → Holding e a ≡ Holding d b → a ≡ b
-same_payloads e d a b both = cc
-
-not_bad : (opening : Opening) (epoch : ℕ) (payloads : List (List ℕ)) (n : ℕ) → opening ≡ Holding epoch payloads → are_good (reverse (take n payloads)) ≡ false → Holds AreGood opening → ⊥
-not_bad opening epoch payloads n opens bad (d, others, holding, good) =
-    let same : others ≡ payloads = same_payloads d epoch others payloads (sym holding ∙ opens) in
-    let both : true ≡ false = sym good ∙ ap (λ (ps : List (List ℕ)). are_good (reverse ps)) same ∙ bad_front payloads n bad in
-    cc
 
 -- refusals
 

@@ -1,49 +1,46 @@
 -- A source that tells its bytes and did not fail determines what was read of it, and why its reading ended.
-use Rattle.std.proofs.Common.{◌≡◌, ℕ, Bool, true, false, List, [], ◌∷◌, ◌++◌, refl, sym, ap, ◌∙◌, Option, Some, None}
+use Rattle.std.proofs.Common.{◌≡◌, ℕ, Bool, true, false, List, [], ◌++◌, refl, sym, ap, ◌∙◌, subst, Option, Some, None}
 use Rattle.std.specs.Prelude.{IsSome, is_some}
 use Rattle.std.proofs.lemmas.List.{append_cancel_right}
 use Rattle.esm_io.specs.Told.{TakesFront}
 use Rattle.esm_io.specs.Faults.{Rose}
-use Rattle.esm_model.specs.declared.item.Record.{Record}
+use Rattle.esm_model.specs.declared.config.Config.{Config}
 use Rattle.esm_record.specs.declared.error.BadLine.{BadLine}
 use Rattle.esm_record.specs.declared.item.LineKind.{LineKind}
 use Rattle.esm_record.specs.declared.item.LineKind.TheVariants as kinds
 use Rattle.esm_record.specs.Input.{Input, input_so_far, input_of}
 use Rattle.esm_record.specs.GoesOn.{GoesOnFrom}
 use Rattle.esm_report.specs.declared.ending.LimitName.{LimitName}
-use Rattle.esm_run.specs.declared.input.InputEnd.{InputEnd}
-use Rattle.esm_run.specs.declared.input.InputEnd.TheVariants as ends
-use Rattle.esm_run.specs.Limits.{passed, Limited, stop_at, limited_after}
-use Rattle.esm_run.specs.InputRead.{records_in_items, input_read, records_read, EndsBy, IsRead}
-use Rattle.esm_run.proofs.Limiting.{items_more}
+use Rattle.esm_input.specs.declared.ending.InputEnd.{InputEnd}
+use Rattle.esm_input.specs.declared.ending.InputEnd.TheVariants as ends
+use Rattle.esm_input.specs.Limits.{Limited, limited_after}
+use Rattle.esm_input.specs.Positions.{from_start}
+use Rattle.esm_input.specs.Reading.{EndsBy, InputState, StandsSo, handed, input_read, items_read}
+use Rattle.esm_pool.specs.Coming.{records_in_items}
+use Rattle.esm_stream.specs.Ended.{IsInputOf}
+use Rattle.esm_run.proofs.Fronts.{IsFront, front_same, limit_stays, limited_more, records_front}
+
+-- the law of the lines
+abbrev pub WholeGoesOn : Type 0
+WholeGoesOn = (kind : LineKind) (bytes : List ℕ) → GoesOnFrom (input_so_far kind bytes) (input_of kind bytes)
 
 -- which bytes were read
 
-pub same_bytes : (before left : Option (List ℕ)) (x y : List ℕ) → IsSome before → TakesFront before left x → TakesFront before left y → x ≡ y
+same_bytes : (before left : Option (List ℕ)) (x y : List ℕ) → IsSome before → TakesFront before left x → TakesFront before left y → x ≡ y
 same_bytes None left x y some one other = absurd (cc)
 same_bytes (Some old) left x y some one other =
     let rest : one.0 ≡ other.0 = (let same : Some one.0 ≡ Some other.0 = sym one.2 ∙ other.2 in cc) in
     append_cancel_right x y other.0 (ap (λ (l : List ℕ). x ++ l) (sym rest) ∙ sym one.1 ∙ other.1)
 
--- behind a record that passes a limit nothing is taken
-
-stop_same : (a : List Record) (o : Option LimitName) (x y : Limited) (l : LimitName) → (x.limit ≡ Some l → y ≡ x) → (stop_at a o x).limit ≡ Some l → stop_at a o y ≡ stop_at a o x
-stop_same a None x y l same is = same is
-stop_same a (Some m) x y l same is = refl
-
-limit_stays : (a xs ys : List Record) (l : LimitName) → (limited_after a xs).limit ≡ Some l → limited_after a (xs ++ ys) ≡ limited_after a xs
-limit_stays a [] ys l is = absurd (cc)
-limit_stays a (x ∷ xs) ys l is =
-    stop_same a (passed a x) (limited_after (a ++ x ∷ []) xs) (limited_after (a ++ x ∷ []) (xs ++ ys)) l (limit_stays (a ++ x ∷ []) xs ys l) is
-
 -- the end of a reading, by the limit that was passed and the bad line
+
 end_by : Option LimitName → Option BadLine → InputEnd
 end_by (Some limit) bad = ends.Limit limit
 end_by None (Some bad) = ends.BadLine bad
 end_by None None = ends.End
 
-end_at : Bool → List ℕ → InputEnd
-end_at whole bytes = end_by (records_read whole bytes).limit (input_read whole bytes).bad
+end_at : LineKind → ℕ → Bool → List ℕ → InputEnd
+end_at kind factor whole bytes = end_by (items_read kind factor whole bytes).limit (input_read kind whole bytes).bad
 
 limit_end : (limit : Option LimitName) (bad : Option BadLine) (l : LimitName) → limit ≡ Some l → ends.Limit l ≡ end_by limit bad
 unfolding end_by
@@ -57,63 +54,106 @@ good_end : (limit : Option LimitName) (bad : Option BadLine) → limit ≡ None 
 unfolding end_by
 good_end limit bad none is = ap (end_by None) (sym is) ∙ ap (λ o. end_by o bad) (sym none)
 
-end_is : (before now : ℕ) (whole : Bool) (bytes : List ℕ) (e : InputEnd) → ¬ Rose before now → EndsBy before now whole bytes e → e ≡ end_at whole bytes
+end_is : (kind : LineKind) (factor before now : ℕ) (whole : Bool) (bytes : List ℕ) (e : InputEnd) → ¬ Rose before now → EndsBy kind factor before now whole bytes e → e ≡ end_at kind factor whole bytes
 unfolding end_at
-end_is before now whole bytes ends.End sound cause = good_end (records_read whole bytes).limit (input_read whole bytes).bad cause.1.no_limit cause.1.no_bad_line
-end_is before now whole bytes (ends.BadLine bad) sound cause = bad_end (records_read whole bytes).limit (input_read whole bytes).bad bad cause.no_limit cause.first
-end_is before now whole bytes ends.Fault sound cause = absurd (sound cause.1)
-end_is before now whole bytes (ends.Limit limit) sound cause = limit_end (records_read whole bytes).limit (input_read whole bytes).bad limit cause
+end_is kind factor before now whole bytes ends.End sound cause = good_end (items_read kind factor whole bytes).limit (input_read kind whole bytes).bad cause.1.no_limit cause.1.no_bad_line
+end_is kind factor before now whole bytes (ends.BadLine bad) sound cause = bad_end (items_read kind factor whole bytes).limit (input_read kind whole bytes).bad bad cause.no_limit cause.first
+end_is kind factor before now whole bytes ends.Fault sound cause = absurd (sound cause.1)
+end_is kind factor before now whole bytes (ends.Limit limit) sound cause = limit_end (items_read kind factor whole bytes).limit (input_read kind whole bytes).bad limit cause
 
 -- a reading that ended before the source did would have ended so at the source's end
-record IsSettled (bytes : List ℕ) : Type 0 where
-  end : end_at false bytes ≡ end_at true bytes
-  records : records_read false bytes ≡ records_read true bytes
+record IsSettled (kind : LineKind) (factor : ℕ) (bytes : List ℕ) : Type 0 where
+  end : end_at kind factor false bytes ≡ end_at kind factor true bytes
+  items : items_read kind factor false bytes ≡ items_read kind factor true bytes
 
-bad_settled : (bytes : List ℕ) (bad : BadLine) → GoesOnFrom (input_so_far kinds.Stream bytes) (input_of kinds.Stream bytes) → (input_so_far kinds.Stream bytes).bad ≡ Some bad → IsSettled bytes
+bad_settled : (kind : LineKind) (factor : ℕ) (bytes : List ℕ) (bad : BadLine) → GoesOnFrom (input_so_far kind bytes) (input_of kind bytes) → (input_so_far kind bytes).bad ≡ Some bad → IsSettled kind factor bytes
 unfolding end_at
-bad_settled bytes bad goes is =
-    let same : input_so_far kinds.Stream bytes ≡ input_of kinds.Stream bytes = sym (goes.stopped (ap is_some is)) in
+bad_settled kind factor bytes bad goes is =
+    let same : input_so_far kind bytes ≡ input_of kind bytes = sym (goes.stopped (ap is_some is)) in
     record {
-      end = ap (λ (i : Input). end_by (limited_after [] (records_in_items i.items)).limit i.bad) same;
-      records = ap (λ (i : Input). limited_after [] (records_in_items i.items)) same;
+      end = ap (λ (i : Input). end_by (limited_after factor [] i.items).limit i.bad) same;
+      items = ap (λ (i : Input). limited_after factor [] i.items) same;
     }
 
-limit_settled : (bytes : List ℕ) (limit : LimitName) → GoesOnFrom (input_so_far kinds.Stream bytes) (input_of kinds.Stream bytes) → (records_read false bytes).limit ≡ Some limit → IsSettled bytes
+limit_settled : (kind : LineKind) (factor : ℕ) (bytes : List ℕ) (limit : LimitName) → GoesOnFrom (input_so_far kind bytes) (input_of kind bytes) → (items_read kind factor false bytes).limit ≡ Some limit → IsSettled kind factor bytes
 unfolding end_at
-limit_settled bytes limit goes is =
-    let front : List Record = records_in_items (input_so_far kinds.Stream bytes).items in
-    let same : records_read true bytes ≡ records_read false bytes =
-    ap (λ items. limited_after [] (records_in_items items)) goes.items
-    ∙ ap (limited_after []) (items_more (input_so_far kinds.Stream bytes).items goes.more)
-    ∙ limit_stays [] front (records_in_items goes.more) limit is in
+limit_settled kind factor bytes limit goes is =
+    let same : items_read kind factor true bytes ≡ items_read kind factor false bytes =
+    ap (limited_after factor []) goes.items ∙ limit_stays factor [] (input_so_far kind bytes).items goes.more limit is in
     record {
-      end = sym (limit_end (records_read false bytes).limit (input_read false bytes).bad limit is)
-          ∙ limit_end (records_read true bytes).limit (input_read true bytes).bad limit (ap (λ (v : Limited). v.limit) same ∙ is);
-      records = sym same;
+      end = sym (limit_end (items_read kind factor false bytes).limit (input_read kind false bytes).bad limit is)
+          ∙ limit_end (items_read kind factor true bytes).limit (input_read kind true bytes).bad limit (ap (λ (v : Limited). v.limit) same ∙ is);
+      items = sym same;
     }
 
-settled : (before now : ℕ) (bytes : List ℕ) (e : InputEnd) → ¬ Rose before now → GoesOnFrom (input_so_far kinds.Stream bytes) (input_of kinds.Stream bytes) → EndsBy before now false bytes e → IsSettled bytes
-settled before now bytes ends.End sound goes cause = (let untrue : false ≡ true = cause.0 in absurd (cc))
-settled before now bytes (ends.BadLine bad) sound goes cause = bad_settled bytes bad goes cause.first
-settled before now bytes ends.Fault sound goes cause = absurd (sound cause.1)
-settled before now bytes (ends.Limit limit) sound goes cause = limit_settled bytes limit goes cause
+settled : (kind : LineKind) (factor before now : ℕ) (bytes : List ℕ) (e : InputEnd) → ¬ Rose before now → GoesOnFrom (input_so_far kind bytes) (input_of kind bytes) → EndsBy kind factor before now false bytes e → IsSettled kind factor bytes
+settled kind factor before now bytes ends.End sound goes cause = (let untrue : false ≡ true = cause.0 in absurd (cc))
+settled kind factor before now bytes (ends.BadLine bad) sound goes cause = bad_settled kind factor bytes bad goes cause.first
+settled kind factor before now bytes ends.Fault sound goes cause = absurd (sound cause.1)
+settled kind factor before now bytes (ends.Limit limit) sound goes cause = limit_settled kind factor bytes limit goes cause
 
 -- as at the source's end
-at_end : (before now : ℕ) (whole : Bool) (bytes : List ℕ) (e : InputEnd) → ¬ Rose before now → GoesOnFrom (input_so_far kinds.Stream bytes) (input_of kinds.Stream bytes) → EndsBy before now whole bytes e
-    → (e ≡ end_at true bytes) × ((records_read whole bytes).records ≡ (records_read true bytes).records)
-at_end before now true bytes e sound goes cause = (end_is before now true bytes e sound cause, refl)
-at_end before now false bytes e sound goes cause =
-    let same = settled before now bytes e sound goes cause in
-    (end_is before now false bytes e sound cause ∙ same.end, ap (λ (v : Limited). v.records) same.records)
+at_end : (kind : LineKind) (factor before now : ℕ) (whole : Bool) (bytes : List ℕ) (e : InputEnd) → ¬ Rose before now → GoesOnFrom (input_so_far kind bytes) (input_of kind bytes) → EndsBy kind factor before now whole bytes e
+    → (e ≡ end_at kind factor true bytes) × (items_read kind factor whole bytes ≡ items_read kind factor true bytes)
+at_end kind factor before now true bytes e sound goes cause = (end_is kind factor before now true bytes e sound cause, refl)
+at_end kind factor before now false bytes e sound goes cause =
+    let same = settled kind factor before now bytes e sound goes cause in
+    (end_is kind factor before now false bytes e sound cause ∙ same.end, same.items)
 
-pub one_reading : (faults_before faults_now : ℕ) (before left : Option (List ℕ)) (e d : InputEnd) (xs ys : List Record)
-    → ((kind : LineKind) (bytes : List ℕ) → GoesOnFrom (input_so_far kind bytes) (input_of kind bytes))
-    → IsSome before → ¬ Rose faults_before faults_now
-    → IsRead faults_before faults_now before left e xs → IsRead faults_before faults_now before left d ys → (e ≡ d) × (xs ≡ ys)
-one_reading faults_before faults_now before left e d xs ys goes some sound one other =
-    let bytes : one.bytes ≡ other.bytes = same_bytes before left one.bytes other.bytes some one.taken other.taken in
-    let first = at_end faults_before faults_now one.whole one.bytes e sound (goes kinds.Stream one.bytes) one.cause in
-    let second = at_end faults_before faults_now other.whole other.bytes d sound (goes kinds.Stream other.bytes) other.cause in (
-      first.0 ∙ ap (end_at true) bytes ∙ sym second.0,
-      one.read ∙ first.1 ∙ ap (λ x. (records_read true x).records) bytes ∙ sym second.1 ∙ sym other.read,
-    )
+-- what was read so far is a front of what is read at the source's end
+front_of_all : (kind : LineKind) (factor : ℕ) (whole : Bool) (bytes : List ℕ) → GoesOnFrom (input_so_far kind bytes) (input_of kind bytes) → IsFront (items_read kind factor whole bytes).items (items_read kind factor true bytes).items
+front_of_all kind factor true bytes goes = front_same (items_read kind factor true bytes).items
+front_of_all kind factor false bytes goes =
+    subst (λ items. IsFront (items_read kind factor false bytes).items (limited_after factor [] items).items) (sym goes.items)
+    (limited_more factor [] (input_so_far kind bytes).items goes.more)
+
+-- the input of a run, by the run's configuration
+
+abbrev read_by : Config → Bool → List ℕ → Limited
+read_by c whole bytes = items_read kinds.Stream c.factor whole bytes
+
+handed_is : {S : Type 0} (faults : S → ℕ) (left : S → Option (List ℕ)) (c : Config) (old new : S) (i : InputState S) → IsInputOf faults left c old new i
+    → handed i ≡ from_start c.start (read_by c i.whole i.bytes).items
+handed_is faults left c old new i is =
+    ap (λ start. from_start start (items_read i.kind i.factor i.whole i.bytes).items) is.start
+    ∙ ap (λ kind. from_start c.start (items_read kind i.factor i.whole i.bytes).items) is.kind
+    ∙ ap (λ factor. from_start c.start (items_read kinds.Stream factor i.whole i.bytes).items) is.factor
+
+taken_is : {S : Type 0} (faults : S → ℕ) (left : S → Option (List ℕ)) (c : Config) (old new : S) (i : InputState S) → IsInputOf faults left c old new i → TakesFront (left old) (left new) i.bytes
+taken_is faults left c old new i is =
+    subst (λ s. TakesFront (left old) (left s) i.bytes) is.source (subst (λ s. TakesFront (left s) (left i.source) i.bytes) is.found is.read.taken)
+
+ends_by : {S : Type 0} (faults : S → ℕ) (left : S → Option (List ℕ)) (c : Config) (old new : S) (i : InputState S) (e : InputEnd) → IsInputOf faults left c old new i → i.end ≡ Some e
+    → EndsBy kinds.Stream c.factor (faults old) (faults new) i.whole i.bytes e
+ends_by faults left c old new i e is ended =
+    subst (λ kind. EndsBy kind c.factor (faults old) (faults new) i.whole i.bytes e) is.kind
+    (subst (λ factor. EndsBy i.kind factor (faults old) (faults new) i.whole i.bytes e) is.factor
+    (subst (λ s. EndsBy i.kind i.factor (faults old) (faults s) i.whole i.bytes e) is.source
+    (subst (λ s. EndsBy i.kind i.factor (faults s) (faults i.source) i.whole i.bytes e) is.found
+    (subst (StandsSo i.kind i.factor (faults i.found) (faults i.source) i.whole i.bytes) ended (is.read.stands is.good)))))
+
+-- two inputs of one run
+
+pub one_end : {S : Type 0} (faults : S → ℕ) (left : S → Option (List ℕ)) (c : Config) (old new : S) (i j : InputState S) (e d : InputEnd)
+    → WholeGoesOn → IsSome (left old) → ¬ Rose (faults old) (faults new) → IsInputOf faults left c old new i → IsInputOf faults left c old new j
+    → i.end ≡ Some e → j.end ≡ Some d → e ≡ d
+one_end faults left c old new i j e d goes told sound one other first second =
+    let bytes : i.bytes ≡ j.bytes = same_bytes (left old) (left new) i.bytes j.bytes told (taken_is faults left c old new i one) (taken_is faults left c old new j other) in
+    (at_end kinds.Stream c.factor (faults old) (faults new) i.whole i.bytes e sound (goes kinds.Stream i.bytes) (ends_by faults left c old new i e one first)).0
+    ∙ ap (end_at kinds.Stream c.factor true) bytes
+    ∙ sym (at_end kinds.Stream c.factor (faults old) (faults new) j.whole j.bytes d sound (goes kinds.Stream j.bytes) (ends_by faults left c old new j d other second)).0
+
+-- where the one was read to an end, the records of the other are a front of its own
+pub one_list : {S : Type 0} (faults : S → ℕ) (left : S → Option (List ℕ)) (c : Config) (old new : S) (i j : InputState S) (e : InputEnd)
+    → WholeGoesOn → IsSome (left old) → ¬ Rose (faults old) (faults new) → IsInputOf faults left c old new i → IsInputOf faults left c old new j
+    → i.end ≡ Some e → IsFront (records_in_items (handed j)) (records_in_items (handed i))
+one_list faults left c old new i j e goes told sound one other ended =
+    let bytes : j.bytes ≡ i.bytes = same_bytes (left old) (left new) j.bytes i.bytes told (taken_is faults left c old new j other) (taken_is faults left c old new i one) in
+    let all : read_by c true j.bytes ≡ read_by c i.whole i.bytes =
+    ap (read_by c true) bytes
+    ∙ sym (at_end kinds.Stream c.factor (faults old) (faults new) i.whole i.bytes e sound (goes kinds.Stream i.bytes) (ends_by faults left c old new i e one ended)).1 in
+    let front : IsFront (read_by c j.whole j.bytes).items (read_by c i.whole i.bytes).items =
+    subst (λ (v : Limited). IsFront (read_by c j.whole j.bytes).items v.items) all (front_of_all kinds.Stream c.factor j.whole j.bytes (goes kinds.Stream j.bytes)) in
+    subst (λ items. IsFront (records_in_items items) (records_in_items (handed i))) (sym (handed_is faults left c old new j other))
+    (subst (λ items. IsFront (records_in_items (from_start c.start (read_by c j.whole j.bytes).items)) (records_in_items items)) (sym (handed_is faults left c old new i one))
+    (records_front c.start (read_by c j.whole j.bytes).items (read_by c i.whole i.bytes).items front))

@@ -1,6 +1,6 @@
--- A fact that holds whatever the result is.
-use Rattle.std.proofs.Common.{Result, Ok, Err}
-use Rattle.std.specs.Prelude.{OnOk, OnErr}
+-- Facts of what a result holds.
+use Rattle.std.proofs.Common.{◌≡◌, subst, Result, Ok, Err}
+use Rattle.std.specs.Prelude.{OnOk, OnErr, IfOk}
 
 pub on_ok : {A E : Type 0} (r : Result A E) (P : Type 0) → P → OnOk r P
 on_ok (Ok a) P p = p
@@ -9,3 +9,14 @@ on_ok (Err e) P p = tt
 pub on_err : {A E : Type 0} (r : Result A E) (P : Type 0) → P → OnErr r P
 on_err (Ok a) P p = tt
 on_err (Err e) P p = p
+
+pub if_ok : {A E : Type 0} {P Q : A → Type 0} (r : Result A E) → ((a : A) → P a → Q a) → IfOk r P → IfOk r Q
+if_ok (Ok a) more p = more a p
+if_ok (Err e) more p = tt
+
+pub at_ok : {A E : Type 0} (P : A → Type 0) (r : Result A E) (a : A) → r ≡ Ok a → IfOk r P → P a
+at_ok P r a is p = subst (λ (r : Result _ _). IfOk r P) is p
+
+pub by_result : {A E : Type 0} {P : A → Type 0} {Q R : Type 0} (r : Result A E) → ((a : A) → P a → R) → (Q → R) → IfOk r P → OnErr r Q → R
+by_result (Ok a) more other p q = more a p
+by_result (Err e) more other p q = other q

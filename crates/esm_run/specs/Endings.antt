@@ -1,14 +1,22 @@
--- How a run's ending tells why the reading of its input ended, and with which exit status it is told. This product's own.
-use Rattle.std.specs.Prelude.{◌≡◌, ◌⊎◌, ℕ, List, ◌++◌, codes, Option}
+-- How a run's ending tells why it ended, or why it did not begin, and with which exit status it is told. This product's own.
+use Rattle.std.specs.Prelude.{◌≡◌, ◌⊎◌, ℕ, List, ◌++◌, codes, Option, Some, None}
 use Rattle.esm_io.specs.Told.{Grows}
 use Rattle.esm_io.specs.Faults.{Rose}
 use Rattle.esm_record.specs.Line.{name_of}
 use Rattle.esm_record.specs.declared.error.LineError.{LineError}
 use Rattle.esm_record.specs.declared.error.LineError.TheVariants.{NotJson, Missing, BadField, Backwards, LineTooLong, Repeated}
+use Rattle.esm_init.specs.declared.disks.FileName.{FileName}
+use Rattle.esm_init.specs.declared.disks.FileName.TheVariants as name
+use Rattle.esm_upkeep.specs.declared.ending.JournalFile.{JournalFile}
+use Rattle.esm_upkeep.specs.declared.ending.JournalFile.TheVariants as file
 use Rattle.esm_report.specs.declared.ending.Ending.{Ending}
 use Rattle.esm_report.specs.declared.ending.Ending.TheVariants as ending
-use Rattle.esm_run.specs.declared.input.InputEnd.{InputEnd}
-use Rattle.esm_run.specs.declared.input.InputEnd.TheVariants as ends
+use Rattle.esm_input.specs.declared.ending.InputEnd.{InputEnd}
+use Rattle.esm_input.specs.declared.ending.InputEnd.TheVariants as ends
+use Rattle.esm_stream.specs.declared.files.FilesError.{FilesError}
+use Rattle.esm_stream.specs.declared.files.FilesError.TheVariants as files
+use Rattle.esm_stream.specs.declared.run.StreamEnd.{StreamEnd}
+use Rattle.esm_stream.specs.declared.run.StreamEnd.TheVariants as run
 
 -- why a line was refused
 abbrev pub why_text : LineError → List ℕ
@@ -19,12 +27,32 @@ why_text (Backwards kept given) = codes "Backwards kept " ++ kept ++ codes " giv
 why_text LineTooLong = codes "LineTooLong"
 why_text (Repeated id) = codes "Repeated " ++ id
 
--- where every record has its fate
-abbrev pub ending_of : InputEnd → Ending
-ending_of ends.End = ending.Done
-ending_of (ends.BadLine bad) = ending.BadLine bad.line (why_text bad.why)
-ending_of ends.Fault = ending.InputFault
-ending_of (ends.Limit limit) = ending.Limit limit
+-- where every record has its fate, and no window is outstanding
+abbrev pub ending_of_reading : InputEnd → Ending
+ending_of_reading ends.End = ending.Done
+ending_of_reading (ends.BadLine bad) = ending.BadLine bad.line (why_text bad.why)
+ending_of_reading ends.Fault = ending.InputFault
+ending_of_reading (ends.Limit limit) = ending.Limit limit
+
+-- of a run
+abbrev pub ending_of : StreamEnd → Ending
+ending_of (run.Finished why) = ending_of_reading why
+ending_of run.CallsSpent = ending.CallsSpent
+ending_of run.DiskFault = ending.DiskFault
+ending_of run.DestFault = ending.DestFault
+ending_of (run.Changed change) = ending.StreamChanged change
+
+abbrev pub file_of : JournalFile → FileName
+file_of file.Journal = name.Journal
+file_of file.Failures = name.Failures
+
+-- where its files were refused; want of memory has no ending
+abbrev pub ending_of_files : FilesError → Option Ending
+ending_of_files (files.NotAJournal f) = Some (ending.NotAJournal (file_of f))
+ending_of_files (files.Damaged f place) = Some (ending.Damaged (file_of f) place)
+ending_of_files (files.BadPayload index) = Some (ending.BadPayload name.Journal index)
+ending_of_files files.DiskFault = Some ending.OpenFault
+ending_of_files files.OutOfMemory = None
 
 -- statuses
 
@@ -34,6 +62,13 @@ status_of ending.CallsSpent = 1
 status_of ending.BadWords = 2
 status_of (ending.BadLine number why) = 3
 status_of ending.InputFault = 4
+status_of ending.DiskFault = 6
+status_of ending.OpenFault = 6
+status_of ending.DestFault = 7
+status_of (ending.NotAJournal file) = 8
+status_of (ending.Damaged file place) = 8
+status_of (ending.BadPayload file index) = 8
+status_of (ending.StreamChanged change) = 8
 status_of ending.UnknownMapping = 9
 status_of ending.DisabledMapping = 9
 status_of (ending.BadParameter name) = 9

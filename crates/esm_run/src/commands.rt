@@ -1,132 +1,165 @@
-ghost use Rattle.std.specs.Prelude.{◌≡◌, ◌≢◌, List, Option, [], true, length, reverse, IfOk, OnErr};
+ghost use Rattle.std.specs.Prelude.{◌≡◌, ◌≢◌, List, true, length, reverse, None, Ok, IfOk};
+ghost use Rattle.esm_model.specs.declared.entry.Entry.{Entry};
 ghost use Rattle.esm_model.specs.declared.limits.TheConstants.{MAX_LANES};
-ghost use Rattle.esm_report.specs.declared.ending.Ending.TheVariants.{BadWords};
 ghost use Rattle.esm_model.specs.Setting.{Setting};
-ghost use Rattle.esm_report.specs.Report.{report_text};
-ghost use Rattle.esm_run.specs.Built.{is_text, is_built_run};
+ghost use Rattle.esm_io.specs.Meanings.{disk as meaning};
+ghost use Rattle.esm_report.specs.declared.ending.Ending.{Ending};
+ghost use Rattle.esm_report.specs.declared.ending.Ending.TheVariants.{BadWords};
+ghost use Rattle.esm_report.specs.Report.{report_text, stands_alone};
+ghost use Rattle.esm_run.specs.Built.{is_built_run};
 ghost use Rattle.esm_run.specs.Endings.{IsTold};
-ghost use Rattle.esm_run.specs.Headline.{read_of};
-ghost use Rattle.esm_run.specs.Answers.{RunEnded, RunOutcome, IsCutOf};
+ghost use Rattle.esm_run.specs.Answers.{RunOutcome, IsCutOf, outside_of, seen_of};
+ghost use Rattle.esm_run.specs.Ran.{IsToldWith};
 ghost use Rattle.esm_run.specs.Written.{written_of};
 
-use crate::mapping::mapping;
 use crate::output::{OUT_OF_MEMORY, tell};
-use crate::refusal::bad_parameter;
-use crate::running::run_mapping;
-use crate::world::World;
-use esm_cli::{RunWords, Which, WordsError};
-use esm_config::ConfigError;
+use crate::ran::{Ran, RunDevices, run_words};
+use crate::world::{Ended, World};
+use esm_cli::{RunWords, WordsError};
 use esm_io::{Caller, Clock, Disk, Door, Sink, Source};
-use esm_model::{OutOfMemory, Text};
-use esm_report::{Ending, report};
+use esm_model::{Entry, OutOfMemory};
+use esm_report::{Ending, last_line, report};
+use esm_said::Says;
 use std::alloc::Global;
 use std::sync::Wait;
 
-/// Tells of an ending, and answers the exit status. Only the output changes.
-pub fn finish<S: Source, K: Sink, D: Disk, C: Clock, F: Caller, L: Door>(
-    alloc: Global,
-    world: &mut World<S, K, D, C, F, L>,
-    ending: &Ending,
-) -> u8
-    ensures told { result ≢ 70 → (s : Setting) → s.fates ≡ [] → IsTold (K.faults world.old.out) (K.faults world.new.out)
-        (K.written world.old.out) (K.written world.new.out)
-        (report_text s (reverse world.old.trace.items) ending.now) ending.now result }
+/// Tells of an ending that stands alone, and answers the exit status.
+fn tell_alone<K: Sink>(alloc: Global, out: &mut K, ending: &Ending) -> u8
+    requires { stands_alone ending.now ≡ true }
+    ensures told { result ≢ 70 → (s : Setting) (h : List Entry) → IsTold (K.faults out.old) (K.faults out.new) (K.written out.old) (K.written out.new) (report_text s h ending.now) ending.now result }
     ensures words { result ≡ 2 → ending.now ≡ BadWords }
-    ensures untold { result ≡ 70 → world.new ≡ world.old }
-    ensures same { world.new ≡ record world.old { out = world.new.out } }
+    ensures untold { result ≡ 70 → out.new ≡ out.old }
 {
-    let Ok(text) = report(alloc, &world.trace, ending) else {
+    let Ok(text) = last_line(alloc, ending) else {
         return OUT_OF_MEMORY;
     };
-    tell(&mut world.out, &text, ending)
+    tell(out, &text, ending)
 }
 
-/// Tells that the words spell no command that is built, and answers the exit status. Only the output changes.
-pub fn refuse<S: Source, K: Sink, D: Disk, C: Clock, F: Caller, L: Door>(
-    alloc: Global,
-    why: WordsError,
-    world: &mut World<S, K, D, C, F, L>,
-) -> u8
-    ensures told { result ≢ 70 → (why ≡ WordsError.BadWords) × ((s : Setting) → s.fates ≡ [] → IsTold (K.faults world.old.out)
-        (K.faults world.new.out) (K.written world.old.out) (K.written world.new.out)
-        (report_text s (reverse world.old.trace.items) BadWords) BadWords result) }
-    ensures untold { result ≡ 70 → world.new ≡ world.old }
-    ensures same { world.new ≡ record world.old { out = world.new.out } }
+/// Tells why the words were refused, and answers the exit status.
+fn tell_refusal<K: Sink>(alloc: Global, out: &mut K, why: WordsError) -> u8
+    ensures told { result ≢ 70 → (why ≡ WordsError.BadWords) × ((s : Setting) (h : List Entry) → IsTold (K.faults out.old) (K.faults out.new)
+        (K.written out.old) (K.written out.new) (report_text s h BadWords) BadWords result) }
+    ensures untold { result ≡ 70 → out.new ≡ out.old }
 {
     match why {
-        WordsError::BadWords => finish(alloc, world, &Ending::BadWords),
+        WordsError::BadWords => tell_alone(alloc, out, &Ending::BadWords),
         WordsError::OutOfMemory => OUT_OF_MEMORY,
     }
 }
 
-/// The text of the mapping that the words name.
-fn mapping_text(which: Which) -> Text
-    requires { is_text which ≡ true }
-    ensures { which ≡ Which.Config result }
-{
-    match which {
-        Which::Config(text) => text,
-        Which::Mapping(_) => unreachable!(),
-    }
-}
-
-/// Runs the mapping that the words name.
-fn run_words<R: Wait, S: Source, K: Sink, D: Disk, C: Clock, F: Caller, L: Door>(
-    rt: &R,
+/// Tells that the words spell no command that is built, and hands the world back with the exit status. Only the output
+/// changes.
+pub fn refuse<S, K: Sink, D, C, F, L>(
     alloc: Global,
-    words: RunWords,
-    world: &mut World<S, K, D, C, F, L>,
-) -> Result<Ending, OutOfMemory>
-    requires built { is_built_run words ≡ true }
-    requires callers { length world.old.callers.items ≡ MAX_LANES }
-    requires trace { world.old.trace.items ≡ [] }
-    ensures ended { IfOk result (RunEnded C.gave F.sends F.log words
-        (read_of S.faults S.left world.old.input world.new.input)
-        (reverse world.new.trace.items) world.old.callers.items world.new.callers.items) }
-    ensures stopped { OnErr result (IsCutOf C.gave F.sends F.log words
-        (read_of S.faults S.left world.old.input world.new.input)
-        (reverse world.new.trace.items) world.old.callers.items world.new.callers.items) }
-    ensures kept { world.new ≡ record world.old { input = world.new.input; callers = world.new.callers; trace = world.new.trace } }
+    why: WordsError,
+    world: World<S, K, D, C, F, L>,
+) -> Ended<S, K, D, C, F, L>
+    ensures told { result.status ≢ 70 → (why ≡ WordsError.BadWords) × ((s : Setting) (h : List Entry) → IsTold (K.faults world.out)
+        (K.faults result.world.out) (K.written world.out) (K.written result.world.out)
+        (report_text s h BadWords) BadWords result.status) }
+    ensures untold { result.status ≡ 70 → result.world.out ≡ world.out }
+    ensures same { result.world ≡ record world { out = result.world.out } }
 {
-    let calls = words.calls;
-    let text = mapping_text(words.which);
-    match mapping(alloc, &text) {
-        Ok(config) => {
-            if config.enabled {
-                run_mapping(rt, alloc, config, calls, world)
-            } else {
-                Ok(Ending::DisabledMapping)
-            }
-        }
-        Err(ConfigError::BadParam(param)) => bad_parameter(alloc, param),
-        Err(ConfigError::OutOfMemory) => Err(OutOfMemory),
-    }
+    let mut world = world;
+    let status = tell_refusal(alloc, &mut world.out, why);
+    Ended { status, world }
 }
 
-/// Runs the mapping that the words name, tells how it ended, and answers the exit status.
+/// Tells how a run ended, and answers the exit status.
+fn tell_end<K: Sink>(
+    alloc: Global,
+    out: &mut K,
+    end: &Result<Ending, OutOfMemory>,
+    said: &Option<Says>,
+    trace: &[Entry],
+) -> u8
+    requires alone { said.now ≡ None → IfOk end.now (λ ending. stands_alone ending ≡ true) }
+    ensures words { result ≡ 2 → end.now ≡ Ok BadWords }
+    ensures told { result ≢ 70 → (ending : Ending) × (end.now ≡ Ok ending) × ((s : Setting) → IsToldWith s ending said.now →
+        IsTold (K.faults out.old) (K.faults out.new) (K.written out.old) (K.written out.new) (report_text s (reverse trace.now) ending) ending result) }
+    ensures untold { result ≡ 70 → out.new ≡ out.old }
+{
+    let Ok(ending) = end else {
+        return OUT_OF_MEMORY;
+    };
+    let Some(said) = said else {
+        return tell_alone(alloc, out, ending);
+    };
+    let Ok(text) = report(alloc, said, trace, ending) else {
+        return OUT_OF_MEMORY;
+    };
+    tell(out, &text, ending)
+}
+
+/// Runs the mapping that the words name, tells how it ended, and hands the world back with the exit status.
 pub fn run<R: Wait, S: Source, K: Sink, D: Disk, C: Clock, F: Caller, L: Door>(
     rt: &R,
     alloc: Global,
     words: RunWords,
-    world: &mut World<S, K, D, C, F, L>,
-) -> u8
+    world: World<S, K, D, C, F, L>,
+) -> Ended<S, K, D, C, F, L>
     requires built { is_built_run words ≡ true }
-    requires callers { length world.old.callers.items ≡ MAX_LANES }
-    requires trace { world.old.trace.items ≡ [] }
-    ensures outcome { result ≢ 70 → RunOutcome C.gave F.sends F.log words
-        (read_of S.faults S.left world.old.input world.new.input)
-        (written_of K.faults K.written world.old.out world.new.out)
-        (reverse world.new.trace.items) world.old.callers.items world.new.callers.items result }
-    ensures want_of_memory { result ≡ 70 → IsCutOf C.gave F.sends F.log words
-        (read_of S.faults S.left world.old.input world.new.input)
-        (reverse world.new.trace.items) world.old.callers.items world.new.callers.items }
-    ensures good_words { result ≢ 2 }
-    ensures untold { result ≡ 70 → world.new.out ≡ world.old.out }
-    ensures kept { world.new ≡ record world.old
-        { input = world.new.input; out = world.new.out; callers = world.new.callers; trace = world.new.trace } }
+    requires callers { length world.callers.items ≡ MAX_LANES }
+    ensures outcome { result.status ≢ 70 → RunOutcome (outside_of C.gave F.sends F.log (meaning D.honest D.content D.image D.moment D.image_since D.faults) S.faults S.left) words
+        (written_of K.faults K.written world.out result.world.out) (reverse result.world.trace.items)
+        (seen_of world.input world.journal world.spare world.failures world.registry world.callers.items)
+        (seen_of result.world.input result.world.journal result.world.spare result.world.failures result.world.registry result.world.callers.items) result.status }
+    ensures want_of_memory { result.status ≡ 70 → IsCutOf (outside_of C.gave F.sends F.log (meaning D.honest D.content D.image D.moment D.image_since D.faults) S.faults S.left) words (reverse result.world.trace.items)
+        (seen_of world.input world.journal world.spare world.failures world.registry world.callers.items)
+        (seen_of result.world.input result.world.journal result.world.spare result.world.failures result.world.registry result.world.callers.items) }
+    ensures good_words { result.status ≢ 2 }
+    ensures untold { result.status ≡ 70 → result.world.out ≡ world.out }
+    ensures kept { result.world ≡ record world {
+      input = result.world.input;
+      out = result.world.out;
+      journal = result.world.journal;
+      spare = result.world.spare;
+      failures = result.world.failures;
+      callers = result.world.callers;
+      trace = result.world.trace;
+    } }
 {
-    match run_words(rt, alloc, words, world) {
-        Ok(ending) => finish(alloc, world, &ending),
-        Err(OutOfMemory) => OUT_OF_MEMORY,
+    let World {
+        input,
+        out,
+        journal,
+        spare,
+        failures,
+        registry,
+        clock,
+        callers,
+        door,
+        trace: _,
+    } = world;
+    let devices = RunDevices {
+        input,
+        journal,
+        spare,
+        failures,
+        callers,
+    };
+    let Ran {
+        end,
+        said,
+        trace,
+        devices,
+    } = run_words(rt, alloc, words, devices, &clock);
+    let mut out = out;
+    let status = tell_end(alloc, &mut out, &end, &said, &trace);
+    Ended {
+        status,
+        world: World {
+            input: devices.input,
+            out,
+            journal: devices.journal,
+            spare: devices.spare,
+            failures: devices.failures,
+            registry,
+            clock,
+            callers: devices.callers,
+            door,
+            trace,
+        },
     }
 }

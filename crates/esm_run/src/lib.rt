@@ -2,19 +2,15 @@
 #![tactic(auto)]
 
 mod asked;
-mod batchers;
 mod built;
-mod coming;
 mod commands;
 mod connections;
-mod gathered;
 mod initializing;
-mod input;
 mod mapping;
 mod output;
+mod ran;
 mod refusal;
 mod registry_file;
-mod running;
 mod served;
 mod serving;
 mod tending;

@@ -1,10 +1,10 @@
-ghost use Rattle.std.specs.Prelude.{◌≡◌, Some, None, Err, IfOk};
+ghost use Rattle.std.specs.Prelude.{◌≡◌, true, is_ok, Some, None, Err, IfOk};
 ghost use Rattle.serde_json.specs.Read.{read as read_json};
 ghost use Rattle.serde_json.specs.View.{view};
-ghost use Rattle.esm_model.specs.Valid.{IsStreamConfig};
+ghost use Rattle.esm_model.specs.Pattern.{read_patterns};
+ghost use Rattle.esm_model.specs.Valid.{IsStreamConfig, is_stream};
 ghost use Rattle.esm_config.specs.declared.param.Param.{Param};
 ghost use Rattle.esm_config.specs.declared.param.ConfigError.TheVariants as error;
-ghost use Rattle.esm_shard.specs.FirstPath.{IsFirstPath};
 ghost use Rattle.esm_run.specs.Configured.{IsConfigured, refused_field};
 
 use crate::served::{first_refused, unserved};
@@ -18,7 +18,7 @@ use std::alloc::Global;
 pub fn mapping(alloc: Global, text: &Text) -> Result<Config, ConfigError>
     ensures configured { IfOk result (λ config. IsConfigured text.now config) }
     ensures valid { IfOk result (λ config. IsStreamConfig config) }
-    ensures first_path { IfOk result (λ config. IsFirstPath config) }
+    ensures patterns { IfOk result (λ config. is_ok (read_patterns (is_stream config.kind) config.filters) ≡ true) }
     ensures refused { (param : Param) → result ≡ Err (error.BadParam param) → refused_field text.now ≡ Some param }
 {
     match parse_json_text(alloc, text.as_str()) {
@@ -33,7 +33,7 @@ fn mapping_of(alloc: Global, text: &Text, value: &Value) -> Result<Config, Confi
     requires { read_json text.now ≡ Some (view value.now) }
     ensures configured { IfOk result (λ config. IsConfigured text.now config) }
     ensures valid { IfOk result (λ config. IsStreamConfig config) }
-    ensures first_path { IfOk result (λ config. IsFirstPath config) }
+    ensures patterns { IfOk result (λ config. is_ok (read_patterns (is_stream config.kind) config.filters) ≡ true) }
     ensures refused { (param : Param) → result ≡ Err (error.BadParam param) → refused_field text.now ≡ Some param }
 {
     let _ = text;

@@ -1,14 +1,17 @@
-ghost use Rattle.std.specs.Prelude.{◌≡◌, ◌++◌, IfOk};
+ghost use Rattle.std.specs.Prelude.{◌≡◌, ◌++◌, Some, IfOk, OnErr};
 ghost use Rattle.esm_config.specs.Names.{name_of};
 ghost use Rattle.esm_record.specs.declared.error.LineError.TheVariants.{Backwards};
 ghost use Rattle.esm_report.specs.declared.ending.Ending.TheVariants.{BadParameter};
-ghost use Rattle.esm_run.specs.Endings.{why_text, ending_of};
+ghost use Rattle.esm_run.specs.Endings.{why_text, ending_of, ending_of_reading, ending_of_files, file_of};
 
-use crate::input::InputEnd;
 use esm_config::Param;
+use esm_init::FileName;
+use esm_input::InputEnd;
 use esm_model::{OutOfMemory, Text};
 use esm_record::LineError;
 use esm_report::Ending;
+use esm_stream::{FilesError, StreamEnd};
+use esm_upkeep::JournalFile;
 use std::alloc::Global;
 
 fn text_of(alloc: Global, text: &str) -> Result<Text, OutOfMemory>
@@ -60,8 +63,8 @@ pub fn bad_parameter(alloc: Global, param: Param) -> Result<Ending, OutOfMemory>
 }
 
 /// The ending of a run in which every record that came has its fate.
-pub fn ending_of(alloc: Global, end: InputEnd) -> Result<Ending, OutOfMemory>
-    ensures { IfOk result (λ ending. ending ≡ ending_of end) }
+fn ending_of_reading(alloc: Global, end: InputEnd) -> Result<Ending, OutOfMemory>
+    ensures { IfOk result (λ ending. ending ≡ ending_of_reading end) }
 {
     match end {
         InputEnd::End => Ok(Ending::Done),
@@ -74,5 +77,49 @@ pub fn ending_of(alloc: Global, end: InputEnd) -> Result<Ending, OutOfMemory>
         }
         InputEnd::Fault => Ok(Ending::InputFault),
         InputEnd::Limit(limit) => Ok(Ending::Limit(limit)),
+    }
+}
+
+/// The ending of a run.
+pub fn ending_of(alloc: Global, end: StreamEnd) -> Result<Ending, OutOfMemory>
+    ensures { IfOk result (λ ending. ending ≡ ending_of end) }
+{
+    match end {
+        StreamEnd::Finished(why) => ending_of_reading(alloc, why),
+        StreamEnd::CallsSpent => Ok(Ending::CallsSpent),
+        StreamEnd::DiskFault => Ok(Ending::DiskFault),
+        StreamEnd::DestFault => Ok(Ending::DestFault),
+        StreamEnd::Changed(change) => Ok(Ending::StreamChanged(change)),
+    }
+}
+
+fn file_of(file: JournalFile) -> FileName
+    ensures { result ≡ file_of file }
+{
+    match file {
+        JournalFile::Journal => FileName::Journal,
+        JournalFile::Failures => FileName::Failures,
+    }
+}
+
+/// The ending of a run whose files were refused.
+pub fn ending_of_files(why: FilesError) -> Result<Ending, OutOfMemory>
+    ensures told { IfOk result (λ ending. ending_of_files why ≡ Some ending) }
+    ensures memory { OnErr result (why ≡ FilesError.OutOfMemory) }
+{
+    match why {
+        FilesError::NotAJournal { file } => Ok(Ending::NotAJournal {
+            file: file_of(file),
+        }),
+        FilesError::Damaged { file, place } => Ok(Ending::Damaged {
+            file: file_of(file),
+            place,
+        }),
+        FilesError::BadPayload { index } => Ok(Ending::BadPayload {
+            file: FileName::Journal,
+            index,
+        }),
+        FilesError::DiskFault => Ok(Ending::OpenFault),
+        FilesError::OutOfMemory => Err(OutOfMemory),
     }
 }

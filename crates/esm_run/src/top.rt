@@ -1,4 +1,4 @@
-ghost use Rattle.std.specs.Prelude.{◌≡◌, ◌≢◌, ℕ, List, [], Err, IfOk, Ok, length, map, reverse, IsSome};
+ghost use Rattle.std.specs.Prelude.{◌≡◌, ◌≢◌, ℕ, List, [], Err, IfOk, Ok, length, map, reverse};
 ghost use Rattle.std.specs.String.{string_bytes};
 ghost use Rattle.esm_model.specs.declared.limits.TheConstants.{MAX_LANES};
 ghost use Rattle.esm_cli.specs.declared.command.Command.{Command};
@@ -6,9 +6,8 @@ ghost use Rattle.esm_cli.specs.declared.command.RunWords.{RunWords};
 ghost use Rattle.esm_io.specs.Faults.{Rose};
 ghost use Rattle.esm_io.specs.Meanings.{disk as meaning};
 ghost use Rattle.esm_run.specs.Built.{SpellsBuilt};
-ghost use Rattle.esm_run.specs.Headline.{read_of};
 ghost use Rattle.esm_run.specs.Initialized.{disks};
-ghost use Rattle.esm_run.specs.Answers.{Outcome, RunOrBadWords, IsCut};
+ghost use Rattle.esm_run.specs.Answers.{Outcome, RunOrBadWords, IsCut, IsCutOf, IsSoundRun, outside_of, seen_of};
 ghost use Rattle.esm_run.specs.Serve.{IsServeCut, IsSoundServe, ServeOutcome};
 ghost use Rattle.esm_run.specs.Serving.{door_of, outside};
 ghost use Rattle.esm_run.specs.Tended.{AreLeft, AreSoundUnder, FilesOutcome, IsCompactCut, command_of};
@@ -24,35 +23,48 @@ use esm_cli::laws::one_command;
 use esm_cli::{RunWords, WordsError};
 use esm_io::{Caller, Clock, Disk, Door, Sink, Source};
 use esm_record::laws::whole_goes_on;
+use esm_said::laws::same_told;
 use std::alloc::Global;
 use std::sync::Wait;
 use std::thread::Threads;
 
-/// Runs what the options of `run` ask for, or tells that the words spell no command, and answers the exit status.
+/// Runs what the options of `run` ask for, or tells that the words spell no command, and hands the world back with the exit
+/// status.
 fn perform<R: Wait, S: Source, K: Sink, D: Disk, C: Clock, F: Caller, L: Door>(
     rt: &R,
     alloc: Global,
     words: &[String],
     options: Result<RunWords, WordsError>,
-    world: &mut World<S, K, D, C, F, L>,
-) -> u8
+    world: World<S, K, D, C, F, L>,
+) -> Ended<S, K, D, C, F, L>
     requires spelled { IfOk options (λ o. SpellsBuilt (map string_bytes words.now) (Command.Run o)) }
     requires none_spelled { options ≡ Err WordsError.BadWords → (c : Command) → ¬ SpellsBuilt (map string_bytes words.now) c }
-    requires callers { length world.old.callers.items ≡ MAX_LANES }
-    requires trace { world.old.trace.items ≡ [] }
-    ensures outcome { result ≢ 70 → RunOrBadWords C.gave F.sends F.log (map string_bytes words.now)
-        (read_of S.faults S.left world.old.input world.new.input)
-        (written_of K.faults K.written world.old.out world.new.out)
-        (reverse world.new.trace.items) world.old.callers.items world.new.callers.items result }
-    ensures want_of_memory { result ≡ 70 → IsCut C.gave F.sends F.log (map string_bytes words.now)
-        (read_of S.faults S.left world.old.input world.new.input)
-        (reverse world.new.trace.items) world.old.callers.items world.new.callers.items }
-    ensures bad_words { result ≡ 2 → (c : Command) → ¬ SpellsBuilt (map string_bytes words.now) c }
-    ensures untold { result ≡ 70 → world.new.out ≡ world.old.out }
-    ensures kept { world.new ≡ record world.old
-        { input = world.new.input; out = world.new.out; callers = world.new.callers; trace = world.new.trace } }
-    ensures undone { (c : Command) → ((r : RunWords) → c ≢ Command.Run r) → SpellsBuilt (map string_bytes words.now) c → world.new ≡ record world.old { out = world.new.out } }
-    ensures spelled { result ≢ 2 → result ≢ 70 → (c : Command) × SpellsBuilt (map string_bytes words.now) c }
+    requires callers { length world.callers.items ≡ MAX_LANES }
+    requires trace { world.trace.items ≡ [] }
+    ensures outcome { result.status ≢ 70 → RunOrBadWords (outside_of C.gave F.sends F.log (meaning D.honest D.content D.image D.moment D.image_since D.faults) S.faults S.left) (map string_bytes words.now) (written_of K.faults K.written world.out result.world.out) (reverse result.world.trace.items)
+        (seen_of world.input world.journal world.spare world.failures world.registry world.callers.items)
+        (seen_of result.world.input result.world.journal result.world.spare result.world.failures result.world.registry result.world.callers.items) result.status }
+    ensures want_of_memory { result.status ≡ 70 → IsCut (outside_of C.gave F.sends F.log (meaning D.honest D.content D.image D.moment D.image_since D.faults) S.faults S.left) (map string_bytes words.now) (reverse result.world.trace.items)
+        (seen_of world.input world.journal world.spare world.failures world.registry world.callers.items)
+        (seen_of result.world.input result.world.journal result.world.spare result.world.failures result.world.registry result.world.callers.items) }
+    ensures run_cut { result.status ≡ 70 → (r : RunWords) → SpellsBuilt (map string_bytes words.now) (Command.Run r)
+        → IsCutOf (outside_of C.gave F.sends F.log (meaning D.honest D.content D.image D.moment D.image_since D.faults) S.faults S.left) r (reverse result.world.trace.items)
+        (seen_of world.input world.journal world.spare world.failures world.registry world.callers.items)
+        (seen_of result.world.input result.world.journal result.world.spare result.world.failures result.world.registry result.world.callers.items) }
+    ensures bad_words { result.status ≡ 2 → (c : Command) → ¬ SpellsBuilt (map string_bytes words.now) c }
+    ensures untold { result.status ≡ 70 → result.world.out ≡ world.out }
+    ensures kept { result.world ≡ record world {
+      input = result.world.input;
+      out = result.world.out;
+      journal = result.world.journal;
+      spare = result.world.spare;
+      failures = result.world.failures;
+      callers = result.world.callers;
+      trace = result.world.trace;
+    } }
+    ensures undone { (c : Command) → ((r : RunWords) → c ≢ Command.Run r) → SpellsBuilt (map string_bytes words.now) c → result.world ≡ record world { out = result.world.out } }
+    ensures untouched { ((c : Command) → ¬ SpellsBuilt (map string_bytes words.now) c) → result.world ≡ record world { out = result.world.out } }
+    ensures spelled { result.status ≢ 2 → result.status ≢ 70 → (c : Command) × SpellsBuilt (map string_bytes words.now) c }
 {
     one_command();
     match options {
@@ -65,10 +77,11 @@ fn perform<R: Wait, S: Source, K: Sink, D: Disk, C: Clock, F: Caller, L: Door>(
 /// the files, `show` told what the journal says or `failures` its lines, `compact` or `migrate` wrote the journal anew or
 /// found it of version 2, `run` read the input to its end and every record has its fate, or `serve` served as many
 /// connections as it was asked to; 1 where the calls allowed were spent before; 2 where the words are no command that is
-/// built; 3 at a bad line; 4 where the input failed; 5 where the output failed; 6 where a disk failed; 8 where `init` found
-/// a file that is not empty, or another command one that is no journal, is damaged or has a bad payload; 9 where a
-/// parameter is refused; 10 past a limit; 11 where the door failed; 70 for want of memory, after which nothing is told. 4,
-/// 5, 6 and 11 come only where the device's count of faults rose.
+/// built; 3 at a bad line; 4 where the input failed; 5 where the output failed; 6 where a disk failed; 7 where the failure
+/// file failed in a run; 8 where `init` found a file that is not empty, or another command one that is no journal, is
+/// damaged or has a bad payload, or a record differs from the kept one; 9 where a parameter is refused; 10 past a limit; 11
+/// where the door failed; 70 for want of memory, after which nothing is told. 4, 5, 6, 7 and 11 come only where the device's
+/// count of faults rose.
 pub fn esm<R: Threads + Wait + Sync, S: Source, K: Sink, D: Disk, C: Clock, F: Caller, L: Door>(
     rt: &R,
     alloc: Global,
@@ -78,10 +91,9 @@ pub fn esm<R: Threads + Wait + Sync, S: Source, K: Sink, D: Disk, C: Clock, F: C
     requires callers { length world.callers.items ≡ MAX_LANES }
     requires trace { world.trace.items ≡ [] }
     // What the words did.
-    ensures outcome { result.status ≢ 70 → Outcome C.gave F.sends F.log (map string_bytes words.now)
-        (read_of S.faults S.left world.input result.world.input)
-        (written_of K.faults K.written world.out result.world.out)
-        (reverse result.world.trace.items) world.callers.items result.world.callers.items
+    ensures outcome { result.status ≢ 70 → Outcome (outside_of C.gave F.sends F.log (meaning D.honest D.content D.image D.moment D.image_since D.faults) S.faults S.left) (map string_bytes words.now) (written_of K.faults K.written world.out result.world.out) (reverse result.world.trace.items)
+        (seen_of world.input world.journal world.spare world.failures world.registry world.callers.items)
+        (seen_of result.world.input result.world.journal result.world.spare result.world.failures result.world.registry result.world.callers.items)
         (FilesOutcome (meaning D.honest D.content D.image D.moment D.image_since D.faults)
         (disks world.journal world.spare world.failures world.registry)
         (disks result.world.journal result.world.spare result.world.failures result.world.registry)
@@ -89,9 +101,12 @@ pub fn esm<R: Threads + Wait + Sync, S: Source, K: Sink, D: Disk, C: Clock, F: C
         (ServeOutcome (outside C.gave L.Conn.told L.Conn.faults (meaning D.honest D.content D.image D.moment D.image_since D.faults))
         world.registry result.world.registry (door_of L.faults L.closed world.door result.world.door)
         (written_of K.faults K.written world.out result.world.out)) result.status }
-    ensures exact { result.status ≢ 70 → IsSome (S.left world.input)
-        → ¬ Rose (S.faults world.input) (S.faults result.world.input)
+    ensures exact { result.status ≢ 70
         → ¬ Rose (K.faults world.out) (K.faults result.world.out)
+        → ((r : RunWords) → SpellsBuilt (map string_bytes words.now) (Command.Run r)
+        → IsSoundRun (outside_of C.gave F.sends F.log (meaning D.honest D.content D.image D.moment D.image_since D.faults) S.faults S.left)
+        (seen_of world.input world.journal world.spare world.failures world.registry world.callers.items)
+        (seen_of result.world.input result.world.journal result.world.spare result.world.failures result.world.registry result.world.callers.items))
         → ((c : FilesCommand) → SpellsBuilt (map string_bytes words.now) (command_of c)
         → AreSoundUnder (meaning D.honest D.content D.image D.moment D.image_since D.faults)
         (disks world.journal world.spare world.failures world.registry)
@@ -99,10 +114,9 @@ pub fn esm<R: Threads + Wait + Sync, S: Source, K: Sink, D: Disk, C: Clock, F: C
         → ((requests : ℕ) → SpellsBuilt (map string_bytes words.now) (Command.Serve requests)
         → IsSoundServe (outside C.gave L.Conn.told L.Conn.faults (meaning D.honest D.content D.image D.moment D.image_since D.faults))
         world.registry result.world.registry (door_of L.faults L.closed world.door result.world.door))
-        → (other : ℕ) → Outcome C.gave F.sends F.log (map string_bytes words.now)
-        (read_of S.faults S.left world.input result.world.input)
-        (written_of K.faults K.written world.out result.world.out)
-        (reverse result.world.trace.items) world.callers.items result.world.callers.items
+        → (other : ℕ) → Outcome (outside_of C.gave F.sends F.log (meaning D.honest D.content D.image D.moment D.image_since D.faults) S.faults S.left) (map string_bytes words.now) (written_of K.faults K.written world.out result.world.out) (reverse result.world.trace.items)
+        (seen_of world.input world.journal world.spare world.failures world.registry world.callers.items)
+        (seen_of result.world.input result.world.journal result.world.spare result.world.failures result.world.registry result.world.callers.items)
         (FilesOutcome (meaning D.honest D.content D.image D.moment D.image_since D.faults)
         (disks world.journal world.spare world.failures world.registry)
         (disks result.world.journal result.world.spare result.world.failures result.world.registry)
@@ -114,9 +128,13 @@ pub fn esm<R: Threads + Wait + Sync, S: Source, K: Sink, D: Disk, C: Clock, F: C
     ensures bad_words { result.status ≡ 2 → (c : Command) → ¬ SpellsBuilt (map string_bytes words.now) c }
     ensures spelled { result.status ≢ 2 → result.status ≢ 70 → (c : Command) × SpellsBuilt (map string_bytes words.now) c }
     // Want of memory.
-    ensures want_of_memory { result.status ≡ 70 → IsCut C.gave F.sends F.log (map string_bytes words.now)
-        (read_of S.faults S.left world.input result.world.input)
-        (reverse result.world.trace.items) world.callers.items result.world.callers.items }
+    ensures want_of_memory { result.status ≡ 70 → IsCut (outside_of C.gave F.sends F.log (meaning D.honest D.content D.image D.moment D.image_since D.faults) S.faults S.left) (map string_bytes words.now) (reverse result.world.trace.items)
+        (seen_of world.input world.journal world.spare world.failures world.registry world.callers.items)
+        (seen_of result.world.input result.world.journal result.world.spare result.world.failures result.world.registry result.world.callers.items) }
+    ensures run_cut { result.status ≡ 70 → (r : RunWords) → SpellsBuilt (map string_bytes words.now) (Command.Run r)
+        → IsCutOf (outside_of C.gave F.sends F.log (meaning D.honest D.content D.image D.moment D.image_since D.faults) S.faults S.left) r (reverse result.world.trace.items)
+        (seen_of world.input world.journal world.spare world.failures world.registry world.callers.items)
+        (seen_of result.world.input result.world.journal result.world.spare result.world.failures result.world.registry result.world.callers.items) }
     ensures serve_cut { result.status ≡ 70 → (requests : ℕ) → SpellsBuilt (map string_bytes words.now) (Command.Serve requests)
         → IsServeCut (outside C.gave L.Conn.told L.Conn.faults (meaning D.honest D.content D.image D.moment D.image_since D.faults))
         world.registry result.world.registry (door_of L.faults L.closed world.door result.world.door) }
@@ -136,6 +154,7 @@ pub fn esm<R: Threads + Wait + Sync, S: Source, K: Sink, D: Disk, C: Clock, F: C
       callers = result.world.callers;
       trace = result.world.trace;
     } }
+    ensures kept_by_run { (r : RunWords) → SpellsBuilt (map string_bytes words.now) (Command.Run r) → result.world.registry ≡ world.registry }
     ensures kept_by_files { (c : FilesCommand) → SpellsBuilt (map string_bytes words.now) (command_of c) → result.world ≡ record world {
       out = result.world.out;
       journal = result.world.journal;
@@ -145,10 +164,7 @@ pub fn esm<R: Threads + Wait + Sync, S: Source, K: Sink, D: Disk, C: Clock, F: C
     } }
     ensures kept_by_serve { (requests : ℕ) → SpellsBuilt (map string_bytes words.now) (Command.Serve requests)
         → result.world ≡ record world { out = result.world.out; registry = result.world.registry; door = result.world.door } }
-    ensures same_disks { ((c : FilesCommand) → ¬ SpellsBuilt (map string_bytes words.now) (command_of c))
-        → ((requests : ℕ) → ¬ SpellsBuilt (map string_bytes words.now) (Command.Serve requests))
-        → disks result.world.journal result.world.spare result.world.failures result.world.registry
-        ≡ disks world.journal world.spare world.failures world.registry }
+    ensures untouched { ((c : Command) → ¬ SpellsBuilt (map string_bytes words.now) c) → result.world ≡ record world { out = result.world.out } }
     ensures safe_disks { (c : FilesCommand) → SpellsBuilt (map string_bytes words.now) (command_of c)
         → AreLeft (meaning D.honest D.content D.image D.moment D.image_since D.faults)
         (disks world.journal world.spare world.failures world.registry)
@@ -156,13 +172,10 @@ pub fn esm<R: Threads + Wait + Sync, S: Source, K: Sink, D: Disk, C: Clock, F: C
 {
     one_command();
     whole_goes_on();
+    same_told();
     match asked_by(alloc, words) {
         Asked::Files(command) => tend(alloc, command, world),
         Asked::Serve { requests } => serve(alloc, requests, world),
-        Asked::Run(options) => {
-            let mut world = world;
-            let status = perform(rt, alloc, words, options, &mut world);
-            Ended { status, world }
-        }
+        Asked::Run(options) => perform(rt, alloc, words, options, world),
     }
 }

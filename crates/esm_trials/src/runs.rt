@@ -1,8 +1,11 @@
 // The worked examples of `run`.
 ghost use Rattle.std.specs.Prelude.{◌≡◌, [], length, IfOk};
 
-use crate::worlds::{MemWorld, Seen, bare, disk, left, told, world};
-use esm_io::{MemDoor, MemSink, MemSource};
+use crate::worlds::{
+    FRESH, MemEnded, MemWorld, NO_LINES, SPARE, Seen, again, bare, disk, enact, filled, left,
+    seen_of, told, words, world,
+};
+use esm_io::{MemDoor, MemSink, MemSource, StepClock};
 use esm_model::OutOfMemory;
 use std::alloc::Global;
 use std::sync::Wait;
@@ -50,7 +53,7 @@ fn lines(alloc: Global, records: &[(&str, &str)]) -> Result<Vec<u8>, OutOfMemory
     Ok(input)
 }
 
-/// A world with this input, whose calls of input and output with these numbers fail.
+/// A world with this input and the files that `init` makes, whose calls of input and output with these numbers fail.
 fn reading(
     alloc: Global,
     input: Vec<u8>,
@@ -63,7 +66,11 @@ fn reading(
     let input = MemSource::new(input, 65536, Vec::from_slice(alloc, input_fails)?);
     let out = MemSink::new(alloc, 5, Vec::from_slice(alloc, out_fails)?);
     let door = MemDoor::new(alloc, Vec::new(alloc), Vec::new(alloc));
-    world(alloc, input, out, disk(alloc), door)
+    let mut world = world(alloc, input, out, disk(alloc), door)?;
+    world.journal = filled(alloc, FRESH, &[])?;
+    world.spare = filled(alloc, SPARE, &[])?;
+    world.failures = filled(alloc, NO_LINES, &[])?;
+    Ok(world)
 }
 
 /// What a run of the mapping with these fields leaves of a world.
@@ -287,19 +294,228 @@ fn refused_lines(rt: HostRuntime) -> Result<(), Fail> {
     Ok(())
 }
 
+/// One record of each of so many shards.
+fn of_shards(alloc: Global, shards: u8) -> Result<Vec<u8>, OutOfMemory> {
+    let mut input = Vec::new(alloc);
+    for shard in 0..shards {
+        let tens = if shard < 10 { b'0' } else { b'1' };
+        input.extend_from_slice(b"{\"shardId\":\"shardId-0000000000")?;
+        input.push(tens)?;
+        input.push(b'0' + shard % 10)?;
+        input.extend_from_slice(
+            b"\",\"sequenceNumber\":\"1\",\"partitionKey\":\"1\",\"data\":\"\",\"approximateArrivalTimestamp\":0}\n",
+        )?;
+    }
+    Ok(input)
+}
+
+/// Whether the end of the output is this.
+fn ends_with(seen: &Seen, end: &str) -> bool {
+    seen.out.as_slice().ends_with(end.as_bytes())
+}
+
 #[test]
-fn second_shard(rt: HostRuntime) -> Result<(), Fail> {
+fn seventeen_shards(rt: HostRuntime) -> Result<(), Fail> {
     let alloc = rt.alloc();
-    let mut input = lines(alloc, &[("1", "1")])?;
-    add_line(&mut input, b'1', "2", "1", "SGVsbG8=")?;
-    let seen = run(&rt, alloc, "", input)?;
+    let seen = run(&rt, alloc, "", of_shards(alloc, 17)?)?;
+    assert_eq!(rt; seen.status, 10);
+    assert!(rt; ends_with(&seen, "calls 16\nlimit shards\n"));
+    let seen = run(
+        &rt,
+        alloc,
+        ",\"ParallelizationFactor\":10",
+        of_shards(alloc, 7)?,
+    )?;
+    assert_eq!(rt; seen.status, 10);
+    assert!(rt; ends_with(&seen, "calls 6\nlimit lanes\n"));
+    Ok(())
+}
+
+/// The key `bad` is of lane 0, the key `1` of lane 1: the second record is called though the first one waits.
+#[test]
+fn two_lanes(rt: HostRuntime) -> Result<(), Fail> {
+    let alloc = rt.alloc();
+    let input = lines(alloc, &[("1", "bad"), ("2", "1")])?;
+    let seen = run(
+        &rt,
+        alloc,
+        ",\"ParallelizationFactor\":2,\"MaximumRetryAttempts\":1",
+        input,
+    )?;
     assert!(rt;
         told(
             &seen,
-            10,
-            "shard shardId-000000000000 records 1 checkpoint 1 succeeded 1 filtered 0 expired 0 exhausted 0\ncalls 1\nlimit shards\n"
+            0,
+            "shard shardId-000000000000 records 2 checkpoint 2 succeeded 1 filtered 0 expired 0 exhausted 1\ncalls 3\ndone\n"
         )
     );
+    assert_eq!(rt;
+        seen.calls.as_slice(),
+        [(0, 1), (0, 1), (250, 1)].as_slice()
+    );
+    Ok(())
+}
+
+#[test]
+fn filtered_data(rt: HostRuntime) -> Result<(), Fail> {
+    let alloc = rt.alloc();
+    let pattern =
+        ",\"FilterCriteria\":{\"Filters\":[{\"Pattern\":\"{\\\"data\\\":{\\\"n\\\":[1]}}\"}]}";
+    let mut input = lines(alloc, &[("1", "1")])?;
+    add_line(&mut input, b'0', "2", "1", "eyJuIjoxfQ==")?;
+    let seen = run(&rt, alloc, pattern, input)?;
+    assert!(rt;
+        told(
+            &seen,
+            0,
+            "shard shardId-000000000000 records 2 checkpoint 2 succeeded 1 filtered 1 expired 0 exhausted 0\ncalls 1\ndone\n"
+        )
+    );
+    Ok(())
+}
+
+/// Eight records, the fifth of which fails.
+fn eight(alloc: Global) -> Result<Vec<u8>, OutOfMemory> {
+    lines(
+        alloc,
+        &[
+            ("1", "1"),
+            ("2", "1"),
+            ("3", "1"),
+            ("4", "1"),
+            ("5", "bad"),
+            ("6", "1"),
+            ("7", "1"),
+            ("8", "1"),
+        ],
+    )
+}
+
+/// Batches are halved, and no record is tried again.
+const HALVED: &str = ",\"BisectBatchOnFunctionError\":true,\"MaximumRetryAttempts\":0";
+
+#[test]
+fn bisect_eight(rt: HostRuntime) -> Result<(), Fail> {
+    let alloc = rt.alloc();
+    let seen = run(&rt, alloc, HALVED, eight(alloc)?)?;
+    assert!(rt;
+        told(
+            &seen,
+            0,
+            "shard shardId-000000000000 records 8 checkpoint 8 succeeded 7 filtered 0 expired 0 exhausted 1\ncalls 7\ndone\n"
+        )
+    );
+    Ok(())
+}
+
+/// The world of a run that ended, with this input.
+fn with_input(alloc: Global, ended: MemEnded, input: Vec<u8>) -> Result<MemWorld, OutOfMemory>
+    ensures callers { IfOk result (λ world. length world.callers.items ≡ 64) }
+    ensures trace { IfOk result (λ world. world.trace.items ≡ []) }
+{
+    let mut world = again(alloc, ended)?;
+    world.input = MemSource::new(input, 65536, Vec::new(alloc));
+    world.out = MemSink::new(alloc, 5, Vec::new(alloc));
+    Ok(world)
+}
+
+/// Three calls of seven, and a restart over the same files, which calls no record that has its fate.
+#[test]
+fn budget_and_restart(rt: HostRuntime) -> Result<(), Fail> {
+    let alloc = rt.alloc();
+    let config = mapping(alloc, HALVED)?;
+    let texts = ["run", "--config", config.as_str(), "--calls=3"];
+    let first = words(alloc, &texts)?;
+    let ended = enact(
+        &rt,
+        alloc,
+        first.as_slice(),
+        reading(alloc, eight(alloc)?, &[], &[])?,
+    );
+    let seen = seen_of(alloc, &ended)?;
+    assert!(rt;
+        told(
+            &seen,
+            1,
+            "shard shardId-000000000000 records 8 checkpoint 4 succeeded 4 filtered 0 expired 0 exhausted 0\ncalls 3\ncalls spent\n"
+        )
+    );
+    let seen = run_over(&rt, alloc, HALVED, with_input(alloc, ended, eight(alloc)?)?)?;
+    assert!(rt;
+        told(
+            &seen,
+            0,
+            "shard shardId-000000000000 records 8 checkpoint 8 succeeded 7 filtered 0 expired 0 exhausted 1\ncalls 5\ndone\n"
+        )
+    );
+    Ok(())
+}
+
+/// A record succeeded, and then another stands in its place.
+#[test]
+fn changed_stream(rt: HostRuntime) -> Result<(), Fail> {
+    let alloc = rt.alloc();
+    let config = mapping(alloc, "")?;
+    let first = words(alloc, &["run", "--config", config.as_str()])?;
+    let input = lines(alloc, &[("1", "1")])?;
+    let ended = enact(
+        &rt,
+        alloc,
+        first.as_slice(),
+        reading(alloc, input, &[], &[])?,
+    );
+    let input = lines(alloc, &[("7", "1")])?;
+    let seen = run_over(&rt, alloc, "", with_input(alloc, ended, input)?)?;
+    assert!(rt;
+        told(
+            &seen,
+            8,
+            "calls 0\nstream changed shardId-000000000000 place 0 kept 1 given 7\n"
+        )
+    );
+    Ok(())
+}
+
+/// A record may be a minute old, and failure lines have a destination.
+const AGED: &str =
+    ",\"MaximumRecordAgeInSeconds\":60,\"DestinationConfig\":{\"OnFailure\":{\"Destination\":\"arn:aws:sqs:us-east-1:123456789012:dead\"}}";
+
+/// The failure line of the record, as `failures` tells it.
+const EXPIRED: &str =
+    "{\"requestContext\":{\"requestId\":\"00000000-0000-8000-8000-000000000000\",\"functionArn\":\"arn:aws:lambda:us-east-1:123456789012:function:f\",\"condition\":\"RecordAgeExceeded\",\"approximateInvokeCount\":0},\"version\":\"1.0\",\"timestamp\":\"1970-01-01T00:01:00.001Z\",\"KinesisBatchInfo\":{\"shardId\":\"shardId-000000000000\",\"startSequenceNumber\":\"1\",\"endSequenceNumber\":\"1\",\"approximateArrivalOfFirstRecord\":\"1970-01-01T00:00:00.000Z\",\"approximateArrivalOfLastRecord\":\"1970-01-01T00:00:00.000Z\",\"batchSize\":1,\"streamArn\":\"arn:aws:kinesis:us-east-1:123456789012:stream/s\"}}\ndone\n";
+
+/// A record of this age at the run's start is called, or expires with its failure line.
+#[test]
+fn record_age(rt: HostRuntime) -> Result<(), Fail> {
+    let alloc = rt.alloc();
+    let mut world = reading(alloc, lines(alloc, &[("1", "1")])?, &[], &[])?;
+    world.clock = StepClock::new(60000);
+    let seen = run_over(&rt, alloc, AGED, world)?;
+    assert!(rt;
+        ends_with(
+            &seen,
+            "succeeded 1 filtered 0 expired 0 exhausted 0\ncalls 1\ndone\n"
+        )
+    );
+    let mut world = reading(alloc, lines(alloc, &[("1", "1")])?, &[], &[])?;
+    world.clock = StepClock::new(60001);
+    let config = mapping(alloc, AGED)?;
+    let run = words(alloc, &["run", "--config", config.as_str()])?;
+    let ended = enact(&rt, alloc, run.as_slice(), world);
+    let seen = seen_of(alloc, &ended)?;
+    assert!(rt;
+        ends_with(
+            &seen,
+            "succeeded 0 filtered 0 expired 1 exhausted 0\ncalls 0\ndone\n"
+        )
+    );
+    let seen = left(
+        &rt,
+        alloc,
+        &["failures"],
+        with_input(alloc, ended, Vec::new(alloc))?,
+    )?;
+    assert!(rt; told(&seen, 0, EXPIRED));
     Ok(())
 }
 

@@ -1,18 +1,14 @@
 // The worked examples of `show`, `failures`, `compact` and `migrate`.
 ghost use Rattle.std.specs.Prelude.{◌≡◌, [], length, IfOk};
 
-use crate::worlds::{MemEnded, MemWorld, again, bare, enact, words};
-use esm_io::MemDisk;
+use crate::worlds::{
+    FRESH, MemEnded, MemWorld, NO_LINES, SPARE, again, bare, enact, filled, words,
+};
 use esm_model::OutOfMemory;
 use std::alloc::Global;
 use std::sync::Wait;
 use std::test::Fail;
 use std::thread::Threads;
-
-/// A journal in use and a spare, each without payloads.
-const FRESH: &[u8] = b"ESMJ0002\0\0\0\0\0\0\0\x01\x01\0";
-
-const SPARE: &[u8] = b"ESMJ0002\0\0\0\0\0\0\0\0\0\0";
 
 /// The list without payloads, as `compact` writes it to the spare.
 const REWRITTEN: &[u8] = b"ESMJ0002\0\0\0\0\0\0\0\x02\x01\0";
@@ -27,16 +23,10 @@ const OLD_SPARE: &[u8] = b"ESMJ0001\0\0\0\0\0\0\0\0\0\0";
 const MIGRATED: &[u8] =
     b"ESMJ0002\0\0\0\0\0\0\0\x02\x01\x01\0\0\0\x1d\x01\0\0\0\0\0\0\0\0\x01\0\0\0\0\0\0\0\0\0\0\0\0\x01\0\0\0\0\x011\0";
 
-/// A failure file without lines, one with a line, and one that ends in the middle of a line.
-const NO_LINES: &[u8] = b"ESMJ0001\0\0\0\0\0\0\0\x01\x01\0";
-
+/// A failure file with a line, and one that ends in the middle of a line.
 const LINE: &[u8] = b"ESMJ0001\0\0\0\0\0\0\0\x01\x01\x01\0\0\0\x02{}\0";
 
 const CUT_LINE: &[u8] = b"ESMJ0001\0\0\0\0\0\0\0\x01\x01\x01\0\0";
-
-fn filled(alloc: Global, bytes: &[u8]) -> Result<MemDisk, OutOfMemory> {
-    Ok(MemDisk::new(alloc, Vec::from_slice(alloc, bytes)?, Vec::new(alloc)))
-}
 
 /// A world without input and connections, with these bytes in three of its files.
 fn folder(
@@ -49,9 +39,9 @@ fn folder(
     ensures trace { IfOk result (λ world. world.trace.items ≡ []) }
 {
     let mut world = bare(alloc)?;
-    world.journal = filled(alloc, journal)?;
-    world.spare = filled(alloc, spare)?;
-    world.failures = filled(alloc, failures)?;
+    world.journal = filled(alloc, journal, &[])?;
+    world.spare = filled(alloc, spare, &[])?;
+    world.failures = filled(alloc, failures, &[])?;
     Ok(world)
 }
 

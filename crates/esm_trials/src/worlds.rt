@@ -8,6 +8,14 @@ use std::alloc::Global;
 use std::sync::Wait;
 use std::thread::Threads;
 
+/// A journal in use and a spare, each without payloads.
+pub const FRESH: &[u8] = b"ESMJ0002\0\0\0\0\0\0\0\x01\x01\0";
+
+pub const SPARE: &[u8] = b"ESMJ0002\0\0\0\0\0\0\0\0\0\0";
+
+/// A failure file without lines.
+pub const NO_LINES: &[u8] = b"ESMJ0001\0\0\0\0\0\0\0\x01\x01\0";
+
 pub type MemWorld = World<MemSource, MemSink, MemDisk, StepClock, ScriptCaller, MemDoor>;
 
 pub type MemEnded = Ended<MemSource, MemSink, MemDisk, StepClock, ScriptCaller, MemDoor>;
@@ -38,6 +46,15 @@ pub fn words(alloc: Global, texts: &[&str]) -> Result<Vec<String>, OutOfMemory> 
 
 pub fn disk(alloc: Global) -> MemDisk {
     MemDisk::new(alloc, Vec::new(alloc), Vec::new(alloc))
+}
+
+/// A disk with these bytes, whose calls with these numbers fail.
+pub fn filled(alloc: Global, bytes: &[u8], fails: &[u64]) -> Result<MemDisk, OutOfMemory> {
+    Ok(MemDisk::new(
+        alloc,
+        Vec::from_slice(alloc, bytes)?,
+        Vec::from_slice(alloc, fails)?,
+    ))
 }
 
 /// A caller whose function answers the function error where the event has the key `bad`.

@@ -1,5 +1,8 @@
-use esm_model::{Bytes, Entry, Fate, LaneId, OutOfMemory, Places, Reply};
-use esm_report::{Ending, report};
+use crate::said::payloads;
+use esm_init::FileName;
+use esm_model::{Bytes, Change, Entry, Fate, LaneId, OutOfMemory, Places, Reply, Text};
+use esm_report::{Ending, last_line, report};
+use esm_said::{Says, SaysError, says};
 use std::alloc::Global;
 use std::test::Fail;
 
@@ -64,17 +67,30 @@ fn poison(alloc: Global) -> Result<Vec<Entry>, OutOfMemory> {
     Ok(trace)
 }
 
+/// What an empty journal says.
+fn nothing(alloc: Global) -> Result<Says, SaysError> {
+    let none: Vec<Bytes> = Vec::new(alloc);
+    says(alloc, &none)
+}
+
 #[test]
 fn empty_input(rt: HostRuntime) -> Result<(), Fail> {
-    let text = report(rt.alloc(), &[Entry::Shut { moment: 0 }], &Ending::Done)?;
+    let said = nothing(rt.alloc())?;
+    let text = report(
+        rt.alloc(),
+        &said,
+        &[Entry::Shut { moment: 0 }],
+        &Ending::Done,
+    )?;
     assert_eq!(rt; text.as_slice(), b"calls 0\ndone\n".as_slice());
     Ok(())
 }
 
 #[test]
 fn poison_one_by_one(rt: HostRuntime) -> Result<(), Fail> {
+    let said = nothing(rt.alloc())?;
     let trace = poison(rt.alloc())?;
-    let text = report(rt.alloc(), trace.as_slice(), &Ending::Done)?;
+    let text = report(rt.alloc(), &said, trace.as_slice(), &Ending::Done)?;
     assert_eq!(rt;
         text.as_slice(),
         b"shard shardId-000000000000 records 3 checkpoint 3 succeeded 2 filtered 0 expired 0 exhausted 1\ncalls 4\ndone\n".as_slice()
@@ -82,10 +98,76 @@ fn poison_one_by_one(rt: HostRuntime) -> Result<(), Fail> {
     Ok(())
 }
 
+/// The only record that came had its fate in the journal.
+#[test]
+fn found_fate(rt: HostRuntime) -> Result<(), Fail> {
+    let payloads = payloads(rt.alloc(), 1)?;
+    let said = says(rt.alloc(), &payloads)?;
+    let came = Entry::Came {
+        shard: 0,
+        first: 0,
+        count: 1,
+        moment: 0,
+    };
+    let text = report(rt.alloc(), &said, &[came], &Ending::Done)?;
+    assert_eq!(rt;
+        text.as_slice(),
+        b"shard shardId-000000000000 records 1 checkpoint 1 succeeded 1 filtered 0 expired 0 exhausted 0\ncalls 0\ndone\n".as_slice()
+    );
+    Ok(())
+}
+
 #[test]
 fn refused_words(rt: HostRuntime) -> Result<(), Fail> {
+    let said = nothing(rt.alloc())?;
     let trace = poison(rt.alloc())?;
-    let text = report(rt.alloc(), trace.as_slice(), &Ending::BadWords)?;
+    let text = report(rt.alloc(), &said, trace.as_slice(), &Ending::BadWords)?;
     assert_eq!(rt; text.as_slice(), b"bad words\n".as_slice());
+    let text = last_line(rt.alloc(), &Ending::OpenFault)?;
+    assert_eq!(rt; text.as_slice(), b"disk fault\n".as_slice());
+    Ok(())
+}
+
+fn text(alloc: Global, text: &str) -> Result<Text, OutOfMemory> {
+    Ok(Text::from_vec(String::from_str(alloc, text)?))
+}
+
+#[test]
+fn endings(rt: HostRuntime) -> Result<(), Fail> {
+    let said = nothing(rt.alloc())?;
+    let change = Change {
+        shard: 3,
+        place: 2,
+        kept: text(rt.alloc(), "41")?,
+        given: text(rt.alloc(), "42")?,
+    };
+    let file = FileName::Journal;
+    let rows = [
+        (Ending::DiskFault, "calls 0\ndisk fault\n"),
+        (Ending::OpenFault, "disk fault\n"),
+        (Ending::DestFault, "calls 0\ndestination fault\n"),
+        (
+            Ending::NotAJournal {
+                file: FileName::Spare,
+            },
+            "not a journal spare.esm\n",
+        ),
+        (
+            Ending::Damaged { file, place: 16 },
+            "damaged journal.esm 16\n",
+        ),
+        (
+            Ending::BadPayload { file, index: 5 },
+            "bad payload journal.esm 5\n",
+        ),
+        (
+            Ending::StreamChanged(change),
+            "calls 0\nstream changed shardId-000000000003 place 2 kept 41 given 42\n",
+        ),
+    ];
+    for (ending, want) in &rows {
+        let text = report(rt.alloc(), &said, &[], ending)?;
+        assert_eq!(rt; text.as_slice(), want.as_bytes(), "{want}");
+    }
     Ok(())
 }

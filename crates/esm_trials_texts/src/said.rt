@@ -8,7 +8,8 @@ const ONE_RECORD: [u8; 29] = [
     1, 0, 0, 0, 0, 0, 0, 0, 0, 1, 0, 0, 0, 0, 0, 0, 0, 0, 0, 0, 0, 0, 1, 0, 0, 0, 0, 1, 0x31,
 ];
 
-fn payloads(alloc: Global, count: u32) -> Result<Vec<Bytes>, OutOfMemory> {
+/// So many payloads, each of which tells of the record.
+pub(crate) fn payloads(alloc: Global, count: u32) -> Result<Vec<Bytes>, OutOfMemory> {
     let mut payloads = Vec::new(alloc);
     for _ in 0..count {
         payloads.push(Bytes::from_vec(ONE_RECORD.to_vec(alloc)?))?;

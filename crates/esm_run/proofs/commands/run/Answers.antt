@@ -1,34 +1,29 @@
-use Rattle.std.proofs.Common.{subst, sym, ap, reverse}
-use Rattle.esm_report.specs.Report.{report_text}
-use Rattle.esm_run.specs.Endings.{IsTold}
-use Rattle.esm_run.specs.Headline.{read_of}
-use Rattle.esm_run.specs.Answers.{RunOutcome, IsCutOf}
+use Rattle.std.proofs.Common.{ap, inr, reverse, subst}
+use Rattle.esm_run.specs.Answers.{seen_of}
+use Rattle.esm_run.specs.Ran.{IsToldWith}
 use Rattle.esm_run.specs.Written.{written_of}
-use Rattle.esm_run.proofs.Outcomes.{whole_cut}
+use Rattle.esm_run.proofs.RunEndings.{told_run}
+use Rattle.esm_run.proofs.Results.{at_ok, by_result, if_ok}
 use Rattle.esm_run.proofs.commands.run.Goals as goal
 
-pub returns-in-Ok-clause-outcome : goal.returns-in-Ok-clause-outcome
-returns-in-Ok-clause-outcome g c = λ known.
-    let before = c.run_words.new.world in
-    let after = c.finish.new.world in
-    subst (λ w. RunOutcome {F = g.row.F.Denot} g.C.Clock.gave g.F.Caller.sends g.F.Caller.log c.args.words
-    (read_of g.S.Source.faults g.S.Source.left c.args.world.now.input w.input)
-    (written_of g.K.Sink.faults g.K.Sink.written c.args.world.now.out after.out)
-    (reverse w.trace.items) c.args.world.now.callers.items w.callers.items c.finish.result) (sym c.finish.ensures.same)
-    (record {
-      ending = c.in-Ok.ending;
-      ended = c.in-Ok.ensures.ended;
-      told = subst (λ o. IsTold (g.K.Sink.faults o) (g.K.Sink.faults after.out) (g.K.Sink.written o) (g.K.Sink.written after.out)
-          (report_text c.in-Ok.ensures.ended.setting (reverse before.trace.items) c.in-Ok.ending) c.in-Ok.ending c.finish.result) (ap (λ w. w.out) c.run_words.ensures.kept)
-          (c.finish.ensures.told known c.in-Ok.ensures.ended.setting c.in-Ok.ensures.ended.no_journal);
-    })
+pub tell_end-status-requires : goal.tell_end-status-requires
+tell_end-status-requires g c = record {
+  alone = λ none. if_ok c.run_words-end.result.end
+      (λ e ends. let here = ends c.args.world.registry in subst (IsToldWith here.ended.setting e) none here.told) c.run_words-end.ensures.ended;
+}
 
-pub returns-in-Ok-clause-want_of_memory : goal.returns-in-Ok-clause-want_of_memory
-returns-in-Ok-clause-want_of_memory g c = λ short.
-    let before = c.run_words.new.world in
-    subst (λ w. IsCutOf {F = g.row.F.Denot} g.C.Clock.gave g.F.Caller.sends g.F.Caller.log c.args.words
-    (read_of g.S.Source.faults g.S.Source.left c.args.world.now.input w.input)
-    (reverse w.trace.items) c.args.world.now.callers.items w.callers.items) (sym c.finish.ensures.same)
-    (whole_cut g.C.Clock.gave g.F.Caller.sends g.F.Caller.log c.args.words
-    (read_of g.S.Source.faults g.S.Source.left c.args.world.now.input before.input)
-    (reverse before.trace.items) c.args.world.now.callers.items before.callers.items c.in-Ok.ending c.in-Ok.ensures.ended)
+pub returns-clause-outcome : goal.returns-clause-outcome
+returns-clause-outcome g c = λ known.
+    let told = c.tell_end-status.ensures.told known in
+    told_run _ _ _ (seen_of c.args.world.input c.args.world.journal c.args.world.spare c.args.world.failures c.args.world.registry c.args.world.callers.items)
+    (seen_of c.run_words-end.result.devices.input c.run_words-end.result.devices.journal c.run_words-end.result.devices.spare c.run_words-end.result.devices.failures c.args.world.registry c.run_words-end.result.devices.callers.items)
+    (written_of g.K.Sink.faults g.K.Sink.written c.args.world.out c.tell_end-status.new.out) c.tell_end-status.result c.run_words-end.result.said told.0 (reverse c.deref.result.now)
+    (at_ok _ c.run_words-end.result.end told.0 told.1 c.run_words-end.ensures.ended c.args.world.registry) (ap reverse c.deref.ensures.value) told.2
+
+pub returns-clause-want_of_memory : goal.returns-clause-want_of_memory
+returns-clause-want_of_memory g c = λ short.
+    by_result c.run_words-end.result.end (λ e ends. inr (inr (e, (ends c.args.world.registry).ended))) (λ stopped. stopped c.args.world.registry)
+    c.run_words-end.ensures.ended c.run_words-end.ensures.stopped
+
+pub returns-clause-good_words : goal.returns-clause-good_words
+returns-clause-good_words g c = λ is. (at_ok _ c.run_words-end.result.end _ (c.tell_end-status.ensures.words is) c.run_words-end.ensures.ended c.args.world.registry).ended.cause

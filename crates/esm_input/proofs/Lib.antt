@@ -1,0 +1,5 @@
+pub mod Limiting
+pub mod Counts
+pub mod Beginning
+pub mod Pieces
+pub mod Within

@@ -1,0 +1,140 @@
+// The items of an input, counted against the limits.
+ghost use Rattle.std.specs.Prelude.{◌≡◌, ◌≤◌, [], length, None, IfOk, OnOk, OnErr};
+ghost use Rattle.esm_input.specs.Limits.{item_bytes, shards_with};
+ghost use Rattle.esm_input.specs.Counting.{IsCountOf, IsWithin, CountsMore, CountsOn, IsFront, passed_by};
+
+use esm_model::{MAX_INPUT, MAX_LANES, MAX_RECORDS, MAX_SHARDS, OutOfMemory};
+use esm_record::Item;
+use esm_report::LimitName;
+use std::alloc::Global;
+
+/// How many items came, how many bytes they have, and their shards, in the order of first appearance.
+#[derive(Drop)]
+pub(crate) struct Counted {
+    pub(crate) items: usize,
+    pub(crate) bytes: usize,
+    pub(crate) shards: Vec<u64>,
+}
+
+/// How many of a list's items are within the limits, and the limit that the next one passes.
+#[derive(Drop)]
+pub(crate) struct Front {
+    pub(crate) count: usize,
+    pub(crate) limit: Option<LimitName>,
+}
+
+/// Bytes of a record's data, or of a message's body.
+fn bytes_of(item: &Item) -> usize
+    ensures { result ≡ item_bytes item.now }
+{
+    match item {
+        Item::Stream(record) => record.payload.as_slice().len(),
+        Item::Queue(message) => message.body.as_slice().len(),
+    }
+}
+
+/// Notes the shard of an item, where it has one and the shards lack it.
+fn note_shard(shards: &mut Vec<u64>, item: &Item) -> Result<(), OutOfMemory>
+    ensures noted { OnOk result (shards.new.items ≡ shards_with shards.old.items item.now) }
+    ensures kept { OnErr result (shards.new.items ≡ shards.old.items) }
+{
+    if let Item::Stream(record) = item {
+        if !shards.contains(&record.shard) {
+            shards.push(record.shard)?;
+        }
+    }
+    Ok(())
+}
+
+impl Counted {
+    /// Nothing came yet.
+    pub(crate) fn new(alloc: Global) -> Counted
+        ensures count { IsCountOf result [] }
+        ensures within { IsWithin result }
+    {
+        Counted {
+            items: 0,
+            bytes: 0,
+            shards: Vec::new(alloc),
+        }
+    }
+
+    /// How many shards there are with that of the item.
+    fn shards_with(&self, item: &Item) -> usize
+        requires { IsWithin self.now }
+        ensures { result ≡ length (shards_with self.now.shards.items item.now) }
+    {
+        match item {
+            Item::Stream(record) => {
+                if self.shards.contains(&record.shard) {
+                    self.shards.len()
+                } else {
+                    self.shards.len() + 1
+                }
+            }
+            Item::Queue(_) => self.shards.len(),
+        }
+    }
+
+    /// The first limit that one more item passes; `factor` is the number of lanes of a shard.
+    fn limit(&self, factor: u32, item: &Item) -> Option<LimitName>
+        requires within { IsWithin self.now }
+        requires few { factor ≤ 10 }
+        ensures { result ≡ passed_by factor self.now item.now }
+    {
+        if self.items >= MAX_RECORDS {
+            return Some(LimitName::Records);
+        }
+        if bytes_of(item) > MAX_INPUT - self.bytes {
+            return Some(LimitName::Bytes);
+        }
+        let shards = self.shards_with(item);
+        if shards > MAX_SHARDS {
+            return Some(LimitName::Shards);
+        }
+        if shards * factor as usize > MAX_LANES {
+            return Some(LimitName::Lanes);
+        }
+        None
+    }
+
+    /// Counts an item, or names the limit that it passes.
+    fn add(&mut self, factor: u32, item: &Item) -> Result<Option<LimitName>, OutOfMemory>
+        requires within { IsWithin self.old }
+        requires few { factor ≤ 10 }
+        ensures within { OnOk result (IsWithin self.new) }
+        ensures limit { IfOk result (λ limit. limit ≡ passed_by factor self.old item.now) }
+        ensures counted { result ≡ Ok None → CountsMore self.old self.new item.now }
+    {
+        if let Some(limit) = self.limit(factor, item) {
+            return Ok(Some(limit));
+        }
+        note_shard(&mut self.shards, item)?;
+        self.items += 1;
+        self.bytes += bytes_of(item);
+        Ok(None)
+    }
+
+    /// Counts the items in order, up to the first that passes a limit.
+    pub(crate) fn count_front(&mut self, factor: u32, items: &[Item]) -> Result<Front, OutOfMemory>
+        requires within { IsWithin self.old }
+        requires few { factor ≤ 10 }
+        ensures within { OnOk result (IsWithin self.new) }
+        ensures front { IfOk result (λ front. IsFront factor self.old items.now front.count front.limit) }
+        ensures all { IfOk result (λ front. front.limit ≡ None → front.count ≡ length items.now) }
+        ensures counted { IfOk result (λ front. front.limit ≡ None → CountsOn self.old self.new items.now) }
+    {
+        for (count, item) in items.iter().enumerate() {
+            if let Some(limit) = self.add(factor, item)? {
+                return Ok(Front {
+                    count,
+                    limit: Some(limit),
+                });
+            }
+        }
+        Ok(Front {
+            count: items.len(),
+            limit: None,
+        })
+    }
+}

@@ -1,0 +1,160 @@
+// The input of a run: what it is made with, and its reads.
+ghost use Rattle.std.specs.Prelude.{◌≡◌, ◌≤◌, ◌<◌, ◌++◌, ℕ, List, [], length, None, true, false, IfOk, IfErr, OnOk, OnErr, All, option_copied};
+ghost use Rattle.esm_io.specs.Faults.{IsCount};
+ghost use Rattle.esm_io.specs.Told.{TakesFront};
+ghost use Rattle.esm_record.specs.Input.{IsValidItem};
+ghost use Rattle.esm_input.specs.Reading.{InputState, IsInput, handed};
+
+use crate::counted::Counted;
+use crate::ending::InputEnd;
+use crate::positions::Positions;
+use crate::taking::{read_bytes, read_lines, take};
+use esm_io::Source;
+use esm_model::{OutOfMemory, Refused, Start};
+use esm_record::{Item, LineKind, Lines};
+use std::alloc::Global;
+use std::marker::Model;
+use std::snapshot::Snapshot;
+
+/// How many bytes one read asks for.
+const PIECE: usize = 65536;
+
+/// The input of a run, as it is read. Contracts see what it was made with, the bytes that were read of the source, and why
+/// the reading ended.
+#[derive(Drop)]
+pub struct Input<S: Source> {
+    source: S,
+    /// The source as it was handed in, for the contracts alone.
+    found: Snapshot<S>,
+    lines: Lines,
+    factor: u32,
+    start: Start,
+    counted: Counted,
+    positions: Positions,
+    buffer: Vec<u8>,
+    whole: bool,
+    end: Option<InputEnd>,
+    failed: bool,
+}
+
+impl<S: Source> Model for Input<S> {
+    ghost use Rattle.std.specs.Prelude.{◌≡◌, false, vec_len};
+    ghost use Rattle.esm_input.specs.Reading.{InputState};
+    ghost use Rattle.esm_input.specs.Going.{IsReading};
+
+    ghost Value = { InputState S };
+
+    ghost view = { λ i. record { kind = i.lines.kind; factor = i.factor; start = i.start; found = i.found.value; source = i.source; bytes = i.lines.bytes; whole = i.whole; end = i.end; failed = i.failed } };
+
+    ghost invariant = { λ i. i.failed ≡ false
+        → IsReading S.faults S.left (record { kind = i.lines.kind; factor = i.factor; start = i.start; found = i.found.value; source = i.source; bytes = i.lines.bytes; whole = i.whole; end = i.end; failed = i.failed })
+        i.lines.finished i.counted i.positions.begun.items (vec_len i.buffer) };
+}
+
+impl<S: Source> Input<S> {
+    /// Nothing is read yet. `factor` is the number of lanes of a shard; `start` is the mapping's starting position, where
+    /// `Latest` is taken as the first record. A refusal hands the source back.
+    pub fn new(
+        alloc: Global,
+        source: S,
+        kind: LineKind,
+        factor: u32,
+        start: Start,
+    ) -> Result<Input<S>, Refused<OutOfMemory, S>>
+        requires factor { factor ≤ 10 }
+        ensures made { IfOk result (λ input. input ≡ record { kind = kind; factor = factor; start = start; found = source; source = source; bytes = []; whole = false; end = None; failed = false }) }
+        ensures nothing { IfOk result (λ input. handed input ≡ []) }
+        ensures back { IfErr result (λ refused. refused.back ≡ source) }
+    {
+        let Ok(lines) = Lines::new(alloc, kind) else {
+            return Err(Refused {
+                why: OutOfMemory,
+                back: source,
+            });
+        };
+        let Ok(buffer) = vec![in alloc; 0u8; PIECE] else {
+            return Err(Refused {
+                why: OutOfMemory,
+                back: source,
+            });
+        };
+        Ok(Input {
+            found: Snapshot::of(&source),
+            source,
+            lines,
+            factor,
+            start,
+            counted: Counted::new(alloc),
+            positions: Positions::new(alloc),
+            buffer,
+            whole: false,
+            end: None,
+            failed: false,
+        })
+    }
+
+    /// Reads one piece of at most 65,536 bytes, and gives the items of the lines that it completes: those before the first
+    /// bad line and within the limits, from the starting position on. Where the reading ends by it, `end` tells why. After
+    /// `OutOfMemory` nothing more is read.
+    pub fn read(&mut self, alloc: Global) -> Result<Vec<Item>, OutOfMemory>
+        requires going { self.old.end ≡ None }
+        requires good { self.old.failed ≡ false }
+        ensures handed { IfOk result (λ items. handed self.new ≡ handed self.old ++ items.items) }
+        ensures valid { IfOk result (λ items. All (IsValidItem self.old.kind) items.items) }
+        ensures rest { OnOk result (self.new ≡ record self.old { source = self.new.source; bytes = self.new.bytes; whole = self.new.whole; end = self.new.end }) }
+        ensures goes_on { IfOk result (λ _. self.new.end ≡ None → length self.old.bytes < length self.new.bytes) }
+        ensures failed { OnErr result (self.new.failed ≡ true) }
+        ensures found { self.new.found ≡ self.old.found }
+        ensures kept { (self.new.kind ≡ self.old.kind) × (self.new.factor ≡ self.old.factor) × (self.new.start ≡ self.old.start) }
+        ensures taken { (more : List ℕ) × TakesFront (S.left self.old.source) (S.left self.new.source) more }
+        ensures count { IsCount (S.faults self.old.source) (S.faults self.new.source) }
+    {
+        self.failed = true;
+        let count = match read_bytes(&mut self.source, &mut self.buffer) {
+            Ok(count) => count,
+            Err(_) => {
+                self.end = Some(InputEnd::Fault);
+                self.failed = false;
+                return Ok(Vec::new(alloc));
+            }
+        };
+        let whole = count == 0;
+        let fed = read_lines(&mut self.lines, &self.buffer[..count])?;
+        let taken = take(
+            alloc,
+            self.factor,
+            self.start,
+            whole,
+            &mut self.counted,
+            &mut self.positions,
+            fed,
+        )?;
+        self.whole = whole;
+        self.end = taken.end;
+        self.failed = false;
+        Ok(taken.items)
+    }
+
+    /// Why the reading ended, where it has. Its clauses say what is true of every input. Takes no memory.
+    pub fn end(&self) -> Option<&InputEnd>
+        ensures value { option_copied result ≡ self.now.end }
+        ensures keeps { self.now.failed ≡ false → IsInput S.faults S.left self.now }
+    {
+        self.end.as_ref()
+    }
+
+    /// The source, as it was left, and why the reading ended, where it has. Takes no memory.
+    pub fn into_parts(self) -> (S, Option<InputEnd>)
+        ensures source { result.0 ≡ self.source }
+        ensures end { result.1 ≡ self.end }
+    {
+        (self.source, self.end)
+    }
+
+    /// The source, as it was left. Takes no memory.
+    pub fn into_source(self) -> S
+        ensures { result ≡ self.source }
+    {
+        self.source
+    }
+}

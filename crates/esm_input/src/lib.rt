@@ -1,0 +1,14 @@
+//! The input of a run, read piece by piece: its records or messages from the mapping's starting position on, within the
+//! limits of the engine, and why the reading ended.
+//! It reads a source and keeps no item; what it hands out is told by the bytes that were read.
+#![tactic(auto)]
+
+mod counted;
+mod ending;
+mod input;
+pub mod laws;
+mod positions;
+mod taking;
+
+pub use ending::InputEnd;
+pub use input::Input;

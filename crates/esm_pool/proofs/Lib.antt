@@ -1,0 +1,12 @@
+pub mod Moments
+pub mod Quiet
+pub mod Kept
+pub mod Calling
+pub mod Asking
+pub mod Stops
+pub mod Arriving
+pub mod Handing
+pub mod Incoming
+pub mod Outstanding
+pub mod Ends
+pub mod Runs

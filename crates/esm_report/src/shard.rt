@@ -1,0 +1,83 @@
+// The fates of a shard's places, found in the journal or given in the run.
+ghost use Rattle.std.specs.Prelude.{◌≡◌, length, filter};
+ghost use Rattle.std.specs.Option.{option_copied};
+ghost use Rattle.esm_model.specs.Fates.{below, is_fate};
+ghost use Rattle.esm_report.specs.Totals.{fate_at, place_fate, fate_found, front_count};
+
+use crate::fates::Fates;
+use esm_model::Fate;
+use esm_said::Says;
+
+/// The fates of a shard's places: the found one, else the one that the history gave.
+#[derive(Drop)]
+pub(crate) struct ShardFates<'a> {
+    pub shard: u64,
+    pub found: &'a Says,
+    pub given: Option<&'a Fates>,
+}
+
+impl ShardFates<'_> {
+    /// How many of the first places have this fate.
+    pub(crate) fn count(&self, records: u32, fate: Fate) -> u32
+        ensures { result ≡ length (filter (λ i. is_fate fate (place_fate self.now i)) (below records)) }
+    {
+        let mut total = 0;
+        for place in 0..records {
+            if is_fate(fate, self.at(place)) {
+                total += 1;
+            }
+        }
+        total
+    }
+
+    /// The length of the longest prefix of the first places in which each has a fate.
+    pub(crate) fn checkpoint(&self, records: u32) -> u32
+        ensures { result ≡ front_count records (place_fate self.now) }
+    {
+        for place in 0..records {
+            if self.at(place).is_none() {
+                return place;
+            }
+        }
+        records
+    }
+
+    fn at(&self, place: u32) -> Option<Fate>
+        ensures { result ≡ place_fate self.now place }
+    {
+        match found_at(self.found, self.shard, place) {
+            None => given_at(self.given, place),
+            Some(fate) => Some(fate),
+        }
+    }
+}
+
+fn found_at(found: &Says, shard: u64, place: u32) -> Option<Fate>
+    ensures { result ≡ fate_found found.now shard place }
+{
+    match found.fate(shard, place) {
+        None => None,
+        Some(told) => Some(told.fate),
+    }
+}
+
+fn given_at(fates: Option<&Fates>, place: u32) -> Option<Fate>
+    ensures { result ≡ fate_at (option_copied fates.entry) place }
+{
+    match fates {
+        None => None,
+        Some(fates) => fates.get(place),
+    }
+}
+
+fn is_fate(fate: Fate, given: Option<Fate>) -> bool
+    ensures { result ≡ is_fate fate given }
+{
+    match (fate, given) {
+        (Fate::Succeeded, Some(Fate::Succeeded)) => true,
+        (Fate::Filtered, Some(Fate::Filtered)) => true,
+        (Fate::Expired, Some(Fate::Expired)) => true,
+        (Fate::Exhausted, Some(Fate::Exhausted)) => true,
+        _ => false,
+    }
+}

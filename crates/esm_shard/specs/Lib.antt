@@ -1,9 +1,0 @@
-pub mod FirstPath
-pub mod CoreView
-pub mod Coming
-pub mod Following
-pub mod Ending
-pub mod Table
-pub mod Book
-pub mod Ledger
-pub mod Inside

@@ -1,0 +1,92 @@
+-- Why a run of a stream's mapping ended so. This product's own.
+use Rattle.std.specs.Prelude.{◌≡◌, ◌⊎◌, ◌++◌, ℕ, Bool, true, false, List, [], length, Option, Some, None, IsSome}
+use Rattle.esm_io.specs.Faults.{Rose}
+use Rattle.esm_io.specs.Told.{TakesFront}
+use Rattle.esm_model.specs.declared.book.Trouble.{Trouble}
+use Rattle.esm_model.specs.declared.book.Trouble.TheVariants as trouble
+use Rattle.esm_model.specs.declared.config.Config.{Config}
+use Rattle.esm_model.specs.declared.item.Record.{Record}
+use Rattle.esm_model.specs.declared.entry.Entry.{Entry}
+use Rattle.esm_model.specs.Setting.{Setting, records_of}
+use Rattle.esm_model.specs.Entries.{is_shut, came_count, calls_begun}
+use Rattle.esm_arrival.specs.Changes.{kept_otherwise}
+use Rattle.esm_arrival.specs.Coming.{of_shard}
+use Rattle.esm_record.specs.declared.item.LineKind.TheVariants as kinds
+use Rattle.esm_input.specs.declared.ending.InputEnd.{InputEnd}
+use Rattle.esm_input.specs.Positions.{from_start}
+use Rattle.esm_input.specs.Reading.{InputState, IsInput, items_read, handed}
+use Rattle.esm_upkeep.specs.Upkeep.{OneRose}
+use Rattle.esm_pool.specs.Coming.{records_in_items}
+use Rattle.esm_pool.specs.Ran.{AllFated, NoneOutstanding, HasOpen, HasOutstanding, IsOfRecord}
+use Rattle.esm_pool.specs.Running.{NoneRuns}
+use Rattle.esm_stream.specs.Files.{FilesState}
+use Rattle.esm_stream.specs.Headline.{Telling, Devices, IsSettingOf, CallsMade, CallsMadeOrOneMore, Headline}
+use Rattle.esm_stream.specs.declared.run.StreamEnd.{StreamEnd}
+use Rattle.esm_stream.specs.declared.run.StreamEnd.TheVariants as end
+
+-- all records came, and the end of the input was noted
+pub record AllCame (s : Setting) (h : List Entry) (records : List Record) : Type 0 where
+  pub lists : (n : ℕ) → records_of s n ≡ of_shard n records
+  pub came : (n : ℕ) → came_count h n ≡ length (records_of s n)
+  pub shut : is_shut h ≡ true
+
+-- the book's trouble, where the run ended by one
+abbrev pub trouble_of : StreamEnd → Option Trouble
+trouble_of (end.Finished why) = None
+trouble_of end.CallsSpent = None
+trouble_of end.DiskFault = Some trouble.Disk
+trouble_of end.DestFault = Some trouble.Dest
+trouble_of (end.Changed change) = Some (trouble.Changed change)
+
+-- why: each record has its fate, no window is outstanding, and the reading ended for this; all calls allowed began, and a
+-- record is open or a window outstanding; the faults of a disk of the journal rose, or those of the failure file; or a record
+-- came with another sequence number than was kept of its place
+abbrev pub IsCauseOf : {D F : Type 0} → Telling D F → FilesState D → Setting → List Entry → List Record → (reading : Option InputEnd) → Devices D F → StreamEnd → Type 0
+IsCauseOf t f s h records reading new (end.Finished why) = AllCame s h records × (reading ≡ Some why) × AllFated s h × NoneOutstanding s h
+IsCauseOf t f s h records reading new end.CallsSpent = AllCame s h records × IsSome reading × (calls_begun h ≡ s.calls) × (HasOpen s h ⊎ HasOutstanding s h)
+IsCauseOf t f s h records reading new end.DiskFault = OneRose t.disk f.journal f.spare new.journal new.spare
+IsCauseOf t f s h records reading new end.DestFault = Rose (t.disk.faults f.failures) (t.disk.faults new.failures)
+IsCauseOf t f s h records reading new (end.Changed change) = (kept_otherwise s change.shard change.place change.given ≡ Some change.kept) × IsOfRecord records change
+
+-- the input of a run of the configuration, as it was read
+pub record IsInputOf {S : Type 0} (faults : S → ℕ) (left : S → Option (List ℕ)) (config : Config) (old new : S) (i : InputState S) : Type 0 where
+  pub kind : i.kind ≡ kinds.Stream
+  pub factor : i.factor ≡ config.factor
+  pub start : i.start ≡ config.start
+  pub found : i.found ≡ old
+  pub source : i.source ≡ new
+  pub good : i.failed ≡ false
+  pub read : IsInput faults left i
+
+-- the run of the configuration over these files and this input left this history, and it ended so
+pub record HasEnded {S D F : Type 0} (t : Telling D F) (faults : S → ℕ) (left : S → Option (List ℕ)) (config : Config) (calls : ℕ) (f : FilesState D) (old_input new_input : S) (old_callers : List F) (h : List Entry) (new : Devices D F) (e : StreamEnd) : Type 0 where
+  pub input : InputState S
+  pub is_input : IsInputOf faults left config old_input new_input input
+  pub setting : Setting
+  pub is_setting : IsSettingOf config calls f.said (records_in_items (handed input)) setting
+  pub hand : List Entry
+  pub headline : Headline t f setting h (trouble_of e) hand new
+  -- caller k's log, where told, grew by the calls of batcher k, and no call is without its end
+  pub calls_made : CallsMade t setting h old_callers new.callers
+  pub rests : NoneRuns h
+  pub cause : IsCauseOf t f setting h (records_in_items (handed input)) input.end new e
+
+-- no device failed
+abbrev pub HasNoFault : Option Trouble → Type 0
+HasNoFault (Some trouble.Disk) = ⊥
+HasNoFault (Some trouble.Dest) = ⊥
+HasNoFault _ = Unit {0}
+
+-- Want of memory stopped it: these bytes were read, the records of their lines came, or the first of them, and more bytes may
+-- have been read after them. No disk failed.
+pub record HasStoppedRun {S D F : Type 0} (t : Telling D F) (left : S → Option (List ℕ)) (config : Config) (calls : ℕ) (f : FilesState D) (old_input new_input : S) (old_callers : List F) (h : List Entry) (new : Devices D F) : Type 0 where
+  pub bytes : List ℕ
+  pub more : List ℕ
+  pub whole : Bool
+  pub taken : TakesFront (left old_input) (left new_input) (bytes ++ more)
+  pub setting : Setting
+  pub is_setting : IsSettingOf config calls f.said (records_in_items (from_start config.start (items_read kinds.Stream config.factor whole bytes).items)) setting
+  pub trouble : Option Trouble
+  pub no_fault : HasNoFault trouble
+  pub headline : Headline t f setting h trouble [] new
+  pub calls_made : CallsMadeOrOneMore t setting h old_callers new.callers

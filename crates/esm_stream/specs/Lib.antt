@@ -1,0 +1,5 @@
+pub mod Files
+pub mod Headline
+pub mod Ended
+pub mod Openings
+pub mod Runs

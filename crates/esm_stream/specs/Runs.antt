@@ -1,0 +1,99 @@
+-- A run that is to begin, how it came to its end, and what it leaves. Only this crate's proofs cite this.
+use Rattle.std.specs.Prelude.{◌≡◌, ℕ, true, false, List, [], Result, Ok, Err, Option, Some, None, IsSome}
+use Rattle.esm_io.specs.Images.{Only}
+use Rattle.esm_io.specs.Meanings.{DiskMeaning, DestMeaning, destination}
+use Rattle.esm_journal.specs.Pair.{PairState, PairKeepsWhileUp, first_disk, second_disk}
+use Rattle.esm_journal.specs.State.{JournalState, KeepsWhileUp, KeepsWhileDown}
+use Rattle.esm_model.specs.declared.book.Trouble.{Trouble}
+use Rattle.esm_model.specs.declared.book.Trouble.TheVariants as trouble
+use Rattle.esm_model.specs.declared.book.Change.{Change}
+use Rattle.esm_model.specs.declared.config.Config.{Config}
+use Rattle.esm_model.specs.declared.memory.OutOfMemory.{OutOfMemory}
+use Rattle.esm_book.specs.State.{in_hand}
+use Rattle.esm_ledger.specs.Ledger.{opened_with, LegalOver}
+use Rattle.esm_owing.specs.OwingView.{new_view, full_setting}
+use Rattle.esm_record.specs.declared.item.LineKind.TheVariants as kinds
+use Rattle.esm_input.specs.declared.ending.InputEnd.{InputEnd}
+use Rattle.esm_input.specs.Reading.{InputState}
+use Rattle.esm_said.specs.SaidLists.{SaidLists}
+use Rattle.esm_sbook.specs.Books.{BookState, OpensToFirst, payloads_in}
+use Rattle.esm_sbook.specs.Keeping.{HasJournal, HasLines, entries_left}
+use Rattle.esm_pool.specs.declared.running.RunEnd.{RunEnd}
+use Rattle.esm_pool.specs.declared.running.RunEnd.TheVariants as ran
+use Rattle.esm_stream.specs.Files.{FilesState, IsOpenedFiles}
+use Rattle.esm_stream.specs.declared.run.StreamEnd.{StreamEnd}
+use Rattle.esm_stream.specs.declared.run.StreamEnd.TheVariants as end
+
+-- what begins
+
+-- nothing was read of the input
+abbrev pub new_input : {S : Type 0} → Config → S → InputState S
+new_input config source = record { kind = kinds.Stream; factor = config.factor; start = config.start; found = source; source = source; bytes = []; whole = false; end = None; failed = false }
+
+-- the book and the input of a run with this configuration are new, over these files and this source
+pub record IsBegun {S D : Type 0} (config : Config) (calls : ℕ) (said : SaidLists) (pair : PairState D) (dest : JournalState D) (source : S) (b : BookState D (JournalState D)) (i : InputState S) (name : List ℕ) : Type 0 where
+  pub core : b.core ≡ new_view (opened_with config calls said)
+  pub pair_is : b.pair ≡ pair
+  pub dest_is : b.dest ≡ dest
+  pub found : b.found ≡ pair
+  pub found_dest : b.found_dest ≡ dest
+  pub up : b.trouble ≡ None
+  pub input : i ≡ new_input config source
+  pub name_is : name ≡ config.function
+
+-- the files of a run that has begun
+abbrev pub files_of : {D : Type 0} → (journal spare failures : D) → SaidLists → BookState D (JournalState D) → FilesState D
+files_of journal spare failures said b = record { journal = journal; spare = spare; failures = failures; pair = b.pair; said = said; dest = b.dest }
+
+-- how it ended
+
+-- the batchers came to an end for which there is a reason
+abbrev pub HasReason : Option Trouble → Option InputEnd → RunEnd → Type 0
+HasReason why reading ran.Finished = IsSome reading
+HasReason why reading ran.Spent = Unit {0}
+HasReason why reading ran.Down = IsSome why
+
+-- the end of a run by which the batchers came to this, with this trouble of the book, and the reading to that
+abbrev pub IsEndOf : RunEnd → Option Trouble → Option InputEnd → StreamEnd → Type 0
+IsEndOf r why reading (end.Finished last) = (r ≡ ran.Finished) × (reading ≡ Some last)
+IsEndOf r why reading end.CallsSpent = r ≡ ran.Spent
+IsEndOf r why reading end.DiskFault = (r ≡ ran.Down) × (why ≡ Some trouble.Disk)
+IsEndOf r why reading end.DestFault = (r ≡ ran.Down) × (why ≡ Some trouble.Dest)
+IsEndOf r why reading (end.Changed change) = (r ≡ ran.Down) × (why ≡ Some (trouble.Changed change))
+
+abbrev pub EndsBy : Result RunEnd OutOfMemory → Option Trouble → Option InputEnd → StreamEnd → Type 0
+EndsBy (Ok r) why reading e = IsEndOf r why reading e
+EndsBy (Err none) why reading e = ⊥
+
+-- want of memory stopped the batchers, or the telling of a change
+abbrev pub StopsBy : Result RunEnd OutOfMemory → Option Trouble → Type 0
+StopsBy (Ok r) why = (change : Change) × (r ≡ ran.Down) × (why ≡ Some (trouble.Changed change))
+StopsBy (Err none) why = Unit {0}
+
+-- what it leaves
+
+-- a failure file as a destination
+abbrev pub file_dest : {D : Type 0} → DiskMeaning D → DestMeaning (JournalState D)
+file_dest m = destination (λ d. m.honest d.disk) (λ d. m.faults d.disk) (λ d. Some d.payloads) (λ line. line) (λ d. d.down)
+
+-- what a crash leaves of the disks since they were handed in
+abbrev pub LeavesSince : {D : Type 0} → DiskMeaning D → FilesState D → BookState D (JournalState D) → Type 0
+LeavesSince m f b =
+    m.honest f.journal ≡ true → m.honest f.spare ≡ true → Only (m.content f.journal) (m.image f.journal) → Only (m.content f.spare) (m.image f.spare) → (one other : List ℕ) →
+    m.since (first_disk b.pair) (m.moment f.journal) one → m.since (second_disk b.pair) (m.moment f.spare) other →
+    OpensToFirst (file_dest m) (full_setting b.core) b.found.epoch b.found.payloads b.found_dest b.dest (entries_left b) one other
+
+-- the book was opened over these files, and this holds of it and of its devices
+pub record IsLeft {D : Type 0} (m : DiskMeaning D) (f : FilesState D) (b : BookState D (JournalState D)) : Type 0 where
+  pub files : IsOpenedFiles m f
+  pub found : b.found ≡ f.pair
+  pub found_dest : b.found_dest ≡ f.dest
+  pub legal : LegalOver b.core.setting b.core.past
+  pub journal : HasJournal m b
+  pub lines : HasLines (file_dest m) b
+  pub since : LeavesSince m f b
+  pub pair_kept : PairKeepsWhileUp m b.pair
+  pub dest_kept : KeepsWhileUp m b.dest
+  pub dest_stopped : KeepsWhileDown m b.dest
+  -- no records are coming that the entry in hand names
+  pub hand : payloads_in (full_setting b.core) (in_hand b.trouble b.core.owed) ≡ payloads_in b.core.setting (in_hand b.trouble b.core.owed)
