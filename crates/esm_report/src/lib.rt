@@ -10,4 +10,4 @@ mod shard;
 mod totals;
 
 pub use ending::{Ending, LimitName};
-pub use output::{last_line, report};
+pub use output::{last_line, push_calls_line, push_last_line, push_texts, report, stands_alone};

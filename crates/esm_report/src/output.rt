@@ -36,7 +36,7 @@ pub fn report(
     }
     let mut out = Vec::new(alloc);
     push_history(alloc, &mut out, said, trace)?;
-    push_ending(&mut out, ending)?;
+    push_last_line(&mut out, ending)?;
     Ok(out)
 }
 
@@ -46,7 +46,7 @@ pub fn last_line(alloc: Global, ending: &Ending) -> Result<Vec<u8>, OutOfMemory>
     ensures { IfOk result (λ text. (s : Setting) (h : List Entry) → text.items ≡ report_text s h ending.now) }
 {
     let mut text = Vec::new(alloc);
-    push_ending(&mut text, ending)?;
+    push_last_line(&mut text, ending)?;
     Ok(text)
 }
 
@@ -61,11 +61,19 @@ fn push_history(
 {
     let totals = totals_of(alloc, trace)?;
     push_totals(out, said, &totals)?;
-    push_calls(out, calls_begun(trace))?;
+    push_calls_line(out, trace)?;
     Ok(())
 }
 
-fn stands_alone(ending: &Ending) -> bool
+/// Writes the line of the calls behind what stands there: how many began in a history, the oldest entry first.
+pub fn push_calls_line(out: &mut Vec<u8>, trace: &[Entry]) -> Result<(), OutOfMemory>
+    ensures { OnOk result (out.new.items ≡ out.old.items ++ line (calls_text (reverse trace.now))) }
+{
+    push_calls(out, calls_begun(trace))
+}
+
+/// Whether the last line is the whole report, since nothing ran.
+pub fn stands_alone(ending: &Ending) -> bool
     ensures { result ≡ stands_alone ending.now }
 {
     match ending {
@@ -190,7 +198,8 @@ fn calls_begun(trace: &[Entry]) -> u64
     calls
 }
 
-fn push_ending(out: &mut Vec<u8>, ending: &Ending) -> Result<(), OutOfMemory>
+/// Writes the last line of a report behind what stands there: how the run ended, and a line feed.
+pub fn push_last_line(out: &mut Vec<u8>, ending: &Ending) -> Result<(), OutOfMemory>
     ensures { OnOk result (out.new.items ≡ out.old.items ++ last_line ending.now) }
 {
     push_ending_text(out, ending)?;
@@ -280,7 +289,8 @@ fn push_place(out: &mut Vec<u8>, shard: u64, place: u32) -> Result<(), OutOfMemo
     Ok(())
 }
 
-fn push_texts(out: &mut Vec<u8>, kept: &Text, given: &Text) -> Result<(), OutOfMemory>
+/// Writes of a change the text that was kept, and the one that is given.
+pub fn push_texts(out: &mut Vec<u8>, kept: &Text, given: &Text) -> Result<(), OutOfMemory>
     ensures { OnOk result (out.new.items ≡ out.old.items ++ texts_part kept.now given.now) }
 {
     push_bytes(out, b" kept ")?;
