@@ -30,22 +30,27 @@ use Rattle.esm_queue_core.specs.declared.decisions.QueueCall.{QueueCall}
 use Rattle.esm_queue_core.specs.declared.decisions.QueueCall.TheVariants as call
 use Rattle.esm_queue_core.specs.declared.decisions.QueueAnswer.{QueueAnswer}
 use Rattle.esm_queue_core.specs.declared.decisions.QueueAnswer.TheVariants as answer
-use Rattle.esm_queue_core.specs.CoreView.{CoreView, moment_for, LegalAhead, SettledAhead, IsRunningJob, owing}
-use Rattle.esm_queue_core.specs.Coming.{gave_entries, refused_from, came_from, IsFirstChange}
+use Rattle.esm_queue_core.specs.CoreView.{CoreView, moment_for, LegalAhead, SettledAhead, IsRunningJob, owing, forgotten}
+use Rattle.esm_queue_core.specs.Coming.{gave_entries, refused_from, came_from, came_entries, IsFirstChange}
 use Rattle.esm_queue_core.specs.Ending.{ended_places, ended_entries}
 use Rattle.esm_queue_core.specs.Next.{job_of, is_all_deleted, pause_end, next_batch, next_allowed, next_for, next_entries}
-use Rattle.esm_queue_core.specs.Told.{queue_entries, told_entries, MayAsk, MayCome, Adds, Decides, Refuses}
+use Rattle.esm_queue_core.specs.Told.{queue_entries, history_of, told_entries, MayAsk, MayCome, Adds, Decides, Refuses}
 use Rattle.esm_model.proofs.Steps.{same_lane-refl}
+use Rattle.esm_queue_core.proofs.Tellings.{told_coming}
+use Rattle.esm_qbook.specs.Books.{payloads_in}
 use Rattle.esm_qbook.specs.Calls.{RunsCall}
 use Rattle.esm_qbook.specs.Carried.{coming_by, messages_after, entries_by, IsAnswer}
+use Rattle.esm_qbook.proofs.Staying.{all_came}
 
--- these entries are decided, over these messages, of which the last are coming: the first entry brings them
+-- these entries are decided, over these messages, of which the last are coming: the first entry brings them, and nothing is
+-- written of it
 pub record DecidedSo (v : CoreView) (coming messages : List Message) (es : List Entry) : Type 0 where
   pub all : messages ≡ v.setting.messages ++ coming
   pub legal : LegalAhead (owing v coming es)
   pub settled : SettledAhead (owing v coming es)
   pub brings : messages_told (told_entries messages es) ≡ coming
   pub only_first : messages_told (told_entries messages (drop 1 es)) ≡ []
+  pub first_unwritten : payloads_in messages (take 1 es) ≡ []
   pub of_queue : All (IsOfQueue v.setting.config.kind) (told_entries messages es)
 
 -- deletions
@@ -71,6 +76,7 @@ came_so v [] m may legal settled = record {
   settled = settled;
   brings = refl;
   only_first = refl;
+  first_unwritten = refl;
   of_queue = All-nil (IsOfQueue v.setting.config.kind);
 }
 came_so v (x ∷ xs) m may legal settled =
@@ -85,6 +91,7 @@ came_so v (x ∷ xs) m may legal settled =
       settled = settled;
       brings = ap₂ (λ (ms more : List Message). ms ++ more) covers silent ∙ append-nil (x ∷ xs);
       only_first = silent;
+      first_unwritten = refl;
       of_queue = All-cons (IsOfQueue kind) _ (told_entries (old ++ x ∷ xs) (gave_entries None places Filtered m))
           (record {
             messages = record {
@@ -106,12 +113,13 @@ next_so v (next.Call job) m legal settled = record {
   settled = settled;
   brings = refl;
   only_first = refl;
+  first_unwritten = refl;
   of_queue = All-cons (IsOfQueue v.setting.config.kind) _ [] (record { messages = refl; no_records = refl }) (All-nil (IsOfQueue v.setting.config.kind));
 }
-next_so v (next.Gave count) m legal settled = record { all = sym (append-nil v.setting.messages); legal = legal; settled = settled; brings = refl; only_first = refl; of_queue = All-nil (IsOfQueue v.setting.config.kind) }
-next_so v (next.Idle until) m legal settled = record { all = sym (append-nil v.setting.messages); legal = legal; settled = settled; brings = refl; only_first = refl; of_queue = All-nil (IsOfQueue v.setting.config.kind) }
-next_so v next.Spent m legal settled = record { all = sym (append-nil v.setting.messages); legal = legal; settled = settled; brings = refl; only_first = refl; of_queue = All-nil (IsOfQueue v.setting.config.kind) }
-next_so v next.Finished m legal settled = record { all = sym (append-nil v.setting.messages); legal = legal; settled = settled; brings = refl; only_first = refl; of_queue = All-nil (IsOfQueue v.setting.config.kind) }
+next_so v (next.Gave count) m legal settled = record { all = sym (append-nil v.setting.messages); legal = legal; settled = settled; brings = refl; only_first = refl; first_unwritten = refl; of_queue = All-nil (IsOfQueue v.setting.config.kind) }
+next_so v (next.Idle until) m legal settled = record { all = sym (append-nil v.setting.messages); legal = legal; settled = settled; brings = refl; only_first = refl; first_unwritten = refl; of_queue = All-nil (IsOfQueue v.setting.config.kind) }
+next_so v next.Spent m legal settled = record { all = sym (append-nil v.setting.messages); legal = legal; settled = settled; brings = refl; only_first = refl; first_unwritten = refl; of_queue = All-nil (IsOfQueue v.setting.config.kind) }
+next_so v next.Finished m legal settled = record { all = sym (append-nil v.setting.messages); legal = legal; settled = settled; brings = refl; only_first = refl; first_unwritten = refl; of_queue = All-nil (IsOfQueue v.setting.config.kind) }
 
 -- a call ends
 
@@ -126,6 +134,7 @@ ended_so v lane reply places m legal settled =
       settled = settled;
       brings = silent_gave messages (Some lane) places Succeeded m;
       only_first = silent_gave messages (Some lane) places Succeeded m;
+      first_unwritten = refl;
       of_queue = All-cons (IsOfQueue kind) _ (told_entries messages (gave_entries (Some lane) places Succeeded m)) (record { messages = refl; no_records = refl }) (gave_of_queue kind messages (Some lane) places Succeeded m);
     }
 
@@ -167,6 +176,18 @@ decided_so v (call.Done job reply moment) (answer.Deleted count) entries may d =
     }
 decided_so v (call.Done job reply moment) answer.Taken entries may d = absurd d
 decided_so v (call.Done job reply moment) (answer.Next n) entries may d = absurd d
+
+-- what was told before it is told so over the messages that come
+
+forgotten_again : (v : CoreView) → v.coming ≡ [] → v.owed ≡ [] → forgotten v ≡ v
+forgotten_again v none settled = ap₂ (λ (ms : List Message) (es : List Entry). record v { coming = ms; owed = es }) (sym none) (sym settled)
+
+pub told_before : (v : CoreView) (asked : QueueCall) → v.coming ≡ [] → v.owed ≡ [] → LegalAhead (owing v (coming_by asked) (entries_by v asked)) → queue_entries (messages_after v asked) v.past ≡ history_of v
+told_before v (call.Came items moment) none settled legal =
+    told_coming v (owing v items.items (came_entries v items.items moment)) items.items moment refl (forgotten_again v none settled) legal
+told_before v (call.Shut moment) none settled legal = ap (λ (ms : List Message). queue_entries ms v.past) (sym (all_came v none))
+told_before v (call.Next batcher moment) none settled legal = ap (λ (ms : List Message). queue_entries ms v.past) (sym (all_came v none))
+told_before v (call.Done job reply moment) none settled legal = ap (λ (ms : List Message). queue_entries ms v.past) (sym (all_came v none))
 
 -- what was taken had not changed
 

@@ -1,5 +1,5 @@
 -- What the layer over devices tells of a call, in the words of queues.
-use Rattle.std.proofs.Common.{◌≡◌, ℕ, List, [], ◌∷◌, ◌++◌, drop, reverse, sym, ap, ◌∙◌, subst, append_assoc, append-nil, None}
+use Rattle.std.proofs.Common.{◌≡◌, ℕ, ◌<◌, List, [], ◌∷◌, ◌++◌, length, take, drop, reverse, sym, ap, ◌∙◌, subst, arith, append_assoc, append-nil, None}
 use Rattle.std.specs.Prelude.{slice_get}
 use Rattle.std.specs.List.{All}
 use Rattle.std.proofs.lemmas.List.{reverse-append}
@@ -15,6 +15,7 @@ use Rattle.esm_queue_model.specs.QueueBooks.{messages_told, IsOfQueue}
 use Rattle.esm_book.specs.declared.nowhere.Nowhere.{Nowhere}
 use Rattle.esm_book.specs.Decided.{CoreMeaning, decisions, written_of}
 use Rattle.esm_book.specs.Growth.{LeavesFronts, OpensToFront}
+use Rattle.esm_book.specs.State.{in_hand}
 use Rattle.esm_queue_core.specs.declared.decisions.Opened.{Opened}
 use Rattle.esm_queue_core.specs.declared.decisions.QueueEntry.{QueueEntry}
 use Rattle.esm_queue_core.specs.CoreView.{CoreView}
@@ -25,6 +26,7 @@ use Rattle.esm_qbook.specs.Books.{BookState, payloads_in, OpensToFirst, LeavesFi
 use Rattle.esm_qbook.specs.Calls.{Added}
 use Rattle.esm_qbook.specs.Keeping.{IsSound}
 use Rattle.esm_qbook.proofs.Entries.{past_grows, told_grows, All-front, both_none}
+use Rattle.esm_qbook.proofs.Staying.{all_came, past_over, hand_over, stays_so}
 use Rattle.esm_qbook.proofs.Deciding.{DecidedSo}
 
 -- how a core means its history and what it owes
@@ -39,6 +41,7 @@ pub record Went {D : Type 0} (old new : BookState D) (X : List QueueEntry) : Typ
   pub found : new.found ≡ old.found
   pub messages : new.core.setting.messages ≡ messages_told (told_of new.core)
   pub messages_before : old.core.setting.messages ≡ messages_told (told_of old.core)
+  pub rests : new.core.owed ≡ [] → new.core.coming ≡ []
 
 -- the setting is as it was opened
 
@@ -103,16 +106,22 @@ module _ {D : Type 0} (old new : BookState D) (X : List QueueEntry) (coming mess
       opened_so new.core old.core w.origin
       ∙ ap (over_messages old.core.setting) (messages_grow old new X messages es w is ∙ (ap (λ (ms : List Message). old.core.setting.messages ++ ms) so.brings ∙ sym so.all))
 
-  pub sound_all : Went old new X → X ≡ queue_entries messages es → DecidedSo old.core coming messages es → IsSound old → IsSound new
-  sound_all w is so sound =
+  pub sound_all : Went old new X → X ≡ queue_entries messages es → DecidedSo old.core coming messages es → new.core.owed ≡ [] → IsSound old → IsSound new
+  sound_all w is so owed sound =
       let s = over_messages old.core.setting messages in
       let goes = extends_all (old.core.setting.messages ++ coming) messages so.all in
       let setting : s ≡ new.core.setting = sym (setting_all w is so) in
       let past : reverse es ++ old.core.past ≡ new.core.past = sym (past_grows old.core new.core messages es X w.history is) in
+      let all = all_came new.core (w.rests owed) in
       record {
+        messages = w.messages;
         of_queue = of_queue_so old new X messages es w is sound so.of_queue;
         legal = subst (λ (t : QueueSetting). LegalQueue t new.core.past) setting (subst (LegalQueue s) past (so.legal messages goes));
         settled = λ up. subst (λ (t : QueueSetting). SettledQueue t new.core.past) setting (subst (SettledQueue s) past (so.settled messages goes));
+        none_owed = λ up. owed;
+        none_coming = w.rests;
+        stays = ap (λ (ms : List Message). payloads_in ms (reverse new.core.past)) all;
+        hand = ap (λ (ms : List Message). payloads_in ms (in_hand new.trouble new.core.owed)) all;
       }
 
 -- a part was added
@@ -128,33 +137,48 @@ front_brings messages coming e front rest brings none =
     ∙ (sym (apart (e ∷ front) rest) ∙ brings))
 
 module _ {D : Type 0} (old new : BookState D) (X : List QueueEntry) (coming messages : List Message) where
-  legal_some : (front rest es : List Entry) → Went old new X → X ≡ queue_entries messages front → front ++ rest ≡ es → DecidedSo old.core coming messages es → IsSound old → LegalQueue new.core.setting new.core.past
-  legal_some [] rest es w is split so sound =
-      let past : old.core.past ≡ new.core.past = sym (past_grows old.core new.core messages [] X w.history is) in
-      let setting : old.core.setting ≡ new.core.setting
-      = sym (opened_so new.core old.core w.origin ∙ ap (over_messages old.core.setting) (messages_grow old new X messages [] w is ∙ append-nil old.core.setting.messages)) in
-      subst (λ (t : QueueSetting). LegalQueue t new.core.past) setting (subst (LegalQueue old.core.setting) past sound.legal)
-  legal_some (e ∷ front) rest es w is split so sound =
-      let s = over_messages old.core.setting messages in
+  -- where the next entry was being written, the first one was added: all that were coming have come
+  came_so_far : (front rest es : List Entry) → Went old new X → X ≡ queue_entries messages front → front ++ rest ≡ es → DecidedSo old.core coming messages es → 0 < length (payloads_in messages (take 1 rest)) → new.core.setting.messages ≡ messages
+  came_so_far [] rest es w is split so writing =
+      let none : payloads_in messages (take 1 rest) ≡ [] = ap (λ (xs : List Entry). payloads_in messages (take 1 xs)) split ∙ so.first_unwritten in
+      let short : length (payloads_in messages (take 1 rest)) ≡ 0 = ap (λ (texts : List (List ℕ)). length texts) none in
+      absurd (omega (arith, writing, short))
+  came_so_far (e ∷ front) rest es w is split so writing =
       let brings = subst (λ (xs : List Entry). messages_told (told_entries messages xs) ≡ coming) (sym split) so.brings in
       let none = subst (λ (xs : List Entry). messages_told (told_entries messages (drop 1 xs)) ≡ []) (sym split) so.only_first in
+      messages_grow old new X messages (e ∷ front) w is
+      ∙ (ap (λ (ms : List Message). old.core.setting.messages ++ ms) (front_brings messages coming e front rest brings none) ∙ sym so.all)
+
+  legal_some : (front rest es : List Entry) → Went old new X → X ≡ queue_entries messages front → front ++ rest ≡ es → DecidedSo old.core coming messages es → new.core.setting.messages ≡ messages → LegalQueue new.core.setting new.core.past
+  legal_some front rest es w is split so came =
+      let s = over_messages old.core.setting messages in
       let goes = extends_all (old.core.setting.messages ++ coming) messages so.all in
-      let all : LegalQueue s (reverse ((e ∷ front) ++ rest) ++ old.core.past) = subst (λ (xs : List Entry). LegalQueue s (reverse xs ++ old.core.past)) (sym split) (so.legal messages goes) in
-      let apart : reverse ((e ∷ front) ++ rest) ++ old.core.past ≡ reverse rest ++ (reverse (e ∷ front) ++ old.core.past)
-      = ap (λ (xs : List Entry). xs ++ old.core.past) (reverse-append (e ∷ front) rest) ∙ append_assoc (reverse rest) (reverse (e ∷ front)) old.core.past in
-      let front_legal = legal_before s (reverse rest) (reverse (e ∷ front) ++ old.core.past) (subst (LegalQueue s) apart all) in
-      let past : reverse (e ∷ front) ++ old.core.past ≡ new.core.past = sym (past_grows old.core new.core messages (e ∷ front) X w.history is) in
-      let setting : s ≡ new.core.setting
-      = sym (opened_so new.core old.core w.origin ∙ ap (over_messages old.core.setting) (messages_grow old new X messages (e ∷ front) w is ∙ (ap (λ (ms : List Message). old.core.setting.messages ++ ms) (front_brings messages coming e front rest brings none) ∙ sym so.all))) in
+      let all : LegalQueue s (reverse (front ++ rest) ++ old.core.past) = subst (λ (xs : List Entry). LegalQueue s (reverse xs ++ old.core.past)) (sym split) (so.legal messages goes) in
+      let apart : reverse (front ++ rest) ++ old.core.past ≡ reverse rest ++ (reverse front ++ old.core.past)
+      = ap (λ (xs : List Entry). xs ++ old.core.past) (reverse-append front rest) ∙ append_assoc (reverse rest) (reverse front) old.core.past in
+      let front_legal = legal_before s (reverse rest) (reverse front ++ old.core.past) (subst (LegalQueue s) apart all) in
+      let past : reverse front ++ old.core.past ≡ new.core.past = sym (past_grows old.core new.core messages front X w.history is) in
+      let setting : s ≡ new.core.setting = sym (opened_so new.core old.core w.origin ∙ ap (over_messages old.core.setting) came) in
       subst (λ (t : QueueSetting). LegalQueue t new.core.past) setting (subst (LegalQueue s) past front_legal)
 
-  pub sound_some : (front rest es : List Entry) → Went old new X → X ≡ queue_entries messages front → front ++ rest ≡ es → DecidedSo old.core coming messages es → IsSound old → (new.trouble ≡ None → ⊥) → IsSound new
-  sound_some front rest es w is split so sound down =
+  pub sound_some : (front es : List Entry) → Went old new X → X ≡ queue_entries messages front → owed_of new.core ≡ queue_entries messages new.core.owed → front ++ new.core.owed ≡ es → DecidedSo old.core coming messages es
+      → queue_entries messages old.core.past ≡ history_of old.core → 0 < length (payloads_in messages (take 1 new.core.owed)) → IsSound old → (new.trouble ≡ None → ⊥) → IsSound new
+  sound_some front es w is owes split so before writing sound down =
       let kind = old.core.setting.config.kind in
+      let rest = new.core.owed in
+      let came = came_so_far front rest es w is split so writing in
+      let back : messages ≡ new.core.setting.messages = sym came in
       let all : All (IsOfQueue kind) (told_entries messages front ++ told_entries messages rest)
       = subst (All (IsOfQueue kind)) (ap (told_entries messages) (sym split) ∙ told-append messages front rest) so.of_queue in
       record {
+        messages = w.messages;
         of_queue = of_queue_so old new X messages front w is sound (All-front (IsOfQueue kind) (told_entries messages front) (told_entries messages rest) all);
-        legal = legal_some front rest es w is split so sound;
+        legal = legal_some front rest es w is split so came;
         settled = λ up. absurd (down up);
+        none_owed = λ up. absurd (down up);
+        none_coming = w.rests;
+        stays = stays_so old.core new.core messages front X w.history is
+            (past_over old.core messages before ∙ ap (λ (ms : List Message). payloads_in ms (reverse old.core.past)) back)
+            (ap (λ (ms : List Message). payloads_in ms front) back);
+        hand = hand_over new.trouble new.core messages owes ∙ ap (λ (ms : List Message). payloads_in ms (in_hand new.trouble rest)) back;
       }

@@ -1,9 +1,10 @@
 -- How an entry that is noted ends.
-use Rattle.std.proofs.Common.{◌≡◌, ℕ, ◌≤◌, false, List, [], ◌∷◌, ◌++◌, map, reverse, refl, sym, ap, ◌∙◌, subst, arith, append-nil, None}
+use Rattle.std.proofs.Common.{◌≡◌, ℕ, ◌≤◌, false, List, [], ◌∷◌, ◌++◌, map, reverse, refl, sym, ap, ap₂, ◌∙◌, subst, arith, append-nil, Option, None}
 use Rattle.std.specs.List.{All}
 use Rattle.std.proofs.lemmas.List.Elements.{All-nil, All-cons}
 use Rattle.esm_model.specs.declared.moment.TheConstants.{MAX_MOMENT}
 use Rattle.esm_model.specs.declared.item.Message.{Message}
+use Rattle.esm_model.specs.declared.book.Trouble.{Trouble}
 use Rattle.esm_model.specs.declared.book.Job.{Job}
 use Rattle.esm_model.specs.declared.entry.Reply.{Reply}
 use Rattle.esm_model.specs.declared.entry.Entry.{Entry}
@@ -14,16 +15,18 @@ use Rattle.esm_queue_model.specs.QueueSetting.{QueueSetting, over_messages}
 use Rattle.esm_queue_model.specs.QueueStep.{LegalQueue, SettledQueue}
 use Rattle.esm_queue_model.specs.QueueBooks.{messages_told, IsOfQueue}
 use Rattle.esm_book.specs.Decided.{written_of}
+use Rattle.esm_book.specs.State.{in_hand}
 use Rattle.esm_queue_core.specs.declared.decisions.QueueEntry.{QueueEntry}
 use Rattle.esm_queue_core.proofs.Tellings.{payload_in}
 use Rattle.esm_queue_core.specs.CoreView.{all_messages, moment_for, IsRunningJob}
 use Rattle.esm_queue_core.specs.Sound.{Sound, ShutIsSound}
 use Rattle.esm_queue_core.specs.Told.{queue_entries, history_of, owed_of, opened, told_entries, told_of}
-use Rattle.esm_qbook.specs.Books.{BookState}
+use Rattle.esm_qbook.specs.Books.{BookState, payloads_in}
 use Rattle.esm_qbook.specs.Calls.{AddedOne}
 use Rattle.esm_qbook.specs.Keeping.{IsSound}
 use Rattle.esm_qbook.specs.Carried.{Noted}
 use Rattle.esm_qbook.proofs.Entries.{entry_in, past_grows, told_grows, owed_entries}
+use Rattle.esm_qbook.proofs.Staying.{hand_over, stays_so}
 use Rattle.esm_qbook.proofs.Going.{Went, messages_grow, of_queue_so, opened_so}
 
 pub later_for : (h : List Entry) (moment : ℕ) → last_moment h ≤ MAX_MOMENT → IsLater h (moment_for h moment)
@@ -31,14 +34,15 @@ later_for h moment within = record { not_back = omega arith; within = omega arit
 
 -- nothing is written of what is noted
 pub note_went : {D : Type 0} (old new : BookState D) (X : List QueueEntry) → history_of new.core ≡ reverse X ++ history_of old.core → opened new.core ≡ opened old.core → new ≡ record old { core = new.core } → written_of payload_in X ≡ []
-    → new.core.setting.messages ≡ messages_told (told_of new.core) → old.core.setting.messages ≡ messages_told (told_of old.core) → Went old new X
-note_went {D} old new X history origin rest silent messages before = record {
+    → new.core.setting.messages ≡ messages_told (told_of new.core) → old.core.setting.messages ≡ messages_told (told_of old.core) → (new.core.owed ≡ [] → new.core.coming ≡ []) → Went old new X
+note_went {D} old new X history origin rest silent messages before rests = record {
   history = history;
   origin = origin;
   payloads = ap (λ (b : BookState D). b.pair.payloads) rest ∙ (sym (append-nil old.pair.payloads) ∙ ap (λ (texts : List (List ℕ)). old.pair.payloads ++ texts) (sym silent));
   found = ap (λ (b : BookState D). b.found) rest;
   messages = messages;
   messages_before = before;
+  rests = rests;
 }
 
 module _ {D : Type 0} (old new : BookState D) (e : Entry) (X : List QueueEntry) where
@@ -56,15 +60,27 @@ module _ {D : Type 0} (old new : BookState D) (e : Entry) (X : List QueueEntry) 
       }
 
   sound_one : Went old new X → X ≡ queue_entries (all_messages old.core) (e ∷ []) → AddedOne old new e → IsSound old → All (IsOfQueue old.core.setting.config.kind) (told_entries (all_messages old.core) (e ∷ []))
-      → LegalQueue old.core.setting (e ∷ old.core.past) → (old.trouble ≡ None → SettledQueue old.core.setting (e ∷ old.core.past)) → IsSound new
-  sound_one w is added sound told legal settled =
+      → LegalQueue old.core.setting (e ∷ old.core.past) → (old.trouble ≡ None → SettledQueue old.core.setting (e ∷ old.core.past)) → ((ms : List Message) → payloads_in ms (e ∷ []) ≡ []) → owed_of new.core ≡ owed_of old.core → IsSound new
+  sound_one w is added sound told legal settled unwritten owed =
       let past : e ∷ old.core.past ≡ new.core.past = sym added.past in
       let setting : old.core.setting ≡ new.core.setting = sym added.setting in
       let same : new.trouble ≡ old.trouble = ap (λ (b : BookState D). b.trouble) added.rest in
+      let messages = all_messages old.core in
+      let came : old.core.setting.messages ≡ new.core.setting.messages = ap (λ (t : QueueSetting). t.messages) setting in
       record {
+        messages = w.messages;
         of_queue = of_queue_so old new X (all_messages old.core) (e ∷ []) w is sound told;
         legal = subst (λ (t : QueueSetting). LegalQueue t new.core.past) setting (subst (LegalQueue old.core.setting) past legal);
         settled = λ up. subst (λ (t : QueueSetting). SettledQueue t new.core.past) setting (subst (SettledQueue old.core.setting) past (settled (sym same ∙ up)));
+        none_owed = λ up. added.owed ∙ sound.none_owed (sym same ∙ up);
+        none_coming = w.rests;
+        stays = stays_so old.core new.core messages (e ∷ []) X w.history is (sound.stays ∙ ap (λ (ms : List Message). payloads_in ms (reverse old.core.past)) came)
+            (unwritten messages ∙ sym (unwritten new.core.setting.messages));
+        hand = hand_over new.trouble new.core messages (owed ∙ ap (queue_entries messages) (sym added.owed))
+            ∙ (ap₂ (λ (t : Option Trouble) (es : List Entry). payloads_in messages (in_hand t es)) same added.owed
+            ∙ (sound.hand
+            ∙ (ap₂ (λ (t : Option Trouble) (es : List Entry). payloads_in old.core.setting.messages (in_hand t es)) (sym same) (sym added.owed)
+            ∙ ap (λ (ms : List Message). payloads_in ms (in_hand new.trouble new.core.owed)) came)));
       }
 
 one_of_queue : {D : Type 0} (old : BookState D) (e : Entry) → IsOfQueue old.core.setting.config.kind (record { entry = e; records = []; messages = [] }) → All (IsOfQueue old.core.setting.config.kind) (record { entry = e; records = []; messages = [] } ∷ [])
@@ -78,7 +94,7 @@ noted_end old new job reply moment X sound down runs within w is owed rest =
     let added = added_one old new e X w is refl refl owed rest in
     record {
       added = added;
-      sound = sound_one old new e X w is added sound (one_of_queue old e (record { messages = refl; no_records = refl })) (sound.legal, (later_for old.core.past moment within, runs.runs)) (λ up. absurd (down up));
+      sound = sound_one old new e X w is added sound (one_of_queue old e (record { messages = refl; no_records = refl })) (sound.legal, (later_for old.core.past moment within, runs.runs)) (λ up. absurd (down up)) (λ ms. refl) owed;
     }
 
 -- the end of the input, on a book that is not
@@ -90,5 +106,5 @@ noted_shut old new moment X sound up going within law w is owed rest =
     let after = law old.core.setting old.core.past (record { legal = sound.legal; settled = sound.settled up }) (moment_for old.core.past moment) going (later_for old.core.past moment within) in
     record {
       added = added;
-      sound = sound_one old new e X w is added sound (one_of_queue old e (record { messages = refl; no_records = refl })) after.legal (λ same. after.settled);
+      sound = sound_one old new e X w is added sound (one_of_queue old e (record { messages = refl; no_records = refl })) after.legal (λ same. after.settled) (λ ms. refl) owed;
     }

@@ -1,12 +1,10 @@
 -- What is true of every book, in the words of queues.
-use Rattle.std.proofs.Common.{◌≡◌, ℕ, List, [], ◌∷◌, ◌++◌, map, reverse, refl, sym, ap, ap₂, ◌∙◌, subst, Option, Some, None}
+use Rattle.std.proofs.Common.{◌≡◌, ℕ, List, [], ◌∷◌, ◌++◌, map, reverse, refl, sym, ap, ap₂, ◌∙◌, subst}
 use Rattle.std.specs.Prelude.{slice_get}
 use Rattle.std.specs.List.{All}
 use Rattle.std.proofs.lemmas.List.{map-append}
 use Rattle.std.proofs.lemmas.List.Elements.{All-nil}
 use Rattle.esm_io.specs.Meanings.{DiskMeaning, DestMeaning}
-use Rattle.esm_model.specs.declared.book.Trouble.{Trouble}
-use Rattle.esm_model.specs.declared.book.Trouble.TheVariants.{Disk, Dest, Changed}
 use Rattle.esm_model.specs.declared.config.Config.{Config}
 use Rattle.esm_model.specs.declared.item.Message.{Message}
 use Rattle.esm_model.specs.declared.entry.Entry.{Entry}
@@ -19,45 +17,44 @@ use Rattle.esm_queue_model.specs.QueueSetting.{QueueSetting, ExtendsMessages, ov
 use Rattle.esm_queue_model.specs.QueueStep.{LegalQueue}
 use Rattle.esm_queue_model.specs.QueueBooks.{messages_told, queue_setting_told, IsOfQueue, queue_may_follow}
 use Rattle.esm_book.specs.declared.nowhere.Nowhere.{Nowhere}
-use Rattle.esm_book.specs.Decided.{written_of}
 use Rattle.esm_book.specs.State.{in_hand, IsKept}
 use Rattle.esm_queue_core.specs.declared.decisions.QueueEntry.{QueueEntry}
 use Rattle.esm_queue_core.specs.CoreView.{CoreView, all_messages, new_setting, new_view}
 use Rattle.esm_queue_core.specs.Told.{queue_entry, queue_entries, history_of, owed_of, told_entries, told_of}
-use Rattle.esm_queue_core.proofs.Tellings.{written_told, payload_in}
 use Rattle.esm_qbook.specs.Books.{BookState}
 use Rattle.esm_qbook.specs.Keeping.{IsSound, IsSetupOf, HasJournal, entries_left}
-use Rattle.esm_qbook.proofs.Entries.{map-reverse, reversed_back, take-entries}
+use Rattle.esm_qbook.proofs.Entries.{reversed_back}
+use Rattle.esm_qbook.proofs.Staying.{oldest_first, payloads_of, hand_so}
 use Rattle.esm_qbook.proofs.Going.{queue_meaning}
 
 -- a book in which no message came
 pub sound_new : {D : Type 0} (b : BookState D) (config : Config) (calls visibility : ℕ) (deletions : List FoundDeletion) → b.core ≡ new_view (new_setting config calls visibility deletions) → IsSound b
 sound_new {D} b config calls visibility deletions is =
     let fresh : BookState D = record b { core = new_view (new_setting config calls visibility deletions) } in
-    let sound : IsSound fresh = record { of_queue = All-nil (IsOfQueue config.kind); legal = tt; settled = λ up. record { sorted = refl; paid = λ lane. refl } } in
+    let sound : IsSound fresh = record {
+      messages = refl;
+      of_queue = All-nil (IsOfQueue config.kind);
+      legal = tt;
+      settled = λ up. record { sorted = refl; paid = λ lane. refl };
+      none_owed = λ up. refl;
+      none_coming = λ none. refl;
+      stays = refl;
+      hand = refl;
+    } in
     subst (λ (v : CoreView). IsSound (record b { core = v })) (sym is) sound
 
 -- the journal
 
-oldest_first : (v : CoreView) → reverse (history_of v) ≡ queue_entries (all_messages v) (reverse v.past)
-oldest_first v = sym (map-reverse (queue_entry (all_messages v)) v.past)
-
-hand_so : (t : Option Trouble) (messages : List Message) (owed : List Entry) → in_hand t (queue_entries messages owed) ≡ queue_entries messages (in_hand t owed)
-hand_so None messages owed = refl
-hand_so (Some Disk) messages owed = take-entries messages owed
-hand_so (Some Dest) messages owed = refl
-hand_so (Some (Changed change)) messages owed = refl
-
 pub left_so : {D : Type 0} (b : BookState D) → reverse (history_of b.core) ++ in_hand b.trouble (owed_of b.core) ≡ queue_entries (all_messages b.core) (entries_left b)
 left_so b =
-    ap₂ (λ (xs ys : List QueueEntry). xs ++ ys) (oldest_first b.core) (hand_so b.trouble (all_messages b.core) b.core.owed)
+    ap₂ (λ (xs ys : List QueueEntry). xs ++ ys) (oldest_first (all_messages b.core) b.core.past) (hand_so b.trouble (all_messages b.core) b.core.owed)
     ∙ sym (map-append (queue_entry (all_messages b.core)) (reverse b.core.past) (in_hand b.trouble b.core.owed))
 
 pub has_journal : {D : Type 0} (m : DiskMeaning D) (n : DestMeaning Nowhere) (b : BookState D) → IsKept queue_meaning m n b → HasJournal m b
 has_journal m n b k =
     let a = k.grown.appended in
     record {
-      payloads = a.payloads ∙ ap (λ (texts : List (List ℕ)). b.found.payloads ++ texts) (ap (written_of payload_in) (oldest_first b.core) ∙ written_told (all_messages b.core) (reverse b.core.past));
+      payloads = a.payloads ∙ ap (λ (texts : List (List ℕ)). b.found.payloads ++ texts) (payloads_of (all_messages b.core) b.core.past);
       down = k.pair_down;
       found_up = k.found_up;
       epoch = a.epoch;
@@ -84,10 +81,10 @@ abbrev pub IsKeptLaw : Type 0
 IsKeptLaw = (setup : Setup) (history : List Told) (messages : List Message) → All (IsOfQueue setup.config.kind) history → ExtendsMessages (messages_told history) messages
     → LegalQueue (over_messages (queue_setting_told setup history) messages) (entries_told history) → IsLegal (queue_may_follow setup) history
 
-pub legal_told : {D : Type 0} (b : BookState D) → IsKeptLaw → b.core.setting.messages ≡ messages_told (told_of b.core) → IsSound b → (setup : Setup) → IsSetupOf setup b → IsLegal (queue_may_follow setup) (told_of b.core)
-legal_told b law messages sound setup is =
+pub legal_told : {D : Type 0} (b : BookState D) → IsKeptLaw → IsSound b → (setup : Setup) → IsSetupOf setup b → IsLegal (queue_may_follow setup) (told_of b.core)
+legal_told b law sound setup is =
     let history = told_of b.core in
     let all : All (IsOfQueue setup.config.kind) history = subst (λ (c : Config). All (IsOfQueue c.kind) history) (sym is.config) sound.of_queue in
     let legal = subst (LegalQueue b.core.setting) (sym (past_told b.core)) sound.legal in
-    law setup history b.core.setting.messages all (λ i x at. ap (λ (ms : List Message). slice_get ms i) messages ∙ at)
+    law setup history b.core.setting.messages all (λ i x at. ap (λ (ms : List Message). slice_get ms i) sound.messages ∙ at)
     (subst (λ (s : QueueSetting). LegalQueue s (entries_told history)) (sym (setting_for setup b is)) legal)

@@ -33,12 +33,14 @@ pub record AddedAll {D : Type 0} (m : DiskMeaning D) (messages : List Message) (
   pub kept : PairKeepsWhileUp m new.pair
   pub up : new.pair.down ≡ false
 
--- A disk failed before all of it was added: the rest is owed. The payload of the first of the rest may stand on the disk.
+-- A disk failed before all of it was added: the rest is owed. The first of the rest was being written: its payload may stand
+-- on the disk.
 pub record AddedSome {D : Type 0} (m : DiskMeaning D) (messages : List Message) (old new : BookState D) (es : List Entry) : Type 0 where
   pub front : List Entry
   pub rest : List Entry
   pub split : front ++ rest ≡ es
   pub left : 0 < length rest
+  pub writing : (payload : List ℕ) × (payloads_in messages (take 1 rest) ≡ payload ∷ [])
   pub added : Added messages old new front
   pub owed : new.core.owed ≡ rest
   pub trouble : new.trouble ≡ Some Disk

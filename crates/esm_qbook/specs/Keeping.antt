@@ -1,12 +1,12 @@
 -- What is true of every queue's book, whoever made its calls. This product's own.
-use Rattle.std.specs.Prelude.{◌≡◌, ◌++◌, List, Option, Some, None, false, reverse}
+use Rattle.std.specs.Prelude.{◌≡◌, ◌++◌, List, [], Option, Some, None, false, reverse}
 use Rattle.std.specs.List.{All}
 use Rattle.esm_io.specs.Meanings.{DiskMeaning}
 use Rattle.esm_model.specs.declared.book.Trouble.{Trouble}
 use Rattle.esm_model.specs.declared.book.Trouble.TheVariants.{Disk, Dest, Changed}
 use Rattle.esm_model.specs.declared.entry.Entry.{Entry}
 use Rattle.esm_model.specs.declared.setup.Setup.{Setup}
-use Rattle.esm_queue_model.specs.QueueBooks.{IsOfQueue}
+use Rattle.esm_queue_model.specs.QueueBooks.{messages_told, IsOfQueue}
 use Rattle.esm_queue_model.specs.QueueStep.{LegalQueue, SettledQueue}
 use Rattle.esm_book.specs.State.{is_disk, in_hand}
 use Rattle.esm_queue_core.specs.declared.decisions.Opened.{Opened}
@@ -17,9 +17,19 @@ use Rattle.esm_qbook.specs.Books.{BookState, payloads_in}
 -- The history is legal over the messages that came, each `Came` stands with those that it covers, and where the book is not
 -- down the history is settled.
 pub record IsSound {D : Type 0} (b : BookState D) : Type 0 where
+  -- the messages that came are those that the history tells
+  pub messages : b.core.setting.messages ≡ messages_told (told_of b.core)
   pub of_queue : All (IsOfQueue b.core.setting.config.kind) (told_of b.core)
   pub legal : LegalQueue b.core.setting b.core.past
   pub settled : b.trouble ≡ None → SettledQueue b.core.setting b.core.past
+  -- a book that is not down owes nothing
+  pub none_owed : b.trouble ≡ None → b.core.owed ≡ []
+  -- where nothing is owed no message is coming
+  pub none_coming : b.core.owed ≡ [] → b.core.coming ≡ []
+  -- the history has the same payloads over the messages that came alone
+  pub stays : payloads_in (all_messages b.core) (reverse b.core.past) ≡ payloads_in b.core.setting.messages (reverse b.core.past)
+  -- and so has the entry that was being written, where a disk failed
+  pub hand : payloads_in (all_messages b.core) (in_hand b.trouble b.core.owed) ≡ payloads_in b.core.setting.messages (in_hand b.trouble b.core.owed)
 
 -- the setup is that of the book, whatever it says of the journal
 pub record IsSetupOf {D : Type 0} (setup : Setup) (b : BookState D) : Type 0 where

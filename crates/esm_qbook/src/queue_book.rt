@@ -26,7 +26,7 @@ ghost use Rattle.esm_qbook.specs.Calls.{AddedAll, AddedSome, AddedOne, RunsCall,
 ghost use Rattle.esm_qbook.specs.Keeping.{IsSound, IsSetupOf, IsCause, HasJournal, entries_left};
 ghost use Rattle.esm_qbook.specs.Opening.{IsCoreOver, IsOpened, IsNotOpened};
 
-use crate::carrying::{Stop, carry, is_down, keeps, note_end, note_shut};
+use crate::carrying::{Stop, carry, is_down, note_end, note_shut};
 use crate::opening::{read_filters, read_journal};
 use esm_book::{Durable, Nowhere, Parts};
 use esm_io::Disk;
@@ -245,7 +245,6 @@ impl<D: Disk> QueueBook<D> {
         ensures kept { PairKeepsWhileUp (disk D.honest D.content D.image D.moment D.image_since D.faults) self.now.pair }
     {
         legal_queue_is_kept();
-        keeps(&self.durable);
         self.durable.trouble()
     }
 

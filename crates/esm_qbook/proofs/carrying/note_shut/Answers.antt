@@ -12,4 +12,4 @@ returns g c =
     let e = c.note.ensures in
     let X = added (history_of old.core) (history_of new.core) in
     noted_shut old new c.args.moment X c.requires.sound c.requires.up c.requires.going c.keeps.ensures.in_time c.shut_is_sound.ensures
-    (note_went old new X e.history e.origin e.rest (ap (written_of payload_in) e.noted) c.keeps-2.ensures.messages c.keeps.ensures.messages) e.noted e.owed e.rest
+    (note_went old new X e.history e.origin e.rest (ap (written_of payload_in) e.noted) c.keeps-2.ensures.messages c.keeps.ensures.messages c.keeps-2.ensures.rests) e.noted e.owed e.rest

@@ -14,7 +14,7 @@ returns-clause-journal g c =
 
 pub returns-clause-legal : goal.returns-clause-legal
 returns-clause-legal g c =
-    rw (← c.self.view_is) (legal_told c.self.inside.durable c.legal_queue_is_kept.ensures c.keeps.ensures.messages c.self.invariant)
+    rw (← c.self.view_is) (legal_told c.self.inside.durable c.legal_queue_is_kept.ensures c.self.invariant)
 
 pub returns-clause-images : goal.returns-clause-images
 returns-clause-images g c =
