@@ -1,0 +1,6 @@
+pub mod Running
+pub mod Texts
+pub mod Ids
+pub mod OneText
+pub mod OneId
+pub mod OneAnswer

@@ -1,0 +1,14 @@
+use Rattle.std.proofs.Common.{◌≡◌, ◌∙◌, false, arith, sym}
+use Rattle.std.proofs.lemmas.Grind.{common_steps}
+use Rattle.serde_json.specs.View.{view}
+use Rattle.esm_mapping.proofs.Texts.{disabled_text, refused_latest}
+use Rattle.esm_mapping.proofs.given_text.configured.Goals as goal
+
+pub returns-then-is_latest-clause-why : goal.returns-then-is_latest-clause-why
+returns-then-is_latest-clause-why c =
+    refused_latest c.args.text.now (view c.args.value.now) c.args.config c.requires.read c.requires.fields (sym c.is_latest.ensures ∙ c.if-is_latest.true)
+
+pub returns-then-not-config-clause-why : goal.returns-then-not-config-clause-why
+returns-then-not-config-clause-why c =
+    let disabled : c.args.config.enabled ≡ false = grind (arith, common_steps) in
+    disabled_text c.args.text.now (view c.args.value.now) c.args.config c.requires.read c.requires.fields (sym c.is_latest.ensures ∙ c.if-is_latest.false) disabled

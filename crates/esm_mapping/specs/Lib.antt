@@ -1,0 +1,4 @@
+pub mod Starts
+pub mod Refused
+pub mod Named
+pub mod Refusals

@@ -1,0 +1,116 @@
+-- The mapping that the words of `run` name, as a text or by its id in the registry, and why there is none that may run: the
+-- registry has no such mapping, it is disabled, a field of the text is refused, or the registry's file is refused. Source:
+-- the Lambda API reference, `CreateEventSourceMapping` and `GetEventSourceMapping`; the order is this product's own.
+use Rattle.std.specs.Prelude.{◌≡◌, ℕ, Bool, true, false, List, Option, Some, None, is_ok}
+use Rattle.serde_json.specs.Data.{Data}
+use Rattle.serde_json.specs.Read.{read}
+use Rattle.esm_cli.specs.declared.command.Which.{Which}
+use Rattle.esm_cli.specs.declared.command.Which.TheVariants as which
+use Rattle.esm_config.specs.Mapping.{config_of}
+use Rattle.esm_io.specs.Faults.{Rose}
+use Rattle.esm_io.specs.Meanings.{DiskMeaning}
+use Rattle.esm_journal.specs.File.{header_of, opened, Foreign, Damaged}
+use Rattle.esm_journal.specs.State.{OpensTo}
+use Rattle.esm_model.specs.Pattern.{read_patterns}
+use Rattle.esm_model.specs.QueueEvent.{IsQueueConfig}
+use Rattle.esm_model.specs.Valid.{is_stream, IsStreamConfig}
+use Rattle.esm_model.specs.declared.config.Config.{Config}
+use Rattle.esm_registry.specs.Lists.{Mappings, mapping_at}
+use Rattle.esm_registry.specs.Payload.{mappings_of}
+use Rattle.esm_registry.specs.State.{IsFirstBad}
+use Rattle.esm_registry.specs.declared.mapping.Mapping.{Mapping}
+use Rattle.esm_mapping.specs.Refused.{refused_field}
+use Rattle.esm_mapping.specs.Starts.{is_latest, start_after}
+use Rattle.esm_mapping.specs.declared.named.MappingError.{MappingError}
+use Rattle.esm_mapping.specs.declared.named.MappingError.TheVariants as error
+use Rattle.esm_mapping.specs.declared.named.NamedMapping.{NamedMapping}
+
+-- what a run may rely on
+
+-- of a stream, or of a queue
+abbrev pub IsConfigOf : Bool → Config → Type 0
+IsConfigOf true c = IsStreamConfig c
+IsConfigOf false c = IsQueueConfig c
+
+-- it is enabled, each field is within the bounds of its kind, its filters are patterns, and it starts at a known place
+pub record MayRun (named : NamedMapping) : Type 0 where
+  pub enabled : named.config.enabled ≡ true
+  pub valid : IsConfigOf (is_stream named.config.kind) named.config
+  pub patterns : is_ok (read_patterns (is_stream named.config.kind) named.config.filters) ≡ true
+  pub start : is_latest named.start ≡ false
+
+-- a mapping that a text is
+
+-- the text reads as JSON, no field of it is refused, and the fields give the configuration, which says where it starts
+pub record IsOfText (text : List ℕ) (named : NamedMapping) : Type 0 where
+  pub value : Data
+  pub reads : read text ≡ Some value
+  pub accepted : refused_field text ≡ None
+  pub fields : config_of value ≡ Some named.config
+  pub start_is : named.start ≡ named.config.start
+
+abbrev pub IsNamedByText : List ℕ → NamedMapping → Type 0
+IsNamedByText text named = IsOfText text named × MayRun named
+
+abbrev pub IsDisabledText : List ℕ → Type 0
+IsDisabledText text = (named : NamedMapping) × IsOfText text named × (named.config.enabled ≡ false)
+
+-- a mapping of the registry
+
+-- the registry's file opens to payloads, and they say these mappings
+pub record HasMappings {D : Type 0} (m : DiskMeaning D) (registry : D) (mappings : Mappings) : Type 0 where
+  pub payloads : List (List ℕ)
+  pub opens : m.honest registry ≡ true → OpensTo (header_of 1) payloads (m.content registry)
+  pub said : mappings_of payloads ≡ Some mappings
+
+-- of the mappings that the file says, this is what is found under the id
+pub record Finds {D : Type 0} (m : DiskMeaning D) (registry : D) (id : List ℕ) (found : Option Mapping) : Type 0 where
+  pub mappings : Mappings
+  pub has : HasMappings m registry mappings
+  pub found_is : mapping_at id mappings.list ≡ found
+
+-- the configuration is the mapping's, and so is where it starts, a `LATEST` being the moment of its creation
+pub record IsOfMapping (mapping : Mapping) (named : NamedMapping) : Type 0 where
+  pub config_is : named.config ≡ mapping.config
+  pub start_is : named.start ≡ start_after mapping.created mapping.config.start
+
+abbrev pub IsNamedById : {D : Type 0} → DiskMeaning D → List ℕ → D → NamedMapping → Type 0
+IsNamedById m id registry named = (mapping : Mapping) × Finds m registry id (Some mapping) × IsOfMapping mapping named × MayRun named
+
+abbrev pub IsDisabledId : {D : Type 0} → DiskMeaning D → List ℕ → D → Type 0
+IsDisabledId m id registry = (mapping : Mapping) × Finds m registry id (Some mapping) × (mapping.config.enabled ≡ false)
+
+-- the payload with this index is the first in the file that is none of a registry's
+abbrev pub HasBadPayload : ℕ → List ℕ → Type 0
+HasBadPayload index bytes = (payloads : List (List ℕ)) × OpensTo (header_of 1) payloads bytes × IsFirstBad payloads index
+
+-- the mapping that the words name
+
+abbrev pub IsNamed : {D : Type 0} → DiskMeaning D → Which → D → NamedMapping → Type 0
+IsNamed m (which.Config text) registry named = IsNamedByText text named
+IsNamed m (which.Mapping id) registry named = IsNamedById m id registry named
+
+-- why they name none that may run; want of memory has no cause
+
+-- of a text: a field is refused, or it is disabled
+abbrev pub WhyNotText : List ℕ → MappingError → Type 0
+WhyNotText text (error.BadParam param) = refused_field text ≡ Some param
+WhyNotText text error.Disabled = IsDisabledText text
+WhyNotText text error.OutOfMemory = Unit {0}
+WhyNotText text _ = ⊥
+
+-- of an id: the registry's file is refused, or its disk failed; the registry has no such mapping, or it is disabled
+abbrev pub WhyNotById : {D : Type 0} → DiskMeaning D → List ℕ → (old new : D) → MappingError → Type 0
+WhyNotById m id old new error.NotAJournal = m.honest old ≡ true → opened (header_of 1) (m.content old) ≡ Foreign
+WhyNotById m id old new (error.Damaged place) = m.honest old ≡ true → opened (header_of 1) (m.content old) ≡ Damaged place
+WhyNotById m id old new (error.BadPayload index) = m.honest old ≡ true → HasBadPayload index (m.content old)
+WhyNotById m id old new error.DiskFault = Rose (m.faults old) (m.faults new)
+WhyNotById m id old new error.Unknown = Finds m old id None
+WhyNotById m id old new error.Disabled = IsDisabledId m id old
+WhyNotById m id old new (error.BadParam param) = ⊥
+WhyNotById m id old new error.OutOfMemory = Unit {0}
+
+-- `old` and `new` are the registry's disk as it was handed in and as it was handed back
+abbrev pub WhyNot : {D : Type 0} → DiskMeaning D → Which → (old new : D) → MappingError → Type 0
+WhyNot m (which.Config text) old new e = WhyNotText text e
+WhyNot m (which.Mapping id) old new e = WhyNotById m id old new e

@@ -1,0 +1,25 @@
+//! That one answer alone has its cause, as the contract of a function that does nothing.
+ghost use Rattle.std.specs.Prelude.{◌≡◌, ◌≢◌, true};
+ghost use Rattle.esm_cli.specs.declared.command.Which.{Which};
+ghost use Rattle.esm_io.specs.Faults.{Rose};
+ghost use Rattle.esm_io.specs.Meanings.{disk as meaning};
+ghost use Rattle.esm_mapping.specs.Named.{IsNamed, WhyNot};
+ghost use Rattle.esm_mapping.specs.declared.named.MappingError.{MappingError};
+ghost use Rattle.esm_mapping.specs.declared.named.MappingError.TheVariants as error;
+ghost use Rattle.esm_mapping.specs.declared.named.NamedMapping.{NamedMapping};
+
+use esm_io::Disk;
+
+/// Where the registry's disk is honest and did not fail, the words name one mapping that may run, or there is one reason
+/// why they name none. So each answer but want of memory comes exactly where its cause stands.
+pub fn one_answer<D: Disk>()
+    ensures one_mapping { (w : Which) (old : D) (one other : NamedMapping) → D.honest old ≡ true
+        → IsNamed (meaning D.honest D.content D.image D.moment D.image_since D.faults) w old one
+        → IsNamed (meaning D.honest D.content D.image D.moment D.image_since D.faults) w old other → one ≡ other }
+    ensures no_reason { (w : Which) (old new : D) (named : NamedMapping) (why : MappingError) → D.honest old ≡ true → ¬ Rose (D.faults old) (D.faults new)
+        → IsNamed (meaning D.honest D.content D.image D.moment D.image_since D.faults) w old named
+        → WhyNot (meaning D.honest D.content D.image D.moment D.image_since D.faults) w old new why → why ≡ error.OutOfMemory }
+    ensures one_reason { (w : Which) (old new : D) (one other : MappingError) → D.honest old ≡ true → ¬ Rose (D.faults old) (D.faults new)
+        → WhyNot (meaning D.honest D.content D.image D.moment D.image_since D.faults) w old new one → one ≢ error.OutOfMemory
+        → WhyNot (meaning D.honest D.content D.image D.moment D.image_since D.faults) w old new other → other ≢ error.OutOfMemory → one ≡ other }
+{}

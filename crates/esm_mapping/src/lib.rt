@@ -1,0 +1,15 @@
+//! Which mapping `run` runs, and where in its input it starts: the one that a JSON text is, or one of the registry's.
+//! It is judged whole before a record is read: that it is there, that no field is refused, and that it is enabled.
+//! The registry's file is opened only where a mapping of it is named, and nothing is written to it.
+#![tactic(auto)]
+
+mod copying;
+mod given_text;
+pub mod laws;
+mod named;
+mod reading;
+mod registered;
+mod starting;
+
+pub use named::{MappingError, MappingRead, NamedMapping};
+pub use reading::read_mapping;

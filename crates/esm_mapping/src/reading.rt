@@ -1,0 +1,33 @@
+ghost use Rattle.std.specs.Prelude.{◌≡◌, ℕ, List, IfOk, IfErr};
+ghost use Rattle.esm_cli.specs.declared.command.Which.TheVariants.{Config};
+ghost use Rattle.esm_io.specs.Meanings.{disk as meaning};
+ghost use Rattle.esm_journal.specs.Reads.{IsOnlyRead};
+ghost use Rattle.esm_mapping.specs.Named.{IsNamed, WhyNot};
+
+use crate::given_text::read_text;
+use crate::named::MappingRead;
+use crate::registered::read_registered;
+use esm_cli::Which;
+use esm_io::Disk;
+use std::alloc::Global;
+
+/// The mapping that the words name, of a stream or of a queue, and where in its input it starts.
+/// Of a text the first field that is refused is named, in the order of the table, a `LATEST` after all of them; then the
+/// mapping must be enabled. For an id the registry's file is opened and judged first, then the mapping must be there and
+/// be enabled; where it says `LATEST` it starts at the moment of its creation. Nothing is written, and the registry's disk
+/// is not touched where a text names the mapping. `DiskFault` only where its count of faults rose.
+pub fn read_mapping<D: Disk>(alloc: Global, which: &Which, registry: D) -> MappingRead<D>
+    ensures named { IfOk result.named (IsNamed (meaning D.honest D.content D.image D.moment D.image_since D.faults) which.now registry) }
+    ensures why { IfErr result.named (WhyNot (meaning D.honest D.content D.image D.moment D.image_since D.faults) which.now registry result.registry) }
+    // What is left of the registry's disk.
+    ensures only_read { IsOnlyRead (meaning D.honest D.content D.image D.moment D.image_since D.faults) registry result.registry }
+    ensures untouched { (text : List ℕ) → which.now ≡ Config text → result.registry ≡ registry }
+{
+    match which {
+        Which::Config(text) => MappingRead {
+            named: read_text(alloc, text),
+            registry,
+        },
+        Which::Mapping(id) => read_registered(alloc, id, registry),
+    }
+}
