@@ -1,0 +1,10 @@
+pub mod Numbers
+pub mod Calling
+pub mod Ends
+pub mod Kept
+pub mod Asking
+pub mod Stops
+pub mod Arriving
+pub mod Handing
+pub mod Incoming
+pub mod Runs

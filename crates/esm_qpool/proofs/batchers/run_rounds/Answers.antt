@@ -1,0 +1,14 @@
+use Rattle.esm_pool.specs.Running.{outside}
+use Rattle.esm_qpool.proofs.Asking.{have_none, have_then}
+use Rattle.esm_qpool.proofs.batchers.run_rounds.Goals as goal
+
+pub loop-init : goal.loop-init
+loop-init g c = (tt, tt, have_none (outside g.C.Clock.gave g.F.Caller.sends g.F.Caller.log) c.args.batchers c.args.book.now c.args.callers.now.items c.requires.rests, c.requires.up)
+
+pub loop-preserved : goal.loop-preserved
+loop-preserved g c = (
+  tt,
+  tt,
+  have_then (outside g.C.Clock.gave g.F.Caller.sends g.F.Caller.log) c.args.batchers c.args.book.now c.loop.book c.ask_all.new.book c.args.callers.now.items c.loop.callers.items c.ask_all.new.callers.items c.loop.invariant.2 (c.in_ok-round.ensures.asked (λ is. absurd (cc))),
+  c.in_ok-round.ensures.up (λ is. absurd (cc)),
+)

@@ -1,0 +1,6 @@
+pub mod Number
+pub mod Coming
+pub mod Running
+pub mod Taking
+pub mod Stopping
+pub mod Ran
