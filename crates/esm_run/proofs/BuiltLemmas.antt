@@ -11,7 +11,7 @@ use Rattle.esm_run.specs.Built.{is_built, SpellsBuilt}
 use Rattle.esm_run.specs.declared.asked.Asked.{Asked}
 use Rattle.esm_run.specs.declared.asked.Asked.TheVariants as asked
 use Rattle.esm_run.specs.declared.asked.Asked.TheVariants.{Files, Serve}
-use Rattle.esm_run.proofs.OneCause.{OneCommand}
+use Rattle.esm_run.proofs.OneCommand.{OneCommand}
 
 pub none_built : (words : List (List ℕ)) (c : Command) → OneCommand → spells words c → is_built c ≡ false → (d : Command) → SpellsBuilt words d → ⊥
 none_built words c one spelled unbuilt d is =

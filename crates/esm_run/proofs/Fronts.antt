@@ -1,4 +1,5 @@
--- The records of the first items of an input are the first of its records, also from a starting position on and shard by shard.
+-- The records or messages of the first items of an input are the first of its own, also from a starting position on and shard by
+-- shard.
 use Rattle.std.proofs.Common.{◌≡◌, ℕ, zero, suc, Bool, true, false, List, [], ◌∷◌, ◌++◌, refl, sym, ap, ◌∙◌, append_assoc, Option, Some, None}
 use Rattle.std.specs.Prelude.{◌==◌, slice_get, if◌then◌else◌}
 use Rattle.std.proofs.lemmas.List.{append-nil}
@@ -13,6 +14,7 @@ use Rattle.esm_report.specs.declared.ending.LimitName.{LimitName}
 use Rattle.esm_input.specs.Limits.{Limited, limited_after, passed, shards_with, stop_at}
 use Rattle.esm_input.specs.Positions.{from_moment, from_start, has_begun}
 use Rattle.esm_pool.specs.Coming.{records_in_items}
+use Rattle.esm_qpool.specs.Coming.{messages_in_items}
 
 -- the list goes on from the first one
 abbrev pub IsFront : {A : Type 0} → List A → List A → Type 0
@@ -69,26 +71,31 @@ moment_front moment begun (x ∷ xs) ys =
     (from_moment moment (shards_with begun x) xs) (from_moment moment (shards_with begun x) (xs ++ ys)) (from_moment moment begun xs) (from_moment moment begun (xs ++ ys))
     (moment_front moment (shards_with begun x) xs ys) (moment_front moment begun xs ys)
 
-start_front : (start : Start) (xs ys : List Item) → IsFront (from_start start xs) (from_start start (xs ++ ys))
-start_front TrimHorizon xs ys = (ys, refl)
-start_front Latest xs ys = (ys, refl)
-start_front (At moment) xs ys = moment_front moment [] xs ys
+start_more : (start : Start) (xs ys : List Item) → IsFront (from_start start xs) (from_start start (xs ++ ys))
+start_more TrimHorizon xs ys = (ys, refl)
+start_more Latest xs ys = (ys, refl)
+start_more (At moment) xs ys = moment_front moment [] xs ys
 
--- the records
+pub start_front : (start : Start) (xs ys : List Item) → IsFront xs ys → IsFront (from_start start xs) (from_start start ys)
+start_front start xs ys front = (let more = start_more start xs front.0 in (more.0, ap (λ items. from_start start items) front.1 ∙ more.1))
+
+-- the records and the messages
 
 records_more : (xs ys : List Item) → records_in_items (xs ++ ys) ≡ records_in_items xs ++ records_in_items ys
 records_more [] ys = refl
 records_more (Stream r ∷ xs) ys = ap (λ rs. r ∷ rs) (records_more xs ys)
 records_more (Queue m ∷ xs) ys = records_more xs ys
 
-pub records_front : (start : Start) (xs ys : List Item) → IsFront xs ys → IsFront (records_in_items (from_start start xs)) (records_in_items (from_start start ys))
-records_front start xs ys front =
-    let begun = start_front start xs front.0 in (
-      records_in_items begun.0,
-      ap (λ items. records_in_items (from_start start items)) front.1
-          ∙ ap records_in_items begun.1
-          ∙ records_more (from_start start xs) begun.0,
-    )
+pub records_front : (xs ys : List Item) → IsFront xs ys → IsFront (records_in_items xs) (records_in_items ys)
+records_front xs ys front = (records_in_items front.0, ap records_in_items front.1 ∙ records_more xs front.0)
+
+messages_more : (xs ys : List Item) → messages_in_items (xs ++ ys) ≡ messages_in_items xs ++ messages_in_items ys
+messages_more [] ys = refl
+messages_more (Stream r ∷ xs) ys = messages_more xs ys
+messages_more (Queue m ∷ xs) ys = ap (λ ms. m ∷ ms) (messages_more xs ys)
+
+pub messages_front : (xs ys : List Item) → IsFront xs ys → IsFront (messages_in_items xs) (messages_in_items ys)
+messages_front xs ys front = (messages_in_items front.0, ap messages_in_items front.1 ∙ messages_more xs front.0)
 
 -- an element of a front stands there in the list
 
@@ -96,6 +103,9 @@ get_front : {A : Type 0} (xs more : List A) (i : ℕ) (r : A) → slice_get xs i
 get_front [] more i r is = absurd (cc)
 get_front (x ∷ xs) more zero r is = is
 get_front (x ∷ xs) more (suc i) r is = get_front xs more i r is
+
+pub place_front : {A : Type 0} (xs ys : List A) (i : ℕ) (r : A) → IsFront xs ys → slice_get xs i ≡ Some r → slice_get ys i ≡ Some r
+place_front xs ys i r front is = ap (λ l. slice_get l i) front.1 ∙ get_front xs front.0 i r is
 
 pub shard_front : (n : ℕ) (xs ys : List Record) (i : ℕ) (r : Record) → IsFront xs ys → slice_get (of_shard n xs) i ≡ Some r → slice_get (of_shard n ys) i ≡ Some r
 shard_front n xs ys i r front is =

@@ -1,9 +1,10 @@
 pub mod Results
-pub mod Mappings
+pub mod Alone
 pub mod RunEndings
 pub mod Writing
 pub mod OneReading
 pub mod FilesCommands
+pub mod OneCommand
 pub mod OneCause
 pub mod BuiltLemmas
 pub mod Inits
@@ -17,7 +18,10 @@ pub mod BadPayloads
 pub mod OneRefusal
 pub mod OneSetting
 pub mod KeptNumbers
+pub mod OneReady
 pub mod OneRun
+pub mod KeptIds
+pub mod OneQueueRun
 pub mod Kept
 pub mod OneOutcome
 pub mod Cuts

@@ -20,7 +20,7 @@ use Rattle.esm_run.specs.declared.tending.Upkeep.{Upkeep as Named}
 use Rattle.esm_run.specs.declared.tending.Upkeep.TheVariants.{Show, Failures, Compact, Migrate}
 use Rattle.esm_run.proofs.BadPayloads.{AreAny, AreGood, Holds, not_bad, not_damaged, not_foreign}
 use Rattle.esm_run.proofs.Inits.{one_init, told_with}
-use Rattle.esm_run.proofs.OneCause.{OneStatus}
+use Rattle.esm_run.proofs.OneCommand.{OneStatus}
 
 -- what was opened holds payloads of which this is true, or does not
 

@@ -16,8 +16,8 @@ use Rattle.esm_run.proofs.OneFiles.{one_files}
 use Rattle.esm_run.proofs.OneServe.{one_serve}
 
 pub one_outcome : {S D F C : Type 0} (o : Outside S D F) (p : Served C D) (words : List (List ℕ)) (output : Written) (h : List Entry) (old new : Seen S D F) (door : DoorSeen) (a b : ℕ)
-    → AreLaws → ¬ Rose output.faults_before output.faults_now
-    → ((r : RunWords) → SpellsBuilt words (Run r) → IsSoundRun o old new)
+    → AreLaws o.run.disk → ¬ Rose output.faults_before output.faults_now
+    → ((r : RunWords) → SpellsBuilt words (Run r) → IsSoundRun o r old new)
     → ((c : FilesCommand) → SpellsBuilt words (command_of c) → AreSoundUnder o.run.disk old.disks new.disks c)
     → ((requests : ℕ) → SpellsBuilt words (Serve requests) → IsSoundServe p old.disks.registry new.disks.registry door)
     → Outcome o words output h old new (FilesOutcome o.run.disk old.disks new.disks output) (ServeOutcome p old.disks.registry new.disks.registry door output) a

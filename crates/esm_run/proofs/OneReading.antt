@@ -4,10 +4,9 @@ use Rattle.std.specs.Prelude.{IsSome, is_some}
 use Rattle.std.proofs.lemmas.List.{append_cancel_right}
 use Rattle.esm_io.specs.Told.{TakesFront}
 use Rattle.esm_io.specs.Faults.{Rose}
-use Rattle.esm_model.specs.declared.config.Config.{Config}
+use Rattle.esm_model.specs.declared.config.Start.{Start}
 use Rattle.esm_record.specs.declared.error.BadLine.{BadLine}
 use Rattle.esm_record.specs.declared.item.LineKind.{LineKind}
-use Rattle.esm_record.specs.declared.item.LineKind.TheVariants as kinds
 use Rattle.esm_record.specs.Input.{Input, input_so_far, input_of}
 use Rattle.esm_record.specs.GoesOn.{GoesOnFrom}
 use Rattle.esm_report.specs.declared.ending.LimitName.{LimitName}
@@ -15,10 +14,8 @@ use Rattle.esm_input.specs.declared.ending.InputEnd.{InputEnd}
 use Rattle.esm_input.specs.declared.ending.InputEnd.TheVariants as ends
 use Rattle.esm_input.specs.Limits.{Limited, limited_after}
 use Rattle.esm_input.specs.Positions.{from_start}
-use Rattle.esm_input.specs.Reading.{EndsBy, InputState, StandsSo, handed, input_read, items_read}
-use Rattle.esm_pool.specs.Coming.{records_in_items}
-use Rattle.esm_stream.specs.Ended.{IsInputOf}
-use Rattle.esm_run.proofs.Fronts.{IsFront, front_same, limit_stays, limited_more, records_front}
+use Rattle.esm_input.specs.Reading.{EndsBy, InputState, IsInput, StandsSo, handed, input_read, items_read}
+use Rattle.esm_run.proofs.Fronts.{IsFront, front_same, limit_stays, limited_more, start_front}
 
 -- the law of the lines
 abbrev pub WholeGoesOn : Type 0
@@ -107,53 +104,87 @@ front_of_all kind factor false bytes goes =
     subst (λ items. IsFront (items_read kind factor false bytes).items (limited_after factor [] items).items) (sym goes.items)
     (limited_more factor [] (input_so_far kind bytes).items goes.more)
 
--- the input of a run, by the run's configuration
+-- an input of lines of this kind, with this factor of the limits and from this starting position on, as it was read; its source
+-- goes from the one to the other
 
-abbrev read_by : Config → Bool → List ℕ → Limited
-read_by c whole bytes = items_read kinds.Stream c.factor whole bytes
+pub record IsReadFrom {S : Type 0} (faults : S → ℕ) (left : S → Option (List ℕ)) (kind : LineKind) (factor : ℕ) (start : Start) (old new : S) (i : InputState S) : Type 0 where
+  pub kind_is : i.kind ≡ kind
+  pub factor_is : i.factor ≡ factor
+  pub start_is : i.start ≡ start
+  pub found : i.found ≡ old
+  pub source : i.source ≡ new
+  pub good : i.failed ≡ false
+  pub read : IsInput faults left i
 
-handed_is : {S : Type 0} (faults : S → ℕ) (left : S → Option (List ℕ)) (c : Config) (old new : S) (i : InputState S) → IsInputOf faults left c old new i
-    → handed i ≡ from_start c.start (read_by c i.whole i.bytes).items
-handed_is faults left c old new i is =
-    ap (λ start. from_start start (items_read i.kind i.factor i.whole i.bytes).items) is.start
-    ∙ ap (λ kind. from_start c.start (items_read kind i.factor i.whole i.bytes).items) is.kind
-    ∙ ap (λ factor. from_start c.start (items_read kinds.Stream factor i.whole i.bytes).items) is.factor
+handed_is : {S : Type 0} (faults : S → ℕ) (left : S → Option (List ℕ)) (kind : LineKind) (factor : ℕ) (start : Start) (old new : S) (i : InputState S)
+    → IsReadFrom faults left kind factor start old new i → handed i ≡ from_start start (items_read kind factor i.whole i.bytes).items
+handed_is faults left kind factor start old new i is =
+    ap (λ position. from_start position (items_read i.kind i.factor i.whole i.bytes).items) is.start_is
+    ∙ ap (λ k. from_start start (items_read k i.factor i.whole i.bytes).items) is.kind_is
+    ∙ ap (λ f. from_start start (items_read kind f i.whole i.bytes).items) is.factor_is
 
-taken_is : {S : Type 0} (faults : S → ℕ) (left : S → Option (List ℕ)) (c : Config) (old new : S) (i : InputState S) → IsInputOf faults left c old new i → TakesFront (left old) (left new) i.bytes
-taken_is faults left c old new i is =
+taken_is : {S : Type 0} (faults : S → ℕ) (left : S → Option (List ℕ)) (kind : LineKind) (factor : ℕ) (start : Start) (old new : S) (i : InputState S)
+    → IsReadFrom faults left kind factor start old new i → TakesFront (left old) (left new) i.bytes
+taken_is faults left kind factor start old new i is =
     subst (λ s. TakesFront (left old) (left s) i.bytes) is.source (subst (λ s. TakesFront (left s) (left i.source) i.bytes) is.found is.read.taken)
 
-ends_by : {S : Type 0} (faults : S → ℕ) (left : S → Option (List ℕ)) (c : Config) (old new : S) (i : InputState S) (e : InputEnd) → IsInputOf faults left c old new i → i.end ≡ Some e
-    → EndsBy kinds.Stream c.factor (faults old) (faults new) i.whole i.bytes e
-ends_by faults left c old new i e is ended =
-    subst (λ kind. EndsBy kind c.factor (faults old) (faults new) i.whole i.bytes e) is.kind
-    (subst (λ factor. EndsBy i.kind factor (faults old) (faults new) i.whole i.bytes e) is.factor
+ends_by : {S : Type 0} (faults : S → ℕ) (left : S → Option (List ℕ)) (kind : LineKind) (factor : ℕ) (start : Start) (old new : S) (i : InputState S) (e : InputEnd)
+    → IsReadFrom faults left kind factor start old new i → i.end ≡ Some e → EndsBy kind factor (faults old) (faults new) i.whole i.bytes e
+ends_by faults left kind factor start old new i e is ended =
+    subst (λ k. EndsBy k factor (faults old) (faults new) i.whole i.bytes e) is.kind_is
+    (subst (λ f. EndsBy i.kind f (faults old) (faults new) i.whole i.bytes e) is.factor_is
     (subst (λ s. EndsBy i.kind i.factor (faults old) (faults s) i.whole i.bytes e) is.source
     (subst (λ s. EndsBy i.kind i.factor (faults s) (faults i.source) i.whole i.bytes e) is.found
     (subst (StandsSo i.kind i.factor (faults i.found) (faults i.source) i.whole i.bytes) ended (is.read.stands is.good)))))
 
+-- what an input that was read to an end ended by, and what was read of it, are those of its bytes
+ended_at : {S : Type 0} (faults : S → ℕ) (left : S → Option (List ℕ)) (kind : LineKind) (factor : ℕ) (start : Start) (old new : S) (i : InputState S) (e : InputEnd)
+    → WholeGoesOn → ¬ Rose (faults old) (faults new) → IsReadFrom faults left kind factor start old new i → i.end ≡ Some e
+    → (e ≡ end_at kind factor true i.bytes) × (items_read kind factor i.whole i.bytes ≡ items_read kind factor true i.bytes)
+ended_at faults left kind factor start old new i e goes sound is ended =
+    at_end kind factor (faults old) (faults new) i.whole i.bytes e sound (goes kind i.bytes) (ends_by faults left kind factor start old new i e is ended)
+
 -- two inputs of one run
 
-pub one_end : {S : Type 0} (faults : S → ℕ) (left : S → Option (List ℕ)) (c : Config) (old new : S) (i j : InputState S) (e d : InputEnd)
-    → WholeGoesOn → IsSome (left old) → ¬ Rose (faults old) (faults new) → IsInputOf faults left c old new i → IsInputOf faults left c old new j
-    → i.end ≡ Some e → j.end ≡ Some d → e ≡ d
-one_end faults left c old new i j e d goes told sound one other first second =
-    let bytes : i.bytes ≡ j.bytes = same_bytes (left old) (left new) i.bytes j.bytes told (taken_is faults left c old new i one) (taken_is faults left c old new j other) in
-    (at_end kinds.Stream c.factor (faults old) (faults new) i.whole i.bytes e sound (goes kinds.Stream i.bytes) (ends_by faults left c old new i e one first)).0
-    ∙ ap (end_at kinds.Stream c.factor true) bytes
-    ∙ sym (at_end kinds.Stream c.factor (faults old) (faults new) j.whole j.bytes d sound (goes kinds.Stream j.bytes) (ends_by faults left c old new j d other second)).0
+both_bytes : {S : Type 0} (faults : S → ℕ) (left : S → Option (List ℕ)) (kind : LineKind) (factor : ℕ) (start : Start) (old new : S) (i j : InputState S)
+    → IsSome (left old) → IsReadFrom faults left kind factor start old new i → IsReadFrom faults left kind factor start old new j → i.bytes ≡ j.bytes
+both_bytes faults left kind factor start old new i j told one other =
+    same_bytes (left old) (left new) i.bytes j.bytes told (taken_is faults left kind factor start old new i one) (taken_is faults left kind factor start old new j other)
 
--- where the one was read to an end, the records of the other are a front of its own
-pub one_list : {S : Type 0} (faults : S → ℕ) (left : S → Option (List ℕ)) (c : Config) (old new : S) (i j : InputState S) (e : InputEnd)
-    → WholeGoesOn → IsSome (left old) → ¬ Rose (faults old) (faults new) → IsInputOf faults left c old new i → IsInputOf faults left c old new j
-    → i.end ≡ Some e → IsFront (records_in_items (handed j)) (records_in_items (handed i))
-one_list faults left c old new i j e goes told sound one other ended =
-    let bytes : j.bytes ≡ i.bytes = same_bytes (left old) (left new) j.bytes i.bytes told (taken_is faults left c old new j other) (taken_is faults left c old new i one) in
-    let all : read_by c true j.bytes ≡ read_by c i.whole i.bytes =
-    ap (read_by c true) bytes
-    ∙ sym (at_end kinds.Stream c.factor (faults old) (faults new) i.whole i.bytes e sound (goes kinds.Stream i.bytes) (ends_by faults left c old new i e one ended)).1 in
-    let front : IsFront (read_by c j.whole j.bytes).items (read_by c i.whole i.bytes).items =
-    subst (λ (v : Limited). IsFront (read_by c j.whole j.bytes).items v.items) all (front_of_all kinds.Stream c.factor j.whole j.bytes (goes kinds.Stream j.bytes)) in
-    subst (λ items. IsFront (records_in_items items) (records_in_items (handed i))) (sym (handed_is faults left c old new j other))
-    (subst (λ items. IsFront (records_in_items (from_start c.start (read_by c j.whole j.bytes).items)) (records_in_items items)) (sym (handed_is faults left c old new i one))
-    (records_front c.start (read_by c j.whole j.bytes).items (read_by c i.whole i.bytes).items front))
+pub one_end : {S : Type 0} (faults : S → ℕ) (left : S → Option (List ℕ)) (kind : LineKind) (factor : ℕ) (start : Start) (old new : S) (i j : InputState S) (e d : InputEnd)
+    → WholeGoesOn → IsSome (left old) → ¬ Rose (faults old) (faults new) → IsReadFrom faults left kind factor start old new i → IsReadFrom faults left kind factor start old new j
+    → i.end ≡ Some e → j.end ≡ Some d → e ≡ d
+one_end faults left kind factor start old new i j e d goes told sound one other first second =
+    (ended_at faults left kind factor start old new i e goes sound one first).0
+    ∙ ap (end_at kind factor true) (both_bytes faults left kind factor start old new i j told one other)
+    ∙ sym (ended_at faults left kind factor start old new j d goes sound other second).0
+
+-- both of which were read to an end: they handed out the same
+pub one_handed : {S : Type 0} (faults : S → ℕ) (left : S → Option (List ℕ)) (kind : LineKind) (factor : ℕ) (start : Start) (old new : S) (i j : InputState S) (e d : InputEnd)
+    → WholeGoesOn → IsSome (left old) → ¬ Rose (faults old) (faults new) → IsReadFrom faults left kind factor start old new i → IsReadFrom faults left kind factor start old new j
+    → i.end ≡ Some e → j.end ≡ Some d → handed i ≡ handed j
+one_handed faults left kind factor start old new i j e d goes told sound one other first second =
+    handed_is faults left kind factor start old new i one
+    ∙ ap (λ (v : Limited). from_start start v.items) (ended_at faults left kind factor start old new i e goes sound one first).1
+    ∙ ap (λ bytes. from_start start (items_read kind factor true bytes).items) (both_bytes faults left kind factor start old new i j told one other)
+    ∙ sym (ap (λ (v : Limited). from_start start v.items) (ended_at faults left kind factor start old new j d goes sound other second).1)
+    ∙ sym (handed_is faults left kind factor start old new j other)
+
+-- the one of which was: what the other handed out is a front of its own
+pub one_front : {S : Type 0} (faults : S → ℕ) (left : S → Option (List ℕ)) (kind : LineKind) (factor : ℕ) (start : Start) (old new : S) (i j : InputState S) (e : InputEnd)
+    → WholeGoesOn → IsSome (left old) → ¬ Rose (faults old) (faults new) → IsReadFrom faults left kind factor start old new i → IsReadFrom faults left kind factor start old new j
+    → i.end ≡ Some e → IsFront (handed j) (handed i)
+one_front faults left kind factor start old new i j e goes told sound one other ended =
+    let all : items_read kind factor true j.bytes ≡ items_read kind factor i.whole i.bytes =
+    ap (items_read kind factor true) (both_bytes faults left kind factor start old new j i told other one)
+    ∙ sym (ended_at faults left kind factor start old new i e goes sound one ended).1 in
+    let front : IsFront (items_read kind factor j.whole j.bytes).items (items_read kind factor i.whole i.bytes).items =
+    subst (λ (v : Limited). IsFront (items_read kind factor j.whole j.bytes).items v.items) all (front_of_all kind factor j.whole j.bytes (goes kind j.bytes)) in
+    subst (λ items. IsFront items (handed i)) (sym (handed_is faults left kind factor start old new j other))
+    (subst (λ items. IsFront (from_start start (items_read kind factor j.whole j.bytes).items) items) (sym (handed_is faults left kind factor start old new i one))
+    (start_front start (items_read kind factor j.whole j.bytes).items (items_read kind factor i.whole i.bytes).items front))
+
+-- that it was is seen
+pub some_of : (o : Option InputEnd) → IsSome o → (e : InputEnd) × (o ≡ Some e)
+some_of None some = absurd (cc)
+some_of (Some e) some = (e, refl)

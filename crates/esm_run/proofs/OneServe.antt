@@ -16,7 +16,7 @@ use Rattle.esm_run.specs.Serve.{IsServeEnd, IsSoundServe, ServeOutcome, serve_st
 use Rattle.esm_run.specs.Serving.{DoorSeen, Outside, StopsFor}
 use Rattle.esm_run.specs.Written.{Written}
 use Rattle.esm_run.proofs.Inits.{told_with}
-use Rattle.esm_run.proofs.OneCause.{OneStatus}
+use Rattle.esm_run.proofs.OneCommand.{OneStatus}
 
 -- payloads of which a front is no registry's are none
 

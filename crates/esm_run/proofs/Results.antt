@@ -1,6 +1,6 @@
 -- Facts of what a result holds.
 use Rattle.std.proofs.Common.{◌≡◌, subst, Result, Ok, Err}
-use Rattle.std.specs.Prelude.{OnOk, OnErr, IfOk}
+use Rattle.std.specs.Prelude.{OnOk, OnErr, IfErr, IfOk}
 
 pub on_ok : {A E : Type 0} (r : Result A E) (P : Type 0) → P → OnOk r P
 on_ok (Ok a) P p = p
@@ -20,3 +20,10 @@ at_ok P r a is p = subst (λ (r : Result _ _). IfOk r P) is p
 pub by_result : {A E : Type 0} {P : A → Type 0} {Q R : Type 0} (r : Result A E) → ((a : A) → P a → R) → (Q → R) → IfOk r P → OnErr r Q → R
 by_result (Ok a) more other p q = more a p
 by_result (Err e) more other p q = other q
+
+pub at_err : {A E : Type 0} (P : E → Type 0) (r : Result A E) (e : E) → r ≡ Err e → IfErr r P → P e
+at_err P r e is p = subst (λ (r : Result _ _). IfErr r P) is p
+
+pub with_err : {A E : Type 0} {P Q : Type 0} (r : Result A E) → (P → Q) → OnErr r P → OnErr r Q
+with_err (Ok a) more p = tt
+with_err (Err e) more p = more p

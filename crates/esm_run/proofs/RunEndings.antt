@@ -1,40 +1,37 @@
 -- How the options of `run` came to their ending, or were stopped by want of memory.
-use Rattle.std.proofs.Common.{◌≡◌, ◌∙◌, ℕ, false, List, [], refl, sym, ap, subst, inl, inr, Option, Some, None, Result, Ok, Err}
-use Rattle.std.specs.Prelude.{IfOk, OnErr}
-use Rattle.esm_model.specs.Setup.{no_config}
-use Rattle.esm_model.specs.declared.config.Config.{Config}
+use Rattle.std.proofs.Common.{◌≡◌, ◌∙◌, ℕ, true, false, List, refl, sym, ap, subst, inl, inr, Some, Result, Ok, Err}
+use Rattle.std.specs.Prelude.{◌⊎◌, IfOk, OnErr}
+use Rattle.esm_model.specs.Valid.{is_stream}
 use Rattle.esm_model.specs.declared.entry.Entry.{Entry}
 use Rattle.esm_model.specs.declared.memory.OutOfMemory.{OutOfMemory}
 use Rattle.esm_model.specs.Setting.{Setting}
 use Rattle.esm_cli.specs.declared.command.RunWords.{RunWords}
-use Rattle.esm_cli.specs.declared.command.Which.TheVariants.{Config as Text}
-use Rattle.esm_config.specs.Names.{name_of}
-use Rattle.esm_config.specs.declared.param.Param.{Param}
+use Rattle.esm_cli.specs.declared.command.Which.{Which}
+use Rattle.esm_cli.specs.declared.command.Which.TheVariants.{Config, Mapping}
 use Rattle.esm_io.specs.Meanings.{DiskMeaning}
-use Rattle.esm_input.specs.declared.ending.InputEnd.TheVariants as ends
+use Rattle.esm_journal.specs.Reads.{IsOnlyRead}
+use Rattle.esm_mapping.specs.Named.{IsNamed, MayRun, WhyNot}
+use Rattle.esm_mapping.specs.declared.named.MappingError.{MappingError}
+use Rattle.esm_mapping.specs.declared.named.NamedMapping.{NamedMapping}
+use Rattle.esm_queue_model.specs.QueueSetting.{QueueSetting}
+use Rattle.esm_queue_report.specs.Queue.{queue_report_text}
+use Rattle.esm_queue_run.specs.Ended as queue
+use Rattle.esm_queue_run.specs.declared.run.QueueEnd.{QueueEnd}
 use Rattle.esm_report.specs.declared.ending.Ending.{Ending}
-use Rattle.esm_report.specs.declared.ending.Ending.TheVariants as ending
-use Rattle.esm_report.specs.Report.{report_text}
+use Rattle.esm_report.specs.Report.{last_line, report_text, stands_alone}
 use Rattle.esm_said.specs.SaidLists.{SaidLists}
-use Rattle.esm_stream.specs.Ended.{HasEnded, HasStoppedRun}
+use Rattle.esm_stream.specs.Ended as stream
 use Rattle.esm_stream.specs.Files.{FilesState, IsOpenedFiles, AreRefused}
 use Rattle.esm_stream.specs.declared.files.FilesError.{FilesError}
-use Rattle.esm_stream.specs.declared.files.FilesError.TheVariants as files
 use Rattle.esm_stream.specs.declared.run.StreamEnd.{StreamEnd}
-use Rattle.esm_stream.specs.declared.run.StreamEnd.TheVariants as run
-use Rattle.esm_run.specs.Answers.{Outside, Seen, AreGoodFiles, HasNotBegun, IsCutOf, IsReadyFor, IsRunOf, RunCause, RunEnded, RunOutcome, devices_of}
-use Rattle.esm_run.specs.Configured.{IsConfigured, refused_field}
-use Rattle.esm_run.specs.Endings.{IsTold, ending_of, ending_of_files, file_of}
+use Rattle.esm_run.specs.Answers.{Outside, Seen, AreGoodFiles, HasNotBegun, HasRefusedFiles, HasRefusedMapping, IsCutOf, IsReadyFor, IsRegistryLeft, RunEnded, RunOutcome, devices_of, visibility_of}
+use Rattle.esm_run.specs.Endings.{IsTold, ending_of, ending_of_files, ending_of_mapping, ending_of_queue}
 use Rattle.esm_run.specs.Initialized.{disks}
-use Rattle.esm_run.specs.Ran.{EndsWith, IsEndingOf, IsToldWith}
+use Rattle.esm_run.specs.Ran.{EndsWith, IsEndingOf, IsEndingOfQueue, IsReport}
 use Rattle.esm_run.specs.Written.{Written}
-
--- the setting where no run began
-no_setting : Setting
-no_setting = record { config = no_config; calls = 0; streams = []; fates = []; tries = []; states = []; window_tries = [] }
-
-same_some : (e e' : Ending) → ◌≡◌ {A = Option Ending} (Some e) (Some e') → e ≡ e'
-same_some e e' is = cc
+use Rattle.esm_run.specs.declared.left.Began.{Began}
+use Rattle.esm_run.specs.declared.left.Began.TheVariants as began
+use Rattle.esm_run.proofs.Alone.{files_alone, mapping_alone}
 
 -- what opened files tell of the disks that were handed in
 pub good_files : {D : Type 0} (m : DiskMeaning D) (f : FilesState D) (registry : D) → IsOpenedFiles m f → AreGoodFiles m (disks f.journal f.spare f.failures registry)
@@ -44,75 +41,115 @@ good_files m f registry is = record {
   lines_found = is.opens_lines;
 }
 
-module _ {S D F : Type 0} (o : Outside S D F) (r : RunWords) (h : List Entry) (old new : Seen S D F) where
-  cause_of : (s : Setting) (end : StreamEnd) → IsRunOf o r h old new s (ending_of end) → RunCause o r h old new s (ending_of end)
-  cause_of s (run.Finished ends.End) is = is
-  cause_of s (run.Finished (ends.BadLine bad)) is = is
-  cause_of s (run.Finished ends.Fault) is = is
-  cause_of s (run.Finished (ends.Limit limit)) is = is
-  cause_of s run.CallsSpent is = is
-  cause_of s run.DiskFault is = is
-  cause_of s run.DestFault is = is
-  cause_of s (run.Changed change) is = is
+-- what the words name may run
+pub may_run : {D : Type 0} (m : DiskMeaning D) (which : Which) (registry : D) (mapping : NamedMapping) → IsNamed m which registry mapping → MayRun mapping
+may_run m (Config text) registry mapping named = named.1
+may_run m (Mapping id) registry mapping named = named.3
 
-  module _ (config : Config) (opened : FilesState D) (ready : IsReadyFor o.run.disk r old config opened) (registry : new.disks.registry ≡ old.disks.registry) where
-    ended_of : (end : StreamEnd) → HasEnded o.run o.faults o.left config r.calls opened old.input new.input old.callers h (devices_of new) end → RunEnded o r h old new (ending_of end)
-    ended_of end is = record {
-      setting = is.setting;
-      cause = cause_of is.setting end (record { config = config; files = opened; ready = ready; end = end; run = is; over_records = refl; tells = refl; registry = registry });
+-- what reading the mapping leaves of the registry's disk
+pub registry_left : {D : Type 0} (m : DiskMeaning D) (which : Which) (old new : D) → IsOnlyRead m old new → ((text : List ℕ) → which ≡ Config text → new ≡ old) → IsRegistryLeft m which old new
+registry_left m (Config text) old new read untouched = untouched text refl
+registry_left m (Mapping id) old new read untouched = read
+
+pub registry_unopened : {D : Type 0} (m : DiskMeaning D) (which : Which) (disk : D) → IsOnlyRead m disk disk → IsRegistryLeft m which disk disk
+registry_unopened m which disk read = registry_left m which disk disk read (λ text is. refl)
+
+module _ {S D F : Type 0} (o : Outside S D F) (r : RunWords) (h : List Entry) (old new : Seen S D F) where
+  module _ (mapping : NamedMapping) (files : FilesState D) (ready : IsReadyFor o.run.disk r old new mapping files) where
+    -- a stream's mapping ran
+
+    abbrev HasStreamEnded : StreamEnd → Type 0
+    HasStreamEnded end = stream.HasEnded o.run o.faults o.left mapping.config mapping.start r.calls files old.input new.input old.callers h (devices_of new) end
+
+    abbrev HasStreamStopped : Type 0
+    HasStreamStopped = stream.HasStoppedRun o.run o.left mapping.config mapping.start r.calls files old.input new.input old.callers h (devices_of new)
+
+    stream_ended : is_stream mapping.config.kind ≡ true → (end : StreamEnd) → HasStreamEnded end → RunEnded o r h old new (ending_of end)
+    stream_ended kind end is = record {
+      text = report_text is.setting h (ending_of end);
+      cause = inr (inl (record { mapping = mapping; files = files; ready = ready; kind = kind; end = end; run = is; tells = refl; text_is = refl }));
     }
 
-    -- the run came to its end, which is told
-    pub begun_ends : (said : SaidLists) (end : Result StreamEnd OutOfMemory) (e : Ending) → said ≡ opened.said
-        → IfOk end (HasEnded o.run o.faults o.left config r.calls opened old.input new.input old.callers h (devices_of new)) → IsEndingOf end e → EndsWith o r h old new (Some said) e
-    unfolding ended_of
-    begun_ends said (Ok end) e same is tells = subst (EndsWith o r h old new (Some said)) (sym tells) (record {
-      ended = ended_of end is;
-      told = ap (λ (s : Setting). s.fates) is.is_setting.opened ∙ ap (λ (t : SaidLists). t.fates) (sym same);
+    -- it came to its end, which is told
+    pub stream_ends : is_stream mapping.config.kind ≡ true → (said : SaidLists) (end : Result StreamEnd OutOfMemory) (e : Ending) → said ≡ files.said
+        → IfOk end HasStreamEnded → IsEndingOf end e → EndsWith o r h old new (began.Stream said) e
+    unfolding stream_ended
+    stream_ends kind said (Ok end) e same is tells = subst (EndsWith o r h old new (began.Stream said)) (sym tells) (record {
+      ended = stream_ended kind end is;
+      report = record {
+        setting = is.setting;
+        fates = ap (λ (s : Setting). s.fates) is.is_setting.opened ∙ ap (λ (t : SaidLists). t.fates) (sym same);
+        text_is = refl;
+      };
     })
-    begun_ends said (Err why) e same is tells = absurd tells
+    stream_ends kind said (Err why) e same is tells = absurd tells
 
-    -- the run was stopped, or its end could not be told
-    pub begun_cut : (end : Result StreamEnd OutOfMemory)
-        → IfOk end (HasEnded o.run o.faults o.left config r.calls opened old.input new.input old.callers h (devices_of new))
-        → OnErr end (HasStoppedRun o.run o.left config r.calls opened old.input new.input old.callers h (devices_of new)) → IsCutOf o r h old new
-    begun_cut (Ok end) is stopped = inr (inr (ending_of end, ended_of end is))
-    begun_cut (Err why) is stopped = inr (inl (record { config = config; files = opened; ready = ready; run = stopped; registry = registry }))
+    -- it was stopped, or its end could not be told
+    pub stream_cut : is_stream mapping.config.kind ≡ true → (end : Result StreamEnd OutOfMemory) → IfOk end HasStreamEnded → OnErr end HasStreamStopped → IsCutOf o r h old new
+    stream_cut kind (Ok end) is stopped = inr (inr (ending_of end, stream_ended kind end is))
+    stream_cut kind (Err why) is stopped = inr (inl (inl (record { mapping = mapping; files = files; ready = ready; kind = kind; run = stopped })))
 
-  module _ (unbegun : HasNotBegun o.run.disk h old new) where
-    -- the files of the run were refused
-    pub refused_ends : (why : FilesError) (e : Ending) → AreRefused o.run.disk old.disks.journal old.disks.spare old.disks.failures new.disks.journal new.disks.spare new.disks.failures why
-        → ending_of_files why ≡ Some e → EndsWith o r h old new None e
-    refused_ends (files.NotAJournal f) e refused tells = subst (EndsWith o r h old new None) (same_some (ending.NotAJournal (file_of f)) e tells)
-        (record { ended = record { setting = no_setting; cause = (record { why = files.NotAJournal f; refused = refused; tells = refl }, unbegun) }; told = refl })
-    refused_ends (files.Damaged f place) e refused tells = subst (EndsWith o r h old new None) (same_some (ending.Damaged (file_of f) place) e tells)
-        (record { ended = record { setting = no_setting; cause = (record { why = files.Damaged f place; refused = refused; tells = refl }, unbegun) }; told = refl })
-    refused_ends (files.BadPayload index) e refused tells = subst (EndsWith o r h old new None) (same_some (ending.BadPayload _ index) e tells)
-        (record { ended = record { setting = no_setting; cause = (record { why = files.BadPayload index; refused = refused; tells = refl }, unbegun) }; told = refl })
-    refused_ends files.DiskFault e refused tells = subst (EndsWith o r h old new None) (same_some ending.OpenFault e tells)
-        (record { ended = record { setting = no_setting; cause = (record { why = files.DiskFault; refused = refused; tells = refl }, unbegun) }; told = refl })
-    refused_ends files.OutOfMemory e refused tells = cc
+    -- a queue's mapping ran
 
-    module _ (good : AreGoodFiles o.run.disk old.disks) (text : List ℕ) (which : r.which ≡ Text text) where
-      -- a field of the mapping is refused
-      pub parameter_ends : (field : Param) (e : Ending) → refused_field text ≡ Some field → e ≡ ending.BadParameter (name_of field) → EndsWith o r h old new None e
-      parameter_ends field e refused tells = subst (EndsWith o r h old new None) (sym tells) (record {
-        ended = record { setting = no_setting; cause = (good, record { text = text; which = which; field = field; refused = refused; name_is = refl }, unbegun) };
-        told = refl;
-      })
+    abbrev HasQueueEnded : QueueEnd → Type 0
+    HasQueueEnded end = queue.HasEnded o.run o.faults o.left mapping.config r.calls (visibility_of r) files old.input new.input old.callers h (devices_of new) end
 
-      -- the mapping is disabled
-      pub disabled_ends : (config : Config) → IsConfigured text config → config.enabled ≡ false → EndsWith o r h old new None ending.DisabledMapping
-      disabled_ends config configured disabled = record {
-        ended = record { setting = no_setting; cause = (good, record { text = text; which = which; config = config; configured = configured; disabled = disabled }, unbegun) };
-        told = refl;
-      }
+    abbrev HasQueueStopped : Type 0
+    HasQueueStopped = queue.HasStoppedRun o.run o.left mapping.config r.calls (visibility_of r) files old.input new.input old.callers h (devices_of new)
+
+    queue_ended : is_stream mapping.config.kind ≡ false → (end : QueueEnd) → HasQueueEnded end → RunEnded o r h old new (ending_of_queue end)
+    queue_ended kind end is = record {
+      text = queue_report_text is.setting h (ending_of_queue end);
+      cause = inr (inr (record { mapping = mapping; files = files; ready = ready; kind = kind; end = end; run = is; tells = refl; text_is = refl }));
+    }
+
+    pub queue_ends : is_stream mapping.config.kind ≡ false → (said : SaidLists) (end : Result QueueEnd OutOfMemory) (e : Ending) → said ≡ files.said
+        → IfOk end HasQueueEnded → IsEndingOfQueue end e → EndsWith o r h old new (began.Queue said) e
+    unfolding queue_ended
+    queue_ends kind said (Ok end) e same is tells = subst (EndsWith o r h old new (began.Queue said)) (sym tells) (record {
+      ended = queue_ended kind end is;
+      report = record {
+        setting = is.setting;
+        deletions = ap (λ (s : QueueSetting). s.deletions) is.is_setting.opened ∙ ap (λ (t : SaidLists). t.deletions) (sym same);
+        legal = is.headline.legal_trace is.setting.messages (λ i m at. at);
+        text_is = refl;
+      };
+    })
+    queue_ends kind said (Err why) e same is tells = absurd tells
+
+    pub queue_cut : is_stream mapping.config.kind ≡ false → (end : Result QueueEnd OutOfMemory) → IfOk end HasQueueEnded → OnErr end HasQueueStopped → IsCutOf o r h old new
+    queue_cut kind (Ok end) is stopped = inr (inr (ending_of_queue end, queue_ended kind end is))
+    queue_cut kind (Err why) is stopped = inr (inl (inr (record { mapping = mapping; files = files; ready = ready; kind = kind; run = stopped })))
+
+  -- nothing ran
+
+  not_run : HasNotBegun o.run.disk r h old new → (e : Ending) → HasRefusedFiles o.run.disk old new e ⊎ HasRefusedMapping o.run.disk r old new e → stands_alone e ≡ true → EndsWith o r h old new began.Nothing e
+  not_run unbegun e why alone = record {
+    ended = record { text = last_line e; cause = inl (record { why = why; unbegun = unbegun; text_is = refl }) };
+    report = record { alone = alone; text_is = refl };
+  }
+
+  pub refused_ends : HasNotBegun o.run.disk r h old new → (why : FilesError) (e : Ending)
+      → AreRefused o.run.disk old.disks.journal old.disks.spare old.disks.failures new.disks.journal new.disks.spare new.disks.failures why
+      → new.disks.registry ≡ old.disks.registry → ending_of_files why ≡ Some e → EndsWith o r h old new began.Nothing e
+  refused_ends unbegun why e refused unopened tells =
+      not_run unbegun e (inl (record { why = why; refused = refused; tells = tells; unopened = unopened })) (files_alone why e tells)
+
+  pub mapping_ends : HasNotBegun o.run.disk r h old new → AreGoodFiles o.run.disk old.disks → (why : MappingError) (e : Ending) (read : D) → new.disks.registry ≡ read
+      → WhyNot o.run.disk r.which old.disks.registry read why → ending_of_mapping why ≡ Some e → EndsWith o r h old new began.Nothing e
+  mapping_ends unbegun good why e read same refused tells =
+      not_run unbegun e (inr (record {
+        good = good;
+        why = why;
+        refused = subst (λ disk. WhyNot o.run.disk r.which old.disks.registry disk why) (sym same) refused;
+        tells = tells;
+      })) (mapping_alone why e tells)
 
   -- an ending that was told, of a history that is this one
-  pub told_run : (output : Written) (status : ℕ) (said : Option SaidLists) (e : Ending) (es : List Entry) → EndsWith o r h old new said e → es ≡ h
-      → ((s : Setting) → IsToldWith s e said → IsTold output.faults_before output.faults_now output.before output.after (report_text s es e) e status) → RunOutcome o r output h old new status
-  told_run output status said e es ends same tells = record {
+  pub told_run : (output : Written) (status : ℕ) (b : Began) (e : Ending) (es : List Entry) → EndsWith o r h old new b e → es ≡ h
+      → ((text : List ℕ) → IsReport es e b text → IsTold output.faults_before output.faults_now output.before output.after text e status) → RunOutcome o r output h old new status
+  told_run output status b e es ends same tells = record {
     ending = e;
     ended = ends.ended;
-    told = subst (λ (past : List Entry). IsTold output.faults_before output.faults_now output.before output.after (report_text ends.ended.setting past e) e status) same (tells ends.ended.setting ends.told);
+    told = tells ends.ended.text (subst (λ (past : List Entry). IsReport past e b ends.ended.text) (sym same) ends.report);
   }

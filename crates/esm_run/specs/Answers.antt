@@ -1,35 +1,39 @@
 -- What a command's words did to the world. This product's own.
-use Rattle.std.specs.Prelude.{◌≡◌, ◌⊎◌, ℕ, Bool, true, false, List, [], Option, Some, IsSome}
+use Rattle.std.specs.Prelude.{◌≡◌, ◌⊎◌, ◌*◌, ℕ, Bool, true, false, List, [], Option, Some, IsSome}
 use Rattle.esm_model.specs.declared.called.Called.{Called}
-use Rattle.esm_model.specs.declared.config.Config.{Config}
 use Rattle.esm_model.specs.declared.entry.Entry.{Entry}
-use Rattle.esm_model.specs.Setting.{Setting}
+use Rattle.esm_model.specs.Valid.{is_stream}
 use Rattle.esm_cli.specs.declared.command.Command.{Command}
 use Rattle.esm_cli.specs.declared.command.Command.TheVariants.{Run, Serve}
 use Rattle.esm_cli.specs.declared.command.RunWords.{RunWords}
-use Rattle.esm_cli.specs.declared.command.Which.TheVariants.{Config as Text}
-use Rattle.esm_config.specs.Names.{name_of}
-use Rattle.esm_config.specs.declared.param.Param.{Param}
+use Rattle.esm_cli.specs.declared.command.Which.{Which}
+use Rattle.esm_cli.specs.declared.command.Which.TheVariants.{Config, Mapping}
 use Rattle.esm_init.specs.declared.disks.Disks.{Disks}
 use Rattle.esm_io.specs.Faults.{Rose}
 use Rattle.esm_io.specs.Meanings.{DiskMeaning}
+use Rattle.esm_journal.specs.Reads.{IsOnlyRead}
+use Rattle.esm_mapping.specs.Named.{IsNamed, WhyNot}
+use Rattle.esm_mapping.specs.declared.named.MappingError.{MappingError}
+use Rattle.esm_mapping.specs.declared.named.NamedMapping.{NamedMapping}
 use Rattle.esm_pool.specs.Running.{outside}
+use Rattle.esm_queue_report.specs.Queue.{queue_report_text}
+use Rattle.esm_queue_run.specs.Ended as queue
+use Rattle.esm_queue_run.specs.declared.run.QueueEnd.{QueueEnd}
 use Rattle.esm_report.specs.declared.ending.Ending.{Ending}
 use Rattle.esm_report.specs.declared.ending.Ending.TheVariants as ending
-use Rattle.esm_report.specs.Report.{report_text}
-use Rattle.esm_stream.specs.Ended.{HasEnded, HasStoppedRun}
+use Rattle.esm_report.specs.Report.{last_line, report_text}
+use Rattle.esm_stream.specs.Ended as stream
 use Rattle.esm_stream.specs.Files.{FilesState, IsOpenedFiles, AreRefused, AreUnwritten, AreGoodPayloads, AreFoundLines}
 use Rattle.esm_stream.specs.Headline.{Telling, Devices, telling}
 use Rattle.esm_stream.specs.declared.files.FilesError.{FilesError}
 use Rattle.esm_stream.specs.declared.run.StreamEnd.{StreamEnd}
 use Rattle.esm_upkeep.specs.Upkeep.{AreHonest, OneRose}
 use Rattle.esm_run.specs.Built.{SpellsBuilt}
-use Rattle.esm_run.specs.Configured.{IsConfigured, refused_field}
-use Rattle.esm_run.specs.Endings.{IsTold, ending_of, ending_of_files}
+use Rattle.esm_run.specs.Endings.{IsTold, ending_of, ending_of_files, ending_of_mapping, ending_of_queue}
 use Rattle.esm_run.specs.Initialized.{disks}
 use Rattle.esm_run.specs.Written.{Written}
 use Rattle.esm_run.specs.declared.tending.FilesCommand.{FilesCommand}
-use Rattle.esm_run.specs.Tended.{command_of}
+use Rattle.esm_run.specs.Tended.{IsSoundDisk, command_of}
 
 -- what devices tell: of the clock, the callers and the disks, and of the input
 pub record Outside (S D F : Type 0) : Type 1 where
@@ -59,19 +63,25 @@ pub record IsUntouched {S D F : Type 0} (h : List Entry) (old new : Seen S D F) 
   pub unread : new.input ≡ old.input
   pub uncalled : new.callers ≡ old.callers
 
+-- what `run` leaves of the registry's disk: with a mapping's text it is untouched, else it is opened and only read
+abbrev pub IsRegistryLeft : {D : Type 0} → DiskMeaning D → Which → (old new : D) → Type 0
+IsRegistryLeft m (Config text) old new = new ≡ old
+IsRegistryLeft m (Mapping id) old new = IsOnlyRead m old new
+
 -- and nothing was written
-pub record HasNotBegun {S D F : Type 0} (m : DiskMeaning D) (h : List Entry) (old new : Seen S D F) : Type 0 where
+pub record HasNotBegun {S D F : Type 0} (m : DiskMeaning D) (r : RunWords) (h : List Entry) (old new : Seen S D F) : Type 0 where
   pub untouched : IsUntouched h old new
   pub unwritten : AreUnwritten m old.disks.journal old.disks.spare old.disks.failures new.disks.journal new.disks.spare new.disks.failures
-  pub registry : new.disks.registry ≡ old.disks.registry
+  pub registry : IsRegistryLeft m r.which old.disks.registry new.disks.registry
 
 -- refusals
 
--- the files of the run were refused so
+-- the files of the run were refused so, and the registry was not opened
 pub record HasRefusedFiles {S D F : Type 0} (m : DiskMeaning D) (old new : Seen S D F) (ending : Ending) : Type 0 where
   pub why : FilesError
   pub refused : AreRefused m old.disks.journal old.disks.spare old.disks.failures new.disks.journal new.disks.spare new.disks.failures why
   pub tells : ending_of_files why ≡ Some ending
+  pub unopened : new.disks.registry ≡ old.disks.registry
 
 -- they open, and the journal has no bad payload
 pub record AreGoodFiles {D : Type 0} (m : DiskMeaning D) (disks : Disks D) : Type 0 where
@@ -79,74 +89,78 @@ pub record AreGoodFiles {D : Type 0} (m : DiskMeaning D) (disks : Disks D) : Typ
   pub lines : List (List ℕ)
   pub lines_found : AreFoundLines m disks.failures lines
 
--- the named field of the mapping's text is refused
-pub record IsRefused (r : RunWords) (name : List ℕ) : Type 0 where
-  pub text : List ℕ
-  pub which : r.which ≡ Text text
-  pub field : Param
-  pub refused : refused_field text ≡ Some field
-  pub name_is : name ≡ name_of field
+-- the files were good, and then the mapping that the words name was refused so
+pub record HasRefusedMapping {S D F : Type 0} (m : DiskMeaning D) (r : RunWords) (old new : Seen S D F) (ending : Ending) : Type 0 where
+  pub good : AreGoodFiles m old.disks
+  pub why : MappingError
+  pub refused : WhyNot m r.which old.disks.registry new.disks.registry why
+  pub tells : ending_of_mapping why ≡ Some ending
 
--- the mapping's text is accepted, and it says that the mapping is disabled
-pub record IsDisabled (r : RunWords) : Type 0 where
-  pub text : List ℕ
-  pub which : r.which ≡ Text text
-  pub config : Config
-  pub configured : IsConfigured text config
-  pub disabled : config.enabled ≡ false
+-- nothing ran, since the files were refused or the mapping was, and the last line alone is told
+pub record HasNotRun {S D F : Type 0} (m : DiskMeaning D) (r : RunWords) (h : List Entry) (old new : Seen S D F) (text : List ℕ) (ending : Ending) : Type 0 where
+  pub why : HasRefusedFiles m old new ending ⊎ HasRefusedMapping m r old new ending
+  pub unbegun : HasNotBegun m r h old new
+  pub text_is : text ≡ last_line ending
 
 -- runs
 
--- the text of these options is that of an enabled mapping, and the files were opened so
-pub record IsReadyFor {S D F : Type 0} (m : DiskMeaning D) (r : RunWords) (old : Seen S D F) (config : Config) (files : FilesState D) : Type 0 where
-  pub text : List ℕ
-  pub which : r.which ≡ Text text
-  pub configured : IsConfigured text config
-  pub enabled : config.enabled ≡ true
+-- the words name this mapping, which may run, and the files were opened so
+pub record IsReadyFor {S D F : Type 0} (m : DiskMeaning D) (r : RunWords) (old new : Seen S D F) (mapping : NamedMapping) (files : FilesState D) : Type 0 where
+  pub named : IsNamed m r.which old.disks.registry mapping
+  pub registry : IsRegistryLeft m r.which old.disks.registry new.disks.registry
   pub journal : files.journal ≡ old.disks.journal
   pub spare : files.spare ≡ old.disks.spare
   pub failures : files.failures ≡ old.disks.failures
   pub opened : IsOpenedFiles m files
 
--- the mapping of these options ran, over this setting
-pub record IsRunOf {S D F : Type 0} (o : Outside S D F) (r : RunWords) (h : List Entry) (old new : Seen S D F) (s : Setting) (ending : Ending) : Type 0 where
-  pub config : Config
+-- a queue's messages are hidden for so many milliseconds once they are received
+abbrev pub visibility_of : RunWords → ℕ
+visibility_of r = r.visibility * 1000
+
+-- the stream's mapping of these options ran, and its report is told
+pub record IsStreamRun {S D F : Type 0} (o : Outside S D F) (r : RunWords) (h : List Entry) (old new : Seen S D F) (text : List ℕ) (ending : Ending) : Type 0 where
+  pub mapping : NamedMapping
   pub files : FilesState D
-  pub ready : IsReadyFor o.run.disk r old config files
+  pub ready : IsReadyFor o.run.disk r old new mapping files
+  pub kind : is_stream mapping.config.kind ≡ true
   pub end : StreamEnd
-  pub run : HasEnded o.run o.faults o.left config r.calls files old.input new.input old.callers h (devices_of new) end
-  pub over_records : s ≡ run.setting
+  pub run : stream.HasEnded o.run o.faults o.left mapping.config mapping.start r.calls files old.input new.input old.callers h (devices_of new) end
   pub tells : ending ≡ ending_of end
-  pub registry : new.disks.registry ≡ old.disks.registry
+  pub text_is : text ≡ report_text run.setting h ending
 
--- why the options of `run` ended so
-abbrev pub RunCause : {S D F : Type 0} → Outside S D F → RunWords → List Entry → (old new : Seen S D F) → Setting → Ending → Type 0
-RunCause o r h old new s ending.BadWords = ⊥
-RunCause o r h old new s ending.UnknownMapping = ⊥
-RunCause o r h old new s ending.OpenFault = HasRefusedFiles o.run.disk old new ending.OpenFault × HasNotBegun o.run.disk h old new
-RunCause o r h old new s (ending.NotAJournal file) = HasRefusedFiles o.run.disk old new (ending.NotAJournal file) × HasNotBegun o.run.disk h old new
-RunCause o r h old new s (ending.Damaged file place) = HasRefusedFiles o.run.disk old new (ending.Damaged file place) × HasNotBegun o.run.disk h old new
-RunCause o r h old new s (ending.BadPayload file index) = HasRefusedFiles o.run.disk old new (ending.BadPayload file index) × HasNotBegun o.run.disk h old new
-RunCause o r h old new s ending.DisabledMapping = AreGoodFiles o.run.disk old.disks × IsDisabled r × HasNotBegun o.run.disk h old new
-RunCause o r h old new s (ending.BadParameter name) = AreGoodFiles o.run.disk old.disks × IsRefused r name × HasNotBegun o.run.disk h old new
-RunCause o r h old new s other = IsRunOf o r h old new s other
+-- the queue's mapping of these options ran, and its report is told
+pub record IsQueueRun {S D F : Type 0} (o : Outside S D F) (r : RunWords) (h : List Entry) (old new : Seen S D F) (text : List ℕ) (ending : Ending) : Type 0 where
+  pub mapping : NamedMapping
+  pub files : FilesState D
+  pub ready : IsReadyFor o.run.disk r old new mapping files
+  pub kind : is_stream mapping.config.kind ≡ false
+  pub end : QueueEnd
+  pub run : queue.HasEnded o.run o.faults o.left mapping.config r.calls (visibility_of r) files old.input new.input old.callers h (devices_of new) end
+  pub tells : ending ≡ ending_of_queue end
+  pub text_is : text ≡ queue_report_text run.setting h ending
 
--- the options of `run` came to this ending
+-- why the options of `run` ended so, and what is told: nothing ran, or the mapping ran, a stream's or a queue's
+abbrev pub RunCause : {S D F : Type 0} → Outside S D F → RunWords → List Entry → (old new : Seen S D F) → (text : List ℕ) → Ending → Type 0
+RunCause o r h old new text ending =
+    HasNotRun o.run.disk r h old new text ending
+    ⊎ (IsStreamRun o r h old new text ending ⊎ IsQueueRun o r h old new text ending)
+
+-- the options of `run` came to this ending, and this is their report
 pub record RunEnded {S D F : Type 0} (o : Outside S D F) (r : RunWords) (h : List Entry) (old new : Seen S D F) (ending : Ending) : Type 0 where
-  pub setting : Setting
-  pub cause : RunCause o r h old new setting ending
+  pub text : List ℕ
+  pub cause : RunCause o r h old new text ending
 
 -- the options of `run` ended with the status: why, and what was told
 pub record RunOutcome {S D F : Type 0} (o : Outside S D F) (r : RunWords) (output : Written) (h : List Entry) (old new : Seen S D F) (status : ℕ) : Type 0 where
   pub ending : Ending
   pub ended : RunEnded o r h old new ending
-  pub told : IsTold output.faults_before output.faults_now output.before output.after (report_text ended.setting h ending) ending status
+  pub told : IsTold output.faults_before output.faults_now output.before output.after ended.text ending status
 
 -- no command that is built is spelled, and that was told
 pub record AreBadWords {S D F : Type 0} (words : List (List ℕ)) (output : Written) (h : List Entry) (old new : Seen S D F) (status : ℕ) : Type 0 where
   pub none_spelled : (c : Command) → ¬ SpellsBuilt words c
   pub untouched : IsUntouched h old new
-  pub told : (s : Setting) → IsTold output.faults_before output.faults_now output.before output.after (report_text s h ending.BadWords) ending.BadWords status
+  pub told : IsTold output.faults_before output.faults_now output.before output.after (last_line ending.BadWords) ending.BadWords status
 
 -- the options of `run` that the words spell ended with the status, or they spell no command that is built
 abbrev pub RunOrBadWords : {S D F : Type 0} → Outside S D F → List (List ℕ) → Written → List Entry → (old new : Seen S D F) → ℕ → Type 0
@@ -174,29 +188,47 @@ Outcome o words output h old new files serve status =
     RunOrBadWords o words output h old new status
     ⊎ (IsOverFiles words h old new files status ⊎ IsServer words h old new serve status)
 
+-- the registry's disk, where the words name a mapping of it
+abbrev pub IsSoundRegistry : {D : Type 0} → DiskMeaning D → Which → (old new : D) → Type 0
+IsSoundRegistry m (Config text) old new = Unit {0}
+IsSoundRegistry m (Mapping id) old new = IsSoundDisk m old new
+
 -- no fault: the input tells its bytes, and no count of faults of the input or of a disk of a run rose or stands at its last
 -- value, and these disks are honest
-pub record IsSoundRun {S D F : Type 0} (o : Outside S D F) (old new : Seen S D F) : Type 0 where
+pub record IsSoundRun {S D F : Type 0} (o : Outside S D F) (r : RunWords) (old new : Seen S D F) : Type 0 where
   pub told : IsSome (o.left old.input)
   pub no_input_fault : ¬ Rose (o.faults old.input) (o.faults new.input)
   pub honest : AreHonest o.run.disk old.disks.journal old.disks.spare
   pub honest_failures : o.run.disk.honest old.disks.failures ≡ true
   pub no_fault : ¬ OneRose o.run.disk old.disks.journal old.disks.spare new.disks.journal new.disks.spare
   pub no_failures_fault : ¬ Rose (o.run.disk.faults old.disks.failures) (o.run.disk.faults new.disks.failures)
+  pub registry : IsSoundRegistry o.run.disk r.which old.disks.registry new.disks.registry
 
 -- want of memory
 
--- it stopped the run of the mapping of these options
-pub record IsStoppedOf {S D F : Type 0} (o : Outside S D F) (r : RunWords) (h : List Entry) (old new : Seen S D F) : Type 0 where
-  pub config : Config
+-- it stopped the run of the stream's mapping of these options
+pub record IsStoppedStream {S D F : Type 0} (o : Outside S D F) (r : RunWords) (h : List Entry) (old new : Seen S D F) : Type 0 where
+  pub mapping : NamedMapping
   pub files : FilesState D
-  pub ready : IsReadyFor o.run.disk r old config files
-  pub run : HasStoppedRun o.run o.left config r.calls files old.input new.input old.callers h (devices_of new)
-  pub registry : new.disks.registry ≡ old.disks.registry
+  pub ready : IsReadyFor o.run.disk r old new mapping files
+  pub kind : is_stream mapping.config.kind ≡ true
+  pub run : stream.HasStoppedRun o.run o.left mapping.config mapping.start r.calls files old.input new.input old.callers h (devices_of new)
+
+-- it stopped the run of the queue's mapping of these options
+pub record IsStoppedQueue {S D F : Type 0} (o : Outside S D F) (r : RunWords) (h : List Entry) (old new : Seen S D F) : Type 0 where
+  pub mapping : NamedMapping
+  pub files : FilesState D
+  pub ready : IsReadyFor o.run.disk r old new mapping files
+  pub kind : is_stream mapping.config.kind ≡ false
+  pub run : queue.HasStoppedRun o.run o.left mapping.config r.calls (visibility_of r) files old.input new.input old.callers h (devices_of new)
+
+-- it stopped the run of a mapping
+abbrev pub IsStoppedOf : {S D F : Type 0} → Outside S D F → RunWords → List Entry → (old new : Seen S D F) → Type 0
+IsStoppedOf o r h old new = IsStoppedStream o r h old new ⊎ IsStoppedQueue o r h old new
 
 -- it stopped these options of `run`: before anything came; in the run; or when the run had ended and was to be told
 abbrev pub IsCutOf : {S D F : Type 0} → Outside S D F → RunWords → List Entry → (old new : Seen S D F) → Type 0
-IsCutOf o r h old new = HasNotBegun o.run.disk h old new ⊎ (IsStoppedOf o r h old new ⊎ ((e : Ending) × RunEnded o r h old new e))
+IsCutOf o r h old new = HasNotBegun o.run.disk r h old new ⊎ (IsStoppedOf o r h old new ⊎ ((e : Ending) × RunEnded o r h old new e))
 
 -- it stopped what the words ask for
 abbrev pub IsCut : {S D F : Type 0} → Outside S D F → List (List ℕ) → List Entry → (old new : Seen S D F) → Type 0

@@ -1,25 +1,13 @@
 -- The commands that are built so far. Words that spell another one are refused as bad words, as words that spell none: a
 -- command leaves this file when it is built. This product's own.
-use Rattle.std.specs.Prelude.{◌≡◌, ◌==◌, ◌&&◌, ℕ, Bool, true, false, List, unwrap_or}
+use Rattle.std.specs.Prelude.{◌≡◌, ℕ, Bool, true, false, List}
 use Rattle.esm_cli.specs.Words.{spells}
 use Rattle.esm_cli.specs.declared.command.Command.{Command}
 use Rattle.esm_cli.specs.declared.command.Command.TheVariants.{Init, Run, Show, Failures, Compact, Serve, Migrate}
-use Rattle.esm_cli.specs.declared.command.RunWords.{RunWords}
-use Rattle.esm_cli.specs.declared.command.Which.{Which}
-use Rattle.esm_cli.specs.declared.command.Which.TheVariants.{Config, Mapping}
-use Rattle.esm_cli.specs.declared.table.TheConstants.{VISIBILITY}
-
-abbrev pub is_text : Which → Bool
-is_text (Config text) = true
-is_text (Mapping id) = false
-
--- a mapping's text; no queue runs, so none waits for another time than the default
-abbrev pub is_built_run : RunWords → Bool
-is_built_run r = is_text r.which && (r.visibility == unwrap_or VISIBILITY.default 0)
 
 abbrev pub is_built : Command → Bool
 is_built Init = true
-is_built (Run r) = is_built_run r
+is_built (Run r) = true
 is_built Show = true
 is_built Failures = true
 is_built Compact = true

@@ -2,6 +2,11 @@
 use Rattle.std.specs.Prelude.{◌≡◌, ◌⊎◌, ℕ, List, ◌++◌, codes, Option, Some, None}
 use Rattle.esm_io.specs.Told.{Grows}
 use Rattle.esm_io.specs.Faults.{Rose}
+use Rattle.esm_config.specs.Names.{name_of as param_name}
+use Rattle.esm_mapping.specs.declared.named.MappingError.{MappingError}
+use Rattle.esm_mapping.specs.declared.named.MappingError.TheVariants as mapping
+use Rattle.esm_queue_run.specs.declared.run.QueueEnd.{QueueEnd}
+use Rattle.esm_queue_run.specs.declared.run.QueueEnd.TheVariants as queue
 use Rattle.esm_record.specs.Line.{name_of}
 use Rattle.esm_record.specs.declared.error.LineError.{LineError}
 use Rattle.esm_record.specs.declared.error.LineError.TheVariants.{NotJson, Missing, BadField, Backwards, LineTooLong, Repeated}
@@ -27,20 +32,27 @@ why_text (Backwards kept given) = codes "Backwards kept " ++ kept ++ codes " giv
 why_text LineTooLong = codes "LineTooLong"
 why_text (Repeated id) = codes "Repeated " ++ id
 
--- where every record has its fate, and no window is outstanding
+-- where every record or message has its fate, and no window is outstanding
 abbrev pub ending_of_reading : InputEnd → Ending
 ending_of_reading ends.End = ending.Done
 ending_of_reading (ends.BadLine bad) = ending.BadLine bad.line (why_text bad.why)
 ending_of_reading ends.Fault = ending.InputFault
 ending_of_reading (ends.Limit limit) = ending.Limit limit
 
--- of a run
+-- of a stream's run
 abbrev pub ending_of : StreamEnd → Ending
 ending_of (run.Finished why) = ending_of_reading why
 ending_of run.CallsSpent = ending.CallsSpent
 ending_of run.DiskFault = ending.DiskFault
 ending_of run.DestFault = ending.DestFault
 ending_of (run.Changed change) = ending.StreamChanged change
+
+-- of a queue's run
+abbrev pub ending_of_queue : QueueEnd → Ending
+ending_of_queue (queue.Finished why) = ending_of_reading why
+ending_of_queue queue.CallsSpent = ending.CallsSpent
+ending_of_queue queue.DiskFault = ending.DiskFault
+ending_of_queue (queue.Changed change) = ending.StreamChanged change
 
 abbrev pub file_of : JournalFile → FileName
 file_of file.Journal = name.Journal
@@ -53,6 +65,17 @@ ending_of_files (files.Damaged f place) = Some (ending.Damaged (file_of f) place
 ending_of_files (files.BadPayload index) = Some (ending.BadPayload name.Journal index)
 ending_of_files files.DiskFault = Some ending.OpenFault
 ending_of_files files.OutOfMemory = None
+
+-- where its mapping was refused
+abbrev pub ending_of_mapping : MappingError → Option Ending
+ending_of_mapping mapping.NotAJournal = Some (ending.NotAJournal name.Registry)
+ending_of_mapping (mapping.Damaged place) = Some (ending.Damaged name.Registry place)
+ending_of_mapping (mapping.BadPayload index) = Some (ending.BadPayload name.Registry index)
+ending_of_mapping mapping.DiskFault = Some ending.OpenFault
+ending_of_mapping mapping.Unknown = Some ending.UnknownMapping
+ending_of_mapping mapping.Disabled = Some ending.DisabledMapping
+ending_of_mapping (mapping.BadParam param) = Some (ending.BadParameter (param_name param))
+ending_of_mapping mapping.OutOfMemory = None
 
 -- statuses
 

@@ -5,9 +5,7 @@ pub mod Serve
 pub mod Refusals
 pub mod Built
 pub mod Asked
-pub mod Served
 pub mod Endings
-pub mod Configured
 pub mod Answers
 pub mod Written
 pub mod Ran

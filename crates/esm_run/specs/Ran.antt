@@ -1,27 +1,57 @@
 -- What became of the options of `run` before it was told. Only this crate's proofs cite this file.
-use Rattle.std.specs.Prelude.{◌≡◌, true, List, Option, Some, None, Result, Ok, Err}
+use Rattle.std.specs.Prelude.{◌≡◌, true, List, ℕ, Result, Ok, Err}
 use Rattle.esm_model.specs.declared.entry.Entry.{Entry}
 use Rattle.esm_model.specs.declared.memory.OutOfMemory.{OutOfMemory}
 use Rattle.esm_model.specs.Setting.{Setting}
 use Rattle.esm_cli.specs.declared.command.RunWords.{RunWords}
+use Rattle.esm_queue_model.specs.QueueSetting.{QueueSetting}
+use Rattle.esm_queue_model.specs.QueueStep.{LegalQueue}
+use Rattle.esm_queue_report.specs.Queue.{queue_report_text}
+use Rattle.esm_queue_run.specs.declared.run.QueueEnd.{QueueEnd}
 use Rattle.esm_report.specs.declared.ending.Ending.{Ending}
-use Rattle.esm_report.specs.Report.{stands_alone}
+use Rattle.esm_report.specs.Report.{last_line, report_text, stands_alone}
 use Rattle.esm_said.specs.SaidLists.{SaidLists}
 use Rattle.esm_stream.specs.declared.run.StreamEnd.{StreamEnd}
 use Rattle.esm_run.specs.Answers.{Outside, Seen, RunEnded}
-use Rattle.esm_run.specs.Endings.{ending_of}
+use Rattle.esm_run.specs.Endings.{ending_of, ending_of_queue}
+use Rattle.esm_run.specs.declared.left.Began.{Began}
+use Rattle.esm_run.specs.declared.left.Began.TheVariants as began
 
--- a run that was not stopped tells this ending
+-- a stream's run that was not stopped tells this ending
 abbrev pub IsEndingOf : Result StreamEnd OutOfMemory → Ending → Type 0
 IsEndingOf (Ok end) ending = ending ≡ ending_of end
 IsEndingOf (Err why) ending = ⊥
 
--- what the journal said before, where a run began; else the ending stands alone
-abbrev pub IsToldWith : Setting → Ending → Option SaidLists → Type 0
-IsToldWith s ending None = stands_alone ending ≡ true
-IsToldWith s ending (Some said) = s.fates ≡ said.fates
+-- a queue's
+abbrev pub IsEndingOfQueue : Result QueueEnd OutOfMemory → Ending → Type 0
+IsEndingOfQueue (Ok end) ending = ending ≡ ending_of_queue end
+IsEndingOfQueue (Err why) ending = ⊥
 
--- the options came to this ending, and this is what its report needs of the journal
-pub record EndsWith {S D F : Type 0} (o : Outside S D F) (r : RunWords) (h : List Entry) (old new : Seen S D F) (said : Option SaidLists) (ending : Ending) : Type 0 where
+-- the last line of an ending that stands alone
+pub record IsLastLine (ending : Ending) (text : List ℕ) : Type 0 where
+  pub alone : stands_alone ending ≡ true
+  pub text_is : text ≡ last_line ending
+
+-- the report of a stream's run over a journal that said this
+pub record IsStreamReport (h : List Entry) (ending : Ending) (said : SaidLists) (text : List ℕ) : Type 0 where
+  pub setting : Setting
+  pub fates : setting.fates ≡ said.fates
+  pub text_is : text ≡ report_text setting h ending
+
+-- the report of a queue's run over a journal that said this
+pub record IsQueueReport (h : List Entry) (ending : Ending) (said : SaidLists) (text : List ℕ) : Type 0 where
+  pub setting : QueueSetting
+  pub deletions : setting.deletions ≡ said.deletions
+  pub legal : LegalQueue setting h
+  pub text_is : text ≡ queue_report_text setting h ending
+
+-- the report of an ending, by what began
+abbrev pub IsReport : List Entry → Ending → Began → List ℕ → Type 0
+IsReport h ending began.Nothing text = IsLastLine ending text
+IsReport h ending (began.Stream said) text = IsStreamReport h ending said text
+IsReport h ending (began.Queue said) text = IsQueueReport h ending said text
+
+-- the options came to this ending, and their report is of what began
+pub record EndsWith {S D F : Type 0} (o : Outside S D F) (r : RunWords) (h : List Entry) (old new : Seen S D F) (b : Began) (ending : Ending) : Type 0 where
   pub ended : RunEnded o r h old new ending
-  pub told : IsToldWith ended.setting ending said
+  pub report : IsReport h ending b ended.text

@@ -1,27 +1,19 @@
 ghost use Rattle.std.specs.Prelude.{◌≡◌, map, IfOk};
 ghost use Rattle.std.specs.String.{string_bytes};
 ghost use Rattle.esm_cli.specs.declared.command.Command.{Command};
-ghost use Rattle.esm_run.specs.Built.{is_built, is_built_run, SpellsBuilt};
+ghost use Rattle.esm_run.specs.Built.{is_built, SpellsBuilt};
 
 use esm_cli::laws::one_command;
-use esm_cli::table::VISIBILITY;
-use esm_cli::{Command, RunWords, Which, WordsError, read};
+use esm_cli::{Command, WordsError, read};
 use std::alloc::Global;
-
-/// Whether these options of `run` are built.
-fn is_built_run(words: &RunWords) -> bool
-    ensures { result ≡ is_built_run words.now }
-{
-    matches!(words.which, Which::Config(_)) && words.visibility == VISIBILITY.default.unwrap_or(0)
-}
 
 /// Whether the command is built.
 fn is_built(command: &Command) -> bool
     ensures { result ≡ is_built command.now }
 {
     match command {
-        Command::Run(words) => is_built_run(words),
         Command::Init
+        | Command::Run(_)
         | Command::Show
         | Command::Failures
         | Command::Compact

@@ -1,32 +1,30 @@
-ghost use Rattle.std.specs.Prelude.{◌≡◌, ◌≢◌, List, true, length, reverse, None, Ok, IfOk};
-ghost use Rattle.esm_model.specs.declared.entry.Entry.{Entry};
+ghost use Rattle.std.specs.Prelude.{◌≡◌, ◌≢◌, ℕ, List, true, length, reverse, Ok, IfOk};
 ghost use Rattle.esm_model.specs.declared.limits.TheConstants.{MAX_LANES};
-ghost use Rattle.esm_model.specs.Setting.{Setting};
 ghost use Rattle.esm_io.specs.Meanings.{disk as meaning};
 ghost use Rattle.esm_report.specs.declared.ending.Ending.{Ending};
 ghost use Rattle.esm_report.specs.declared.ending.Ending.TheVariants.{BadWords};
-ghost use Rattle.esm_report.specs.Report.{report_text, stands_alone};
-ghost use Rattle.esm_run.specs.Built.{is_built_run};
+ghost use Rattle.esm_report.specs.Report.{last_line, stands_alone};
 ghost use Rattle.esm_run.specs.Endings.{IsTold};
-ghost use Rattle.esm_run.specs.Answers.{RunOutcome, IsCutOf, outside_of, seen_of};
-ghost use Rattle.esm_run.specs.Ran.{IsToldWith};
+ghost use Rattle.esm_run.specs.Answers.{RunOutcome, IsCutOf, IsRegistryLeft, outside_of, seen_of};
+ghost use Rattle.esm_run.specs.Ran.{IsReport};
 ghost use Rattle.esm_run.specs.Written.{written_of};
 
+use crate::left::{Began, Ran, RunDevices};
 use crate::output::{OUT_OF_MEMORY, tell};
-use crate::ran::{Ran, RunDevices, run_words};
+use crate::ran::run_words;
 use crate::world::{Ended, World};
 use esm_cli::{RunWords, WordsError};
 use esm_io::{Caller, Clock, Disk, Door, Sink, Source};
 use esm_model::{Entry, OutOfMemory};
+use esm_queue_report::queue_report;
 use esm_report::{Ending, last_line, report};
-use esm_said::Says;
 use std::alloc::Global;
 use std::sync::Wait;
 
 /// Tells of an ending that stands alone, and answers the exit status.
 fn tell_alone<K: Sink>(alloc: Global, out: &mut K, ending: &Ending) -> u8
     requires { stands_alone ending.now ≡ true }
-    ensures told { result ≢ 70 → (s : Setting) (h : List Entry) → IsTold (K.faults out.old) (K.faults out.new) (K.written out.old) (K.written out.new) (report_text s h ending.now) ending.now result }
+    ensures told { result ≢ 70 → IsTold (K.faults out.old) (K.faults out.new) (K.written out.old) (K.written out.new) (last_line ending.now) ending.now result }
     ensures words { result ≡ 2 → ending.now ≡ BadWords }
     ensures untold { result ≡ 70 → out.new ≡ out.old }
 {
@@ -38,8 +36,8 @@ fn tell_alone<K: Sink>(alloc: Global, out: &mut K, ending: &Ending) -> u8
 
 /// Tells why the words were refused, and answers the exit status.
 fn tell_refusal<K: Sink>(alloc: Global, out: &mut K, why: WordsError) -> u8
-    ensures told { result ≢ 70 → (why ≡ WordsError.BadWords) × ((s : Setting) (h : List Entry) → IsTold (K.faults out.old) (K.faults out.new)
-        (K.written out.old) (K.written out.new) (report_text s h BadWords) BadWords result) }
+    ensures told { result ≢ 70 → (why ≡ WordsError.BadWords) × IsTold (K.faults out.old) (K.faults out.new)
+        (K.written out.old) (K.written out.new) (last_line BadWords) BadWords result }
     ensures untold { result ≡ 70 → out.new ≡ out.old }
 {
     match why {
@@ -55,9 +53,9 @@ pub fn refuse<S, K: Sink, D, C, F, L>(
     why: WordsError,
     world: World<S, K, D, C, F, L>,
 ) -> Ended<S, K, D, C, F, L>
-    ensures told { result.status ≢ 70 → (why ≡ WordsError.BadWords) × ((s : Setting) (h : List Entry) → IsTold (K.faults world.out)
+    ensures told { result.status ≢ 70 → (why ≡ WordsError.BadWords) × IsTold (K.faults world.out)
         (K.faults result.world.out) (K.written world.out) (K.written result.world.out)
-        (report_text s h BadWords) BadWords result.status) }
+        (last_line BadWords) BadWords result.status }
     ensures untold { result.status ≡ 70 → result.world.out ≡ world.out }
     ensures same { result.world ≡ record world { out = result.world.out } }
 {
@@ -66,27 +64,41 @@ pub fn refuse<S, K: Sink, D, C, F, L>(
     Ended { status, world }
 }
 
+/// The report of an ending, by what began.
+fn report_of(
+    alloc: Global,
+    began: &Began,
+    trace: &[Entry],
+    ending: &Ending,
+) -> Result<Vec<u8>, OutOfMemory>
+    requires { began.now ≡ Began.Nothing → stands_alone ending.now ≡ true }
+    ensures { IfOk result (λ text. (is : List ℕ) → IsReport (reverse trace.now) ending.now began.now is → text.items ≡ is) }
+{
+    match began {
+        Began::Nothing => last_line(alloc, ending),
+        Began::Stream(said) => report(alloc, said, trace, ending),
+        Began::Queue(said) => queue_report(alloc, said, trace, ending),
+    }
+}
+
 /// Tells how a run ended, and answers the exit status.
 fn tell_end<K: Sink>(
     alloc: Global,
     out: &mut K,
     end: &Result<Ending, OutOfMemory>,
-    said: &Option<Says>,
+    began: &Began,
     trace: &[Entry],
 ) -> u8
-    requires alone { said.now ≡ None → IfOk end.now (λ ending. stands_alone ending ≡ true) }
+    requires { began.now ≡ Began.Nothing → IfOk end.now (λ ending. stands_alone ending ≡ true) }
     ensures words { result ≡ 2 → end.now ≡ Ok BadWords }
-    ensures told { result ≢ 70 → (ending : Ending) × (end.now ≡ Ok ending) × ((s : Setting) → IsToldWith s ending said.now →
-        IsTold (K.faults out.old) (K.faults out.new) (K.written out.old) (K.written out.new) (report_text s (reverse trace.now) ending) ending result) }
+    ensures told { result ≢ 70 → (ending : Ending) × (end.now ≡ Ok ending) × ((text : List ℕ) → IsReport (reverse trace.now) ending began.now text →
+        IsTold (K.faults out.old) (K.faults out.new) (K.written out.old) (K.written out.new) text ending result) }
     ensures untold { result ≡ 70 → out.new ≡ out.old }
 {
     let Ok(ending) = end else {
         return OUT_OF_MEMORY;
     };
-    let Some(said) = said else {
-        return tell_alone(alloc, out, ending);
-    };
-    let Ok(text) = report(alloc, said, trace, ending) else {
+    let Ok(text) = report_of(alloc, began, trace, ending) else {
         return OUT_OF_MEMORY;
     };
     tell(out, &text, ending)
@@ -99,8 +111,7 @@ pub fn run<R: Wait, S: Source, K: Sink, D: Disk, C: Clock, F: Caller, L: Door>(
     words: RunWords,
     world: World<S, K, D, C, F, L>,
 ) -> Ended<S, K, D, C, F, L>
-    requires built { is_built_run words ≡ true }
-    requires callers { length world.callers.items ≡ MAX_LANES }
+    requires { length world.callers.items ≡ MAX_LANES }
     ensures outcome { result.status ≢ 70 → RunOutcome (outside_of C.gave F.sends F.log (meaning D.honest D.content D.image D.moment D.image_since D.faults) S.faults S.left) words
         (written_of K.faults K.written world.out result.world.out) (reverse result.world.trace.items)
         (seen_of world.input world.journal world.spare world.failures world.registry world.callers.items)
@@ -116,9 +127,11 @@ pub fn run<R: Wait, S: Source, K: Sink, D: Disk, C: Clock, F: Caller, L: Door>(
       journal = result.world.journal;
       spare = result.world.spare;
       failures = result.world.failures;
+      registry = result.world.registry;
       callers = result.world.callers;
       trace = result.world.trace;
     } }
+    ensures registry { IsRegistryLeft (meaning D.honest D.content D.image D.moment D.image_since D.faults) words.which world.registry result.world.registry }
 {
     let World {
         input,
@@ -137,16 +150,17 @@ pub fn run<R: Wait, S: Source, K: Sink, D: Disk, C: Clock, F: Caller, L: Door>(
         journal,
         spare,
         failures,
+        registry,
         callers,
     };
     let Ran {
         end,
-        said,
+        began,
         trace,
         devices,
     } = run_words(rt, alloc, words, devices, &clock);
     let mut out = out;
-    let status = tell_end(alloc, &mut out, &end, &said, &trace);
+    let status = tell_end(alloc, &mut out, &end, &began, &trace);
     Ended {
         status,
         world: World {
@@ -155,7 +169,7 @@ pub fn run<R: Wait, S: Source, K: Sink, D: Disk, C: Clock, F: Caller, L: Door>(
             journal: devices.journal,
             spare: devices.spare,
             failures: devices.failures,
-            registry,
+            registry: devices.registry,
             clock,
             callers: devices.callers,
             door,

@@ -1,176 +1,174 @@
-// The options of `run`: its files are opened, its mapping is judged, and it runs.
-ghost use Rattle.std.specs.Prelude.{◌≡◌, [], true, Some, None, length, reverse, IfOk, OnErr};
+// The options of `run`: its files are opened, its mapping is read, and it runs.
+ghost use Rattle.std.specs.Prelude.{◌≡◌, length, reverse, IfOk, OnErr};
 ghost use Rattle.esm_io.specs.Meanings.{disk as meaning};
+ghost use Rattle.esm_mapping.specs.Named.{IsNamed, MayRun};
+ghost use Rattle.esm_model.specs.Valid.{is_stream};
 ghost use Rattle.esm_model.specs.declared.limits.TheConstants.{MAX_LANES};
-ghost use Rattle.esm_run.specs.Built.{is_text, is_built_run};
-ghost use Rattle.esm_run.specs.Answers.{AreGoodFiles, HasNotBegun, IsCutOf, outside_of, seen_of};
+ghost use Rattle.esm_run.specs.Answers.{AreGoodFiles, HasNotBegun, IsCutOf, IsRegistryLeft, outside_of, seen_of};
 ghost use Rattle.esm_run.specs.Initialized.{disks};
-ghost use Rattle.esm_run.specs.Ran.{EndsWith, IsEndingOf};
+ghost use Rattle.esm_run.specs.Ran.{EndsWith};
+ghost use Rattle.esm_run.specs.declared.left.Began.TheVariants as began;
 
-use crate::mapping::mapping;
-use crate::refusal::{bad_parameter, ending_of, ending_of_files};
-use esm_cli::{RunWords, Which};
-use esm_config::ConfigError;
+use crate::left::{Ran, RunDevices, not_begun, queue_ran, stream_ran};
+use crate::refusal::{ending_of_files, ending_of_mapping};
+use esm_cli::RunWords;
 use esm_io::{Caller, Clock, Disk, Source};
-use esm_model::{Entry, OutOfMemory, Text};
+use esm_mapping::{MappingRead, NamedMapping, read_mapping};
+use esm_model::{Kind, OutOfMemory};
+use esm_queue_run::run_queue;
 use esm_report::Ending;
-use esm_said::Says;
-use esm_stream::{Files, StreamRun, open_files, run_stream};
+use esm_stream::{Files, open_files, run_stream};
 use std::alloc::Global;
 use std::sync::Wait;
 
-/// The devices of a run.
-#[derive(Drop)]
-pub struct RunDevices<S, D, F> {
-    pub input: S,
-    pub journal: D,
-    pub spare: D,
-    pub failures: D,
-    pub callers: Vec<F>,
-}
-
-/// What became of the options of `run`: how it ended, what its journal said before where it began, its history with the
-/// oldest entry first, and the devices as they were left.
-#[derive(Drop)]
-pub struct Ran<S, D, F> {
-    pub end: Result<Ending, OutOfMemory>,
-    pub said: Option<Says>,
-    pub trace: Vec<Entry>,
-    pub devices: RunDevices<S, D, F>,
-}
-
-/// The text of the mapping that the words name.
-fn mapping_text(which: &Which) -> &Text
-    requires { is_text which.now ≡ true }
-    ensures { which.now ≡ Which.Config result.now }
+fn is_stream(kind: Kind) -> bool
+    ensures { result ≡ is_stream kind }
 {
-    match which {
-        Which::Config(text) => text,
-        Which::Mapping(_) => unreachable!(),
+    match kind {
+        Kind::Stream => true,
+        Kind::Standard => false,
+        Kind::Fifo => false,
     }
 }
 
-/// No run began: the devices of an input and callers, with these disks.
-fn not_begun<S, D, F>(
-    alloc: Global,
-    end: Result<Ending, OutOfMemory>,
+/// The devices of a run whose files were opened.
+struct Opened<S, D: Disk, F> {
     input: S,
-    disks: (D, D, D),
+    files: Files<D>,
+    registry: D,
     callers: Vec<F>,
-) -> Ran<S, D, F>
-    ensures end { result.end ≡ end }
-    ensures said { result.said ≡ None }
-    ensures trace { result.trace.items ≡ [] }
-    ensures devices { result.devices ≡ record { input = input; journal = disks.0; spare = disks.1; failures = disks.2; callers = callers } }
-{
-    let (journal, spare, failures) = disks;
-    Ran {
-        end,
-        said: None,
-        trace: Vec::new(alloc),
-        devices: RunDevices {
-            input,
-            journal,
-            spare,
-            failures,
-            callers,
-        },
-    }
 }
 
-/// No run began over these files, which are closed.
+/// No run began over opened files, which are closed. The registry was perhaps read before.
 fn closed<S, D: Disk, F>(
     alloc: Global,
     end: Result<Ending, OutOfMemory>,
-    input: S,
-    files: Files<D>,
-    callers: Vec<F>,
+    words: &RunWords,
+    opened: Opened<S, D, F>,
 ) -> Ran<S, D, F>
     ensures end { result.end ≡ end }
-    ensures said { result.said ≡ None }
-    ensures good { (registry : D) → AreGoodFiles (meaning D.honest D.content D.image D.moment D.image_since D.faults) (disks files.journal files.spare files.failures registry) }
-    ensures not_begun { (registry : D) → HasNotBegun (meaning D.honest D.content D.image D.moment D.image_since D.faults) (reverse result.trace.items)
-        (seen_of input files.journal files.spare files.failures registry callers.items)
-        (seen_of result.devices.input result.devices.journal result.devices.spare result.devices.failures registry result.devices.callers.items) }
+    ensures nothing { result.began ≡ began.Nothing }
+    ensures registry { result.devices.registry ≡ opened.registry }
+    ensures good { (registry : D) → AreGoodFiles (meaning D.honest D.content D.image D.moment D.image_since D.faults) (disks opened.files.journal opened.files.spare opened.files.failures registry) }
+    ensures not_begun { (registry : D) → IsRegistryLeft (meaning D.honest D.content D.image D.moment D.image_since D.faults) words.now.which registry opened.registry
+        → HasNotBegun (meaning D.honest D.content D.image D.moment D.image_since D.faults) words.now (reverse result.trace.items)
+        (seen_of opened.input opened.files.journal opened.files.spare opened.files.failures registry opened.callers.items)
+        (seen_of result.devices.input result.devices.journal result.devices.spare result.devices.failures result.devices.registry result.devices.callers.items) }
 {
+    let _ = words;
+    let Opened {
+        input,
+        files,
+        registry,
+        callers,
+    } = opened;
     files.keeps();
-    not_begun(alloc, end, input, files.close(), callers)
-}
-
-/// How a run ended, and the devices that it left.
-fn begun<S, D, F>(alloc: Global, run: StreamRun<S, D, F>) -> Ran<S, D, F>
-    ensures ended { IfOk result.end (IsEndingOf run.end) }
-    ensures said { result.said ≡ Some run.said }
-    ensures trace { result.trace ≡ run.trace }
-    ensures devices { result.devices ≡ record { input = run.input; journal = run.journal; spare = run.spare; failures = run.failures; callers = run.callers } }
-{
-    let StreamRun {
-        end,
-        trace,
-        said,
+    let (journal, spare, failures) = files.close();
+    let devices = RunDevices {
         input,
         journal,
         spare,
         failures,
+        registry,
         callers,
-    } = run;
-    let end = match end {
-        Ok(end) => ending_of(alloc, end),
-        Err(OutOfMemory) => Err(OutOfMemory),
     };
-    Ran {
-        end,
-        said: Some(said),
-        trace,
-        devices: RunDevices {
+    not_begun(alloc, end, devices)
+}
+
+/// Runs the mapping that the words name, a stream's or a queue's, over the opened files. A queue's messages are hidden for
+/// the seconds of `--visibility` once they are received.
+fn run_mapping<R: Wait, S: Source, D: Disk, C: Clock, F: Caller>(
+    rt: &R,
+    alloc: Global,
+    words: &RunWords,
+    mapping: NamedMapping,
+    opened: Opened<S, D, F>,
+    clock: &C,
+) -> Ran<S, D, F>
+    requires may_run { MayRun mapping }
+    requires callers { length opened.callers.items ≡ MAX_LANES }
+    ensures ended { IfOk result.end (λ ending. (registry : D)
+        → IsNamed (meaning D.honest D.content D.image D.moment D.image_since D.faults) words.now.which registry mapping
+        → IsRegistryLeft (meaning D.honest D.content D.image D.moment D.image_since D.faults) words.now.which registry opened.registry
+        → EndsWith (outside_of C.gave F.sends F.log (meaning D.honest D.content D.image D.moment D.image_since D.faults) S.faults S.left) words.now (reverse result.trace.items)
+        (seen_of opened.input opened.files.journal opened.files.spare opened.files.failures registry opened.callers.items)
+        (seen_of result.devices.input result.devices.journal result.devices.spare result.devices.failures result.devices.registry result.devices.callers.items) result.began ending) }
+    ensures stopped { OnErr result.end ((registry : D)
+        → IsNamed (meaning D.honest D.content D.image D.moment D.image_since D.faults) words.now.which registry mapping
+        → IsRegistryLeft (meaning D.honest D.content D.image D.moment D.image_since D.faults) words.now.which registry opened.registry
+        → IsCutOf (outside_of C.gave F.sends F.log (meaning D.honest D.content D.image D.moment D.image_since D.faults) S.faults S.left) words.now (reverse result.trace.items)
+        (seen_of opened.input opened.files.journal opened.files.spare opened.files.failures registry opened.callers.items)
+        (seen_of result.devices.input result.devices.journal result.devices.spare result.devices.failures result.devices.registry result.devices.callers.items)) }
+    ensures registry { result.devices.registry ≡ opened.registry }
+{
+    let Opened {
+        input,
+        files,
+        registry,
+        callers,
+    } = opened;
+    let NamedMapping { config, start } = mapping;
+    let calls = words.calls;
+    files.keeps();
+    if is_stream(config.kind) {
+        let run = run_stream(
+            rt, alloc, config, start, calls, files, input, callers, clock,
+        );
+        stream_ran(alloc, run, registry)
+    } else {
+        let visibility_ms = words.visibility as u64 * 1000;
+        let run = run_queue(
+            rt,
+            alloc,
+            config,
+            calls,
+            visibility_ms,
+            files,
             input,
-            journal,
-            spare,
-            failures,
             callers,
-        },
+            clock,
+        );
+        queue_ran(alloc, run, registry)
     }
 }
 
-/// Judges the mapping over the opened files, and runs it.
+/// Reads the mapping that the words name over the opened files, and runs it.
 fn run_opened<R: Wait, S: Source, D: Disk, C: Clock, F: Caller>(
     rt: &R,
     alloc: Global,
     words: &RunWords,
-    input: S,
-    files: Files<D>,
-    callers: Vec<F>,
+    opened: Opened<S, D, F>,
     clock: &C,
 ) -> Ran<S, D, F>
-    requires text { is_text words.now.which ≡ true }
-    requires callers { length callers.items ≡ MAX_LANES }
-    ensures ended { IfOk result.end (λ ending. (registry : D) → EndsWith (outside_of C.gave F.sends F.log (meaning D.honest D.content D.image D.moment D.image_since D.faults) S.faults S.left) words.now (reverse result.trace.items)
-        (seen_of input files.journal files.spare files.failures registry callers.items)
-        (seen_of result.devices.input result.devices.journal result.devices.spare result.devices.failures registry result.devices.callers.items) result.said ending) }
-    ensures stopped { OnErr result.end ((registry : D) → IsCutOf (outside_of C.gave F.sends F.log (meaning D.honest D.content D.image D.moment D.image_since D.faults) S.faults S.left) words.now (reverse result.trace.items)
-        (seen_of input files.journal files.spare files.failures registry callers.items)
-        (seen_of result.devices.input result.devices.journal result.devices.spare result.devices.failures registry result.devices.callers.items)) }
+    requires callers { length opened.callers.items ≡ MAX_LANES }
+    ensures ended { IfOk result.end (EndsWith (outside_of C.gave F.sends F.log (meaning D.honest D.content D.image D.moment D.image_since D.faults) S.faults S.left) words.now (reverse result.trace.items)
+        (seen_of opened.input opened.files.journal opened.files.spare opened.files.failures opened.registry opened.callers.items)
+        (seen_of result.devices.input result.devices.journal result.devices.spare result.devices.failures result.devices.registry result.devices.callers.items) result.began) }
+    ensures stopped { OnErr result.end (IsCutOf (outside_of C.gave F.sends F.log (meaning D.honest D.content D.image D.moment D.image_since D.faults) S.faults S.left) words.now (reverse result.trace.items)
+        (seen_of opened.input opened.files.journal opened.files.spare opened.files.failures opened.registry opened.callers.items)
+        (seen_of result.devices.input result.devices.journal result.devices.spare result.devices.failures result.devices.registry result.devices.callers.items)) }
+    ensures registry { IsRegistryLeft (meaning D.honest D.content D.image D.moment D.image_since D.faults) words.now.which opened.registry result.devices.registry }
 {
-    match mapping(alloc, mapping_text(&words.which)) {
-        Ok(config) => {
-            if config.enabled {
-                files.keeps();
-                begun(
-                    alloc,
-                    run_stream(rt, alloc, config, words.calls, files, input, callers, clock),
-                )
-            } else {
-                closed(alloc, Ok(Ending::DisabledMapping), input, files, callers)
-            }
-        }
-        Err(ConfigError::BadParam(param)) => {
-            closed(alloc, bad_parameter(alloc, param), input, files, callers)
-        }
-        Err(ConfigError::OutOfMemory) => closed(alloc, Err(OutOfMemory), input, files, callers),
+    let Opened {
+        input,
+        files,
+        registry,
+        callers,
+    } = opened;
+    let MappingRead { named, registry } = read_mapping(alloc, &words.which, registry);
+    let opened = Opened {
+        input,
+        files,
+        registry,
+        callers,
+    };
+    match named {
+        Ok(mapping) => run_mapping(rt, alloc, words, mapping, opened, clock),
+        Err(why) => closed(alloc, ending_of_mapping(alloc, why), words, opened),
     }
 }
 
-/// Opens the files of a run, judges its mapping, and runs it.
+/// Opens the files of a run, reads its mapping, and runs it.
 pub fn run_words<R: Wait, S: Source, D: Disk, C: Clock, F: Caller>(
     rt: &R,
     alloc: Global,
@@ -178,30 +176,44 @@ pub fn run_words<R: Wait, S: Source, D: Disk, C: Clock, F: Caller>(
     devices: RunDevices<S, D, F>,
     clock: &C,
 ) -> Ran<S, D, F>
-    requires built { is_built_run words ≡ true }
-    requires callers { length devices.callers.items ≡ MAX_LANES }
-    ensures ended { IfOk result.end (λ ending. (registry : D) → EndsWith (outside_of C.gave F.sends F.log (meaning D.honest D.content D.image D.moment D.image_since D.faults) S.faults S.left) words (reverse result.trace.items)
-        (seen_of devices.input devices.journal devices.spare devices.failures registry devices.callers.items)
-        (seen_of result.devices.input result.devices.journal result.devices.spare result.devices.failures registry result.devices.callers.items) result.said ending) }
-    ensures stopped { OnErr result.end ((registry : D) → IsCutOf (outside_of C.gave F.sends F.log (meaning D.honest D.content D.image D.moment D.image_since D.faults) S.faults S.left) words (reverse result.trace.items)
-        (seen_of devices.input devices.journal devices.spare devices.failures registry devices.callers.items)
-        (seen_of result.devices.input result.devices.journal result.devices.spare result.devices.failures registry result.devices.callers.items)) }
+    requires { length devices.callers.items ≡ MAX_LANES }
+    ensures ended { IfOk result.end (EndsWith (outside_of C.gave F.sends F.log (meaning D.honest D.content D.image D.moment D.image_since D.faults) S.faults S.left) words (reverse result.trace.items)
+        (seen_of devices.input devices.journal devices.spare devices.failures devices.registry devices.callers.items)
+        (seen_of result.devices.input result.devices.journal result.devices.spare result.devices.failures result.devices.registry result.devices.callers.items) result.began) }
+    ensures stopped { OnErr result.end (IsCutOf (outside_of C.gave F.sends F.log (meaning D.honest D.content D.image D.moment D.image_since D.faults) S.faults S.left) words (reverse result.trace.items)
+        (seen_of devices.input devices.journal devices.spare devices.failures devices.registry devices.callers.items)
+        (seen_of result.devices.input result.devices.journal result.devices.spare result.devices.failures result.devices.registry result.devices.callers.items)) }
+    ensures registry { IsRegistryLeft (meaning D.honest D.content D.image D.moment D.image_since D.faults) words.which devices.registry result.devices.registry }
 {
     let RunDevices {
         input,
         journal,
         spare,
         failures,
+        registry,
         callers,
     } = devices;
     match open_files(alloc, journal, spare, failures) {
-        Err(refused) => not_begun(
-            alloc,
-            ending_of_files(refused.why),
-            input,
-            refused.back,
-            callers,
-        ),
-        Ok(files) => run_opened(rt, alloc, &words, input, files, callers, clock),
+        Err(refused) => {
+            let (journal, spare, failures) = refused.back;
+            let devices = RunDevices {
+                input,
+                journal,
+                spare,
+                failures,
+                registry,
+                callers,
+            };
+            not_begun(alloc, ending_of_files(refused.why), devices)
+        }
+        Ok(files) => {
+            let opened = Opened {
+                input,
+                files,
+                registry,
+                callers,
+            };
+            run_opened(rt, alloc, &words, opened, clock)
+        }
     }
 }

@@ -2,12 +2,14 @@ ghost use Rattle.std.specs.Prelude.{◌≡◌, ◌++◌, Some, IfOk, OnErr};
 ghost use Rattle.esm_config.specs.Names.{name_of};
 ghost use Rattle.esm_record.specs.declared.error.LineError.TheVariants.{Backwards};
 ghost use Rattle.esm_report.specs.declared.ending.Ending.TheVariants.{BadParameter};
-ghost use Rattle.esm_run.specs.Endings.{why_text, ending_of, ending_of_reading, ending_of_files, file_of};
+ghost use Rattle.esm_run.specs.Endings.{why_text, ending_of, ending_of_queue, ending_of_reading, ending_of_files, ending_of_mapping, file_of};
 
 use esm_config::Param;
 use esm_init::FileName;
 use esm_input::InputEnd;
+use esm_mapping::MappingError;
 use esm_model::{OutOfMemory, Text};
+use esm_queue_run::QueueEnd;
 use esm_record::LineError;
 use esm_report::Ending;
 use esm_stream::{FilesError, StreamEnd};
@@ -55,14 +57,14 @@ fn why_text(alloc: Global, why: &LineError) -> Result<Text, OutOfMemory>
 }
 
 /// The refusal of a mapping's field.
-pub fn bad_parameter(alloc: Global, param: Param) -> Result<Ending, OutOfMemory>
+fn bad_parameter(alloc: Global, param: Param) -> Result<Ending, OutOfMemory>
     ensures { IfOk result (λ ending. ending ≡ BadParameter (name_of param)) }
 {
     let name = text_of(alloc, param.name())?;
     Ok(Ending::BadParameter { name })
 }
 
-/// The ending of a run in which every record that came has its fate.
+/// The ending of a run in which every record or message that came has its fate.
 fn ending_of_reading(alloc: Global, end: InputEnd) -> Result<Ending, OutOfMemory>
     ensures { IfOk result (λ ending. ending ≡ ending_of_reading end) }
 {
@@ -80,7 +82,7 @@ fn ending_of_reading(alloc: Global, end: InputEnd) -> Result<Ending, OutOfMemory
     }
 }
 
-/// The ending of a run.
+/// The ending of a stream's run.
 pub fn ending_of(alloc: Global, end: StreamEnd) -> Result<Ending, OutOfMemory>
     ensures { IfOk result (λ ending. ending ≡ ending_of end) }
 {
@@ -90,6 +92,18 @@ pub fn ending_of(alloc: Global, end: StreamEnd) -> Result<Ending, OutOfMemory>
         StreamEnd::DiskFault => Ok(Ending::DiskFault),
         StreamEnd::DestFault => Ok(Ending::DestFault),
         StreamEnd::Changed(change) => Ok(Ending::StreamChanged(change)),
+    }
+}
+
+/// The ending of a queue's run.
+pub fn ending_of_queue(alloc: Global, end: QueueEnd) -> Result<Ending, OutOfMemory>
+    ensures { IfOk result (λ ending. ending ≡ ending_of_queue end) }
+{
+    match end {
+        QueueEnd::Finished(why) => ending_of_reading(alloc, why),
+        QueueEnd::CallsSpent => Ok(Ending::CallsSpent),
+        QueueEnd::DiskFault => Ok(Ending::DiskFault),
+        QueueEnd::Changed(change) => Ok(Ending::StreamChanged(change)),
     }
 }
 
@@ -121,5 +135,22 @@ pub fn ending_of_files(why: FilesError) -> Result<Ending, OutOfMemory>
         }),
         FilesError::DiskFault => Ok(Ending::OpenFault),
         FilesError::OutOfMemory => Err(OutOfMemory),
+    }
+}
+
+/// The ending of a run whose mapping was refused.
+pub fn ending_of_mapping(alloc: Global, why: MappingError) -> Result<Ending, OutOfMemory>
+    ensures { IfOk result (λ ending. ending_of_mapping why ≡ Some ending) }
+{
+    let file = FileName::Registry;
+    match why {
+        MappingError::NotAJournal => Ok(Ending::NotAJournal { file }),
+        MappingError::Damaged { place } => Ok(Ending::Damaged { file, place }),
+        MappingError::BadPayload { index } => Ok(Ending::BadPayload { file, index }),
+        MappingError::DiskFault => Ok(Ending::OpenFault),
+        MappingError::Unknown => Ok(Ending::UnknownMapping),
+        MappingError::Disabled => Ok(Ending::DisabledMapping),
+        MappingError::BadParam(param) => bad_parameter(alloc, param),
+        MappingError::OutOfMemory => Err(OutOfMemory),
     }
 }

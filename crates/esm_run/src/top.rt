@@ -7,7 +7,7 @@ ghost use Rattle.esm_io.specs.Faults.{Rose};
 ghost use Rattle.esm_io.specs.Meanings.{disk as meaning};
 ghost use Rattle.esm_run.specs.Built.{SpellsBuilt};
 ghost use Rattle.esm_run.specs.Initialized.{disks};
-ghost use Rattle.esm_run.specs.Answers.{Outcome, RunOrBadWords, IsCut, IsCutOf, IsSoundRun, outside_of, seen_of};
+ghost use Rattle.esm_run.specs.Answers.{Outcome, RunOrBadWords, IsCut, IsCutOf, IsRegistryLeft, IsSoundRun, outside_of, seen_of};
 ghost use Rattle.esm_run.specs.Serve.{IsServeCut, IsSoundServe, ServeOutcome};
 ghost use Rattle.esm_run.specs.Serving.{door_of, outside};
 ghost use Rattle.esm_run.specs.Tended.{AreLeft, AreSoundUnder, FilesOutcome, IsCompactCut, command_of};
@@ -22,6 +22,7 @@ use crate::world::{Ended, World};
 use esm_cli::laws::one_command;
 use esm_cli::{RunWords, WordsError};
 use esm_io::{Caller, Clock, Disk, Door, Sink, Source};
+use esm_mapping::laws::one_answer;
 use esm_record::laws::whole_goes_on;
 use esm_said::laws::same_told;
 use std::alloc::Global;
@@ -59,9 +60,12 @@ fn perform<R: Wait, S: Source, K: Sink, D: Disk, C: Clock, F: Caller, L: Door>(
       journal = result.world.journal;
       spare = result.world.spare;
       failures = result.world.failures;
+      registry = result.world.registry;
       callers = result.world.callers;
       trace = result.world.trace;
     } }
+    ensures kept_by_run { (r : RunWords) → SpellsBuilt (map string_bytes words.now) (Command.Run r)
+        → IsRegistryLeft (meaning D.honest D.content D.image D.moment D.image_since D.faults) r.which world.registry result.world.registry }
     ensures undone { (c : Command) → ((r : RunWords) → c ≢ Command.Run r) → SpellsBuilt (map string_bytes words.now) c → result.world ≡ record world { out = result.world.out } }
     ensures untouched { ((c : Command) → ¬ SpellsBuilt (map string_bytes words.now) c) → result.world ≡ record world { out = result.world.out } }
     ensures spelled { result.status ≢ 2 → result.status ≢ 70 → (c : Command) × SpellsBuilt (map string_bytes words.now) c }
@@ -75,13 +79,13 @@ fn perform<R: Wait, S: Source, K: Sink, D: Disk, C: Clock, F: Caller, L: Door>(
 
 /// Does what the words of the command line ask for, and hands the world back with the exit status: 0 where `init` made
 /// the files, `show` told what the journal says or `failures` its lines, `compact` or `migrate` wrote the journal anew or
-/// found it of version 2, `run` read the input to its end and every record has its fate, or `serve` served as many
-/// connections as it was asked to; 1 where the calls allowed were spent before; 2 where the words are no command that is
-/// built; 3 at a bad line; 4 where the input failed; 5 where the output failed; 6 where a disk failed; 7 where the failure
-/// file failed in a run; 8 where `init` found a file that is not empty, or another command one that is no journal, is
-/// damaged or has a bad payload, or a record differs from the kept one; 9 where a parameter is refused; 10 past a limit; 11
-/// where the door failed; 70 for want of memory, after which nothing is told. 4, 5, 6, 7 and 11 come only where the device's
-/// count of faults rose.
+/// found it of version 2, `run` read the input to its end and every record has its fate, or every message is deleted, or
+/// `serve` served as many connections as it was asked to; 1 where the calls allowed were spent before; 2 where the words
+/// are no command that is built; 3 at a bad line; 4 where the input failed; 5 where the output failed; 6 where a disk
+/// failed; 7 where the failure file failed in a run; 8 where `init` found a file that is not empty, or another command one
+/// that is no journal, is damaged or has a bad payload, or a record or message differs from the kept one; 9 where the
+/// mapping is unknown or disabled, or a parameter is refused; 10 past a limit; 11 where the door failed; 70 for want of
+/// memory, after which nothing is told. 4, 5, 6, 7 and 11 come only where the device's count of faults rose.
 pub fn esm<R: Threads + Wait + Sync, S: Source, K: Sink, D: Disk, C: Clock, F: Caller, L: Door>(
     rt: &R,
     alloc: Global,
@@ -104,7 +108,7 @@ pub fn esm<R: Threads + Wait + Sync, S: Source, K: Sink, D: Disk, C: Clock, F: C
     ensures exact { result.status ≢ 70
         → ¬ Rose (K.faults world.out) (K.faults result.world.out)
         → ((r : RunWords) → SpellsBuilt (map string_bytes words.now) (Command.Run r)
-        → IsSoundRun (outside_of C.gave F.sends F.log (meaning D.honest D.content D.image D.moment D.image_since D.faults) S.faults S.left)
+        → IsSoundRun (outside_of C.gave F.sends F.log (meaning D.honest D.content D.image D.moment D.image_since D.faults) S.faults S.left) r
         (seen_of world.input world.journal world.spare world.failures world.registry world.callers.items)
         (seen_of result.world.input result.world.journal result.world.spare result.world.failures result.world.registry result.world.callers.items))
         → ((c : FilesCommand) → SpellsBuilt (map string_bytes words.now) (command_of c)
@@ -154,7 +158,8 @@ pub fn esm<R: Threads + Wait + Sync, S: Source, K: Sink, D: Disk, C: Clock, F: C
       callers = result.world.callers;
       trace = result.world.trace;
     } }
-    ensures kept_by_run { (r : RunWords) → SpellsBuilt (map string_bytes words.now) (Command.Run r) → result.world.registry ≡ world.registry }
+    ensures kept_by_run { (r : RunWords) → SpellsBuilt (map string_bytes words.now) (Command.Run r)
+        → IsRegistryLeft (meaning D.honest D.content D.image D.moment D.image_since D.faults) r.which world.registry result.world.registry }
     ensures kept_by_files { (c : FilesCommand) → SpellsBuilt (map string_bytes words.now) (command_of c) → result.world ≡ record world {
       out = result.world.out;
       journal = result.world.journal;
@@ -173,6 +178,7 @@ pub fn esm<R: Threads + Wait + Sync, S: Source, K: Sink, D: Disk, C: Clock, F: C
     one_command();
     whole_goes_on();
     same_told();
+    one_answer::<D>();
     match asked_by(alloc, words) {
         Asked::Files(command) => tend(alloc, command, world),
         Asked::Serve { requests } => serve(alloc, requests, world),

@@ -14,7 +14,7 @@ use Rattle.esm_sbook.specs.Opening.{IsCoreOver}
 abbrev pub SameTold : Type 0
 SameTold = (t u : SaidLists) (g h : List Said) → Tells t g → Tells u h → SameSaid g h → IsInOrder t → IsInOrder u → t ≡ u
 
-says_itself : (h : List Said) → SameSaid h h
+pub says_itself : (h : List Said) → SameSaid h h
 says_itself h = record {
   fates = λ n i. refl;
   tries = λ n i. refl;

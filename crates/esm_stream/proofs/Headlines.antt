@@ -53,7 +53,7 @@ is_in_hand (Some Disk) owed = in_hand_few (Some Disk) owed
 is_in_hand (Some Dest) owed = refl
 is_in_hand (Some (Changed change)) owed = refl
 
-not_disk : (why : Option Trouble) → (why ≡ Some Disk → ⊥) → is_disk why ≡ false
+pub not_disk : (why : Option Trouble) → (why ≡ Some Disk → ⊥) → is_disk why ≡ false
 not_disk None not = refl
 not_disk (Some Disk) not = absurd (not refl)
 not_disk (Some Dest) not = refl
@@ -172,7 +172,7 @@ headline t f b new laws left of given =
 rose_before : (first before now : ℕ) → first ≤ before → Rose before now → Rose first now
 rose_before first before now lower rose = λ fits. let above = rose fits in omega (arith, lower, above)
 
-used_rose : {D : Type 0} (m : DiskMeaning D) (swapped : Bool) (journal spare used other used' other' : D) → AreOnlyRead m journal spare (if swapped then other else used) (if swapped then used else other)
+pub used_rose : {D : Type 0} (m : DiskMeaning D) (swapped : Bool) (journal spare used other used' other' : D) → AreOnlyRead m journal spare (if swapped then other else used) (if swapped then used else other)
     → Rose (m.faults used) (m.faults used') → OneRose m journal spare (if swapped then other' else used') (if swapped then used' else other')
 used_rose m false journal spare used other used' other' read rose = inl (rose_before _ _ _ read.0.never_falls rose)
 used_rose m true journal spare used other used' other' read rose = inr (rose_before _ _ _ read.1.never_falls rose)

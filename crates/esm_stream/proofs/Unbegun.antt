@@ -10,6 +10,7 @@ use Rattle.esm_journal.specs.Pair.{PairKeeps, PairOpensTo, first_disk, second_di
 use Rattle.esm_journal.specs.Reads.{IsOnlyRead}
 use Rattle.esm_journal.specs.State.{JournalState}
 use Rattle.esm_model.specs.declared.config.Config.{Config}
+use Rattle.esm_model.specs.declared.config.Start.{Start}
 use Rattle.esm_arrival.specs.Coming.{of_shard}
 use Rattle.esm_ledger.specs.Ledger.{opened_with}
 use Rattle.esm_owing.specs.OwingView.{new_view}
@@ -39,7 +40,7 @@ open_in_order : {D : Type 0} (m : DiskMeaning D) (swapped : Bool) (used spare : 
 open_in_order m false used spare epoch payloads opens = opens
 open_in_order m true used spare epoch payloads opens = (opens.1, opens.0)
 
-opens_as_found : {D : Type 0} (m : DiskMeaning D) (f : FilesState D) → IsOpenedFiles m f → m.honest f.journal ≡ true → m.honest f.spare ≡ true → Only (m.content f.journal) (m.image f.journal) → Only (m.content f.spare) (m.image f.spare) → (one other : List ℕ)
+pub opens_as_found : {D : Type 0} (m : DiskMeaning D) (f : FilesState D) → IsOpenedFiles m f → m.honest f.journal ≡ true → m.honest f.spare ≡ true → Only (m.content f.journal) (m.image f.journal) → Only (m.content f.spare) (m.image f.spare) → (one other : List ℕ)
     → m.since (first_disk f.pair) (m.moment f.journal) one → m.since (second_disk f.pair) (m.moment f.spare) other → PairOpensTo (header_of 2) f.pair.epoch f.pair.payloads one other
 opens_as_found m f files honest other_honest only other_only one other since other_since =
     let both = are_honest m f.pair.swapped f.journal f.spare f.pair.used f.pair.spare files.read (honest, other_honest) in
@@ -51,11 +52,11 @@ opens_as_found m f files honest other_honest only other_only one other since oth
     subst (λ (bytes : List ℕ). PairOpensTo (header_of 2) f.pair.epoch f.pair.payloads bytes other) (sym one_is)
     (subst (λ (bytes : List ℕ). PairOpensTo (header_of 2) f.pair.epoch f.pair.payloads (m.content (first_disk f.pair)) bytes) (sym other_is) now)
 
-grows_by_none : {A : Type 0} (o : Option (List A)) → Grows o o []
+pub grows_by_none : {A : Type 0} (o : Option (List A)) → Grows o o []
 grows_by_none None = refl
 grows_by_none (Some xs) = ap Some (sym (append-nil xs))
 
-takes_none : {A : Type 0} (o : Option (List A)) → TakesFront o o []
+pub takes_none : {A : Type 0} (o : Option (List A)) → TakesFront o o []
 takes_none None = refl
 takes_none (Some xs) = (xs, refl, refl)
 
@@ -84,15 +85,15 @@ left_new m config calls f files = record {
   hand = refl;
 }
 
-pub not_begun : {S D F : Type 0} (t : Telling D F) (left_in : S → Option (List ℕ)) (config : Config) (calls : ℕ) (f : FilesState D) (old : S) (callers : List F) (new : Devices D F) → AreLaws → IsOpenedFiles t.disk f
-    → new.journal ≡ first_disk f.pair → new.spare ≡ second_disk f.pair → new.failures ≡ f.dest.disk → new.callers ≡ callers → HasStoppedRun t left_in config calls f old old callers [] new
-not_begun {S} {D} {F} t left_in config calls f old callers new laws files first second lines same =
+pub not_begun : {S D F : Type 0} (t : Telling D F) (left_in : S → Option (List ℕ)) (config : Config) (start : Start) (calls : ℕ) (f : FilesState D) (old : S) (callers : List F) (new : Devices D F) → AreLaws → IsOpenedFiles t.disk f
+    → new.journal ≡ first_disk f.pair → new.spare ≡ second_disk f.pair → new.failures ≡ f.dest.disk → new.callers ≡ callers → HasStoppedRun t left_in config start calls f old old callers [] new
+not_begun {S} {D} {F} t left_in config start calls f old callers new laws files first second lines same =
     let b : BookState D (JournalState D) = new_book config calls f in
     let left : IsLeft t.disk f b = left_new t.disk config calls f files in
     let of : AreOf b new = record { journal = first; spare = second; failures = lines } in
-    stopped t left_in config calls f old (new_input config old) callers b b new laws (record { core = refl }) left of
-    (record { kind = refl; factor = refl; start = refl; found = refl }) refl (headline t f b new laws left of tt) tt
-    (record { bytes = []; more = []; whole = false; taken = takes_none (left_in old); came = λ n. (of_shard n (records_in_items (from_start config.start (items_read kinds.Stream config.factor false []).items)), refl) })
+    stopped t left_in config start calls f old (new_input config start old) callers b b new laws (record { core = refl }) left of
+    (record { kind = refl; factor = refl; start_is = refl; found = refl }) refl (headline t f b new laws left of tt) tt
+    (record { bytes = []; more = []; whole = false; taken = takes_none (left_in old); came = λ n. (of_shard n (records_in_items (from_start start (items_read kinds.Stream config.factor false []).items)), refl) })
     (λ k d within. inl (subst (λ (xs : List F). Grows (t.callers.log (slice_index_or callers k d)) (t.callers.log (slice_index_or xs k d)) []) (sym same) (grows_by_none (t.callers.log (slice_index_or callers k d)))))
 
 -- a fact that holds whatever was answered

@@ -43,10 +43,10 @@ pub record StoodSo {D : Type 0} (config : Config) (calls : ℕ) (f : FilesState 
   pub core : before.core ≡ new_view (opened_with config calls f.said)
 
 -- the input was made for the configuration, over this source
-pub record IsMadeFor {S : Type 0} (config : Config) (old : S) (i : InputState S) : Type 0 where
+pub record IsMadeFor {S : Type 0} (config : Config) (start : Start) (old : S) (i : InputState S) : Type 0 where
   pub kind : i.kind ≡ kinds.Stream
   pub factor : i.factor ≡ config.factor
-  pub start : i.start ≡ config.start
+  pub start_is : i.start ≡ start
   pub found : i.found ≡ old
 
 -- the setting
@@ -103,15 +103,15 @@ cause_of t f b i new r (end.Changed change) left of sound cause came so is =
       subst (IsDownFor (records_in_items (handed i))) is.1 all.1,
     )
 
-pub ended : {S D F : Type 0} (t : Telling D F) (faults : S → ℕ) (left_in : S → Option (List ℕ)) (config : Config) (calls : ℕ) (f : FilesState D) (old : S) (i : InputState S) (callers : List F)
+pub ended : {S D F : Type 0} (t : Telling D F) (faults : S → ℕ) (left_in : S → Option (List ℕ)) (config : Config) (start : Start) (calls : ℕ) (f : FilesState D) (old : S) (i : InputState S) (callers : List F)
     → (before b : BookState D (JournalState D)) (new : Devices D F) (r : RunEnd) (e : StreamEnd) → AreLaws → StoodSo config calls f before → IsLeft t.disk f b → AreOf b new → IsSound b
     → IsCauseIn t.disk b b.trouble
-    → IsMadeFor config old i → i.failed ≡ false → IsInput faults left_in i
+    → IsMadeFor config start old i → i.failed ≡ false → IsInput faults left_in i
     → HasRun t.callers before b callers new.callers → CameSo i b r → EndsSo b r → IsEndOf r b.trouble i.end e
-    → HasEnded t faults left_in config calls f old i.source callers b.core.past new e
-ended t faults left_in config calls f old i callers before b new r e laws stood left of sound cause made good read run came so is = record {
+    → HasEnded t faults left_in config start calls f old i.source callers b.core.past new e
+ended t faults left_in config start calls f old i callers before b new r e laws stood left of sound cause made good read run came so is = record {
   input = i;
-  is_input = record { kind = made.kind; factor = made.factor; start = made.start; found = made.found; source = refl; good = good; read = read };
+  is_input = record { kind = made.kind; factor = made.factor; start_is = made.start_is; found = made.found; source = refl; good = good; read = read };
   setting = b.core.setting;
   is_setting = record { opened = opened_so config calls f before b stood run.opened; came = some_came i b r came };
   hand = in_hand b.trouble b.core.owed;
@@ -124,24 +124,24 @@ ended t faults left_in config calls f old i callers before b new r e laws stood 
 
 -- want of memory
 
-read_for : {S D : Type 0} (config : Config) (old : S) (i : InputState S) (b : BookState D (JournalState D)) (whole : Bool) (bytes : List ℕ) → IsMadeFor config old i
-    → SomeCame b (records_in_items (from_start i.start (items_read i.kind i.factor whole bytes).items)) → SomeCame b (records_in_items (from_start config.start (items_read kinds.Stream config.factor whole bytes).items))
-read_for config old i b whole bytes made came =
-    subst (λ (k : LineKind). SomeCame b (records_in_items (from_start config.start (items_read k config.factor whole bytes).items))) made.kind
-    (subst (λ (n : ℕ). SomeCame b (records_in_items (from_start config.start (items_read i.kind n whole bytes).items))) made.factor
-    (subst (λ (s : Start). SomeCame b (records_in_items (from_start s (items_read i.kind i.factor whole bytes).items))) made.start came))
+read_for : {S D : Type 0} (config : Config) (start : Start) (old : S) (i : InputState S) (b : BookState D (JournalState D)) (whole : Bool) (bytes : List ℕ) → IsMadeFor config start old i
+    → SomeCame b (records_in_items (from_start i.start (items_read i.kind i.factor whole bytes).items)) → SomeCame b (records_in_items (from_start start (items_read kinds.Stream config.factor whole bytes).items))
+read_for config start old i b whole bytes made came =
+    subst (λ (k : LineKind). SomeCame b (records_in_items (from_start start (items_read k config.factor whole bytes).items))) made.kind
+    (subst (λ (n : ℕ). SomeCame b (records_in_items (from_start start (items_read i.kind n whole bytes).items))) made.factor
+    (subst (λ (s : Start). SomeCame b (records_in_items (from_start s (items_read i.kind i.factor whole bytes).items))) made.start_is came))
 
-pub stopped : {S D F : Type 0} (t : Telling D F) (left_in : S → Option (List ℕ)) (config : Config) (calls : ℕ) (f : FilesState D) (old : S) (i : InputState S) (callers : List F)
-    → (before b : BookState D (JournalState D)) (new : Devices D F) → AreLaws → StoodSo config calls f before → IsLeft t.disk f b → AreOf b new → IsMadeFor config old i
+pub stopped : {S D F : Type 0} (t : Telling D F) (left_in : S → Option (List ℕ)) (config : Config) (start : Start) (calls : ℕ) (f : FilesState D) (old : S) (i : InputState S) (callers : List F)
+    → (before b : BookState D (JournalState D)) (new : Devices D F) → AreLaws → StoodSo config calls f before → IsLeft t.disk f b → AreOf b new → IsMadeFor config start old i
     → b.core.setting ≡ over before.core.setting b.core.setting.streams → Headline t f b.core.setting b.core.past b.trouble [] new → HasNoFault b.trouble → IsCutInput left_in i b
-    → CallsMadeOrOneMore t b.core.setting b.core.past callers new.callers → HasStoppedRun t left_in config calls f old i.source callers b.core.past new
-stopped {S} t left_in config calls f old i callers before b new laws stood left of made opened head fine cut made_calls = record {
+    → CallsMadeOrOneMore t b.core.setting b.core.past callers new.callers → HasStoppedRun t left_in config start calls f old i.source callers b.core.past new
+stopped {S} t left_in config start calls f old i callers before b new laws stood left of made opened head fine cut made_calls = record {
   bytes = cut.bytes;
   more = cut.more;
   whole = cut.whole;
   taken = subst (λ (s : S). TakesFront (left_in s) (left_in i.source) (cut.bytes ++ cut.more)) made.found cut.taken;
   setting = b.core.setting;
-  is_setting = record { opened = opened_so config calls f before b stood opened; came = read_for config old i b cut.whole cut.bytes made cut.came };
+  is_setting = record { opened = opened_so config calls f before b stood opened; came = read_for config start old i b cut.whole cut.bytes made cut.came };
   trouble = b.trouble;
   no_fault = fine;
   headline = head;
@@ -170,41 +170,41 @@ pub record HasCome {S D F : Type 0} (t : Telling D F) (faults : S → ℕ) (left
   pub stopped : OnErr r (HasStopped t.callers before b callers new_callers)
   pub cut : OnErr r (IsCutInput left_in i b)
 
-pub ended_by : {S D F : Type 0} (t : Telling D F) (faults : S → ℕ) (left_in : S → Option (List ℕ)) (config : Config) (calls : ℕ) (f : FilesState D) (old : S) (i : InputState S) (callers : List F)
+pub ended_by : {S D F : Type 0} (t : Telling D F) (faults : S → ℕ) (left_in : S → Option (List ℕ)) (config : Config) (start : Start) (calls : ℕ) (f : FilesState D) (old : S) (i : InputState S) (callers : List F)
     → (before b : BookState D (JournalState D)) (new : Devices D F) (r : Result RunEnd OutOfMemory) (e : StreamEnd) → AreLaws → StoodSo config calls f before → IsLeft t.disk f b → AreOf b new → IsSound b
     → IsCauseIn t.disk b b.trouble
-    → IsMadeFor config old i → HasCome t faults left_in before b i callers new.callers r → EndsBy r b.trouble i.end e
-    → HasEnded t faults left_in config calls f old i.source callers b.core.past new e
-ended_by t faults left_in config calls f old i callers before b new (Ok r) e laws stood left of sound cause made come is =
-    ended t faults left_in config calls f old i callers before b new r e laws stood left of sound cause made come.good come.read come.run come.came come.ended is
-ended_by t faults left_in config calls f old i callers before b new (Err none) e laws stood left of sound cause made come is = absurd is
+    → IsMadeFor config start old i → HasCome t faults left_in before b i callers new.callers r → EndsBy r b.trouble i.end e
+    → HasEnded t faults left_in config start calls f old i.source callers b.core.past new e
+ended_by t faults left_in config start calls f old i callers before b new (Ok r) e laws stood left of sound cause made come is =
+    ended t faults left_in config start calls f old i callers before b new r e laws stood left of sound cause made come.good come.read come.run come.came come.ended is
+ended_by t faults left_in config start calls f old i callers before b new (Err none) e laws stood left of sound cause made come is = absurd is
 
 no_hand : {D F : Type 0} (t : Telling D F) (f : FilesState D) (s : Setting) (h owed : List Entry) (new : Devices D F) (why now : Option Trouble) → why ≡ now → in_hand now owed ≡ []
     → Headline t f s h why (in_hand why owed) new → Headline t f s h why [] new
 no_hand t f s h owed new why now is none head =
     subst (λ (hand : List Entry). Headline t f s h why hand new) (ap (λ (x : Option Trouble). in_hand x owed) is ∙ none) head
 
-pub stopped_by : {S D F : Type 0} (t : Telling D F) (faults : S → ℕ) (left_in : S → Option (List ℕ)) (config : Config) (calls : ℕ) (f : FilesState D) (old : S) (i : InputState S) (callers : List F)
+pub stopped_by : {S D F : Type 0} (t : Telling D F) (faults : S → ℕ) (left_in : S → Option (List ℕ)) (config : Config) (start : Start) (calls : ℕ) (f : FilesState D) (old : S) (i : InputState S) (callers : List F)
     → (before b : BookState D (JournalState D)) (new : Devices D F) (r : Result RunEnd OutOfMemory) → AreLaws → StoodSo config calls f before → IsLeft t.disk f b → AreOf b new
-    → IsMadeFor config old i → HasCome t faults left_in before b i callers new.callers r → StopsBy r b.trouble
-    → HasStoppedRun t left_in config calls f old i.source callers b.core.past new
-stopped_by t faults left_in config calls f old i callers before b new (Ok r) laws stood left of made come is =
+    → IsMadeFor config start old i → HasCome t faults left_in before b i callers new.callers r → StopsBy r b.trouble
+    → HasStoppedRun t left_in config start calls f old i.source callers b.core.past new
+stopped_by t faults left_in config start calls f old i callers before b new (Ok r) laws stood left of made come is =
     let run = come.run in
     let head = no_hand t f b.core.setting b.core.past b.core.owed new b.trouble (Some (trouble.Changed is.0)) is.2 refl (headline t f b new laws left of run.moments) in
-    stopped t left_in config calls f old i callers before b new laws stood left of made run.opened head (subst HasNoFault (sym is.2) tt)
+    stopped t left_in config start calls f old i callers before b new laws stood left of made run.opened head (subst HasNoFault (sym is.2) tt)
     (read_as_cut faults left_in i b come.read (some_came i b r come.came)) (λ k d within. inl (run.calls_made k d within))
-stopped_by t faults left_in config calls f old i callers before b new (Err none) laws stood left of made come is =
+stopped_by t faults left_in config start calls f old i callers before b new (Err none) laws stood left of made come is =
     let stop = come.stopped in
     let head = no_hand t f b.core.setting b.core.past b.core.owed new b.trouble None stop.up refl (headline t f b new laws left of stop.moments) in
-    stopped t left_in config calls f old i callers before b new laws stood left of made stop.opened head (subst HasNoFault (sym stop.up) tt) come.cut stop.calls_made
+    stopped t left_in config start calls f old i callers before b new laws stood left of made stop.opened head (subst HasNoFault (sym stop.up) tt) come.cut stop.calls_made
 
 -- what a run leaves as it was
 
-pub made_for : {S : Type 0} (config : Config) (old : S) (begun i : InputState S) → begun ≡ new_input config old → (i.kind ≡ begun.kind) × (i.factor ≡ begun.factor) × (i.start ≡ begun.start) × (i.found ≡ begun.found) → IsMadeFor config old i
-made_for {S} config old begun i is same = record {
+pub made_for : {S : Type 0} (config : Config) (start : Start) (old : S) (begun i : InputState S) → begun ≡ new_input config start old → (i.kind ≡ begun.kind) × (i.factor ≡ begun.factor) × (i.start ≡ begun.start) × (i.found ≡ begun.found) → IsMadeFor config start old i
+made_for {S} config start old begun i is same = record {
   kind = same.0 ∙ ap (λ (j : InputState S). j.kind) is;
   factor = same.1 ∙ ap (λ (j : InputState S). j.factor) is;
-  start = same.2 ∙ ap (λ (j : InputState S). j.start) is;
+  start_is = same.2 ∙ ap (λ (j : InputState S). j.start) is;
   found = same.3 ∙ ap (λ (j : InputState S). j.found) is;
 }
 

@@ -5,6 +5,7 @@ use Rattle.esm_io.specs.Told.{TakesFront}
 use Rattle.esm_model.specs.declared.book.Trouble.{Trouble}
 use Rattle.esm_model.specs.declared.book.Trouble.TheVariants as trouble
 use Rattle.esm_model.specs.declared.config.Config.{Config}
+use Rattle.esm_model.specs.declared.config.Start.{Start}
 use Rattle.esm_model.specs.declared.item.Record.{Record}
 use Rattle.esm_model.specs.declared.entry.Entry.{Entry}
 use Rattle.esm_model.specs.Setting.{Setting, records_of}
@@ -48,20 +49,20 @@ IsCauseOf t f s h records reading new end.DiskFault = OneRose t.disk f.journal f
 IsCauseOf t f s h records reading new end.DestFault = Rose (t.disk.faults f.failures) (t.disk.faults new.failures)
 IsCauseOf t f s h records reading new (end.Changed change) = (kept_otherwise s change.shard change.place change.given ≡ Some change.kept) × IsOfRecord records change
 
--- the input of a run of the configuration, as it was read
-pub record IsInputOf {S : Type 0} (faults : S → ℕ) (left : S → Option (List ℕ)) (config : Config) (old new : S) (i : InputState S) : Type 0 where
+-- the input of a run of the configuration from the starting position on, as it was read
+pub record IsInputOf {S : Type 0} (faults : S → ℕ) (left : S → Option (List ℕ)) (config : Config) (start : Start) (old new : S) (i : InputState S) : Type 0 where
   pub kind : i.kind ≡ kinds.Stream
   pub factor : i.factor ≡ config.factor
-  pub start : i.start ≡ config.start
+  pub start_is : i.start ≡ start
   pub found : i.found ≡ old
   pub source : i.source ≡ new
   pub good : i.failed ≡ false
   pub read : IsInput faults left i
 
 -- the run of the configuration over these files and this input left this history, and it ended so
-pub record HasEnded {S D F : Type 0} (t : Telling D F) (faults : S → ℕ) (left : S → Option (List ℕ)) (config : Config) (calls : ℕ) (f : FilesState D) (old_input new_input : S) (old_callers : List F) (h : List Entry) (new : Devices D F) (e : StreamEnd) : Type 0 where
+pub record HasEnded {S D F : Type 0} (t : Telling D F) (faults : S → ℕ) (left : S → Option (List ℕ)) (config : Config) (start : Start) (calls : ℕ) (f : FilesState D) (old_input new_input : S) (old_callers : List F) (h : List Entry) (new : Devices D F) (e : StreamEnd) : Type 0 where
   pub input : InputState S
-  pub is_input : IsInputOf faults left config old_input new_input input
+  pub is_input : IsInputOf faults left config start old_input new_input input
   pub setting : Setting
   pub is_setting : IsSettingOf config calls f.said (records_in_items (handed input)) setting
   pub hand : List Entry
@@ -79,13 +80,13 @@ HasNoFault _ = Unit {0}
 
 -- Want of memory stopped it: these bytes were read, the records of their lines came, or the first of them, and more bytes may
 -- have been read after them. No disk failed.
-pub record HasStoppedRun {S D F : Type 0} (t : Telling D F) (left : S → Option (List ℕ)) (config : Config) (calls : ℕ) (f : FilesState D) (old_input new_input : S) (old_callers : List F) (h : List Entry) (new : Devices D F) : Type 0 where
+pub record HasStoppedRun {S D F : Type 0} (t : Telling D F) (left : S → Option (List ℕ)) (config : Config) (start : Start) (calls : ℕ) (f : FilesState D) (old_input new_input : S) (old_callers : List F) (h : List Entry) (new : Devices D F) : Type 0 where
   pub bytes : List ℕ
   pub more : List ℕ
   pub whole : Bool
   pub taken : TakesFront (left old_input) (left new_input) (bytes ++ more)
   pub setting : Setting
-  pub is_setting : IsSettingOf config calls f.said (records_in_items (from_start config.start (items_read kinds.Stream config.factor whole bytes).items)) setting
+  pub is_setting : IsSettingOf config calls f.said (records_in_items (from_start start (items_read kinds.Stream config.factor whole bytes).items)) setting
   pub trouble : Option Trouble
   pub no_fault : HasNoFault trouble
   pub headline : Headline t f setting h trouble [] new

@@ -8,6 +8,7 @@ use Rattle.esm_model.specs.declared.book.Trouble.{Trouble}
 use Rattle.esm_model.specs.declared.book.Trouble.TheVariants as trouble
 use Rattle.esm_model.specs.declared.book.Change.{Change}
 use Rattle.esm_model.specs.declared.config.Config.{Config}
+use Rattle.esm_model.specs.declared.config.Start.{Start}
 use Rattle.esm_model.specs.declared.memory.OutOfMemory.{OutOfMemory}
 use Rattle.esm_book.specs.State.{in_hand}
 use Rattle.esm_ledger.specs.Ledger.{opened_with, LegalOver}
@@ -27,18 +28,18 @@ use Rattle.esm_stream.specs.declared.run.StreamEnd.TheVariants as end
 -- what begins
 
 -- nothing was read of the input
-abbrev pub new_input : {S : Type 0} → Config → S → InputState S
-new_input config source = record { kind = kinds.Stream; factor = config.factor; start = config.start; found = source; source = source; bytes = []; whole = false; end = None; failed = false }
+abbrev pub new_input : {S : Type 0} → Config → Start → S → InputState S
+new_input config start source = record { kind = kinds.Stream; factor = config.factor; start = start; found = source; source = source; bytes = []; whole = false; end = None; failed = false }
 
--- the book and the input of a run with this configuration are new, over these files and this source
-pub record IsBegun {S D : Type 0} (config : Config) (calls : ℕ) (said : SaidLists) (pair : PairState D) (dest : JournalState D) (source : S) (b : BookState D (JournalState D)) (i : InputState S) (name : List ℕ) : Type 0 where
+-- the book and the input of a run with this configuration and starting position are new, over these files and this source
+pub record IsBegun {S D : Type 0} (config : Config) (start : Start) (calls : ℕ) (said : SaidLists) (pair : PairState D) (dest : JournalState D) (source : S) (b : BookState D (JournalState D)) (i : InputState S) (name : List ℕ) : Type 0 where
   pub core : b.core ≡ new_view (opened_with config calls said)
   pub pair_is : b.pair ≡ pair
   pub dest_is : b.dest ≡ dest
   pub found : b.found ≡ pair
   pub found_dest : b.found_dest ≡ dest
   pub up : b.trouble ≡ None
-  pub input : i ≡ new_input config source
+  pub input : i ≡ new_input config start source
   pub name_is : name ≡ config.function
 
 -- the files of a run that has begun

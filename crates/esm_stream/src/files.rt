@@ -37,6 +37,17 @@ impl<D: Disk> Model for Files<D> {
         (record { journal = f.journal.value; spare = f.spare.value; failures = f.failures.value; pair = f.pair; said = f.said; dest = f.dest }) };
 }
 
+/// The files of a run, opened and taken apart, with the disks as they were handed in for the contracts alone.
+#[derive(Drop)]
+pub struct FilesParts<D: Disk> {
+    pub pair: Pair<D>,
+    pub said: Says,
+    pub dest: FileDest<D>,
+    pub journal: Snapshot<D>,
+    pub spare: Snapshot<D>,
+    pub failures: Snapshot<D>,
+}
+
 /// Why the files of a run were not opened.
 #[derive(Clone, Copy, Debug, PartialEq, Eq)]
 pub enum FilesError {
@@ -65,6 +76,32 @@ impl<D: Disk> Files<D> {
         ensures { IsOpenedFiles (meaning D.honest D.content D.image D.moment D.image_since D.faults) self.now }
     {
         let _ = &self.said;
+    }
+
+    /// The files, taken apart, and the disks as they were handed in. Does nothing to them.
+    pub fn into_parts(self) -> FilesParts<D>
+        ensures pair { result.pair ≡ self.pair }
+        ensures said { result.said ≡ self.said }
+        ensures dest { result.dest ≡ self.dest }
+        ensures before { (result.journal.value ≡ self.journal) × (result.spare.value ≡ self.spare) × (result.failures.value ≡ self.failures) }
+        ensures opened { IsOpenedFiles (meaning D.honest D.content D.image D.moment D.image_since D.faults) self }
+    {
+        let Files {
+            pair,
+            said,
+            dest,
+            journal,
+            spare,
+            failures,
+        } = self;
+        FilesParts {
+            pair,
+            said,
+            dest,
+            journal,
+            spare,
+            failures,
+        }
     }
 
     /// The disks, as they were left: journal, spare and failure file. Nothing was written to them.

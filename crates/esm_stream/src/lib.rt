@@ -6,5 +6,5 @@
 mod files;
 mod run;
 
-pub use files::{Files, FilesError, open_files};
+pub use files::{Files, FilesError, FilesParts, open_files};
 pub use run::{StreamEnd, StreamRun, run_stream};

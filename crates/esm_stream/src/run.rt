@@ -22,7 +22,7 @@ use esm_input::{Input, InputEnd};
 use esm_io::{Caller, Clock, Disk, Source};
 use esm_journal::{FileDest, Pair};
 use esm_model::laws::{every_record_counted, no_repeat, order_per_key};
-use esm_model::{BookOpen, Change, Config, Entry, OutOfMemory, Refused, Text, Trouble};
+use esm_model::{BookOpen, Change, Config, Entry, OutOfMemory, Refused, Start, Text, Trouble};
 use esm_payload::laws::history_payloads_stay;
 use esm_pool::{RunEnd, run_in_turn};
 use esm_record::LineKind;
@@ -109,6 +109,7 @@ fn open_book<D: Disk>(
 fn begin<S: Source, D: Disk>(
     alloc: Global,
     config: Config,
+    start: Start,
     calls: u32,
     said: &Says,
     pair: Pair<D>,
@@ -122,7 +123,7 @@ fn begin<S: Source, D: Disk>(
     requires good { are_good (reverse pair.payloads) ≡ true }
     requires tells { Tells said.now (history (reverse pair.payloads)) }
     requires order { IsInOrder said.now }
-    ensures begun { IfOk result (λ run. IsBegun config calls said.now pair dest input run.book run.input run.name) }
+    ensures begun { IfOk result (λ run. IsBegun config start calls said.now pair dest input run.book run.input run.name) }
     ensures back { IfErr result (λ refused. refused.back ≡ (pair, dest, input)) }
 {
     let Ok(name) = config.function.copy(alloc) else {
@@ -132,7 +133,7 @@ fn begin<S: Source, D: Disk>(
         });
     };
     same_told();
-    match Input::new(alloc, input, LineKind::Stream, config.factor, config.start) {
+    match Input::new(alloc, input, LineKind::Stream, config.factor, start) {
         Ok(input) => match open_book(alloc, config, calls, pair, dest) {
             Ok(book) => Ok(Opened { book, input, name }),
             Err(refused) => {
@@ -213,16 +214,16 @@ fn run_opened<R: Wait, S: Source, C: Clock, F: Caller, D: Disk>(
     before: &Before<D>,
 ) -> StreamRun<S, D, F>
     requires config { IsStreamConfig run.book.core.setting.config }
-    requires begun { IsBegun run.book.core.setting.config run.book.core.setting.calls said run.book.pair run.book.dest run.input.source run.book run.input run.name }
+    requires begun { IsBegun run.book.core.setting.config run.input.start run.book.core.setting.calls said run.book.pair run.book.dest run.input.source run.book run.input run.name }
     requires files { IsOpenedFiles (meaning D.honest D.content D.image D.moment D.image_since D.faults)
         (files_of before.now.journal.value before.now.spare.value before.now.failures.value said run.book) }
     requires callers { length callers.items ≡ MAX_LANES }
     ensures ended { IfOk result.end (HasEnded (telling (outside C.gave F.sends F.log) (meaning D.honest D.content D.image D.moment D.image_since D.faults)) S.faults S.left
-        run.book.core.setting.config run.book.core.setting.calls (files_of before.now.journal.value before.now.spare.value before.now.failures.value said run.book)
+        run.book.core.setting.config run.input.start run.book.core.setting.calls (files_of before.now.journal.value before.now.spare.value before.now.failures.value said run.book)
         run.input.source result.input callers.items (reverse result.trace.items)
         (record { journal = result.journal; spare = result.spare; failures = result.failures; callers = result.callers.items })) }
     ensures stopped { OnErr result.end (HasStoppedRun (telling (outside C.gave F.sends F.log) (meaning D.honest D.content D.image D.moment D.image_since D.faults)) S.left
-        run.book.core.setting.config run.book.core.setting.calls (files_of before.now.journal.value before.now.spare.value before.now.failures.value said run.book)
+        run.book.core.setting.config run.input.start run.book.core.setting.calls (files_of before.now.journal.value before.now.spare.value before.now.failures.value said run.book)
         run.input.source result.input callers.items (reverse result.trace.items)
         (record { journal = result.journal; spare = result.spare; failures = result.failures; callers = result.callers.items })) }
     ensures said { result.said ≡ said }
@@ -294,13 +295,14 @@ fn closed<S, F, D: Disk>(
     }
 }
 
-/// Runs the mapping: the input is read to its end before the first call, and then the batchers are asked in turn. What is
-/// written is written before it counts: each failure line to the failure file, and then each fate, state and failed try to the
-/// journal.
+/// Runs the mapping from this starting position on: the input is read to its end before the first call, and then the
+/// batchers are asked in turn. What is written is written before it counts: each failure line to the failure file, and then
+/// each fate, state and failed try to the journal.
 pub fn run_stream<R: Wait, S: Source, C: Clock, F: Caller, D: Disk>(
     rt: &R,
     alloc: Global,
     config: Config,
+    start: Start,
     calls: u32,
     files: Files<D>,
     input: S,
@@ -311,10 +313,10 @@ pub fn run_stream<R: Wait, S: Source, C: Clock, F: Caller, D: Disk>(
     requires patterns { is_ok (read_patterns (is_stream config.kind) config.filters) ≡ true }
     requires callers { length callers.items ≡ MAX_LANES }
     ensures ended { IfOk result.end (HasEnded (telling (outside C.gave F.sends F.log) (meaning D.honest D.content D.image D.moment D.image_since D.faults)) S.faults S.left
-        config calls files input result.input callers.items (reverse result.trace.items)
+        config start calls files input result.input callers.items (reverse result.trace.items)
         (record { journal = result.journal; spare = result.spare; failures = result.failures; callers = result.callers.items })) }
     ensures stopped { OnErr result.end (HasStoppedRun (telling (outside C.gave F.sends F.log) (meaning D.honest D.content D.image D.moment D.image_since D.faults)) S.left
-        config calls files input result.input callers.items (reverse result.trace.items)
+        config start calls files input result.input callers.items (reverse result.trace.items)
         (record { journal = result.journal; spare = result.spare; failures = result.failures; callers = result.callers.items })) }
     ensures said { result.said ≡ files.said }
     ensures as_many { length result.callers.items ≡ MAX_LANES }
@@ -336,7 +338,7 @@ pub fn run_stream<R: Wait, S: Source, C: Clock, F: Caller, D: Disk>(
     no_repeat();
     every_record_counted();
     history_payloads_stay();
-    match begin(alloc, config, calls, &said, pair, dest, input) {
+    match begin(alloc, config, start, calls, &said, pair, dest, input) {
         Ok(run) => run_opened(rt, alloc, run, said, callers, clock, &before),
         Err(refused) => {
             let (pair, dest, input) = refused.back;

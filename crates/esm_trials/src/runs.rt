@@ -45,7 +45,7 @@ fn add_line(
 }
 
 /// Records of the first shard with data `Hello` and these sequence numbers and keys.
-fn lines(alloc: Global, records: &[(&str, &str)]) -> Result<Vec<u8>, OutOfMemory> {
+pub fn lines(alloc: Global, records: &[(&str, &str)]) -> Result<Vec<u8>, OutOfMemory> {
     let mut input = Vec::new(alloc);
     for (seq, key) in records {
         add_line(&mut input, b'0', *seq, *key, "SGVsbG8=")?;
@@ -54,7 +54,7 @@ fn lines(alloc: Global, records: &[(&str, &str)]) -> Result<Vec<u8>, OutOfMemory
 }
 
 /// A world with this input and the files that `init` makes, whose calls of input and output with these numbers fail.
-fn reading(
+pub fn reading(
     alloc: Global,
     input: Vec<u8>,
     input_fails: &[u64],
@@ -220,6 +220,60 @@ fn refused_words(rt: HostRuntime) -> Result<(), Fail> {
     assert!(rt; told(&seen, 2, "bad words\n"));
     let seen = run(&rt, alloc, ",\"BatchSize\":0", Vec::new(alloc))?;
     assert!(rt; told(&seen, 9, "bad parameter BatchSize\n"));
+    Ok(())
+}
+
+/// The queue of the worked examples.
+const QUEUE: &str =
+    "{\"EventSourceArn\":\"arn:aws:sqs:us-east-1:123456789012:q\",\"FunctionName\":\"f\"}";
+
+#[test]
+fn empty_queue(rt: HostRuntime) -> Result<(), Fail> {
+    let alloc = rt.alloc();
+    let world = reading(alloc, Vec::new(alloc), &[], &[])?;
+    let seen = left(&rt, alloc, &["run", "--config", QUEUE], world)?;
+    assert!(rt;
+        told(
+            &seen,
+            0,
+            "queue messages 0 deleted 0 succeeded 0 filtered 0\ncalls 0\ndone\n"
+        )
+    );
+    Ok(())
+}
+
+/// A message id that stood before; the message before it is deleted.
+#[test]
+fn queue_refusals(rt: HostRuntime) -> Result<(), Fail> {
+    let alloc = rt.alloc();
+    let line = "{\"messageId\":\"a\",\"body\":\"x\",\"sentTimestamp\":0}\n";
+    let mut input = Vec::from_slice(alloc, line.as_bytes())?;
+    input.extend_from_slice(line.as_bytes())?;
+    let world = reading(alloc, input, &[], &[])?;
+    let words = ["run", "--config", QUEUE, "--visibility", "1"];
+    let seen = left(&rt, alloc, &words, world)?;
+    assert!(rt;
+        told(
+            &seen,
+            3,
+            "queue messages 1 deleted 1 succeeded 1 filtered 0\ncalls 1\nbad line 2: Repeated a\n"
+        )
+    );
+    Ok(())
+}
+
+/// A registry without mappings has none to run, and a file of no bytes is no registry's.
+#[test]
+fn unknown_mapping(rt: HostRuntime) -> Result<(), Fail> {
+    let alloc = rt.alloc();
+    let words = ["run", "--mapping", "00000000-0000-3000-8000-000000000000"];
+    let mut world = reading(alloc, Vec::new(alloc), &[], &[])?;
+    world.registry = filled(alloc, NO_LINES, &[])?;
+    let seen = left(&rt, alloc, &words, world)?;
+    assert!(rt; told(&seen, 9, "unknown mapping\n"));
+    let world = reading(alloc, Vec::new(alloc), &[], &[])?;
+    let seen = left(&rt, alloc, &words, world)?;
+    assert!(rt; told(&seen, 8, "not a journal registry.esm\n"));
     Ok(())
 }
 

@@ -1,29 +1,30 @@
 use Rattle.std.proofs.Common.{ap, inr, reverse, subst}
 use Rattle.esm_run.specs.Answers.{seen_of}
-use Rattle.esm_run.specs.Ran.{IsToldWith}
+use Rattle.esm_run.specs.Ran.{IsReport}
 use Rattle.esm_run.specs.Written.{written_of}
+use Rattle.esm_run.proofs.Alone.{not_bad_words}
 use Rattle.esm_run.proofs.RunEndings.{told_run}
 use Rattle.esm_run.proofs.Results.{at_ok, by_result, if_ok}
 use Rattle.esm_run.proofs.commands.run.Goals as goal
 
 pub tell_end-status-requires : goal.tell_end-status-requires
-tell_end-status-requires g c = record {
-  alone = λ none. if_ok c.run_words-end.result.end
-      (λ e ends. let here = ends c.args.world.registry in subst (IsToldWith here.ended.setting e) none here.told) c.run_words-end.ensures.ended;
-}
+tell_end-status-requires g c = λ nothing.
+    if_ok c.run_words-end.result.end
+    (λ e ends. (subst (λ b. IsReport (reverse c.run_words-end.result.trace.items) e b ends.ended.text) nothing ends.report).alone) c.run_words-end.ensures.ended
 
 pub returns-clause-outcome : goal.returns-clause-outcome
 returns-clause-outcome g c = λ known.
     let told = c.tell_end-status.ensures.told known in
     told_run _ _ _ (seen_of c.args.world.input c.args.world.journal c.args.world.spare c.args.world.failures c.args.world.registry c.args.world.callers.items)
-    (seen_of c.run_words-end.result.devices.input c.run_words-end.result.devices.journal c.run_words-end.result.devices.spare c.run_words-end.result.devices.failures c.args.world.registry c.run_words-end.result.devices.callers.items)
-    (written_of g.K.Sink.faults g.K.Sink.written c.args.world.out c.tell_end-status.new.out) c.tell_end-status.result c.run_words-end.result.said told.0 (reverse c.deref.result.now)
-    (at_ok _ c.run_words-end.result.end told.0 told.1 c.run_words-end.ensures.ended c.args.world.registry) (ap reverse c.deref.ensures.value) told.2
+    (seen_of c.run_words-end.result.devices.input c.run_words-end.result.devices.journal c.run_words-end.result.devices.spare c.run_words-end.result.devices.failures c.run_words-end.result.devices.registry c.run_words-end.result.devices.callers.items)
+    (written_of g.K.Sink.faults g.K.Sink.written c.args.world.out c.tell_end-status.new.out) c.tell_end-status.result c.run_words-end.result.began told.0 (reverse c.deref.result.now)
+    (at_ok _ c.run_words-end.result.end told.0 told.1 c.run_words-end.ensures.ended) (ap reverse c.deref.ensures.value) told.2
 
 pub returns-clause-want_of_memory : goal.returns-clause-want_of_memory
 returns-clause-want_of_memory g c = λ short.
-    by_result c.run_words-end.result.end (λ e ends. inr (inr (e, (ends c.args.world.registry).ended))) (λ stopped. stopped c.args.world.registry)
+    by_result c.run_words-end.result.end (λ e ends. inr (inr (e, ends.ended))) (λ stopped. stopped)
     c.run_words-end.ensures.ended c.run_words-end.ensures.stopped
 
 pub returns-clause-good_words : goal.returns-clause-good_words
-returns-clause-good_words g c = λ is. (at_ok _ c.run_words-end.result.end _ (c.tell_end-status.ensures.words is) c.run_words-end.ensures.ended c.args.world.registry).ended.cause
+returns-clause-good_words g c = λ is.
+    not_bad_words _ _ _ _ _ (at_ok _ c.run_words-end.result.end _ (c.tell_end-status.ensures.words is) c.run_words-end.ensures.ended).ended

@@ -2,4 +2,4 @@ use Rattle.esm_run.proofs.RunEndings.{good_files}
 use Rattle.esm_run.proofs.ran.closed.Goals as goal
 
 pub returns-clause-good : goal.returns-clause-good
-returns-clause-good g c = λ registry. good_files _ c.args.files registry c.keeps.ensures
+returns-clause-good g c = λ registry. good_files _ c.args.opened.files registry c.keeps.ensures

@@ -1,51 +1,45 @@
-use Rattle.std.proofs.Common.{◌∙◌, ap, inl, refl, Err}
-use Rattle.esm_run.proofs.Results.{if_ok, on_err}
-use Rattle.esm_run.proofs.RunEndings.{begun_cut, begun_ends, disabled_ends, parameter_ends}
+use Rattle.std.proofs.Common.{inl}
+use Rattle.esm_io.specs.Meanings.{disk as meaning}
+use Rattle.esm_run.proofs.Results.{at_err, at_ok, if_ok, on_err, with_err}
+use Rattle.esm_run.proofs.RunEndings.{mapping_ends, may_run, registry_left}
 use Rattle.esm_run.proofs.ran.run_opened.Goals as goal
 
-pub returns-then-config-clause-ended : goal.returns-then-config-clause-ended
-returns-then-config-clause-ended g c =
-    rw (c.begun.ensures.said, c.begun.ensures.trace, c.begun.ensures.devices)
-    (if_ok c.begun.result.end (λ e tells registry. begun_ends _ _ _ _ _ c.in-Ok.config c.args.files (record {
-      text = c.mapping_text.result.now;
-      which = c.mapping_text.ensures;
-      configured = c.in-Ok.ensures.configured;
-      enabled = c.if-config.true;
-      journal = refl;
-      spare = refl;
-      failures = refl;
-      opened = c.keeps.ensures;
-    }) refl c.run_stream.result.said c.run_stream.result.end e c.run_stream.ensures.said c.run_stream.ensures.ended tells) c.begun.ensures.ended)
+pub run_mapping-requires-clause-may_run : goal.run_mapping-requires-clause-may_run
+run_mapping-requires-clause-may_run g c =
+    may_run (meaning g.D.Disk.honest g.D.Disk.content g.D.Disk.image g.D.Disk.moment g.D.Disk.image_since g.D.Disk.faults) c.args.words.now.which c.args.opened.registry c.in-Ok.mapping
+    (at_ok _ c.read_mapping-named.result.named c.in-Ok.mapping c.in-Ok.is c.read_mapping-named.ensures.named)
 
-pub returns-then-config-clause-stopped : goal.returns-then-config-clause-stopped
-returns-then-config-clause-stopped g c =
-    rw (c.begun.ensures.trace, c.begun.ensures.devices)
-    (on_err c.begun.result.end _ (λ registry. begun_cut _ _ _ _ _ c.in-Ok.config c.args.files (record {
-      text = c.mapping_text.result.now;
-      which = c.mapping_text.ensures;
-      configured = c.in-Ok.ensures.configured;
-      enabled = c.if-config.true;
-      journal = refl;
-      spare = refl;
-      failures = refl;
-      opened = c.keeps.ensures;
-    }) refl c.run_stream.result.end c.run_stream.ensures.ended c.run_stream.ensures.stopped))
+pub returns-in-Ok-clause-ended : goal.returns-in-Ok-clause-ended
+returns-in-Ok-clause-ended g c =
+    if_ok c.run_mapping.result.end (λ e ends. ends c.args.opened.registry
+    (at_ok _ c.read_mapping-named.result.named c.in-Ok.mapping c.in-Ok.is c.read_mapping-named.ensures.named)
+    (registry_left _ c.args.words.now.which c.args.opened.registry c.read_mapping-named.result.registry c.read_mapping-named.ensures.only_read c.read_mapping-named.ensures.untouched)) c.run_mapping.ensures.ended
 
-pub returns-else-config-clause-ended : goal.returns-else-config-clause-ended
-returns-else-config-clause-ended g c =
-    rw (c.closed.ensures.end, c.closed.ensures.said)
-    (λ registry. disabled_ends _ _ _ _ _ (c.closed.ensures.not_begun registry) (c.closed.ensures.good registry)
-    c.mapping_text.result.now c.mapping_text.ensures c.in-Ok.config c.in-Ok.ensures.configured c.if-config.false)
+pub returns-in-Ok-clause-stopped : goal.returns-in-Ok-clause-stopped
+returns-in-Ok-clause-stopped g c =
+    with_err c.run_mapping.result.end (λ stopped. stopped c.args.opened.registry
+    (at_ok _ c.read_mapping-named.result.named c.in-Ok.mapping c.in-Ok.is c.read_mapping-named.ensures.named)
+    (registry_left _ c.args.words.now.which c.args.opened.registry c.read_mapping-named.result.registry c.read_mapping-named.ensures.only_read c.read_mapping-named.ensures.untouched)) c.run_mapping.ensures.stopped
 
-pub returns-in-Err-BadParam-clause-ended : goal.returns-in-Err-BadParam-clause-ended
-returns-in-Err-BadParam-clause-ended g c =
-    rw (c.closed-in-Err-BadParam.ensures.end, c.closed-in-Err-BadParam.ensures.said)
-    (if_ok c.bad_parameter.result (λ e tells registry. parameter_ends _ _ _ _ _ (c.closed-in-Err-BadParam.ensures.not_begun registry) (c.closed-in-Err-BadParam.ensures.good registry)
-    c.mapping_text.result.now c.mapping_text.ensures c.in-Err-BadParam.param e
-    (c.mapping.ensures.refused c.in-Err-BadParam.param (c.in-Err-BadParam.is ∙ ap Err c.in-Err-BadParam.field-0-is)) tells) c.bad_parameter.ensures)
+pub returns-in-Ok-clause-registry : goal.returns-in-Ok-clause-registry
+returns-in-Ok-clause-registry g c =
+    rw c.run_mapping.ensures.registry
+    (registry_left _ c.args.words.now.which c.args.opened.registry c.read_mapping-named.result.registry c.read_mapping-named.ensures.only_read c.read_mapping-named.ensures.untouched)
 
-pub returns-in-Err-BadParam-clause-stopped : goal.returns-in-Err-BadParam-clause-stopped
-returns-in-Err-BadParam-clause-stopped g c = on_err c.closed-in-Err-BadParam.result.end _ (λ registry. inl (c.closed-in-Err-BadParam.ensures.not_begun registry))
+pub returns-in-Err-clause-ended : goal.returns-in-Err-clause-ended
+returns-in-Err-clause-ended g c =
+    let left = registry_left _ c.args.words.now.which c.args.opened.registry c.read_mapping-named.result.registry c.read_mapping-named.ensures.only_read c.read_mapping-named.ensures.untouched in
+    rw (c.closed.ensures.end, c.closed.ensures.nothing)
+    (if_ok c.ending_of_mapping.result (λ e tells. mapping_ends _ _ _ _ _ (c.closed.ensures.not_begun c.args.opened.registry left) (c.closed.ensures.good c.args.opened.registry)
+    c.in-Err.why e c.read_mapping-named.result.registry c.closed.ensures.registry
+    (at_err _ c.read_mapping-named.result.named c.in-Err.why c.in-Err.is c.read_mapping-named.ensures.why) tells) c.ending_of_mapping.ensures)
 
-pub returns-in-Err-OutOfMemory-clause-stopped : goal.returns-in-Err-OutOfMemory-clause-stopped
-returns-in-Err-OutOfMemory-clause-stopped g c = on_err c.closed-in-Err-OutOfMemory.result.end _ (λ registry. inl (c.closed-in-Err-OutOfMemory.ensures.not_begun registry))
+pub returns-in-Err-clause-stopped : goal.returns-in-Err-clause-stopped
+returns-in-Err-clause-stopped g c =
+    let left = registry_left _ c.args.words.now.which c.args.opened.registry c.read_mapping-named.result.registry c.read_mapping-named.ensures.only_read c.read_mapping-named.ensures.untouched in
+    on_err c.closed.result.end _ (inl (c.closed.ensures.not_begun c.args.opened.registry left))
+
+pub returns-in-Err-clause-registry : goal.returns-in-Err-clause-registry
+returns-in-Err-clause-registry g c =
+    rw c.closed.ensures.registry
+    (registry_left _ c.args.words.now.which c.args.opened.registry c.read_mapping-named.result.registry c.read_mapping-named.ensures.only_read c.read_mapping-named.ensures.untouched)

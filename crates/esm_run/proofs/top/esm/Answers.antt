@@ -16,7 +16,7 @@ use Rattle.esm_run.specs.declared.tending.Upkeep.TheVariants.{Compact}
 use Rattle.esm_run.proofs.Cuts.{run_and_files, run_and_serve}
 use Rattle.esm_run.proofs.FilesCommands.{not_run}
 use Rattle.esm_run.proofs.Lefts.{left_of_same, pair_same}
-use Rattle.esm_run.proofs.OneCause.{no_serve}
+use Rattle.esm_run.proofs.OneCommand.{no_serve}
 use Rattle.esm_run.proofs.OneOutcome.{one_outcome}
 use Rattle.esm_run.proofs.Serves.{unserved_same}
 use Rattle.esm_run.proofs.top.esm.Goals as goal
@@ -38,6 +38,11 @@ returns-in-Run-clause-exact g c = λ known sound runs_sound disks_sound serve_so
       one_command = c.one_command.ensures;
       whole_goes_on = c.whole_goes_on.ensures;
       same_told = λ t u payloads. c.same_told.ensures t u (history payloads) (history payloads);
+      one_answer = record {
+        one_mapping = c.one_answer.ensures.one_mapping;
+        no_reason = c.one_answer.ensures.no_reason;
+        one_reason = c.one_answer.ensures.one_reason;
+      };
     }) sound runs_sound disks_sound serve_sound is
     (inl (c.perform.ensures.outcome known))
 
@@ -98,6 +103,11 @@ returns-in-Files-clause-exact g c = λ known sound runs_sound disks_sound serve_
       one_command = c.one_command.ensures;
       whole_goes_on = c.whole_goes_on.ensures;
       same_told = λ t u payloads. c.same_told.ensures t u (history payloads) (history payloads);
+      one_answer = record {
+        one_mapping = c.one_answer.ensures.one_mapping;
+        no_reason = c.one_answer.ensures.no_reason;
+        one_reason = c.one_answer.ensures.one_reason;
+      };
     }) sound runs_sound disks_sound serve_sound is
     (inr (inl (record {
       which = c.in-Files.command;
@@ -131,6 +141,11 @@ returns-in-Serve-clause-exact g c = λ known sound runs_sound disks_sound serve_
       one_command = c.one_command.ensures;
       whole_goes_on = c.whole_goes_on.ensures;
       same_told = λ t u payloads. c.same_told.ensures t u (history payloads) (history payloads);
+      one_answer = record {
+        one_mapping = c.one_answer.ensures.one_mapping;
+        no_reason = c.one_answer.ensures.no_reason;
+        one_reason = c.one_answer.ensures.one_reason;
+      };
     }) sound runs_sound disks_sound serve_sound is
     (inr (inr (record {
       requests = c.in-Serve.requests;

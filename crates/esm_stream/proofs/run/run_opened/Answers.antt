@@ -5,6 +5,7 @@ use Rattle.std.proofs.lemmas.List.{reverse-reverse}
 use Rattle.std.proofs.lemmas.Result.{IfOk-weaker, on_err_weaker}
 use Rattle.esm_io.specs.Meanings.{DiskMeaning, disk as meaning}
 use Rattle.esm_journal.specs.State.{JournalState}
+use Rattle.esm_model.specs.declared.config.Start.{Start}
 use Rattle.esm_model.specs.declared.entry.Entry.{Entry}
 use Rattle.esm_model.specs.declared.book.Trouble.{Trouble}
 use Rattle.esm_input.specs.declared.ending.InputEnd.{InputEnd}
@@ -27,6 +28,7 @@ returns g c =
     let before : BookState g.row.D.Denot (JournalState g.row.D.Denot) = c.args.run.book in
     let config = before.core.setting.config in
     let calls = before.core.setting.calls in
+    let start : Start = c.args.run.input.start in
     let files : FilesState g.row.D.Denot = files_of c.args.before.now.journal.value c.args.before.now.spare.value c.args.before.now.failures.value c.args.said before in
     let b : BookState g.row.D.Denot (JournalState g.row.D.Denot) = c.run_in_turn-ran.new.book in
     let i : InputState g.row.S.Denot = c.run_in_turn-ran.new.input in
@@ -63,12 +65,12 @@ returns g c =
       spare = rw (← c.into_parts-history.ensures.pair) c.closed.ensures.spare;
       failures = rw (← c.into_parts-history.ensures.dest) c.closed.ensures.failures;
     } in
-    let made : IsMadeFor config c.args.run.input.source i = made_for config c.args.run.input.source c.args.run.input i c.requires.begun.input c.run_in_turn-ran.ensures.input in
+    let made : IsMadeFor config start c.args.run.input.source i = made_for config start c.args.run.input.source c.args.run.input i c.requires.begun.input c.run_in_turn-ran.ensures.input in
     let stood : StoodSo config calls files before = record { core = c.requires.begun.core } in
     let trace : reverse out.trace.items ≡ b.core.past = rw (c.closed.ensures.trace, c.into_parts-history.ensures.history) (reverse-reverse b.core.past) in
     let source : out.input ≡ i.source = c.closed.ensures.input ∙ c.into_parts-source.ensures.source in
-    let P : StreamEnd → Type 0 = HasEnded t g.S.Source.faults g.S.Source.left config calls files c.args.run.input.source out.input callers (reverse out.trace.items) new in
-    let Q : Type 0 = HasStoppedRun t g.S.Source.left config calls files c.args.run.input.source out.input callers (reverse out.trace.items) new in
+    let P : StreamEnd → Type 0 = HasEnded t g.S.Source.faults g.S.Source.left config start calls files c.args.run.input.source out.input callers (reverse out.trace.items) new in
+    let Q : Type 0 = HasStoppedRun t g.S.Source.left config start calls files c.args.run.input.source out.input callers (reverse out.trace.items) new in
     record {
       ended = subst (λ r. IfOk r P) (sym c.closed.ensures.end)
           (IfOk-weaker c.end_of-end.result (EndsBy ran (option_copied c.trouble.result) c.into_parts-source.result.1) P
@@ -76,17 +78,17 @@ returns g c =
           let by : EndsBy ran b.trouble i.end e =
           subst (λ (w : Option Trouble). EndsBy ran w i.end e) c.trouble.ensures.value
           (subst (λ (x : Option InputEnd). EndsBy ran (option_copied c.trouble.result) x e) c.into_parts-source.ensures.end is) in
-          subst (λ (x : g.row.S.Denot). HasEnded t g.S.Source.faults g.S.Source.left config calls files c.args.run.input.source x callers (reverse out.trace.items) new e) (sym source)
-          (subst (λ (h : List Entry). HasEnded t g.S.Source.faults g.S.Source.left config calls files c.args.run.input.source i.source callers h new e) (sym trace)
-          (ended_by t g.S.Source.faults g.S.Source.left config calls files c.args.run.input.source i callers before b new ran e laws stood left of c.trouble.ensures.sound c.trouble.ensures.cause made come by)))
+          subst (λ (x : g.row.S.Denot). HasEnded t g.S.Source.faults g.S.Source.left config start calls files c.args.run.input.source x callers (reverse out.trace.items) new e) (sym source)
+          (subst (λ (h : List Entry). HasEnded t g.S.Source.faults g.S.Source.left config start calls files c.args.run.input.source i.source callers h new e) (sym trace)
+          (ended_by t g.S.Source.faults g.S.Source.left config start calls files c.args.run.input.source i callers before b new ran e laws stood left of c.trouble.ensures.sound c.trouble.ensures.cause made come by)))
           c.end_of-end.ensures.ended);
       stopped = subst (λ r. OnErr r Q) (sym c.closed.ensures.end)
           (on_err_weaker c.end_of-end.result
           (λ is.
           let by : StopsBy ran b.trouble = subst (λ (w : Option Trouble). StopsBy ran w) c.trouble.ensures.value is in
-          subst (λ (x : g.row.S.Denot). HasStoppedRun t g.S.Source.left config calls files c.args.run.input.source x callers (reverse out.trace.items) new) (sym source)
-          (subst (λ (h : List Entry). HasStoppedRun t g.S.Source.left config calls files c.args.run.input.source i.source callers h new) (sym trace)
-          (stopped_by t g.S.Source.faults g.S.Source.left config calls files c.args.run.input.source i callers before b new ran laws stood left of made come by)))
+          subst (λ (x : g.row.S.Denot). HasStoppedRun t g.S.Source.left config start calls files c.args.run.input.source x callers (reverse out.trace.items) new) (sym source)
+          (subst (λ (h : List Entry). HasStoppedRun t g.S.Source.left config start calls files c.args.run.input.source i.source callers h new) (sym trace)
+          (stopped_by t g.S.Source.faults g.S.Source.left config start calls files c.args.run.input.source i callers before b new ran laws stood left of made come by)))
           c.end_of-end.ensures.stopped);
       said = c.closed.ensures.said;
       as_many = stays.2 ∙ c.requires.callers;

@@ -28,10 +28,10 @@ returns-clause-stopped g c =
     ap (λ (x : PairState g.row.D.Denot × JournalState g.row.D.Denot × g.row.S.Denot). x.1) back ∙ ap (λ (x : FilesState g.row.D.Denot). x.dest) c.files.view_is in
     let input : out.input ≡ c.args.input = c.closed.ensures.input ∙ ap (λ (x : PairState g.row.D.Denot × JournalState g.row.D.Denot × g.row.S.Denot). x.2) back in
     let none : reverse out.trace.items ≡ [] = rw (c.closed.ensures.trace, c.new.ensures.items) refl in
-    let all : HasStoppedRun t g.S.Source.left c.args.config c.args.calls f c.args.input c.args.input c.args.callers.items [] new =
-    not_begun t g.S.Source.left c.args.config c.args.calls f c.args.input c.args.callers.items new laws files
+    let all : HasStoppedRun t g.S.Source.left c.args.config c.args.start c.args.calls f c.args.input c.args.input c.args.callers.items [] new =
+    not_begun t g.S.Source.left c.args.config c.args.start c.args.calls f c.args.input c.args.callers.items new laws files
     (c.closed.ensures.journal ∙ ap first_disk pair) (c.closed.ensures.spare ∙ ap second_disk pair)
     (c.closed.ensures.failures ∙ ap (λ (d : JournalState g.row.D.Denot). d.disk) dest) (rw c.closed.ensures.callers refl) in
     on_any_err out.end
-    (subst (λ (x : g.row.S.Denot). HasStoppedRun t g.S.Source.left c.args.config c.args.calls f c.args.input x c.args.callers.items (reverse out.trace.items) new) (sym input)
-    (subst (λ (h : List Entry). HasStoppedRun t g.S.Source.left c.args.config c.args.calls f c.args.input c.args.input c.args.callers.items h new) (sym none) all))
+    (subst (λ (x : g.row.S.Denot). HasStoppedRun t g.S.Source.left c.args.config c.args.start c.args.calls f c.args.input x c.args.callers.items (reverse out.trace.items) new) (sym input)
+    (subst (λ (h : List Entry). HasStoppedRun t g.S.Source.left c.args.config c.args.start c.args.calls f c.args.input c.args.input c.args.callers.items h new) (sym none) all))

@@ -1,0 +1,95 @@
+use Rattle.std.proofs.Common.{◌≡◌, ◌∙◌, List, Option, subst, sym}
+use Rattle.std.specs.Prelude.{IfOk, OnErr, reverse}
+use Rattle.std.specs.Option.{option_copied}
+use Rattle.std.proofs.lemmas.List.{reverse-reverse}
+use Rattle.std.proofs.lemmas.Result.{IfOk-weaker, on_err_weaker}
+use Rattle.esm_io.specs.Meanings.{DiskMeaning, disk as meaning}
+use Rattle.esm_model.specs.declared.entry.Entry.{Entry}
+use Rattle.esm_model.specs.declared.book.Trouble.{Trouble}
+use Rattle.esm_input.specs.declared.ending.InputEnd.{InputEnd}
+use Rattle.esm_input.specs.Reading.{InputState}
+use Rattle.esm_qbook.specs.Books.{BookState}
+use Rattle.esm_queue_core.specs.CoreView.{all_messages}
+use Rattle.esm_pool.specs.Running.{outside}
+use Rattle.esm_stream.specs.Files.{FilesState}
+use Rattle.esm_stream.specs.Headline.{Devices, Telling, telling}
+use Rattle.esm_queue_run.specs.Ended.{HasEnded, HasStoppedRun}
+use Rattle.esm_queue_run.specs.Runs.{EndsBy, IsLeft, StopsBy, files_of}
+use Rattle.esm_queue_run.specs.declared.run.QueueEnd.{QueueEnd}
+use Rattle.esm_queue_run.proofs.Headlines.{AreLaws, AreOf}
+use Rattle.esm_queue_run.proofs.Messages.{came_all}
+use Rattle.esm_queue_run.proofs.Ways.{HasCome, IsMadeFor, StoodSo, ended_by, found_stays, made_for, stopped_by}
+use Rattle.esm_queue_run.proofs.run.run_opened.Goals as goal
+
+pub returns : goal.returns
+returns g c =
+    let m : DiskMeaning g.row.D.Denot = meaning g.D.Disk.honest g.D.Disk.content g.D.Disk.image g.D.Disk.moment g.D.Disk.image_since g.D.Disk.faults in
+    let t : Telling g.row.D.Denot g.row.F.Denot = telling (outside g.C.Clock.gave g.F.Caller.sends g.F.Caller.log) m in
+    let before : BookState g.row.D.Denot = c.args.run.book in
+    let config = before.core.setting.config in
+    let calls = before.core.setting.calls in
+    let visibility = before.core.setting.visibility in
+    let files : FilesState g.row.D.Denot = files_of c.args.before.now.journal.value c.args.before.now.spare.value c.args.before.now.failures.value c.args.said before c.args.dest in
+    let b : BookState g.row.D.Denot = c.run_in_turn-ran.new.book in
+    let i : InputState g.row.S.Denot = c.run_in_turn-ran.new.input in
+    let ran = c.run_in_turn-ran.result in
+    let out = c.closed.result in
+    let callers = c.args.callers.items in
+    let new : Devices g.row.D.Denot g.row.F.Denot = record { journal = out.journal; spare = out.spare; failures = out.failures; callers = out.callers.items } in
+    let laws : AreLaws = record { once = c.deleted_once.ensures; order = c.order_per_group.ensures; counted = c.every_message_counted.ensures; more = c.legal_over_more.ensures } in
+    let sound = c.trouble.ensures.sound in
+    let come : HasCome t g.S.Source.faults g.S.Source.left before b i callers new.callers ran = record {
+      run = rw c.closed.ensures.callers c.run_in_turn-ran.ensures.run;
+      came = c.run_in_turn-ran.ensures.came;
+      ended = c.run_in_turn-ran.ensures.ended;
+      read = c.run_in_turn-ran.ensures.read;
+      good = c.run_in_turn-ran.ensures.good;
+      stopped = rw c.closed.ensures.callers c.run_in_turn-ran.ensures.stopped;
+      cut = c.run_in_turn-ran.ensures.cut;
+    } in
+    let stays = found_stays t g.S.Source.faults g.S.Source.left before b i callers new.callers ran come in
+    let left : IsLeft m files b = record {
+      files = c.requires.files;
+      found = stays.0 ∙ c.requires.begun.found;
+      legal = sound.legal;
+      settled = sound.settled;
+      came = came_all b.core.setting (all_messages b.core) b.core.past sound.legal sound.messages;
+      journal = c.trouble.ensures.journal;
+      since = c.since_before.ensures;
+      pair_kept = c.trouble.ensures.kept;
+      stays = sound.stays;
+      hand = sound.hand;
+    } in
+    let of : AreOf files b new = record {
+      journal = rw (← c.into_parts-history.ensures.pair) c.closed.ensures.journal;
+      spare = rw (← c.into_parts-history.ensures.pair) c.closed.ensures.spare;
+      failures = c.closed.ensures.failures;
+    } in
+    let made : IsMadeFor config c.args.run.input.source i = made_for config c.args.run.input.source c.args.run.input i c.requires.begun.input c.run_in_turn-ran.ensures.input in
+    let stood : StoodSo config calls visibility files before = record { core = c.requires.begun.core } in
+    let trace : reverse out.trace.items ≡ b.core.past = rw (c.closed.ensures.trace, c.into_parts-history.ensures.history) (reverse-reverse b.core.past) in
+    let source : out.input ≡ i.source = c.closed.ensures.input ∙ c.into_parts-source.ensures.source in
+    let P : QueueEnd → Type 0 = HasEnded t g.S.Source.faults g.S.Source.left config calls visibility files c.args.run.input.source out.input callers (reverse out.trace.items) new in
+    let Q : Type 0 = HasStoppedRun t g.S.Source.left config calls visibility files c.args.run.input.source out.input callers (reverse out.trace.items) new in
+    record {
+      ended = subst (λ r. IfOk r P) (sym c.closed.ensures.end)
+          (IfOk-weaker c.end_of-end.result (EndsBy ran (option_copied c.trouble.result) c.into_parts-source.result.1) P
+          (λ e is.
+          let by : EndsBy ran b.trouble i.end e =
+          subst (λ (w : Option Trouble). EndsBy ran w i.end e) c.trouble.ensures.value
+          (subst (λ (x : Option InputEnd). EndsBy ran (option_copied c.trouble.result) x e) c.into_parts-source.ensures.end is) in
+          subst (λ (x : g.row.S.Denot). HasEnded t g.S.Source.faults g.S.Source.left config calls visibility files c.args.run.input.source x callers (reverse out.trace.items) new e) (sym source)
+          (subst (λ (h : List Entry). HasEnded t g.S.Source.faults g.S.Source.left config calls visibility files c.args.run.input.source i.source callers h new e) (sym trace)
+          (ended_by t g.S.Source.faults g.S.Source.left config calls visibility files c.args.run.input.source i callers before b new ran e laws stood left of c.trouble.ensures.cause made come by)))
+          c.end_of-end.ensures.ended);
+      stopped = subst (λ r. OnErr r Q) (sym c.closed.ensures.end)
+          (on_err_weaker c.end_of-end.result
+          (λ is.
+          let by : StopsBy ran b.trouble = subst (λ (w : Option Trouble). StopsBy ran w) c.trouble.ensures.value is in
+          subst (λ (x : g.row.S.Denot). HasStoppedRun t g.S.Source.left config calls visibility files c.args.run.input.source x callers (reverse out.trace.items) new) (sym source)
+          (subst (λ (h : List Entry). HasStoppedRun t g.S.Source.left config calls visibility files c.args.run.input.source i.source callers h new) (sym trace)
+          (stopped_by t g.S.Source.faults g.S.Source.left config calls visibility files c.args.run.input.source i callers before b new ran laws stood left of made come by)))
+          c.end_of-end.ensures.stopped);
+      said = c.closed.ensures.said;
+      as_many = stays.1 ∙ c.requires.callers;
+    }

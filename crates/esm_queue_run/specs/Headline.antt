@@ -1,0 +1,86 @@
+-- The headline of a queue: what a run of its mapping leaves. This product's own.
+use Rattle.std.specs.Prelude.{◌≡◌, ◌<◌, ◌≤◌, ◌++◌, ℕ, List, [], length, slice_index_or, Option, Some, reverse}
+use Rattle.esm_io.specs.Told.{Grows}
+use Rattle.esm_journal.specs.Reads.{IsOnlyRead}
+use Rattle.esm_model.specs.declared.config.Config.{Config}
+use Rattle.esm_model.specs.declared.item.Message.{Message}
+use Rattle.esm_model.specs.declared.entry.Entry.{Entry}
+use Rattle.esm_model.specs.declared.book.Trouble.{Trouble}
+use Rattle.esm_model.specs.declared.book.Trouble.TheVariants.{Disk}
+use Rattle.esm_queue_model.specs.QueueSetting.{QueueSetting, ExtendsMessages, over_messages}
+use Rattle.esm_queue_model.specs.QueueEntries.{queue_count}
+use Rattle.esm_queue_model.specs.QueueBatch.{queue_calls}
+use Rattle.esm_queue_model.specs.QueueStep.{LegalQueue}
+use Rattle.esm_queue_model.specs.HistoryLaws.{DeletedOnce, OrderPerGroup, EveryMessageCounted}
+use Rattle.esm_queue_core.specs.CoreView.{new_setting}
+use Rattle.esm_said.specs.SaidLists.{SaidLists}
+use Rattle.esm_upkeep.specs.Upkeep.{AreHonest, AreSettled, PairHolds}
+use Rattle.esm_qbook.specs.Books.{payloads_in, OpensToFirst}
+use Rattle.esm_pool.specs.Given.{AreGiven}
+use Rattle.esm_qpool.specs.Stopping.{HasLogged}
+use Rattle.esm_stream.specs.Files.{FilesState}
+use Rattle.esm_stream.specs.Headline.{Telling, Devices}
+use Rattle.esm_queue_run.specs.Earned.{DeletedOnlyEarned}
+
+-- the setting of a run: opened with the configuration, the calls allowed, the visibility timeout in milliseconds and the
+-- deletions that the journal told of; its messages are those of the input, in order, as far as they came
+pub record IsSettingOf (config : Config) (calls visibility : ℕ) (said : SaidLists) (messages : List Message) (s : QueueSetting) : Type 0 where
+  pub opened : s ≡ over_messages (new_setting config calls visibility said.deletions) s.messages
+  pub came : (rest : List Message) × (messages ≡ s.messages ++ rest)
+
+-- legal over every list of messages that goes on from those that came
+abbrev pub LegalOver : QueueSetting → List Entry → Type 0
+LegalOver s h = (messages : List Message) → ExtendsMessages s.messages messages → LegalQueue (over_messages s messages) h
+
+-- caller k's log, where told, grew by the calls of batcher k
+abbrev pub CallsMade : {D F : Type 0} → Telling D F → QueueSetting → List Entry → (old new : List F) → Type 0
+CallsMade {D} {F} t s h old new = (k : ℕ) (d : F) → k < length old → Grows (t.callers.log (slice_index_or old k d)) (t.callers.log (slice_index_or new k d)) (queue_calls s t.callers.sends h k)
+
+-- or perhaps by one further call of a lane that still runs
+abbrev pub CallsMadeOrOneMore : {D F : Type 0} → Telling D F → QueueSetting → List Entry → (old new : List F) → Type 0
+CallsMadeOrOneMore {D} {F} t s h old new = (k : ℕ) (d : F) → k < length old → HasLogged t.callers.sends s h k (t.callers.log (slice_index_or old k d)) (t.callers.log (slice_index_or new k d))
+
+-- the journal's content is the old one followed by the payloads of the history
+abbrev pub JournalKept : {D F : Type 0} → Telling D F → FilesState D → QueueSetting → List Entry → Devices D F → Type 0
+JournalKept t f s h new = AreHonest t.disk f.journal f.spare → PairHolds t.disk f.pair.epoch (f.pair.payloads ++ payloads_in s.messages (reverse h)) new.journal new.spare
+
+-- the entries whose payloads may stand in the journal though they are not in the history: one at most, and only where a disk
+-- failed
+abbrev pub IsInHand : Option Trouble → List Entry → Type 0
+IsInHand (Some Disk) hand = length hand ≤ 1
+IsInHand _ hand = hand ≡ []
+
+-- Every image of the pair since the run's start opens to the content found, followed by a prefix of the payloads of the
+-- history in their order; where a disk failed, one further whole payload may follow all of them.
+abbrev pub CrashKept : {D F : Type 0} → Telling D F → FilesState D → QueueSetting → List Entry → (hand : List Entry) → Devices D F → Type 0
+CrashKept t f s h hand new =
+    AreHonest t.disk f.journal f.spare → AreSettled t.disk f.journal f.spare → (one other : List ℕ) →
+    t.disk.since new.journal (t.disk.moment f.journal) one → t.disk.since new.spare (t.disk.moment f.spare) other →
+    OpensToFirst f.pair.epoch f.pair.payloads (payloads_in s.messages (reverse h ++ hand)) one other
+
+-- What holds of a history, newest entry first, and of the devices after it, whatever ended the run.
+pub record Headline {D F : Type 0} (t : Telling D F) (f : FilesState D) (s : QueueSetting) (h : List Entry) (trouble : Option Trouble) (hand : List Entry) (new : Devices D F) : Type 0 where
+  -- each entry may follow those before it, over every list of messages that goes on from those that came
+  pub legal_trace : LegalOver s h
+  -- the messages of the setting are those that came in the history
+  pub messages_came : queue_count h ≡ length s.messages
+  -- each moment is one that the clock gave, or that of the entry before it where that is later
+  pub moments : AreGiven t.callers.gave h
+  -- the journal's content is the old one followed by the payloads of the trace
+  pub journal_kept : (trouble ≡ Some Disk → ⊥) → JournalKept t f s h new
+  -- where a disk failed, one further payload may stand there
+  pub in_hand : IsInHand trouble hand
+  -- what a crash leaves since the run's start
+  pub crash : CrashKept t f s h hand new
+  -- the failure file is as it was opened, and was only read
+  pub failures_same : new.failures ≡ f.dest.disk
+  pub failures_read : IsOnlyRead t.disk f.failures new.failures
+  -- a message that came is deleted only where it was found deleted, a reply of the trace counts it as succeeded, or it does
+  -- not pass the filter
+  pub only_earned : DeletedOnlyEarned s h
+  -- no message is deleted twice, and none that was found deleted
+  pub deleted_once : DeletedOnce s h
+  -- of a FIFO queue no batch overtakes an earlier message of one of its groups
+  pub order_per_group : OrderPerGroup s h
+  -- the messages that came are the deleted ones and those that wait together, each once
+  pub every_message_counted : EveryMessageCounted s h

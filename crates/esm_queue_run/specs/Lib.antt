@@ -1,0 +1,4 @@
+pub mod Earned
+pub mod Headline
+pub mod Ended
+pub mod Runs

@@ -1,0 +1,132 @@
+// What became of the options of `run`, before it is told.
+ghost use Rattle.std.specs.Prelude.{◌≡◌, [], IfOk};
+ghost use Rattle.esm_run.specs.Ran.{IsEndingOf, IsEndingOfQueue};
+ghost use Rattle.esm_run.specs.declared.left.Began.TheVariants as began;
+
+use crate::refusal::{ending_of, ending_of_queue};
+use esm_model::{Entry, OutOfMemory};
+use esm_queue_run::QueueRun;
+use esm_report::Ending;
+use esm_said::Says;
+use esm_stream::StreamRun;
+use std::alloc::Global;
+
+/// The devices of a run.
+#[derive(Drop)]
+pub struct RunDevices<S, D, F> {
+    pub input: S,
+    pub journal: D,
+    pub spare: D,
+    pub failures: D,
+    pub registry: D,
+    pub callers: Vec<F>,
+}
+
+/// What began, with what its journal said before.
+#[derive(Drop)]
+pub enum Began {
+    Nothing,
+    Stream(Says),
+    Queue(Says),
+}
+
+/// What became of the options of `run`: how it ended, what began, its history with the oldest entry first, and the devices
+/// as they were left.
+#[derive(Drop)]
+pub struct Ran<S, D, F> {
+    pub end: Result<Ending, OutOfMemory>,
+    pub began: Began,
+    pub trace: Vec<Entry>,
+    pub devices: RunDevices<S, D, F>,
+}
+
+/// No run began, and these devices are left.
+pub fn not_begun<S, D, F>(
+    alloc: Global,
+    end: Result<Ending, OutOfMemory>,
+    devices: RunDevices<S, D, F>,
+) -> Ran<S, D, F>
+    ensures end { result.end ≡ end }
+    ensures nothing { result.began ≡ began.Nothing }
+    ensures trace { result.trace.items ≡ [] }
+    ensures devices { result.devices ≡ devices }
+{
+    Ran {
+        end,
+        began: Began::Nothing,
+        trace: Vec::new(alloc),
+        devices,
+    }
+}
+
+/// How the run of a stream's mapping ended, and the devices that it left.
+pub fn stream_ran<S, D, F>(alloc: Global, run: StreamRun<S, D, F>, registry: D) -> Ran<S, D, F>
+    ensures ended { IfOk result.end (IsEndingOf run.end) }
+    ensures began { result.began ≡ began.Stream run.said }
+    ensures trace { result.trace ≡ run.trace }
+    ensures devices { result.devices ≡ record { input = run.input; journal = run.journal; spare = run.spare; failures = run.failures; registry = registry; callers = run.callers } }
+{
+    let StreamRun {
+        end,
+        trace,
+        said,
+        input,
+        journal,
+        spare,
+        failures,
+        callers,
+    } = run;
+    let end = match end {
+        Ok(end) => ending_of(alloc, end),
+        Err(OutOfMemory) => Err(OutOfMemory),
+    };
+    Ran {
+        end,
+        began: Began::Stream(said),
+        trace,
+        devices: RunDevices {
+            input,
+            journal,
+            spare,
+            failures,
+            registry,
+            callers,
+        },
+    }
+}
+
+/// How the run of a queue's mapping ended, and the devices that it left.
+pub fn queue_ran<S, D, F>(alloc: Global, run: QueueRun<S, D, F>, registry: D) -> Ran<S, D, F>
+    ensures ended { IfOk result.end (IsEndingOfQueue run.end) }
+    ensures began { result.began ≡ began.Queue run.said }
+    ensures trace { result.trace ≡ run.trace }
+    ensures devices { result.devices ≡ record { input = run.input; journal = run.journal; spare = run.spare; failures = run.failures; registry = registry; callers = run.callers } }
+{
+    let QueueRun {
+        end,
+        trace,
+        said,
+        input,
+        journal,
+        spare,
+        failures,
+        callers,
+    } = run;
+    let end = match end {
+        Ok(end) => ending_of_queue(alloc, end),
+        Err(OutOfMemory) => Err(OutOfMemory),
+    };
+    Ran {
+        end,
+        began: Began::Queue(said),
+        trace,
+        devices: RunDevices {
+            input,
+            journal,
+            spare,
+            failures,
+            registry,
+            callers,
+        },
+    }
+}
