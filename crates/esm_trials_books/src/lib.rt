@@ -1,6 +1,8 @@
-//! Worked examples over the durable books: messages come, batches are called, and the journal keeps what became
+//! Worked examples over the durable books: messages and records come, batches are called, and the journal keeps what became
 //! of them over a restart. The crate has nothing but these tests, so that each crate that they call is proved once.
 #![tactic(auto)]
 
 #[cfg(test)]
 mod queue_book;
+#[cfg(test)]
+mod stream_lanes;

@@ -1,5 +1,7 @@
-use Rattle.esm_event.proofs.QueueExample.{is_queue_config}
 use Rattle.esm_trials_books.proofs.queue_book.opened.Goals as goal
 
 pub open-requires-clause-config : goal.open-requires-clause-config
-open-requires-clause-config c = is_queue_config _ c.in_ok-config.ensures
+open-requires-clause-config c = c.requires.config.config
+
+pub open-requires-clause-patterns : goal.open-requires-clause-patterns
+open-requires-clause-patterns c = rw c.requires.config.no_filters
