@@ -1,0 +1,48 @@
+-- How a shared history goes on: by the entries of one seat, at which moments, and by those of others alone. This product's
+-- own. The oldest entry stands first.
+use Rattle.std.specs.Prelude.{◌≡◌, ℕ, max, Bool, true, List, [], ◌∷◌, ◌++◌}
+use Rattle.esm_model.specs.declared.setup.Told.{Told}
+use Rattle.esm_model.specs.declared.setup.Setup.{Setup}
+use Rattle.esm_model.specs.Moment.{capped_moment}
+use Rattle.esm_model.specs.Entries.{moment_of, last_moment}
+use Rattle.esm_model.specs.Books.{entries_told}
+use Rattle.esm_model.specs.Kept.{Meaning, entries_after, IsLegal, MayFollowAll, AllBy, added}
+
+-- the author n has added entries that may follow; the setup stays, and so does a mark that is true
+pub record GoesOn {T : Type 0} (m : Meaning T) (n : ℕ) (x y : T) : Type 0 where
+  pub setup_is : m.setup y ≡ m.setup x
+  pub history_is : m.history y ≡ m.history x ++ added (m.history x) (m.history y)
+  pub legal : MayFollowAll (m.may_follow (m.setup x)) (m.history x) (added (m.history x) (m.history y))
+  pub own : AllBy (m.author (m.setup x)) n (m.history x) (added (m.history x) (m.history y))
+  pub marked : m.mark x ≡ true → m.mark y ≡ true
+
+-- the entries es follow h legally, and none of them is of the author n
+pub record OthersFollow (author : Setup → List Told → Told → ℕ) (may_follow : Setup → List Told → Told → Type 0) (setup : Setup) (n : ℕ) (h es : List Told) : Type 0 where
+  pub legal : IsLegal (may_follow setup) (h ++ es)
+  pub others : entries_after (author setup) n h es ≡ []
+
+-- moments
+
+-- the entry, which comes after the history, has this moment, or that of the entry before it where that is later, and
+-- `MAX_MOMENT` at most
+abbrev pub IsAt : ℕ → List Told → Told → Type 0
+IsAt moment h t = moment_of t.entry ≡ capped_moment (max moment (last_moment (entries_told h)))
+
+-- and so each of the entries es, which come after h
+abbrev pub AllAt : ℕ → List Told → List Told → Type 0
+AllAt moment h [] = Unit {0}
+AllAt moment h (t ∷ es) = IsAt moment h t × AllAt moment (h ++ t ∷ []) es
+
+-- the moment is one that was given
+abbrev pub IsGivenAfter : (ℕ → Bool) → List Told → Told → Type 0
+IsGivenAfter gave h t = (moment : ℕ) × (gave moment ≡ true) × IsAt moment h t
+
+-- and so each of the entries es, which come after h
+abbrev pub AllGiven : (ℕ → Bool) → List Told → List Told → Type 0
+AllGiven gave h [] = Unit {0}
+AllGiven gave h (t ∷ es) = IsGivenAfter gave h t × AllGiven gave (h ++ t ∷ []) es
+
+-- and so each of them that is the author's
+abbrev pub OwnGiven : (ℕ → Bool) → (List Told → Told → ℕ) → ℕ → List Told → List Told → Type 0
+OwnGiven gave author n h [] = Unit {0}
+OwnGiven gave author n h (t ∷ es) = (author h t ≡ n → IsGivenAfter gave h t) × OwnGiven gave author n (h ++ t ∷ []) es
