@@ -1,0 +1,72 @@
+use Rattle.std.proofs.Common.{◌+◌, [], ◌∷◌, ◌++◌, ap, sym, ◌∙◌, subst}
+use Rattle.esm_model.specs.Kept.{meaning}
+use Rattle.esm_pooled.specs.Batching.{call_of}
+use Rattle.esm_turn.specs.Seats.{SeatView}
+use Rattle.esm_batchers.specs.Seated.{IsSeated}
+use Rattle.esm_batchers.proofs.Turns.{found, given, gone_back, holds_found, holds_still, comes_to}
+use Rattle.esm_batchers.proofs.calling.tell.Goals as goal
+
+pub end_call-told-requires-clause-runs : goal.end_call-told-requires-clause-runs
+end_call-told-requires-clause-runs g c =
+    let m = meaning g.T.Kept.setup g.T.Kept.history g.T.Kept.mark g.T.Kept.author g.T.Kept.may_follow in
+    let gave = g.C.Clock.gave in
+    let t = c.args.turn.now in
+    let s : SeatView = c.args.seat.now in
+    let k = c.args.batcher in
+    let x = c.take-value.result.value in
+    let f = found m gave t (k + 1) s (m.history x) c.requires.seated c.take-value.ensures.legal c.take-value.ensures.begins c.take-value.ensures.mine in
+    holds_found m gave t (k + 1) (λ u h. g.T.Pooled.runs u h k c.args.job) s x f (c.take-value.ensures.setup ∙ c.requires.seated.free.setup_is) (λ h es. c.stays.ensures.runs t.setup h es k c.args.job) c.requires.runs
+
+pub returns-clause-seated : goal.returns-clause-seated
+returns-clause-seated g c =
+    let m = meaning g.T.Kept.setup g.T.Kept.history g.T.Kept.mark g.T.Kept.author g.T.Kept.may_follow in
+    let gave = g.C.Clock.gave in
+    let t = c.args.turn.now in
+    let s : SeatView = c.args.seat.now in
+    let n = c.args.batcher + 1 in
+    let x = c.take-value.result.value in
+    let y = c.end_call-told.new.self in
+    let f = found m gave t n s (m.history x) c.requires.seated c.take-value.ensures.legal c.take-value.ensures.begins c.take-value.ensures.mine in
+    subst (IsSeated m.author m.may_follow gave t n) (sym (gone_back m gave t n s c.take-value.new.seat c.give.new.seat x y c.take-value.ensures.seat c.give.ensures))
+    (given m gave t n c.now-moment.result s x y c.requires.seated f (c.take-value.ensures.setup ∙ c.requires.seated.free.setup_is) c.end_call-told.ensures.goes_on c.end_call-told.ensures.moments c.now-moment.ensures)
+
+pub returns-clause-called : goal.returns-clause-called
+returns-clause-called g c = λ noted sends.
+    let m = meaning g.T.Kept.setup g.T.Kept.history g.T.Kept.mark g.T.Kept.author g.T.Kept.may_follow in
+    let gave = g.C.Clock.gave in
+    let t = c.args.turn.now in
+    let s : SeatView = c.args.seat.now in
+    let k = c.args.batcher in
+    let x = c.take-value.result.value in
+    let y = c.end_call-told.new.self in
+    let f = found m gave t (k + 1) s (m.history x) c.requires.seated c.take-value.ensures.legal c.take-value.ensures.begins c.take-value.ensures.mine in
+    comes_to m gave t (k + 1) (λ u h. g.T.Pooled.calls u sends h k) (λ u l. l ++ call_of u sends c.args.job.event c.args.reply ∷ []) s c.give.new.seat x y f (c.take-value.ensures.setup ∙ c.requires.seated.free.setup_is)
+    (gone_back m gave t (k + 1) s c.take-value.new.seat c.give.new.seat x y c.take-value.ensures.seat c.give.ensures) (λ h es. c.stays.ensures.calls t.setup sends h es k) (c.end_call-told.ensures.called noted sends)
+
+pub returns-clause-no_end : goal.returns-clause-no_end
+returns-clause-no_end g c = λ short sends.
+    let m = meaning g.T.Kept.setup g.T.Kept.history g.T.Kept.mark g.T.Kept.author g.T.Kept.may_follow in
+    let gave = g.C.Clock.gave in
+    let t = c.args.turn.now in
+    let s : SeatView = c.args.seat.now in
+    let k = c.args.batcher in
+    let x = c.take-value.result.value in
+    let y = c.end_call-told.new.self in
+    let f = found m gave t (k + 1) s (m.history x) c.requires.seated c.take-value.ensures.legal c.take-value.ensures.begins c.take-value.ensures.mine in
+    comes_to m gave t (k + 1) (λ u h. g.T.Pooled.calls u sends h k) (λ u l. l) s c.give.new.seat x y f (c.take-value.ensures.setup ∙ c.requires.seated.free.setup_is)
+    (gone_back m gave t (k + 1) s c.take-value.new.seat c.give.new.seat x y c.take-value.ensures.seat c.give.ensures) (λ h es. c.stays.ensures.calls t.setup sends h es k)
+    (ap (λ h. g.T.Pooled.calls (m.setup x) sends h k) (c.end_call-told.ensures.unchanged short))
+
+pub returns-clause-runs : goal.returns-clause-runs
+returns-clause-runs g c = λ short.
+    let m = meaning g.T.Kept.setup g.T.Kept.history g.T.Kept.mark g.T.Kept.author g.T.Kept.may_follow in
+    let gave = g.C.Clock.gave in
+    let t = c.args.turn.now in
+    let s : SeatView = c.args.seat.now in
+    let k = c.args.batcher in
+    let x = c.take-value.result.value in
+    let y = c.end_call-told.new.self in
+    let f = found m gave t (k + 1) s (m.history x) c.requires.seated c.take-value.ensures.legal c.take-value.ensures.begins c.take-value.ensures.mine in
+    holds_still m gave t (k + 1) (λ u h. g.T.Pooled.runs u h k c.args.job) s c.give.new.seat x y f
+    (gone_back m gave t (k + 1) s c.take-value.new.seat c.give.new.seat x y c.take-value.ensures.seat c.give.ensures) (c.end_call-told.ensures.unchanged short)
+    (λ h es. c.stays.ensures.runs t.setup h es k c.args.job) c.requires.runs

@@ -1,0 +1,3 @@
+pub mod Seated
+pub mod Working
+pub mod Rounds
