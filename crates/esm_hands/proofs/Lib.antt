@@ -1,0 +1,5 @@
+mod Going
+mod Packed
+mod AtWork
+mod Whole
+mod Runs

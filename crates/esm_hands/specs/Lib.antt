@@ -1,0 +1,3 @@
+pub mod Hands
+pub mod Packs
+pub mod Shared

@@ -1,0 +1,37 @@
+ghost use Rattle.std.specs.Prelude.{◌≡◌, [], List, Bool, true, false, OnOk, OnErr};
+ghost use Rattle.esm_model.specs.declared.setup.Setup.{Setup};
+ghost use Rattle.esm_model.specs.declared.setup.Told.{Told};
+ghost use Rattle.esm_batchers.specs.Seated.{IsSeated};
+
+use esm_io::Clock;
+use esm_model::{Kept, OutOfMemory};
+use esm_turn::{Seat, Turn};
+use std::alloc::Global;
+use std::sync::Wait;
+
+/// What reads an input and hands its items to a book at a turn, and notes the end of the input: the work of seat 0.
+pub trait Reading<T: Kept> {
+    // it may begin over a book of this setup
+    ghost ready: { Setup → Self → Type 0 };
+
+    // what it did over a book of this setup: from itself before and after, what its seat has seen, whether it has seen the
+    // mark, and whether want of memory stopped it
+    ghost read: { Setup → Self → Self → List Told → Bool → Bool → Type 0 };
+
+    /// Reads to the input's end, or until the book is down or memory is wanting; in any case it notes the end of the input
+    /// where the book is not down.
+    fn read_all<R: Wait, C: Clock>(
+        &mut self,
+        rt: &R,
+        alloc: Global,
+        turn: &Turn<T>,
+        seat: &mut Seat<T>,
+        clock: &C,
+    ) -> Result<(), OutOfMemory>
+        requires ready { ready turn.now.setup self.old }
+        requires seated { IsSeated T.author T.may_follow C.gave turn.now 0 seat.old }
+        requires unused { seat.old.mine ≡ [] }
+        ensures seated { IsSeated T.author T.may_follow C.gave turn.now 0 seat.new }
+        ensures read { OnOk result (read turn.now.setup self.old self.new seat.new.seen seat.new.mark false) }
+        ensures stopped { OnErr result (read turn.now.setup self.old self.new seat.new.seen seat.new.mark true) };
+}
