@@ -8,3 +8,9 @@ pub mod Endings
 pub mod Noting
 pub mod Standing
 pub mod Founds
+mod PoolingEntries
+mod PoolingLanes
+mod PoolingSteps
+mod PoolingAsked
+mod PoolingEnded
+pub mod Sent

@@ -4,7 +4,6 @@ use Rattle.esm_io.specs.Meanings.{DiskMeaning, DestMeaning}
 use Rattle.esm_io.specs.Told.{Grows}
 use Rattle.esm_journal.specs.Pair.{PairKeepsWhileUp}
 use Rattle.esm_model.specs.Setting.{Setting, over}
-use Rattle.esm_model.specs.Moment.{capped_moment}
 use Rattle.esm_model.specs.declared.entry.Entry.{Entry}
 use Rattle.esm_model.specs.declared.book.Trouble.{Trouble}
 use Rattle.esm_model.specs.declared.book.Trouble.TheVariants.{Disk, Dest, Changed}

@@ -5,8 +5,10 @@
 #![tactic(auto)]
 
 mod carrying;
+pub mod crossing;
 mod kept;
 mod opening;
+mod pooled;
 mod stream_book;
 
 pub use stream_book::{Book, Parts};
