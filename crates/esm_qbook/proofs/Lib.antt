@@ -5,3 +5,7 @@ pub mod Going
 pub mod Endings
 pub mod Noting
 pub mod Standing
+pub mod Pooling
+pub mod PoolingNext
+pub mod PoolingDone
+pub mod Sent

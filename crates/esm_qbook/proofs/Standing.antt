@@ -69,7 +69,7 @@ entries_back : (messages : List Message) (es : List Entry) → map (λ (t : Told
 entries_back messages [] = refl
 entries_back messages (e ∷ es) = ap (λ (xs : List Entry). e ∷ xs) (entries_back messages es)
 
-past_told : (v : CoreView) → entries_told (told_of v) ≡ v.past
+pub past_told : (v : CoreView) → entries_told (told_of v) ≡ v.past
 past_told v = ap reverse (entries_back (all_messages v) (reverse v.past)) ∙ reversed_back v.past
 
 setting_for : {D : Type 0} (setup : Setup) (b : BookState D) → IsSetupOf setup b → over_messages (queue_setting_told setup (told_of b.core)) b.core.setting.messages ≡ b.core.setting

@@ -4,8 +4,10 @@
 #![tactic(auto)]
 
 mod carrying;
+pub mod crossing;
 mod kept;
 mod opening;
+mod pooled;
 mod queue_book;
 
 pub use queue_book::{QueueBook, QueueParts};
