@@ -143,6 +143,13 @@ impl<S: Source> Input<S> {
         self.end.as_ref()
     }
 
+    /// The number of lanes of a shard. Takes no memory.
+    pub fn factor(&self) -> u32
+        ensures { result ≡ self.now.factor }
+    {
+        self.factor
+    }
+
     /// The source, as it was left, and why the reading ended, where it has. Takes no memory.
     pub fn into_parts(self) -> (S, Option<InputEnd>)
         ensures source { result.0 ≡ self.source }
