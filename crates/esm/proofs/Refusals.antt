@@ -25,8 +25,3 @@ status_of_no_words status words none spelled not-70 = by-test (nat_eq status 2) 
         let not-2 : status ≢ 2 = λ e. (let same = d.1 e in cc) in
         let found = spelled not-2 not-70 in
         absurd (no_words_spell found.0 (rw none at found.1))
-
-pub refused_status : {E : Type 0} (r : Result ℕ E) (words command : List (List ℕ)) → (IsRefused words → command ≡ [])
-    → IfOk r (λ status. command ≡ [] → status ≢ 70 → status ≡ 2) → IfOk r (λ status. IsRefused words → status ≢ 70 → status ≡ 2)
-refused_status (Ok status) words command none is = λ refused. is (none refused)
-refused_status (Err e) words command none is = tt

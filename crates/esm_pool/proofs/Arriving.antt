@@ -1,6 +1,6 @@
 -- A list of records that comes to a book.
-use Rattle.std.proofs.Common.{◌≡◌, ℕ, ◌+◌, Bool, true, false, List, [], ◌∷◌, ◌++◌, length, refl, sym, ap, ◌∙◌, subst, inl, inr, arith, append_assoc, Option, Some, None}
-use Rattle.std.specs.Prelude.{◌==◌, map, reverse, take, drop, slice_get, ⊤, option_map, if◌then◌else◌}
+use Rattle.std.proofs.Common.{◌≡◌, ℕ, ◌+◌, Bool, true, false, List, [], ◌∷◌, ◌++◌, length, refl, sym, ap, ◌∙◌, subst, inl, inr, append_assoc, Option, Some, None}
+use Rattle.std.specs.Prelude.{◌==◌, ◌||◌, map, max, reverse, take, drop, slice_get, ⊤, is_some, option_map, if◌then◌else◌}
 use Rattle.std.specs.Option.{option_or}
 use Rattle.std.proofs.lemmas.Bool.{cases_Bool, eq-eqb, eqb-true}
 use Rattle.std.proofs.lemmas.List.{append-nil, length-append, reverse-reverse}
@@ -12,12 +12,14 @@ use Rattle.esm_model.specs.declared.book.Change.{Change}
 use Rattle.esm_model.specs.declared.book.Trouble.{Trouble}
 use Rattle.esm_model.specs.declared.book.Trouble.TheVariants.{Changed}
 use Rattle.esm_model.specs.declared.entry.Entry.{Entry}
-use Rattle.esm_model.specs.declared.entry.Entry.TheVariants.{Came, Gave}
+use Rattle.esm_model.specs.declared.entry.Entry.TheVariants.{Came, Began, Ended, Gave, Tried, Closed, Replayed, Shut}
+use Rattle.esm_model.specs.declared.setup.Told.{Told}
+use Rattle.esm_model.specs.Moment.{capped_moment}
 use Rattle.esm_model.specs.Setting.{Setting, Stream, records_in, records_of, over}
-use Rattle.esm_model.specs.Entries.{moment_of, holds, came_count, is_shut}
-use Rattle.esm_model.specs.Books.{entries_told, records_told}
+use Rattle.esm_model.specs.Entries.{moment_of, last_moment, holds, came_count, is_shut, is_shut_entry}
+use Rattle.esm_model.specs.Books.{entries_told, records_told, lane_of_entry}
 use Rattle.esm_model.proofs.Lists.{Distinct, apart}
-use Rattle.esm_model.proofs.TellingFacts.{records_in_told, records-append}
+use Rattle.esm_model.proofs.TellingFacts.{entries_more, records_in_told, records-append}
 use Rattle.esm_model.proofs.BookLaws.{count_told}
 use Rattle.esm_ledger.specs.Coming.{with_list}
 use Rattle.esm_arrival.specs.Coming.{with_record, with_records, shards_of, of_shard}
@@ -30,22 +32,21 @@ use Rattle.esm_owing.specs.Arrival.{streams_of}
 use Rattle.esm_owing.specs.OwingView.{OwingView, full_setting, with_coming, setting_with}
 use Rattle.esm_core.specs.Calls.{moment_for, coming_lists, came_entries, Differs}
 use Rattle.esm_core.specs.Told.{covered, stream_entry, told_entries, told_of}
-use Rattle.esm_sbook.specs.Books.{BookState}
-use Rattle.esm_sbook.specs.Calls.{Added, AddedAll, AddedSome, IsSame}
+use Rattle.esm_sbook.specs.Books.{BookState, is_down}
+use Rattle.esm_sbook.specs.Calls.{Added, AddedAll, AddedSome, AddedOne, IsSame}
 use Rattle.esm_sbook.specs.Keeping.{IsSound}
-use Rattle.esm_pool.specs.Given.{AreGiven, IsGiven}
-use Rattle.esm_pool.specs.Taking.{IsArrival, AreArrivals, IsTaken, AreAdded, SomeAdded, IsOfNext, IsDownWith}
-use Rattle.esm_pool.proofs.Moments.{moment_given, moment_again}
+use Rattle.esm_pooled.specs.GoingOn.{AllAt}
+use Rattle.esm_pool.specs.declared.coming.Stop.TheVariants.{Down}
+use Rattle.esm_pool.specs.Taking.{AreReaders, IsBrought, come_by, AreAdded, SomeAdded, IsOfNext, IsStopFor}
+use Rattle.esm_pool.proofs.Moments.{again}
 use Rattle.esm_pool.proofs.Quiet.{one_more}
 use Rattle.esm_pool.proofs.Kept.{AreOthers, told_are, records_none}
 
--- a history of arrivals is not shut
-
-pub not_shut : (h : List Entry) → AreArrivals h → is_shut h ≡ false
-not_shut [] only = refl
-not_shut (Came n first count m ∷ h) only = not_shut h only.1
-not_shut (Gave by n places f line state m ∷ h) only = not_shut h only.1
-not_shut (e ∷ h) only = grind arith
+-- records came, or were filtered
+abbrev IsArrival : Entry → Type 0
+IsArrival (Came shard first count moment) = ⊤
+IsArrival (Gave None shard places fate line state moment) = ⊤
+IsArrival _ = ⊥
 
 -- the entries of one moment
 
@@ -76,55 +77,124 @@ at_filtered m (p ∷ ps) = at_both m (filtered_at m p.shard p.refused) (filtered
 at_parts : (m : ℕ) (ps : List Part) → AreAt m (part_entries m ps)
 at_parts m ps = at_both m (came_parts m ps) (filtered_parts m ps) (at_came m ps) (at_filtered m ps)
 
-given_all : (gave : ℕ → Bool) (m : ℕ) (es h : List Entry) → AreAt m es → AreGiven gave h → IsGiven gave h m → AreGiven gave (reverse es ++ h)
-given_all gave m [] h all given next = given
-given_all gave m (e ∷ es) h all given next =
-    let here : AreGiven gave (e ∷ h) = (given, subst (IsGiven gave h) all.0.0 next) in
-    subst (AreGiven gave) (one_more e es h) (given_all gave m es (e ∷ h) all.1 here (moment_again gave e h m here all.0.0))
+-- they are the reader's
 
-only_all : (m : ℕ) (es h : List Entry) → AreAt m es → AreArrivals h → AreArrivals (reverse es ++ h)
-only_all m [] h all only = only
-only_all m (e ∷ es) h all only = subst AreArrivals (one_more e es h) (only_all m es (e ∷ h) all.1 (all.0.1, only))
+arrival_lane : (e : Entry) → IsArrival e → lane_of_entry e ≡ None
+arrival_lane (Came n first count m) is = refl
+arrival_lane (Gave None n places f line state m) is = refl
+arrival_lane (Gave (Some lane) n places f line state m) is = absurd is
+arrival_lane (Began lane places closing m) is = absurd is
+arrival_lane (Ended lane reply m) is = absurd is
+arrival_lane (Tried lane places closing t m) is = absurd is
+arrival_lane (Closed lane w m) is = absurd is
+arrival_lane (Replayed n places m) is = absurd is
+arrival_lane (Shut m) is = absurd is
 
--- what was added of the entries of a list
-taken_front : {D T : Type 0} (gave : ℕ → Bool) (s : Setting) (list : List Record) (t : ℕ) (v w : BookState D T) (front rest : List Entry)
-    → gave t ≡ true → front ++ rest ≡ came_entries v.core list (moment_for v.core.past t) → Added s v w front → IsTaken gave v w
-taken_front gave s list t v w front rest gave_t split added =
-    let m : ℕ = moment_for v.core.past t in
+arrival_open : (e : Entry) → IsArrival e → is_shut_entry e ≡ false
+arrival_open (Came n first count m) is = refl
+arrival_open (Gave by n places f line state m) is = refl
+arrival_open (Began lane places closing m) is = absurd is
+arrival_open (Ended lane reply m) is = absurd is
+arrival_open (Tried lane places closing t m) is = absurd is
+arrival_open (Closed lane w m) is = absurd is
+arrival_open (Replayed n places m) is = absurd is
+arrival_open (Shut m) is = absurd is
+
+readers_at : (m : ℕ) (s : Setting) (es : List Entry) → AreAt m es → AreReaders (told_entries s es)
+readers_at m s [] all = tt
+readers_at m s (e ∷ es) all = (arrival_lane e all.0.1, readers_at m s es all.1)
+
+open_at : (m : ℕ) (es h : List Entry) → AreAt m es → is_shut h ≡ false → is_shut (reverse es ++ h) ≡ false
+open_at m [] h all going = going
+open_at m (e ∷ es) h all going =
+    let here : is_shut (e ∷ h) ≡ false = ap (λ b. b || is_shut h) (arrival_open e all.0.1) ∙ going in
+    ap is_shut (sym (one_more e es h)) ∙ open_at m es (e ∷ h) all.1 here
+
+-- at the moment that was handed in
+moments_at : (moment m : ℕ) (s : Setting) (h : List Told) (es : List Entry) → m ≡ capped_moment (max moment (last_moment (entries_told h))) → AreAt m es → AllAt moment h (told_entries s es)
+moments_at moment m s h [] is all = tt
+moments_at moment m s h (e ∷ es) is all =
+    let t : Told = (stream_entry s e).told in
+    let last : last_moment (entries_told (h ++ t ∷ [])) ≡ m = ap last_moment (entries_more h t) ∙ sym all.0.0 in (
+      sym all.0.0 ∙ is,
+      moments_at moment m s (h ++ t ∷ []) es (again m (last_moment (entries_told h)) moment is ∙ ap (λ l. capped_moment (max moment l)) (sym last)) all.1,
+    )
+
+-- what is added
+
+entries_are : (s : Setting) (h : List Entry) → entries_told (told_entries s (reverse h)) ≡ h
+entries_are s h = ap reverse (told_are s (reverse h)) ∙ reverse-reverse h
+
+pub past_is : {D T : Type 0} (v : BookState D T) → entries_told (told_of v.core) ≡ v.core.past
+past_is v = entries_are (full_setting v.core) v.core.past
+
+moment_now : {D T : Type 0} (v : BookState D T) (moment : ℕ) → moment_for v.core.past moment ≡ capped_moment (max moment (last_moment (entries_told (told_of v.core))))
+moment_now v moment = ap (λ h. capped_moment (max moment (last_moment h))) (sym (past_is v))
+
+brought_front : {D T : Type 0} (s : Setting) (list : List Record) (moment : ℕ) (v w : BookState D T) (front rest : List Entry)
+    → front ++ rest ≡ came_entries v.core list (moment_for v.core.past moment) → Added s v w front → (is_down v ≡ true → is_down w ≡ true) → IsBrought moment v w
+brought_front s list moment v w front rest split added down =
+    let m : ℕ = moment_for v.core.past moment in
     let all : AreAt m front = at_front m front rest (subst (AreAt m) (sym split) (at_parts m (parts_of v.core.setting v.core.past list))) in
     record {
+      more = told_entries s front;
+      told = added.told;
+      own = readers_at m s front all;
+      moments = moments_at moment m s (told_of v.core) front (moment_now v moment) all;
       setting = added.opened;
       found = added.found;
       found_dest = added.found_dest;
-      moments = λ given. subst (AreGiven gave) (sym added.past) (given_all gave m front v.core.past all given (moment_given gave v.core.past t gave_t));
-      only = λ only. subst AreArrivals (sym added.past) (only_all m front v.core.past all only);
+      down = down;
     }
 
-pub taken_all : {D T : Type 0} (d : DiskMeaning D) (n : DestMeaning T) (gave : ℕ → Bool) (list : List Record) (t : ℕ) (v w : BookState D T)
-    → gave t ≡ true → AddedAll d n (setting_with v.core.setting (coming_lists v.core list)) v w (came_entries v.core list (moment_for v.core.past t)) → IsTaken gave v w
-taken_all d n gave list t v w gave_t all = taken_front gave (setting_with v.core.setting (coming_lists v.core list)) list t v w (came_entries v.core list (moment_for v.core.past t)) [] gave_t (append-nil _) all.added
+pub brought_all : {D T : Type 0} (d : DiskMeaning D) (n : DestMeaning T) (list : List Record) (moment : ℕ) (v w : BookState D T)
+    → AddedAll d n (setting_with v.core.setting (coming_lists v.core list)) v w (came_entries v.core list (moment_for v.core.past moment)) → (is_down v ≡ true → is_down w ≡ true) → IsBrought moment v w
+brought_all d n list moment v w all down = brought_front (setting_with v.core.setting (coming_lists v.core list)) list moment v w (came_entries v.core list (moment_for v.core.past moment)) [] (append-nil _) all.added down
 
-pub taken_some : {D T : Type 0} (d : DiskMeaning D) (n : DestMeaning T) (gave : ℕ → Bool) (list : List Record) (t : ℕ) (trouble : Trouble) (v w : BookState D T)
-    → gave t ≡ true → AddedSome d n (setting_with v.core.setting (coming_lists v.core list)) v w (came_entries v.core list (moment_for v.core.past t)) trouble → IsTaken gave v w
-taken_some d n gave list t trouble v w gave_t some = taken_front gave (setting_with v.core.setting (coming_lists v.core list)) list t v w some.front some.rest gave_t some.split some.added
+pub brought_some : {D T : Type 0} (d : DiskMeaning D) (n : DestMeaning T) (list : List Record) (moment : ℕ) (trouble : Trouble) (v w : BookState D T)
+    → AddedSome d n (setting_with v.core.setting (coming_lists v.core list)) v w (came_entries v.core list (moment_for v.core.past moment)) trouble → IsBrought moment v w
+brought_some d n list moment trouble v w some = brought_front (setting_with v.core.setting (coming_lists v.core list)) list moment v w some.front some.rest some.split some.added (λ is. ap is_some some.trouble_is)
 
-pub taken_still : {D T : Type 0} (gave : ℕ → Bool) (v w : BookState D T) → w.core ≡ v.core → w.found ≡ v.found → w.found_dest ≡ v.found_dest → IsTaken gave v w
-taken_still gave v w core found found_dest = record {
+pub brought_still : {D T : Type 0} (moment : ℕ) (v w : BookState D T) → w.core ≡ v.core → w.found ≡ v.found → w.found_dest ≡ v.found_dest → (is_down v ≡ true → is_down w ≡ true) → IsBrought moment v w
+brought_still moment v w core found found_dest down = record {
+  more = [];
+  told = ap told_of core ∙ sym (append-nil (told_of v.core));
+  own = tt;
+  moments = tt;
   setting = ap (λ (x : OwingView). x.setting) core ∙ ap (λ (x : OwingView). over v.core.setting x.setting.streams) (sym core);
   found = found;
   found_dest = found_dest;
-  moments = λ given. subst (AreGiven gave) (sym (ap (λ (x : OwingView). x.past) core)) given;
-  only = λ only. subst AreArrivals (sym (ap (λ (x : OwingView). x.past) core)) only;
+  down = down;
 }
 
-pub taken_then : {D T : Type 0} (gave : ℕ → Bool) (a b c : BookState D T) → IsTaken gave a b → IsTaken gave b c → IsTaken gave a c
-taken_then gave a b c x y = record {
-  setting = y.setting ∙ ap (λ (s : Setting). over s c.core.setting.streams) x.setting;
-  found = y.found ∙ x.found;
-  found_dest = y.found_dest ∙ x.found_dest;
-  moments = λ given. y.moments (x.moments given);
-  only = λ only. y.only (x.only only);
-}
+pub brought_changed : {D T : Type 0} (moment : ℕ) (v w : BookState D T) (change : Change) → w ≡ record v { trouble = Some (Changed change) } → IsBrought moment v w
+brought_changed {D} {T} moment v w change is = brought_still moment v w (ap (λ (b : BookState D T). b.core) is) (ap (λ (b : BookState D T). b.found) is) (ap (λ (b : BookState D T). b.found_dest) is)
+    (λ down. ap (λ (b : BookState D T). is_down b) is)
+
+pub brought_same : {D T : Type 0} (n : DestMeaning T) (moment : ℕ) (v w : BookState D T) → IsSame n v w → IsBrought moment v w
+brought_same {D} {T} n moment v w same = brought_still moment v w (ap (λ (b : BookState D T). b.core) same.rest) (ap (λ (b : BookState D T). b.found) same.rest) (ap (λ (b : BookState D T). b.found_dest) same.rest)
+    (λ down. ap (λ (b : BookState D T). is_down b) same.rest ∙ down)
+
+pub brought_nothing : {D T : Type 0} (moment : ℕ) (v w : BookState D T) → w ≡ v → IsBrought moment v w
+brought_nothing {D} {T} moment v w is = brought_still moment v w (ap (λ (b : BookState D T). b.core) is) (ap (λ (b : BookState D T). b.found) is) (ap (λ (b : BookState D T). b.found_dest) is)
+    (λ down. ap (λ (b : BookState D T). is_down b) is ∙ down)
+
+-- the input has not ended by it
+
+pub open_all : {D T : Type 0} (d : DiskMeaning D) (n : DestMeaning T) (list : List Record) (moment : ℕ) (v w : BookState D T)
+    → AddedAll d n (setting_with v.core.setting (coming_lists v.core list)) v w (came_entries v.core list (moment_for v.core.past moment)) → is_shut v.core.past ≡ false → is_shut w.core.past ≡ false
+open_all d n list moment v w all going =
+    let m : ℕ = moment_for v.core.past moment in
+    ap is_shut all.added.past ∙ open_at m (came_entries v.core list m) v.core.past (at_parts m (parts_of v.core.setting v.core.past list)) going
+
+pub open_some : {D T : Type 0} (d : DiskMeaning D) (n : DestMeaning T) (list : List Record) (moment : ℕ) (trouble : Trouble) (v w : BookState D T)
+    → AddedSome d n (setting_with v.core.setting (coming_lists v.core list)) v w (came_entries v.core list (moment_for v.core.past moment)) trouble → is_shut v.core.past ≡ false → is_shut w.core.past ≡ false
+open_some d n list moment trouble v w some going =
+    let m : ℕ = moment_for v.core.past moment in
+    ap is_shut some.added.past ∙ open_at m some.front v.core.past (at_front m some.front some.rest (subst (AreAt m) (sym some.split) (at_parts m (parts_of v.core.setting v.core.past list)))) going
+
+pub open_still : {D T : Type 0} (v w : BookState D T) → w.core ≡ v.core → is_shut v.core.past ≡ false → is_shut w.core.past ≡ false
+open_still v w core going = ap (λ (x : OwingView). is_shut x.past) core ∙ going
 
 -- the records of each shard
 
@@ -160,14 +230,7 @@ in_coming v list n =
     ap (λ (ts : List Stream). records_in ts n) (grown_by_lists (parts_of v.setting v.past list) v.setting.streams ∙ grown_parts v.setting v.past list v.setting.streams)
     ∙ in_records v.setting.streams list n
 
-pub added_all : {D T : Type 0} (d : DiskMeaning D) (e : DestMeaning T) (list : List Record) (t : ℕ) (v w : BookState D T)
-    → AddedAll d e (setting_with v.core.setting (coming_lists v.core list)) v w (came_entries v.core list (moment_for v.core.past t)) → AreAdded v w list
-added_all d e list t v w all n = ap (λ (s : Setting). records_of s n) all.setting ∙ in_coming v.core list n
-
 -- a book's history counts its records
-
-entries_are : (s : Setting) (h : List Entry) → entries_told (told_entries s (reverse h)) ≡ h
-entries_are s h = ap reverse (told_are s (reverse h)) ∙ reverse-reverse h
 
 pub counted : {D T : Type 0} (v : BookState D T) → IsSound v → (n : ℕ) → came_count v.core.past n ≡ length (records_in v.core.setting.streams n)
 counted v sound n =
@@ -230,27 +293,33 @@ list_told v list n m count =
     at_shard true is = refl
     at_shard false is = sym (of_none list n is)
 
+pub told_more : {D T : Type 0} (s : Setting) (v w : BookState D T) (es : List Entry) (n : ℕ) → Added s v w es → come_by (told_of w.core) n ≡ come_by (told_of v.core) n ++ records_told n (told_entries s es)
+told_more s v w es n added = ap (records_told n) added.told ∙ records-append n (told_of v.core) (told_entries s es)
+
+pub added_all : {D T : Type 0} (d : DiskMeaning D) (e : DestMeaning T) (list : List Record) (t : ℕ) (v w : BookState D T) → IsSound v
+    → AddedAll d e (setting_with v.core.setting (coming_lists v.core list)) v w (came_entries v.core list (moment_for v.core.past t)) → AreAdded (come_by (told_of v.core)) (come_by (told_of w.core)) list
+added_all d e list t v w sound all n =
+    told_more (setting_with v.core.setting (coming_lists v.core list)) v w (came_entries v.core list (moment_for v.core.past t)) n all.added
+    ∙ ap (λ l. come_by (told_of v.core) n ++ l) (list_told v.core list n (moment_for v.core.past t) (counted v sound))
+
 -- a disk failed before all of it was added
-pub added_some : {D T : Type 0} (d : DiskMeaning D) (e : DestMeaning T) (list : List Record) (t : ℕ) (trouble : Trouble) (v w : BookState D T)
-    → IsSound v → IsSound w → AddedSome d e (setting_with v.core.setting (coming_lists v.core list)) v w (came_entries v.core list (moment_for v.core.past t)) trouble → SomeAdded v w list
-added_some d e list t trouble v w before after some n =
+pub added_some : {D T : Type 0} (d : DiskMeaning D) (e : DestMeaning T) (list : List Record) (t : ℕ) (trouble : Trouble) (v w : BookState D T) → IsSound v
+    → AddedSome d e (setting_with v.core.setting (coming_lists v.core list)) v w (came_entries v.core list (moment_for v.core.past t)) trouble → SomeAdded (come_by (told_of v.core)) (come_by (told_of w.core)) list
+added_some d e list t trouble v w sound some n =
     let s : Setting = setting_with v.core.setting (coming_lists v.core list) in
     let m : ℕ = moment_for v.core.past t in
+    let old = come_by (told_of v.core) n in
     let front = records_told n (told_entries s some.front) in
     let rest = records_told n (told_entries s some.rest) in
-    let old : records_in v.core.setting.streams n ≡ records_told n (told_of v.core) = ap (λ (ts : List Stream). records_in ts n) before.records ∙ records_in_told (told_of v.core) n in
-    let new : records_in w.core.setting.streams n ≡ records_in v.core.setting.streams n ++ front =
-    ap (λ (ts : List Stream). records_in ts n) after.records ∙ records_in_told (told_of w.core) n ∙ ap (records_told n) some.added.told
-    ∙ records-append n (told_of v.core) (told_entries s some.front) ∙ ap (λ l. l ++ front) (sym old) in
     let parts : of_shard n list ≡ front ++ rest =
-    sym (list_told v.core list n m (counted v before)) ∙ ap (λ es. records_told n (told_entries s es)) (sym some.split)
+    sym (list_told v.core list n m (counted v sound)) ∙ ap (λ es. records_told n (told_entries s es)) (sym some.split)
     ∙ ap (records_told n) (told_both s some.front some.rest) ∙ records-append n (told_entries s some.front) (told_entries s some.rest) in
-    (rest, ap (λ l. records_in v.core.setting.streams n ++ l) parts ∙ sym (append_assoc (records_in v.core.setting.streams n) front rest) ∙ ap (λ l. l ++ rest) (sym new))
+    (rest, ap (λ l. old ++ l) parts ∙ sym (append_assoc old front rest) ∙ ap (λ l. l ++ rest) (sym (told_more s v w some.front n some.added)))
 
-pub added_none : {D T : Type 0} (v w : BookState D T) (list : List Record) → w.core ≡ v.core → SomeAdded v w list
-added_none v w list core n = (of_shard n list, ap (λ (x : OwingView). records_in x.setting.streams n ++ of_shard n list) (sym core))
+pub added_none : {D T : Type 0} (v w : BookState D T) (list : List Record) → w.core ≡ v.core → SomeAdded (come_by (told_of v.core)) (come_by (told_of w.core)) list
+added_none v w list core n = (of_shard n list, ap (λ (x : OwingView). come_by (told_of x) n ++ of_shard n list) (sym core))
 
-pub added_so : {D T : Type 0} (v w : BookState D T) (list : List Record) → AreAdded v w list → SomeAdded v w list
+pub added_so : (v w : ℕ → List Record) (list : List Record) → AreAdded v w list → SomeAdded v w list
 added_so v w list added n = ([], sym (added n) ∙ sym (append-nil _))
 
 -- a record that differs from what was kept of it
@@ -285,29 +354,73 @@ get_seam : (xs ys : List Record) (r : Record) → slice_get (xs ++ r ∷ ys) (le
 get_seam [] ys r = refl
 get_seam (x ∷ xs) ys r = get_seam xs ys r
 
-pub change_is_next : {D T : Type 0} (v : BookState D T) (list : List Record) (change : Change) → IsSound v → Differs v.core list change → IsOfNext v list change
+come_is : {D T : Type 0} (v : BookState D T) (n : ℕ) → IsSound v → records_in v.core.setting.streams n ≡ come_by (told_of v.core) n
+come_is v n sound = ap (λ (ts : List Stream). records_in ts n) sound.records ∙ records_in_told (told_of v.core) n
+
+pub change_is_next : {D T : Type 0} (v : BookState D T) (list : List Record) (change : Change) → IsSound v → Differs v.core list change → IsOfNext (come_by (told_of v.core)) list change
 change_is_next v list change sound differs =
     let at = differs_at v.core.setting v.core.past [] list change differs in
     let n : ℕ = at.item.shard in
-    let a : List Record = records_in v.core.setting.streams n in
+    let a : List Record = come_by (told_of v.core) n in
     let b : List Record = of_shard n at.front in
     let first : of_shard n (at.item ∷ at.rest) ≡ at.item ∷ of_shard n at.rest = ap (λ c. if c then at.item ∷ of_shard n at.rest else of_shard n at.rest) (eq-eqb n n refl) in
     let list_is : a ++ of_shard n list ≡ (a ++ b) ++ at.item ∷ of_shard n at.rest =
     ap (λ l. a ++ of_shard n l) at.split ∙ ap (λ l. a ++ l) (filter-append (λ (r : Record). r.shard == n) at.front (at.item ∷ at.rest)) ∙ ap (λ l. a ++ (b ++ l)) first ∙ sym (append_assoc a b _) in
-    let place : change.place ≡ length (a ++ b) = at.place ∙ ap (λ i. i + length b) (counted v sound n) ∙ sym (length-append a b) in
+    let count : came_count v.core.past n ≡ length a = counted v sound n ∙ ap (λ (rs : List Record). length rs) (come_is v n sound) in
+    let place : change.place ≡ length (a ++ b) = at.place ∙ ap (λ i. i + length b) count ∙ sym (length-append a b) in
     let there : slice_get (a ++ of_shard n list) change.place ≡ Some at.item =
     ap (λ l. slice_get l change.place) list_is ∙ ap (λ i. slice_get ((a ++ b) ++ at.item ∷ of_shard n at.rest) i) place ∙ get_seam (a ++ b) (of_shard n at.rest) at.item in
     record {
       item = at.item;
-      at = subst (λ k. slice_get (records_in v.core.setting.streams k ++ of_shard k list) change.place ≡ Some at.item) (sym at.shard) there;
+      at = subst (λ k. slice_get (come_by (told_of v.core) k ++ of_shard k list) change.place ≡ Some at.item) (sym at.shard) there;
       given = sym at.given;
     }
 
-pub changed_some : {D T : Type 0} (v w : BookState D T) (list : List Record) (change : Change) → w ≡ record v { trouble = Some (Changed change) } → SomeAdded v w list
-changed_some {D} {T} v w list change is = added_none v w list (ap (λ (b : BookState D T). b.core) is)
+pub stop_changed : {D T : Type 0} (v w : BookState D T) (list : List Record) (change : Change) → IsSound v → Differs v.core list change → w ≡ record v { trouble = Some (Changed change) } → IsStopFor (come_by (told_of v.core)) list (is_down w) (Down (Some change))
+stop_changed {D} {T} v w list change sound differs is = (ap (λ (b : BookState D T). is_down b) is, change_is_next v list change sound differs)
 
-pub changed_trouble : {D T : Type 0} (v w : BookState D T) (list : List Record) (change : Change) → IsSound v → Differs v.core list change → w ≡ record v { trouble = Some (Changed change) } → IsDownWith v list w.trouble
-changed_trouble {D} {T} v w list change sound differs is = subst (IsDownWith v list) (sym (ap (λ (b : BookState D T). b.trouble) is)) (change_is_next v list change sound differs)
+-- the end of the input is noted
 
-pub same_some : {D T : Type 0} (n : DestMeaning T) (v w : BookState D T) (list : List Record) → IsSame n v w → SomeAdded v w list
-same_some {D} {T} n v w list same = added_none v w list (ap (λ (b : BookState D T). b.core) same.rest)
+pub brought_end : {D T : Type 0} (moment : ℕ) (v w : BookState D T) → AddedOne v w (Shut (moment_for v.core.past moment)) → IsBrought moment v w
+brought_end {D} {T} moment v w one = record {
+  more = told_entries v.core.setting (Shut (moment_for v.core.past moment) ∷ []);
+  told = one.told;
+  own = (refl, tt);
+  moments = (moment_now v moment, tt);
+  setting = one.setting ∙ ap (λ (s : Setting). over v.core.setting s.streams) (sym one.setting);
+  found = ap (λ (b : BookState D T). b.found) one.rest;
+  found_dest = ap (λ (b : BookState D T). b.found_dest) one.rest;
+  down = λ is. ap (λ (b : BookState D T). is_down b) one.rest ∙ is;
+}
+
+pub same_end : {D T : Type 0} (moment n : ℕ) (v w : BookState D T) → AddedOne v w (Shut (moment_for v.core.past moment)) → records_told n (told_of w.core) ≡ records_told n (told_of v.core)
+same_end moment n v w one = ap (records_told n) one.told ∙ records-append n (told_of v.core) (told_entries v.core.setting (Shut (moment_for v.core.past moment) ∷ [])) ∙ append-nil (records_told n (told_of v.core))
+
+pub same_nothing : {D T : Type 0} (n : ℕ) (v w : BookState D T) → w ≡ v → records_told n (told_of w.core) ≡ records_told n (told_of v.core)
+same_nothing {D} {T} n v w is = ap (λ (b : BookState D T). records_told n (told_of b.core)) is
+
+-- a call that found the book as it was
+
+pub open_changed : {D T : Type 0} (v w : BookState D T) (change : Change) → w ≡ record v { trouble = Some (Changed change) } → is_shut v.core.past ≡ false → is_shut w.core.past ≡ false
+open_changed {D} {T} v w change is = open_still v w (ap (λ (b : BookState D T). b.core) is)
+
+pub some_changed : {D T : Type 0} (v w : BookState D T) (list : List Record) (change : Change) → w ≡ record v { trouble = Some (Changed change) } → SomeAdded (come_by (told_of v.core)) (come_by (told_of w.core)) list
+some_changed {D} {T} v w list change is = added_none v w list (ap (λ (b : BookState D T). b.core) is)
+
+pub open_same : {D T : Type 0} (n : DestMeaning T) (v w : BookState D T) → IsSame n v w → is_shut v.core.past ≡ false → is_shut w.core.past ≡ false
+open_same {D} {T} n v w same = open_still v w (ap (λ (b : BookState D T). b.core) same.rest)
+
+pub some_same : {D T : Type 0} (n : DestMeaning T) (v w : BookState D T) (list : List Record) → IsSame n v w → SomeAdded (come_by (told_of v.core)) (come_by (told_of w.core)) list
+some_same {D} {T} n v w list same = added_none v w list (ap (λ (b : BookState D T). b.core) same.rest)
+
+pub open_nothing : {D T : Type 0} (v w : BookState D T) → w ≡ v → is_shut v.core.past ≡ false → is_shut w.core.past ≡ false
+open_nothing {D} {T} v w is = open_still v w (ap (λ (b : BookState D T). b.core) is)
+
+pub some_nothing : {D T : Type 0} (v w : BookState D T) (list : List Record) → w ≡ v → SomeAdded (come_by (told_of v.core)) (come_by (told_of w.core)) list
+some_nothing {D} {T} v w list is = added_none v w list (ap (λ (b : BookState D T). b.core) is)
+
+pub down_nothing : {D T : Type 0} (v w : BookState D T) → w ≡ v → is_down v ≡ true → is_down w ≡ true
+down_nothing {D} {T} v w is down = ap (λ (b : BookState D T). is_down b) is ∙ down
+
+pub down_some : {D T : Type 0} (d : DiskMeaning D) (n : DestMeaning T) (s : Setting) (es : List Entry) (trouble : Trouble) (v w : BookState D T) → AddedSome d n s v w es trouble → is_down w ≡ true
+down_some d n s es trouble v w some = ap is_some some.trouble_is

@@ -29,7 +29,8 @@ use Rattle.esm_sbook.specs.Books.{BookState}
 use Rattle.esm_sbook.specs.Calls.{Added, AddedAll, AddedSome, WasWriting, next_entries_now}
 use Rattle.esm_sbook.specs.Keeping.{IsSound}
 use Rattle.esm_pool.specs.Given.{AreGiven, IsGiven}
-use Rattle.esm_pool.specs.Running.{Outside, NoneRuns, KeepsLog, IsOpenedSo, IsStill, IsAsked, HasCalled, HasAsked, HaveAsked, HasFinished, IsSpent, IsQuiet, AreQuiet}
+use Rattle.esm_batchers.specs.Working.{Outside}
+use Rattle.esm_pool.specs.Running.{NoneRuns, KeepsLog, IsOpenedSo, IsStill, IsAsked, HasCalled, HasAsked, HaveAsked, HasFinished, IsSpent, IsQuiet, AreQuiet}
 use Rattle.esm_pool.proofs.Moments.{moment_given}
 use Rattle.esm_pool.proofs.Quiet.{Same, same_front, one_more}
 use Rattle.esm_pool.proofs.Kept.{AreOthers, others_front, setting_kept}

@@ -1,51 +1,54 @@
--- The records of an input that came to a book.
-use Rattle.std.proofs.Common.{◌≡◌, ℕ, List, [], ◌++◌, sym, ap, ◌∙◌, subst, append_assoc, Option, Some, None}
+-- The records of an input that came, of each shard.
+use Rattle.std.proofs.Common.{◌≡◌, ℕ, Bool, List, [], ◌++◌, sym, ap, ◌∙◌, subst, append_assoc, Option, Some, None}
 use Rattle.std.specs.Prelude.{slice_get}
 use Rattle.std.proofs.lemmas.List.{append-nil}
 use Rattle.esm_io.specs.Told.{TakesFront}
 use Rattle.esm_model.specs.declared.item.Record.{Record}
 use Rattle.esm_model.specs.declared.config.Start.{Start}
-use Rattle.esm_model.specs.declared.book.Trouble.{Trouble}
-use Rattle.esm_model.specs.declared.book.Trouble.TheVariants.{Disk, Dest, Changed}
-use Rattle.esm_model.specs.Setting.{Stream, records_in}
+use Rattle.esm_model.specs.declared.setup.Told.{Told}
+use Rattle.esm_model.specs.Books.{records_told}
 use Rattle.esm_record.specs.declared.item.Item.{Item}
 use Rattle.esm_record.specs.declared.item.LineKind.{LineKind}
 use Rattle.esm_arrival.specs.Coming.{of_shard}
 use Rattle.esm_input.specs.Positions.{from_start}
 use Rattle.esm_input.specs.Reading.{InputState, IsInput, items_read, handed}
-use Rattle.esm_sbook.specs.Books.{BookState}
-use Rattle.esm_pool.specs.Coming.{records_in_items, HaveCome, SomeCame}
-use Rattle.esm_pool.specs.Ran.{IsDownFor, IsCutInput}
-use Rattle.esm_pool.specs.Taking.{AreAdded, SomeAdded, IsDownWith}
+use Rattle.esm_pool.specs.declared.coming.Stop.{Stop}
+use Rattle.esm_pool.specs.declared.coming.Stop.TheVariants.{Down, OutOfMemory}
+use Rattle.esm_pool.specs.Coming.{records_in_items}
+use Rattle.esm_pool.specs.Taking.{come_by, AreAdded, SomeAdded, IsStopFor}
+use Rattle.esm_pool.specs.Readings.{AreTold, SomeTold, IsReadShort, IsStopOf}
 use Rattle.esm_pool.proofs.Handing.{items_both, shard_both}
 
-pub come_none : {D T : Type 0} (v : BookState D T) (items : List Item) → v.core.setting.streams ≡ [] → items ≡ [] → HaveCome v (records_in_items items)
-come_none v items none empty n = ap (λ (ts : List Stream). records_in ts n) none ∙ ap (λ xs. of_shard n (records_in_items xs)) (sym empty)
+pub come_none : (seen : List Told) (items : List Item) → ((n : ℕ) → records_told n seen ≡ []) → items ≡ [] → AreTold seen (records_in_items items)
+come_none seen items none empty n = none n ∙ ap (λ xs. of_shard n (records_in_items xs)) (sym empty)
 
-with_more : {D T : Type 0} (v : BookState D T) (before items all : List Item) (n : ℕ) → all ≡ before ++ items → HaveCome v (records_in_items before)
-    → of_shard n (records_in_items all) ≡ records_in v.core.setting.streams n ++ of_shard n (records_in_items items)
-with_more v before items all n is come =
+with_more : (seen : List Told) (before items all : List Item) (n : ℕ) → all ≡ before ++ items → AreTold seen (records_in_items before)
+    → of_shard n (records_in_items all) ≡ records_told n seen ++ of_shard n (records_in_items items)
+with_more seen before items all n is come =
     ap (λ xs. of_shard n (records_in_items xs)) is ∙ ap (of_shard n) (items_both before items) ∙ shard_both n (records_in_items before) (records_in_items items)
     ∙ ap (λ l. l ++ of_shard n (records_in_items items)) (sym (come n))
 
-pub come_more : {D T : Type 0} (v w : BookState D T) (before items all : List Item) → all ≡ before ++ items → HaveCome v (records_in_items before) → AreAdded v w (records_in_items items) → HaveCome w (records_in_items all)
-come_more v w before items all is come added n = added n ∙ sym (with_more v before items all n is come)
+pub come_more : (seen new : List Told) (before items all : List Item) → all ≡ before ++ items → AreTold seen (records_in_items before) → AreAdded (come_by seen) (come_by new) (records_in_items items) → AreTold new (records_in_items all)
+come_more seen new before items all is come added n = added n ∙ sym (with_more seen before items all n is come)
 
-pub come_some : {D T : Type 0} (v w : BookState D T) (before items all : List Item) → all ≡ before ++ items → HaveCome v (records_in_items before) → SomeAdded v w (records_in_items items) → SomeCame w (records_in_items all)
-come_some v w before items all is come some n = ((some n).0, with_more v before items all n is come ∙ (some n).1)
+pub come_some : (seen new : List Told) (before items all : List Item) → all ≡ before ++ items → AreTold seen (records_in_items before) → SomeAdded (come_by seen) (come_by new) (records_in_items items) → SomeTold new (records_in_items all)
+come_some seen new before items all is come some n = ((some n).0, with_more seen before items all n is come ∙ (some n).1)
 
-pub come_down : {D T : Type 0} (v : BookState D T) (before items all : List Item) (t : Option Trouble) → all ≡ before ++ items → HaveCome v (records_in_items before) → IsDownWith v (records_in_items items) t → IsDownFor (records_in_items all) t
-come_down v before items all None is come down = tt
-come_down v before items all (Some Disk) is come down = tt
-come_down v before items all (Some Dest) is come down = tt
-come_down v before items all (Some (Changed change)) is come down = record {
-  item = down.item;
-  at = subst (λ (l : List Record). slice_get l change.place ≡ Some down.item) (sym (with_more v before items all change.shard is come)) down.at;
-  given = down.given;
-}
+pub some_of_all : (seen : List Told) (records : List Record) → AreTold seen records → SomeTold seen records
+some_of_all seen records come n = ([], sym (come n) ∙ sym (append-nil (records_told n seen)))
 
-pub some_of_all : {D T : Type 0} (v : BookState D T) (records : List Record) → HaveCome v records → SomeCame v records
-some_of_all v records come n = ([], sym (come n) ∙ sym (append-nil (records_in v.core.setting.streams n)))
+pub come_stop : {S : Type 0} (left : S → Option (List ℕ)) (i : InputState S) (seen new : List Told) (before items : List Item) (marked : Bool) (t : Stop) → handed i ≡ before ++ items → AreTold seen (records_in_items before)
+    → IsReadShort left i new → IsStopFor (come_by seen) (records_in_items items) marked t → IsStopOf left i new marked t
+come_stop left i seen new before items marked (Down None) is come short stop = stop
+come_stop left i seen new before items marked (Down (Some change)) is come short stop = (
+  stop.0,
+  record {
+    item = stop.1.item;
+    at = subst (λ (l : List Record). slice_get l change.place ≡ Some stop.1.item) (sym (with_more seen before items (handed i) change.shard is come)) stop.1.at;
+    given = stop.1.given;
+  },
+)
+come_stop left i seen new before items marked OutOfMemory is come short stop = short
 
 takes_then : (a b c : Option (List ℕ)) (x y : List ℕ) → TakesFront a b x → TakesFront b c y → TakesFront a c (x ++ y)
 takes_then None None c x y first second = second
@@ -56,8 +59,8 @@ takes_then (Some a) (Some b) c x y first second =
     (second.0, first.1 ∙ ap (λ l. x ++ l) (rest_is ∙ second.1) ∙ sym (append_assoc x y second.0), second.2)
 
 -- memory was wanting while records came
-pub cut_coming : {S D T : Type 0} (faults : S → ℕ) (left : S → Option (List ℕ)) (i : InputState S) (v : BookState D T) → IsInput faults left i → SomeCame v (records_in_items (handed i)) → IsCutInput left i v
-cut_coming faults left i v input some = record {
+pub cut_coming : {S : Type 0} (faults : S → ℕ) (left : S → Option (List ℕ)) (i : InputState S) (seen : List Told) → IsInput faults left i → SomeTold seen (records_in_items (handed i)) → IsReadShort left i seen
+cut_coming faults left i seen input some = record {
   bytes = i.bytes;
   more = [];
   whole = i.whole;
@@ -66,9 +69,9 @@ cut_coming faults left i v input some = record {
 }
 
 -- or while more was read
-pub cut_reading : {S D T : Type 0} (faults : S → ℕ) (left : S → Option (List ℕ)) (i j : InputState S) (v : BookState D T) → IsInput faults left i
-    → (j.kind ≡ i.kind) × (j.factor ≡ i.factor) × (j.start ≡ i.start) → j.found ≡ i.found → (more : List ℕ) × TakesFront (left i.source) (left j.source) more → HaveCome v (records_in_items (handed i)) → IsCutInput left j v
-cut_reading {S} faults left i j v input kept found taken come = record {
+pub cut_reading : {S : Type 0} (faults : S → ℕ) (left : S → Option (List ℕ)) (i j : InputState S) (seen : List Told) → IsInput faults left i
+    → (j.kind ≡ i.kind) × (j.factor ≡ i.factor) × (j.start ≡ i.start) → j.found ≡ i.found → (more : List ℕ) × TakesFront (left i.source) (left j.source) more → AreTold seen (records_in_items (handed i)) → IsReadShort left j seen
+cut_reading {S} faults left i j seen input kept found taken come = record {
   bytes = i.bytes;
   more = taken.0;
   whole = i.whole;
@@ -78,5 +81,15 @@ cut_reading {S} faults left i j v input kept found taken come = record {
       ap (λ (k : Start). from_start k (items_read i.kind i.factor i.whole i.bytes).items) (sym kept.2)
       ∙ ap (λ f. from_start j.start (items_read i.kind f i.whole i.bytes).items) (sym kept.1)
       ∙ ap (λ (k : LineKind). from_start j.start (items_read k j.factor i.whole i.bytes).items) (sym kept.0) in
-      subst (λ xs. SomeCame v (records_in_items xs)) same (some_of_all v (records_in_items (handed i)) come);
+      subst (λ xs. SomeTold seen (records_in_items xs)) same (some_of_all seen (records_in_items (handed i)) come);
+}
+
+-- over a history that tells the same records
+pub short_as : {S : Type 0} (left : S → Option (List ℕ)) (i : InputState S) (seen new : List Told) → ((n : ℕ) → records_told n new ≡ records_told n seen) → IsReadShort left i seen → IsReadShort left i new
+short_as left i seen new same short = record {
+  bytes = short.bytes;
+  more = short.more;
+  whole = short.whole;
+  taken = short.taken;
+  came = λ n. ((short.came n).0, (short.came n).1 ∙ ap (λ l. l ++ (short.came n).0) (sym (same n)));
 }

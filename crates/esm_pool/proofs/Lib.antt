@@ -9,4 +9,11 @@ pub mod Handing
 pub mod Incoming
 pub mod Outstanding
 pub mod Ends
+pub mod Seats
+pub mod Owners
+pub mod Setups
+pub mod Bridges
+pub mod Turning
+pub mod Closed
+pub mod Sent
 pub mod Runs

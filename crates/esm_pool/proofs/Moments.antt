@@ -11,7 +11,8 @@ use Rattle.esm_pool.specs.Given.{IsGiven, AreGiven}
 pub moment_given : (gave : ℕ → Bool) (h : List Entry) (t : ℕ) → gave t ≡ true → IsGiven gave h (moment_for h t)
 moment_given gave h t gave_t = (t, gave_t, refl)
 
-again : (m last t : ℕ) → m ≡ capped_moment (max t last) → m ≡ capped_moment (max t m)
+-- the moment stays where it comes once more
+pub again : (m last t : ℕ) → m ≡ capped_moment (max t last) → m ≡ capped_moment (max t m)
 again m last t is = grind (arith, is)
 
 -- that of the entry before

@@ -20,7 +20,8 @@ use Rattle.esm_core.specs.Calls.{moment_for, IsNextOver}
 use Rattle.esm_sbook.specs.Books.{BookState}
 use Rattle.esm_sbook.specs.Calls.{AddedAll, next_entries_now}
 use Rattle.esm_pool.specs.Given.{AreGiven}
-use Rattle.esm_pool.specs.Running.{Outside, IsStill, HaveAsked}
+use Rattle.esm_batchers.specs.Working.{Outside}
+use Rattle.esm_pool.specs.Running.{IsStill, HaveAsked}
 use Rattle.esm_pool.specs.Stopping.{MayHaveCalled, HasLogged, IsStoppedAt, AreStopped}
 use Rattle.esm_pool.proofs.Moments.{moment_given}
 use Rattle.esm_pool.proofs.Calling.{IsCallOf, job_is}

@@ -19,7 +19,8 @@ use Rattle.esm_pool.specs.declared.running.RunEnd.{RunEnd}
 use Rattle.esm_pool.specs.declared.running.RunEnd.TheVariants.{Finished, Spent, Down}
 use Rattle.esm_pool.specs.Given.{AreGiven}
 use Rattle.esm_pool.specs.Coming.{records_in_items, SomeCame, AllCame}
-use Rattle.esm_pool.specs.Running.{NoneRuns, Outside}
+use Rattle.esm_batchers.specs.Working.{Outside}
+use Rattle.esm_pool.specs.Running.{NoneRuns}
 use Rattle.esm_pool.specs.Stopping.{HasLogged}
 
 -- a book's history was empty, and this run left it so; its callers go from the ones to the others
@@ -36,9 +37,8 @@ pub record HasRun {D T F : Type 0} (o : Outside F) (before after : BookState D T
   pub as_many : length new ≡ length old
   pub calls_made : (k : ℕ) (d : F) → k < length old → Grows (o.log (slice_index_or old k d)) (o.log (slice_index_or new k d)) (calls after.core.setting o.sends after.core.past k)
 
--- and so far want of memory let it come; no device failed
+-- and so far want of memory let it come; a device may have failed beside it
 pub record HasStopped {D T F : Type 0} (o : Outside F) (before after : BookState D T) (old new : List F) : Type 0 where
-  pub up : after.trouble ≡ None
   pub opened : after.core.setting ≡ over before.core.setting after.core.setting.streams
   pub found : after.found ≡ before.found
   pub found_dest : after.found_dest ≡ before.found_dest

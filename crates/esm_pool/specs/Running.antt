@@ -1,5 +1,5 @@
--- What asking batchers does to a book and to the logs of their callers. Only this crate's proofs cite this, but for `Outside`
--- and `NoneRuns`.
+-- What asking batchers does to a book and to the logs of their callers. Only this crate's proofs cite this, but for
+-- `NoneRuns`.
 use Rattle.std.specs.Prelude.{◌≡◌, ◌≢◌, ◌<◌, ◌∷◌, ℕ, ◌++◌, Bool, true, false, List, [], length, reverse, slice_index_or, Option, Some, None}
 use Rattle.esm_io.specs.Told.{Grows}
 use Rattle.esm_model.specs.declared.called.Called.{Called}
@@ -13,19 +13,11 @@ use Rattle.esm_model.specs.declared.entry.Reply.{Reply}
 use Rattle.esm_model.specs.Entries.{is_running, is_shut, came_count, shards_that_came}
 use Rattle.esm_model.specs.Calls.{calls}
 use Rattle.esm_model.specs.Owed.{owed}
+use Rattle.esm_batchers.specs.Working.{Outside}
 use Rattle.esm_next.specs.Following.{next_for}
 use Rattle.esm_core.specs.Calls.{moment_for}
 use Rattle.esm_sbook.specs.Books.{BookState}
 use Rattle.esm_pool.specs.Given.{AreGiven}
-
--- what is seen from outside: which moments the clock gave, what callers send of an event, and the log of each
-pub record Outside (F : Type 0) : Type 0 where
-  pub gave : ℕ → Bool
-  pub sends : List ℕ → List ℕ
-  pub log : F → Option (List Called)
-
-abbrev pub outside : {F : Type 0} → (ℕ → Bool) → (List ℕ → List ℕ) → (F → Option (List Called)) → Outside F
-outside gave sends log = record { gave = gave; sends = sends; log = log }
 
 -- no lane has a call that has not ended
 abbrev pub NoneRuns : List Entry → Type 0

@@ -9,7 +9,8 @@ use Rattle.esm_model.specs.Setting.{Setting}
 use Rattle.esm_model.specs.Entries.{is_running, batcher}
 use Rattle.esm_model.specs.Calls.{calls, last_event}
 use Rattle.esm_sbook.specs.Books.{BookState}
-use Rattle.esm_pool.specs.Running.{Outside, IsAsked}
+use Rattle.esm_batchers.specs.Working.{Outside}
+use Rattle.esm_pool.specs.Running.{IsAsked}
 
 -- the log grew by a call with this event, or not at all
 abbrev pub MayHaveCalled : (List ℕ → List ℕ) → (name event : List ℕ) (old new : Option (List Called)) → Type 0

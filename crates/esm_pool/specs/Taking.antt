@@ -1,62 +1,54 @@
--- What lists of records that come do to a book. Only this crate's proofs cite this.
-use Rattle.std.specs.Prelude.{◌≡◌, ◌++◌, ℕ, Bool, List, [], ◌∷◌, slice_get, Option, Some, ⊤}
+-- What lists of records that the reader hands on do to a book and to what has come of each shard. Only this crate's proofs
+-- cite this.
+use Rattle.std.specs.Prelude.{◌≡◌, ◌++◌, ℕ, Bool, true, List, [], ◌∷◌, slice_get, Some, None}
 use Rattle.esm_model.specs.declared.item.Record.{Record}
 use Rattle.esm_model.specs.declared.book.Change.{Change}
-use Rattle.esm_model.specs.declared.book.Trouble.{Trouble}
-use Rattle.esm_model.specs.declared.book.Trouble.TheVariants.{Changed}
-use Rattle.esm_model.specs.declared.entry.Entry.{Entry}
-use Rattle.esm_model.specs.declared.entry.Entry.TheVariants.{Came, Gave}
-use Rattle.esm_model.specs.Setting.{Setting, over, records_in}
-use Rattle.esm_model.specs.Calls.{calls}
+use Rattle.esm_model.specs.declared.setup.Told.{Told}
+use Rattle.esm_model.specs.Setting.{over}
+use Rattle.esm_model.specs.Books.{records_told, lane_of_entry}
 use Rattle.esm_arrival.specs.Coming.{of_shard}
-use Rattle.esm_sbook.specs.Books.{BookState}
-use Rattle.esm_pool.specs.Given.{AreGiven}
-use Rattle.esm_pool.specs.Coming.{AllCame}
-use Rattle.esm_pool.specs.Running.{NoneRuns}
+use Rattle.esm_core.specs.Told.{told_of}
+use Rattle.esm_pooled.specs.GoingOn.{AllAt}
+use Rattle.esm_sbook.specs.Books.{BookState, is_down}
+use Rattle.esm_pool.specs.declared.coming.Stop.{Stop}
+use Rattle.esm_pool.specs.declared.coming.Stop.TheVariants.{Down, OutOfMemory}
 
--- records came, or got a fate
-abbrev pub IsArrival : Entry → Type 0
-IsArrival (Came shard first count moment) = ⊤
-IsArrival (Gave by shard places fate line state moment) = ⊤
-IsArrival _ = ⊥
+-- none of them is a batcher's
+abbrev pub AreReaders : List Told → Type 0
+AreReaders [] = Unit {0}
+AreReaders (t ∷ ts) = (lane_of_entry t.entry ≡ None) × AreReaders ts
 
-abbrev pub AreArrivals : List Entry → Type 0
-AreArrivals [] = ⊤
-AreArrivals (e ∷ h) = IsArrival e × AreArrivals h
-
--- nothing but arrivals was added, at moments of the clock
-pub record IsTaken {D T : Type 0} (gave : ℕ → Bool) (before after : BookState D T) : Type 0 where
+-- the reader added entries at the moment; what the book was opened with stays, and so does its trouble
+pub record IsBrought {D T : Type 0} (moment : ℕ) (before after : BookState D T) : Type 0 where
+  pub more : List Told
+  pub told : told_of after.core ≡ told_of before.core ++ more
+  pub own : AreReaders more
+  pub moments : AllAt moment (told_of before.core) more
   pub setting : after.core.setting ≡ over before.core.setting after.core.setting.streams
   pub found : after.found ≡ before.found
   pub found_dest : after.found_dest ≡ before.found_dest
-  pub moments : AreGiven gave before.core.past → AreGiven gave after.core.past
-  pub only : AreArrivals before.core.past → AreArrivals after.core.past
+  pub down : is_down before ≡ true → is_down after ≡ true
+
+-- the records of each shard that came, as a history tells them
+abbrev pub come_by : List Told → ℕ → List Record
+come_by history n = records_told n history
 
 -- of each shard those of the list came behind those that had come
-abbrev pub AreAdded : {D T : Type 0} → BookState D T → BookState D T → List Record → Type 0
-AreAdded before after records = (n : ℕ) → records_in after.core.setting.streams n ≡ records_in before.core.setting.streams n ++ of_shard n records
+abbrev pub AreAdded : (before after : ℕ → List Record) → List Record → Type 0
+AreAdded before after records = (n : ℕ) → after n ≡ before n ++ of_shard n records
 
 -- or the first of them
-abbrev pub SomeAdded : {D T : Type 0} → BookState D T → BookState D T → List Record → Type 0
-SomeAdded before after records = (n : ℕ) → (rest : List Record) × (records_in before.core.setting.streams n ++ of_shard n records ≡ records_in after.core.setting.streams n ++ rest)
+abbrev pub SomeAdded : (before after : ℕ → List Record) → List Record → Type 0
+SomeAdded before after records = (n : ℕ) → (rest : List Record) × (before n ++ of_shard n records ≡ after n ++ rest)
 
 -- the change is of one of those that had come or are on the list
-pub record IsOfNext {D T : Type 0} (before : BookState D T) (records : List Record) (change : Change) : Type 0 where
+pub record IsOfNext (before : ℕ → List Record) (records : List Record) (change : Change) : Type 0 where
   pub item : Record
-  pub at : slice_get (records_in before.core.setting.streams change.shard ++ of_shard change.shard records) change.place ≡ Some item
+  pub at : slice_get (before change.shard ++ of_shard change.shard records) change.place ≡ Some item
   pub given : item.seq ≡ change.given
 
--- where the trouble is a change, it is of one of these
-abbrev pub IsDownWith : {D T : Type 0} → BookState D T → List Record → Option Trouble → Type 0
-IsDownWith before records (Some (Changed change)) = IsOfNext before records change
-IsDownWith before records _ = Unit {0}
-
--- all of them came to a book whose history was empty, and the end of the input was noted; no call began
-pub record IsReady {D T : Type 0} (gave : ℕ → Bool) (before after : BookState D T) (records : List Record) : Type 0 where
-  pub setting : after.core.setting ≡ over before.core.setting after.core.setting.streams
-  pub found : after.found ≡ before.found
-  pub found_dest : after.found_dest ≡ before.found_dest
-  pub moments : AreGiven gave after.core.past
-  pub rests : NoneRuns after.core.past
-  pub no_calls : (s : Setting) (sends : List ℕ → List ℕ) (k : ℕ) → calls s sends after.core.past k ≡ []
-  pub all : AllCame after records
+-- why the reader hands on no more after the list: the book is down, maybe for a change of these, or memory was wanting
+abbrev pub IsStopFor : (before : ℕ → List Record) → List Record → (marked : Bool) → Stop → Type 0
+IsStopFor before records marked (Down None) = marked ≡ true
+IsStopFor before records marked (Down (Some change)) = (marked ≡ true) × IsOfNext before records change
+IsStopFor before records marked OutOfMemory = Unit {0}

@@ -3,8 +3,9 @@ ghost use Rattle.std.specs.Prelude.{◌≡◌, ◌<◌, ◌≤◌, ◌⊎◌, �
 ghost use Rattle.esm_model.specs.declared.limits.TheConstants.{MAX_LANES};
 ghost use Rattle.esm_core.specs.Calls.{IsRunningJob};
 ghost use Rattle.esm_sbook.specs.Keeping.{IsSound};
+ghost use Rattle.esm_batchers.specs.Working.{outside};
 ghost use Rattle.esm_pool.specs.declared.batchers.Halt.TheVariants as halt;
-ghost use Rattle.esm_pool.specs.Running.{NoneRuns, IsFault, outside, HasCalled, IsStill, HasAsked, HaveAsked, HasFinished, IsSpent, IsQuiet, AreQuiet};
+ghost use Rattle.esm_pool.specs.Running.{NoneRuns, IsFault, HasCalled, IsStill, HasAsked, HaveAsked, HasFinished, IsSpent, IsQuiet, AreQuiet};
 ghost use Rattle.esm_pool.specs.Stopping.{MayHaveCalled, IsStoppedAt, AreStopped};
 
 use esm_io::{Caller, Clock, Dest, Disk};

@@ -1,6 +1,7 @@
 -- A list of messages that comes to a queue's book.
-use Rattle.std.proofs.Common.{◌≡◌, ℕ, suc, ◌+◌, ◌<◌, ◌≤◌, ◌^◌, Bool, true, false, List, [], ◌∷◌, ◌++◌, length, refl, sym, ap, ◌∙◌, subst, arith, append_assoc, append-nil, Option, Some, None}
-use Rattle.std.specs.Prelude.{All, IsSome, reverse, take, drop, slice_get, ⊤}
+use Rattle.std.proofs.Common.{◌≡◌, ℕ, suc, ◌+◌, ◌<◌, ◌≤◌, ◌^◌, true, false, List, [], ◌∷◌, ◌++◌, length, refl, sym, ap, ◌∙◌, subst, arith, append_assoc, append-nil, Option, Some, None}
+use Rattle.std.specs.Prelude.{All, ◌||◌, map, max, reverse, take, drop, slice_get, ⊤, is_some, IsSome}
+use Rattle.std.proofs.lemmas.List.{reverse-reverse}
 use Rattle.std.proofs.Math.Seq.{drop-append_seam, take-length}
 use Rattle.esm_io.specs.Meanings.{DiskMeaning}
 use Rattle.esm_model.specs.declared.item.Message.{Message}
@@ -9,38 +10,45 @@ use Rattle.esm_model.specs.declared.book.Trouble.{Trouble}
 use Rattle.esm_model.specs.declared.book.Trouble.TheVariants.{Changed}
 use Rattle.esm_model.specs.declared.entry.Fate.TheVariants.{Filtered}
 use Rattle.esm_model.specs.declared.entry.Entry.{Entry}
-use Rattle.esm_model.specs.declared.entry.Entry.TheVariants.{Came, Gave}
-use Rattle.esm_model.specs.Entries.{moment_of, is_shut}
+use Rattle.esm_model.specs.declared.entry.Entry.TheVariants.{Came, Began, Ended, Gave, Tried, Closed, Replayed, Shut}
+use Rattle.esm_model.specs.declared.setup.Told.{Told}
+use Rattle.esm_model.specs.Moment.{capped_moment}
+use Rattle.esm_model.specs.Entries.{moment_of, last_moment, is_shut, is_shut_entry}
+use Rattle.esm_model.specs.Books.{entries_told, lane_of_entry}
 use Rattle.esm_model.specs.ValidMessage.{IsValidMessage}
+use Rattle.esm_model.proofs.TellingFacts.{entries_more}
+use Rattle.esm_pooled.specs.GoingOn.{AllAt}
 use Rattle.esm_queue_model.specs.QueueSetting.{QueueSetting, over_messages}
 use Rattle.esm_queue_model.specs.QueueBooks.{messages_told}
-use Rattle.esm_queue_core.specs.CoreView.{CoreView, moment_for}
+use Rattle.esm_queue_core.specs.CoreView.{CoreView, all_messages, moment_for}
 use Rattle.esm_queue_core.specs.Coming.{gave_entries, refused_from, came_from, came_entries, IsFirstChange}
-use Rattle.esm_queue_core.specs.Told.{told_entries, MayCome}
+use Rattle.esm_queue_core.specs.Told.{queue_entry, told_entries, told_of, MayCome}
 use Rattle.esm_queue_core.proofs.ToldMessages.{told-append, messages-append}
-use Rattle.esm_qbook.specs.Books.{BookState}
-use Rattle.esm_qbook.specs.Calls.{Added, AddedAll, AddedSome, IsSame}
+use Rattle.esm_qbook.specs.Books.{BookState, is_down}
+use Rattle.esm_qbook.specs.Calls.{Added, AddedAll, AddedSome, AddedOne, IsSame}
 use Rattle.esm_qbook.specs.Keeping.{IsSound}
-use Rattle.esm_pool.specs.Given.{AreGiven, IsGiven}
-use Rattle.esm_pool.proofs.Moments.{moment_given, moment_again}
 use Rattle.esm_pool.proofs.Quiet.{one_more}
-use Rattle.esm_qpool.specs.Taking.{IsArrival, AreArrivals, IsTaken, AreAdded, SomeAdded, IsOfNext, IsDownWith}
-use Rattle.esm_qpool.proofs.Kept.{others_gave, told_none, messages_grow}
+use Rattle.esm_qpool.specs.declared.coming.Stop.TheVariants.{Down}
+use Rattle.esm_qpool.specs.Taking.{AreReaders, IsBrought, AreAdded, SomeAdded, IsOfNext, IsStopFor}
+use Rattle.esm_qpool.proofs.Kept.{others_gave, told_none}
 
--- a history of arrivals is not shut
+-- the messages that came, as a history tells them
 
-pub not_shut : (h : List Entry) → AreArrivals h → is_shut h ≡ false
-not_shut [] only = refl
-not_shut (Came n first count m ∷ h) only = not_shut h only.1
-not_shut (Gave by n places f line state m ∷ h) only = not_shut h only.1
-not_shut (e ∷ h) only = grind arith
+come_length : {D : Type 0} (v : BookState D) → IsSound v → length (messages_told (told_of v.core)) ≡ length v.core.setting.messages
+come_length v sound = ap (λ (ms : List Message). length ms) (sym sound.messages)
 
--- a list may come to it
-pub may_come : {D : Type 0} (v : BookState D) (list : List Message) → AreArrivals v.core.past → length list ≤ 10000 → All (IsValidMessage v.core.setting.config.kind) list → length v.core.setting.messages + length list ≤ 1000000
-    → MayCome v.core list
-may_come v list only few valid places =
-    let most : length v.core.setting.messages + length list < 2 ^ 32 = omega (arith, places) in
-    record { going = not_shut v.core.past only; few = few; valid = valid; places = most }
+-- a list may come
+pub may_come : {D : Type 0} (v : BookState D) (list : List Message) → IsSound v → is_shut v.core.past ≡ false → length list ≤ 10000 → All (IsValidMessage v.core.setting.config.kind) list
+    → length (messages_told (told_of v.core)) + length list ≤ 1000000 → MayCome v.core list
+may_come v list sound going few valid places =
+    let most : length v.core.setting.messages + length list < 2 ^ 32 = omega (arith, places, come_length v sound) in
+    record { going = going; few = few; valid = valid; places = most }
+
+-- messages came, or were filtered
+abbrev IsArrival : Entry → Type 0
+IsArrival (Came shard first count moment) = ⊤
+IsArrival (Gave None shard places fate line state moment) = ⊤
+IsArrival _ = ⊥
 
 -- the entries of one moment
 
@@ -60,57 +68,138 @@ at_came : (s : QueueSetting) (k : ℕ) (list : List Message) (m : ℕ) → AreAt
 at_came s k [] m = tt
 at_came s k (x ∷ xs) m = ((refl, tt), at_gave m (refused_from s k (x ∷ xs)))
 
-given_all : (gave : ℕ → Bool) (m : ℕ) (es h : List Entry) → AreAt m es → AreGiven gave h → IsGiven gave h m → AreGiven gave (reverse es ++ h)
-given_all gave m [] h all given next = given
-given_all gave m (e ∷ es) h all given next =
-    let here : AreGiven gave (e ∷ h) = (given, subst (IsGiven gave h) all.0.0 next) in
-    subst (AreGiven gave) (one_more e es h) (given_all gave m es (e ∷ h) all.1 here (moment_again gave e h m here all.0.0))
+-- they are the reader's
 
-only_all : (m : ℕ) (es h : List Entry) → AreAt m es → AreArrivals h → AreArrivals (reverse es ++ h)
-only_all m [] h all only = only
-only_all m (e ∷ es) h all only = subst AreArrivals (one_more e es h) (only_all m es (e ∷ h) all.1 (all.0.1, only))
+arrival_lane : (e : Entry) → IsArrival e → lane_of_entry e ≡ None
+arrival_lane (Came n first count m) is = refl
+arrival_lane (Gave None n places f line state m) is = refl
+arrival_lane (Gave (Some lane) n places f line state m) is = absurd is
+arrival_lane (Began lane places closing m) is = absurd is
+arrival_lane (Ended lane reply m) is = absurd is
+arrival_lane (Tried lane places closing t m) is = absurd is
+arrival_lane (Closed lane w m) is = absurd is
+arrival_lane (Replayed n places m) is = absurd is
+arrival_lane (Shut m) is = absurd is
 
--- what was added of the entries of a list
-taken_front : {D : Type 0} (gave : ℕ → Bool) (messages list : List Message) (t : ℕ) (v w : BookState D) (front rest : List Entry)
-    → gave t ≡ true → front ++ rest ≡ came_entries v.core list t → Added messages v w front → IsTaken gave v w
-taken_front gave messages list t v w front rest gave_t split added =
-    let m : ℕ = moment_for v.core.past t in
+arrival_open : (e : Entry) → IsArrival e → is_shut_entry e ≡ false
+arrival_open (Came n first count m) is = refl
+arrival_open (Gave by n places f line state m) is = refl
+arrival_open (Began lane places closing m) is = absurd is
+arrival_open (Ended lane reply m) is = absurd is
+arrival_open (Tried lane places closing t m) is = absurd is
+arrival_open (Closed lane w m) is = absurd is
+arrival_open (Replayed n places m) is = absurd is
+arrival_open (Shut m) is = absurd is
+
+readers_at : (m : ℕ) (messages : List Message) (es : List Entry) → AreAt m es → AreReaders (told_entries messages es)
+readers_at m messages [] all = tt
+readers_at m messages (e ∷ es) all = (arrival_lane e all.0.1, readers_at m messages es all.1)
+
+open_at : (m : ℕ) (es h : List Entry) → AreAt m es → is_shut h ≡ false → is_shut (reverse es ++ h) ≡ false
+open_at m [] h all going = going
+open_at m (e ∷ es) h all going =
+    let here : is_shut (e ∷ h) ≡ false = ap (λ b. b || is_shut h) (arrival_open e all.0.1) ∙ going in
+    ap is_shut (sym (one_more e es h)) ∙ open_at m es (e ∷ h) all.1 here
+
+-- the moment stays where it comes once more
+again : (m last t : ℕ) → m ≡ capped_moment (max t last) → m ≡ capped_moment (max t m)
+again m last t is = grind (arith, is)
+
+-- at the moment that was handed in
+moments_at : (moment m : ℕ) (messages : List Message) (h : List Told) (es : List Entry) → m ≡ capped_moment (max moment (last_moment (entries_told h))) → AreAt m es → AllAt moment h (told_entries messages es)
+moments_at moment m messages h [] is all = tt
+moments_at moment m messages h (e ∷ es) is all =
+    let t : Told = (queue_entry messages e).told in
+    let last : last_moment (entries_told (h ++ t ∷ [])) ≡ m = ap last_moment (entries_more h t) ∙ sym all.0.0 in (
+      sym all.0.0 ∙ is,
+      moments_at moment m messages (h ++ t ∷ []) es (again m (last_moment (entries_told h)) moment is ∙ ap (λ l. capped_moment (max moment l)) (sym last)) all.1,
+    )
+
+-- what is added
+
+told_are : (messages : List Message) (es : List Entry) → map (λ (t : Told). t.entry) (told_entries messages es) ≡ es
+told_are messages [] = refl
+told_are messages (e ∷ es) = ap (λ l. e ∷ l) (told_are messages es)
+
+entries_are : (messages : List Message) (h : List Entry) → entries_told (told_entries messages (reverse h)) ≡ h
+entries_are messages h = ap reverse (told_are messages (reverse h)) ∙ reverse-reverse h
+
+pub past_is : {D : Type 0} (v : BookState D) → entries_told (told_of v.core) ≡ v.core.past
+past_is v = entries_are (all_messages v.core) v.core.past
+
+moment_now : {D : Type 0} (v : BookState D) (moment : ℕ) → moment_for v.core.past moment ≡ capped_moment (max moment (last_moment (entries_told (told_of v.core))))
+moment_now v moment = ap (λ h. capped_moment (max moment (last_moment h))) (sym (past_is v))
+
+brought_front : {D : Type 0} (messages list : List Message) (moment : ℕ) (v w : BookState D) (front rest : List Entry)
+    → front ++ rest ≡ came_entries v.core list moment → Added messages v w front → (is_down v ≡ true → is_down w ≡ true) → IsBrought moment v w
+brought_front messages list moment v w front rest split added down =
+    let m : ℕ = moment_for v.core.past moment in
     let all : AreAt m front = at_front m front rest (subst (AreAt m) (sym split) (at_came v.core.setting (length v.core.setting.messages) list m)) in
     record {
+      more = told_entries messages front;
+      told = added.told;
+      own = readers_at m messages front all;
+      moments = moments_at moment m messages (told_of v.core) front (moment_now v moment) all;
       setting = added.opened;
       found = added.found;
-      moments = λ given. subst (AreGiven gave) (sym added.past) (given_all gave m front v.core.past all given (moment_given gave v.core.past t gave_t));
-      only = λ only. subst AreArrivals (sym added.past) (only_all m front v.core.past all only);
+      down = down;
     }
 
-pub taken_all : {D : Type 0} (d : DiskMeaning D) (gave : ℕ → Bool) (list : List Message) (t : ℕ) (v w : BookState D)
-    → gave t ≡ true → AddedAll d (v.core.setting.messages ++ list) v w (came_entries v.core list t) → IsTaken gave v w
-taken_all d gave list t v w gave_t all = taken_front gave (v.core.setting.messages ++ list) list t v w (came_entries v.core list t) [] gave_t (append-nil _) all.added
+pub brought_all : {D : Type 0} (d : DiskMeaning D) (list : List Message) (moment : ℕ) (v w : BookState D)
+    → AddedAll d (v.core.setting.messages ++ list) v w (came_entries v.core list moment) → (is_down v ≡ true → is_down w ≡ true) → IsBrought moment v w
+brought_all d list moment v w all down = brought_front (v.core.setting.messages ++ list) list moment v w (came_entries v.core list moment) [] (append-nil _) all.added down
 
-pub taken_some : {D : Type 0} (d : DiskMeaning D) (gave : ℕ → Bool) (list : List Message) (t : ℕ) (v w : BookState D)
-    → gave t ≡ true → AddedSome d (v.core.setting.messages ++ list) v w (came_entries v.core list t) → IsTaken gave v w
-taken_some d gave list t v w gave_t some = taken_front gave (v.core.setting.messages ++ list) list t v w some.front some.rest gave_t some.split some.added
+pub brought_some : {D : Type 0} (d : DiskMeaning D) (list : List Message) (moment : ℕ) (v w : BookState D)
+    → AddedSome d (v.core.setting.messages ++ list) v w (came_entries v.core list moment) → IsBrought moment v w
+brought_some d list moment v w some = brought_front (v.core.setting.messages ++ list) list moment v w some.front some.rest some.split some.added (λ is. ap is_some some.trouble)
 
-pub taken_still : {D : Type 0} (gave : ℕ → Bool) (v w : BookState D) → w.core ≡ v.core → w.found ≡ v.found → IsTaken gave v w
-taken_still gave v w core found = record {
+pub brought_still : {D : Type 0} (moment : ℕ) (v w : BookState D) → w.core ≡ v.core → w.found ≡ v.found → (is_down v ≡ true → is_down w ≡ true) → IsBrought moment v w
+brought_still moment v w core found down = record {
+  more = [];
+  told = ap told_of core ∙ sym (append-nil (told_of v.core));
+  own = tt;
+  moments = tt;
   setting = ap (λ (x : CoreView). x.setting) core ∙ ap (λ (x : CoreView). over_messages v.core.setting x.setting.messages) (sym core);
   found = found;
-  moments = λ given. subst (AreGiven gave) (sym (ap (λ (x : CoreView). x.past) core)) given;
-  only = λ only. subst AreArrivals (sym (ap (λ (x : CoreView). x.past) core)) only;
+  down = down;
 }
 
-pub taken_then : {D : Type 0} (gave : ℕ → Bool) (a b c : BookState D) → IsTaken gave a b → IsTaken gave b c → IsTaken gave a c
-taken_then gave a b c x y = record {
-  setting = y.setting ∙ ap (λ (s : QueueSetting). over_messages s c.core.setting.messages) x.setting;
-  found = y.found ∙ x.found;
-  moments = λ given. y.moments (x.moments given);
-  only = λ only. y.only (x.only only);
-}
+pub brought_changed : {D : Type 0} (moment : ℕ) (v w : BookState D) (change : Change) → w ≡ record v { trouble = Some (Changed change) } → IsBrought moment v w
+brought_changed {D} moment v w change is = brought_still moment v w (ap (λ (b : BookState D). b.core) is) (ap (λ (b : BookState D). b.found) is) (λ down. ap (λ (b : BookState D). is_down b) is)
+
+pub brought_same : {D : Type 0} (moment : ℕ) (v w : BookState D) → IsSame v w → IsBrought moment v w
+brought_same {D} moment v w same = brought_still moment v w (ap (λ (b : BookState D). b.core) same) (ap (λ (b : BookState D). b.found) same) (λ down. ap (λ (b : BookState D). is_down b) same ∙ down)
+
+pub brought_nothing : {D : Type 0} (moment : ℕ) (v w : BookState D) → w ≡ v → IsBrought moment v w
+brought_nothing {D} moment v w is = brought_still moment v w (ap (λ (b : BookState D). b.core) is) (ap (λ (b : BookState D). b.found) is) (λ down. ap (λ (b : BookState D). is_down b) is ∙ down)
+
+-- the input has not ended by it
+
+pub open_all : {D : Type 0} (d : DiskMeaning D) (list : List Message) (moment : ℕ) (v w : BookState D)
+    → AddedAll d (v.core.setting.messages ++ list) v w (came_entries v.core list moment) → is_shut v.core.past ≡ false → is_shut w.core.past ≡ false
+open_all d list moment v w all going =
+    let m : ℕ = moment_for v.core.past moment in
+    ap is_shut all.added.past ∙ open_at m (came_entries v.core list moment) v.core.past (at_came v.core.setting (length v.core.setting.messages) list m) going
+
+pub open_some : {D : Type 0} (d : DiskMeaning D) (list : List Message) (moment : ℕ) (v w : BookState D)
+    → AddedSome d (v.core.setting.messages ++ list) v w (came_entries v.core list moment) → is_shut v.core.past ≡ false → is_shut w.core.past ≡ false
+open_some d list moment v w some going =
+    let m : ℕ = moment_for v.core.past moment in
+    ap is_shut some.added.past ∙ open_at m some.front v.core.past (at_front m some.front some.rest (subst (AreAt m) (sym some.split) (at_came v.core.setting (length v.core.setting.messages) list m))) going
+
+open_still : {D : Type 0} (v w : BookState D) → w.core ≡ v.core → is_shut v.core.past ≡ false → is_shut w.core.past ≡ false
+open_still v w core going = ap (λ (x : CoreView). is_shut x.past) core ∙ going
+
+pub open_changed : {D : Type 0} (v w : BookState D) (change : Change) → w ≡ record v { trouble = Some (Changed change) } → is_shut v.core.past ≡ false → is_shut w.core.past ≡ false
+open_changed {D} v w change is going = open_still v w (ap (λ (b : BookState D). b.core) is) going
+
+pub open_same : {D : Type 0} (v w : BookState D) → IsSame v w → is_shut v.core.past ≡ false → is_shut w.core.past ≡ false
+open_same {D} v w same going = open_still v w (ap (λ (b : BookState D). b.core) same) going
+
+pub open_nothing : {D : Type 0} (v w : BookState D) → w ≡ v → is_shut v.core.past ≡ false → is_shut w.core.past ≡ false
+open_nothing {D} v w is going = open_still v w (ap (λ (b : BookState D). b.core) is) going
 
 -- the messages
-
-pub added_all : {D : Type 0} (d : DiskMeaning D) (list : List Message) (t : ℕ) (v w : BookState D) → AddedAll d (v.core.setting.messages ++ list) v w (came_entries v.core list t) → AreAdded v w list
-added_all d list t v w all = ap (λ (s : QueueSetting). s.messages) all.setting
 
 -- what the entries of a list tell
 list_told : (s : QueueSetting) (list : List Message) (m : ℕ) → messages_told (told_entries (s.messages ++ list) (came_from s (length s.messages) list m)) ≡ list
@@ -123,26 +212,43 @@ list_told s (x ∷ xs) m =
     ∙ ap (take (length list)) (drop-append_seam s.messages list)
     ∙ take-length list
 
+told_more : {D : Type 0} (messages : List Message) (v w : BookState D) (es : List Entry) → Added messages v w es → messages_told (told_of w.core) ≡ messages_told (told_of v.core) ++ messages_told (told_entries messages es)
+told_more messages v w es added = ap messages_told added.told ∙ messages-append (told_of v.core) (told_entries messages es)
+
+pub added_all : {D : Type 0} (d : DiskMeaning D) (list : List Message) (t : ℕ) (v w : BookState D) → AddedAll d (v.core.setting.messages ++ list) v w (came_entries v.core list t)
+    → AreAdded (messages_told (told_of v.core)) (messages_told (told_of w.core)) list
+added_all d list t v w all =
+    told_more (v.core.setting.messages ++ list) v w (came_entries v.core list t) all.added
+    ∙ ap (λ (l : List Message). messages_told (told_of v.core) ++ l) (list_told v.core.setting list (moment_for v.core.past t))
+
 -- a disk failed before all of it was added
-pub added_some : {D : Type 0} (d : DiskMeaning D) (list : List Message) (t : ℕ) (v w : BookState D)
-    → IsSound v → IsSound w → AddedSome d (v.core.setting.messages ++ list) v w (came_entries v.core list t) → SomeAdded v w list
-added_some d list t v w before after some =
-    let old : List Message = v.core.setting.messages in
+pub added_some : {D : Type 0} (d : DiskMeaning D) (list : List Message) (t : ℕ) (v w : BookState D) → AddedSome d (v.core.setting.messages ++ list) v w (came_entries v.core list t)
+    → SomeAdded (messages_told (told_of v.core)) (messages_told (told_of w.core)) list
+added_some d list t v w some =
+    let old : List Message = messages_told (told_of v.core) in
     let m : ℕ = moment_for v.core.past t in
-    let all : List Message = old ++ list in
+    let all : List Message = v.core.setting.messages ++ list in
     let front : List Message = messages_told (told_entries all some.front) in
     let rest : List Message = messages_told (told_entries all some.rest) in
-    let new : w.core.setting.messages ≡ old ++ front = messages_grow all v w some.front some.added before after in
     let parts : list ≡ front ++ rest =
     sym (list_told v.core.setting list m) ∙ ap (λ (es : List Entry). messages_told (told_entries all es)) (sym some.split)
     ∙ ap messages_told (told-append all some.front some.rest) ∙ messages-append (told_entries all some.front) (told_entries all some.rest) in
-    (rest, ap (λ (l : List Message). old ++ l) parts ∙ sym (append_assoc old front rest) ∙ ap (λ (l : List Message). l ++ rest) (sym new))
+    (rest, ap (λ (l : List Message). old ++ l) parts ∙ sym (append_assoc old front rest) ∙ ap (λ (l : List Message). l ++ rest) (sym (told_more all v w some.front some.added)))
 
-pub added_none : {D : Type 0} (v w : BookState D) (list : List Message) → w.core ≡ v.core → SomeAdded v w list
-added_none v w list core = (list, ap (λ (x : CoreView). x.setting.messages ++ list) (sym core))
+pub added_none : {D : Type 0} (v w : BookState D) (list : List Message) → w.core ≡ v.core → SomeAdded (messages_told (told_of v.core)) (messages_told (told_of w.core)) list
+added_none v w list core = (list, ap (λ (x : CoreView). messages_told (told_of x) ++ list) (sym core))
 
-pub added_so : {D : Type 0} (v w : BookState D) (list : List Message) → AreAdded v w list → SomeAdded v w list
-added_so v w list added = ([], sym added ∙ sym (append-nil w.core.setting.messages))
+pub some_changed : {D : Type 0} (v w : BookState D) (list : List Message) (change : Change) → w ≡ record v { trouble = Some (Changed change) } → SomeAdded (messages_told (told_of v.core)) (messages_told (told_of w.core)) list
+some_changed {D} v w list change is = added_none v w list (ap (λ (b : BookState D). b.core) is)
+
+pub some_same : {D : Type 0} (v w : BookState D) (list : List Message) → IsSame v w → SomeAdded (messages_told (told_of v.core)) (messages_told (told_of w.core)) list
+some_same {D} v w list same = added_none v w list (ap (λ (b : BookState D). b.core) same)
+
+pub some_nothing : {D : Type 0} (v w : BookState D) (list : List Message) → w ≡ v → SomeAdded (messages_told (told_of v.core)) (messages_told (told_of w.core)) list
+some_nothing {D} v w list is = added_none v w list (ap (λ (b : BookState D). b.core) is)
+
+pub added_so : (before after list : List Message) → AreAdded before after list → SomeAdded before after list
+added_so before after list added = ([], sym added ∙ sym (append-nil after))
 
 -- a message that differs from what was kept of it
 
@@ -150,24 +256,42 @@ get_behind : (xs ys : List Message) (j : ℕ) → slice_get (xs ++ ys) (length x
 get_behind [] ys j = (let same : 0 + j ≡ j = omega arith in ap (slice_get ys) same)
 get_behind (x ∷ xs) ys j = (let same : suc (length xs) + j ≡ suc (length xs + j) = omega arith in ap (slice_get (x ∷ (xs ++ ys))) same ∙ get_behind xs ys j)
 
-pub change_is_next : {D : Type 0} (v : BookState D) (list : List Message) (change : Change) → IsFirstChange v.core list change → IsOfNext v list change
-change_is_next v list change first = record {
+change_is_next : {D : Type 0} (v : BookState D) (list : List Message) (change : Change) → IsSound v → IsFirstChange v.core list change → IsOfNext (messages_told (told_of v.core)) list change
+change_is_next v list change sound first = record {
   item = first.message;
-  at = ap (slice_get (v.core.setting.messages ++ list)) first.change_is.place_is ∙ get_behind v.core.setting.messages list first.position ∙ first.at;
+  at = subst (λ (ms : List Message). slice_get (ms ++ list) change.place ≡ Some first.message) sound.messages
+      (ap (slice_get (v.core.setting.messages ++ list)) first.change_is.place_is ∙ get_behind v.core.setting.messages list first.position ∙ first.at);
   given = sym first.change_is.given;
 }
 
-pub changed_some : {D : Type 0} (v w : BookState D) (list : List Message) (change : Change) → w ≡ record v { trouble = Some (Changed change) } → SomeAdded v w list
-changed_some {D} v w list change is = added_none v w list (ap (λ (b : BookState D). b.core) is)
+pub stop_changed : {D : Type 0} (v w : BookState D) (list : List Message) (change : Change) → IsSound v → IsFirstChange v.core list change → w ≡ record v { trouble = Some (Changed change) }
+    → IsStopFor (messages_told (told_of v.core)) list (is_down w) (Down (Some change))
+stop_changed {D} v w list change sound first is = (ap (λ (b : BookState D). is_down b) is, change_is_next v list change sound first)
 
-pub changed_trouble : {D : Type 0} (v w : BookState D) (list : List Message) (change : Change) → IsFirstChange v.core list change → w ≡ record v { trouble = Some (Changed change) } → IsDownWith v list w.trouble
-changed_trouble {D} v w list change first is = subst (IsDownWith v list) (sym (ap (λ (b : BookState D). b.trouble) is)) (change_is_next v list change first)
+-- the book is down
 
-pub changed_taken : {D : Type 0} (gave : ℕ → Bool) (v w : BookState D) (change : Change) → w ≡ record v { trouble = Some (Changed change) } → IsTaken gave v w
-changed_taken {D} gave v w change is = taken_still gave v w (ap (λ (b : BookState D). b.core) is) (ap (λ (b : BookState D). b.found) is)
+pub down_some : {D : Type 0} (d : DiskMeaning D) (list : List Message) (es : List Entry) (v w : BookState D) → AddedSome d list v w es → is_down w ≡ true
+down_some d list es v w some = ap (λ (t : Option Trouble). is_some t) some.trouble
 
-pub changed_down : {D : Type 0} (v w : BookState D) (change : Change) → w ≡ record v { trouble = Some (Changed change) } → IsSome w.trouble
-changed_down {D} v w change is = subst (λ (o : Option Trouble). IsSome o) (sym (ap (λ (b : BookState D). b.trouble) is)) refl
+pub down_nothing : {D : Type 0} (v w : BookState D) → w ≡ v → IsSome v.trouble → is_down w ≡ true
+down_nothing {D} v w is down = ap (λ (b : BookState D). is_down b) is ∙ down
 
-pub same_some : {D : Type 0} (v w : BookState D) (list : List Message) → IsSame v w → SomeAdded v w list
-same_some {D} v w list same = added_none v w list (ap (λ (b : BookState D). b.core) same)
+-- the end of the input is noted
+
+pub brought_end : {D : Type 0} (moment : ℕ) (v w : BookState D) → AddedOne v w (Shut (moment_for v.core.past moment)) → IsBrought moment v w
+brought_end {D} moment v w one = record {
+  more = told_entries v.core.setting.messages (Shut (moment_for v.core.past moment) ∷ []);
+  told = one.told;
+  own = (refl, tt);
+  moments = (moment_now v moment, tt);
+  setting = one.setting ∙ ap (λ (s : QueueSetting). over_messages v.core.setting s.messages) (sym one.setting);
+  found = ap (λ (b : BookState D). b.found) one.rest;
+  down = λ is. ap (λ (b : BookState D). is_down b) one.rest ∙ is;
+}
+
+pub same_end : {D : Type 0} (moment : ℕ) (v w : BookState D) → AddedOne v w (Shut (moment_for v.core.past moment)) → messages_told (told_of w.core) ≡ messages_told (told_of v.core)
+same_end moment v w one =
+    ap messages_told one.told ∙ messages-append (told_of v.core) (told_entries v.core.setting.messages (Shut (moment_for v.core.past moment) ∷ [])) ∙ append-nil (messages_told (told_of v.core))
+
+pub same_nothing : {D : Type 0} (v w : BookState D) → w ≡ v → messages_told (told_of w.core) ≡ messages_told (told_of v.core)
+same_nothing {D} v w is = ap (λ (b : BookState D). messages_told (told_of b.core)) is

@@ -31,7 +31,8 @@ use Rattle.esm_qbook.specs.Books.{BookState, payloads_in}
 use Rattle.esm_qbook.specs.Calls.{Added, AddedAll, AddedSome}
 use Rattle.esm_qbook.specs.Keeping.{IsSound}
 use Rattle.esm_pool.specs.Given.{AreGiven, IsGiven}
-use Rattle.esm_pool.specs.Running.{Outside, NoneRuns, KeepsLog}
+use Rattle.esm_batchers.specs.Working.{Outside}
+use Rattle.esm_pool.specs.Running.{NoneRuns, KeepsLog}
 use Rattle.esm_pool.proofs.Moments.{moment_given, moment_again}
 use Rattle.esm_pool.proofs.Quiet.{one_more}
 use Rattle.esm_qpool.specs.Running.{IsStill, IsAsked, HasCalled, HasAsked, HaveAsked, HasFinished, IsSpent, IsQuiet, AreQuiet}

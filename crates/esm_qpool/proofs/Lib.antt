@@ -4,7 +4,14 @@ pub mod Ends
 pub mod Kept
 pub mod Asking
 pub mod Stops
+pub mod Seats
+pub mod Owners
+pub mod Setups
 pub mod Arriving
 pub mod Handing
 pub mod Incoming
+pub mod Turning
+pub mod Bridges
+pub mod Closed
+pub mod Sent
 pub mod Runs

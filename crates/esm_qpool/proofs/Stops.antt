@@ -22,7 +22,7 @@ use Rattle.esm_queue_core.specs.Next.{next_for, next_entries}
 use Rattle.esm_qbook.specs.Books.{BookState}
 use Rattle.esm_qbook.specs.Calls.{AddedAll}
 use Rattle.esm_pool.specs.Given.{AreGiven}
-use Rattle.esm_pool.specs.Running.{Outside}
+use Rattle.esm_batchers.specs.Working.{Outside}
 use Rattle.esm_pool.specs.Stopping.{MayHaveCalled}
 use Rattle.esm_pool.proofs.Moments.{moment_given}
 use Rattle.esm_qpool.specs.Running.{IsStill, HaveAsked}

@@ -4,3 +4,5 @@ pub mod Running
 pub mod Taking
 pub mod Stopping
 pub mod Ran
+pub mod Readings
+pub mod Left

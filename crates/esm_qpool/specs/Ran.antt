@@ -14,7 +14,8 @@ use Rattle.esm_input.specs.Positions.{from_start}
 use Rattle.esm_input.specs.Reading.{InputState, items_read, handed}
 use Rattle.esm_qbook.specs.Books.{BookState}
 use Rattle.esm_pool.specs.Given.{AreGiven}
-use Rattle.esm_pool.specs.Running.{NoneRuns, Outside}
+use Rattle.esm_batchers.specs.Working.{Outside}
+use Rattle.esm_pool.specs.Running.{NoneRuns}
 use Rattle.esm_qpool.specs.declared.running.RunEnd.{RunEnd}
 use Rattle.esm_qpool.specs.declared.running.RunEnd.TheVariants.{Finished, Spent, Down}
 use Rattle.esm_qpool.specs.Number.{batchers_in}
@@ -37,9 +38,8 @@ pub record HasRun {D F : Type 0} (o : Outside F) (before after : BookState D) (o
   pub untouched : (k : ℕ) (d : F) → batchers_in before.core.setting.config ≤ k → slice_index_or new k d ≡ slice_index_or old k d
   pub no_calls : (k : ℕ) → batchers_in before.core.setting.config ≤ k → queue_calls after.core.setting o.sends after.core.past k ≡ []
 
--- and so far want of memory let it come; no disk failed
+-- and so far want of memory let it come
 pub record HasStopped {D F : Type 0} (o : Outside F) (before after : BookState D) (old new : List F) : Type 0 where
-  pub up : after.trouble ≡ None
   pub opened : after.core.setting ≡ over_messages before.core.setting after.core.setting.messages
   pub found : after.found ≡ before.found
   pub moments : AreGiven o.gave after.core.past

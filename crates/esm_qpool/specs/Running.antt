@@ -16,7 +16,8 @@ use Rattle.esm_queue_core.specs.Ending.{ended_places}
 use Rattle.esm_queue_core.specs.Next.{next_for}
 use Rattle.esm_qbook.specs.Books.{BookState}
 use Rattle.esm_pool.specs.Given.{AreGiven}
-use Rattle.esm_pool.specs.Running.{Outside, NoneRuns, KeepsLog}
+use Rattle.esm_batchers.specs.Working.{Outside}
+use Rattle.esm_pool.specs.Running.{NoneRuns, KeepsLog}
 
 -- the setting is as before, and so is the journal that the book was opened with
 pub record IsOpenedSo {D : Type 0} (before after : BookState D) : Type 0 where

@@ -9,7 +9,7 @@ use Rattle.esm_queue_model.specs.QueueSetting.{QueueSetting}
 use Rattle.esm_queue_model.specs.QueueEntries.{queue_lane}
 use Rattle.esm_queue_model.specs.QueueBatch.{queue_calls, last_queue_event}
 use Rattle.esm_qbook.specs.Books.{BookState}
-use Rattle.esm_pool.specs.Running.{Outside}
+use Rattle.esm_batchers.specs.Working.{Outside}
 use Rattle.esm_qpool.specs.Running.{IsAsked}
 
 -- the log grew by the calls of batcher k, and by one further call of its lane, which still runs

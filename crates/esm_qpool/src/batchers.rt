@@ -2,7 +2,8 @@
 ghost use Rattle.std.specs.Prelude.{◌≡◌, ◌<◌, ◌≤◌, ◌⊎◌, ℕ, length, IfOk, IsErrOf, None, true, false, IsSome};
 ghost use Rattle.esm_queue_core.specs.CoreView.{IsRunningJob};
 ghost use Rattle.esm_qbook.specs.Keeping.{IsSound};
-ghost use Rattle.esm_pool.specs.Running.{NoneRuns, IsFault, outside};
+ghost use Rattle.esm_batchers.specs.Working.{outside};
+ghost use Rattle.esm_pool.specs.Running.{NoneRuns, IsFault};
 ghost use Rattle.esm_pool.specs.Stopping.{MayHaveCalled};
 ghost use Rattle.esm_qpool.specs.declared.batchers.Halt.TheVariants as halt;
 ghost use Rattle.esm_qpool.specs.Running.{HasCalled, IsStill, HasAsked, HaveAsked, HasFinished, IsSpent, IsQuiet, AreQuiet};

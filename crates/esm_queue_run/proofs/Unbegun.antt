@@ -54,8 +54,8 @@ not_begun {S} {D} {F} t left_in config calls visibility f old callers new none l
     let b : BookState D = new_book config calls visibility f none in
     let left : IsLeft t.disk f b = left_new t.disk config calls visibility f none files in
     let of : AreOf f b new = record { journal = first; spare = second; failures = lines } in
-    stopped t left_in config calls visibility f old (new_input config old) callers b b new laws (record { core = refl }) left of
-    (record { kind = refl; factor = refl; start = refl; found = refl }) refl (headline t f b new laws left of tt) tt
+    stopped t left_in config calls visibility f old (new_input config old) callers b b new laws (record { core = refl }) left of tt
+    (record { kind = refl; factor = refl; start = refl; found = refl }) refl (headline t f b new laws left of tt)
     (record { bytes = []; more = []; whole = false; taken = takes_none (left_in old); came = (messages_in_items (from_start config.start (items_read (line_kind config) config.factor false []).items), refl) })
     (λ k d within. inl (subst (λ (xs : List F). Grows (t.callers.log (slice_index_or callers k d)) (t.callers.log (slice_index_or xs k d)) []) (sym same) (grows_by_none (t.callers.log (slice_index_or callers k d)))))
     (record {

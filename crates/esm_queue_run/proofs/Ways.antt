@@ -10,7 +10,6 @@ use Rattle.esm_model.specs.declared.book.Trouble.{Trouble}
 use Rattle.esm_model.specs.declared.book.Trouble.TheVariants as trouble
 use Rattle.esm_model.specs.declared.config.Config.{Config}
 use Rattle.esm_model.specs.declared.config.Start.{Start}
-use Rattle.esm_model.specs.declared.entry.Entry.{Entry}
 use Rattle.esm_model.specs.declared.item.Message.{Message}
 use Rattle.esm_model.specs.declared.memory.OutOfMemory.{OutOfMemory}
 use Rattle.esm_book.specs.State.{in_hand}
@@ -29,10 +28,10 @@ use Rattle.esm_qpool.specs.Coming.{AllCame, SomeCame, messages_in_items}
 use Rattle.esm_qpool.specs.Ran.{CameSo, EndsSo, HasRun, HasStopped, IsCutInput, IsDownFor, IsOfMessage}
 use Rattle.esm_stream.specs.Files.{FilesState}
 use Rattle.esm_stream.specs.Headline.{Devices, Telling}
-use Rattle.esm_queue_run.specs.Ended.{AllCame as AllMessagesCame, HasEnded, HasNoFault, HasStoppedRun, IsCauseOf, IsChanged, OthersRest, line_kind, trouble_of}
+use Rattle.esm_queue_run.specs.Ended.{AllCame as AllMessagesCame, HasEnded, HasStoppedRun, IsFaultOf, IsCauseOf, IsChanged, OthersRest, line_kind, trouble_of}
 use Rattle.esm_queue_run.specs.Earned.{DeletedAllEarned}
 use Rattle.esm_queue_run.specs.Headline.{CallsMadeOrOneMore, Headline}
-use Rattle.esm_queue_run.specs.Runs.{EndsBy, IsEndOf, IsLeft, StopsBy, new_input}
+use Rattle.esm_queue_run.specs.Runs.{EndsBy, HasReason, IsOfQueue, IsEndOf, IsLeft, new_input}
 use Rattle.esm_queue_run.specs.declared.run.QueueEnd.{QueueEnd}
 use Rattle.esm_queue_run.specs.declared.run.QueueEnd.TheVariants as end
 use Rattle.esm_queue_run.proofs.Earned.{all_earned}
@@ -151,12 +150,18 @@ read_for config old i b whole bytes made came =
     (subst (λ (n : ℕ). SomeCame b (messages_in_items (from_start config.start (items_read i.kind n whole bytes).items))) made.factor
     (subst (λ (s : Start). SomeCame b (messages_in_items (from_start s (items_read i.kind i.factor whole bytes).items))) made.start came))
 
+fault_in : {D F : Type 0} (t : Telling D F) (f : FilesState D) (b : BookState D) (new : Devices D F) (why : Option Trouble) → IsLeft t.disk f b → AreOf f b new → IsCauseIn t.disk b why → IsFaultOf t f new why
+fault_in t f b new None left of cause = tt
+fault_in t f b new (Some trouble.Disk) left of cause = disk_rose t.disk f b new left of cause
+fault_in t f b new (Some trouble.Dest) left of cause = cause
+fault_in t f b new (Some (trouble.Changed change)) left of cause = tt
+
 pub stopped : {S D F : Type 0} (t : Telling D F) (left_in : S → Option (List ℕ)) (config : Config) (calls visibility : ℕ) (f : FilesState D) (old : S) (i : InputState S) (callers : List F)
-    → (before b : BookState D) (new : Devices D F) → AreLaws → StoodSo config calls visibility f before → IsLeft t.disk f b → AreOf f b new → IsMadeFor config old i
-    → b.core.setting ≡ over_messages before.core.setting b.core.setting.messages → Headline t f b.core.setting b.core.past b.trouble [] new → HasNoFault b.trouble → IsCutInput left_in i b
+    → (before b : BookState D) (new : Devices D F) → AreLaws → StoodSo config calls visibility f before → IsLeft t.disk f b → AreOf f b new → IsCauseIn t.disk b b.trouble → IsMadeFor config old i
+    → b.core.setting ≡ over_messages before.core.setting b.core.setting.messages → Headline t f b.core.setting b.core.past b.trouble (in_hand b.trouble b.core.owed) new → IsCutInput left_in i b
     → CallsMadeOrOneMore t b.core.setting b.core.past callers new.callers → OthersRest t before.core.setting.config b.core.setting b.core.past callers new.callers
     → HasStoppedRun t left_in config calls visibility f old i.source callers b.core.past new
-stopped {S} t left_in config calls visibility f old i callers before b new laws stood left of made opened head fine cut made_calls others = record {
+stopped {S} t left_in config calls visibility f old i callers before b new laws stood left of cause made opened head cut made_calls others = record {
   bytes = cut.bytes;
   more = cut.more;
   whole = cut.whole;
@@ -164,7 +169,8 @@ stopped {S} t left_in config calls visibility f old i callers before b new laws 
   setting = b.core.setting;
   is_setting = record { opened = opened_so config calls visibility f before b stood opened; came = read_for config old i b cut.whole cut.bytes made cut.came };
   trouble = b.trouble;
-  no_fault = fine;
+  fault = fault_in t f b new b.trouble left of cause;
+  hand = in_hand b.trouble b.core.owed;
   headline = head;
   calls_made = made_calls;
   others = others_of t config calls visibility f before b callers new.callers stood others;
@@ -201,25 +207,18 @@ ended_by t faults left_in config calls visibility f old i callers before b new (
     ended t faults left_in config calls visibility f old i callers before b new r e laws stood left of cause made come.good come.read come.run come.came come.ended is
 ended_by t faults left_in config calls visibility f old i callers before b new (Err none) e laws stood left of cause made come is = absurd is
 
-no_hand : {D F : Type 0} (t : Telling D F) (f : FilesState D) (s : QueueSetting) (h owed : List Entry) (new : Devices D F) (why now : Option Trouble) → why ≡ now → in_hand now owed ≡ []
-    → Headline t f s h why (in_hand why owed) new → Headline t f s h why [] new
-no_hand t f s h owed new why now is none head =
-    subst (λ (hand : List Entry). Headline t f s h why hand new) (ap (λ (x : Option Trouble). in_hand x owed) is ∙ none) head
-
 pub stopped_by : {S D F : Type 0} (t : Telling D F) (faults : S → ℕ) (left_in : S → Option (List ℕ)) (config : Config) (calls visibility : ℕ) (f : FilesState D) (old : S) (i : InputState S) (callers : List F)
-    → (before b : BookState D) (new : Devices D F) (r : Result RunEnd OutOfMemory) → AreLaws → StoodSo config calls visibility f before → IsLeft t.disk f b → AreOf f b new
-    → IsMadeFor config old i → HasCome t faults left_in before b i callers new.callers r → StopsBy r b.trouble
+    → (before b : BookState D) (new : Devices D F) (r : Result RunEnd OutOfMemory) → AreLaws → StoodSo config calls visibility f before → IsLeft t.disk f b → AreOf f b new → IsCauseIn t.disk b b.trouble
+    → IsMadeFor config old i → HasCome t faults left_in before b i callers new.callers r
     → HasStoppedRun t left_in config calls visibility f old i.source callers b.core.past new
-stopped_by t faults left_in config calls visibility f old i callers before b new (Ok r) laws stood left of made come is =
+stopped_by t faults left_in config calls visibility f old i callers before b new (Ok r) laws stood left of cause made come =
     let run = come.run in
-    let head = no_hand t f b.core.setting b.core.past b.core.owed new b.trouble (Some (trouble.Changed is.0)) is.2 refl (headline t f b new laws left of run.moments) in
-    stopped t left_in config calls visibility f old i callers before b new laws stood left of made run.opened head (subst HasNoFault (sym is.2) tt)
+    stopped t left_in config calls visibility f old i callers before b new laws stood left of cause made run.opened (headline t f b new laws left of run.moments)
     (read_as_cut faults left_in i b come.read (some_came i b r come.came)) (λ k d within. inl (run.calls_made k d within))
     (record { untouched = run.untouched; no_calls = run.no_calls })
-stopped_by t faults left_in config calls visibility f old i callers before b new (Err none) laws stood left of made come is =
+stopped_by t faults left_in config calls visibility f old i callers before b new (Err none) laws stood left of cause made come =
     let stop = come.stopped in
-    let head = no_hand t f b.core.setting b.core.past b.core.owed new b.trouble None stop.up refl (headline t f b new laws left of stop.moments) in
-    stopped t left_in config calls visibility f old i callers before b new laws stood left of made stop.opened head (subst HasNoFault (sym stop.up) tt) come.cut stop.calls_made
+    stopped t left_in config calls visibility f old i callers before b new laws stood left of cause made stop.opened (headline t f b new laws left of stop.moments) come.cut stop.calls_made
     (record { untouched = stop.untouched; no_calls = stop.no_calls })
 
 -- what a run leaves as it was
@@ -236,3 +235,25 @@ pub found_stays : {S D F : Type 0} (t : Telling D F) (faults : S → ℕ) (left_
     → HasCome t faults left_in before b i callers new_callers r → (b.found ≡ before.found) × (length new_callers ≡ length callers)
 found_stays t faults left_in before b i callers new_callers (Ok r) come = (come.run.found, come.run.as_many)
 found_stays t faults left_in before b i callers new_callers (Err none) come = (come.stopped.found, come.stopped.as_many)
+
+pub found_ran : {D F : Type 0} (t : Telling D F) (before b : BookState D) (callers new_callers : List F) (r : Result RunEnd OutOfMemory)
+    → OnOk r (HasRun t.callers before b callers new_callers) → OnErr r (HasStopped t.callers before b callers new_callers) → b.found ≡ before.found
+found_ran t before b callers new_callers (Ok r) run stopped = run.found
+found_ran t before b callers new_callers (Err none) run stopped = stopped.found
+
+-- the reason of an end
+
+reason_for : {S D : Type 0} (i : InputState S) (b : BookState D) (r : RunEnd) → CameSo i b r → EndsSo b r → HasReason b.trouble i.end r
+reason_for i b ran.Finished came so = came.1
+reason_for i b ran.Spent came so = tt
+reason_for i b ran.Down came so = so
+
+pub reason_of : {S D : Type 0} (i : InputState S) (b : BookState D) (r : Result RunEnd OutOfMemory) → IfOk r (CameSo i b) → IfOk r (EndsSo b) → IfOk r (HasReason b.trouble i.end)
+reason_of i b (Ok r) came so = reason_for i b r came so
+reason_of i b (Err none) came so = tt
+
+pub of_queue : {D : Type 0} (m : DiskMeaning D) (b : BookState D) (why : Option Trouble) → IsCauseIn m b why → IsOfQueue why
+of_queue m b None cause = tt
+of_queue m b (Some trouble.Disk) cause = tt
+of_queue m b (Some trouble.Dest) cause = absurd cause
+of_queue m b (Some (trouble.Changed change)) cause = tt

@@ -97,14 +97,14 @@ pub record HasEnded {S D F : Type 0} (t : Telling D F) (faults : S → ℕ) (lef
   pub others : OthersRest t config setting h old_callers new.callers
   pub cause : IsCauseOf t f setting h (messages_in_items (handed input)) input.end new e
 
--- no device failed
-abbrev pub HasNoFault : Option Trouble → Type 0
-HasNoFault (Some trouble.Disk) = ⊥
-HasNoFault (Some trouble.Dest) = ⊥
-HasNoFault _ = Unit {0}
+-- the faults of a disk of the journal rose, where the trouble says so; a queue delivers no lines
+abbrev pub IsFaultOf : {D F : Type 0} → Telling D F → FilesState D → Devices D F → Option Trouble → Type 0
+IsFaultOf t f new (Some trouble.Disk) = OneRose t.disk f.journal f.spare new.journal new.spare
+IsFaultOf t f new (Some trouble.Dest) = ⊥
+IsFaultOf t f new _ = Unit {0}
 
 -- Want of memory stopped it: these bytes were read, the messages of their lines came, or the first of them, and more bytes may
--- have been read after them. No disk failed.
+-- have been read after them. A disk may have failed beside it.
 pub record HasStoppedRun {S D F : Type 0} (t : Telling D F) (left : S → Option (List ℕ)) (config : Config) (calls visibility : ℕ) (f : FilesState D) (old_input new_input : S) (old_callers : List F) (h : List Entry) (new : Devices D F) : Type 0 where
   pub bytes : List ℕ
   pub more : List ℕ
@@ -113,7 +113,8 @@ pub record HasStoppedRun {S D F : Type 0} (t : Telling D F) (left : S → Option
   pub setting : QueueSetting
   pub is_setting : IsSettingOf config calls visibility f.said (messages_in_items (from_start config.start (items_read (line_kind config) config.factor whole bytes).items)) setting
   pub trouble : Option Trouble
-  pub no_fault : HasNoFault trouble
-  pub headline : Headline t f setting h trouble [] new
+  pub fault : IsFaultOf t f new trouble
+  pub hand : List Entry
+  pub headline : Headline t f setting h trouble hand new
   pub calls_made : CallsMadeOrOneMore t setting h old_callers new.callers
   pub others : OthersRest t config setting h old_callers new.callers

@@ -13,7 +13,7 @@ ghost use Rattle.esm_said.specs.SaidLists.{IsInOrder};
 ghost use Rattle.esm_said.specs.Tells.{Tells};
 ghost use Rattle.esm_queue_model.specs.QueueSetting.{is_fifo};
 ghost use Rattle.esm_qbook.specs.Opening.{IsOpened};
-ghost use Rattle.esm_pool.specs.Running.{outside};
+ghost use Rattle.esm_batchers.specs.Working.{outside};
 ghost use Rattle.esm_stream.specs.Files.{IsOpenedFiles};
 ghost use Rattle.esm_stream.specs.Headline.{telling};
 ghost use Rattle.esm_queue_run.specs.Ended.{HasEnded, HasStoppedRun};
@@ -24,7 +24,7 @@ use esm_io::{Caller, Clock, Disk, Source};
 use esm_journal::{FileDest, Pair};
 use esm_model::{BookOpen, Change, Config, Entry, Kind, OutOfMemory, Refused, Text, Trouble};
 use esm_qbook::{QueueBook, QueueParts};
-use esm_qpool::{RunEnd, batchers_of, run_in_turn};
+use esm_qpool::{Ran, RunEnd, batchers_of, run_queue as run_batchers};
 use esm_queue_model::history_laws::{
     deleted_once, every_message_counted, legal_over_more, order_per_group,
 };
@@ -35,6 +35,7 @@ use esm_stream::{Files, FilesParts};
 use std::alloc::Global;
 use std::snapshot::Snapshot;
 use std::sync::Wait;
+use std::thread::Threads;
 
 /// How the run of a queue's mapping ended.
 #[derive(Drop, Debug)]
@@ -219,7 +220,13 @@ fn end_of(
 }
 
 /// Runs the mapping of an opened book.
-fn run_opened<R: Wait, S: Source, C: Clock, F: Caller, D: Disk>(
+fn run_opened<
+    R: Threads + Wait + Sync,
+    S: Source + Send,
+    C: Clock + Sync,
+    F: Caller + Send,
+    D: Disk + Send,
+>(
     rt: &R,
     alloc: Global,
     run: Opened<S, D>,
@@ -227,6 +234,7 @@ fn run_opened<R: Wait, S: Source, C: Clock, F: Caller, D: Disk>(
     said: Says,
     callers: Vec<F>,
     clock: &C,
+    read_first: bool,
     before: &Before<D>,
 ) -> QueueRun<S, D, F>
     requires config { IsQueueConfig run.book.core.setting.config }
@@ -251,18 +259,21 @@ fn run_opened<R: Wait, S: Source, C: Clock, F: Caller, D: Disk>(
         name,
         batchers,
     } = run;
-    let mut book = book;
-    let mut input = input;
-    let mut callers = callers;
-    let ran = run_in_turn(
+    let Ran {
+        end: ran,
+        book,
+        input,
+        callers,
+    } = run_batchers(
         rt,
         alloc,
-        &mut book,
-        &mut input,
+        book,
+        input,
         name.as_str(),
         batchers,
-        &mut callers,
+        callers,
         clock,
+        read_first,
     );
     deleted_once();
     order_per_group();
@@ -309,10 +320,16 @@ fn closed<S, F, D: Disk>(
     }
 }
 
-/// Runs the mapping: the input is read to its end before the first call, and then the batchers are asked in turn. A deletion
-/// is written to the journal before it counts. The failure file is left as it was opened, since a queue delivers no lines.
+/// Runs the mapping, its reader and its batchers as threads; with `read_first` no call begins before the input has ended. A
+/// deletion is written to the journal before it counts. The failure file is left as it was opened, since a queue delivers no lines.
 /// `calls` is how many calls may be made in all, `visibility_ms` the visibility timeout in milliseconds.
-pub fn run_queue<R: Wait, S: Source, D: Disk, C: Clock, F: Caller>(
+pub fn run_queue<
+    R: Threads + Wait + Sync,
+    S: Source + Send,
+    D: Disk + Send,
+    C: Clock + Sync,
+    F: Caller + Send,
+>(
     rt: &R,
     alloc: Global,
     config: Config,
@@ -322,6 +339,7 @@ pub fn run_queue<R: Wait, S: Source, D: Disk, C: Clock, F: Caller>(
     input: S,
     callers: Vec<F>,
     clock: &C,
+    read_first: bool,
 ) -> QueueRun<S, D, F>
     requires config { IsQueueConfig config }
     requires patterns { is_ok (read_patterns (is_stream config.kind) config.filters) ≡ true }
@@ -353,7 +371,9 @@ pub fn run_queue<R: Wait, S: Source, D: Disk, C: Clock, F: Caller>(
     every_message_counted();
     legal_over_more();
     match begin(alloc, config, calls, visibility_ms, &said, pair, input) {
-        Ok(run) => run_opened(rt, alloc, run, dest, said, callers, clock, &before),
+        Ok(run) => run_opened(
+            rt, alloc, run, dest, said, callers, clock, read_first, &before,
+        ),
         Err(refused) => {
             let (pair, input) = refused.back;
             let stopped = Err(OutOfMemory);

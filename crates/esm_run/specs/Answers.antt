@@ -15,7 +15,7 @@ use Rattle.esm_journal.specs.Reads.{IsOnlyRead}
 use Rattle.esm_mapping.specs.Named.{IsNamed, WhyNot}
 use Rattle.esm_mapping.specs.declared.named.MappingError.{MappingError}
 use Rattle.esm_mapping.specs.declared.named.NamedMapping.{NamedMapping}
-use Rattle.esm_pool.specs.Running.{outside}
+use Rattle.esm_batchers.specs.Working.{outside}
 use Rattle.esm_queue_report.specs.Queue.{queue_report_text}
 use Rattle.esm_queue_run.specs.Ended as queue
 use Rattle.esm_queue_run.specs.declared.run.QueueEnd.{QueueEnd}

@@ -20,6 +20,7 @@ use esm_queue_report::queue_report;
 use esm_report::{Ending, last_line, report};
 use std::alloc::Global;
 use std::sync::Wait;
+use std::thread::Threads;
 
 /// Tells of an ending that stands alone, and answers the exit status.
 fn tell_alone<K: Sink>(alloc: Global, out: &mut K, ending: &Ending) -> u8
@@ -105,12 +106,15 @@ fn tell_end<K: Sink>(
 }
 
 /// Runs the mapping that the words name, tells how it ended, and hands the world back with the exit status.
-pub fn run<R: Wait, S: Source, K: Sink, D: Disk, C: Clock, F: Caller, L: Door>(
-    rt: &R,
-    alloc: Global,
-    words: RunWords,
-    world: World<S, K, D, C, F, L>,
-) -> Ended<S, K, D, C, F, L>
+pub fn run<
+    R: Threads + Wait + Sync,
+    S: Source + Send,
+    K: Sink,
+    D: Disk + Send,
+    C: Clock + Sync,
+    F: Caller + Send,
+    L: Door,
+>(rt: &R, alloc: Global, words: RunWords, world: World<S, K, D, C, F, L>) -> Ended<S, K, D, C, F, L>
     requires { length world.callers.items ≡ MAX_LANES }
     ensures outcome { result.status ≢ 70 → RunOutcome (outside_of C.gave F.sends F.log (meaning D.honest D.content D.image D.moment D.image_since D.faults) S.faults S.left) words
         (written_of K.faults K.written world.out result.world.out) (reverse result.world.trace.items)

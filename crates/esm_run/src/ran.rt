@@ -20,6 +20,7 @@ use esm_report::Ending;
 use esm_stream::{Files, open_files, run_stream};
 use std::alloc::Global;
 use std::sync::Wait;
+use std::thread::Threads;
 
 fn is_stream(kind: Kind) -> bool
     ensures { result ≡ is_stream kind }
@@ -77,7 +78,13 @@ fn closed<S, D: Disk, F>(
 
 /// Runs the mapping that the words name, a stream's or a queue's, over the opened files. A queue's messages are hidden for
 /// the seconds of `--visibility` once they are received.
-fn run_mapping<R: Wait, S: Source, D: Disk, C: Clock, F: Caller>(
+fn run_mapping<
+    R: Threads + Wait + Sync,
+    S: Source + Send,
+    D: Disk + Send,
+    C: Clock + Sync,
+    F: Caller + Send,
+>(
     rt: &R,
     alloc: Global,
     words: &RunWords,
@@ -109,10 +116,11 @@ fn run_mapping<R: Wait, S: Source, D: Disk, C: Clock, F: Caller>(
     } = opened;
     let NamedMapping { config, start } = mapping;
     let calls = words.calls;
+    let read_first = words.read_first;
     files.keeps();
     if is_stream(config.kind) {
         let run = run_stream(
-            rt, alloc, config, start, calls, files, input, callers, clock,
+            rt, alloc, config, start, calls, files, input, callers, clock, read_first,
         );
         stream_ran(alloc, run, registry)
     } else {
@@ -127,19 +135,20 @@ fn run_mapping<R: Wait, S: Source, D: Disk, C: Clock, F: Caller>(
             input,
             callers,
             clock,
+            read_first,
         );
         queue_ran(alloc, run, registry)
     }
 }
 
 /// Reads the mapping that the words name over the opened files, and runs it.
-fn run_opened<R: Wait, S: Source, D: Disk, C: Clock, F: Caller>(
-    rt: &R,
-    alloc: Global,
-    words: &RunWords,
-    opened: Opened<S, D, F>,
-    clock: &C,
-) -> Ran<S, D, F>
+fn run_opened<
+    R: Threads + Wait + Sync,
+    S: Source + Send,
+    D: Disk + Send,
+    C: Clock + Sync,
+    F: Caller + Send,
+>(rt: &R, alloc: Global, words: &RunWords, opened: Opened<S, D, F>, clock: &C) -> Ran<S, D, F>
     requires callers { length opened.callers.items ≡ MAX_LANES }
     ensures ended { IfOk result.end (EndsWith (outside_of C.gave F.sends F.log (meaning D.honest D.content D.image D.moment D.image_since D.faults) S.faults S.left) words.now (reverse result.trace.items)
         (seen_of opened.input opened.files.journal opened.files.spare opened.files.failures opened.registry opened.callers.items)
@@ -169,13 +178,13 @@ fn run_opened<R: Wait, S: Source, D: Disk, C: Clock, F: Caller>(
 }
 
 /// Opens the files of a run, reads its mapping, and runs it.
-pub fn run_words<R: Wait, S: Source, D: Disk, C: Clock, F: Caller>(
-    rt: &R,
-    alloc: Global,
-    words: RunWords,
-    devices: RunDevices<S, D, F>,
-    clock: &C,
-) -> Ran<S, D, F>
+pub fn run_words<
+    R: Threads + Wait + Sync,
+    S: Source + Send,
+    D: Disk + Send,
+    C: Clock + Sync,
+    F: Caller + Send,
+>(rt: &R, alloc: Global, words: RunWords, devices: RunDevices<S, D, F>, clock: &C) -> Ran<S, D, F>
     requires { length devices.callers.items ≡ MAX_LANES }
     ensures ended { IfOk result.end (EndsWith (outside_of C.gave F.sends F.log (meaning D.honest D.content D.image D.moment D.image_since D.faults) S.faults S.left) words (reverse result.trace.items)
         (seen_of devices.input devices.journal devices.spare devices.failures devices.registry devices.callers.items)

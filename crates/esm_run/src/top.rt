@@ -31,7 +31,15 @@ use std::thread::Threads;
 
 /// Runs what the options of `run` ask for, or tells that the words spell no command, and hands the world back with the exit
 /// status.
-fn perform<R: Wait, S: Source, K: Sink, D: Disk, C: Clock, F: Caller, L: Door>(
+fn perform<
+    R: Threads + Wait + Sync,
+    S: Source + Send,
+    K: Sink,
+    D: Disk + Send,
+    C: Clock + Sync,
+    F: Caller + Send,
+    L: Door,
+>(
     rt: &R,
     alloc: Global,
     words: &[String],
@@ -86,7 +94,15 @@ fn perform<R: Wait, S: Source, K: Sink, D: Disk, C: Clock, F: Caller, L: Door>(
 /// that is no journal, is damaged or has a bad payload, or a record or message differs from the kept one; 9 where the
 /// mapping is unknown or disabled, or a parameter is refused; 10 past a limit; 11 where the door failed; 70 for want of
 /// memory, after which nothing is told. 4, 5, 6, 7 and 11 come only where the device's count of faults rose.
-pub fn esm<R: Threads + Wait + Sync, S: Source, K: Sink, D: Disk, C: Clock, F: Caller, L: Door>(
+pub fn esm<
+    R: Threads + Wait + Sync,
+    S: Source + Send,
+    K: Sink,
+    D: Disk + Send,
+    C: Clock + Sync,
+    F: Caller + Send,
+    L: Door,
+>(
     rt: &R,
     alloc: Global,
     words: &[String],

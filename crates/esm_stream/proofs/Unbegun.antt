@@ -91,8 +91,8 @@ not_begun {S} {D} {F} t left_in config start calls f old callers new laws files 
     let b : BookState D (JournalState D) = new_book config calls f in
     let left : IsLeft t.disk f b = left_new t.disk config calls f files in
     let of : AreOf b new = record { journal = first; spare = second; failures = lines } in
-    stopped t left_in config start calls f old (new_input config start old) callers b b new laws (record { core = refl }) left of
-    (record { kind = refl; factor = refl; start_is = refl; found = refl }) refl (headline t f b new laws left of tt) tt
+    stopped t left_in config start calls f old (new_input config start old) callers b b new laws (record { core = refl }) left of tt
+    (record { kind = refl; factor = refl; start_is = refl; found = refl }) refl (headline t f b new laws left of tt)
     (record { bytes = []; more = []; whole = false; taken = takes_none (left_in old); came = λ n. (of_shard n (records_in_items (from_start start (items_read kinds.Stream config.factor false []).items)), refl) })
     (λ k d within. inl (subst (λ (xs : List F). Grows (t.callers.log (slice_index_or callers k d)) (t.callers.log (slice_index_or xs k d)) []) (sym same) (grows_by_none (t.callers.log (slice_index_or callers k d)))))
 

@@ -1,5 +1,5 @@
 -- Why a run of a stream's mapping ended so. This product's own.
-use Rattle.std.specs.Prelude.{◌≡◌, ◌⊎◌, ◌++◌, ℕ, Bool, true, false, List, [], length, Option, Some, None, IsSome}
+use Rattle.std.specs.Prelude.{◌≡◌, ◌⊎◌, ◌++◌, ℕ, Bool, true, false, List, length, Option, Some, None, IsSome}
 use Rattle.esm_io.specs.Faults.{Rose}
 use Rattle.esm_io.specs.Told.{TakesFront}
 use Rattle.esm_model.specs.declared.book.Trouble.{Trouble}
@@ -72,14 +72,14 @@ pub record HasEnded {S D F : Type 0} (t : Telling D F) (faults : S → ℕ) (lef
   pub rests : NoneRuns h
   pub cause : IsCauseOf t f setting h (records_in_items (handed input)) input.end new e
 
--- no device failed
-abbrev pub HasNoFault : Option Trouble → Type 0
-HasNoFault (Some trouble.Disk) = ⊥
-HasNoFault (Some trouble.Dest) = ⊥
-HasNoFault _ = Unit {0}
+-- the faults of a disk of the journal rose, or those of the failure file, where the trouble says so
+abbrev pub IsFaultOf : {D F : Type 0} → Telling D F → FilesState D → Devices D F → Option Trouble → Type 0
+IsFaultOf t f new (Some trouble.Disk) = OneRose t.disk f.journal f.spare new.journal new.spare
+IsFaultOf t f new (Some trouble.Dest) = Rose (t.disk.faults f.failures) (t.disk.faults new.failures)
+IsFaultOf t f new _ = Unit {0}
 
 -- Want of memory stopped it: these bytes were read, the records of their lines came, or the first of them, and more bytes may
--- have been read after them. No disk failed.
+-- have been read after them. A device may have failed beside it.
 pub record HasStoppedRun {S D F : Type 0} (t : Telling D F) (left : S → Option (List ℕ)) (config : Config) (start : Start) (calls : ℕ) (f : FilesState D) (old_input new_input : S) (old_callers : List F) (h : List Entry) (new : Devices D F) : Type 0 where
   pub bytes : List ℕ
   pub more : List ℕ
@@ -88,6 +88,7 @@ pub record HasStoppedRun {S D F : Type 0} (t : Telling D F) (left : S → Option
   pub setting : Setting
   pub is_setting : IsSettingOf config calls f.said (records_in_items (from_start start (items_read kinds.Stream config.factor whole bytes).items)) setting
   pub trouble : Option Trouble
-  pub no_fault : HasNoFault trouble
-  pub headline : Headline t f setting h trouble [] new
+  pub fault : IsFaultOf t f new trouble
+  pub hand : List Entry
+  pub headline : Headline t f setting h trouble hand new
   pub calls_made : CallsMadeOrOneMore t setting h old_callers new.callers

@@ -20,7 +20,7 @@ use Rattle.esm_said.specs.SaidLists.{SaidLists}
 use Rattle.esm_upkeep.specs.Upkeep.{AreHonest, AreSettled, PairHolds}
 use Rattle.esm_sbook.specs.Books.{payloads_in}
 use Rattle.esm_pool.specs.Given.{AreGiven}
-use Rattle.esm_pool.specs.Running.{Outside}
+use Rattle.esm_batchers.specs.Working.{Outside}
 use Rattle.esm_pool.specs.Stopping.{HasLogged}
 use Rattle.esm_stream.specs.Files.{FilesState}
 

@@ -11,7 +11,7 @@ ghost use Rattle.esm_said.specs.Meaning.{history, are_good};
 ghost use Rattle.esm_said.specs.SaidLists.{IsInOrder};
 ghost use Rattle.esm_said.specs.Tells.{Tells};
 ghost use Rattle.esm_sbook.specs.Opening.{IsOpened};
-ghost use Rattle.esm_pool.specs.Running.{outside};
+ghost use Rattle.esm_batchers.specs.Working.{outside};
 ghost use Rattle.esm_stream.specs.Files.{IsOpenedFiles};
 ghost use Rattle.esm_stream.specs.Headline.{telling, Devices};
 ghost use Rattle.esm_stream.specs.Ended.{HasEnded, HasStoppedRun};
@@ -24,7 +24,7 @@ use esm_journal::{FileDest, Pair};
 use esm_model::laws::{every_record_counted, no_repeat, order_per_key};
 use esm_model::{BookOpen, Change, Config, Entry, OutOfMemory, Refused, Start, Text, Trouble};
 use esm_payload::laws::history_payloads_stay;
-use esm_pool::{RunEnd, run_in_turn};
+use esm_pool::{Ran, RunEnd, run_lanes};
 use esm_record::LineKind;
 use esm_said::Says;
 use esm_said::laws::same_told;
@@ -32,6 +32,7 @@ use esm_sbook::{Book, Parts};
 use std::alloc::Global;
 use std::snapshot::Snapshot;
 use std::sync::Wait;
+use std::thread::Threads;
 
 /// How the run of a stream's mapping ended.
 #[derive(Drop, Debug)]
@@ -204,13 +205,20 @@ fn end_of(
 }
 
 /// Runs the mapping of an opened book.
-fn run_opened<R: Wait, S: Source, C: Clock, F: Caller, D: Disk>(
+fn run_opened<
+    R: Threads + Wait + Sync,
+    S: Source + Send,
+    C: Clock + Sync,
+    F: Caller + Send,
+    D: Disk + Send,
+>(
     rt: &R,
     alloc: Global,
     run: Opened<S, D>,
     said: Says,
     callers: Vec<F>,
     clock: &C,
+    read_first: bool,
     before: &Before<D>,
 ) -> StreamRun<S, D, F>
     requires config { IsStreamConfig run.book.core.setting.config }
@@ -230,17 +238,20 @@ fn run_opened<R: Wait, S: Source, C: Clock, F: Caller, D: Disk>(
     ensures as_many { length result.callers.items ≡ MAX_LANES }
 {
     let Opened { book, input, name } = run;
-    let mut book = book;
-    let mut input = input;
-    let mut callers = callers;
-    let ran = run_in_turn(
+    let Ran {
+        end: ran,
+        book,
+        input,
+        callers,
+    } = run_lanes(
         rt,
         alloc,
-        &mut book,
-        &mut input,
+        book,
+        input,
         name.as_str(),
-        &mut callers,
+        callers,
         clock,
+        read_first,
     );
     order_per_key();
     no_repeat();
@@ -295,10 +306,16 @@ fn closed<S, F, D: Disk>(
     }
 }
 
-/// Runs the mapping from this starting position on: the input is read to its end before the first call, and then the
-/// batchers are asked in turn. What is written is written before it counts: each failure line to the failure file, and then
+/// Runs the mapping from this starting position on, its reader and its batchers as threads; with `read_first` no call begins
+/// before the input has ended. What is written is written before it counts: each failure line to the failure file, and then
 /// each fate, state and failed try to the journal.
-pub fn run_stream<R: Wait, S: Source, C: Clock, F: Caller, D: Disk>(
+pub fn run_stream<
+    R: Threads + Wait + Sync,
+    S: Source + Send,
+    C: Clock + Sync,
+    F: Caller + Send,
+    D: Disk + Send,
+>(
     rt: &R,
     alloc: Global,
     config: Config,
@@ -308,6 +325,7 @@ pub fn run_stream<R: Wait, S: Source, C: Clock, F: Caller, D: Disk>(
     input: S,
     callers: Vec<F>,
     clock: &C,
+    read_first: bool,
 ) -> StreamRun<S, D, F>
     requires config { IsStreamConfig config }
     requires patterns { is_ok (read_patterns (is_stream config.kind) config.filters) ≡ true }
@@ -339,7 +357,7 @@ pub fn run_stream<R: Wait, S: Source, C: Clock, F: Caller, D: Disk>(
     every_record_counted();
     history_payloads_stay();
     match begin(alloc, config, start, calls, &said, pair, dest, input) {
-        Ok(run) => run_opened(rt, alloc, run, said, callers, clock, &before),
+        Ok(run) => run_opened(rt, alloc, run, said, callers, clock, read_first, &before),
         Err(refused) => {
             let (pair, dest, input) = refused.back;
             let stopped = Err(OutOfMemory);

@@ -191,7 +191,12 @@ fn mapping_run(rt: HostRuntime) -> Result<(), Fail> {
     let (front, rest) = (STREAM, ",\"StartingPosition\":\"TRIM_HORIZON\"}");
     let text = format!(in alloc; "{front}{rest}")?;
     world.registry = registry_with(alloc, text.as_str())?;
-    let seen = left(&rt, alloc, &["run", "--mapping", FIRST], world)?;
+    let seen = left(
+        &rt,
+        alloc,
+        &["run", "--mapping", FIRST, "--read-first"],
+        world,
+    )?;
     assert!(rt;
         told(
             &seen,

@@ -4,5 +4,5 @@ use Rattle.esm.proofs.Refusals.{status_of_no_words}
 use Rattle.esm.proofs.perform.Goals as goal
 
 pub returns : goal.returns
-returns g c = λ none not-70.
-    status_of_no_words c.esm-ended.result.status (map string_bytes c.args.opening.command.now) none c.esm-ended.ensures.spelled not-70
+returns g c = λ refused not-70.
+    status_of_no_words c.esm-ended.result.status (map string_bytes c.args.command.now) (c.requires.none refused) c.esm-ended.ensures.spelled not-70

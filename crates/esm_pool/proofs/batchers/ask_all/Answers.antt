@@ -1,6 +1,7 @@
 use Rattle.std.proofs.Common.{◌≡◌, ap, rules, subst, length, arith}
 use Rattle.esm_pool.specs.declared.batchers.Round.{Round}
-use Rattle.esm_pool.specs.Running.{AreQuiet, outside}
+use Rattle.esm_batchers.specs.Working.{outside}
+use Rattle.esm_pool.specs.Running.{AreQuiet}
 use Rattle.esm_pool.proofs.Asking.{have_none, have_one, have_then, quiet_none, quiet_more}
 use Rattle.esm_pool.proofs.Stops.{stopped_after, stopped_one}
 use Rattle.esm_pool.proofs.batchers.ask_all.Goals as goal

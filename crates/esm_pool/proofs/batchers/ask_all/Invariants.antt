@@ -1,5 +1,6 @@
 use Rattle.std.proofs.Common.{◌≡◌, true, false, None}
-use Rattle.esm_pool.specs.Running.{HaveAsked, AreQuiet, outside}
+use Rattle.esm_batchers.specs.Working.{outside}
+use Rattle.esm_pool.specs.Running.{HaveAsked, AreQuiet}
 use Rattle.esm_pool.proofs.batchers.ask_all.Given as goal
 
 abbrev pub invariant-loop-batcher : goal.invariant-loop-batcher

@@ -1,5 +1,5 @@
 use Rattle.std.proofs.Common.{◌≡◌, refl, Bool, true, false, not}
-use Rattle.esm_pool.specs.Running.{outside}
+use Rattle.esm_batchers.specs.Working.{outside}
 use Rattle.esm_pool.proofs.Asking.{have_none, have_then}
 use Rattle.esm_pool.proofs.batchers.run_rounds.Goals as goal
 

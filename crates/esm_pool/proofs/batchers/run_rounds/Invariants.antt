@@ -1,5 +1,6 @@
 use Rattle.std.proofs.Common.{◌≡◌, None}
-use Rattle.esm_pool.specs.Running.{HaveAsked, outside}
+use Rattle.esm_batchers.specs.Working.{outside}
+use Rattle.esm_pool.specs.Running.{HaveAsked}
 use Rattle.esm_pool.proofs.batchers.run_rounds.Given as goal
 
 abbrev pub invariant-loop : goal.invariant-loop

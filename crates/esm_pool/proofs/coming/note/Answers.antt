@@ -1,35 +1,45 @@
-use Rattle.std.proofs.Common.{rules}
-use Rattle.esm_pool.proofs.Arriving.{not_shut, taken_all, taken_some, added_all, added_some, added_so, changed_some, changed_trouble, same_some}
+use Rattle.std.proofs.Common.{ap}
+use Rattle.esm_core.specs.Told.{told_of}
+use Rattle.esm_model.specs.Books.{records_told}
+use Rattle.esm_turn.specs.Seats.{SeatView}
+use Rattle.esm_sbook.specs.Books.{setup_of, is_down}
+use Rattle.esm_pool.specs.Taking.{come_by}
+use Rattle.esm_pool.proofs.Turning.{gives, seated_again, come_same, open_found, open_back, some_as, added_if, stop_if}
 use Rattle.esm_pool.proofs.coming.note.Goals as goal
 
-pub came-requires : goal.came-requires
-came-requires g c = record { may = record { going = not_shut c.args.book.now.core.past c.requires.only; few = c.requires.few; valid = c.requires.valid } }
+pub bring-came-requires-clause-going : goal.bring-came-requires-clause-going
+bring-came-requires-clause-going g c = open_found g.C.Clock.gave c.args.turn.now c.args.seat.now c.requires.seated (setup_of g.row.D.coded g.row.T.coded g.T.Dest.lines c.take-value.result.value) c.take-value.result.value
+    (record { setup_is = c.take-value.ensures.setup; begins = c.take-value.ensures.begins; mine = c.take-value.ensures.mine }) c.requires.going
 
-pub returns-in-Ok-clause-taken : goal.returns-in-Ok-clause-taken
-returns-in-Ok-clause-taken g c = taken_all _ _ g.C.Clock.gave c.args.list.items c.now.result c.args.book.now c.came.new.self c.now.ensures c.in-Ok.ensures.added
+pub give-requires : goal.give-requires
+give-requires g c =
+    let given = gives g.row.D.coded g.row.T.coded g.T.Dest.lines g.C.Clock.gave c.args.turn.now c.now-moment.result c.args.seat.now c.take-value.result.value c.bring-came.new.book c.requires.seated
+    (record { setup_is = c.take-value.ensures.setup; begins = c.take-value.ensures.begins; mine = c.take-value.ensures.mine }) c.bring-came.ensures.brought c.know_legal.ensures
+    c.take-value.new.seat c.take-value.ensures.seat in
+    record { at = given.at; holds = given.holds; setup = given.setup_is; goes_on = given.goes_on; legal = given.legal; own = given.own; marked = given.marked }
 
-pub returns-in-Ok-clause-added : goal.returns-in-Ok-clause-added
-returns-in-Ok-clause-added g c = added_all _ _ c.args.list.items c.now.result c.args.book.now c.came.new.self c.in-Ok.ensures.added
+pub returns-clause-seated : goal.returns-clause-seated
+returns-clause-seated g c = seated_again g.row.D.coded g.row.T.coded g.T.Dest.lines g.C.Clock.gave c.args.turn.now c.now-moment.result c.args.seat.now c.take-value.result.value c.bring-came.new.book c.requires.seated
+    (record { setup_is = c.take-value.ensures.setup; begins = c.take-value.ensures.begins; mine = c.take-value.ensures.mine }) c.bring-came.ensures.brought c.know_legal.ensures
+    c.take-value.new.seat c.give.new.seat c.now-moment.ensures c.take-value.ensures.seat c.give.ensures
 
-pub returns-in-Ok-clause-some : goal.returns-in-Ok-clause-some
-returns-in-Ok-clause-some g c = added_so c.args.book.now c.came.new.self c.args.list.items (added_all _ _ c.args.list.items c.now.result c.args.book.now c.came.new.self c.in-Ok.ensures.added)
+pub returns-clause-going : goal.returns-clause-going
+returns-clause-going g c = open_back c.bring-came.new.book c.give.new.seat (ap (λ (s : SeatView). s.seen) c.give.ensures) c.bring-came.ensures.going
 
-pub returns-in-Err-StreamChanged-clause-some : goal.returns-in-Err-StreamChanged-clause-some
-returns-in-Err-StreamChanged-clause-some g c =
-    let change = c.in-Err-StreamChanged.field-0-0 in
-    changed_some c.args.book.now c.came.new.self c.args.list.items change (c.in-Err-StreamChanged.ensures.changed change (search rules)).2
-
-pub returns-in-Err-StreamChanged-clause-trouble : goal.returns-in-Err-StreamChanged-clause-trouble
-returns-in-Err-StreamChanged-clause-trouble g c =
-    let change = c.in-Err-StreamChanged.field-0-0 in
-    let changed = c.in-Err-StreamChanged.ensures.changed change (search rules) in
-    changed_trouble c.args.book.now c.came.new.self c.args.list.items change c.know.ensures changed.1 changed.2
-
-pub returns-in-Err-DiskFault-clause-taken : goal.returns-in-Err-DiskFault-clause-taken
-returns-in-Err-DiskFault-clause-taken g c = taken_some _ _ g.C.Clock.gave c.args.list.items c.now.result _ c.args.book.now c.came.new.self c.now.ensures (c.in-Err-DiskFault.ensures.stopped (search rules))
-
-pub returns-in-Err-DiskFault-clause-some : goal.returns-in-Err-DiskFault-clause-some
-returns-in-Err-DiskFault-clause-some g c = added_some _ _ c.args.list.items c.now.result _ c.args.book.now c.came.new.self c.know.ensures c.down-in-Err-DiskFault.ensures.sound (c.in-Err-DiskFault.ensures.stopped (search rules))
+pub returns-clause-added : goal.returns-clause-added
+returns-clause-added g c = added_if (come_by c.args.seat.now.seen) (come_by c.give.new.seat.seen) (come_by (told_of c.take-value.result.value.core)) (come_by (told_of c.bring-came.new.book.core)) c.args.list.items c.bring-came.result
+    (come_same g.C.Clock.gave c.args.turn.now c.args.seat.now c.requires.seated (setup_of g.row.D.coded g.row.T.coded g.T.Dest.lines c.take-value.result.value) c.take-value.result.value
+    (record { setup_is = c.take-value.ensures.setup; begins = c.take-value.ensures.begins; mine = c.take-value.ensures.mine }))
+    (λ n. ap (λ (s : SeatView). records_told n s.seen) c.give.ensures) c.bring-came.ensures.added
 
 pub returns-clause-some : goal.returns-clause-some
-returns-clause-some g c = same_some _ c.args.book.now c.came.new.self c.args.list.items (c.in-Err-OutOfMemory.ensures.no_memory (search rules))
+returns-clause-some g c = some_as (come_by c.args.seat.now.seen) (come_by c.give.new.seat.seen) (come_by (told_of c.take-value.result.value.core)) (come_by (told_of c.bring-came.new.book.core)) c.args.list.items
+    (come_same g.C.Clock.gave c.args.turn.now c.args.seat.now c.requires.seated (setup_of g.row.D.coded g.row.T.coded g.T.Dest.lines c.take-value.result.value) c.take-value.result.value
+    (record { setup_is = c.take-value.ensures.setup; begins = c.take-value.ensures.begins; mine = c.take-value.ensures.mine }))
+    (λ n. ap (λ (s : SeatView). records_told n s.seen) c.give.ensures) c.bring-came.ensures.some
+
+pub returns-clause-stop : goal.returns-clause-stop
+returns-clause-stop g c = stop_if (come_by c.args.seat.now.seen) (come_by (told_of c.take-value.result.value.core)) c.args.list.items (is_down c.bring-came.new.book) c.give.new.seat.mark c.bring-came.result
+    (come_same g.C.Clock.gave c.args.turn.now c.args.seat.now c.requires.seated (setup_of g.row.D.coded g.row.T.coded g.T.Dest.lines c.take-value.result.value) c.take-value.result.value
+    (record { setup_is = c.take-value.ensures.setup; begins = c.take-value.ensures.begins; mine = c.take-value.ensures.mine }))
+    (ap (λ (s : SeatView). s.mark) c.give.ensures) c.bring-came.ensures.stop

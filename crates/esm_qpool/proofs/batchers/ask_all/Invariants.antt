@@ -1,5 +1,5 @@
 use Rattle.std.proofs.Common.{◌≡◌, true, false, None}
-use Rattle.esm_pool.specs.Running.{outside}
+use Rattle.esm_batchers.specs.Working.{outside}
 use Rattle.esm_qpool.specs.Running.{HaveAsked, AreQuiet}
 use Rattle.esm_qpool.proofs.batchers.ask_all.Given as goal
 

@@ -1,4 +1,4 @@
-use Rattle.esm_pool.specs.Running.{outside}
+use Rattle.esm_batchers.specs.Working.{outside}
 use Rattle.esm_qpool.proofs.Asking.{have_none, have_then}
 use Rattle.esm_qpool.proofs.batchers.run_rounds.Goals as goal
 

@@ -1,5 +1,5 @@
 use Rattle.std.proofs.Common.{◌≡◌, None}
-use Rattle.esm_pool.specs.Running.{outside}
+use Rattle.esm_batchers.specs.Working.{outside}
 use Rattle.esm_qpool.specs.Running.{HaveAsked}
 use Rattle.esm_qpool.proofs.batchers.run_rounds.Given as goal
 

@@ -4,21 +4,23 @@ use Rattle.std.specs.Option.{option_copied}
 use Rattle.std.proofs.lemmas.List.{reverse-reverse}
 use Rattle.std.proofs.lemmas.Result.{IfOk-weaker, on_err_weaker}
 use Rattle.esm_io.specs.Meanings.{DiskMeaning, disk as meaning}
+use Rattle.esm_journal.specs.Pair.{PairState, first_disk, second_disk}
+use Rattle.esm_journal.specs.Reads.{IsOnlyRead}
 use Rattle.esm_model.specs.declared.entry.Entry.{Entry}
 use Rattle.esm_model.specs.declared.book.Trouble.{Trouble}
 use Rattle.esm_input.specs.declared.ending.InputEnd.{InputEnd}
 use Rattle.esm_input.specs.Reading.{InputState}
 use Rattle.esm_qbook.specs.Books.{BookState}
 use Rattle.esm_queue_core.specs.CoreView.{all_messages}
-use Rattle.esm_pool.specs.Running.{outside}
+use Rattle.esm_batchers.specs.Working.{outside}
 use Rattle.esm_stream.specs.Files.{FilesState}
 use Rattle.esm_stream.specs.Headline.{Devices, Telling, telling}
 use Rattle.esm_queue_run.specs.Ended.{HasEnded, HasStoppedRun}
-use Rattle.esm_queue_run.specs.Runs.{EndsBy, IsLeft, StopsBy, files_of}
+use Rattle.esm_queue_run.specs.Runs.{EndsBy, IsLeft, files_of, HasReason, IsOfQueue}
 use Rattle.esm_queue_run.specs.declared.run.QueueEnd.{QueueEnd}
 use Rattle.esm_queue_run.proofs.Headlines.{AreLaws, AreOf}
 use Rattle.esm_queue_run.proofs.Messages.{came_all}
-use Rattle.esm_queue_run.proofs.Ways.{HasCome, IsMadeFor, StoodSo, ended_by, found_stays, made_for, stopped_by}
+use Rattle.esm_queue_run.proofs.Ways.{HasCome, IsMadeFor, StoodSo, ended_by, found_ran, found_stays, made_for, of_queue, reason_of, stopped_by}
 use Rattle.esm_queue_run.proofs.run.run_opened.Goals as goal
 
 pub returns : goal.returns
@@ -30,22 +32,22 @@ returns g c =
     let calls = before.core.setting.calls in
     let visibility = before.core.setting.visibility in
     let files : FilesState g.row.D.Denot = files_of c.args.before.now.journal.value c.args.before.now.spare.value c.args.before.now.failures.value c.args.said before c.args.dest in
-    let b : BookState g.row.D.Denot = c.run_in_turn-ran.new.book in
-    let i : InputState g.row.S.Denot = c.run_in_turn-ran.new.input in
-    let ran = c.run_in_turn-ran.result in
+    let b : BookState g.row.D.Denot = c.run_queue-ran.result.book in
+    let i : InputState g.row.S.Denot = c.run_queue-ran.result.input in
+    let ran = c.run_queue-ran.result.end in
     let out = c.closed.result in
     let callers = c.args.callers.items in
     let new : Devices g.row.D.Denot g.row.F.Denot = record { journal = out.journal; spare = out.spare; failures = out.failures; callers = out.callers.items } in
     let laws : AreLaws = record { once = c.deleted_once.ensures; order = c.order_per_group.ensures; counted = c.every_message_counted.ensures; more = c.legal_over_more.ensures } in
     let sound = c.trouble.ensures.sound in
     let come : HasCome t g.S.Source.faults g.S.Source.left before b i callers new.callers ran = record {
-      run = rw c.closed.ensures.callers c.run_in_turn-ran.ensures.run;
-      came = c.run_in_turn-ran.ensures.came;
-      ended = c.run_in_turn-ran.ensures.ended;
-      read = c.run_in_turn-ran.ensures.read;
-      good = c.run_in_turn-ran.ensures.good;
-      stopped = rw c.closed.ensures.callers c.run_in_turn-ran.ensures.stopped;
-      cut = c.run_in_turn-ran.ensures.cut;
+      run = rw c.closed.ensures.callers c.run_queue-ran.ensures.run;
+      came = c.run_queue-ran.ensures.came;
+      ended = c.run_queue-ran.ensures.ended;
+      read = c.run_queue-ran.ensures.read;
+      good = c.run_queue-ran.ensures.good;
+      stopped = rw c.closed.ensures.callers c.run_queue-ran.ensures.stopped;
+      cut = c.run_queue-ran.ensures.cut;
     } in
     let stays = found_stays t g.S.Source.faults g.S.Source.left before b i callers new.callers ran come in
     let left : IsLeft m files b = record {
@@ -65,7 +67,7 @@ returns g c =
       spare = rw (← c.into_parts-history.ensures.pair) c.closed.ensures.spare;
       failures = c.closed.ensures.failures;
     } in
-    let made : IsMadeFor config c.args.run.input.source i = made_for config c.args.run.input.source c.args.run.input i c.requires.begun.input c.run_in_turn-ran.ensures.input in
+    let made : IsMadeFor config c.args.run.input.source i = made_for config c.args.run.input.source c.args.run.input i c.requires.begun.input c.run_queue-ran.ensures.input in
     let stood : StoodSo config calls visibility files before = record { core = c.requires.begun.core } in
     let trace : reverse out.trace.items ≡ b.core.past = rw (c.closed.ensures.trace, c.into_parts-history.ensures.history) (reverse-reverse b.core.past) in
     let source : out.input ≡ i.source = c.closed.ensures.input ∙ c.into_parts-source.ensures.source in
@@ -85,11 +87,40 @@ returns g c =
       stopped = subst (λ r. OnErr r Q) (sym c.closed.ensures.end)
           (on_err_weaker c.end_of-end.result
           (λ is.
-          let by : StopsBy ran b.trouble = subst (λ (w : Option Trouble). StopsBy ran w) c.trouble.ensures.value is in
           subst (λ (x : g.row.S.Denot). HasStoppedRun t g.S.Source.left config calls visibility files c.args.run.input.source x callers (reverse out.trace.items) new) (sym source)
           (subst (λ (h : List Entry). HasStoppedRun t g.S.Source.left config calls visibility files c.args.run.input.source i.source callers h new) (sym trace)
-          (stopped_by t g.S.Source.faults g.S.Source.left config calls visibility files c.args.run.input.source i callers before b new ran laws stood left of made come by)))
+          (stopped_by t g.S.Source.faults g.S.Source.left config calls visibility files c.args.run.input.source i callers before b new ran laws stood left of c.trouble.ensures.cause made come)))
           c.end_of-end.ensures.stopped);
       said = c.closed.ensures.said;
       as_many = stays.1 ∙ c.requires.callers;
     }
+
+pub since_before-requires-clause-first : goal.since_before-requires-clause-first
+since_before-requires-clause-first g c =
+    let m : DiskMeaning g.row.D.Denot = meaning g.D.Disk.honest g.D.Disk.content g.D.Disk.image g.D.Disk.moment g.D.Disk.image_since g.D.Disk.faults in
+    let t : Telling g.row.D.Denot g.row.F.Denot = telling (outside g.C.Clock.gave g.F.Caller.sends g.F.Caller.log) m in
+    let ran = c.run_queue-ran in
+    let found : ran.result.book.found ≡ c.args.run.book.pair = found_ran t c.args.run.book ran.result.book c.args.callers.items ran.result.callers.items ran.result.end ran.ensures.run ran.ensures.stopped ∙ c.requires.begun.found in
+    subst (λ (p : PairState g.row.D.Denot). IsOnlyRead m c.args.before.now.journal.value (first_disk p)) (sym found) c.requires.files.read.0
+
+pub since_before-requires-clause-second : goal.since_before-requires-clause-second
+since_before-requires-clause-second g c =
+    let m : DiskMeaning g.row.D.Denot = meaning g.D.Disk.honest g.D.Disk.content g.D.Disk.image g.D.Disk.moment g.D.Disk.image_since g.D.Disk.faults in
+    let t : Telling g.row.D.Denot g.row.F.Denot = telling (outside g.C.Clock.gave g.F.Caller.sends g.F.Caller.log) m in
+    let ran = c.run_queue-ran in
+    let found : ran.result.book.found ≡ c.args.run.book.pair = found_ran t c.args.run.book ran.result.book c.args.callers.items ran.result.callers.items ran.result.end ran.ensures.run ran.ensures.stopped ∙ c.requires.begun.found in
+    subst (λ (p : PairState g.row.D.Denot). IsOnlyRead m c.args.before.now.spare.value (second_disk p)) (sym found) c.requires.files.read.1
+
+pub end_of-end-requires-clause-reason : goal.end_of-end-requires-clause-reason
+end_of-end-requires-clause-reason g c =
+    let ran = c.run_queue-ran in
+    let b : BookState g.row.D.Denot = ran.result.book in
+    subst (λ (w : Option Trouble). IfOk ran.result.end (HasReason w c.into_parts-source.result.1)) (sym c.trouble.ensures.value)
+    (subst (λ (x : Option InputEnd). IfOk ran.result.end (HasReason b.trouble x)) (sym c.into_parts-source.ensures.end)
+    (reason_of ran.result.input b ran.result.end ran.ensures.came ran.ensures.ended))
+
+pub end_of-end-requires-clause-queue : goal.end_of-end-requires-clause-queue
+end_of-end-requires-clause-queue g c =
+    let m : DiskMeaning g.row.D.Denot = meaning g.D.Disk.honest g.D.Disk.content g.D.Disk.image g.D.Disk.moment g.D.Disk.image_since g.D.Disk.faults in
+    let b : BookState g.row.D.Denot = c.run_queue-ran.result.book in
+    subst IsOfQueue (sym c.trouble.ensures.value) (of_queue m b b.trouble c.trouble.ensures.cause)

@@ -13,7 +13,7 @@ returns-in-Err-clause-ended g c =
     (if_ok c.ending_of_files.result (λ e tells. refused_ends _ _ _ _ _ (record {
       untouched = record { no_trace = refl; unread = refl; uncalled = refl };
       unwritten = c.in-Err.ensures.refused.unwritten;
-      registry = registry_unopened m c.args.words.which disk (only_read_same m disk (λ bytes. g.met.D.Disk.only_now disk bytes));
+      registry = registry_unopened m c.args.words.which disk (only_read_same m disk (λ bytes. (g.met.D.Disk g.world.𝓛 g.world.𝓜 g.world.𝓡 ((λ s x. x), (λ x. x), (λ x. x), λ x. x)).only_now disk bytes));
     }) c.in-Err.refused.why e c.in-Err.ensures.refused refl tells) c.ending_of_files.ensures.told)
 
 pub returns-in-Err-clause-stopped : goal.returns-in-Err-clause-stopped
@@ -24,14 +24,14 @@ returns-in-Err-clause-stopped g c =
     (on_err c.not_begun.result.end _ (inl (record {
       untouched = record { no_trace = refl; unread = refl; uncalled = refl };
       unwritten = c.in-Err.ensures.refused.unwritten;
-      registry = registry_unopened m c.args.words.which disk (only_read_same m disk (λ bytes. g.met.D.Disk.only_now disk bytes));
+      registry = registry_unopened m c.args.words.which disk (only_read_same m disk (λ bytes. (g.met.D.Disk g.world.𝓛 g.world.𝓜 g.world.𝓡 ((λ s x. x), (λ x. x), (λ x. x), λ x. x)).only_now disk bytes));
     })))
 
 pub returns-in-Err-clause-registry : goal.returns-in-Err-clause-registry
 returns-in-Err-clause-registry g c =
     let m = meaning g.D.Disk.honest g.D.Disk.content g.D.Disk.image g.D.Disk.moment g.D.Disk.image_since g.D.Disk.faults in
     let disk = c.args.devices.registry in
-    rw c.not_begun.ensures.devices (registry_unopened m c.args.words.which disk (only_read_same m disk (λ bytes. g.met.D.Disk.only_now disk bytes)))
+    rw c.not_begun.ensures.devices (registry_unopened m c.args.words.which disk (only_read_same m disk (λ bytes. (g.met.D.Disk g.world.𝓛 g.world.𝓜 g.world.𝓡 ((λ s x. x), (λ x. x), (λ x. x), λ x. x)).only_now disk bytes)))
 
 pub returns-clause-ended : goal.returns-clause-ended
 returns-clause-ended g c =

@@ -52,7 +52,7 @@ returns-in-Run-clause-serve_cut g c = λ short requests spelled.
     let after = c.perform.result.world in
     let same = c.perform.ensures.undone (Serve requests) (no_serve requests) spelled in
     inl (unserved_same (meaning g.D.Disk.honest g.D.Disk.content g.D.Disk.image g.D.Disk.moment g.D.Disk.image_since g.D.Disk.faults) before.registry after.registry
-    (door_of g.L.Door.faults g.L.Door.closed before.door after.door) (λ bytes. g.met.D.Disk.only_now before.registry bytes)
+    (door_of g.L.Door.faults g.L.Door.closed before.door after.door) (λ bytes. (g.met.D.Disk g.world.𝓛 g.world.𝓜 g.world.𝓡 ((λ s x. x), (λ x. x), (λ x. x), λ x. x)).only_now before.registry bytes)
     (ap (λ w. w.registry) same) (ap (λ w. g.L.Door.closed w.door) same) (ap (λ w. g.L.Door.faults w.door) same))
 
 pub returns-in-Run-clause-compact_cut : goal.returns-in-Run-clause-compact_cut
@@ -61,11 +61,11 @@ returns-in-Run-clause-compact_cut g c = λ short spelled.
     let m = meaning g.D.Disk.honest g.D.Disk.content g.D.Disk.image g.D.Disk.moment g.D.Disk.image_since g.D.Disk.faults in
     let d = Upkeep Compact in
     inl (subst (λ w. AreOnlyRead m before.journal before.spare w.journal w.spare) (sym (c.perform.ensures.undone (command_of d) (not_run d) spelled))
-    (pair_same m (λ disk bytes. g.met.D.Disk.only_now disk bytes) before.journal before.spare))
+    (pair_same m (λ disk bytes. (g.met.D.Disk g.world.𝓛 g.world.𝓜 g.world.𝓡 ((λ s x. x), (λ x. x), (λ x. x), λ x. x)).only_now disk bytes) before.journal before.spare))
 
 pub returns-in-Run-clause-safe_disks : goal.returns-in-Run-clause-safe_disks
 returns-in-Run-clause-safe_disks g c = λ d spelled.
-    left_of_same (meaning g.D.Disk.honest g.D.Disk.content g.D.Disk.image g.D.Disk.moment g.D.Disk.image_since g.D.Disk.faults) (λ disk bytes. g.met.D.Disk.only_now disk bytes) _ _
+    left_of_same (meaning g.D.Disk.honest g.D.Disk.content g.D.Disk.image g.D.Disk.moment g.D.Disk.image_since g.D.Disk.faults) (λ disk bytes. (g.met.D.Disk g.world.𝓛 g.world.𝓜 g.world.𝓡 ((λ s x. x), (λ x. x), (λ x. x), λ x. x)).only_now disk bytes) _ _
     (ap (λ w. disks w.journal w.spare w.failures w.registry) (c.perform.ensures.undone (command_of d) (not_run d) spelled)) d
 
 pub returns-in-Run-clause-kept_by_serve : goal.returns-in-Run-clause-kept_by_serve

@@ -55,7 +55,7 @@ returns-in-Err-clause-run_cut g c = λ short r spelled.
     let after = c.refuse.result.world in
     inl (not_begun (meaning g.D.Disk.honest g.D.Disk.content g.D.Disk.image g.D.Disk.moment g.D.Disk.image_since g.D.Disk.faults) r (reverse after.trace.items)
     (seen_of before.input before.journal before.spare before.failures before.registry before.callers.items)
-    (seen_of after.input after.journal after.spare after.failures after.registry after.callers.items) (λ disk bytes. g.met.D.Disk.only_now disk bytes)
+    (seen_of after.input after.journal after.spare after.failures after.registry after.callers.items) (λ disk bytes. (g.met.D.Disk g.world.𝓛 g.world.𝓜 g.world.𝓡 ((λ s x. x), (λ x. x), (λ x. x), λ x. x)).only_now disk bytes)
     (ap (λ w. reverse w.trace.items) c.refuse.ensures.same ∙ ap reverse c.requires.trace)
     (ap (λ w. seen_of w.input w.journal w.spare w.failures w.registry w.callers.items) c.refuse.ensures.same))
 
@@ -64,7 +64,7 @@ returns-in-Err-clause-kept_by_run g c = λ r spelled.
     let m = meaning g.D.Disk.honest g.D.Disk.content g.D.Disk.image g.D.Disk.moment g.D.Disk.image_since g.D.Disk.faults in
     let disk = c.args.world.registry in
     subst (λ (w : _). IsRegistryLeft m r.which disk w) (sym (ap (λ w. w.registry) c.refuse.ensures.same))
-    (registry_unopened m r.which disk (only_read_same m disk (λ bytes. g.met.D.Disk.only_now disk bytes)))
+    (registry_unopened m r.which disk (only_read_same m disk (λ bytes. (g.met.D.Disk g.world.𝓛 g.world.𝓜 g.world.𝓡 ((λ s x. x), (λ x. x), (λ x. x), λ x. x)).only_now disk bytes)))
 
 pub returns-in-Ok-clause-kept_by_run : goal.returns-in-Ok-clause-kept_by_run
 returns-in-Ok-clause-kept_by_run g c = λ r spelled.

@@ -4,7 +4,7 @@ use Rattle.esm_io.specs.Meanings.{DiskMeaning, disk as meaning}
 use Rattle.esm_journal.specs.Pair.{PairState, first_disk, second_disk}
 use Rattle.esm_journal.specs.State.{JournalState}
 use Rattle.esm_model.specs.declared.entry.Entry.{Entry}
-use Rattle.esm_pool.specs.Running.{outside}
+use Rattle.esm_batchers.specs.Working.{outside}
 use Rattle.esm_stream.specs.Ended.{HasStoppedRun}
 use Rattle.esm_stream.specs.Files.{FilesState, IsOpenedFiles}
 use Rattle.esm_stream.specs.Headline.{Devices, Telling, telling}

@@ -1,0 +1,79 @@
+// The real world of a command: the host's output, clock and door, its functions, and its input and disks.
+ghost use Rattle.std.specs.Prelude.{◌≡◌, [], length, IfOk};
+
+use crate::callers::callers;
+use crate::disks::{disks_in, fresh_disks, input_in};
+use crate::opening::Opening;
+use esm_init::Disks;
+use esm_invoke::ProgramCaller;
+use esm_io::{
+    Disk, FileDisk, FileSource, HostClock, MemDisk, Source, StdinSource, StdoutSink, TcpDoor,
+};
+use esm_model::{MAX_LANES, OutOfMemory};
+use esm_run::World;
+use std::alloc::Global;
+use std::fs::File;
+use std::net::Net;
+use std::rt::{Files, Runtime};
+
+/// The host's world over this input and these disks.
+pub type HostWorld<H, S, D> = World<
+    S,
+    StdoutSink<H>,
+    D,
+    HostClock<H>,
+    ProgramCaller<H>,
+    TcpDoor<H>,
+>;
+
+/// The world of what the words name, over this input and these disks.
+fn world_of<H: Runtime + Net + Clone, S: Source + Drop, D: Disk + Drop>(
+    host: &H,
+    alloc: Global,
+    opening: Opening<'_>,
+    input: S,
+    disks: Disks<D>,
+) -> Result<HostWorld<H, S, D>, OutOfMemory>
+    ensures callers { IfOk result (λ world. length world.callers.items ≡ MAX_LANES) }
+    ensures trace { IfOk result (λ world. world.trace.items ≡ []) }
+{
+    Ok(World {
+        input,
+        out: StdoutSink::new(host)?,
+        journal: disks.journal,
+        spare: disks.spare,
+        failures: disks.failures,
+        registry: disks.registry,
+        clock: HostClock::new(host)?,
+        callers: callers(host, alloc, opening.functions)?,
+        door: TcpDoor::new(host, opening.door)?,
+        trace: Vec::new(alloc),
+    })
+}
+
+/// The world without a folder: standard input, and disks in memory as an `init` leaves them.
+pub fn memory_world<H: Runtime + Net + Clone>(
+    host: &H,
+    alloc: Global,
+    opening: Opening<'_>,
+) -> Result<HostWorld<H, StdinSource<H>, MemDisk>, OutOfMemory>
+    ensures callers { IfOk result (λ world. length world.callers.items ≡ MAX_LANES) }
+    ensures trace { IfOk result (λ world. world.trace.items ≡ []) }
+{
+    let input = StdinSource::new(host)?;
+    world_of(host, alloc, opening, input, fresh_disks(alloc)?)
+}
+
+/// The world of a folder, whose files are opened when they are first used.
+pub fn folder_world<H: Runtime + Files<File = File> + Net + Clone>(
+    host: &H,
+    alloc: Global,
+    opening: Opening<'_>,
+    folder: &str,
+) -> Result<HostWorld<H, FileSource<H>, FileDisk<H>>, OutOfMemory>
+    ensures callers { IfOk result (λ world. length world.callers.items ≡ MAX_LANES) }
+    ensures trace { IfOk result (λ world. world.trace.items ≡ []) }
+{
+    let input = input_in(host, alloc, folder)?;
+    world_of(host, alloc, opening, input, disks_in(host, alloc, folder)?)
+}

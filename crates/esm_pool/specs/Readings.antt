@@ -1,0 +1,71 @@
+-- What the reader of a stream's book leaves of its input, told of what its seat has seen of the shared history. This
+-- product's own.
+use Rattle.std.specs.Prelude.{◌≡◌, ◌++◌, ℕ, Bool, true, false, List, [], Option, Some, None, IsSome}
+use Rattle.esm_io.specs.Told.{TakesFront}
+use Rattle.esm_model.specs.declared.item.Record.{Record}
+use Rattle.esm_model.specs.declared.book.Change.{Change}
+use Rattle.esm_model.specs.declared.setup.Told.{Told}
+use Rattle.esm_model.specs.Entries.{is_shut}
+use Rattle.esm_model.specs.Books.{entries_told, records_told}
+use Rattle.esm_record.specs.declared.item.LineKind.TheVariants as kinds
+use Rattle.esm_arrival.specs.Coming.{of_shard}
+use Rattle.esm_input.specs.Positions.{from_start}
+use Rattle.esm_input.specs.Reading.{InputState, IsInput, items_read, handed}
+use Rattle.esm_pool.specs.Coming.{records_in_items}
+use Rattle.esm_pool.specs.Ran.{IsOfRecord}
+use Rattle.esm_pool.specs.declared.coming.Stop.{Stop}
+use Rattle.esm_pool.specs.declared.coming.Stop.TheVariants.{Down, OutOfMemory}
+
+-- a stream's input of which nothing was read, and no change is kept
+pub record IsUnread {S : Type 0} (i : InputState S) (changed : Option Change) : Type 0 where
+  pub kind : i.kind ≡ kinds.Stream
+  pub good : i.failed ≡ false
+  pub unread : handed i ≡ []
+  pub unchanged : changed ≡ None
+
+-- of each shard those of the list came, in its order
+abbrev pub AreTold : List Told → List Record → Type 0
+AreTold seen records = (n : ℕ) → records_told n seen ≡ of_shard n records
+
+-- or the first of them
+abbrev pub SomeTold : List Told → List Record → Type 0
+SomeTold seen records = (n : ℕ) → (rest : List Record) × (of_shard n records ≡ records_told n seen ++ rest)
+
+-- what the input was made with stays
+pub record IsSameInput {S : Type 0} (before after : InputState S) : Type 0 where
+  pub kind : after.kind ≡ before.kind
+  pub factor : after.factor ≡ before.factor
+  pub start : after.start ≡ before.start
+  pub found : after.found ≡ before.found
+
+-- it was read to an end, its records came, and the end was noted
+pub record IsReadWhole {S : Type 0} (i : InputState S) (seen : List Told) : Type 0 where
+  pub ended : IsSome i.end
+  pub came : AreTold seen (records_in_items (handed i))
+  pub shut : is_shut (entries_told seen) ≡ true
+
+-- Want of memory came: these bytes were read, the records of their lines came, or the first of them, and more bytes may
+-- have been read after them.
+pub record IsReadShort {S : Type 0} (left : S → Option (List ℕ)) (i : InputState S) (seen : List Told) : Type 0 where
+  pub bytes : List ℕ
+  pub more : List ℕ
+  pub whole : Bool
+  pub taken : TakesFront (left i.found) (left i.source) (bytes ++ more)
+  pub came : SomeTold seen (records_in_items (from_start i.start (items_read i.kind i.factor whole bytes).items))
+
+-- The input was read on, until its end, until the book was down, or until memory was wanting. A change that is kept is of
+-- the records that were handed out.
+pub record HasRead {S : Type 0} (faults : S → ℕ) (left : S → Option (List ℕ)) (before after : InputState S) (kept : Option Change) (seen : List Told) (marked short : Bool) : Type 0 where
+  pub same : IsSameInput before after
+  pub read : short ≡ false → IsInput faults left after
+  pub good : short ≡ false → after.failed ≡ false
+  pub some : short ≡ false → SomeTold seen (records_in_items (handed after))
+  pub whole : short ≡ false → marked ≡ false → IsReadWhole after seen
+  pub changed : (change : Change) → kept ≡ Some change → IsOfRecord (records_in_items (handed after)) change
+  pub cut : short ≡ true → IsReadShort left after seen
+
+-- why reading stopped: the book is down, maybe for a change of the records that were handed out, or memory was wanting
+abbrev pub IsStopOf : {S : Type 0} → (left : S → Option (List ℕ)) → InputState S → (seen : List Told) → (marked : Bool) → Stop → Type 0
+IsStopOf left i seen marked (Down None) = marked ≡ true
+IsStopOf left i seen marked (Down (Some change)) = (marked ≡ true) × IsOfRecord (records_in_items (handed i)) change
+IsStopOf left i seen marked OutOfMemory = IsReadShort left i seen

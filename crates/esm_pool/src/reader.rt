@@ -1,0 +1,103 @@
+// The reader of a stream's book: what it works with, and its work.
+ghost use Rattle.std.specs.Prelude.{◌≡◌, [], false, IfErr, OnOk, IsErrOf, IsSome};
+ghost use Rattle.esm_model.specs.Books.{author, stream_may_follow, entries_told};
+ghost use Rattle.esm_model.specs.Entries.{is_shut};
+ghost use Rattle.esm_record.specs.declared.item.LineKind.{LineKind};
+ghost use Rattle.esm_input.specs.Reading.{IsInput, handed};
+ghost use Rattle.esm_batchers.specs.Seated.{IsSeated};
+ghost use Rattle.esm_pool.specs.Coming.{records_in_items};
+ghost use Rattle.esm_pool.specs.Readings.{IsSameInput, AreTold, SomeTold, IsStopOf};
+
+use crate::coming::{Stop, hand_on, note_end};
+use esm_hands::Reading;
+use esm_input::Input;
+use esm_io::{Clock, Dest, Disk, Source};
+use esm_model::{Change, OutOfMemory};
+use esm_sbook::Book;
+use esm_turn::{Seat, Turn};
+use std::alloc::Global;
+use std::sync::Wait;
+
+/// What reads a stream's input, and the change that one of its records brought, where it brought one.
+#[derive(Drop)]
+pub struct Reader<S: Source> {
+    pub input: Input<S>,
+    pub changed: Option<Change>,
+}
+
+/// Tells what holds of every input.
+fn stands<S: Source>(input: &Input<S>)
+    ensures { input.now.failed ≡ false → IsInput S.faults S.left input.now }
+{
+    let _end = input.end();
+}
+
+/// Reads the input to its end and hands its records on, piece by piece.
+fn read_on<R: Wait, S: Source, C: Clock, D: Disk, T: Dest>(
+    rt: &R,
+    alloc: Global,
+    turn: &Turn<Book<D, T>>,
+    seat: &mut Seat<Book<D, T>>,
+    input: &mut Input<S>,
+    clock: &C,
+) -> Result<(), Stop>
+    requires seated { IsSeated author stream_may_follow C.gave turn.now 0 seat.old }
+    requires unused { seat.old.mine ≡ [] }
+    requires kind { input.old.kind ≡ LineKind.Stream }
+    requires good { input.old.failed ≡ false }
+    requires unread { handed input.old ≡ [] }
+    // The seat.
+    ensures seated { IsSeated author stream_may_follow C.gave turn.now 0 seat.new }
+    ensures going { is_shut (entries_told seat.new.seen) ≡ false }
+    // What came.
+    ensures came { OnOk result (AreTold seat.new.seen (records_in_items (handed input.new))) }
+    ensures end { OnOk result (IsSome input.new.end) }
+    ensures some { (IsErrOf result Stop.OutOfMemory → ⊥) → SomeTold seat.new.seen (records_in_items (handed input.new)) }
+    ensures stop { IfErr result (IsStopOf S.left input.new seat.new.seen seat.new.mark) }
+    // What was read.
+    ensures read { (IsErrOf result Stop.OutOfMemory → ⊥) → IsInput S.faults S.left input.new }
+    ensures good { (IsErrOf result Stop.OutOfMemory → ⊥) → input.new.failed ≡ false }
+    ensures input { IsSameInput input.old input.new }
+{
+    for _ in rt.forever() {
+        if input.end().is_some() {
+            return Ok(());
+        }
+        let items = input.read(alloc)?;
+        stands(input);
+        hand_on(rt, alloc, turn, seat, items, clock)?;
+    }
+    unreachable!()
+}
+
+impl<S: Source, D: Disk, T: Dest> Reading<Book<D, T>> for Reader<S> {
+    ghost use Rattle.esm_pool.specs.Readings.{IsUnread, HasRead};
+
+    ghost ready = { λ setup r. IsUnread r.input r.changed };
+
+    ghost read = { λ setup before after seen marked short. HasRead S.faults S.left before.input after.input after.changed seen marked short };
+
+    fn read_all<R: Wait, C: Clock>(
+        &mut self,
+        rt: &R,
+        alloc: Global,
+        turn: &Turn<Book<D, T>>,
+        seat: &mut Seat<Book<D, T>>,
+        clock: &C,
+    ) -> Result<(), OutOfMemory> {
+        match read_on(rt, alloc, turn, seat, &mut self.input, clock) {
+            Ok(()) => {
+                note_end(rt, turn, seat, clock);
+                Ok(())
+            }
+            Err(Stop::Down(changed)) => {
+                self.changed = changed;
+                Ok(())
+            }
+            Err(Stop::OutOfMemory) => {
+                note_end(rt, turn, seat, clock);
+                Err(OutOfMemory)
+            }
+        }
+    }
+}

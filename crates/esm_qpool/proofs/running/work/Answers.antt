@@ -1,0 +1,24 @@
+use denote.Param.Send.{sendable}
+use Rattle.esm_batchers.specs.Working.{outside}
+use Rattle.esm_qbook.proofs.Sent.{book_send}
+use Rattle.esm_qpool.proofs.Numbers.{few_batchers}
+use Rattle.esm_qpool.proofs.Closed.{left_so, told_new}
+use Rattle.esm_qpool.proofs.Sent.{reader_send}
+use Rattle.esm_qpool.proofs.running.work.Goals as goal
+
+pub run_hands-requires-send-T : goal.run_hands-requires-send-T
+run_hands-requires-send-T g c κs within = search (book_send, sendable) depth 10
+
+pub run_hands-requires-send-W : goal.run_hands-requires-send-W
+run_hands-requires-send-W g c κs within = search (reader_send, sendable) depth 10
+
+pub run_hands-requires-clause-new : goal.run_hands-requires-clause-new
+run_hands-requires-clause-new g c κs within = told_new c.args.book c.requires.new
+
+pub run_hands-requires-clause-batchers : goal.run_hands-requires-clause-batchers
+run_hands-requires-clause-batchers g c κs within = few_batchers c.args.book.core.setting.config c.args.batchers c.requires.batchers
+
+pub returns-in-Ok-clause-left : goal.returns-in-Ok-clause-left
+returns-in-Ok-clause-left g c =
+    left_so g.row.D.coded (outside g.C.Clock.gave g.F.Caller.sends g.F.Caller.log) g.S.Source.faults g.S.Source.left c.args.book c.in-Ok.left.book c.args.reader.input c.in-Ok.left.reader.input c.in-Ok.left.reader.changed c.args.batchers
+    c.args.callers.items c.in-Ok.left.callers.items c.in-Ok.left.short c.requires.batchers c.know.ensures c.in-Ok.ensures.setup c.in-Ok.ensures.moments c.in-Ok.ensures.read c.in-Ok.ensures.called
