@@ -1,0 +1,14 @@
+//! Batchers that are threads, through the top call: two calls that run at once, functions that take their time, and a clock
+//! that never stands still. The crate has nothing but these tests, so that the crate of the top call is proved once.
+#![tactic(auto)]
+
+#[cfg(test)]
+mod clocks;
+#[cfg(test)]
+mod functions;
+#[cfg(test)]
+mod gates;
+#[cfg(test)]
+mod lanes;
+#[cfg(test)]
+mod worlds;
