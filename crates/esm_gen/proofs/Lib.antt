@@ -1,0 +1,6 @@
+mod Generating
+mod MappingIsGood
+mod Plain
+mod Orders
+mod OneLine
+mod WholeInput
