@@ -1,0 +1,6 @@
+mod Begun
+mod Fresh
+mod Limits
+mod Nothing
+mod Runs
+mod Told

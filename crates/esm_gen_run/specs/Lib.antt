@@ -1,0 +1,5 @@
+pub mod Function
+pub mod Nothing
+pub mod Prepared
+pub mod Report
+pub mod Run
