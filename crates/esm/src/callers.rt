@@ -1,3 +1,4 @@
+// The callers of functions for the batchers of a run, scripted in memory or over HTTP.
 ghost use Rattle.std.specs.Prelude.{◌≡◌, [], false, length, IfOk};
 ghost use Rattle.std.specs.List.{All};
 ghost use Rattle.esm_io.specs.Script.{HasNoLost};

@@ -1,3 +1,4 @@
+// The disks and the input of a run, in memory or in a folder.
 use esm_init::{Disks, FileName, InitEnd, Initialized, init};
 use esm_io::{FileDisk, FileSource, MemDisk};
 use esm_model::{OutOfMemory, Text};

@@ -1,3 +1,4 @@
+// What answers the calls of functions, and how the command line's word names it.
 ghost use Rattle.std.specs.Prelude.{◌≡◌, ◌≢◌, ◌≤◌, ℕ, IfSome, IfNone};
 ghost use Rattle.std.specs.Fmt.{decimal};
 ghost use Rattle.esm.specs.Opening.{Names};

@@ -1,3 +1,4 @@
+// Reading the first three words of the command line: the folder, the functions and the port of `serve`.
 ghost use Rattle.std.specs.Prelude.{◌≡◌, ℕ, List, map, IfSome, IfNone};
 ghost use Rattle.std.specs.String.{string_bytes};
 ghost use Rattle.esm.specs.Opening.{Opens, IsRefused, IsFolder};

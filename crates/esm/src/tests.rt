@@ -1,3 +1,4 @@
+// Tests: the words of a command line, with the program's own name left out and with bytes that are no UTF-8.
 use crate::words::words;
 use std::env::FillError;
 use std::rt::Env;

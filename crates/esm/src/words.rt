@@ -1,3 +1,4 @@
+// The words of the command line after the program's own name.
 use esm_model::OutOfMemory;
 use std::env;
 use std::io::ErrorKind;

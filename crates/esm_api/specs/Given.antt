@@ -1,4 +1,4 @@
--- What a judged request comes to in the program. Only this crate's proofs cite this file.
+-- What a judged request comes to in the program. Only this crate's proofs cite this.
 use Rattle.std.specs.Prelude.{◌≡◌, ◌⊎◌, ℕ, Bool}
 use Rattle.esm_io.specs.Meanings.{DiskMeaning}
 use Rattle.esm_registry.specs.Machine.{Asked}

@@ -1,4 +1,4 @@
--- What a reader of heads knows of the bytes so far. Only this crate's proofs cite this file.
+-- What a reader of heads knows of the bytes so far. Only this crate's proofs cite this.
 use Rattle.std.specs.Prelude.{◌≡◌, ◌≢◌, ◌⊎◌, ℕ, ◌+◌, ◌<◌, ◌≤◌, List, [], ◌∷◌, ◌++◌, length, drop, slice_index, Option, Some, None}
 use Rattle.httparse.specs.Ascii.{line_feed}
 use Rattle.httparse.specs.Grammar.{RequestHead}

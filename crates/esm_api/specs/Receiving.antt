@@ -1,4 +1,4 @@
--- What a call knows while it reads a request and writes the answer. Only this crate's proofs cite this file.
+-- What a call knows while it reads a request and writes the answer. Only this crate's proofs cite this.
 use Rattle.std.specs.Prelude.{◌≡◌, ◌≤◌, ◌+◌, ℕ, List, ◌++◌, length, take, Option}
 use Rattle.esm_io.specs.Talks.{Talk, Reads, Writes, IsReadOut}
 use Rattle.esm_model.specs.declared.limits.TheConstants.{MAX_HEAD}

@@ -1,3 +1,4 @@
+// The refusals of an API request before its command is applied, each with its status code, error and message.
 ghost use Rattle.std.specs.Prelude.{◌≡◌};
 ghost use Rattle.esm_api.specs.Answer.{status_of, error_of, message_of};
 

@@ -1,3 +1,4 @@
+// Serving one API request over a link: reading it, applying it to the registry and writing the answer.
 ghost use Rattle.std.specs.Prelude.{◌≡◌, ◌⊎◌, ◌≤◌, ℕ, List, [], false, IfOk, OnOk, OnErr};
 ghost use Rattle.esm_io.specs.Faults.{IsCount, Rose};
 ghost use Rattle.esm_io.specs.Meanings.{disk as meaning};

@@ -1,3 +1,4 @@
+// Grouping the records of a list by shard, in the order in which the shards first appear.
 ghost use Rattle.std.specs.Prelude.{◌≡◌, ℕ, ◌==◌, [], Some, None, length, map, IfOk, OnOk, if◌then◌else◌};
 ghost use Rattle.std.specs.Ordering.{nat_cmp};
 ghost use Rattle.std.specs.BTreeMap.{get};

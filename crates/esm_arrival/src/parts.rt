@@ -1,3 +1,4 @@
+// The records of a list by shard, each part with its first place and the places that the filter refuses.
 ghost use Rattle.std.specs.Prelude.{◌≡◌, ◌+◌, ◌<◌, All, map, IfOk, length};
 ghost use Rattle.esm_model.specs.Entries.{came_count};
 ghost use Rattle.esm_filter.specs.Criteria.{JudgesRecords};

@@ -1,3 +1,4 @@
+// The places of a shard's records that have no found fate and fail the filter.
 ghost use Rattle.std.specs.Prelude.{◌≡◌, ℕ, ◌+◌, ◌<◌, ◌^◌, IfOk, length};
 ghost use Rattle.esm_model.specs.Setting.{Setting};
 ghost use Rattle.esm_arrival.specs.Parts.{is_refused_at, refused_from};

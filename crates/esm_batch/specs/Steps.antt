@@ -1,4 +1,4 @@
--- What the walk over the items keeps. Only this crate's proofs cite it.
+-- What the walk over the items keeps. Only this crate's proofs cite this.
 use Rattle.std.specs.Prelude.{◌≡◌, ℕ, ◌+◌, ◌≤◌, false, List, take, sum_by, All}
 use Rattle.esm_batch.specs.declared.piece.Piece1.{Piece1}
 use Rattle.esm_batch.specs.declared.piece.Limits.{Limits}

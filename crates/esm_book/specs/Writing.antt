@@ -1,4 +1,4 @@
--- How far a call has come that writes what is owed. Only this crate's proofs cite it.
+-- How far a call has come that writes what is owed. Only this crate's proofs cite this.
 use Rattle.std.specs.Prelude.{◌≡◌, ◌++◌, ℕ, Bool, true, false, List, [], ◌∷◌, ◌<◌, length, take, reverse, Option}
 use Rattle.esm_io.specs.Meanings.{DiskMeaning, DestMeaning}
 use Rattle.esm_journal.specs.Pair.{PairState}

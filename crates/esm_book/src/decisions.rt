@@ -1,3 +1,4 @@
+// The trait of a book's core: it decides each call and owes entries until they are written.
 ghost use Rattle.std.specs.Prelude.{◌≡◌, ◌<◌, ◌≤◌, ◌∷◌, ◌++◌, [], ℕ, List, Option, length, take, drop, reverse, OnOk, OnErr, IfOk, IfErr, IfSome, IfNone};
 ghost use Rattle.esm_model.specs.declared.book.Change.{Change};
 ghost use Rattle.esm_book.specs.Decided.{written_of, lengths_of, added, IsLineWithin, IsRefused};

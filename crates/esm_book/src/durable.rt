@@ -1,3 +1,4 @@
+// A core over a journal and a destination, which delivers and appends what it decides, entry by entry.
 ghost use Rattle.std.specs.Prelude.{◌≡◌, ◌↔◌, ◌<◌, ◌++◌, [], ℕ, List, None, length, take, reverse, true, false, OnOk, IfOk, IfErr, IsErrOf, IsSome};
 ghost use Rattle.std.specs.Option.{option_copied};
 ghost use Rattle.esm_io.specs.Faults.{Rose};

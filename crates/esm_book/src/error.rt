@@ -1,3 +1,4 @@
+// Why a core refuses a call, which device failed, and why a call of a book was not carried out whole.
 use esm_model::{Change, OutOfMemory};
 
 /// Why a core did not take a call. The core is as before.

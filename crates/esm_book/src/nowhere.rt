@@ -1,3 +1,4 @@
+// The destination of a book without one, which never fails and tells nothing.
 ghost use Rattle.std.specs.Prelude.{None, false, true};
 
 use esm_io::{Dest, DestError};

@@ -1,4 +1,5 @@
--- Only this crate's proofs cite it. The command of `clap` that stands for a list of options, and what its matches give.
+-- The command of `clap` that stands for a list of options, and what its matches give. Only this crate's proofs cite
+-- this.
 use Rattle.std.specs.Prelude.{ℕ, Bool, true, false, List, [], map, codes, Some, None, if◌then◌else◌}
 use Rattle.clap.specs.Words.{App, Rule, Shape, first_value, found_of, new_app, new_rule}
 use Rattle.clap.specs.declared.builder.action.ArgAction.TheVariants.{Set, SetTrue}

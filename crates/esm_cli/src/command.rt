@@ -1,3 +1,4 @@
+// The commands of the program with their options, and why words give no command.
 ghost use Rattle.std.specs.Prelude.{◌≡◌};
 ghost use Rattle.esm_cli.specs.declared.command.WordsError.TheVariants.{OutOfMemory};
 

@@ -1,3 +1,4 @@
+// Making a command of its verb and its options.
 ghost use Rattle.std.specs.Prelude.{◌≡◌, IfOk};
 ghost use Rattle.esm_cli.specs.Clap.{values_found};
 ghost use Rattle.esm_cli.specs.Words.{IsSaid, IsRun, verb_of};

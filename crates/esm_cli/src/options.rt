@@ -1,3 +1,4 @@
+// Reading the options of a command with `clap`, and the numbers, texts and mapping that they give.
 ghost use Rattle.std.specs.Prelude.{◌≡◌, ◌≢◌, List, ℕ, map, drop, true, false, IfOk, IsErr, option_map};
 ghost use Rattle.std.specs.String.{string_bytes};
 ghost use Rattle.std.specs.List.{list_any};

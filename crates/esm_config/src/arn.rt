@@ -1,3 +1,4 @@
+// The parts of an ARN: regions, accounts, and the names of functions, streams and queues.
 ghost use Rattle.std.specs.Prelude.{◌≡◌, ◌≤◌, codes, nat_eq, option_map, IsTrue};
 ghost use Rattle.std.specs.Char.{is_ascii_digit};
 ghost use Rattle.std.specs.List.{ends_with, list_all};

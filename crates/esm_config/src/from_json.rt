@@ -1,3 +1,4 @@
+// Reading the configuration of a new mapping from its JSON object.
 ghost use Rattle.std.specs.Prelude.{◌≡◌, Some, IfOk};
 ghost use Rattle.serde_json.specs.View.{view};
 ghost use Rattle.esm_config.specs.Answer.{IfBad};

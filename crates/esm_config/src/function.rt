@@ -1,3 +1,4 @@
+// The function of a mapping, by its plain name or its ARN.
 ghost use Rattle.std.specs.Prelude.{◌≡◌, option_map};
 ghost use Rattle.esm_config.specs.Fields.{function_in, named_by};
 ghost use Rattle.esm_config.specs.FunctionParts.{named_of};

@@ -1,3 +1,4 @@
+// The fields that a new mapping or an update gives, and those that no update may give.
 ghost use Rattle.std.specs.Prelude.{◌≡◌};
 ghost use Rattle.serde_json.specs.Data.{object};
 ghost use Rattle.serde_json.specs.Find.{get_member};

@@ -1,3 +1,4 @@
+// The list of the fields that a mapping may have, and whether an object has only these.
 ghost use Rattle.std.specs.Prelude.{◌≡◌, ◌||◌, is_some};
 ghost use Rattle.std.specs.List.{list_all, list_any};
 ghost use Rattle.std.specs.Str.{bytes_eq};

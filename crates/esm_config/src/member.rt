@@ -1,3 +1,4 @@
+// A member of a JSON object that is written in an order of its own.
 use serde_json::Value;
 
 /// A member of an object that is written in an order of its own.

@@ -1,3 +1,4 @@
+// Writing JSON objects whose members keep their order.
 ghost use Rattle.std.specs.Prelude.{◌≡◌, ◌++◌, ◌∷◌, false, IfOk, OnOk};
 ghost use Rattle.std.specs.String.{string_bytes};
 ghost use Rattle.json.specs.Print.{quoted};

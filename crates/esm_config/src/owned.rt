@@ -1,3 +1,4 @@
+// Splitting the ARN of a stream, a queue or a function into region, account and name.
 ghost use Rattle.std.specs.Prelude.{◌≡◌, option_map};
 ghost use Rattle.esm_config.specs.Arn.{function_arn_of, is_function, is_queue, is_stream, owned, owned_region, cut, queue_of, stream_of};
 ghost use Rattle.esm_config.specs.Parts.{parts_of};

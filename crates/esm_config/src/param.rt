@@ -1,3 +1,4 @@
+// The fields of a mapping, in the order in which they are judged, and why a value gives no configuration.
 ghost use Rattle.std.specs.Prelude.{◌≡◌};
 ghost use Rattle.esm_config.specs.Names.{name_of};
 

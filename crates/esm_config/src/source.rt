@@ -1,3 +1,4 @@
+// The source of a mapping, a stream or a queue, by its ARN.
 ghost use Rattle.std.specs.Prelude.{◌≡◌, option_map};
 ghost use Rattle.esm_config.specs.Arn.{source_of};
 ghost use Rattle.esm_config.specs.Fields.{source_in};

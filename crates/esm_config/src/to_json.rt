@@ -1,3 +1,4 @@
+// Writing a configuration as the JSON text of its mapping.
 ghost use Rattle.std.specs.Prelude.{◌≡◌, false, IfOk, option_map};
 ghost use Rattle.std.specs.String.{string_bytes};
 ghost use Rattle.serde_json.specs.Data.{no_members};

@@ -1,3 +1,4 @@
+// Applying an update to the configuration of a mapping.
 ghost use Rattle.std.specs.Prelude.{◌≡◌, Some, IfOk};
 ghost use Rattle.serde_json.specs.View.{view};
 ghost use Rattle.esm_config.specs.Answer.{IfBad};

@@ -1,3 +1,4 @@
+// Whether the records of a list find places of 32 bits in their shards.
 ghost use Rattle.std.specs.Prelude.{◌≡◌, true};
 ghost use Rattle.esm_ledger.specs.Ledger.{past_of, Keeps};
 ghost use Rattle.esm_arrival.specs.Coming.{FitPlaces};

@@ -1,3 +1,4 @@
+// The core of a stream's book: it decides on records that come, the input's end, batchers' asks and replies.
 ghost use Rattle.std.specs.Prelude.{◌≡◌, ℕ, ◌<◌, ◌≤◌, ◌^◌, ◌∷◌, [], true, false, min, max, All, IfOk, IfErr, IfSome, IfNone, OnOk, OnErr, length, take, reverse};
 ghost use Rattle.std.specs.List.{filter_map};
 ghost use Rattle.esm_model.specs.declared.limits.TheConstants.{MAX_BATCH, MAX_PAYLOAD};
@@ -267,6 +268,13 @@ impl StreamCore {
         ensures none { IfNone result (lines_of (take 1 self.entry.now.owed) ≡ []) }
     {
         self.owing.first_line()
+    }
+
+    /// Whether the input ended. Takes no memory.
+    pub fn is_shut(&self) -> bool
+        ensures { result ≡ is_shut self.now.past }
+    {
+        self.owing.is_shut()
     }
 
     /// How many of the shard's first records all have a fate. `None` exactly where the shard has not come. Takes no

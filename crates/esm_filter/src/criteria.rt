@@ -1,3 +1,4 @@
+// The filter criteria of a mapping, and which records and messages pass them.
 ghost use Rattle.std.specs.Prelude.{◌≡◌, ◌==◌, ◌<◌, ◌^◌, length, option_map, IfOk};
 ghost use Rattle.std.specs.List.{list_any};
 ghost use Rattle.serde_json.specs.Read.{read as read_text};

@@ -1,3 +1,4 @@
+// Why a text is no filter pattern, and why filter criteria are refused.
 use std::alloc::{AllocError, AllocFailed};
 
 /// Why a text is no filter pattern.

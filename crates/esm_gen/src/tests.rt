@@ -1,3 +1,4 @@
+// Tests: the first lines of a generated stream's input.
 use crate::generated_lines;
 use std::test::Fail;
 

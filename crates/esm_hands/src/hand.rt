@@ -1,3 +1,4 @@
+// A seat at a book's turn, with the reader or the caller that its thread works with.
 use esm_turn::Seat;
 
 /// What a hand works with.

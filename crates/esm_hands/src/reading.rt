@@ -1,3 +1,4 @@
+// The trait of what reads an input and hands its items to a book, at the reader's seat.
 ghost use Rattle.std.specs.Prelude.{◌≡◌, [], List, Bool, true, false, OnOk, OnErr};
 ghost use Rattle.esm_model.specs.declared.setup.Setup.{Setup};
 ghost use Rattle.esm_model.specs.declared.setup.Told.{Told};

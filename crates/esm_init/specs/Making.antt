@@ -1,4 +1,4 @@
--- Only this crate's proofs cite it. What the making of the files leaves, after the four lengths were looked at.
+-- What the making of the files leaves, after the four lengths were looked at. Only this crate's proofs cite this.
 use Rattle.std.specs.Prelude.{◌≡◌, ◌≢◌, ℕ, true, length, Result, Ok, Err}
 use Rattle.esm_io.specs.Faults.{Rose}
 use Rattle.esm_io.specs.Meanings.{DiskMeaning}

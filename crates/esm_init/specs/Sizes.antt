@@ -1,4 +1,4 @@
--- Only this crate's proofs cite it. The sizes of the four files by their names.
+-- The sizes of the four files by their names. Only this crate's proofs cite this.
 use Rattle.std.specs.Prelude.{ℕ}
 use Rattle.esm_init.specs.declared.disks.FileName.{FileName}
 use Rattle.esm_init.specs.declared.disks.FileName.TheVariants.{Journal, Spare, Failures, Registry}

@@ -1,3 +1,4 @@
+// The four disks of a folder, and the names of their files.
 ghost use Rattle.std.specs.Prelude.{◌≡◌};
 ghost use Rattle.esm_init.specs.Text.{file_name};
 

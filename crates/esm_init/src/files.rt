@@ -1,3 +1,4 @@
+// Making the four files of a folder by `init`, and how that ended.
 ghost use Rattle.std.specs.Prelude.{IfOk};
 ghost use Rattle.esm_io.specs.Meanings.{disk as meaning};
 ghost use Rattle.esm_init.specs.Init.{AreSafe, IsInitEnd};

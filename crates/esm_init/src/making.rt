@@ -1,3 +1,4 @@
+// Making the journal, the spare, the failures and the registry on empty disks, one after the other.
 ghost use Rattle.std.specs.Prelude.{◌≡◌, IfErr, IfOk};
 ghost use Rattle.esm_io.specs.Meanings.{disk as meaning};
 ghost use Rattle.esm_init.specs.Init.{AreSafe, IsSafe, Makes, fresh_bytes};

@@ -1,3 +1,4 @@
+// The text that `init` prints.
 ghost use Rattle.std.specs.Prelude.{◌≡◌, IfOk};
 ghost use Rattle.esm_init.specs.Text.{init_text};
 

@@ -1,3 +1,4 @@
+// The trait of what calls functions by name, with its log and its count of faults.
 ghost use Rattle.std.specs.Prelude.{◌≡◌, ℕ, List, [], ◌∷◌, Option, IfOk, OnErr};
 ghost use Rattle.esm_model.specs.declared.called.Called.{Called};
 ghost use Rattle.esm_io.specs.Faults.{IsCount, Rose};

@@ -1,3 +1,4 @@
+// The trait of clocks, which tell moments in milliseconds since 1970 and wait until one.
 ghost use Rattle.std.specs.Prelude.{◌≡◌, ◌≤◌, ℕ, Bool, true};
 
 /// Moments, in milliseconds since 1970-01-01T00:00:00Z. A clock is shared, so two answers are unrelated.

@@ -1,3 +1,4 @@
+// What a crash leaves of the bytes of a disk, by its steps and the choice of what has arrived.
 ghost use Rattle.std.specs.Prelude.{◌≡◌, ◌+◌, ◌<◌, ◌≤◌, drop, reverse, length, slice_index, if◌then◌else◌, IfOk};
 ghost use Rattle.esm_io.specs.Steps.{AreSteps, undone};
 ghost use Rattle.esm_io.specs.Crashes.{kept_of, has_arrived, arrived, crashed};

@@ -1,3 +1,4 @@
+// The trait of destinations, where failure lines are delivered, and why a line is not delivered.
 ghost use Rattle.std.specs.Prelude.{◌≡◌, ◌≤◌, ℕ, List, [], ◌∷◌, Bool, true, false, Option, length, IsErrOf, OnOk, OnErr};
 ghost use Rattle.esm_io.specs.Faults.{IsCount, Rose};
 ghost use Rattle.esm_io.specs.Told.{Grows};

@@ -1,3 +1,4 @@
+// The trait of disks: the bytes of a file, and what a crash may leave of them.
 ghost use Rattle.std.specs.Prelude.{◌≡◌, ◌+◌, ◌≤◌, ℕ, Bool, true, List, length, take, drop, IfOk, OnOk, OnErr};
 ghost use Rattle.esm_io.specs.Faults.{IsCount, Rose};
 ghost use Rattle.esm_io.specs.Images.{overwritten, Torn, Follows, Within, Only, Elapses};

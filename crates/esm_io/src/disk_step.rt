@@ -1,3 +1,4 @@
+// The steps that a disk in memory records: what each write put over which bytes, and each sync.
 use esm_model::Bytes;
 
 /// What a call did to a disk in memory.

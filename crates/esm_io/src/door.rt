@@ -1,3 +1,4 @@
+// The door, where connections come in: accepting the next one and closing one.
 ghost use Rattle.std.specs.Prelude.{◌≡◌, ℕ, List, Option, IfOk, OnOk, OnErr};
 ghost use Rattle.esm_io.specs.Faults.{IsCount, Rose};
 ghost use Rattle.esm_io.specs.Talks.{Closed, Closes, IsFresh};

@@ -1,3 +1,4 @@
+// A file of the host as a disk: opened and locked by its first call, and synced with its folder.
 ghost use Rattle.std.specs.Prelude.{◌≡◌, [], true, false, IfOk, IsErr, OnOk, OnErr};
 ghost use Rattle.esm_io.specs.Faults.{IsCount, Rose};
 

@@ -1,3 +1,4 @@
+// A file of the host as a source, read from its front.
 ghost use Rattle.std.specs.Prelude.{◌≡◌, None, IfOk};
 
 use crate::failed::Failed;

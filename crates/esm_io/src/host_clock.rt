@@ -1,3 +1,4 @@
+// The clock of the host, which tells the moment and pauses.
 ghost use Rattle.std.specs.Prelude.{true};
 
 use crate::clock::Clock;

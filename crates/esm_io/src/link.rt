@@ -1,3 +1,4 @@
+// The link, a connection: bytes come in and go out, a piece at a time.
 ghost use Rattle.std.specs.Prelude.{◌≡◌, ◌<◌, ◌≤◌, ℕ, Option, length, take, IfOk, OnErr};
 ghost use Rattle.esm_io.specs.Faults.{IsCount, Rose};
 ghost use Rattle.esm_io.specs.Talks.{Talk, Reads, Writes, IsReadOut};

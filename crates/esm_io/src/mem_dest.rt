@@ -1,3 +1,4 @@
+// A failure destination in memory, which keeps the lines and fails at chosen deliveries.
 ghost use Rattle.std.specs.Prelude.{◌≡◌, ◌<◌, ◌≤◌, ◌++◌, ℕ, Some, [], ◌∷◌, length, vec_len, vec_capacity, true, false, OnOk, OnErr, IsErrOf};
 ghost use Rattle.esm_io.specs.Told.{Grows};
 ghost use Rattle.esm_io.specs.Faults.{IsCount, Rose};

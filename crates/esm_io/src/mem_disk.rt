@@ -1,3 +1,4 @@
+// A disk in memory, which fails at chosen calls and tells what a crash may leave of its bytes.
 ghost use Rattle.std.specs.Prelude.{◌≡◌, ◌+◌, ◌≤◌, ℕ, true, false, List, [], ◌∷◌, ◌++◌, length, take, drop, OnOk, OnErr, IfOk, IfErr, IsOk, IsErr};
 ghost use Rattle.esm_io.specs.Faults.{IsCount, Rose};
 ghost use Rattle.esm_io.specs.Images.{overwritten, Torn, Follows, Within, Only, Elapses};

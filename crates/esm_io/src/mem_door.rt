@@ -1,3 +1,4 @@
+// A door in memory, which gives its connections in order and keeps those that were closed.
 ghost use Rattle.std.specs.Prelude.{◌≡◌, ◌<◌, [], ◌∷◌, ◌++◌, length, Some, map, true, false, IfOk, OnOk, OnErr, IsOk, IsErr};
 ghost use Rattle.std.specs.List.{All};
 ghost use Rattle.esm_io.specs.Faults.{IsCount, Rose};

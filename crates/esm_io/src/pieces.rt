@@ -1,3 +1,4 @@
+// Moving bytes a piece at a time, for the sources, sinks and connections in memory.
 ghost use Rattle.std.specs.Prelude.{◌≡◌, ◌+◌, ◌<◌, ◌≤◌, ◌++◌, min, length, take, drop, IfOk, OnErr};
 
 use std::alloc::AllocError;

@@ -1,3 +1,4 @@
+// Counting the failures of calls of the system, for the devices of the host.
 ghost use Rattle.std.specs.Prelude.{◌≡◌, IfOk, Ok, OnOk, OnErr, IsErr};
 ghost use Rattle.esm_io.specs.Faults.{IsCount, Rose};
 ghost use Rattle.esm_io.specs.Schedule.{one_more};

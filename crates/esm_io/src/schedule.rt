@@ -1,3 +1,4 @@
+// The schedule of a device in memory: which calls are to fail, and the counts of calls and faults.
 ghost use Rattle.std.specs.Prelude.{◌≡◌, IsTrue};
 ghost use Rattle.esm_io.specs.Faults.{IsCount, Rose};
 ghost use Rattle.esm_io.specs.Schedule.{is_due, after_call, after_fault};

@@ -1,3 +1,4 @@
+// The scripts of a caller in memory: which reply the function gives to each event.
 ghost use Rattle.std.specs.Prelude.{◌≡◌, slice_index_or, IfOk};
 ghost use Rattle.esm_io.specs.Script.{answer_of, is_within, plain_reply, error_reply};
 

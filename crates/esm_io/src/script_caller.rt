@@ -1,3 +1,4 @@
+// A caller in memory that answers by a script, and keeps copies of its calls where it is told to.
 ghost use Rattle.std.specs.Prelude.{◌≡◌, ℕ, Some, [], ◌∷◌, ◌++◌, map, true, false, if◌then◌else◌, is_some, IfOk, IfSome, OnOk, OnErr};
 ghost use Rattle.esm_io.specs.Faults.{IsCount, Rose};
 ghost use Rattle.esm_io.specs.Told.{Grows};

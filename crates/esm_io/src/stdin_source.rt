@@ -1,3 +1,4 @@
+// Standard input as a source.
 ghost use Rattle.std.specs.Prelude.{◌≡◌, None, IfOk};
 
 use crate::failed::Failed;

@@ -1,3 +1,4 @@
+// A clock that stands still until a pause moves it on, for runs in memory.
 ghost use Rattle.std.specs.Prelude.{true};
 
 use crate::clock::Clock;

@@ -1,3 +1,4 @@
+// A port of 127.0.0.1 as a door, where connections over TCP come in.
 ghost use Rattle.std.specs.Prelude.{◌≡◌, None, IfOk};
 
 use crate::door::Door;

@@ -1,3 +1,4 @@
+// A connection over TCP as a link, made to a local port or accepted by a door.
 ghost use Rattle.std.specs.Prelude.{◌≡◌, ◌<◌, ◌≤◌, None, IfOk, length};
 
 use crate::failed::Failed;

@@ -1,3 +1,4 @@
+// The refusals of a journal: why it was not made or opened, or why a payload was not added.
 ghost use Rattle.std.specs.Prelude.{◌≡◌};
 ghost use Rattle.esm_journal.specs.declared.error.OpenError.TheVariants as open_error;
 ghost use Rattle.esm_journal.specs.declared.error.AppendError.TheVariants as append_error;

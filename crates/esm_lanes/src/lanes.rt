@@ -1,3 +1,4 @@
+// The lanes of a shard or of a queue, each a row of pieces whose front piece is the next to call.
 ghost use Rattle.std.specs.Prelude.{◌≡◌, ℕ, ◌+◌, ◌<◌, ◌≤◌, ◌↔◌, [], ◌∷◌, ◌++◌, length, drop, slice_set, All, replicate, OnOk, OnErr, IsOk, IfOk, IsNone, IfSome};
 ghost use Rattle.esm_model.specs.declared.limits.TheConstants.{MAX_LANES, MAX_TRIES};
 ghost use Rattle.esm_lanes.specs.declared.standing.Standing.TheVariants.{Fresh, Tried};

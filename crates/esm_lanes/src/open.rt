@@ -1,3 +1,4 @@
+// The open places of a lane, one list with a moving start whose memory is used again.
 ghost use Rattle.std.specs.Prelude.{◌≡◌, ℕ, ◌+◌, ◌-◌, ◌<◌, ◌≤◌, [], ◌∷◌, ◌++◌, length, drop, OnOk, OnErr, IsOk};
 
 use std::alloc::{AllocError, Global};

@@ -1,3 +1,4 @@
+// The standing of a piece: fresh, tried or split off, and so which places may join it.
 ghost use Rattle.std.specs.Prelude.{◌≡◌};
 ghost use Rattle.esm_lanes.specs.Piece as spec;
 

@@ -1,3 +1,4 @@
+// Records of one shard that are about to come, with their lanes, found fates and windows.
 use crate::measure::Measure;
 use esm_model::{Fate, Record};
 

@@ -1,3 +1,4 @@
+// Records about to come, along with the ledger of their shard where it is new.
 use crate::arriving::Arriving;
 use crate::shard::ShardLedger;
 

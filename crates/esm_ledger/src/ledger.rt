@@ -1,3 +1,4 @@
+// The ledger of a stream's book: the history of entries, with quick tables of what it says.
 ghost use Rattle.std.specs.Prelude.{◌≡◌, ◌≢◌, ℕ, List, ◌+◌, ◌<◌, ◌≤◌, ◌∷◌, [], true, false, length, reverse, OnOk, OnErr, IfOk, IfSome, IfNone, IsSome, Some, None, slice_get, ◌++◌, vec_len, vec_capacity};
 ghost use Rattle.esm_model.specs.declared.lane.LaneId.{LaneId};
 ghost use Rattle.esm_model.specs.Valid.{IsStreamConfig};

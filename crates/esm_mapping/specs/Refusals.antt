@@ -1,4 +1,5 @@
--- What becomes of a refusal of the registry's file, and of what was found under an id. Only this crate's proofs cite this file.
+-- What becomes of a refusal of the registry's file, and of what was found under an id. Only this crate's proofs cite
+-- this.
 use Rattle.std.specs.Prelude.{◌≡◌, false, Option, Some, None}
 use Rattle.esm_journal.specs.declared.error.OpenError.{OpenError}
 use Rattle.esm_journal.specs.declared.error.OpenError.TheVariants as file

@@ -1,3 +1,4 @@
+// The mapping that a run is given, its start in the input, and why the words may name none.
 use esm_config::Param;
 use esm_model::{Config, Start};
 

@@ -1,3 +1,4 @@
+// Reading the mapping of a run, from a text or by its id from the registry.
 ghost use Rattle.std.specs.Prelude.{◌≡◌, ℕ, List, IfOk, IfErr};
 ghost use Rattle.esm_cli.specs.declared.command.Which.TheVariants.{Config};
 ghost use Rattle.esm_io.specs.Meanings.{disk as meaning};

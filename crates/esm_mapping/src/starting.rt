@@ -1,3 +1,4 @@
+// Where a mapping starts to read, with the latest position made the moment of its creation.
 ghost use Rattle.std.specs.Prelude.{◌≡◌};
 ghost use Rattle.esm_mapping.specs.Starts.{is_latest, start_after};
 

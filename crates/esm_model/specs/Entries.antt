@@ -1,6 +1,6 @@
 -- What the entries of a history say one by one. A history is written newest entry first, so each fact is a recursion
 -- over what one more entry does. This product's own.
-use Rattle.std.specs.Prelude.{ℕ, suc, ◌+◌, ◌*◌, ◌==◌, nat_le, nat_lt, Bool, true, false, ◌&&◌, List, [], ◌∷◌, ◌++◌, Option, Some, None, if◌then◌else◌}
+use Rattle.std.specs.Prelude.{◌≡◌, ℕ, suc, ◌+◌, ◌*◌, ◌==◌, nat_le, nat_lt, Bool, true, false, ◌&&◌, List, [], ◌∷◌, ◌++◌, Option, Some, None, if◌then◌else◌}
 use Rattle.std.specs.List.{list_any, position_or_len}
 use Rattle.esm_model.specs.Lane.{same_lane}
 use Rattle.esm_model.specs.Setting.{Setting}
@@ -65,6 +65,16 @@ is_shut_entry _ = false
 -- the input ended: the history has a `Shut`
 abbrev pub is_shut : List Entry → Bool
 is_shut h = list_any is_shut_entry h
+
+-- it begins a call
+abbrev pub is_beginning : Entry → Bool
+is_beginning (Began lane places closing moment) = true
+is_beginning _ = false
+
+-- each call began after the input had ended
+abbrev pub CallsFollowShut : List Entry → Type 0
+CallsFollowShut [] = Unit {0}
+CallsFollowShut (e ∷ h) = (is_beginning e ≡ true → is_shut h ≡ true) × CallsFollowShut h
 
 abbrev pub shards_after : List ℕ → Entry → List ℕ
 shards_after before (Came shard first count moment) = if holds before shard then before else before ++ shard ∷ []

@@ -1,3 +1,4 @@
+// What a book answers: jobs and pauses for the batchers, refusals, and the trouble that took it down.
 use crate::lane::LaneId;
 use crate::memory::OutOfMemory;
 use crate::text::{Bytes, Places, Text};

@@ -1,3 +1,4 @@
+// A call of a function as its caller logs it: the name, the event and the reply.
 use crate::entry::Reply;
 use crate::text::{Bytes, Text};
 

@@ -1,3 +1,4 @@
+// The configuration of an event source mapping, with the kind of its source and its starting position.
 use crate::text::{Text, Texts};
 
 /// What a mapping reads.

@@ -1,3 +1,4 @@
+// A device as it stood at opening, whole and of any type: a disk, a pair of disks or a destination.
 use std::marker::Model;
 
 /// A device as it stood at opening, whole: a disk, a pair of them or a destination, of whatever type it is. Contracts

@@ -1,3 +1,4 @@
+// The entries of a book's history, with the fates of records, the replies and the window states.
 use crate::lane::LaneId;
 use crate::text::{Bytes, Places, Text};
 

@@ -1,3 +1,4 @@
+// What an event says of its tumbling window, and what a failure line says of records given up.
 use crate::entry::WindowState;
 use crate::sequence::Seq;
 

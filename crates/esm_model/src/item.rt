@@ -1,3 +1,4 @@
+// What a source holds: a record of a stream, and a message of a queue.
 use crate::sequence::Seq;
 use crate::text::{Bytes, Text};
 

@@ -1,3 +1,4 @@
+// The lane of a shard, and the choice of a record's lane by its partition key.
 ghost use Rattle.std.specs.Prelude.{◌≡◌, ◌≤◌, ◌<◌};
 ghost use Rattle.esm_model.specs.Lane as spec;
 

@@ -1,3 +1,4 @@
+// Want of memory, the one refusal of every call that grows something.
 use std::alloc::{AllocError, AllocFailed};
 
 /// Want of memory: the one refusal that every call which grows something may give.

@@ -1,3 +1,4 @@
+// A message of a queue as a call of the function receives it, with its place and its receive count.
 use crate::item::Message;
 
 /// A message as a call receives it: its place in the order of arrival, how often it was received with this time, and

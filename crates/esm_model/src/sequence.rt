@@ -1,3 +1,4 @@
+// The sequence number of a record: reading it from a text, copying it, and the order of two of them.
 ghost use Rattle.std.specs.Prelude.{◌≡◌, ◌≢◌, true, false, IfOk};
 ghost use Rattle.esm_model.specs.Sequence.{is_sequence, sequence_order};
 ghost use Rattle.esm_model.specs.declared.sequence.SeqError.TheVariants as seq_error;

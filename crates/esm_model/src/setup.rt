@@ -1,3 +1,4 @@
+// What a book is opened with: its mapping, what its journal told at opening, and how its devices stood.
 use crate::config::Config;
 use crate::device::DeviceFound;
 use crate::entry::{Entry, Fate};

@@ -1,3 +1,4 @@
+// Owned lists that entries hold: texts, bytes, places of records, and lists of texts.
 ghost use Rattle.std.specs.Prelude.{◌≡◌, IfOk};
 ghost use Rattle.std.specs.String.{string_bytes};
 

@@ -1,3 +1,4 @@
+// What a reply says of a batch, and the verdict on the records that succeeded and the rest.
 use crate::text::Places;
 
 /// What a reply says of a stream's batch.

@@ -1,3 +1,4 @@
+// What is decided for a batcher of a stream: a call, an expiry, a pause or an end.
 use esm_model::{Job, LaneId, Places, Text};
 
 /// What is decided for a batcher.

@@ -1,3 +1,4 @@
+// Deciding what the batcher of a lane does next, by the first rule that holds.
 ghost use Rattle.std.specs.Prelude.{◌≡◌, ◌≤◌, ◌++◌, Some, false, IfOk, if◌then◌else◌};
 ghost use Rattle.esm_model.specs.declared.lane.LaneId.{LaneId};
 ghost use Rattle.esm_model.specs.declared.moment.TheConstants.{MAX_MOMENT};

@@ -1,3 +1,4 @@
+// What the end of a lane's call calls for: fates, counted tries and the close of a tumbling window.
 ghost use Rattle.std.specs.Prelude.{◌≡◌, ◌≤◌, ◌∷◌, true, map, IfOk, vec_len};
 ghost use Rattle.std.specs.Option.{option_or};
 ghost use Rattle.esm_model.specs.declared.moment.TheConstants.{MAX_MOMENT};

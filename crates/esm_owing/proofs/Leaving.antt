@@ -30,7 +30,7 @@ counted_of c k = record {
 }
 
 pub left_of : (c : Ledger) (n : ℕ) → Keeps c → HasRoom c n → IsLeft c
-left_of c n k room = record { places = places_of c n k room; counted = counted_of c k }
+left_of c n k room = record { places = places_of c n k room; shut = k.rests.shut; counted = counted_of c k }
 
 -- in any standing
 pub left_in : (c : Ledger) (xs : List Coming) (owed : List Owed) (st : Standing) → StandsSo c xs owed st → IsLeft c
@@ -68,6 +68,7 @@ module _ (stays : (s : Setting) (h : List Entry) (n : ℕ) (t : Tally) → Progr
   left_pushed : (c d : Ledger) (e : Entry) → IsPushed c d e → IsQuiet (past_of c) e → IsLeft c → IsLeft d
   left_pushed c d e p quiet left = record {
     places = pushed_places c d e p left.places quiet.fewer;
+    shut = p.shut left.shut;
     counted = counted_pushed c d e p quiet left.counted;
   }
 

@@ -48,6 +48,7 @@ pub record IsPushed (c d : Ledger) (e : Entry) : Type 0 where
   pub shards : d.shards ≡ c.shards
   pub setting : setting_of d ≡ setting_of c
   pub last : d.last ≡ moment_of e
+  pub shut : c.shut ≡ is_shut (past_of c) → d.shut ≡ is_shut (past_of d)
   pub len : vec_len d.history ≡ vec_len c.history + 1
   pub capacity : vec_capacity d.history ≡ vec_capacity c.history
 
@@ -68,6 +69,7 @@ pub record AreCounted (c : Ledger) : Type 0 where
 
 pub record IsLeft (c : Ledger) : Type 0 where
   pub places : HasPlaces c
+  pub shut : c.shut ≡ is_shut (past_of c)
   pub counted : AreCounted c
 
 abbrev pub StandsSo : Ledger → List Coming → List Owed → Standing → Type 0

@@ -1,6 +1,6 @@
 //! Adding an owed entry to a ledger, or one that is noted to its history alone.
 ghost use Rattle.std.specs.Prelude.{◌≡◌, ◌<◌, [], ◌∷◌, true, false, reverse, drop, vec_len, vec_capacity};
-ghost use Rattle.esm_model.specs.Entries.{moment_of as entry_moment};
+ghost use Rattle.esm_model.specs.Entries.{moment_of as entry_moment, is_shut_entry};
 ghost use Rattle.esm_model.specs.declared.entry.Entry.{Entry};
 ghost use Rattle.esm_owing.specs.Kept.{IsPushed, IsShut, CanAdd, CanShut};
 ghost use Rattle.esm_owing.specs.Acts.{IsAdded};
@@ -93,8 +93,9 @@ pub(crate) fn add_next(ledger: &mut Ledger, alloc: Global, coming: &mut Vec<Comi
     }
 }
 
-/// The history alone goes on, within its room.
+/// The history alone goes on by an entry that does not end the input, within its room.
 pub(crate) fn push(ledger: &mut Ledger, entry: Entry, moment: u64)
+    requires going { is_shut_entry entry ≡ false }
     requires room { vec_len ledger.old.history < vec_capacity ledger.old.history }
     requires moment { moment ≡ entry_moment entry }
     ensures { IsPushed ledger.old ledger.new entry }
@@ -113,6 +114,8 @@ pub(crate) fn shut(ledger: &mut Ledger, whole: bool, moment: u64)
     if whole {
         ledger.ended_input(moment);
     } else {
-        push(ledger, Entry::Shut { moment }, moment);
+        ledger.history.push_reserved(Entry::Shut { moment });
+        ledger.last = moment;
+        ledger.shut = true;
     }
 }

@@ -1,3 +1,4 @@
+// Records that come to the ledger: the arrivals that are owed, part by part, and what the filter refuses of them.
 ghost use Rattle.std.specs.Prelude.{◌≡◌, ℕ, ◌+◌, ◌<◌, ◌++◌, ◌∷◌, [], All, not, false, map, length, reverse, slice_index_or, IfOk, OnOk, OnErr};
 ghost use Rattle.esm_model.specs.Entries.{holds};
 ghost use Rattle.esm_payload.specs.Payload.{IsSaid};

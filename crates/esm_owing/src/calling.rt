@@ -1,3 +1,4 @@
+// Owing the start of a call of the function, or the expiry of records, with the memory for its end.
 ghost use Rattle.std.specs.Prelude.{◌≡◌, ◌<◌, ◌∷◌, [], Some, None, OnOk, OnErr};
 ghost use Rattle.esm_model.specs.declared.entry.Entry.{Entry};
 ghost use Rattle.esm_model.specs.declared.entry.Fate.{Fate};

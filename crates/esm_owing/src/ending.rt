@@ -1,3 +1,4 @@
+// Owing the end of a lane's call, and then the entries that this end calls for.
 ghost use Rattle.std.specs.Prelude.{◌≡◌, ◌+◌, ◌≤◌, ◌∷◌, [], length, map, OnOk, OnErr, IfSome, vec_len};
 ghost use Rattle.esm_model.specs.declared.entry.Entry.{Entry};
 ghost use Rattle.esm_model.specs.Tries.{verdict_after};

@@ -1,3 +1,4 @@
+// An entry that a stream's ledger owes, with its payload for the journal and its line for the failure destination.
 use esm_model::{Bytes, Fate, LaneId, Places, Reply, Text, Verdict, WindowState};
 
 /// An entry that is to be added, with what a ledger needs for it beside the entry. The records of a `Came` are kept apart.

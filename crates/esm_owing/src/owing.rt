@@ -1,3 +1,4 @@
+// A stream's ledger with the entries that are decided and not yet added: owing, paying and forgetting them.
 ghost use Rattle.std.specs.Prelude.{◌≡◌, ℕ, ◌<◌, ◌≤◌, ◌^◌, ◌∷◌, [], true, false, IfOk, IfSome, IfNone, length, take, reverse};
 ghost use Rattle.esm_model.specs.declared.limits.TheConstants.{MAX_PAYLOAD};
 ghost use Rattle.esm_model.specs.declared.moment.TheConstants.{MAX_MOMENT};
@@ -94,6 +95,13 @@ impl OwingLedger {
         ensures in_time { result ≤ MAX_MOMENT }
     {
         self.ledger.last
+    }
+
+    /// Whether the input ended. Takes no memory.
+    pub fn is_shut(&self) -> bool
+        ensures { result ≡ is_shut self.now.past }
+    {
+        self.ledger.shut
     }
 
     /// Gives up what is owed. Takes no memory.

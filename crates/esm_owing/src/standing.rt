@@ -1,3 +1,4 @@
+// How far a stream's ledger can decide more, after an owed entry is paid, given up or left.
 ghost use Rattle.std.specs.Prelude.{◌≡◌};
 ghost use Rattle.esm_owing.specs.Standing.{standing_paid, standing_forgotten, standing_shut, is_whole};
 

@@ -1,3 +1,4 @@
+// What one payload of a mapping's journal says: fates, deletions, window states, failed tries and replays.
 use esm_model::{Fate, Places, Texts, WindowState};
 
 /// What one payload of a mapping's journal says. Moments and the starts of windows are in milliseconds since 1970;

@@ -4,7 +4,7 @@ use Rattle.std.specs.Prelude.{◌≡◌, ℕ, max, Bool, true, List, [], ◌∷�
 use Rattle.esm_model.specs.declared.setup.Told.{Told}
 use Rattle.esm_model.specs.declared.setup.Setup.{Setup}
 use Rattle.esm_model.specs.Moment.{capped_moment}
-use Rattle.esm_model.specs.Entries.{moment_of, last_moment}
+use Rattle.esm_model.specs.Entries.{moment_of, last_moment, is_shut}
 use Rattle.esm_model.specs.Books.{entries_told}
 use Rattle.esm_model.specs.Kept.{Meaning, entries_after, IsLegal, MayFollowAll, AllBy, added}
 
@@ -20,6 +20,11 @@ pub record GoesOn {T : Type 0} (m : Meaning T) (n : ℕ) (x y : T) : Type 0 wher
 pub record OthersFollow (author : Setup → List Told → Told → ℕ) (may_follow : Setup → List Told → Told → Type 0) (setup : Setup) (n : ℕ) (h es : List Told) : Type 0 where
   pub legal : IsLegal (may_follow setup) (h ++ es)
   pub others : entries_after (author setup) n h es ≡ []
+
+-- each of the entries es, which come after h, that is the author's comes after the input's end
+abbrev pub OwnFollowShut : (List Told → Told → ℕ) → ℕ → List Told → List Told → Type 0
+OwnFollowShut author n h [] = Unit {0}
+OwnFollowShut author n h (t ∷ es) = (author h t ≡ n → is_shut (entries_told h) ≡ true) × OwnFollowShut author n (h ++ t ∷ []) es
 
 -- moments
 

@@ -1,3 +1,4 @@
+// The trait of a book that batchers share: asking what a batcher does next, and ending its call.
 ghost use Rattle.std.specs.Prelude.{◌≡◌, ◌⊎◌, ◌<◌, ◌+◌, ◌++◌, ◌∷◌, [], ℕ, List, true, IfOk, IfErr, OnErr, IsErrOf};
 ghost use Rattle.esm_model.specs.declared.book.BookError.TheVariants as why;
 ghost use Rattle.esm_model.specs.declared.book.Job.{Job};

@@ -1,3 +1,4 @@
+// When a message of a queue shows, and the first messages that may be received, each group in its order.
 ghost use Rattle.std.specs.Prelude.{◌≡◌, ℕ, ◌≤◌, ◌<◌, ◌&&◌, ◌||◌, ◌==◌, not, length, IfOk, OnOk, Option, Some, None};
 ghost use Rattle.std.specs.Ordering.{nat_cmp};
 ghost use Rattle.std.specs.BTreeSet.{contains};

@@ -1,3 +1,4 @@
+// The messages of a queue by their groups, with the head of each group and the moment at which it shows.
 ghost use Rattle.std.specs.Prelude.{◌≡◌, ℕ, ◌+◌, ◌≤◌, ◌<◌, ◌==◌, ◌&&◌, true, false, List, length, ◌++◌, ◌∷◌, [], slice_get, slice_index, slice_set, Some, IfOk, OnOk, IsOk, if◌then◌else◌};
 ghost use Rattle.esm_queue_model.specs.declared.stored.Stored.{Stored};
 ghost use Rattle.esm_queue_model.specs.Queue.{is_group, deleted_once};

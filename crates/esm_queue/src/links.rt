@@ -1,3 +1,4 @@
+// Links beside the messages of a queue, by which the others of a group are found.
 ghost use Rattle.std.specs.Prelude.{◌≡◌};
 ghost use Rattle.std.specs.Vec.{vec_len, vec_capacity};
 ghost use Rattle.esm_queue.specs.Links.{with_next, with_prev, with_last, last_at};

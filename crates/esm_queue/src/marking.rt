@@ -1,3 +1,4 @@
+// Marking the receipt of messages of a queue, which hides them for the visibility timeout.
 ghost use Rattle.std.specs.Prelude.{◌≡◌, ◌<◌, length, All};
 ghost use Rattle.esm_model.specs.Moment.{moment_after};
 ghost use Rattle.esm_queue_model.specs.Queue.{received_once, changed_from};

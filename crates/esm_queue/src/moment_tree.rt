@@ -1,3 +1,4 @@
+// A tree of moments by place, for finding the next place with a moment that is not after a given one.
 ghost use Rattle.std.specs.Prelude.{◌≡◌, ℕ, ◌+◌, ◌*◌, ◌^◌, ◌<◌, ◌≤◌, length, drop, slice_set, slice_index, ◌++◌, ◌∷◌, [], IfOk, OnOk, IsOk, IsNone, IfSome};
 ghost use Rattle.esm_queue.specs.declared.moment_tree.TheConstants.{NEVER};
 ghost use Rattle.esm_queue.specs.Moments.{Moments, IsFirstAt, NoneAt};

@@ -1,3 +1,4 @@
+// Finding a message group of a queue by its name, in buckets of the groups' first messages.
 ghost use Rattle.std.specs.Prelude.{◌≡◌, ℕ, ◌<◌, ◌≤◌, true, false, length};
 ghost use Rattle.esm_queue_model.specs.Queue.{is_group};
 ghost use Rattle.esm_queue.specs.declared.links.TheConstants.{NONE};

@@ -1,3 +1,4 @@
+// The messages of a queue's mapping: their arrival, receipt, visibility timeout and deletion.
 ghost use Rattle.std.specs.Prelude.{◌≡◌, ◌+◌, ◌≤◌, ◌<◌, not, length, ◌∷◌, [], OnOk, OnErr, IfOk, IsOk, IsTrue, ◌↔◌, option_map};
 ghost use Rattle.std.specs.Option.{option_copied};
 ghost use Rattle.esm_model.specs.Moment.{capped_moment};

@@ -1,3 +1,4 @@
+// The entries that a call of a queue's book owes: the first one, and the deletion after it.
 use esm_model::{Fate, LaneId, Places, Reply};
 
 /// The first entry that a call owes.

@@ -1,3 +1,4 @@
+// The core of a queue's book: its history, the calls and deletions that it decides on, and the entries it owes.
 ghost use Rattle.std.specs.Prelude.{◌≡◌, ℕ, ◌+◌, ◌<◌, ◌≤◌, ◌^◌, ◌∷◌, [], min, max, IfOk, IfErr, IfSome, IfNone, OnOk, OnErr, All, length, take, reverse, false, true};
 ghost use Rattle.std.specs.Vec.{vec_capacity};
 ghost use Rattle.esm_model.specs.declared.limits.TheConstants.{MAX_BATCH, MAX_PAYLOAD};
@@ -413,6 +414,13 @@ impl QueueCore {
         self.last = now;
         self.shut = true;
         self.standing = self.standing.shut(&self.first, &self.gift);
+    }
+
+    /// Whether the input ended. Takes no memory.
+    pub fn is_shut(&self) -> bool
+        ensures { result ≡ is_shut self.now.past }
+    {
+        self.shut
     }
 
     /// How many entries are owed. Takes no memory.

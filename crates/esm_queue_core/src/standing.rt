@@ -1,3 +1,4 @@
+// How far the core of a queue's book can still decide, after an owed entry is paid, given up or left.
 ghost use Rattle.std.specs.Prelude.{◌≡◌};
 ghost use Rattle.esm_queue_core.specs.Standing.{standing_paid, standing_left, standing_shut};
 

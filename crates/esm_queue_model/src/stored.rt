@@ -1,3 +1,4 @@
+// A message as a queue keeps it, with its moments and receive count, and the limit of that count.
 use esm_model::Message;
 
 /// A receive count stops here; this product's own.

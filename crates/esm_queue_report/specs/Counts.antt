@@ -1,4 +1,4 @@
--- What a history of a queue comes to, and the line that tells of it. Only the contracts and proofs of this crate cite it.
+-- What a history of a queue comes to, and the line that tells of it.
 use Rattle.std.specs.Prelude.{ℕ, ◌≡◌, List, ◌++◌, codes, length, get_or, filter, is_some, Option, None, option_map}
 use Rattle.std.specs.Option.{option_or}
 use Rattle.esm_model.specs.declared.entry.Fate.{Fate}

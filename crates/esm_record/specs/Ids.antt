@@ -1,4 +1,4 @@
--- The ids that a reader of lines has seen, in an ordered set. Only private contracts cite this.
+-- The ids that a reader of lines has seen, in an ordered set. Only this crate's proofs cite this.
 use Rattle.std.specs.Prelude.{ℕ, ◌+◌, ◌*◌, ◌%◌, ◌^◌, Bool, List, take, fold}
 use Rattle.std.specs.declared.cmp.Ordering.{Ordering}
 use Rattle.std.specs.Ordering.{nat_cmp, ordering_then}

@@ -1,4 +1,4 @@
--- What the fields of a line look at in the members of an object. Only private contracts cite this.
+-- What the fields of a line look at in the members of an object. Only this crate's proofs cite this.
 use Rattle.std.specs.Prelude.{◌≡◌, ℕ, Bool, true, false, List, [], ◌∷◌, length, get_or, Option, Some, None, option_map, option_and_then, MatchResult, Result, Ok, Err}
 use Rattle.std.specs.Bool.{MatchBool}
 use Rattle.std.specs.Option.{ok_or}

@@ -1,4 +1,4 @@
--- What a reader of lines keeps of the sequence numbers. Only private contracts cite this.
+-- What a reader of lines keeps of the sequence numbers. Only this crate's proofs cite this.
 use Rattle.std.specs.Prelude.{ℕ, ◌==◌, Bool, false, List, Option, Some, None, if◌then◌else◌}
 use Rattle.std.specs.Ordering.{nat_cmp}
 use Rattle.std.specs.String.{string_bytes}

@@ -1,4 +1,4 @@
--- What a reader of lines keeps of the items before. Only private contracts cite this.
+-- What a reader of lines keeps of the items before. Only this crate's proofs cite this.
 use Rattle.std.specs.Prelude.{◌≡◌, ℕ, List}
 use Rattle.esm_record.specs.declared.item.Item.{Item}
 use Rattle.esm_record.specs.declared.seen.Seen.{Seen}

@@ -1,4 +1,4 @@
--- What a reader of lines keeps of what it has read. Only private contracts cite these.
+-- What a reader of lines keeps of what it has read. Only this crate's proofs cite this.
 use Rattle.std.specs.Prelude.{◌≡◌, ℕ, ◌≤◌, false, List, [], ◌∷◌, ◌++◌, length, IsNone}
 use Rattle.std.specs.List.{All}
 use Rattle.esm_record.specs.declared.item.Item.{Item}

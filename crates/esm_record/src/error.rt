@@ -1,3 +1,4 @@
+// The fields of an input line, and why a line is refused.
 ghost use Rattle.std.specs.Prelude.{◌≡◌, ◌≢◌, ◌<◌, IfOk, IfSome, IfNone};
 ghost use Rattle.esm_record.specs.Line.{name_of, slot_of};
 ghost use Rattle.esm_record.specs.declared.error.Field.{Field};

@@ -1,3 +1,4 @@
+// The kinds of input lines, the item that a line gives, and what feeding a piece of input gives.
 use crate::error::BadLine;
 use esm_model::{Message, Record};
 

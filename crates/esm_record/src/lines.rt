@@ -1,3 +1,4 @@
+// The reader of an input's lines, which takes the input in pieces of any size.
 ghost use Rattle.std.specs.Prelude.{◌≡◌, ◌≤◌, ℕ, List, ◌++◌, [], length, true, false, Ok, IsErr, OnOk, IfOk, OnErr, IsNone, All};
 ghost use Rattle.esm_record.specs.declared.item.Item.{Item};
 ghost use Rattle.esm_record.specs.Input.{IsValidItem, input_so_far, input_of};

@@ -1,3 +1,4 @@
+// The last sequence number of each shard, as lines of the input are read.
 ghost use Rattle.std.specs.Prelude.{◌≡◌, ◌==◌, ℕ, false, Some, None, option_map, if◌then◌else◌, OnOk};
 ghost use Rattle.std.specs.Ordering.{nat_cmp};
 ghost use Rattle.std.specs.BTreeMap as map;

@@ -1,3 +1,4 @@
+// Reading a line as the next record of its shard or the next new message of the queue.
 ghost use Rattle.std.specs.Prelude.{◌≡◌, ◌||◌, ℕ, List, ◌++◌, ◌∷◌, [], option_to_list, Ok, IfOk, IfErr, OnOk};
 ghost use Rattle.std.specs.Str.{bytes_eq};
 ghost use Rattle.esm_model.specs.Sequence.{sequence_order};

@@ -1,3 +1,4 @@
+// What the next line of the input is judged against: last sequence numbers, and the message ids seen before.
 ghost use Rattle.std.specs.Prelude.{◌≡◌, ◌||◌, ℕ, List, [], IfOk};
 ghost use Rattle.std.specs.Str.{bytes_eq};
 ghost use Rattle.esm_record.specs.Gives.{Gives};

@@ -1,3 +1,4 @@
+// Splitting the input into lines piece by piece, and reading each up to the first bad one.
 ghost use Rattle.std.specs.Prelude.{◌≡◌, ◌≤◌, ◌<◌, ◌+◌, Some, ℕ, List, ◌++◌, ◌∷◌, [], length, option_to_list, OnOk, IfOk, IfSome, IfNone, IsNone};
 ghost use Rattle.esm_record.specs.declared.item.Item.{Item};
 ghost use Rattle.esm_record.specs.Gives.{Gives};

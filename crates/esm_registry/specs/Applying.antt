@@ -1,5 +1,5 @@
--- How a command is carried out: what it comes to before anything is changed, and then one payload and the list. Only this
--- crate's proofs cite this file.
+-- How a command is carried out: what it comes to before anything is changed, and then one payload and the list. Only
+-- this crate's proofs cite this.
 use Rattle.std.specs.Prelude.{◌≡◌, ◌+◌, ◌<◌, ◌≤◌, ◌^◌, ◌++◌, ℕ, true, false, List, [], ◌∷◌, length, Option, Some, None, Result, IfOk, OnOk, OnErr, IsErrOf}
 use Rattle.std.specs.Option.{option_to_list}
 use Rattle.esm_io.specs.Faults.{Rose}

@@ -1,4 +1,4 @@
--- What is known of a change that was read, and whether it was made. Only this crate's proofs cite this file.
+-- What is known of a change that was read, and whether it was made. Only this crate's proofs cite this.
 use Rattle.std.specs.Prelude.{◌≡◌, Bool, true, false, Option, Some, None}
 use Rattle.esm_config.specs.Given.{IsGiven}
 use Rattle.esm_registry.specs.Lists.{Mappings}

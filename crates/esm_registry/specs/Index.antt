@@ -1,4 +1,4 @@
--- What contracts see of the mappings in memory. Only this crate's proofs cite this file.
+-- What contracts see of the mappings in memory. Only this crate's proofs cite this.
 use Rattle.std.specs.Prelude.{◌≡◌, ℕ, ◌+◌, Bool, ◌&&◌, List, [], ◌∷◌, Option, Some, None, if◌then◌else◌}
 use Rattle.std.specs.Str.{bytes_eq}
 use Rattle.esm_model.specs.declared.config.Config.{Config}

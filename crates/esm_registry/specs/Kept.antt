@@ -1,4 +1,4 @@
--- What a registry keeps besides what contracts see of it. Only this crate's proofs cite this file.
+-- What a registry keeps besides what contracts see of it. Only this crate's proofs cite this.
 use Rattle.std.specs.Prelude.{◌≡◌, Bool, Some, None}
 use Rattle.esm_journal.specs.State.{JournalState}
 use Rattle.esm_registry.specs.Index.{TableState}

@@ -1,4 +1,4 @@
--- The index of the mappings in memory: by place, and by UUID. Only this crate's proofs cite this file.
+-- The index of the mappings in memory: by place, and by UUID. Only this crate's proofs cite this.
 use Rattle.std.specs.Prelude.{◌≡◌, ℕ, ◌<◌, List, [], ◌∷◌, Some}
 use Rattle.std.specs.Ordering.{nat_cmp}
 use Rattle.std.specs.Cmp.Lexicographic.{slice_cmp}

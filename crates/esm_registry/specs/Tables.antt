@@ -1,4 +1,4 @@
--- What the mappings in memory mean, and what they keep. Only this crate's proofs cite this file.
+-- What the mappings in memory mean, and what they keep. Only this crate's proofs cite this.
 use Rattle.std.specs.Prelude.{◌≡◌, ℕ, ◌+◌, List, Option, option_map}
 use Rattle.std.specs.BTreeMap.{BTreeMap}
 use Rattle.esm_registry.specs.declared.mapping.Mapping.{Mapping}

@@ -1,3 +1,4 @@
+// What one payload of the registry's journal says: a mapping created, changed or deleted.
 use esm_model::Config;
 use uuid::Uuid;
 

@@ -1,3 +1,4 @@
+// The commands of the mappings' API, their answers, and the errors of the registry.
 ghost use Rattle.std.specs.Prelude.{◌≡◌};
 ghost use Rattle.esm_registry.specs.Names.{error_text};
 

@@ -1,3 +1,4 @@
+// An event source mapping as the registry keeps it: its UUID, configuration and moments.
 use esm_model::Config;
 use uuid::Uuid;
 

@@ -1,3 +1,4 @@
+// The registry of event source mappings, kept in a journal: opening it, and applying commands to it.
 ghost use Rattle.std.specs.Prelude.{◌≡◌, ◌≤◌, ◌++◌, ℕ, true, false, IfOk, IfErr, OnOk, OnErr, IsErrOf};
 ghost use Rattle.std.specs.Option.{option_copied, option_to_list};
 ghost use Rattle.esm_io.specs.Faults.{Rose};

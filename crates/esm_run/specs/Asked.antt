@@ -1,4 +1,4 @@
--- What words ask for, by what it is over. Only this crate's proofs cite this file.
+-- What words ask for, by what it is over. Only this crate's proofs cite this.
 use Rattle.std.specs.Prelude.{◌≡◌, List, ℕ, Ok, Err}
 use Rattle.esm_cli.specs.declared.command.Command.{Command}
 use Rattle.esm_cli.specs.declared.command.Command.TheVariants as command

@@ -1,4 +1,4 @@
--- What became of the options of `run` before it was told. Only this crate's proofs cite this file.
+-- What became of the options of `run` before it was told. Only this crate's proofs cite this.
 use Rattle.std.specs.Prelude.{◌≡◌, true, List, ℕ, Result, Ok, Err}
 use Rattle.esm_model.specs.declared.entry.Entry.{Entry}
 use Rattle.esm_model.specs.declared.memory.OutOfMemory.{OutOfMemory}

@@ -1,4 +1,4 @@
--- How `serve` ends where the registry's file is refused. Only this crate's proofs cite this file.
+-- How `serve` ends where the registry's file is refused. Only this crate's proofs cite this.
 use Rattle.std.specs.Prelude.{Result, Ok, Err}
 use Rattle.esm_journal.specs.declared.error.OpenError.{OpenError}
 use Rattle.esm_journal.specs.declared.error.OpenError.TheVariants as file

@@ -1,3 +1,4 @@
+// What the words of the command line ask for: a command over the files, serving connections, or a run.
 ghost use Rattle.std.specs.Prelude.{◌≡◌, map, true};
 ghost use Rattle.std.specs.String.{string_bytes};
 ghost use Rattle.esm_run.specs.Asked.{AsksFor, IsAsked};

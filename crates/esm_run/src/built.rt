@@ -1,3 +1,4 @@
+// The command that the words of the command line spell, where this program has it built.
 ghost use Rattle.std.specs.Prelude.{◌≡◌, map, IfOk};
 ghost use Rattle.std.specs.String.{string_bytes};
 ghost use Rattle.esm_cli.specs.declared.command.Command.{Command};

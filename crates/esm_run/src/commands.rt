@@ -1,3 +1,4 @@
+// Running the mapping that the words name, refusing bad words, and telling how a run ended.
 ghost use Rattle.std.specs.Prelude.{◌≡◌, ◌≢◌, ℕ, List, true, length, reverse, Ok, IfOk};
 ghost use Rattle.esm_model.specs.declared.limits.TheConstants.{MAX_LANES};
 ghost use Rattle.esm_io.specs.Meanings.{disk as meaning};

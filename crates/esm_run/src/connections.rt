@@ -1,3 +1,4 @@
+// Serving the connections of the mappings' API, one after the other, and why no more are accepted.
 ghost use Rattle.std.specs.Prelude.{◌≡◌, ◌≤◌, false, Some, IfOk, OnOk, OnErr};
 ghost use Rattle.esm_io.specs.Meanings.{disk as meaning};
 ghost use Rattle.esm_io.specs.Talks.{Closes, IsFresh};

@@ -1,3 +1,4 @@
+// Making the four files that the program keeps by the `init` command, and telling how that ended.
 ghost use Rattle.std.specs.Prelude.{◌≡◌, ◌≢◌, Ok};
 ghost use Rattle.esm_io.specs.Meanings.{disk as meaning};
 ghost use Rattle.esm_init.specs.Init.{AreSafe};

@@ -1,3 +1,4 @@
+// Writing the text of a command to its output, with the exit status that tells of the ending.
 ghost use Rattle.std.specs.Prelude.{◌≡◌, ◌≤◌, List, Option, OnOk, OnErr};
 ghost use Rattle.esm_io.specs.Faults.{IsCount};
 ghost use Rattle.esm_io.specs.Told.{Grows};

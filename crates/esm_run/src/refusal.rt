@@ -1,3 +1,4 @@
+// Why a run refused its lines, files or mapping, as the ending that its report tells.
 ghost use Rattle.std.specs.Prelude.{◌≡◌, ◌++◌, Some, IfOk, OnErr};
 ghost use Rattle.esm_config.specs.Names.{name_of};
 ghost use Rattle.esm_record.specs.declared.error.LineError.TheVariants.{Backwards};

@@ -1,3 +1,4 @@
+// Serving connections over the registry that is read from its file, and how that ended.
 ghost use Rattle.std.specs.Prelude.{◌≡◌, false, IfOk, OnErr};
 ghost use Rattle.esm_io.specs.Meanings.{disk as meaning};
 ghost use Rattle.esm_run.specs.Refusals.{end_of_file, end_of_payloads};

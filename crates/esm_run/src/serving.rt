@@ -1,3 +1,4 @@
+// The command `serve`: its connections, the lines that it prints and its exit status.
 ghost use Rattle.std.specs.Prelude.{◌≡◌, ◌≢◌, Ok, IfOk};
 ghost use Rattle.esm_io.specs.Meanings.{disk as meaning};
 ghost use Rattle.esm_run.specs.Endings.{IsToldWith};

@@ -1,3 +1,4 @@
+// The commands over a folder's files alone: `init`, `show`, `failures`, `compact` and `migrate`.
 ghost use Rattle.std.specs.Prelude.{◌≡◌, ◌≢◌, Ok, IfOk, OnErr};
 ghost use Rattle.esm_io.specs.Meanings.{disk as meaning};
 ghost use Rattle.esm_upkeep.specs.Text.{upkeep_status, upkeep_text};

@@ -1,3 +1,4 @@
+// All that a command touches, such as disks, clock and callers, and the same as a command leaves it.
 use esm_model::Entry;
 
 /// All that a command touches: where input comes from and output goes to, the disks, the clock, one caller for each

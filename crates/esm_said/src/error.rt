@@ -1,3 +1,4 @@
+// Why a list of journal payloads says nothing.
 ghost use Rattle.std.specs.Prelude.{◌≡◌};
 ghost use Rattle.esm_said.specs.declared.error.SaysError.TheVariants as error;
 

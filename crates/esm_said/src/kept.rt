@@ -1,3 +1,4 @@
+// A fate or a number of failed tries, each with the sequence number or message id that is kept with it.
 use esm_model::{Fate, Text};
 
 /// A fate, and the sequence number or message id that is kept with it.

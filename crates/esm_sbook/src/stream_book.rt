@@ -1,3 +1,4 @@
+// The book of a stream's mapping, over its journal and its failure destination.
 ghost use Rattle.std.specs.Prelude.{◌≡◌, ◌↔◌, ℕ, List, [], ◌++◌, None, Some, true, false, is_ok, reverse, IfOk, IfErr, OnOk, OnErr, IsErrOf, IsSome};
 ghost use Rattle.std.specs.Option.{option_copied};
 ghost use Rattle.esm_io.specs.Faults.{Rose};

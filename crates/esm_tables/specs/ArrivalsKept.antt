@@ -1,4 +1,4 @@
--- What holds of each list of arrivals as it is kept. Only this crate's proofs cite this file.
+-- What holds of each list of arrivals as it is kept. Only this crate's proofs cite this.
 use Rattle.std.specs.Prelude.{ℕ, ◌≤◌, ◌<◌, List, length, slice_index_or}
 use Rattle.std.specs.List.Sorted.{IsNonDecreasingBy}
 use Rattle.esm_tables.specs.declared.arrivals.Arrival.{Arrival}

@@ -1,4 +1,4 @@
--- What holds of each tally as it is kept. Only this crate's proofs cite this file.
+-- What holds of each tally as it is kept. Only this crate's proofs cite this.
 use Rattle.std.specs.Prelude.{ℕ, ◌≡◌, ◌<◌, Bool, List, length}
 use Rattle.esm_tables.specs.declared.progress.FateCounts.{FateCounts}
 use Rattle.esm_tables.specs.FateCounts.{total}

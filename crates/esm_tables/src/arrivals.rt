@@ -1,3 +1,4 @@
+// The moments at which the records of a shard came, as a run of places for each arrival.
 ghost use Rattle.std.specs.Prelude.{◌≡◌, ℕ, ◌+◌, ◌<◌, ◌≤◌, nat_le, true, false, [], ◌∷◌, ◌++◌, length, OnOk, IsOk};
 ghost use Rattle.std.specs.List.Sorted.{IsNonDecreasingBy, IsPartitionPoint};
 ghost use Rattle.esm_tables.specs.declared.arrivals.Arrival.{Arrival};

@@ -1,3 +1,4 @@
+// The calls of this run whose batch held each record of a shard, and the answer of the last one that ended.
 ghost use Rattle.std.specs.Prelude.{◌≡◌, ℕ, suc, ◌+◌, ◌==◌, ◌<◌, ◌≤◌, true, false, [], length, if◌then◌else◌, Option, OnOk, IsOk};
 ghost use Rattle.esm_model.specs.Entries.{holds};
 ghost use Rattle.esm_tables.specs.Callings.{calls_at, response_at, answer_from, response_from, StandOnce};

@@ -1,3 +1,4 @@
+// What is kept of a lane beside its pieces: the call that runs, and what the delay is computed from.
 ghost use Rattle.std.specs.Prelude.{◌≡◌, ◌<◌, ◌≤◌};
 ghost use Rattle.esm_model.specs.declared.moment.TheConstants.{MAX_MOMENT};
 ghost use Rattle.esm_model.specs.Batches.{delay_from, failures_by};

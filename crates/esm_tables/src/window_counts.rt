@@ -1,3 +1,4 @@
+// A number kept for each window, with entries that are made beforehand.
 ghost use Rattle.std.specs.Prelude.{◌≡◌, ℕ, ◌==◌, true, false, [], if◌then◌else◌, OnOk};
 ghost use Rattle.esm_model.specs.Entries.{holds};
 ghost use Rattle.esm_tables.specs.WindowEntries.{count_at, has_entry};

@@ -1,4 +1,4 @@
--- What a batcher's call leaves as it was in the other lanes. Only the tests cite it.
+-- What a batcher's call leaves as it was in the other lanes. Only this crate's tests cite this.
 use Rattle.std.proofs.Common.{◌≡◌, ◌≢◌, ℕ, false, List, [], ◌∷◌, ◌++◌, reverse, Option, Some, refl, sym, ap, subst, ◌∙◌, inl, inr, append_assoc}
 use Rattle.std.specs.Prelude.{◌/◌, ◌%◌, map, slice_get, option_map}
 use Rattle.std.proofs.lemmas.Bool.{cases_Bool}

@@ -1,4 +1,4 @@
--- The mappings of the examples are valid: each test of a literal text is computed. Only the tests cite it.
+-- The mappings of the examples are valid: each test of a literal text is computed. Only this crate's tests cite this.
 use Rattle.std.proofs.Common.{◌≡◌, true, codes, refl, arith, subst, sym, inl}
 use Rattle.esm_model.specs.declared.config.Config.{Config}
 use Rattle.esm_model.specs.declared.config.Kind.TheVariants.{Standard}

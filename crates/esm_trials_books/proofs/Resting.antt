@@ -1,4 +1,5 @@
--- Whether a queue's batcher rests once it was told what to do, and once its call ended. Only the tests cite it.
+-- Whether a queue's batcher rests once it was told what to do, and once its call ended. Only this crate's tests cite
+-- this.
 use Rattle.std.proofs.Common.{◌≡◌, ℕ, false, List, [], ◌∷◌, ◌++◌, reverse, Some, refl, ap, subst, ◌∙◌}
 use Rattle.esm_model.specs.declared.lane.LaneId.{LaneId}
 use Rattle.esm_model.specs.declared.book.Job.{Job}

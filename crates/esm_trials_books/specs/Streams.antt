@@ -1,4 +1,4 @@
--- What the calls of the tests keep of a stream's book. Only the tests cite it.
+-- What the calls of the tests keep of a stream's book. Only this crate's tests cite this.
 use Rattle.std.specs.Prelude.{◌≡◌, ◌≢◌, ℕ, List, Some, false}
 use Rattle.esm_model.specs.declared.book.Job.{Job}
 use Rattle.esm_model.specs.declared.config.Config.{Config}

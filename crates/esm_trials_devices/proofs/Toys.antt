@@ -1,4 +1,4 @@
--- What the entries of the tests' core have written stays when more names come. Only the tests cite it.
+-- What the entries of the tests' core have written stays when more names come. Only this crate's tests cite this.
 use Rattle.std.proofs.Common.{◌≡◌, ◌<◌, ◌≤◌, ◌+◌, ℕ, zero, suc, List, [], ◌∷◌, ◌++◌, Option, Some, None, All, length, reverse, take, drop, slice_get, Vec, Global, vec_len, vec_capacity, refl, sym, ap, subst, ◌∙◌, arith, length-append}
 use Rattle.std.proofs.lemmas.List.{reverse-append}
 use Rattle.std.proofs.lemmas.List.Elements.{All-append}

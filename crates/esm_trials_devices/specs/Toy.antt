@@ -1,4 +1,4 @@
--- What the core of the tests keeps and decides. Only the tests cite it.
+-- What the core of the tests keeps and decides. Only this crate's tests cite this.
 use Rattle.std.specs.Prelude.{◌≡◌, ◌≤◌, ◌<◌, ◌+◌, ℕ, List, [], ◌∷◌, Option, Some, None, All, length, map, reverse, slice_get, Vec, vec_len, vec_capacity}
 use Rattle.std.specs.declared.alloc.Global.{Global}
 use Rattle.esm_model.specs.declared.limits.TheConstants.{MAX_PAYLOAD}

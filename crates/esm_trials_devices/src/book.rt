@@ -1,3 +1,4 @@
+// Tests: a book of names over devices whose disk or destination fails, and what a crash leaves.
 ghost use Rattle.std.specs.Prelude.{IfOk};
 ghost use Rattle.esm_trials_devices.specs.Toy.{MayAsk};
 

@@ -1,3 +1,4 @@
+// Tests: the forms of the devices may move between threads, and their clocks may be shared.
 use esm_io::{
     FileDisk, FileSource, HostClock, MemDest, MemDisk, MemDoor, MemLink, MemSink, MemSource,
     ScriptCaller, StdinSource, StdoutSink, StepClock, TcpDoor, TcpLink,

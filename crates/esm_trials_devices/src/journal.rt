@@ -1,3 +1,4 @@
+// Tests: a journal's bytes, and what is left of it after a disk failed while it was written, and a crash.
 use esm_io::{Dest, MemDisk};
 use esm_journal::*;
 use esm_model::{Bytes, Refused};

@@ -1,3 +1,4 @@
+// Tests: what `show`, `compact`, `migrate` and `failures` print, and the bytes that they leave on the disks.
 use esm_io::MemDisk;
 use esm_model::OutOfMemory;
 use esm_upkeep::{PairEnded, UpkeepEnd, compact, failures, migrate, show, upkeep_text};

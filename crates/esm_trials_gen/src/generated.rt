@@ -1,3 +1,4 @@
+// Tests: the reports of the runs of a generated stream.
 use esm_gen_run::run_generated;
 use esm_model::OutOfMemory;
 use std::alloc::Global;

@@ -1,4 +1,4 @@
--- A run of a stream's book that is to begin. Only the tests cite it.
+-- A run of a stream's book that is to begin. Only this crate's tests cite this.
 use Rattle.std.specs.Prelude.{◌≡◌, ℕ, List, [], None, true, false, length, is_ok}
 use Rattle.esm_input.specs.Reading.{InputState}
 use Rattle.esm_model.specs.Pattern.{read_patterns}

@@ -1,3 +1,4 @@
+// Tests: where a batch is cut, by the payload limit and by the batching window.
 use esm_batch::{Cut, Limits, Piece1, Why, cut};
 use std::test::Fail;
 

@@ -1,3 +1,4 @@
+// Tests: the lane table, by calls that end with bisects, item failures, found tries and delays.
 ghost use Rattle.std.specs.Prelude.{◌≡◌, ◌<◌, ◌≤◌, length, IfOk, IfSome};
 ghost use Rattle.esm_model.specs.declared.limits.TheConstants.{MAX_TRIES};
 

@@ -1,3 +1,4 @@
+// Tests: the pieces of two lanes, by arrivals, splits and cuts of the front piece.
 ghost use Rattle.std.specs.Prelude.{◌≡◌, ◌<◌, ◌≤◌, length};
 ghost use Rattle.esm_lanes.specs.Piece.{lane_at, front_length};
 

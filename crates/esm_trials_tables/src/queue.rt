@@ -1,3 +1,4 @@
+// Tests: what a FIFO queue and a standard queue hand out, by calls.
 use esm_model::{Message, OutOfMemory, Text};
 use esm_queue::Queue;
 use std::alloc::{AllocError, Global};

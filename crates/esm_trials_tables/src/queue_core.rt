@@ -1,3 +1,4 @@
+// Tests: what the core of a queue's book decides where no message came.
 ghost use Rattle.std.specs.Prelude.{◌≡◌, [], IfOk};
 ghost use Rattle.esm_model.specs.declared.config.Kind.TheVariants.{Standard};
 ghost use Rattle.esm_queue_model.specs.WorkedHistories.{queue_mapping};

@@ -1,3 +1,4 @@
+// Tests: the words of a command line, those that spell a command and those that are refused.
 use esm_cli::{Command, Which, WordsError, read};
 use std::alloc::Global;
 use std::test::Fail;

@@ -1,3 +1,4 @@
+// Tests: mappings of streams and queues, their updates, and the field that each refusal names.
 use esm_config::{ConfigError, Param, merge, read, text};
 use esm_model::{Config, Kind};
 use serde_json::Value;

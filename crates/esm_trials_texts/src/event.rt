@@ -1,3 +1,4 @@
+// Tests: the events of streams and queues, with their escapes, payload limit and record age.
 ghost use Rattle.std.specs.Prelude.{◌≡◌, ◌≤◌, true, length, IfOk};
 ghost use Rattle.esm_model.specs.declared.limits.TheConstants.{MAX_DATA, MAX_KEY};
 ghost use Rattle.esm_model.specs.Valid.{IsStreamConfig, IsValidRecord, is_between, char_count};

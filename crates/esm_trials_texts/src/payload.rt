@@ -1,3 +1,4 @@
+// Tests: the bytes of a journal's payload, written and read back, and bytes that are none.
 ghost use Rattle.std.specs.Prelude.{IfOk};
 ghost use Rattle.esm_payload.specs.Payload.{IsSaid};
 

@@ -1,3 +1,4 @@
+// Tests: the lines of an input, fed in pieces, and the lines that are refused.
 ghost use Rattle.std.specs.Prelude.{◌≡◌, false, OnOk};
 
 use esm_model::OutOfMemory;

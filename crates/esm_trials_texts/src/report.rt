@@ -1,3 +1,4 @@
+// Tests: the texts of a run's report, with its shards, fates and endings.
 use crate::said::payloads;
 use esm_init::FileName;
 use esm_model::{Bytes, Change, Entry, Fate, LaneId, OutOfMemory, Places, Reply, Text};

@@ -1,3 +1,4 @@
+// Tests: what a journal's payloads say together, and how they are compacted.
 use esm_model::{Bytes, Fate, OutOfMemory};
 use esm_said::{SaysError, compacted, says};
 use std::alloc::Global;

@@ -1,3 +1,4 @@
+// Tests: the reading and the order of sequence numbers.
 use esm_model::{Seq, SeqError};
 use std::alloc::Global;
 use std::cmp::Ordering;

@@ -1,3 +1,4 @@
+// What one seat of a turn knows, and what a turn is told when it is made.
 use esm_model::{Setup, Told};
 use std::collections::LinkedList;
 use std::snapshot::Snapshot;

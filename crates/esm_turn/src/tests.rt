@@ -1,3 +1,4 @@
+// Tests: seats that take a log in turn, on two threads and where waiting seats sleep.
 ghost use Rattle.std.specs.Prelude.{◌≡◌, ℕ, ◌<◌, ◌≤◌, ◌^◌, ◌++◌, [], ◌∷◌, false, length, MatchBool, slice_index_or};
 ghost use Rattle.esm_turn.specs.TestLogs.{entry_of};
 ghost use Rattle.esm_turn.specs.Seats.{IsFreeSeat, SeatView};

@@ -1,3 +1,4 @@
+// A value that one seat at a time has out, while the threads at the other seats wait.
 ghost use Rattle.std.specs.Prelude.{◌≡◌, ℕ, true, false, [], ◌++◌, ◌<◌, ◌≤◌, length, IfSome, IfNone, IfOk, IfErr, vec_len, vec_capacity};
 ghost use Rattle.std.specs.List.{All};
 ghost use mathlib.Core.List.{IsPrefix};

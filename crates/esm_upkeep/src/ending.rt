@@ -1,3 +1,4 @@
+// How a command over a folder's journals ended, with the file that is refused and the exit status.
 ghost use Rattle.std.specs.Prelude.{◌≡◌};
 ghost use Rattle.esm_upkeep.specs.Text.{file_name, upkeep_status};
 

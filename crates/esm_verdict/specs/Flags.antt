@@ -1,4 +1,4 @@
--- Only this crate's proofs cite these words: which positions of a batch are flagged as failed.
+-- Which positions of a batch are flagged as failed. Only this crate's proofs cite this.
 use Rattle.std.specs.Prelude.{◌≡◌, ℕ, ◌<◌, List, length, slice_index_or, Bool, false}
 
 -- as many flags as the batch has messages, each as the test of its position

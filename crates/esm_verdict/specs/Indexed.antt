@@ -1,4 +1,4 @@
--- Only this crate's proofs cite these words: what the index of a batch's identifiers finds.
+-- What the index of a batch's identifiers finds. Only this crate's proofs cite this.
 use Rattle.std.specs.Prelude.{◌≡◌, ℕ, List, Option}
 use Rattle.std.specs.BTreeMap.{get_by}
 use Rattle.std.specs.Cmp.Lexicographic.{slice_cmp}

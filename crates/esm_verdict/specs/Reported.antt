@@ -1,4 +1,4 @@
--- Only this crate's proofs cite these words: what an answer lists as failed.
+-- What an answer lists as failed. Only this crate's proofs cite this.
 use Rattle.std.specs.Prelude.{ℕ, List, Option, Some, None, option_map, ◌++◌, codes}
 use Rattle.serde_json.specs.Data.{Data, null, array, object, Items, no_items}
 use Rattle.serde_json.specs.Find.{get_member}

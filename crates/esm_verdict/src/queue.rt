@@ -1,3 +1,4 @@
+// What a reply says of a batch of a queue's messages: which of them failed.
 ghost use Rattle.std.specs.Prelude.{◌≡◌, ◌≤◌, length, Some, [], IfOk};
 ghost use Rattle.serde_json.specs.View.{view};
 ghost use Rattle.esm_model.specs.QueueReading.{queue_reading, queue_item_reading, queue_body_reading};

@@ -1,3 +1,4 @@
+// The ruling on a batch by what the reply says of it: success, a retry, a split or giving up.
 ghost use Rattle.std.specs.Prelude.{◌≡◌};
 ghost use Rattle.esm_model.specs.Ruling.{ruling, after_try};
 ghost use Rattle.esm_verdict.specs.Readings.{IsWithin};

@@ -1,3 +1,4 @@
+// What a reply says of a stream's batch, and of the state of its tumbling window.
 ghost use Rattle.std.specs.Prelude.{◌≡◌, ◌≤◌, length, Some, IfOk};
 ghost use Rattle.serde_json.specs.View.{view};
 ghost use Rattle.esm_model.specs.Reading.{reading, run_reading, item_reading, body_reading, is_bad};

@@ -1,4 +1,4 @@
--- Only this crate's proofs cite these words: the lexemes of a text with their places, and the scan over them.
+-- The lexemes of a text with their places, and the scan over them. Only this crate's proofs cite this.
 use Rattle.std.specs.Prelude.{◌≡◌, ℕ, ◌+◌, ◌-◌, ◌&&◌, List, [], ◌∷◌, ◌++◌, take, drop, get_or, reverse, codes, Bool, true, false, if◌then◌else◌, Option, Some, None, ⊤}
 use Rattle.std.specs.List.{prefix_len}
 use Rattle.std.specs.Option.{option_or}

@@ -1,4 +1,4 @@
--- Only this crate's proofs cite these words: what a scan of an answer has found when it is at some place.
+-- What a scan of an answer has found when it is at some place. Only this crate's proofs cite this.
 use Rattle.std.specs.Prelude.{ℕ, ◌<◌, List, [], ◌∷◌, ◌++◌, Option, ⊤}
 use Rattle.std.specs.Option.{option_or, IfSome}
 use Rattle.esm_window.specs.Scan.{Part, outside, in_text, in_escape, last_state}

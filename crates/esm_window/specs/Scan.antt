@@ -1,4 +1,4 @@
--- Only this crate's proofs cite these words: the scan that finds the state in an answer.
+-- The scan that finds the state in an answer. Only this crate's proofs cite this.
 use Rattle.std.specs.Prelude.{ℕ, ◌+◌, ◌-◌, ◌==◌, nat_le, List, [], ◌∷◌, take, drop, reverse, slice_range, codes, Bool, false, ◌&&◌, ◌||◌, if◌then◌else◌, Option, Some, None}
 use Rattle.std.specs.List.{prefix_len}
 use Rattle.std.specs.Option.{option_or}

@@ -1,3 +1,4 @@
+// Whether a member's key in a function's answer reads as `state`.
 ghost use Rattle.std.specs.Prelude.{◌≡◌, IfOk, codes};
 ghost use Rattle.esm_model.specs.Json.{read_json};
 ghost use Rattle.esm_window.specs.Scan.{is_text};

@@ -1,3 +1,4 @@
+// The tumbling window of a record, by its start.
 ghost use Rattle.std.specs.Prelude.{◌≡◌, ◌≤◌, max};
 ghost use Rattle.esm_model.specs.Windows.{window_floor};
 
