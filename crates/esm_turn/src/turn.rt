@@ -17,6 +17,10 @@ use std::collections::LinkedList;
 use std::marker::Model;
 use std::snapshot::Snapshot;
 use std::sync::Wait;
+use std::sync::atomic::{AtomicU32, Ordering};
+
+/// How often a waiting seat spins, each time twice as long, before it sleeps. This product's own.
+const MAX_SPINS: u32 = 7;
 
 /// A value that one seat at a time has out.
 ///
@@ -25,6 +29,8 @@ use std::sync::Wait;
 /// Contracts see which turn it is, the setup and the number of seats.
 pub struct Turn<T: Kept> {
     table: Table<Option<T>, LinkedList<Part>, Terms<T>, Rule<T>, Global>,
+    // How many seats sleep or are about to.
+    sleeping: AtomicU32,
 }
 
 impl<T: Kept> Model for Turn<T> {
@@ -139,7 +145,11 @@ impl<T: Kept> Turn<T> {
         match made {
             Ok((table, first)) => {
                 seat_all(&table.shared, first, &mut all, seats);
-                Ok((Turn { table }, all))
+                let turn = Turn {
+                    table,
+                    sleeping: AtomicU32::new(0),
+                };
+                Ok((turn, all))
             }
             Err(atomic_table::Refused { mut slots }) => {
                 let back = slots.pop().unwrap().unwrap();
@@ -174,17 +184,21 @@ impl<T: Kept> Turn<T> {
         Some(Held { value })
     }
 
-    // Sleeps until a `give` where the value is out; else returns at once.
+    // Sleeps until a `give` where the value is out; else returns at once. The seat is counted before it looks whether the
+    // value is out, and `give` looks at the count once the value is home: so where a `give` finds no seat counted, this
+    // look comes after it, and finds the value home, or out again by a seat whose `give` is still to come.
     fn sleep<R: Wait>(&self, rt: &R) {
         let shared = &self.table.shared;
+        self.sleeping.fetch_add(1, Ordering::SeqCst);
         let word = shared.peek(0);
         if word % 2 == 1 {
             shared.park(rt, 0, (word % 4294967296) as u32);
         }
+        self.sleeping.fetch_sub(1, Ordering::SeqCst);
     }
 
-    /// Takes the value out for this seat, and waits while another seat has it: it backs off, then sleeps until a `give`
-    /// wakes it, so that many waiting seats cost no processor.
+    /// Takes the value out for this seat, and waits while another seat has it: it spins a while, then sleeps until a
+    /// `give` wakes it, so that many waiting seats cost no processor.
     pub fn take<R: Wait>(&self, rt: &R, seat: &mut Seat<T>) -> Held<T>
         requires at { seat.old.at ≡ self.now.at }
         requires free { seat.old.holds ≡ false }
@@ -196,20 +210,22 @@ impl<T: Kept> Turn<T> {
         ensures seat { seat.new ≡ record seat.old { seen = T.history result.value; mark = T.mark result.value; holds = true } }
     {
         let backoff = Backoff::new();
+        let mut spins = MAX_SPINS;
         for _ in rt.forever() {
             if let Some(held) = self.try_take(seat) {
                 return held;
             }
-            if backoff.is_completed() {
+            if spins == 0 {
                 self.sleep(rt);
             } else {
-                backoff.snooze();
+                backoff.spin();
+                spins -= 1;
             }
         }
         unreachable!()
     }
 
-    /// Gives the value back, and wakes one seat that sleeps. It takes no memory.
+    /// Gives the value back, and wakes one seat where some sleep. It takes no memory.
     pub fn give(&self, seat: &mut Seat<T>, held: Held<T>)
         requires at { seat.old.at ≡ self.now.at }
         requires holds { seat.old.holds ≡ true }
@@ -226,7 +242,9 @@ impl<T: Kept> Turn<T> {
         let empty = shared.exchange(&mut seat.inner, 0, Some(value));
         let None = empty else { unreachable!() };
         shared.store::<Gives<T>>(&mut seat.inner, 0, word);
-        shared.wake_one(0);
+        if self.sleeping.load(Ordering::SeqCst) > 0 {
+            shared.wake_one(0);
+        }
     }
 
     /// The value at the end. It takes no memory.
@@ -239,7 +257,7 @@ impl<T: Kept> Turn<T> {
         ensures others { (n : ℕ) → self.seats ≤ n → entries_of (T.author self.setup) n (T.history result) ≡ [] }
         ensures marked { All (λ s. s.mark ≡ true → T.mark result ≡ true) seats.items }
     {
-        let Turn { table } = self;
+        let Turn { table, sleeping: _ } = self;
         let all = join_all(&table.shared, seats);
         let mut closed = table.close_with(all);
         let value = closed.take(0).unwrap();
