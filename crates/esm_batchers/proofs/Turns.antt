@@ -1,6 +1,7 @@
 -- What a seat knows when it has taken the turn, and when it has given it back.
 use Rattle.std.proofs.Common.{◌≡◌, ℕ, Bool, true, false, cond, eqb, List, [], ◌∷◌, ◌++◌, refl, sym, ap, ◌∙◌, subst, append_assoc, eq-eqb}
 use Rattle.std.proofs.lemmas.List.{append-nil, append_cancel_left}
+use Rattle.std.proofs.Math.Seq.{drop-length}
 use mathlib.Core.List.{IsPrefix}
 use Rattle.esm_model.specs.declared.setup.Setup.{Setup}
 use Rattle.esm_model.specs.declared.setup.Told.{Told}
@@ -9,6 +10,10 @@ use Rattle.esm_model.proofs.Growing.{entries-append, own_after, may_append}
 use Rattle.esm_pooled.specs.GoingOn.{GoesOn, OthersFollow, AllAt, OwnGiven}
 use Rattle.esm_turn.specs.Seats.{TurnView, SeatView}
 use Rattle.esm_batchers.specs.Seated.{IsSeated}
+
+pub not_picked : (b : Bool) (e : Told) (rest : List Told) → cond b (e ∷ rest) rest ≡ [] → (b ≡ false) × (rest ≡ [])
+not_picked true e rest is = absurd (cc)
+not_picked false e rest is = (refl, is)
 
 module _ (gave : ℕ → Bool) (author : List Told → Told → ℕ) (n : ℕ) where
   given_append : (h xs ys : List Told) → OwnGiven gave author n h xs → OwnGiven gave author n (h ++ xs) ys → OwnGiven gave author n h (xs ++ ys)
@@ -20,10 +25,6 @@ module _ (gave : ℕ → Bool) (author : List Told → Told → ℕ) (n : ℕ) w
   given_at : (moment : ℕ) → gave moment ≡ true → (h es : List Told) → AllAt moment h es → OwnGiven gave author n h es
   given_at moment gives h [] at = tt
   given_at moment gives h (e ∷ es) at = (λ own. (moment, gives, at.0), given_at moment gives (h ++ e ∷ []) es at.1)
-
-  not_picked : (b : Bool) (e : Told) (rest : List Told) → cond b (e ∷ rest) rest ≡ [] → (b ≡ false) × (rest ≡ [])
-  not_picked true e rest is = absurd (cc)
-  not_picked false e rest is = (refl, is)
 
   -- entries of others alone
   given_other : (h es : List Told) → entries_after author n h es ≡ [] → OwnGiven gave author n h es
@@ -68,9 +69,9 @@ module _ {T : Type 0} (m : Meaning T) (gave : ℕ → Bool) (t : TurnView) (n : 
   abbrev pub after : SeatView → T → T → SeatView
   after s x y = record s { seen = m.history y; mine = s.mine ++ added (m.history x) (m.history y); mark = m.mark y; holds = false }
 
-  pub given : (moment : ℕ) (s : SeatView) (x y : T) → IsSeated m.author m.may_follow gave t n s → Found s (m.history x) → m.setup x ≡ t.setup
-      → GoesOn m n x y → AllAt moment (m.history x) (added (m.history x) (m.history y)) → gave moment ≡ true → IsSeated m.author m.may_follow gave t n (after s x y)
-  given moment s x y seated f setup goes at gives =
+  given_own : (s : SeatView) (x y : T) → IsSeated m.author m.may_follow gave t n s → Found s (m.history x) → m.setup x ≡ t.setup
+      → GoesOn m n x y → OwnGiven gave (m.author t.setup) n (m.history x) (added (m.history x) (m.history y)) → IsSeated m.author m.may_follow gave t n (after s x y)
+  given_own s x y seated f setup goes moments =
       let author : List Told → Told → ℕ = m.author t.setup in
       let h : List Told = m.history x in
       let more : List Told = added h (m.history y) in
@@ -80,13 +81,45 @@ module _ {T : Type 0} (m : Meaning T) (gave : ℕ → Bool) (t : TurnView) (n : 
         free = record { at_is = seated.free.at_is; setup_is = seated.free.setup_is; number_is = seated.free.number_is; free = refl };
         whole = ap (λ l. l ++ more) f.mine ∙ (sym (own_after author n h more own) ∙ ap (entries_of author n) (sym goes.history_is));
         legal = subst (IsLegal (m.may_follow t.setup)) (sym goes.history_is) (may_append (m.may_follow t.setup) [] h more f.legal legal);
-        moments = subst (OwnGiven gave author n []) (sym goes.history_is) (given_append gave author n [] h more f.moments (given_at gave author n moment gives h more at));
+        moments = subst (OwnGiven gave author n []) (sym goes.history_is) (given_append gave author n [] h more f.moments moments);
       }
+
+  pub given : (moment : ℕ) (s : SeatView) (x y : T) → IsSeated m.author m.may_follow gave t n s → Found s (m.history x) → m.setup x ≡ t.setup
+      → GoesOn m n x y → AllAt moment (m.history x) (added (m.history x) (m.history y)) → gave moment ≡ true → IsSeated m.author m.may_follow gave t n (after s x y)
+  given moment s x y seated f setup goes at gives =
+      given_own s x y seated f setup goes (given_at gave (m.author t.setup) n moment gives (m.history x) (added (m.history x) (m.history y)) at)
+
+  -- the value goes back as it was
+  none_added : (x : T) → added (m.history x) (m.history x) ≡ []
+  none_added x = drop-length (m.history x)
+
+  goes_on_as_it_was : (x : T) → GoesOn m n x x
+  goes_on_as_it_was x =
+      let h : List Told = m.history x in
+      let none = none_added x in
+      record {
+        setup_is = refl;
+        history_is = sym (ap (λ l. h ++ l) none ∙ append-nil h);
+        legal = subst (MayFollowAll (m.may_follow (m.setup x)) h) (sym none) tt;
+        own = subst (AllBy (m.author (m.setup x)) n h) (sym none) tt;
+        marked = λ marked. marked;
+      }
+
+  pub given_as_it_was : (s : SeatView) (x : T) → IsSeated m.author m.may_follow gave t n s → Found s (m.history x) → m.setup x ≡ t.setup
+      → IsSeated m.author m.may_follow gave t n (after s x x)
+  given_as_it_was s x seated f setup =
+      given_own s x x seated f setup (goes_on_as_it_was x) (subst (OwnGiven gave (m.author t.setup) n (m.history x)) (sym (none_added x)) tt)
 
   -- it is that seat
   pub gone_back : (s v w : SeatView) (x y : T) → v ≡ record s { seen = m.history x; mark = m.mark x; holds = true }
       → w ≡ record v { seen = m.history y; mine = v.mine ++ added v.seen (m.history y); mark = m.mark y; holds = false } → w ≡ after s x y
   gone_back s v w x y taken gone = gone ∙ ap (λ (u : SeatView). record u { seen = m.history y; mine = u.mine ++ added u.seen (m.history y); mark = m.mark y; holds = false }) taken
+
+  -- it has seen more than it had
+  pub grown : (s w : SeatView) (x y : T) → Found s (m.history x) → w ≡ after s x y → m.history y ≡ m.history x ++ added (m.history x) (m.history y) → IsPrefix s.seen w.seen
+  grown s w x y f gone is =
+      let more : List Told = added (m.history x) (m.history y) in
+      (f.others ++ more, sym (append_assoc s.seen f.others more) ∙ (ap (λ l. l ++ more) (sym f.is) ∙ (sym is ∙ sym (ap (λ (u : SeatView). u.seen) gone))))
 
   -- what held of what the seat had seen holds of the value that it took
   pub holds_found : (P : Setup → List Told → Type 0) (s : SeatView) (x : T) → Found s (m.history x) → m.setup x ≡ t.setup

@@ -58,6 +58,8 @@ impl Pooled for Scripted {
 
     ghost runs = { λ _ _ _ _. Unit {0} };
 
+    ghost ended = { λ _ _ _. Unit {0} };
+
     fn ask(&mut self, _: Global, _: u32, _: u64) -> Result<Next, BookError> {
         match self.answers.pop() {
             Some(Answer::Gave) => Ok(Next::Gave(1)),
@@ -78,6 +80,10 @@ impl Pooled for Scripted {
         Err(BookError::OutOfMemory)
     }
 
+    fn is_shut(&self) -> bool {
+        false
+    }
+
     fn begins() {}
 
     fn stays() {}
@@ -88,6 +94,7 @@ fn batcher_over<R: Wait>(
     rt: &R,
     alloc: Global,
     answers: Vec<Answer>,
+    after_shut: bool,
 ) -> Option<(bool, usize, u64)> {
     let book = Scripted {
         answers,
@@ -98,7 +105,18 @@ fn batcher_over<R: Wait>(
     let clock = StepClock::new(0);
     match Turn::new(alloc, book, 2) {
         Ok((turn, mut seats)) => {
-            let ended = call_all(rt, alloc, &turn, &mut seats[1], &mut caller, &clock, "", 0);
+            let seat = &mut seats[1];
+            let ended = call_all(
+                rt,
+                alloc,
+                &turn,
+                seat,
+                &mut caller,
+                &clock,
+                "",
+                0,
+                after_shut,
+            );
             let book = turn.close(seats);
             Some((ended.is_ok(), book.answers.len(), clock.now()))
         }
@@ -109,7 +127,7 @@ fn batcher_over<R: Wait>(
 #[test]
 fn ends_where_nothing_is_left(rt: HostRuntime) -> Result<(), Fail> {
     let answers = vec![in rt.alloc(); Answer::Gave, Answer::Finished, Answer::Gave]?;
-    let ended = batcher_over(&rt, rt.alloc(), answers).ok_or("no memory")?;
+    let ended = batcher_over(&rt, rt.alloc(), answers, false).ok_or("no memory")?;
     assert_eq!(rt; ended, (true, 1, 0));
     Ok(())
 }
@@ -117,10 +135,10 @@ fn ends_where_nothing_is_left(rt: HostRuntime) -> Result<(), Fail> {
 #[test]
 fn pauses_for_a_second_at_most(rt: HostRuntime) -> Result<(), Fail> {
     let answers = vec![in rt.alloc(); Answer::Spent, Answer::Idle(1_300), Answer::Idle(1_300)]?;
-    let ended = batcher_over(&rt, rt.alloc(), answers).ok_or("no memory")?;
+    let ended = batcher_over(&rt, rt.alloc(), answers, false).ok_or("no memory")?;
     assert_eq!(rt; ended, (true, 0, 1_300));
     let answers = vec![in rt.alloc(); Answer::Spent, Answer::Idle(u64::MAX)]?;
-    let ended = batcher_over(&rt, rt.alloc(), answers).ok_or("no memory")?;
+    let ended = batcher_over(&rt, rt.alloc(), answers, false).ok_or("no memory")?;
     assert_eq!(rt; ended, (true, 0, 1_000));
     Ok(())
 }
@@ -128,10 +146,18 @@ fn pauses_for_a_second_at_most(rt: HostRuntime) -> Result<(), Fail> {
 #[test]
 fn ends_where_the_book_is_down_or_memory_is_wanting(rt: HostRuntime) -> Result<(), Fail> {
     let answers = vec![in rt.alloc(); Answer::Gave, Answer::Down]?;
-    let ended = batcher_over(&rt, rt.alloc(), answers).ok_or("no memory")?;
+    let ended = batcher_over(&rt, rt.alloc(), answers, false).ok_or("no memory")?;
     assert_eq!(rt; ended, (true, 1, 0));
     let answers = vec![in rt.alloc(); Answer::Gave, Answer::NoMemory]?;
-    let ended = batcher_over(&rt, rt.alloc(), answers).ok_or("no memory")?;
+    let ended = batcher_over(&rt, rt.alloc(), answers, false).ok_or("no memory")?;
     assert_eq!(rt; ended, (false, 1, 0));
+    Ok(())
+}
+
+#[test]
+fn asks_nothing_before_the_input_ends(rt: HostRuntime) -> Result<(), Fail> {
+    let answers = vec![in rt.alloc(); Answer::Spent, Answer::Gave]?;
+    let ended = batcher_over(&rt, rt.alloc(), answers, true).ok_or("no memory")?;
+    assert_eq!(rt; ended, (true, 2, 0));
     Ok(())
 }

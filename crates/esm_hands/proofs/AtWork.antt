@@ -30,25 +30,26 @@ first_of_parts {A} R count front back front' before after is is' len len' each =
 
 module _ {T W F : Type 0} (m : Meanings W F) (t : TurnView) where
   -- hand 0 first, and then the others
-  first_worked : (count : ℕ) (x : Hand T W F) (xs after : List (Hand T W F)) (h h' : Hand T W F) → h ≡ x → HasWorked m t 0 h h'
-      → FirstOf (HasWorkedIf m true t) count (h' ∷ xs) after → (n : ℕ) (d : Hand T W F) → n < count → HasWorked m t n (get_or (x ∷ xs) n d) (get_or after n d)
-  first_worked count x xs after h h' is first f zero d lt =
-      let same : get_or after 0 d ≡ h' = (f.worked 0 d lt).1 refl refl in
+  first_worked : (read_first : Bool) (count : ℕ) (x : Hand T W F) (xs after : List (Hand T W F)) (h h' : Hand T W F) → read_first ≡ true → h ≡ x → HasWorked m t 0 h h'
+      → FirstOf (HasWorkedIf m read_first t) count (h' ∷ xs) after → (n : ℕ) (d : Hand T W F) → n < count → HasWorked m t n (get_or (x ∷ xs) n d) (get_or after n d)
+  first_worked read_first count x xs after h h' rf is first f zero d lt =
+      let same : get_or after 0 d ≡ h' = (f.worked 0 d lt).1 refl rf in
       subst (λ (z : Hand T W F × Hand T W F). HasWorked m t 0 z.0 z.1) (λ i. (is i, sym same i)) first
-  first_worked count x xs after h h' is first f (suc n) d lt = (f.worked (suc n) d lt).0 (inl (omega arith))
+  first_worked read_first count x xs after h h' rf is first f (suc n) d lt = (f.worked (suc n) d lt).0 (inl (omega arith))
 
-  first_idle : (count : ℕ) (x h' : Hand T W F) (xs after : List (Hand T W F)) → 0 < count
-      → FirstOf (HasWorkedIf m true t) count (h' ∷ xs) after → (n : ℕ) (d : Hand T W F) → count ≤ n → get_or after n d ≡ get_or (x ∷ xs) n d
-  first_idle count x h' xs after pos f zero d le = absurd (omega arith)
-  first_idle count x h' xs after pos f (suc n) d le = f.idle (suc n) d le
+  first_idle : (read_first : Bool) (count : ℕ) (x h' : Hand T W F) (xs after : List (Hand T W F)) → 0 < count
+      → FirstOf (HasWorkedIf m read_first t) count (h' ∷ xs) after → (n : ℕ) (d : Hand T W F) → count ≤ n → get_or after n d ≡ get_or (x ∷ xs) n d
+  first_idle read_first count x h' xs after pos f zero d le = absurd (omega arith)
+  first_idle read_first count x h' xs after pos f (suc n) d le = f.idle (suc n) d le
 
-  after_first : (count : ℕ) (hs after : List (Hand T W F)) (h h' : Hand T W F) → h ≡ get_or hs 0 h → 0 < count → 0 < length hs → HasWorked m t 0 h h'
-      → FirstOf (HasWorkedIf m true t) count (set hs 0 h') after → HaveWorked m t count hs after
-  after_first count [] after h h' is pos some first f = absurd (omega arith)
-  after_first count (x ∷ xs) after h h' is pos some first f = record {
+  after_first : (read_first : Bool) (count : ℕ) (hs after : List (Hand T W F)) (h h' : Hand T W F) → read_first ≡ true → h ≡ get_or hs 0 h → 0 < count → 0 < length hs → HasWorked m t 0 h h'
+      → FirstOf (HasWorkedIf m read_first t) count (set hs 0 h') after → HaveWorked m t read_first count hs after
+  after_first read_first count [] after h h' rf is pos some first f = absurd (omega arith)
+  after_first read_first count (x ∷ xs) after h h' rf is pos some first f = record {
     as_many = f.as_many;
-    worked = first_worked count x xs after h h' is first f;
-    idle = first_idle count x h' xs after pos f;
+    worked = first_worked read_first count x xs after h h' rf is first f;
+    called = λ n d more lt. (f.worked n d lt).2 more;
+    idle = first_idle read_first count x h' xs after pos f;
   }
 
   -- and the others are ready still
@@ -76,16 +77,15 @@ module _ {T W F : Type 0} (m : Meanings W F) (t : TurnView) where
       subst (IsReady ready t n) (sym same) (are.each n d (let a = ap length mid_is in omega arith))
 
   pub worked_between : (read_first : Bool) (count : ℕ) (hs mid after : List (Hand T W F)) (h h' : Hand T W F) → h ≡ get_or hs 0 h → 0 < count → 0 < length hs → HasWorked m t 0 h h'
-      → read_first ≡ true → mid ≡ set hs 0 h' → FirstOf (HasWorkedIf m read_first t) count mid after → HaveWorked m t count hs after
+      → read_first ≡ true → mid ≡ set hs 0 h' → FirstOf (HasWorkedIf m read_first t) count mid after → HaveWorked m t read_first count hs after
   worked_between read_first count hs mid after h h' is pos some first rf mid_is f =
-      after_first count hs after h h' is pos some first
-      (subst (λ (z : Bool × List (Hand T W F)). FirstOf (HasWorkedIf m z.0 t) count z.1 after) (λ i. (rf i, mid_is i)) f)
+      after_first read_first count hs after h h' rf is pos some first (subst (λ (l : List (Hand T W F)). FirstOf (HasWorkedIf m read_first t) count l after) mid_is f)
 
   pub worked_at_once : (read_first : Bool) (count : ℕ) (hs mid after : List (Hand T W F)) → read_first ≡ false → mid ≡ hs
-      → FirstOf (HasWorkedIf m read_first t) count mid after → HaveWorked m t count hs after
+      → FirstOf (HasWorkedIf m read_first t) count mid after → HaveWorked m t read_first count hs after
   worked_at_once read_first count hs mid after rf mid_is f =
       let g : FirstOf (HasWorkedIf m read_first t) count hs after = subst (λ (l : List (Hand T W F)). FirstOf (HasWorkedIf m read_first t) count l after) mid_is f in
-      record { as_many = g.as_many; worked = λ n d lt. (g.worked n d lt).0 (inr rf); idle = g.idle }
+      record { as_many = g.as_many; worked = λ n d lt. (g.worked n d lt).0 (inr rf); called = λ n d more lt. (g.worked n d lt).2 more; idle = g.idle }
 
 -- a hand keeps its kind
 pub kind_kept : {W F : Type 0} (P : W → W → Type 0) (Q : F → F → Type 0) (n : ℕ) (a b : Work W F) → Did P Q a b → HasKind n a → HasKind n b

@@ -8,14 +8,15 @@ use Rattle.esm_model.specs.declared.book.Job.{Job}
 use Rattle.esm_model.specs.declared.setup.Setup.{Setup}
 use Rattle.esm_model.specs.declared.setup.Told.{Told}
 use Rattle.esm_model.specs.Kept.{entries_of, IsLegal}
-use Rattle.esm_pooled.specs.GoingOn.{OthersFollow, OwnGiven, AllGiven}
+use Rattle.esm_pooled.specs.GoingOn.{OthersFollow, OwnFollowShut, OwnGiven, AllGiven}
 use Rattle.esm_turn.specs.Seats.{SeatView, TurnView, AreAllSeats, IsFreeSeat, fresh_seat}
 use Rattle.esm_batchers.specs.Seated.{IsSeated}
-use Rattle.esm_batchers.specs.Working.{HasOneMore}
+use Rattle.esm_batchers.specs.Working.{HasOneMore, HasEnded}
+use Rattle.esm_batchers.proofs.Later.{follow_append, follow_other}
 use Rattle.esm_hands.specs.declared.hand.Hand.{Hand}
 use Rattle.esm_hands.specs.declared.hand.Work.{Work}
 use Rattle.esm_hands.specs.declared.hand.Work.TheVariants.{Read, Call}
-use Rattle.esm_hands.specs.Shared.{WasRead, HaveCalled}
+use Rattle.esm_hands.specs.Shared.{WasRead, HaveCalled, WhyEnded}
 use Rattle.esm_hands.specs.Hands.{Meanings, HasKind, AreReady, HasCalled, Did, HasWorked, HaveWorked}
 use Rattle.esm_hands.specs.Packs.{seats_of, callers_of, IsReader}
 use Rattle.esm_hands.proofs.Going.{grows_by_none, rest_none, none_given, own_append, all_given}
@@ -98,7 +99,7 @@ module _ {T W F : Type 0} (m : Meanings W F) (t : TurnView) (n : ℕ) (a b : Han
   kind_after : HasKind n a.work → HasKind n b.work
   kind_after kind = kind_kept IsRead IsCalled n a.work b.work worked.did kind
 
-module _ (T W F : Type 0) (m : Meanings W F) (t : TurnView) (ready : Setup → W → Type 0) (count : ℕ) (hs after : List (Hand T W F)) (are : AreReady ready t hs) (have : HaveWorked m t count hs after) where
+module _ (T W F : Type 0) (m : Meanings W F) (t : TurnView) (ready : Setup → W → Type 0) (read_first : Bool) (count : ℕ) (hs after : List (Hand T W F)) (are : AreReady ready t hs) (have : HaveWorked m t read_first count hs after) where
   pub kinds : AllKinds T W F after
   kinds k d lt =
       let inside : k < length hs = (let l = have.as_many in omega arith) in
@@ -190,6 +191,43 @@ module _ (T W F : Type 0) (m : Meanings W F) (t : TurnView) (ready : Setup → W
           was_short = (get_or after 0 d).short;
           long = λ l. long l 0 d lt;
           did = read_by m t 0 (get_or hs 0 d) (get_or after 0 d) (have.worked 0 d some) r q reads (back_reads T W F after q d back);
+        }
+
+    -- what each batcher added comes after the input's end, where it was to
+    pub later_whole : read_first ≡ true → (k : ℕ) → OwnFollowShut author (k + 1) [] h
+    later_whole first k =
+        let next : suc k ≡ k + 1 = omega arith in
+        ⊎_elim (λ (work : suc k < count).
+        ⊎_elim (λ (l : suc k < length after).
+        let e : Hand T W F = some_of after (omega arith) in
+        let seen : List Told = (get_or after (suc k) e).seat.seen in
+        let o = on (suc k) e l in
+        let own : OwnFollowShut author (suc k) [] (seen ++ o.rest)
+        = follow_append author (suc k) [] seen o.rest ((have.called (suc k) e (omega arith) work).later first) (follow_other author (suc k) seen o.rest o.others.others) in
+        subst (λ (z : ℕ × List Told). OwnFollowShut author z.0 [] z.1) (λ i. (next i, sym o.whole i)) own)
+        (λ (l : length after ≤ suc k). follow_other author (k + 1) [] h (closed.others (k + 1) (let c = have.as_many in omega arith)))
+        (cases_lt (suc k) (length after)))
+        (λ (idle : count ≤ suc k).
+        let o = from_none k idle in
+        subst (OwnFollowShut author (k + 1) []) (sym o.whole) (follow_other author (k + 1) [] o.rest o.others.others))
+        (cases_lt (suc k) count)
+
+    -- why a batcher that had a thread came to its end
+    pub ended_whole : (short : Bool) → (short ≡ false → (k : ℕ) (d : Hand T W F) → k < length after → (get_or after k d).short ≡ false)
+        → short ≡ false → (k : ℕ) → suc k < count → suc k < length after → WhyEnded m.author m.may_follow m.ended t.setup h mark read_first k
+    ended_whole short long was_long k work lt =
+        let e : Hand T W F = some_of after (omega arith) in
+        let s : SeatView = (get_or after (suc k) e).seat in
+        let o = on (suc k) e lt in
+        let next : suc k ≡ k + 1 = omega arith in
+        let before : suc k - 1 ≡ k = omega arith in
+        record {
+          seat = s;
+          rest = o.rest;
+          whole = o.whole;
+          others = subst (λ (i : ℕ). OthersFollow m.author m.may_follow t.setup i s.seen o.rest) next o.others;
+          marked = subst (λ (z : SeatView). z.mark ≡ true → mark ≡ true) (seat_at T W F after (suc k) s e lt) (closed.marked (suc k) s (let l = seats_length T W F after in omega arith));
+          why = subst (λ (i : ℕ). HasEnded m.ended t.setup i read_first s) before ((have.called (suc k) e (omega arith) work).ended (long was_long (suc k) e lt));
         }
 
     module _ (stays : Stays m) (batchers : ℕ) (count_is : count ≡ 1 + batchers) (fs : List F) (few : batchers ≤ length fs) (len : length hs ≡ length fs + 1)

@@ -1,13 +1,14 @@
 -- What hands are before and after their work. Only this crate's proofs cite this.
-use Rattle.std.specs.Prelude.{◌≡◌, ◌⊎◌, ◌<◌, ◌≤◌, ◌-◌, ℕ, Bool, true, false, List, length, slice_index_or}
+use Rattle.std.specs.Prelude.{◌≡◌, ◌⊎◌, ◌<◌, ◌≤◌, ◌-◌, ℕ, Bool, true, false, List, [], length, slice_index_or}
 use Rattle.esm_io.specs.Told.{Grows}
 use Rattle.esm_model.specs.declared.book.Job.{Job}
 use Rattle.esm_model.specs.declared.called.Called.{Called}
 use Rattle.esm_model.specs.declared.setup.Setup.{Setup}
 use Rattle.esm_model.specs.declared.setup.Told.{Told}
+use Rattle.esm_pooled.specs.GoingOn.{OwnFollowShut}
 use Rattle.esm_turn.specs.Seats.{TurnView, fresh_seat}
 use Rattle.esm_batchers.specs.Seated.{IsSeated}
-use Rattle.esm_batchers.specs.Working.{Outside, HasLogged}
+use Rattle.esm_batchers.specs.Working.{Outside, HasLogged, HasEnded}
 use Rattle.esm_hands.specs.declared.hand.Hand.{Hand}
 use Rattle.esm_hands.specs.declared.hand.Work.{Work}
 use Rattle.esm_hands.specs.declared.hand.Work.TheVariants.{Read, Call}
@@ -20,10 +21,11 @@ pub record Meanings (W F : Type 0) : Type 1 where
   pub calls : Setup → (List ℕ → List ℕ) → List Told → ℕ → List Called
   pub rests : Setup → List Told → ℕ → Type 0
   pub runs : Setup → List Told → ℕ → Job → Type 0
+  pub ended : Setup → List Told → ℕ → Type 0
   pub outside : Outside F
 
-abbrev pub meanings : {W F : Type 0} → (author : Setup → List Told → Told → ℕ) (may_follow : Setup → List Told → Told → Type 0) (read : Setup → W → W → List Told → Bool → Bool → Type 0) (calls : Setup → (List ℕ → List ℕ) → List Told → ℕ → List Called) (rests : Setup → List Told → ℕ → Type 0) (runs : Setup → List Told → ℕ → Job → Type 0) → Outside F → Meanings W F
-meanings author may_follow read calls rests runs o = record { author = author; may_follow = may_follow; read = read; calls = calls; rests = rests; runs = runs; outside = o }
+abbrev pub meanings : {W F : Type 0} → (author : Setup → List Told → Told → ℕ) (may_follow : Setup → List Told → Told → Type 0) (read : Setup → W → W → List Told → Bool → Bool → Type 0) (calls : Setup → (List ℕ → List ℕ) → List Told → ℕ → List Called) (rests : Setup → List Told → ℕ → Type 0) (runs : Setup → List Told → ℕ → Job → Type 0) (ended : Setup → List Told → ℕ → Type 0) → Outside F → Meanings W F
+meanings author may_follow read calls rests runs ended o = record { author = author; may_follow = may_follow; read = read; calls = calls; rests = rests; runs = runs; ended = ended; outside = o }
 
 -- hand 0 reads, and all others call
 abbrev pub HasKind : {W F : Type 0} → ℕ → Work W F → Type 0
@@ -63,10 +65,16 @@ pub record HasWorked {T W F : Type 0} (m : Meanings W F) (t : TurnView) (n : ℕ
   pub seated : IsSeated m.author m.may_follow m.outside.gave t n after.seat
   pub did : Did (λ r q. m.read t.setup r q after.seat.seen after.seat.mark after.short) (λ f g. HasCalled m t.setup (n - 1) after.seat.seen after.short f g) before.work after.work
 
--- so many hands have worked, and the others are as they were
-pub record HaveWorked {T W F : Type 0} (m : Meanings W F) (t : TurnView) (count : ℕ) (before after : List (Hand T W F)) : Type 0 where
+-- what the hand of a batcher's seat n added, and why it came to its end; it was to call only after the input's end, or not
+pub record HasEndedWork {T W F : Type 0} (m : Meanings W F) (t : TurnView) (n : ℕ) (after_shut : Bool) (after : Hand T W F) : Type 0 where
+  pub later : after_shut ≡ true → OwnFollowShut (m.author t.setup) n [] after.seat.seen
+  pub ended : after.short ≡ false → HasEnded m.ended t.setup (n - 1) after_shut after.seat
+
+-- so many hands have worked, the batchers' after the reader's or not, and the others are as they were
+pub record HaveWorked {T W F : Type 0} (m : Meanings W F) (t : TurnView) (read_first : Bool) (count : ℕ) (before after : List (Hand T W F)) : Type 0 where
   pub as_many : length after ≡ length before
   pub worked : (n : ℕ) (d : Hand T W F) → n < count → HasWorked m t n (slice_index_or before n d) (slice_index_or after n d)
+  pub called : (n : ℕ) (d : Hand T W F) → 0 < n → n < count → HasEndedWork m t n read_first (slice_index_or after n d)
   pub idle : (n : ℕ) (d : Hand T W F) → count ≤ n → slice_index_or after n d ≡ slice_index_or before n d
 
 -- the hand is to work now, unless it is the reader's and has read before
@@ -74,4 +82,4 @@ abbrev pub IsReadyIf : {T W F : Type 0} → (ready : Setup → W → Type 0) →
 IsReadyIf ready read_first t n h = ((0 < n) ⊎ (read_first ≡ false)) → IsReady ready t n h
 
 abbrev pub HasWorkedIf : {T W F : Type 0} → Meanings W F → (read_first : Bool) → TurnView → ℕ → Hand T W F → Hand T W F → Type 0
-HasWorkedIf m read_first t n a b = (((0 < n) ⊎ (read_first ≡ false)) → HasWorked m t n a b) × (n ≡ 0 → read_first ≡ true → b ≡ a)
+HasWorkedIf m read_first t n a b = (((0 < n) ⊎ (read_first ≡ false)) → HasWorked m t n a b) × (n ≡ 0 → read_first ≡ true → b ≡ a) × (0 < n → HasEndedWork m t n read_first b)

@@ -1,10 +1,10 @@
 // The run of a book's reader and batchers, from the book to the book.
-ghost use Rattle.std.specs.Prelude.{◌≡◌, ◌+◌, ◌≤◌, [], length, IfOk, IfErr, vec_len, vec_capacity};
+ghost use Rattle.std.specs.Prelude.{◌≡◌, ◌+◌, ◌<◌, ◌≤◌, [], ℕ, true, false, length, IfOk, IfErr, vec_len, vec_capacity};
 ghost use Rattle.esm_model.specs.Kept.{IsLegal};
-ghost use Rattle.esm_pooled.specs.GoingOn.{AllGiven};
+ghost use Rattle.esm_pooled.specs.GoingOn.{AllGiven, OwnFollowShut};
 ghost use Rattle.esm_turn.specs.Seats.{AreFresh};
 ghost use Rattle.esm_batchers.specs.Working.{outside};
-ghost use Rattle.esm_hands.specs.Shared.{WasRead, HaveCalled};
+ghost use Rattle.esm_hands.specs.Shared.{WasRead, HaveCalled, WhyEnded};
 
 use crate::pack::{pack, unpack};
 use crate::reading::Reading;
@@ -58,6 +58,8 @@ fn run_at<
     ensures moments { AllGiven C.gave [] (T.history result.book) }
     ensures read { WasRead T.author T.may_follow (W.read turn.setup reader result.reader) turn.setup (T.history result.book) (T.mark result.book) result.short }
     ensures called { HaveCalled T.calls T.rests T.runs (outside C.gave F.sends F.log) turn.setup (T.history result.book) result.short batchers callers.items result.callers.items }
+    ensures later { read_first ≡ true → (k : ℕ) → OwnFollowShut (T.author turn.setup) (k + 1) [] (T.history result.book) }
+    ensures ended { result.short ≡ false → (k : ℕ) → k < batchers → WhyEnded T.author T.may_follow T.ended turn.setup (T.history result.book) (T.mark result.book) read_first k }
 {
     let Room {
         mut hands,
@@ -80,8 +82,8 @@ fn run_at<
 }
 
 /// Has the reader and so many batchers work on the book, each in a thread of its own, until each has come to its end: caller
-/// `k` is batcher `k`'s. With `read_first` the batchers begin once the reader has ended. `name` is the function's. Where
-/// there is no memory to begin with, all comes back as it was.
+/// `k` is batcher `k`'s. With `read_first` the batchers begin once the reader has ended, and ask only where the end of the
+/// input has been noted. `name` is the function's. Where there is no memory to begin with, all comes back as it was.
 pub fn run_hands<
     R: Threads + Wait + Sync,
     T: Pooled + Send,
@@ -111,6 +113,8 @@ pub fn run_hands<
     // What the reader and the batchers did.
     ensures read { IfOk result (λ ran. WasRead T.author T.may_follow (W.read (T.setup book) reader ran.reader) (T.setup book) (T.history ran.book) (T.mark ran.book) ran.short) }
     ensures called { IfOk result (λ ran. HaveCalled T.calls T.rests T.runs (outside C.gave F.sends F.log) (T.setup book) (T.history ran.book) ran.short batchers callers.items ran.callers.items) }
+    ensures later { IfOk result (λ ran. read_first ≡ true → (k : ℕ) → OwnFollowShut (T.author (T.setup book)) (k + 1) [] (T.history ran.book)) }
+    ensures ended { IfOk result (λ ran. ran.short ≡ false → (k : ℕ) → k < batchers → WhyEnded T.author T.may_follow T.ended (T.setup book) (T.history ran.book) (T.mark ran.book) read_first k) }
     // What a refusal hands back.
     ensures back { IfErr result (λ refused. refused.back ≡ (book, reader, callers)) }
 {

@@ -3,7 +3,7 @@ ghost use Rattle.std.specs.Prelude.{◌≡◌, ◌+◌, ◌<◌, ◌≤◌, ℕ,
 ghost use Rattle.esm_model.specs.declared.limits.TheConstants.{MAX_LANES};
 ghost use Rattle.esm_batchers.specs.Working.{outside};
 ghost use Rattle.esm_hands.specs.declared.hand.Hand.{Hand};
-ghost use Rattle.esm_hands.specs.Hands.{meanings, IsReady, AreReady, HasWorked, HaveWorked, IsReadyIf, HasWorkedIf};
+ghost use Rattle.esm_hands.specs.Hands.{meanings, IsReady, AreReady, HasWorked, HaveWorked, IsReadyIf, HasWorkedIf, HasEndedWork};
 
 use crate::hand::{Hand, Work};
 use crate::reading::Reading;
@@ -25,7 +25,7 @@ fn read<R: Wait, T: Pooled, W: Reading<T>, C: Clock, F: Caller>(
     clock: &C,
 )
     requires { IsReady W.ready turn.now 0 hand.old }
-    ensures { HasWorked (meanings T.author T.may_follow W.read T.calls T.rests T.runs (outside C.gave F.sends F.log)) turn.now 0 hand.old hand.new }
+    ensures { HasWorked (meanings T.author T.may_follow W.read T.calls T.rests T.runs T.ended (outside C.gave F.sends F.log)) turn.now 0 hand.old hand.new }
 {
     let Work::Read(reader) = &mut hand.work else {
         unreachable!()
@@ -34,7 +34,7 @@ fn read<R: Wait, T: Pooled, W: Reading<T>, C: Clock, F: Caller>(
     hand.short = read.is_err();
 }
 
-// A batcher's hand calls.
+// A batcher's hand calls, with `after_shut` only after the input's end.
 fn call<R: Wait, T: Pooled, W: Reading<T>, C: Clock, F: Caller>(
     rt: &R,
     alloc: Global,
@@ -43,11 +43,13 @@ fn call<R: Wait, T: Pooled, W: Reading<T>, C: Clock, F: Caller>(
     clock: &C,
     name: &str,
     number: usize,
+    after_shut: bool,
 )
     requires number { (0 < number) × (number ≤ MAX_LANES) }
     requires name { name.now ≡ turn.now.setup.config.function }
     requires ready { IsReady W.ready turn.now number hand.old }
-    ensures { HasWorked (meanings T.author T.may_follow W.read T.calls T.rests T.runs (outside C.gave F.sends F.log)) turn.now number hand.old hand.new }
+    ensures worked { HasWorked (meanings T.author T.may_follow W.read T.calls T.rests T.runs T.ended (outside C.gave F.sends F.log)) turn.now number hand.old hand.new }
+    ensures called { HasEndedWork (meanings T.author T.may_follow W.read T.calls T.rests T.runs T.ended (outside C.gave F.sends F.log)) turn.now number after_shut hand.new }
 {
     let Work::Call(caller) = &mut hand.work else {
         unreachable!()
@@ -62,6 +64,7 @@ fn call<R: Wait, T: Pooled, W: Reading<T>, C: Clock, F: Caller>(
         clock,
         name,
         batcher,
+        after_shut,
     );
     hand.short = called.is_err();
 }
@@ -80,10 +83,10 @@ fn work<R: Wait, T: Pooled, W: Reading<T>, C: Clock, F: Caller>(
     requires number { number ≤ MAX_LANES }
     requires name { name.now ≡ turn.now.setup.config.function }
     requires ready { IsReadyIf W.ready read_first turn.now number hand.old }
-    ensures { HasWorkedIf (meanings T.author T.may_follow W.read T.calls T.rests T.runs (outside C.gave F.sends F.log)) read_first turn.now number hand.old hand.new }
+    ensures { HasWorkedIf (meanings T.author T.may_follow W.read T.calls T.rests T.runs T.ended (outside C.gave F.sends F.log)) read_first turn.now number hand.old hand.new }
 {
     if number > 0 {
-        call(rt, alloc, turn, hand, clock, name, number);
+        call(rt, alloc, turn, hand, clock, name, number, read_first);
     } else if !read_first {
         read(rt, alloc, turn, hand, clock);
     }
@@ -108,7 +111,7 @@ fn work_all<
     requires some { (0 < length hands.old) × (length hands.old ≤ MAX_LANES + 1) }
     requires name { name.now ≡ turn.now.setup.config.function }
     requires ready { (n : ℕ) (d : Hand T W F) → n < length hands.old → IsReadyIf W.ready read_first turn.now n (slice_index_or hands.old n d) }
-    ensures { (n : ℕ) (d : Hand T W F) → n < length hands.old → HasWorkedIf (meanings T.author T.may_follow W.read T.calls T.rests T.runs (outside C.gave F.sends F.log)) read_first turn.now n (slice_index_or hands.old n d) (slice_index_or hands.new n d) }
+    ensures { (n : ℕ) (d : Hand T W F) → n < length hands.old → HasWorkedIf (meanings T.author T.may_follow W.read T.calls T.rests T.runs T.ended (outside C.gave F.sends F.log)) read_first turn.now n (slice_index_or hands.old n d) (slice_index_or hands.new n d) }
 {
     let threads = hands.len();
     thread::for_each_mut(
@@ -117,7 +120,7 @@ fn work_all<
         threads,
         &|n: usize, hand: &mut Hand<T, W, F>|
             requires { (n ≤ MAX_LANES) × (name.now ≡ turn.now.setup.config.function) × IsReadyIf W.ready read_first turn.now n hand.now }
-            ensures { HasWorkedIf (meanings T.author T.may_follow W.read T.calls T.rests T.runs (outside C.gave F.sends F.log)) read_first turn.entry.now n hand.entry.now hand.exit.now }
+            ensures { HasWorkedIf (meanings T.author T.may_follow W.read T.calls T.rests T.runs T.ended (outside C.gave F.sends F.log)) read_first turn.entry.now n hand.entry.now hand.exit.now }
         { work(rt, alloc, turn, hand, clock, name, n, read_first) },
     );
 }
@@ -142,7 +145,7 @@ fn work_first<
     requires some { (0 < count) × (count ≤ length hands.old) × (length hands.old ≤ MAX_LANES + 1) }
     requires name { name.now ≡ turn.now.setup.config.function }
     requires ready { AreReady W.ready turn.now hands.old }
-    ensures { HaveWorked (meanings T.author T.may_follow W.read T.calls T.rests T.runs (outside C.gave F.sends F.log)) turn.now count hands.old hands.new }
+    ensures { HaveWorked (meanings T.author T.may_follow W.read T.calls T.rests T.runs T.ended (outside C.gave F.sends F.log)) turn.now read_first count hands.old hands.new }
 {
     if read_first {
         read(rt, alloc, turn, &mut hands[0], clock);
@@ -182,7 +185,7 @@ pub(crate) fn run_over<
     requires some { (0 < count) × (count ≤ length hands.old.items) × (length hands.old.items ≤ MAX_LANES + 1) }
     requires name { name.now ≡ turn.now.setup.config.function }
     requires ready { AreReady W.ready turn.now hands.old.items }
-    ensures worked { HaveWorked (meanings T.author T.may_follow W.read T.calls T.rests T.runs (outside C.gave F.sends F.log)) turn.now count hands.old.items hands.new.items }
+    ensures worked { HaveWorked (meanings T.author T.may_follow W.read T.calls T.rests T.runs T.ended (outside C.gave F.sends F.log)) turn.now read_first count hands.old.items hands.new.items }
     ensures long { result ≡ false → (n : ℕ) (d : Hand T W F) → n < length hands.new.items → (slice_index_or hands.new.items n d).short ≡ false }
 {
     let all = hands.as_mut_slice();

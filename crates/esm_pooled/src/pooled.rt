@@ -6,8 +6,10 @@ ghost use Rattle.esm_model.specs.declared.called.Called.{Called};
 ghost use Rattle.esm_model.specs.declared.limits.TheConstants.{MAX_LANES};
 ghost use Rattle.esm_model.specs.declared.setup.Setup.{Setup};
 ghost use Rattle.esm_model.specs.declared.setup.Told.{Told};
+ghost use Rattle.esm_model.specs.Books.{entries_told};
+ghost use Rattle.esm_model.specs.Entries.{is_shut};
 ghost use Rattle.esm_model.specs.Kept.{meaning, added};
-ghost use Rattle.esm_pooled.specs.Batching.{Answers, call_of};
+ghost use Rattle.esm_pooled.specs.Batching.{Answers, EndsWork, call_of};
 ghost use Rattle.esm_pooled.specs.GoingOn.{GoesOn, AllAt, OthersFollow};
 
 use esm_model::{BookError, Job, Kept, Next, Reply};
@@ -26,6 +28,9 @@ pub trait Pooled: Kept {
     // the job is of the batcher's call that runs
     ghost runs: { Setup → List Told → ℕ → Job → Type 0 };
 
+    // nothing is left for the batcher, or all calls allowed were made
+    ghost ended: { Setup → List Told → ℕ → Type 0 };
+
     /// What the batcher does next at the moment, in milliseconds; a call that is answered has begun. After an error other
     /// than want of memory the book is down.
     fn ask(&mut self, alloc: Global, batcher: u32, moment: u64) -> Result<Next, BookError>
@@ -37,6 +42,7 @@ pub trait Pooled: Kept {
         ensures no_end { (sends : List ℕ → List ℕ) → calls (Self.setup self.old) sends (Self.history self.new) batcher ≡ calls (Self.setup self.old) sends (Self.history self.old) batcher }
         // What is answered.
         ensures answer { IfOk result (Answers Self.rests Self.runs (Self.setup self.old) (Self.history self.new) batcher) }
+        ensures ended { IfOk result (λ next. EndsWork next → ended (Self.setup self.old) (Self.history self.new) batcher) }
         ensures rests { OnErr result (rests (Self.setup self.old) (Self.history self.new) batcher) }
         ensures down { IfErr result (λ e. (e ≡ why.OutOfMemory) ⊎ (Self.mark self.new ≡ true)) };
 
@@ -61,6 +67,10 @@ pub trait Pooled: Kept {
         // When an error comes, and what it leaves.
         ensures unchanged { IsErrOf result why.OutOfMemory → Self.history self.new ≡ Self.history self.old }
         ensures down { IfErr result (λ e. (e ≡ why.OutOfMemory) ⊎ (Self.mark self.new ≡ true)) };
+
+    /// Whether the input has ended. Takes no memory.
+    fn is_shut(&self) -> bool
+        ensures { result ≡ is_shut (entries_told (Self.history self.now)) };
 
     /// Before the first entry no batcher has called. Does nothing.
     fn begins()

@@ -15,6 +15,7 @@ use Rattle.esm_model.specs.Entries.{moment_of, last_moment, last_call, batch_of,
 use Rattle.esm_model.specs.Kept.{meaning, MayFollowAll, IsLegal, AllBy, added}
 use Rattle.esm_model.specs.Books.{entries_told, lane_of_entry}
 use Rattle.esm_pooled.specs.GoingOn.{GoesOn, AllAt}
+use Rattle.esm_pooled.specs.Batching.{EndsWork}
 use Rattle.esm_queue_model.specs.QueueSetting.{QueueSetting, over_messages}
 use Rattle.esm_queue_model.specs.QueueEntries.{queue_lane}
 use Rattle.esm_queue_model.specs.QueueBatch.{last_queue_event, queue_calls}
@@ -23,9 +24,11 @@ use Rattle.esm_queue_lasting.specs.Batchers.{queue_calls_told, RunsQueueJob}
 use Rattle.esm_queue_lasting.proofs.Telling.{entries_more}
 use Rattle.esm_queue_core.specs.CoreView.{CoreView, moment_for}
 use Rattle.esm_queue_core.specs.Told.{queue_entry, told_entries, told_of}
+use Rattle.esm_queue_core.specs.Next.{next_for}
 use Rattle.esm_queue_core.proofs.ToldMessages.{messages-append}
 use Rattle.esm_qbook.specs.Books.{BookState, setup_of, is_down}
 use Rattle.esm_qbook.specs.Calls.{Added}
+use Rattle.esm_qbook.specs.Ended.{HasNothingToDo}
 use Rattle.esm_qbook.specs.Keeping.{IsSound, IsSetupOf}
 use Rattle.esm_qbook.proofs.Standing.{past_told}
 
@@ -141,6 +144,10 @@ pub record RunsAt (s : QueueSetting) (h : List Entry) (k : ℕ) (job : Job) : Ty
   pub places : job.places ≡ batch_of (last_call h (queue_lane k))
   pub event : job.event ≡ last_queue_event s h (queue_lane k)
 
+-- at some moment the batcher's answer ends its work
+abbrev pub EndsAt : QueueSetting → List Entry → ℕ → Type 0
+EndsAt s h k = (moment : ℕ) × EndsWork (next_for s h k moment)
+
 module _ {D : Type 0} (code : Coded D) (old b : BookState D) where
   setting_at : b.core.setting ≡ old.core.setting → IsSound b → queue_setting_told (setup_of code old) (told_of b.core) ≡ old.core.setting
   setting_at same sound = ap (over_messages old.core.setting) (sym sound.messages ∙ ap (λ (s : QueueSetting). s.messages) same)
@@ -164,6 +171,11 @@ module _ {D : Type 0} (code : Coded D) (old b : BookState D) where
     places = runs.places ∙ sym (batch_at k);
     event = runs.event ∙ sym (event_at same sound k);
   }
+
+  pub ended_told : b.core.setting ≡ old.core.setting → IsSound b → (k : ℕ) → EndsAt old.core.setting b.core.past k → HasNothingToDo (setup_of code old) (told_of b.core) k
+  ended_told same sound k ends =
+      subst (λ (s : QueueSetting). EndsAt s (entries_told (told_of b.core)) k) (sym (setting_at same sound))
+      (subst (λ (h : List Entry). EndsAt old.core.setting h k) (sym (past_told b.core)) ends)
 
   pub runs_past : b.core.setting ≡ old.core.setting → IsSound b → (k : ℕ) (job : Job) → RunsQueueJob (setup_of code old) (told_of b.core) k job → RunsAt old.core.setting b.core.past k job
   runs_past same sound k job runs = record {

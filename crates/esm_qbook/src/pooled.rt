@@ -22,12 +22,15 @@ fn know<D: Disk>(book: &QueueBook<D>)
 
 impl<D: Disk> Pooled for QueueBook<D> {
     ghost use Rattle.esm_queue_lasting.specs.Batchers.{queue_calls_told, QueueRests, RunsQueueJob};
+    ghost use Rattle.esm_qbook.specs.Ended.{HasNothingToDo};
 
     ghost calls = { queue_calls_told };
 
     ghost rests = { QueueRests };
 
     ghost runs = { RunsQueueJob };
+
+    ghost ended = { HasNothingToDo };
 
     fn ask(&mut self, alloc: Global, batcher: u32, moment: u64) -> Result<Next, BookError> {
         know(self);
@@ -48,6 +51,10 @@ impl<D: Disk> Pooled for QueueBook<D> {
         let answer = self.done(alloc, job, reply, moment);
         know(self);
         answer
+    }
+
+    fn is_shut(&self) -> bool {
+        QueueBook::is_shut(self)
     }
 
     fn begins() {

@@ -232,6 +232,13 @@ impl<D: Disk> QueueBook<D> {
         }
     }
 
+    /// Whether the input ended. Takes no memory.
+    pub fn is_shut(&self) -> bool
+        ensures { result ≡ is_shut self.now.core.past }
+    {
+        self.durable.core().is_shut()
+    }
+
     /// The first fault or change that a call answered; `None` exactly where none did. Its clauses say what the type keeps
     /// of any book, whoever made its calls. Takes no memory.
     pub fn trouble(&self) -> Option<&Trouble>

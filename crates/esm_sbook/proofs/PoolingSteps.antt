@@ -17,13 +17,16 @@ use Rattle.esm_model.specs.Calls.{calls, last_event}
 use Rattle.esm_model.specs.Kept.{meaning, added, IsLegal, MayFollowAll, AllBy}
 use Rattle.esm_model.specs.Books.{entries_told, streams_told, setting_told, author, stream_may_follow}
 use Rattle.esm_pooled.specs.GoingOn.{GoesOn, AllAt}
+use Rattle.esm_pooled.specs.Batching.{EndsWork}
 use Rattle.esm_lasting.specs.Batchers.{calls_told, Rests, RunsJob}
 use Rattle.esm_lasting.proofs.OneMore.{AllRest}
+use Rattle.esm_next.specs.Following.{next_for}
 use Rattle.esm_owing.specs.OwingView.{full_setting}
 use Rattle.esm_core.specs.Calls.{moment_for}
 use Rattle.esm_core.specs.Told.{told_entries, told_of}
 use Rattle.esm_sbook.specs.Books.{BookState, setup_of, is_down}
 use Rattle.esm_sbook.specs.Calls.{AddedAll, AddedSome, AddedOne, IsSame}
+use Rattle.esm_sbook.specs.Ended.{HasNothingToDo}
 use Rattle.esm_sbook.specs.Keeping.{IsSound, IsSetupOf}
 use Rattle.esm_sbook.proofs.Records.{entries_same}
 use Rattle.esm_sbook.proofs.PoolingEntries.{AreOwn, all_own, all_at, streams_own}
@@ -118,6 +121,10 @@ runs_so setup history k job runs = record { served = runs.served; came = runs.ca
 so_runs : (setup : Setup) (history : List Told) (k : ℕ) (job : Job) → RunsJob setup history k job → RunsOver (setting_told setup history) (entries_told history) k job
 so_runs setup history k job runs = record { served = runs.served; came = runs.came; running = runs.running; places = runs.places; event = runs.event }
 
+-- at some moment the batcher's answer ends its work
+abbrev pub EndsOver : Setting → List Entry → ℕ → Type 0
+EndsOver s h k = (moment : ℕ) × EndsWork (next_for s h k moment)
+
 may_back : (may : List Told → Told → Type 0) (h xs ys : List Told) → MayFollowAll may h (xs ++ ys) → MayFollowAll may (h ++ xs) ys
 may_back may h [] ys all = subst (λ g. MayFollowAll may g ys) (sym (append-nil h)) all
 may_back may h (x ∷ xs) ys all = subst (λ g. MayFollowAll may g ys) (append_assoc h (x ∷ []) xs) (may_back may (h ++ x ∷ []) xs ys all.1)
@@ -196,6 +203,9 @@ module _ {D T : Type 0} (code : Coded D) (dest_code : Coded T) (lines : T → Op
 
       pub runs_now : (job : Job) → RunsOver old.core.setting (reverse es ++ old.core.past) k job → RunsJob (setup_at old) (told_of new.core) k job
       runs_now job runs = runs_so (setup_at old) (told_of new.core) k job (onto (λ s h. RunsOver s h k job) runs)
+
+      pub ended_now : EndsOver old.core.setting (reverse es ++ old.core.past) k → HasNothingToDo (setup_at old) (told_of new.core) k
+      ended_now ends = onto (λ s h. EndsOver s h k) ends
 
       pub now_runs : (job : Job) → RunsJob (setup_at old) (told_of new.core) k job → RunsOver old.core.setting (reverse es ++ old.core.past) k job
       now_runs job runs = back (λ s h. RunsOver s h k job) (so_runs (setup_at old) (told_of new.core) k job runs)

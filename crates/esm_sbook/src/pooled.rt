@@ -8,12 +8,15 @@ use std::alloc::Global;
 
 impl<D: Disk, T: Dest> Pooled for Book<D, T> {
     ghost use Rattle.esm_lasting.specs.Batchers.{calls_told, Rests, RunsJob};
+    ghost use Rattle.esm_sbook.specs.Ended.{HasNothingToDo};
 
     ghost calls = { calls_told };
 
     ghost rests = { Rests };
 
     ghost runs = { RunsJob };
+
+    ghost ended = { HasNothingToDo };
 
     fn ask(&mut self, alloc: Global, batcher: u32, moment: u64) -> Result<Next, BookError> {
         let _before = self.trouble();
@@ -34,6 +37,10 @@ impl<D: Disk, T: Dest> Pooled for Book<D, T> {
         let answer = self.done(alloc, job, reply, moment);
         let _after = self.trouble();
         answer
+    }
+
+    fn is_shut(&self) -> bool {
+        Book::is_shut(self)
     }
 
     fn begins() {

@@ -253,6 +253,13 @@ impl<D: Disk, T: Dest> Book<D, T> {
         }
     }
 
+    /// Whether the input ended. Takes no memory.
+    pub fn is_shut(&self) -> bool
+        ensures { result ≡ is_shut self.now.core.past }
+    {
+        self.durable.core().is_shut()
+    }
+
     /// How many of the shard's first records all have a fate. `None` exactly where the shard has not come. Takes no
     /// memory.
     pub fn checkpoint(&self, shard: u64) -> Option<u32>

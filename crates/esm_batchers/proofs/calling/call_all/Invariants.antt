@@ -1,4 +1,5 @@
 use Rattle.std.proofs.Common.{◌+◌}
+use mathlib.Core.List.{IsPrefix}
 use Rattle.esm_io.specs.Told.{Grows}
 use Rattle.esm_batchers.specs.Seated.{IsSeated}
 use Rattle.esm_batchers.proofs.calling.call_all.Given as goal
@@ -9,3 +10,4 @@ invariant-loop g l =
     × IsSeated g.T.Kept.author g.T.Kept.may_follow g.C.Clock.gave l.turn (l.batcher + 1) l.seat
     × g.T.Pooled.rests l.turn.setup l.seat.seen l.batcher
     × Grows (g.F.Caller.log l.fn.caller) (g.F.Caller.log l.caller) (g.T.Pooled.calls l.turn.setup g.F.Caller.sends l.seat.seen l.batcher)
+    × IsPrefix l.initial.seat.seen l.seat.seen

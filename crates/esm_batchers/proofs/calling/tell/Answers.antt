@@ -3,7 +3,7 @@ use Rattle.esm_model.specs.Kept.{meaning}
 use Rattle.esm_pooled.specs.Batching.{call_of}
 use Rattle.esm_turn.specs.Seats.{SeatView}
 use Rattle.esm_batchers.specs.Seated.{IsSeated}
-use Rattle.esm_batchers.proofs.Turns.{found, given, gone_back, holds_found, holds_still, comes_to}
+use Rattle.esm_batchers.proofs.Turns.{found, given, gone_back, grown, holds_found, holds_still, comes_to}
 use Rattle.esm_batchers.proofs.calling.tell.Goals as goal
 
 pub end_call-told-requires-clause-runs : goal.end_call-told-requires-clause-runs
@@ -70,3 +70,15 @@ returns-clause-runs g c = λ short.
     holds_still m gave t (k + 1) (λ u h. g.T.Pooled.runs u h k c.args.job) s c.give.new.seat x y f
     (gone_back m gave t (k + 1) s c.take-value.new.seat c.give.new.seat x y c.take-value.ensures.seat c.give.ensures) (c.end_call-told.ensures.unchanged short)
     (λ h es. c.stays.ensures.runs t.setup h es k c.args.job) c.requires.runs
+
+pub returns-clause-grows : goal.returns-clause-grows
+returns-clause-grows g c =
+    let m = meaning g.T.Kept.setup g.T.Kept.history g.T.Kept.mark g.T.Kept.author g.T.Kept.may_follow in
+    let gave = g.C.Clock.gave in
+    let t = c.args.turn.now in
+    let s : SeatView = c.args.seat.now in
+    let n = c.args.batcher + 1 in
+    let x = c.take-value.result.value in
+    let y = c.end_call-told.new.self in
+    let f = found m gave t n s (m.history x) c.requires.seated c.take-value.ensures.legal c.take-value.ensures.begins c.take-value.ensures.mine in
+    grown m gave t n s c.give.new.seat x y f (gone_back m gave t n s c.take-value.new.seat c.give.new.seat x y c.take-value.ensures.seat c.give.ensures) c.end_call-told.ensures.goes_on.history_is

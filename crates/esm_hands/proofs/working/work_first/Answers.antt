@@ -8,7 +8,7 @@ use Rattle.esm_hands.proofs.working.work_first.Goals.{then-read_first, else-read
 
 pub work_all-requires-clause-ready : goal.work_all-requires-clause-ready
 work_all-requires-clause-ready g c κs within =
-    let m = meanings g.T.Kept.author g.T.Kept.may_follow g.W.Reading.read g.T.Pooled.calls g.T.Pooled.rests g.T.Pooled.runs (outside g.C.Clock.gave g.F.Caller.sends g.F.Caller.log) in
+    let m = meanings g.T.Kept.author g.T.Kept.may_follow g.W.Reading.read g.T.Pooled.calls g.T.Pooled.rests g.T.Pooled.runs g.T.Pooled.ended (outside g.C.Clock.gave g.F.Caller.sends g.F.Caller.log) in
     let parts = c.split_at_mut-working in
     let le = c.requires.some.1 in
     let len = c.if-read_first.auto.hands in
@@ -19,7 +19,7 @@ work_all-requires-clause-ready g c κs within =
 
 pub returns : goal.returns
 returns g c =
-    let m = meanings g.T.Kept.author g.T.Kept.may_follow g.W.Reading.read g.T.Pooled.calls g.T.Pooled.rests g.T.Pooled.runs (outside g.C.Clock.gave g.F.Caller.sends g.F.Caller.log) in
+    let m = meanings g.T.Kept.author g.T.Kept.may_follow g.W.Reading.read g.T.Pooled.calls g.T.Pooled.rests g.T.Pooled.runs g.T.Pooled.ended (outside g.C.Clock.gave g.F.Caller.sends g.F.Caller.log) in
     let t = c.args.turn.now in
     let hs = c.args.hands.now in
     let mid = c.if-read_first.hands in

@@ -5,14 +5,15 @@ use Rattle.esm_io.specs.Meanings.{DiskMeaning, disk}
 use Rattle.esm_model.specs.declared.book.BookError.{BookError}
 use Rattle.esm_model.specs.declared.book.Next.{Next}
 use Rattle.esm_model.specs.Entries.{is_running}
-use Rattle.esm_pooled.specs.Batching.{Answers}
+use Rattle.esm_pooled.specs.Batching.{Answers, EndsWork}
 use Rattle.esm_queue_model.specs.QueueEntries.{queue_lane}
 use Rattle.esm_queue_core.specs.Told.{told_of}
 use Rattle.esm_queue_lasting.specs.Batchers.{QueueRests, RunsQueueJob}
 use Rattle.esm_qbook.specs.Books.{BookState, setup_of}
+use Rattle.esm_qbook.specs.Ended.{HasNothingToDo}
 use Rattle.esm_qbook.specs.Keeping.{IsSound}
-use Rattle.esm_qbook.proofs.Pooling.{goes_on, moments, calls_at, running_at, ok_then, err_then}
-use Rattle.esm_qbook.proofs.PoolingNext.{NextDid, AnswersAt, HasAsked, asked, answers_told}
+use Rattle.esm_qbook.proofs.Pooling.{EndsAt, goes_on, moments, calls_at, running_at, ok_then, err_then}
+use Rattle.esm_qbook.proofs.PoolingNext.{NextDid, AnswersAt, HasAsked, asked, answers_told, ends_told}
 use Rattle.esm_qbook.proofs.pooled.QueueBookPooled.ask.Goals as goal
 
 pub next-answer-requires : goal.next-answer-requires
@@ -47,6 +48,7 @@ returns g c =
       moments = moments code k c.args.moment old new all.es all.has;
       no_end = λ sends. calls_at code old new same after sends k ∙ (all.no_end sends ∙ sym (calls_at code old old refl before sends k));
       answer = ok_then (AnswersAt old.core.setting new.core.past k) (Answers QueueRests RunsQueueJob (setup_of code old) (told_of new.core) k) r (answers_told code k old new same after) all.answer;
+      ended = ok_then (λ (x : Next). EndsWork x → EndsAt old.core.setting new.core.past k) (λ (x : Next). EndsWork x → HasNothingToDo (setup_of code old) (told_of new.core) k) r (ends_told code k old new same after) all.ended;
       rests = err_then (is_running new.core.past (queue_lane k) ≡ false) (QueueRests (setup_of code old) (told_of new.core) k) r (λ is. running_at code old new k ∙ is) all.rests;
       down = all.down;
     }

@@ -1,0 +1,20 @@
+use Rattle.std.proofs.Common.{◌+◌, [], sym, ◌∙◌, rules}
+use Rattle.esm_batchers.proofs.Later.{begins_then, follow_other, follow_from}
+use Rattle.esm_batchers.proofs.calling.call_all.Goals as goal
+
+pub returns-then-not-may-clause-later : goal.returns-then-not-may-clause-later
+returns-then-not-may-clause-later g c = λ after.
+    let may = c.may_ask-may in
+    follow_other (g.T.Kept.author c.args.turn.now.setup) (c.args.batcher + 1) [] may.new.seat.seen (sym may.ensures.seated.whole ∙ may.ensures.unused)
+
+pub returns-in_err-round-clause-later : goal.returns-in_err-round-clause-later
+returns-in_err-round-clause-later g c = λ after.
+    let may = c.may_ask-may in
+    follow_from (g.T.Kept.author c.args.turn.now.setup) (c.args.batcher + 1) may.new.seat.seen c.round.new.seat.seen (sym may.ensures.seated.whole ∙ may.ensures.unused) (may.ensures.shut (search rules) after)
+    (begins_then may.new.seat.seen c.loop.seat.seen c.round.new.seat.seen c.loop.invariant.5 c.in_err-round.ensures.grows)
+
+pub returns-then-not-branch-clause-later : goal.returns-then-not-branch-clause-later
+returns-then-not-branch-clause-later g c = λ after.
+    let may = c.may_ask-may in
+    follow_from (g.T.Kept.author c.args.turn.now.setup) (c.args.batcher + 1) may.new.seat.seen c.round.new.seat.seen (sym may.ensures.seated.whole ∙ may.ensures.unused) (may.ensures.shut (search rules) after)
+    (begins_then may.new.seat.seen c.loop.seat.seen c.round.new.seat.seen c.loop.invariant.5 c.in_ok-round.ensures.grows)

@@ -1,0 +1,12 @@
+-- Where a batcher of a queue's book has nothing to do any more. This product's own.
+use Rattle.std.specs.Prelude.{ℕ, List}
+use Rattle.esm_model.specs.declared.setup.Setup.{Setup}
+use Rattle.esm_model.specs.declared.setup.Told.{Told}
+use Rattle.esm_model.specs.Books.{entries_told}
+use Rattle.esm_pooled.specs.Batching.{EndsWork}
+use Rattle.esm_queue_model.specs.QueueBooks.{queue_setting_told}
+use Rattle.esm_queue_core.specs.Next.{next_for}
+
+-- at some moment, in milliseconds, the batcher is answered so that its work ends
+abbrev pub HasNothingToDo : Setup → List Told → ℕ → Type 0
+HasNothingToDo setup history k = (moment : ℕ) × EndsWork (next_for (queue_setting_told setup history) (entries_told history) k moment)
