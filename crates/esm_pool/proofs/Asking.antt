@@ -157,6 +157,9 @@ asked_call d n gave sends k t name job v0 v1 v2 old new none gave_t answer all n
         came = λ i. same.came i;
         shards = same.shards;
         shut = same.shut;
+        onward =
+            let ended : List Entry = Ended job.lane made.reply e ∷ Began job.lane job.places job.closing m ∷ [] in
+            (reverse made.front ++ ended, past ∙ sym (append_assoc (reverse made.front) ended v0.core.past));
       };
       rests = λ l. same.running l ∙ rests_after v0.core.past job.lane l job.places job.closing m e made.reply none;
       others = λ j other. same.calls j ∙ calls_other s sends v0.core.past job.lane job.places job.closing m e k j made.reply call.batcher other;
@@ -176,6 +179,7 @@ asked_so gave v w still = record {
   came = λ n. ap (λ p. came_count p n) still.past;
   shards = ap shards_that_came still.past;
   shut = ap is_shut still.past;
+  onward = ([], still.past);
 }
 
 pub asked_still : {D T : Type 0} (gave : ℕ → Bool) (sends : List ℕ → List ℕ) (k : ℕ) (v w : BookState D T) (log : Option (List Called)) → NoneRuns v.core.past → IsStill v w → HasAsked gave sends k v w log log
@@ -237,6 +241,7 @@ gave_entries gave sends k t v w log (Some lane) none gave_t opened past = record
     came = λ n. ap (λ p. came_count p n) past;
     shards = ap shards_that_came past;
     shut = ap is_shut past;
+    onward = (reverse (expiry_entries v.core.setting v.core.past (moment_for v.core.past t) (Some lane)), past);
   };
   rests = λ l. ap (λ p. is_running p l) past ∙ none l;
   others = λ j other. ap (λ p. calls v.core.setting sends p j) past;
@@ -256,7 +261,7 @@ asked_gave d n gave sends k t count v w log none gave_t answer all =
 
 pub have_none : {D T F : Type 0} (o : Outside F) (v : BookState D T) (xs : List F) → NoneRuns v.core.past → HaveAsked o v v xs xs
 have_none o v xs none = record {
-  asked = record { setting = refl; found = refl; found_dest = refl; moments = λ given. given; came = λ n. refl; shards = refl; shut = refl };
+  asked = record { setting = refl; found = refl; found_dest = refl; moments = λ given. given; came = λ n. refl; shards = refl; shut = refl; onward = ([], refl) };
   rests = none;
   as_many = refl;
   logs = λ k d within first grows. grows;
@@ -271,6 +276,7 @@ asked_then gave a b c x y = record {
   came = λ n. y.came n ∙ x.came n;
   shards = y.shards ∙ x.shards;
   shut = y.shut ∙ x.shut;
+  onward = (y.onward.0 ++ x.onward.0, y.onward.1 ∙ (ap (λ l. y.onward.0 ++ l) x.onward.1 ∙ sym (append_assoc y.onward.0 x.onward.0 a.core.past)));
 }
 
 pub have_then : {D T F : Type 0} (o : Outside F) (a b c : BookState D T) (xs ys zs : List F) → HaveAsked o a b xs ys → HaveAsked o b c ys zs → HaveAsked o a c xs zs

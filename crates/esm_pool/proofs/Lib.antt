@@ -15,5 +15,6 @@ pub mod Setups
 pub mod Bridges
 pub mod Turning
 pub mod Closed
+pub mod Following
 pub mod Sent
 pub mod Runs

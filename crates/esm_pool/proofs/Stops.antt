@@ -61,6 +61,7 @@ stopped_call d n gave sends k t name job v0 v1 v2 old new gave_t answer all name
         came = λ i. ap (λ p. came_count p i) past;
         shards = ap shards_that_came past;
         shut = ap is_shut past;
+        onward = (Began job.lane job.places job.closing m ∷ [], past);
       };
       others = λ j other. ap (λ p. calls s sends p j) past;
       mine = λ first grows. subst (λ p. HasLogged sends s p k first new) (sym past) (elim made [

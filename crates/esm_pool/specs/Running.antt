@@ -66,6 +66,7 @@ pub record IsAsked {D T : Type 0} (gave : ℕ → Bool) (before after : BookStat
   pub came : (n : ℕ) → came_count after.core.past n ≡ came_count before.core.past n
   pub shards : shards_that_came after.core.past ≡ shards_that_came before.core.past
   pub shut : is_shut after.core.past ≡ is_shut before.core.past
+  pub onward : (more : List Entry) × (after.core.past ≡ more ++ before.core.past)
 
 -- batcher k was asked, and its caller's log goes from the one to the other; no call is without its end
 pub record HasAsked {D T : Type 0} (gave : ℕ → Bool) (sends : List ℕ → List ℕ) (k : ℕ) (before after : BookState D T) (old new : Option (List Called)) : Type 0 where

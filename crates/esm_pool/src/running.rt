@@ -1,6 +1,7 @@
 // A run of a stream's book, its reader and its batchers as threads.
 ghost use Rattle.std.specs.Prelude.{◌≡◌, ◌≤◌, ◌*◌, min, [], None, true, false, length, IfOk, OnOk, OnErr, IfErr, IsSome};
 ghost use Rattle.esm_model.specs.declared.limits.TheConstants.{MAX_LANES, MAX_SHARDS};
+ghost use Rattle.esm_model.specs.Entries.{is_shut, CallsFollowShut};
 ghost use Rattle.esm_model.specs.Valid.{IsStreamConfig};
 ghost use Rattle.esm_record.specs.declared.item.LineKind.{LineKind};
 ghost use Rattle.esm_input.specs.Reading.{IsInput};
@@ -81,6 +82,7 @@ fn work<
     requires factor { reader.input.factor ≤ 10 }
     requires callers { length callers.items ≡ MAX_LANES }
     ensures left { IfOk result (λ left. IsLeft (outside C.gave F.sends F.log) S.faults S.left book left.book reader.input left.reader.input left.reader.changed callers.items left.callers.items left.short) }
+    ensures later { IfOk result (λ left. read_first ≡ true → CallsFollowShut left.book.core.past) }
     ensures back { IfErr result (λ refused. refused.back ≡ (book, reader, callers)) }
 {
     let batchers = batchers_for(reader.input.factor());
@@ -156,6 +158,7 @@ fn finish<R: Wait, C: Clock, F: Caller, D: Disk, T: Dest>(
     ensures asked { OnOk result (HaveAsked (outside C.gave F.sends F.log) book.old book.new callers.old.items callers.new.items) }
     ensures stopped { OnErr result (AreStopped (outside C.gave F.sends F.log) book.old book.new callers.old.items callers.new.items) }
     ensures ended { IfOk result (EndsWith book.old book.new kept) }
+    ensures later { (book.old.trouble ≡ None → is_shut book.old.core.past ≡ true) → CallsFollowShut book.old.core.past → CallsFollowShut book.new.core.past }
 {
     match standing_of(book, &kept) {
         Standing::Up => match run_rounds(rt, alloc, book, name, callers, clock) {
@@ -170,8 +173,9 @@ fn finish<R: Wait, C: Clock, F: Caller, D: Disk, T: Dest>(
 }
 
 /// Reads the input and hands its records to the book, in lists of at most 10,000, and has the batchers call, each with its
-/// caller, all as threads; with `read_first` the batchers begin once the input was read. The run ends when nothing has
-/// anything to do or to wait for. `name` is the function's. Want of memory ends it at any point.
+/// caller, all as threads; with `read_first` the batchers begin once the input was read, and no call begins before its end
+/// has been noted. The run ends when nothing has anything to do or to wait for. `name` is the function's. Want of memory
+/// ends it at any point.
 pub fn run_lanes<
     R: Threads + Wait + Sync,
     S: Source + Send,
@@ -205,6 +209,7 @@ pub fn run_lanes<
     ensures good { OnOk result.end (result.input.failed ≡ false) }
     ensures stopped { OnErr result.end (HasStopped (outside C.gave F.sends F.log) book result.book callers.items result.callers.items) }
     ensures cut { OnErr result.end (IsCutInput S.left result.input result.book) }
+    ensures later { read_first ≡ true → CallsFollowShut result.book.core.past }
     ensures input { (result.input.kind ≡ input.kind) × (result.input.factor ≡ input.factor) × (result.input.start ≡ input.start) × (result.input.found ≡ input.found) }
 {
     let reader = Reader {

@@ -27,6 +27,7 @@ use Rattle.esm_queue_core.proofs.ToldMessages.{told-append, messages-append}
 use Rattle.esm_qbook.specs.Books.{BookState, is_down}
 use Rattle.esm_qbook.specs.Calls.{Added, AddedAll, AddedSome, AddedOne, IsSame}
 use Rattle.esm_qbook.specs.Keeping.{IsSound}
+use Rattle.esm_pool.proofs.Moments.{again}
 use Rattle.esm_pool.proofs.Quiet.{one_more}
 use Rattle.esm_qpool.specs.declared.coming.Stop.TheVariants.{Down}
 use Rattle.esm_qpool.specs.Taking.{AreReaders, IsBrought, AreAdded, SomeAdded, IsOfNext, IsStopFor}
@@ -100,10 +101,6 @@ open_at m [] h all going = going
 open_at m (e ∷ es) h all going =
     let here : is_shut (e ∷ h) ≡ false = ap (λ b. b || is_shut h) (arrival_open e all.0.1) ∙ going in
     ap is_shut (sym (one_more e es h)) ∙ open_at m es (e ∷ h) all.1 here
-
--- the moment stays where it comes once more
-again : (m last t : ℕ) → m ≡ capped_moment (max t last) → m ≡ capped_moment (max t m)
-again m last t is = grind (arith, is)
 
 -- at the moment that was handed in
 moments_at : (moment m : ℕ) (messages : List Message) (h : List Told) (es : List Entry) → m ≡ capped_moment (max moment (last_moment (entries_told h))) → AreAt m es → AllAt moment h (told_entries messages es)

@@ -1,5 +1,5 @@
 -- A batcher that is asked: what its call does.
-use Rattle.std.proofs.Common.{◌≡◌, ◌≢◌, ◌+◌, ◌<◌, ◌≤◌, ℕ, zero, suc, Bool, true, false, List, [], ◌∷◌, ◌++◌, length, get_or, refl, sym, ap, ◌∙◌, subst, inl, inr, Option, Some, None, append_assoc, arith}
+use Rattle.std.proofs.Common.{◌≡◌, ◌≢◌, ◌+◌, ◌<◌, ◌≤◌, ℕ, suc, Bool, true, false, List, [], ◌∷◌, ◌++◌, length, get_or, refl, sym, ap, ◌∙◌, subst, inl, inr, Option, Some, None, append_assoc, arith}
 use Rattle.std.specs.Prelude.{◌==◌, ◌⊎◌, slice_index_or, set, reverse, take}
 use Rattle.std.proofs.lemmas.List.{append-nil, length-append, get_or-set_same, get_or-set_other, length-set}
 use Rattle.std.proofs.lemmas.Bool.{cases_Bool, eq-eqb, eqb-true}
@@ -18,7 +18,7 @@ use Rattle.esm_model.specs.declared.entry.Fate.TheVariants.{Succeeded}
 use Rattle.esm_model.specs.declared.entry.Reply.{Reply}
 use Rattle.esm_model.specs.declared.entry.Entry.{Entry}
 use Rattle.esm_model.specs.declared.entry.Entry.TheVariants.{Began, Ended, Gave}
-use Rattle.esm_model.specs.Entries.{moment_of, is_running, is_shut}
+use Rattle.esm_model.specs.Entries.{moment_of, is_running, is_shut, CallsFollowShut}
 use Rattle.esm_model.proofs.Steps.{same_lane-refl}
 use Rattle.esm_queue_model.specs.QueueSetting.{QueueSetting}
 use Rattle.esm_queue_model.specs.QueueEntries.{queue_of}
@@ -35,9 +35,11 @@ use Rattle.esm_batchers.specs.Working.{Outside}
 use Rattle.esm_pool.specs.Running.{NoneRuns, KeepsLog}
 use Rattle.esm_pool.proofs.Moments.{moment_given, moment_again}
 use Rattle.esm_pool.proofs.Quiet.{one_more}
+use Rattle.esm_pool.proofs.Kept.{AreOthers}
+use Rattle.esm_pool.proofs.Asking.{not_same, get_default}
 use Rattle.esm_qpool.specs.Running.{IsStill, IsAsked, HasCalled, HasAsked, HaveAsked, HasFinished, IsSpent, IsQuiet, AreQuiet}
 use Rattle.esm_qpool.proofs.Calling.{IsCallOf, job_is}
-use Rattle.esm_qpool.proofs.Kept.{AreOthers, others_front, others_gave, setting_kept}
+use Rattle.esm_qpool.proofs.Kept.{others_front, others_gave, setting_kept}
 
 -- the deletion after a call's end begins and ends no call
 
@@ -47,16 +49,17 @@ record Same (s : QueueSetting) (sends : List ℕ → List ℕ) (h more : List En
   shut : is_shut more ≡ is_shut h
   calls : (k : ℕ) → queue_calls s sends more k ≡ queue_calls s sends h k
   moments : (gave : ℕ → Bool) → AreGiven gave h → AreGiven gave more
+  later : CallsFollowShut h → CallsFollowShut more
 
 same_gave : (s : QueueSetting) (sends : List ℕ → List ℕ) (e : Entry) (h : List Entry) (by : Option LaneId) (places : List ℕ) (fate : Fate) (m : ℕ) (front rest : List Entry) → m ≡ moment_of e
     → front ++ rest ≡ gave_entries by places fate m → Same s sends (e ∷ h) (reverse front ++ e ∷ h)
-same_gave s sends e h by places fate m [] rest is split = record { running = λ lane. refl; shut = refl; calls = λ k. refl; moments = λ gave given. given }
+same_gave s sends e h by places fate m [] rest is split = record { running = λ lane. refl; shut = refl; calls = λ k. refl; moments = λ gave given. given; later = λ first. first }
 same_gave s sends e h by [] fate m (f ∷ front) rest is split = absurd (cc)
 same_gave s sends e h by (i ∷ places) fate m (f ∷ g ∷ front) rest is split = absurd (cc)
 same_gave s sends e h by (i ∷ places) fate m (f ∷ []) rest is split =
     let f_is : Gave by 0 (i ∷ places) fate None None m ≡ f = cc in
     subst (λ (x : Entry). Same s sends (e ∷ h) (x ∷ e ∷ h)) f_is
-    (record { running = λ lane. refl; shut = refl; calls = λ k. refl; moments = λ gave given. (given, moment_again gave e h m given is) })
+    (record { running = λ lane. refl; shut = refl; calls = λ k. refl; moments = λ gave given. (given, moment_again gave e h m given is); later = λ first. ((λ begins. absurd (cc)), first) })
 
 -- the calls of a batcher
 
@@ -182,6 +185,7 @@ asked_call d gave sends k t name job v0 v1 v2 old new none gave_t answer all nam
             let at_end : AreGiven gave end = (begun, given_n) in
             same.moments gave at_end;
         shut = same.shut;
+        later = λ shut first. same.later ((λ begins. absurd (cc)), ((λ begins. shut), first));
       };
       rests = λ l. same.running l ∙ rests_after v0.core.past job.lane l job.places job.closing m e made.reply none;
       others = λ j other. same.calls j ∙ calls_other s sends v0.core.past job.lane job.places job.closing m e k j made.reply mine other;
@@ -198,6 +202,7 @@ asked_so gave v w still = record {
   found = still.opened.found;
   moments = λ given. subst (AreGiven gave) (sym still.past) given;
   shut = ap is_shut still.past;
+  later = λ shut first. subst CallsFollowShut (sym still.past) first;
 }
 
 pub asked_still : {D : Type 0} (gave : ℕ → Bool) (sends : List ℕ → List ℕ) (k : ℕ) (v w : BookState D) (log : Option (List Called)) → NoneRuns v.core.past → IsStill v w → HasAsked gave sends k v w log log
@@ -237,7 +242,7 @@ still_at_fault d x m v w some before after =
 
 pub have_none : {D F : Type 0} (o : Outside F) (count : ℕ) (v : BookState D) (xs : List F) → NoneRuns v.core.past → HaveAsked o count v v xs xs
 have_none o count v xs none = record {
-  asked = record { setting = refl; found = refl; moments = λ given. given; shut = refl };
+  asked = record { setting = refl; found = refl; moments = λ given. given; shut = refl; later = λ shut first. first };
   rests = none;
   as_many = refl;
   logs = λ k d within first grows. grows;
@@ -251,6 +256,7 @@ asked_then gave a b c x y = record {
   found = y.found ∙ x.found;
   moments = λ given. y.moments (x.moments given);
   shut = y.shut ∙ x.shut;
+  later = λ shut first. y.later (x.shut ∙ shut) (x.later shut first);
 }
 
 pub have_then : {D F : Type 0} (o : Outside F) (count : ℕ) (a b c : BookState D) (xs ys zs : List F) → HaveAsked o count a b xs ys → HaveAsked o count b c ys zs → HaveAsked o count a c xs zs
@@ -265,14 +271,6 @@ have_then o count a b c xs ys zs x y = record {
   untouched = λ k d past. y.untouched k d past ∙ x.untouched k d past;
   no_calls = λ k past. subst (λ (s : QueueSetting). queue_calls s o.sends c.core.past k ≡ queue_calls s o.sends b.core.past k) x.asked.setting (y.no_calls k past) ∙ x.no_calls k past;
 }
-
-pub not_same : (j k : ℕ) → (j == k) ≡ false → j ≡ k → ⊥
-not_same j k apart is = let same : (j == k) ≡ true = eq-eqb j k is in cc
-
-pub get_default : {A : Type 0} (xs : List A) (k : ℕ) (d e : A) → k < length xs → get_or xs k d ≡ get_or xs k e
-get_default [] k d e within = absurd (omega (arith, within))
-get_default (x ∷ xs) zero d e within = refl
-get_default (x ∷ xs) (suc k) d e within = get_default xs k d e (omega (arith, within))
 
 -- past the number is not the batcher
 pub is_past : (count k j : ℕ) → k < count → count ≤ j → j ≢ k

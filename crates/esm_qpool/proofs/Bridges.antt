@@ -30,11 +30,12 @@ use Rattle.esm_qbook.specs.Books.{BookState}
 use Rattle.esm_qbook.specs.Keeping.{IsSound}
 use Rattle.esm_pool.specs.Given.{AreGiven}
 use Rattle.esm_pool.specs.Running.{NoneRuns}
+use Rattle.esm_pool.proofs.Owners.{still_shut}
 use Rattle.esm_qpool.specs.Coming.{SomeCame, HaveCome}
 use Rattle.esm_qpool.specs.Stopping.{HasLogged}
 use Rattle.esm_qpool.specs.Readings.{AreTold, SomeTold}
 use Rattle.esm_qpool.proofs.Arriving.{past_is}
-use Rattle.esm_qpool.proofs.Owners.{same_messages, still_shut}
+use Rattle.esm_qpool.proofs.Owners.{same_messages}
 
 -- moments
 

@@ -1,6 +1,6 @@
 -- Entries that bring no message leave the setting of a queue's book as it was.
 use Rattle.std.proofs.Common.{◌≡◌, ℕ, List, [], ◌∷◌, ◌++◌, refl, sym, ap, ◌∙◌}
-use Rattle.std.specs.Prelude.{⊤, Option}
+use Rattle.std.specs.Prelude.{Option}
 use Rattle.std.proofs.lemmas.List.{append-nil}
 use Rattle.esm_model.specs.declared.item.Message.{Message}
 use Rattle.esm_model.specs.declared.lane.LaneId.{LaneId}
@@ -15,14 +15,7 @@ use Rattle.esm_queue_core.proofs.ToldMessages.{messages-append}
 use Rattle.esm_qbook.specs.Books.{BookState}
 use Rattle.esm_qbook.specs.Calls.{Added}
 use Rattle.esm_qbook.specs.Keeping.{IsSound}
-
-abbrev pub IsOther : Entry → Type 0
-IsOther (Came shard first count moment) = ⊥
-IsOther _ = ⊤
-
-abbrev pub AreOthers : List Entry → Type 0
-AreOthers [] = ⊤
-AreOthers (e ∷ es) = IsOther e × AreOthers es
+use Rattle.esm_pool.proofs.Kept.{IsOther, AreOthers}
 
 pub others_front : (front rest : List Entry) → AreOthers (front ++ rest) → AreOthers front
 others_front [] rest all = tt

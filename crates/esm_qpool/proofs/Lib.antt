@@ -4,10 +4,10 @@ pub mod Ends
 pub mod Kept
 pub mod Asking
 pub mod Stops
-pub mod Seats
 pub mod Owners
 pub mod Setups
 pub mod Arriving
+pub mod Later
 pub mod Handing
 pub mod Incoming
 pub mod Turning

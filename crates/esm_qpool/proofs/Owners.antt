@@ -15,7 +15,7 @@ use Rattle.esm_model.proofs.TellingFacts.{entries-append}
 use Rattle.esm_queue_model.specs.QueueBooks.{messages_with, messages_told, queue_seat, queue_author}
 use Rattle.esm_queue_core.proofs.ToldMessages.{messages-append}
 use Rattle.esm_qpool.specs.Taking.{AreReaders}
-use Rattle.esm_qpool.proofs.Seats.{none_first}
+use Rattle.esm_pool.proofs.Seats.{none_first}
 
 -- an entry of a lane has no messages, and is not the end
 
@@ -59,10 +59,6 @@ neither : (a b : Bool) → a ≡ false → b ≡ false → (a || b) ≡ false
 neither true b p q = absurd (cc)
 neither false b p q = q
 
-either_last : (a b : Bool) → b ≡ true → (a || b) ≡ true
-either_last true b q = refl
-either_last false b q = q
-
 pub none_shut : (setup : Setup) (h es : List Told) → entries_after (queue_author setup) 0 h es ≡ [] → is_shut (entries_told es) ≡ false
 none_shut setup h [] none = refl
 none_shut setup h (t ∷ es) none =
@@ -70,16 +66,13 @@ none_shut setup h (t ∷ es) none =
     let lane = has_lane setup h t (lane_of_entry t.entry) refl parts.0 in
     shut_both (t ∷ []) es ∙ neither (is_shut (entries_told es)) (is_shut (entries_told (t ∷ []))) (none_shut setup (h ++ t ∷ []) es parts.1) (neither (is_shut_entry t.entry) false (lane_shut t.entry lane.0 lane.1) refl)
 
--- a history that goes on by others' entries tells the same messages, and has ended where it had
+-- a history that goes on by others' entries tells the same messages, and is open where it was
 
 pub same_messages : (setup : Setup) (seen rest : List Told) → entries_after (queue_author setup) 0 seen rest ≡ [] → messages_told (seen ++ rest) ≡ messages_told seen
 same_messages setup seen rest none = messages-append seen rest ∙ ap (λ l. messages_told seen ++ l) (none_came setup seen rest none) ∙ append-nil (messages_told seen)
 
 pub still_open : (setup : Setup) (seen rest : List Told) → entries_after (queue_author setup) 0 seen rest ≡ [] → is_shut (entries_told seen) ≡ false → is_shut (entries_told (seen ++ rest)) ≡ false
 still_open setup seen rest none open' = shut_both seen rest ∙ neither (is_shut (entries_told rest)) (is_shut (entries_told seen)) (none_shut setup seen rest none) open'
-
-pub still_shut : (seen rest : List Told) → is_shut (entries_told seen) ≡ true → is_shut (entries_told (seen ++ rest)) ≡ true
-still_shut seen rest shut = shut_both seen rest ∙ either_last (is_shut (entries_told rest)) (is_shut (entries_told seen)) shut
 
 -- the reader's entries are those without a lane
 pub readers_own : (setup : Setup) (h es : List Told) → AreReaders es → AllBy (queue_author setup) 0 h es

@@ -1,6 +1,6 @@
 -- A whole run: what the threads left, and the batchers that were asked then.
-use Rattle.std.proofs.Common.{◌≡◌, ℕ, ◌<◌, ◌≤◌, Bool, false, List, [], ◌++◌, refl, sym, ap, ◌∙◌, subst, inl, Option, Some, None, Result, Ok, Err}
-use Rattle.std.specs.Prelude.{slice_index_or, IsSome, OnOk, OnErr, IfOk}
+use Rattle.std.proofs.Common.{◌≡◌, ℕ, ◌<◌, ◌≤◌, Bool, false, List, [], ◌++◌, refl, sym, ap, ◌∙◌, subst, inl, Option, Some, None}
+use Rattle.std.specs.Prelude.{slice_index_or, IsSome}
 use Rattle.std.proofs.lemmas.List.{append-nil}
 use Rattle.esm_io.specs.Told.{Grows, TakesFront}
 use Rattle.esm_model.specs.declared.config.Start.{Start}
@@ -76,7 +76,7 @@ stopped_asked o count v w x old mid new number run stopped = record {
 -- nothing was asked
 pub stopped_none : {D F : Type 0} (o : Outside F) (count : ℕ) (v : BookState D) (xs : List F) → AreStopped o count v v xs xs
 stopped_none o count v xs = record {
-  asked = record { setting = refl; found = refl; moments = λ given. given; shut = refl };
+  asked = record { setting = refl; found = refl; moments = λ given. given; shut = refl; later = λ shut first. first };
   as_many = refl;
   logs = λ k d within first grows. inl grows;
   untouched = λ k d past. refl;
@@ -146,20 +146,6 @@ cut_asked o faults left count v w x i j kept old mid new short long was stopped 
   taken = subst (TakesFront (left j.found) (left j.source)) (sym (append-nil j.bytes)) (was.read long).taken;
   came = some_still w x (messages_in_items (handed j)) stopped.asked.setting (was.some long);
 }
-
--- what was answered
-
-pub on_ok : {A E : Type 0} (r : Result A E) (P Q : Type 0) → (P → Q) → OnOk r P → OnOk r Q
-on_ok (Ok a) P Q step holds = step holds
-on_ok (Err e) P Q step holds = tt
-
-pub on_err : {A E : Type 0} (r : Result A E) (P Q : Type 0) → (P → Q) → OnErr r P → OnErr r Q
-on_err (Ok a) P Q step holds = tt
-on_err (Err e) P Q step holds = step holds
-
-pub if_ok : {A E : Type 0} (r : Result A E) (P : Type 0) (Q R : A → Type 0) → ((a : A) → P → Q a → R a) → OnOk r P → IfOk r Q → IfOk r R
-if_ok (Ok a) P Q R step first second = step a first second
-if_ok (Err e) P Q R step first second = tt
 
 -- how it ended
 pub ended_so : {D : Type 0} (count : ℕ) (w x : BookState D) (kept : Option Change) (end : RunEnd) → 0 < count → IsSound x → EndsWith count w x kept end → EndsSo x end

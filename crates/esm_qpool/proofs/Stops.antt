@@ -12,7 +12,7 @@ use Rattle.esm_model.specs.declared.book.Next.{Next}
 use Rattle.esm_model.specs.declared.book.Next.TheVariants as next
 use Rattle.esm_model.specs.declared.entry.Entry.{Entry}
 use Rattle.esm_model.specs.declared.entry.Entry.TheVariants.{Began}
-use Rattle.esm_model.specs.Entries.{is_running, is_shut}
+use Rattle.esm_model.specs.Entries.{is_running, is_shut, CallsFollowShut}
 use Rattle.esm_model.proofs.Steps.{running_began}
 use Rattle.esm_queue_model.specs.QueueSetting.{QueueSetting}
 use Rattle.esm_queue_model.specs.QueueEntries.{queue_lane}
@@ -25,10 +25,11 @@ use Rattle.esm_pool.specs.Given.{AreGiven}
 use Rattle.esm_batchers.specs.Working.{Outside}
 use Rattle.esm_pool.specs.Stopping.{MayHaveCalled}
 use Rattle.esm_pool.proofs.Moments.{moment_given}
+use Rattle.esm_pool.proofs.Asking.{not_same, get_default}
 use Rattle.esm_qpool.specs.Running.{IsStill, HaveAsked}
 use Rattle.esm_qpool.specs.Stopping.{HasLogged, IsStoppedAt, AreStopped}
 use Rattle.esm_qpool.proofs.Calling.{IsCallOf, job_is}
-use Rattle.esm_qpool.proofs.Asking.{grows_then, event_began, get_default, not_same, asked_then, is_past}
+use Rattle.esm_qpool.proofs.Asking.{grows_then, event_began, asked_then, is_past}
 
 -- the call began, and its end was not noted
 pub stopped_call : {D : Type 0} (d : DiskMeaning D) (gave : ℕ → Bool) (sends : List ℕ → List ℕ) (k t : ℕ) (name : List ℕ) (job : Job) (v0 v1 v2 : BookState D) (old new : Option (List Called))
@@ -48,6 +49,7 @@ stopped_call d gave sends k t name job v0 v1 v2 old new gave_t answer all name_i
         found = still.opened.found ∙ all.added.found;
         moments = λ given. subst (AreGiven gave) (sym past) (given, moment_given gave v0.core.past t gave_t);
         shut = ap is_shut past;
+        later = λ shut first. subst CallsFollowShut (sym past) ((λ begins. shut), first);
       };
       others = λ j other. ap (λ p. queue_calls s sends p j) past;
       mine = λ first grows. subst (λ p. HasLogged sends s p k first new) (sym past) (elim made [

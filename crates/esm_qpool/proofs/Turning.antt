@@ -1,6 +1,6 @@
 -- The reader's seat, after it took the turn, worked on the book and gave it back.
 use Rattle.std.proofs.Common.{◌≡◌, ◌+◌, ◌≤◌, ℕ, Bool, true, false, List, [], ◌++◌, length, refl, sym, ap, ◌∙◌, subst, Some, None, Result, Ok, Err, OnOk, IfErr}
-use Rattle.std.specs.Prelude.{All, slice_get, IsErrAnd}
+use Rattle.std.specs.Prelude.{All, slice_get}
 use Rattle.std.specs.Coded.{Coded}
 use mathlib.Core.List.{IsPrefix}
 use Rattle.esm_model.specs.declared.config.Config.{Config}
@@ -19,7 +19,7 @@ use Rattle.esm_qbook.specs.Keeping.{IsSetupOf}
 use Rattle.esm_qpool.specs.declared.coming.Stop.{Stop}
 use Rattle.esm_qpool.specs.declared.coming.Stop.TheVariants.{Down, OutOfMemory}
 use Rattle.esm_qpool.specs.Taking.{IsBrought, AreAdded, SomeAdded, IsStopFor}
-use Rattle.esm_qpool.proofs.Seats.{added_is, may_rest, others_since, IsAfter, seated_after}
+use Rattle.esm_pool.proofs.Seats.{added_is, may_rest, others_since, IsAfter, seated_after}
 use Rattle.esm_qpool.proofs.Owners.{same_messages, still_open, none_came, none_shut, readers_own}
 use Rattle.esm_qpool.proofs.Setups.{setup_kept, is_setup}
 use Rattle.esm_qpool.proofs.Arriving.{past_is}
@@ -146,12 +146,6 @@ added_if a b x y list (Err e) first second are = tt
 pub stop_if : (a x list : List Message) (marked mark : Bool) (r : Result (Unit {0}) Stop) → a ≡ x → mark ≡ marked → IfErr r (IsStopFor x list marked) → IfErr r (IsStopFor a list mark)
 stop_if a x list marked mark (Ok u) first is stop = tt
 stop_if a x list marked mark (Err e) first is stop = stop_as a x list marked mark e first is stop
-
--- what is answered
-
-pub err_as : {E : Type 0} (r : Result (Unit {0}) E) (x : E) (P : E → Type 0) → IsErrAnd r (λ e. e ≡ x) → P x → IfErr r P
-err_as (Ok u) x P is holds = tt
-err_as (Err e) x P is holds = subst P (sym is) holds
 
 -- a seat that added nothing yet has seen nothing of the reader's
 

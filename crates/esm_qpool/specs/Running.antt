@@ -8,7 +8,7 @@ use Rattle.esm_model.specs.declared.entry.Fate.TheVariants.{Succeeded}
 use Rattle.esm_model.specs.declared.entry.Entry.{Entry}
 use Rattle.esm_model.specs.declared.entry.Entry.TheVariants.{Ended}
 use Rattle.esm_model.specs.declared.entry.Reply.{Reply}
-use Rattle.esm_model.specs.Entries.{is_shut}
+use Rattle.esm_model.specs.Entries.{is_shut, CallsFollowShut}
 use Rattle.esm_queue_model.specs.QueueBatch.{queue_calls}
 use Rattle.esm_queue_core.specs.CoreView.{moment_for}
 use Rattle.esm_queue_core.specs.Coming.{gave_entries}
@@ -48,6 +48,8 @@ pub record IsAsked {D : Type 0} (gave : ℕ → Bool) (before after : BookState 
   pub found : after.found ≡ before.found
   pub moments : AreGiven gave before.core.past → AreGiven gave after.core.past
   pub shut : is_shut after.core.past ≡ is_shut before.core.past
+  -- where the input has ended, its calls begin after that
+  pub later : is_shut before.core.past ≡ true → CallsFollowShut before.core.past → CallsFollowShut after.core.past
 
 -- batcher k was asked, and its caller's log goes from the one to the other; no call is without its end
 pub record HasAsked {D : Type 0} (gave : ℕ → Bool) (sends : List ℕ → List ℕ) (k : ℕ) (before after : BookState D) (old new : Option (List Called)) : Type 0 where

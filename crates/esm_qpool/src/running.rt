@@ -1,6 +1,7 @@
 // A run of a queue's book, its reader and its batchers as threads.
 ghost use Rattle.std.specs.Prelude.{◌≡◌, ◌≤◌, [], None, true, false, length, IfOk, OnOk, OnErr, IfErr, IsSome};
 ghost use Rattle.esm_model.specs.declared.limits.TheConstants.{MAX_LANES};
+ghost use Rattle.esm_model.specs.Entries.{is_shut, CallsFollowShut};
 ghost use Rattle.esm_model.specs.QueueEvent.{IsQueueConfig};
 ghost use Rattle.esm_record.specs.declared.item.LineKind.{LineKind};
 ghost use Rattle.esm_input.specs.Reading.{IsInput};
@@ -74,6 +75,7 @@ fn work<
     requires input { IsUnread book.core.setting.config.kind reader.input reader.changed }
     requires callers { length callers.items ≡ MAX_LANES }
     ensures left { IfOk result (λ left. IsLeft (outside C.gave F.sends F.log) S.faults S.left book left.book reader.input left.reader.input left.reader.changed callers.items left.callers.items left.short) }
+    ensures later { IfOk result (λ left. read_first ≡ true → CallsFollowShut left.book.core.past) }
     ensures back { IfErr result (λ refused. refused.back ≡ (book, reader, callers)) }
 {
     match run_hands(
@@ -149,6 +151,7 @@ fn finish<R: Wait, C: Clock, F: Caller, D: Disk>(
     ensures asked { OnOk result (HaveAsked (outside C.gave F.sends F.log) batchers book.old book.new callers.old.items callers.new.items) }
     ensures stopped { OnErr result (AreStopped (outside C.gave F.sends F.log) batchers book.old book.new callers.old.items callers.new.items) }
     ensures ended { IfOk result (EndsWith batchers book.old book.new kept) }
+    ensures later { (book.old.trouble ≡ None → is_shut book.old.core.past ≡ true) → CallsFollowShut book.old.core.past → CallsFollowShut book.new.core.past }
 {
     match standing_of(book, &kept) {
         Standing::Up => match run_rounds(rt, alloc, book, name, batchers, callers, clock) {
@@ -200,6 +203,7 @@ pub fn run_queue<
     ensures good { OnOk result.end (result.input.failed ≡ false) }
     ensures stopped { OnErr result.end (HasStopped (outside C.gave F.sends F.log) book result.book callers.items result.callers.items) }
     ensures cut { OnErr result.end (IsCutInput S.left result.input result.book) }
+    ensures later { read_first ≡ true → CallsFollowShut result.book.core.past }
     ensures input { (result.input.kind ≡ input.kind) × (result.input.factor ≡ input.factor) × (result.input.start ≡ input.start) × (result.input.found ≡ input.found) }
 {
     let reader = Reader {

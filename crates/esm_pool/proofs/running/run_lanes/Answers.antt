@@ -1,4 +1,6 @@
-use Rattle.std.proofs.Common.{◌≡◌, rules}
+use Rattle.std.proofs.Common.{◌≡◌, sym, ap, ◌∙◌, subst, rules}
+use Rattle.esm_model.specs.Entries.{CallsFollowShut}
+use Rattle.esm_sbook.specs.Books.{BookState}
 use Rattle.esm_batchers.specs.Working.{outside}
 use Rattle.esm_pool.specs.Running.{HaveAsked}
 use Rattle.esm_pool.specs.Stopping.{AreStopped}
@@ -55,6 +57,17 @@ returns-else-short-clause-ended g c =
     (λ end asked ended. ended_so o g.S.Source.faults g.S.Source.left c.args.book left.book c.finish-end.new.book c.args.input left.reader.input left.reader.changed c.args.callers.items left.callers.items c.finish-end.new.callers.items left.short end c.if-short.false
     c.handed_is_within.ensures c.requires.config c.requires.factor c.know.ensures c.in-Ok.ensures.left asked ended)
     c.finish-end.ensures.asked c.finish-end.ensures.ended
+
+pub returns-then-short-clause-later : goal.returns-then-short-clause-later
+returns-then-short-clause-later g c = c.in-Ok.ensures.later
+
+pub returns-else-short-clause-later : goal.returns-else-short-clause-later
+returns-else-short-clause-later g c = λ first. c.finish-end.ensures.later (λ up. (c.in-Ok.ensures.left.all c.if-short.false up).shut) (c.in-Ok.ensures.later first)
+
+pub returns-in-Err-clause-later : goal.returns-in-Err-clause-later
+returns-in-Err-clause-later g c = λ first.
+    let book : c.in-Err.refused.back.0 ≡ c.args.book = search rules in
+    subst CallsFollowShut (sym (ap (λ (b : BookState g.row.D.Denot g.row.T.Denot). b.core.past) book ∙ c.requires.new)) tt
 
 pub returns-in-Err-clause-stopped : goal.returns-in-Err-clause-stopped
 returns-in-Err-clause-stopped g c =

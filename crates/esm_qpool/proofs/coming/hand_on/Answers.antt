@@ -3,7 +3,7 @@ use Rattle.esm_queue_model.specs.QueueBooks.{messages_told}
 use Rattle.esm_qpool.specs.Coming.{messages_in_items}
 use Rattle.esm_qpool.specs.Taking.{IsStopFor}
 use Rattle.esm_qpool.proofs.Handing.{handing_item, handing_push, handing_note, handing_on, handing_within, handing_some, handing_so, handing_stop, handing_stop_if}
-use Rattle.esm_qpool.proofs.Turning.{err_as}
+use Rattle.esm_pool.proofs.Turning.{err_as}
 use Rattle.esm_qpool.proofs.coming.hand_on.Goals as goal
 
 pub message_of-requires : goal.message_of-requires

@@ -6,7 +6,8 @@ use Rattle.esm_input.specs.Reading.{handed, InputState}
 use Rattle.esm_qpool.proofs.Incoming.{come_none, come_more, come_some, come_stop, few_come, cut_coming, cut_reading}
 use Rattle.esm_qpool.specs.declared.coming.Stop.TheVariants as stop
 use Rattle.esm_qpool.specs.Readings.{IsStopOf}
-use Rattle.esm_qpool.proofs.Turning.{unused_none, unused_open, err_as}
+use Rattle.esm_pool.proofs.Turning.{err_as}
+use Rattle.esm_qpool.proofs.Turning.{unused_none, unused_open}
 use Rattle.esm_qpool.proofs.reader.read_on.Goals as goal
 
 pub loop-init : goal.loop-init

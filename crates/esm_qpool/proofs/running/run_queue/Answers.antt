@@ -1,13 +1,15 @@
 use Rattle.std.proofs.Common.{◌≡◌, length, refl, ap, arith}
 use Rattle.esm_batchers.specs.Working.{outside}
 use Rattle.esm_queue_model.specs.QueueSetting.{is_fifo}
+use Rattle.esm_pool.proofs.Runs.{on_ok, on_err, if_ok}
 use Rattle.esm_qpool.specs.declared.reader.Reader.{Reader}
 use Rattle.esm_qpool.specs.Running.{HaveAsked}
 use Rattle.esm_qpool.specs.Stopping.{AreStopped}
 use Rattle.esm_qpool.specs.Ran.{HasRun, HasStopped, EndsSo, CameSo, IsCutInput}
 use Rattle.esm_qpool.specs.Left.{EndsWith}
 use Rattle.esm_qpool.proofs.Numbers.{some_batcher, few_batchers}
-use Rattle.esm_qpool.proofs.Runs.{run_asked, stopped_asked, came_so, cut_asked, ended_so, on_ok, on_err, if_ok, unread, back_of, stopped_back, cut_back}
+use Rattle.esm_qpool.proofs.Later.{none_later}
+use Rattle.esm_qpool.proofs.Runs.{run_asked, stopped_asked, came_so, cut_asked, ended_so, unread, back_of, stopped_back, cut_back}
 use Rattle.esm_qpool.proofs.running.run_queue.Goals as goal
 
 pub work-requires-clause-input : goal.work-requires-clause-input
@@ -59,6 +61,10 @@ returns-else-short-clause-stopped g c =
     (stopped_asked o c.args.batchers c.args.book c.in-Ok.left.book c.finish-end.new.book c.args.callers.items c.in-Ok.left.callers.items c.finish-end.new.callers.items c.requires.batchers (c.in-Ok.ensures.left.run c.if-short.false))
     c.finish-end.ensures.stopped
 
+pub returns-else-short-clause-later : goal.returns-else-short-clause-later
+returns-else-short-clause-later g c = λ first.
+    c.finish-end.ensures.later (λ up. (c.in-Ok.ensures.left.all c.if-short.false up).shut) (c.in-Ok.ensures.later first)
+
 pub returns-else-short-clause-cut : goal.returns-else-short-clause-cut
 returns-else-short-clause-cut g c =
     let o = outside g.C.Clock.gave g.F.Caller.sends g.F.Caller.log in
@@ -71,6 +77,11 @@ pub returns-in-Err-clause-stopped : goal.returns-in-Err-clause-stopped
 returns-in-Err-clause-stopped g c =
     let back = back_of c.in-Err.refused.back _ _ _ c.in-Err.ensures.back in
     stopped_back (outside g.C.Clock.gave g.F.Caller.sends g.F.Caller.log) c.args.book c.in-Err.refused.back.0 c.args.callers.items c.in-Err.refused.back.2.items back.0 (let e = back.2 in cc) c.requires.new
+
+pub returns-in-Err-clause-later : goal.returns-in-Err-clause-later
+returns-in-Err-clause-later g c = λ first.
+    let back = back_of c.in-Err.refused.back _ _ _ c.in-Err.ensures.back in
+    none_later c.args.book c.in-Err.refused.back.0 back.0 c.requires.new
 
 pub returns-in-Err-clause-cut : goal.returns-in-Err-clause-cut
 returns-in-Err-clause-cut g c =

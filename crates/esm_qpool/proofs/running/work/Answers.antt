@@ -1,8 +1,10 @@
 use denote.Param.Send.{sendable}
 use Rattle.esm_batchers.specs.Working.{outside}
+use Rattle.esm_qbook.specs.Books.{setup_of}
 use Rattle.esm_qbook.proofs.Sent.{book_send}
 use Rattle.esm_qpool.proofs.Numbers.{few_batchers}
 use Rattle.esm_qpool.proofs.Closed.{left_so, told_new}
+use Rattle.esm_qpool.proofs.Later.{calls_later}
 use Rattle.esm_qpool.proofs.Sent.{reader_send}
 use Rattle.esm_qpool.proofs.running.work.Goals as goal
 
@@ -22,3 +24,6 @@ pub returns-in-Ok-clause-left : goal.returns-in-Ok-clause-left
 returns-in-Ok-clause-left g c =
     left_so g.row.D.coded (outside g.C.Clock.gave g.F.Caller.sends g.F.Caller.log) g.S.Source.faults g.S.Source.left c.args.book c.in-Ok.left.book c.args.reader.input c.in-Ok.left.reader.input c.in-Ok.left.reader.changed c.args.batchers
     c.args.callers.items c.in-Ok.left.callers.items c.in-Ok.left.short c.requires.batchers c.know.ensures c.in-Ok.ensures.setup c.in-Ok.ensures.moments c.in-Ok.ensures.read c.in-Ok.ensures.called
+
+pub returns-in-Ok-clause-later : goal.returns-in-Ok-clause-later
+returns-in-Ok-clause-later g c = λ first. calls_later (setup_of g.row.D.coded c.args.book) c.in-Ok.left.book (c.in-Ok.ensures.later first)
