@@ -1,6 +1,7 @@
 -- The headline, from what is left of a run.
-use Rattle.std.proofs.Common.{◌≡◌, ◌∙◌, ℕ, Bool, true, false, List, ◌++◌, Option, Some, None, ap, ap₂, refl, subst, sym}
+use Rattle.std.proofs.Common.{◌≡◌, ◌∙◌, ℕ, Bool, true, false, List, [], ◌∷◌, ◌++◌, Option, Some, None, ap, ap₂, append_assoc, arith, refl, subst, sym}
 use Rattle.std.specs.Prelude.{reverse, if◌then◌else◌}
+use Rattle.std.proofs.lemmas.Bool.{eq-eqb}
 use Rattle.std.proofs.lemmas.List.Elements.{filter_map-append}
 use Rattle.esm_io.specs.Faults.{Rose}
 use Rattle.esm_io.specs.Meanings.{DiskMeaning}
@@ -8,13 +9,14 @@ use Rattle.esm_journal.specs.Pair.{PairState, first_disk, second_disk}
 use Rattle.esm_journal.specs.Reads.{IsOnlyRead}
 use Rattle.esm_model.specs.declared.book.Trouble.{Trouble}
 use Rattle.esm_model.specs.declared.book.Trouble.TheVariants.{Disk, Dest, Changed}
-use Rattle.esm_model.specs.declared.entry.Entry.{Entry}
+use Rattle.esm_model.specs.declared.called.Called.{Called}
 use Rattle.esm_model.specs.declared.item.Message.{Message}
+use Rattle.esm_model.specs.declared.entry.Entry.{Entry}
+use Rattle.esm_model.specs.declared.entry.Entry.TheVariants.{Ended}
 use Rattle.esm_book.specs.State.{in_hand, is_disk}
 use Rattle.esm_payload.specs.EntryPayload.{queue_payload}
-use Rattle.esm_queue_model.specs.HistoryLaws.{DeletedOnce, EveryMessageCounted, OrderPerGroup}
-use Rattle.esm_queue_model.specs.QueueSetting.{ExtendsMessages, QueueSetting, over_messages}
-use Rattle.esm_queue_model.specs.QueueStep.{LegalQueue}
+use Rattle.esm_queue_model.specs.QueueBatch.{last_queue_event, queue_calls, queue_calls_since}
+use Rattle.esm_queue_model.specs.QueueSetting.{QueueSetting}
 use Rattle.esm_queue_core.specs.CoreView.{all_messages}
 use Rattle.esm_upkeep.specs.Upkeep.{AreHonest, OneRose, PairHolds}
 use Rattle.esm_upkeep.proofs.Disks.{are_honest, pair_holds}
@@ -22,18 +24,13 @@ use Rattle.esm_qbook.specs.Books.{BookState, OpensToFirst, payloads_in}
 use Rattle.esm_qbook.specs.Keeping.{entries_left}
 use Rattle.esm_pool.specs.Given.{AreGiven}
 use Rattle.esm_stream.specs.Files.{FilesState}
-use Rattle.esm_stream.specs.Headline.{Devices, Telling}
+use Rattle.esm_stream.specs.Headline.{Devices, PairStopped, Telling}
 use Rattle.esm_stream.proofs.Headlines.{in_hand_few, not_disk, used_rose}
-use Rattle.esm_queue_run.specs.Headline.{CrashKept, Headline, IsInHand, JournalKept}
+use Rattle.esm_stream.proofs.Stopped.{HasGoneDown, filter_map_few, pair_stopped}
+use Rattle.esm_queue_run.specs.Headline.{CrashKept, Headline, IsInHand, JournalKept, JournalStopped, RepliesAreLogged}
+use Rattle.esm_queue_run.specs.Laws.{AreLaws}
 use Rattle.esm_queue_run.specs.Runs.{IsLeft}
 use Rattle.esm_queue_run.proofs.Earned.{only_earned}
-
--- the laws of histories
-pub record AreLaws : Type 0 where
-  pub once : (s : QueueSetting) (h : List Entry) → LegalQueue s h → DeletedOnce s h
-  pub order : (s : QueueSetting) (h : List Entry) → LegalQueue s h → OrderPerGroup s h
-  pub counted : (s : QueueSetting) (h : List Entry) → LegalQueue s h → EveryMessageCounted s h
-  pub more : (s : QueueSetting) (h : List Entry) (after : List Message) → ExtendsMessages s.messages after → LegalQueue s h → LegalQueue (over_messages s after) h
 
 -- the devices are those of the book, and the failure file is as it was opened
 pub record AreOf {D F : Type 0} (f : FilesState D) (b : BookState D) (new : Devices D F) : Type 0 where
@@ -66,14 +63,16 @@ honest_found {D} m f b left honest =
     let spare : m.honest b.found.spare ≡ true = subst (λ (p : PairState D). m.honest p.spare ≡ true) (sym left.found) was.1 in
     (left.journal.honesty ∙ used, subst (λ (d : D). m.honest d ≡ true) (sym left.journal.spare) spare)
 
+all_payloads : {D : Type 0} (m : DiskMeaning D) (f : FilesState D) (b : BookState D) → IsLeft m f b → b.pair.payloads ≡ f.pair.payloads ++ payloads_in b.core.setting.messages (reverse b.core.past)
+all_payloads {D} m f b left = left.journal.payloads ∙ ap₂ (λ (xs ys : List (List ℕ)). xs ++ ys) (ap (λ (p : PairState D). p.payloads) left.found) left.stays
+
 holds_all : {D : Type 0} (m : DiskMeaning D) (f : FilesState D) (b : BookState D) → IsLeft m f b → is_disk b.trouble ≡ false → AreHonest m f.journal f.spare
     → PairHolds m f.pair.epoch (f.pair.payloads ++ payloads_in b.core.setting.messages (reverse b.core.past)) (first_disk b.pair) (second_disk b.pair)
 holds_all {D} m f b left up honest =
     let both = honest_found m f b left honest in
     let now : PairHolds m b.pair.epoch b.pair.payloads (first_disk b.pair) (second_disk b.pair) =
     pair_holds m b.pair.epoch b.pair.payloads b.pair.swapped b.pair.used b.pair.spare (left.pair_kept both.0 both.1 (left.journal.down ∙ up)) in
-    let payloads : b.pair.payloads ≡ f.pair.payloads ++ payloads_in b.core.setting.messages (reverse b.core.past) =
-    left.journal.payloads ∙ ap₂ (λ (xs ys : List (List ℕ)). xs ++ ys) (ap (λ (p : PairState D). p.payloads) left.found) left.stays in
+    let payloads = all_payloads m f b left in
     let epoch : b.pair.epoch ≡ f.pair.epoch = left.journal.epoch ∙ ap (λ (p : PairState D). p.epoch) left.found in
     subst (λ (n : ℕ). PairHolds m n (f.pair.payloads ++ payloads_in b.core.setting.messages (reverse b.core.past)) (first_disk b.pair) (second_disk b.pair)) epoch
     (subst (λ (list : List (List ℕ)). PairHolds m b.pair.epoch list (first_disk b.pair) (second_disk b.pair)) payloads now)
@@ -103,6 +102,61 @@ crash_kept {D} t f b new left of honest settled one other since other_since =
     (subst (λ (d : D). t.disk.since d (t.disk.moment f.journal) one) of.journal since)
     (subst (λ (d : D). t.disk.since d (t.disk.moment f.spare) other) of.spare other_since))
 
+-- a disk that failed
+
+parts_left : (messages : List Message) (front rest : List (List ℕ)) (es hand : List Entry) → front ++ rest ≡ payloads_in messages (es ++ hand) → front ++ rest ≡ payloads_in messages es ++ payloads_in messages hand
+parts_left messages front rest es hand split = split ∙ filter_map-append (queue_payload messages) es hand
+
+gone_down : {D : Type 0} (m : DiskMeaning D) (f : FilesState D) (b : BookState D) → IsLeft m f b → b.trouble ≡ Some Disk
+    → HasGoneDown m f b.pair (payloads_in b.core.setting.messages (reverse b.core.past)) (payloads_in b.core.setting.messages (in_hand b.trouble b.core.owed))
+gone_down {D} m f b left disk =
+    let messages = b.core.setting.messages in
+    let hand = in_hand b.trouble b.core.owed in
+    let few = filter_map_few (queue_payload messages) hand in
+    let fewer = in_hand_few b.trouble b.core.owed in
+    record {
+      honest = honest_found m f b left;
+      honest_first = are_honest m f.pair.swapped f.journal f.spare f.pair.used f.pair.spare left.files.read;
+      down = left.journal.down ∙ ap is_disk disk;
+      epoch = left.journal.epoch ∙ ap (λ (p : PairState D). p.epoch) left.found;
+      swapped = left.journal.swapped ∙ ap (λ (p : PairState D). p.swapped) left.found;
+      payloads = all_payloads m f b left;
+      few = omega (arith, few, fewer);
+      still = left.pair_stopped;
+      leaves = λ used spare one other since other_since.
+          let o = opens_first m f b one other left
+          (left.opened_since disk (subst (λ (p : PairState D). m.honest p.used ≡ true) (sym left.found) used) (subst (λ (p : PairState D). m.honest p.spare ≡ true) (sym left.found) spare) one other
+          (subst (λ (p : PairState D). m.since b.pair.used (m.moment p.used) one) (sym left.found) since)
+          (subst (λ (p : PairState D). m.since b.pair.spare (m.moment p.spare) other) (sym left.found) other_since)) in
+          record { front = o.front; rest = o.rest; split = parts_left messages o.front o.rest (reverse b.core.past) hand o.split; opens = o.opens };
+    }
+
+journal_stopped : {D F : Type 0} (t : Telling D F) (f : FilesState D) (b : BookState D) (new : Devices D F) → IsLeft t.disk f b → AreOf f b new
+    → b.trouble ≡ Some Disk → JournalStopped t f b.core.setting b.core.past (in_hand b.trouble b.core.owed) new
+journal_stopped {D} t f b new left of disk =
+    let messages = b.core.setting.messages in
+    let hand = in_hand b.trouble b.core.owed in
+    let kept = payloads_in messages (reverse b.core.past) in
+    subst (λ (more : List (List ℕ)). PairStopped t.disk f kept more new.journal new.spare) (sym (filter_map-append (queue_payload messages) (reverse b.core.past) hand))
+    (pair_stopped t.disk f b.pair kept (payloads_in messages hand) new.journal new.spare (gone_down t.disk f b left disk) of.journal of.spare)
+
+-- the replies
+
+replies_logged : {D F : Type 0} (t : Telling D F) (s : QueueSetting) (h : List Entry) → AreLaws → RepliesAreLogged t s h
+replies_logged t s h laws later before lane reply m split =
+    let sends = t.callers.sends in
+    let made : Called = record { name = s.config.function; event = sends (last_queue_event s before lane); reply = reply } in
+    let ended = Ended lane reply m ∷ before in
+    let since = queue_calls_since s sends later ended lane.lane in
+    let here : queue_calls s sends ended lane.lane ≡ queue_calls s sends before lane.lane ++ made ∷ [] = rw (eq-eqb lane.lane lane.lane refl) refl in (
+      queue_calls s sends before lane.lane,
+      since,
+      ap (λ (g : List Entry). queue_calls s sends g lane.lane) split
+          ∙ (laws.calls s sends later ended lane.lane
+          ∙ (ap (λ (cs : List Called). cs ++ since) here
+          ∙ append_assoc (queue_calls s sends before lane.lane) (made ∷ []) since)),
+    )
+
 -- all of it
 pub headline : {D F : Type 0} (t : Telling D F) (f : FilesState D) (b : BookState D) (new : Devices D F) → AreLaws → IsLeft t.disk f b → AreOf f b new → AreGiven t.callers.gave b.core.past
     → Headline t f b.core.setting b.core.past b.trouble (in_hand b.trouble b.core.owed) new
@@ -111,11 +165,13 @@ headline {D} t f b new laws left of given = record {
   messages_came = left.came;
   moments = given;
   journal_kept = journal_kept t f b new left of;
+  journal_stopped = journal_stopped t f b new left of;
   in_hand = is_in_hand b.trouble b.core.owed;
   crash = crash_kept t f b new left of;
   failures_same = of.failures;
   failures_read = subst (λ (d : D). IsOnlyRead t.disk f.failures d) (sym of.failures) left.files.lines_read;
   only_earned = only_earned b.core.setting b.core.past left.legal;
+  replies_are_logged = replies_logged t b.core.setting b.core.past laws;
   deleted_once = laws.once b.core.setting b.core.past left.legal;
   order_per_group = laws.order b.core.setting b.core.past left.legal;
   every_message_counted = laws.counted b.core.setting b.core.past left.legal;

@@ -18,7 +18,8 @@ use Rattle.esm_stream.proofs.Unbegun.{grows_by_none, opens_as_found, takes_none}
 use Rattle.esm_book.specs.declared.nowhere.Nowhere.{Nowhere}
 use Rattle.esm_queue_run.specs.Ended.{HasStoppedRun, line_kind}
 use Rattle.esm_queue_run.specs.Runs.{IsLeft, LeavesSince, new_input}
-use Rattle.esm_queue_run.proofs.Headlines.{AreLaws, AreOf, headline}
+use Rattle.esm_queue_run.specs.Laws.{AreLaws}
+use Rattle.esm_queue_run.proofs.Headlines.{AreOf, headline}
 use Rattle.esm_queue_run.proofs.Ways.{stopped}
 
 -- the book that would have been opened
@@ -44,6 +45,8 @@ left_new m config calls visibility f none files = record {
   journal = record { payloads = sym (append-nil f.pair.payloads); down = files.up; found_up = files.up; epoch = refl; swapped = refl; spare = refl; honesty = refl };
   since = leaves_all m config calls visibility f none files;
   pair_kept = files.kept;
+  opened_since = λ disk. absurd (cc);
+  pair_stopped = λ honest other_honest down. absurd (let up = files.up in cc);
   stays = refl;
   hand = refl;
 }

@@ -35,7 +35,8 @@ use Rattle.esm_queue_run.specs.Runs.{EndsBy, HasReason, IsOfQueue, IsEndOf, IsLe
 use Rattle.esm_queue_run.specs.declared.run.QueueEnd.{QueueEnd}
 use Rattle.esm_queue_run.specs.declared.run.QueueEnd.TheVariants as end
 use Rattle.esm_queue_run.proofs.Earned.{all_earned}
-use Rattle.esm_queue_run.proofs.Headlines.{AreLaws, AreOf, disk_rose, headline}
+use Rattle.esm_queue_run.specs.Laws.{AreLaws}
+use Rattle.esm_queue_run.proofs.Headlines.{AreOf, disk_rose, headline}
 
 -- what the book had at its opening
 pub record StoodSo {D : Type 0} (config : Config) (calls visibility : ℕ) (f : FilesState D) (before : BookState D) : Type 0 where

@@ -1,4 +1,5 @@
 pub mod Earned
 pub mod Headline
 pub mod Ended
+pub mod Laws
 pub mod Runs

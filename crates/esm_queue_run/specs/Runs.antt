@@ -4,6 +4,7 @@ use Rattle.esm_io.specs.Images.{Only}
 use Rattle.esm_io.specs.Meanings.{DiskMeaning}
 use Rattle.esm_journal.specs.Pair.{PairState, PairKeepsWhileUp, first_disk, second_disk}
 use Rattle.esm_journal.specs.State.{JournalState}
+use Rattle.esm_journal.specs.Stopped.{PairKeepsWhileDown}
 use Rattle.esm_model.specs.declared.book.Trouble.{Trouble}
 use Rattle.esm_model.specs.declared.book.Trouble.TheVariants as trouble
 use Rattle.esm_model.specs.declared.book.Change.{Change}
@@ -16,7 +17,7 @@ use Rattle.esm_queue_core.specs.CoreView.{all_messages, new_setting, new_view}
 use Rattle.esm_input.specs.declared.ending.InputEnd.{InputEnd}
 use Rattle.esm_input.specs.Reading.{InputState}
 use Rattle.esm_said.specs.SaidLists.{SaidLists}
-use Rattle.esm_qbook.specs.Books.{BookState, OpensToFirst, payloads_in}
+use Rattle.esm_qbook.specs.Books.{BookState, LeavesFirst, OpensToFirst, payloads_in}
 use Rattle.esm_qbook.specs.Keeping.{HasJournal, entries_left}
 use Rattle.esm_qpool.specs.Number.{batchers_in}
 use Rattle.esm_qpool.specs.declared.running.RunEnd.{RunEnd}
@@ -95,6 +96,9 @@ pub record IsLeft {D : Type 0} (m : DiskMeaning D) (f : FilesState D) (b : BookS
   pub journal : HasJournal m b
   pub since : LeavesSince m f b
   pub pair_kept : PairKeepsWhileUp m b.pair
+  -- where a disk failed: what a crash leaves since the opening, and what it leaves now
+  pub opened_since : b.trouble ≡ Some trouble.Disk → LeavesFirst m b.found b.pair (payloads_in (all_messages b.core) (entries_left b))
+  pub pair_stopped : PairKeepsWhileDown m b.pair
   -- no messages are coming that the history or the entry in hand names
   pub stays : payloads_in (all_messages b.core) (reverse b.core.past) ≡ payloads_in b.core.setting.messages (reverse b.core.past)
   pub hand : payloads_in (all_messages b.core) (in_hand b.trouble b.core.owed) ≡ payloads_in b.core.setting.messages (in_hand b.trouble b.core.owed)

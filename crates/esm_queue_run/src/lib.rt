@@ -3,6 +3,7 @@
 //! It composes the book, the input and the batchers by their public contracts.
 #![tactic(auto)]
 
+mod laws;
 mod run;
 
 pub use run::{QueueEnd, QueueRun, run_queue};

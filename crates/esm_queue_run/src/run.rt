@@ -3,7 +3,9 @@ ghost use Rattle.std.specs.Prelude.{◌≡◌, None, Some, Ok, true, false, is_o
 ghost use Rattle.std.specs.Option.{option_copied};
 ghost use Rattle.esm_io.specs.Meanings.{disk as meaning};
 ghost use Rattle.esm_journal.specs.Pair.{PairKeepsWhileUp, first_disk, second_disk};
+ghost use Rattle.esm_journal.specs.Stopped.{PairKeepsWhileDown};
 ghost use Rattle.esm_model.specs.declared.limits.TheConstants.{MAX_LANES};
+ghost use Rattle.esm_model.specs.Entries.{CallsFollowShut};
 ghost use Rattle.esm_model.specs.Pattern.{read_patterns};
 ghost use Rattle.esm_model.specs.QueueEvent.{IsQueueConfig};
 ghost use Rattle.esm_model.specs.Valid.{is_stream};
@@ -19,15 +21,13 @@ ghost use Rattle.esm_stream.specs.Headline.{telling};
 ghost use Rattle.esm_queue_run.specs.Ended.{HasEnded, HasStoppedRun};
 ghost use Rattle.esm_queue_run.specs.Runs.{IsBegun, files_of, HasReason, IsOfQueue, IsEndOf, EndsBy, StopsBy};
 
+use crate::laws::laws_hold;
 use esm_input::{Input, InputEnd};
 use esm_io::{Caller, Clock, Disk, Source};
 use esm_journal::{FileDest, Pair};
 use esm_model::{BookOpen, Change, Config, Entry, Kind, OutOfMemory, Refused, Text, Trouble};
 use esm_qbook::{QueueBook, QueueParts};
 use esm_qpool::{Ran, RunEnd, batchers_of, run_queue as run_batchers};
-use esm_queue_model::history_laws::{
-    deleted_once, every_message_counted, legal_over_more, order_per_group,
-};
 use esm_record::LineKind;
 use esm_said::Says;
 use esm_said::laws::same_told;
@@ -250,6 +250,7 @@ fn run_opened<
         run.book.core.setting.config run.book.core.setting.calls run.book.core.setting.visibility (files_of before.now.journal.value before.now.spare.value before.now.failures.value said run.book dest)
         run.input.source result.input callers.items (reverse result.trace.items)
         (record { journal = result.journal; spare = result.spare; failures = result.failures; callers = result.callers.items })) }
+    ensures read_first { read_first ≡ true → CallsFollowShut (reverse result.trace.items) }
     ensures said { result.said ≡ said }
     ensures as_many { length result.callers.items ≡ MAX_LANES }
 {
@@ -275,10 +276,7 @@ fn run_opened<
         clock,
         read_first,
     );
-    deleted_once();
-    order_per_group();
-    every_message_counted();
-    legal_over_more();
+    laws_hold();
     book.since_before(&before.journal, &before.spare);
     let (source, reading) = input.into_parts();
     let end = end_of(alloc, ran, book.trouble(), reading);
@@ -305,6 +303,7 @@ fn closed<S, F, D: Disk>(
     ensures spare { result.spare ≡ second_disk pair }
     ensures failures { result.failures ≡ dest.disk }
     ensures pair_kept { PairKeepsWhileUp (meaning D.honest D.content D.image D.moment D.image_since D.faults) pair }
+    ensures pair_stopped { PairKeepsWhileDown (meaning D.honest D.content D.image D.moment D.image_since D.faults) pair }
 {
     let _ = pair.payloads();
     let (journal, spare) = pair.into_disks();
@@ -320,9 +319,9 @@ fn closed<S, F, D: Disk>(
     }
 }
 
-/// Runs the mapping, its reader and its batchers as threads; with `read_first` no call begins before the input has ended. A
-/// deletion is written to the journal before it counts. The failure file is left as it was opened, since a queue delivers no lines.
-/// `calls` is how many calls may be made in all, `visibility_ms` the visibility timeout in milliseconds.
+/// Runs the mapping, its reader and its batchers as threads; with `read_first` no call begins before the end of the input was
+/// noted. A deletion is written to the journal before it counts. The failure file is left as it was opened, since a queue
+/// delivers no lines. `calls` is how many calls may be made in all, `visibility_ms` the visibility timeout in milliseconds.
 pub fn run_queue<
     R: Threads + Wait + Sync,
     S: Source + Send,
@@ -350,6 +349,7 @@ pub fn run_queue<
     ensures stopped { OnErr result.end (HasStoppedRun (telling (outside C.gave F.sends F.log) (meaning D.honest D.content D.image D.moment D.image_since D.faults)) S.left
         config calls visibility_ms files input result.input callers.items (reverse result.trace.items)
         (record { journal = result.journal; spare = result.spare; failures = result.failures; callers = result.callers.items })) }
+    ensures read_first { read_first ≡ true → CallsFollowShut (reverse result.trace.items) }
     ensures said { result.said ≡ files.said }
     ensures as_many { length result.callers.items ≡ MAX_LANES }
 {
@@ -366,10 +366,7 @@ pub fn run_queue<
         spare,
         failures,
     };
-    deleted_once();
-    order_per_group();
-    every_message_counted();
-    legal_over_more();
+    laws_hold();
     match begin(alloc, config, calls, visibility_ms, &said, pair, input) {
         Ok(run) => run_opened(
             rt, alloc, run, dest, said, callers, clock, read_first, &before,

@@ -1,7 +1,8 @@
 -- The headline, from what is left of a run.
 use Rattle.std.proofs.Common.{◌≡◌, ◌∙◌, ◌≤◌, ℕ, Bool, true, false, List, [], ◌∷◌, ◌++◌, length, map, take, Option, Some, None, ap, ap₂, arith, inl, inr, refl, subst, sym}
 use Rattle.std.specs.Prelude.{reverse, if◌then◌else◌}
-use Rattle.std.proofs.lemmas.List.{append-nil, map-id}
+use Rattle.std.proofs.lemmas.List.{append-nil, append_assoc, map-id}
+use Rattle.std.proofs.lemmas.List.Elements.{filter_map-append}
 use Rattle.esm_io.specs.Faults.{Rose}
 use Rattle.esm_io.specs.Meanings.{DiskMeaning}
 use Rattle.esm_journal.specs.File.{header_of}
@@ -9,10 +10,13 @@ use Rattle.esm_journal.specs.Pair.{PairOpensTo, PairState, first_disk, second_di
 use Rattle.esm_journal.specs.State.{JournalState, Keeps, KeepsWhileUp, KeepsWhileDown, StillOpens}
 use Rattle.esm_model.specs.declared.book.Trouble.{Trouble}
 use Rattle.esm_model.specs.declared.book.Trouble.TheVariants.{Disk, Dest, Changed}
+use Rattle.esm_model.specs.declared.called.Called.{Called}
 use Rattle.esm_model.specs.declared.entry.Entry.{Entry}
 use Rattle.esm_model.specs.Setting.{Setting}
-use Rattle.esm_model.specs.Laws.{EveryRecordCounted, NoRepeat, OrderPerKey}
-use Rattle.esm_model.specs.Step.{Legal}
+use Rattle.esm_model.specs.Calls.{calls, calls_since, last_event}
+use Rattle.esm_model.specs.Earned.{IsLogged}
+use Rattle.esm_model.specs.Entries.{batcher}
+use Rattle.esm_payload.specs.EntryPayload.{entry_payload}
 use Rattle.esm_book.specs.State.{in_hand, is_dest, is_disk}
 use Rattle.esm_owing.specs.OwingView.{full_setting, lines_of}
 use Rattle.esm_upkeep.specs.Upkeep.{AreHonest, AreOnlyRead, OneRose, PairHolds}
@@ -21,16 +25,11 @@ use Rattle.esm_sbook.specs.Books.{BookState, OpensToFirst, payloads_in}
 use Rattle.esm_sbook.specs.Keeping.{entries_left}
 use Rattle.esm_pool.specs.Given.{AreGiven}
 use Rattle.esm_stream.specs.Files.{FilesState}
-use Rattle.esm_stream.specs.Headline.{CrashKept, Devices, FailureLinesKept, Headline, IsInHand, JournalKept, LinesKept, LinesStopped, OpensToFrontOf, Telling}
+use Rattle.esm_stream.specs.Headline.{AnswersAreLogged, CrashKept, Devices, FailureLinesKept, Headline, IsInHand, JournalKept, JournalStopped, LinesKept, LinesStopped, OpensToFrontOf, PairStopped, Telling}
 use Rattle.esm_stream.specs.Runs.{IsLeft, file_dest}
-use Rattle.esm_stream.proofs.Payloads.{PayloadsStay, all_stay, left_stays, own_legal}
-
--- the laws of histories
-pub record AreLaws : Type 0 where
-  pub order : (s : Setting) (h : List Entry) → Legal s h → OrderPerKey s h
-  pub once : (s : Setting) (h : List Entry) → Legal s h → NoRepeat s h
-  pub counted : (s : Setting) (h : List Entry) → EveryRecordCounted s h
-  pub stay : PayloadsStay
+use Rattle.esm_stream.specs.Laws.{AreLaws, PayloadsStay}
+use Rattle.esm_stream.proofs.Payloads.{all_stay, left_stays, own_legal}
+use Rattle.esm_stream.proofs.Stopped.{HasGoneDown, filter_map_few, pair_stopped}
 
 -- the devices are those of the book
 pub record AreOf {D F : Type 0} (b : BookState D (JournalState D)) (new : Devices D F) : Type 0 where
@@ -68,14 +67,17 @@ honest_found {D} m f b left honest =
     let spare : m.honest b.found.spare ≡ true = subst (λ (p : PairState D). m.honest p.spare ≡ true) (sym left.found) was.1 in
     (left.journal.honesty ∙ used, subst (λ (d : D). m.honest d ≡ true) (sym left.journal.spare) spare)
 
+all_payloads : {D : Type 0} (m : DiskMeaning D) (f : FilesState D) (b : BookState D (JournalState D)) → PayloadsStay → IsLeft m f b → b.pair.payloads ≡ f.pair.payloads ++ payloads_in b.core.setting (reverse b.core.past)
+all_payloads {D} m f b stay left =
+    left.journal.payloads ∙ ap₂ (λ (xs ys : List (List ℕ)). xs ++ ys) (ap (λ (p : PairState D). p.payloads) left.found) (all_stay stay b.core left.legal)
+
 holds_all : {D : Type 0} (m : DiskMeaning D) (f : FilesState D) (b : BookState D (JournalState D)) → PayloadsStay → IsLeft m f b → is_disk b.trouble ≡ false → AreHonest m f.journal f.spare
     → PairHolds m f.pair.epoch (f.pair.payloads ++ payloads_in b.core.setting (reverse b.core.past)) (first_disk b.pair) (second_disk b.pair)
 holds_all {D} m f b stay left up honest =
     let both = honest_found m f b left honest in
     let now : PairHolds m b.pair.epoch b.pair.payloads (first_disk b.pair) (second_disk b.pair) =
     pair_holds m b.pair.epoch b.pair.payloads b.pair.swapped b.pair.used b.pair.spare (left.pair_kept both.0 both.1 (left.journal.down ∙ up)) in
-    let payloads : b.pair.payloads ≡ f.pair.payloads ++ payloads_in b.core.setting (reverse b.core.past) =
-    left.journal.payloads ∙ ap₂ (λ (xs ys : List (List ℕ)). xs ++ ys) (ap (λ (p : PairState D). p.payloads) left.found) (all_stay stay b.core left.legal) in
+    let payloads = all_payloads m f b stay left in
     let epoch : b.pair.epoch ≡ f.pair.epoch = left.journal.epoch ∙ ap (λ (p : PairState D). p.epoch) left.found in
     subst (λ (n : ℕ). PairHolds m n (f.pair.payloads ++ payloads_in b.core.setting (reverse b.core.past)) (first_disk b.pair) (second_disk b.pair)) epoch
     (subst (λ (list : List (List ℕ)). PairHolds m b.pair.epoch list (first_disk b.pair) (second_disk b.pair)) payloads now)
@@ -150,6 +152,67 @@ crash_kept {D} t f b new stay left of honest settled one other since other_since
     (subst (λ (d : D). t.disk.since d (t.disk.moment f.journal) one) of.journal since)
     (subst (λ (d : D). t.disk.since d (t.disk.moment f.spare) other) of.spare other_since))
 
+-- a disk that failed
+
+parts_left : (s : Setting) (front rest es hand : List Entry) → front ++ rest ≡ es ++ hand → payloads_in s front ++ payloads_in s rest ≡ payloads_in s es ++ payloads_in s hand
+parts_left s front rest es hand split =
+    sym (filter_map-append (entry_payload s) front rest) ∙ (ap (payloads_in s) split ∙ filter_map-append (entry_payload s) es hand)
+
+gone_down : {D : Type 0} (m : DiskMeaning D) (f : FilesState D) (b : BookState D (JournalState D)) → PayloadsStay → IsLeft m f b → b.trouble ≡ Some Disk
+    → HasGoneDown m f b.pair (payloads_in b.core.setting (reverse b.core.past)) (payloads_in b.core.setting (in_hand b.trouble b.core.owed))
+gone_down {D} m f b stay left disk =
+    let s = b.core.setting in
+    let hand = in_hand b.trouble b.core.owed in
+    let few = filter_map_few (entry_payload s) hand in
+    let fewer = in_hand_few b.trouble b.core.owed in
+    record {
+      honest = honest_found m f b left;
+      honest_first = are_honest m f.pair.swapped f.journal f.spare f.pair.used f.pair.spare left.files.read;
+      down = left.journal.down ∙ ap is_disk disk;
+      epoch = left.journal.epoch ∙ ap (λ (p : PairState D). p.epoch) left.found;
+      swapped = left.journal.swapped ∙ ap (λ (p : PairState D). p.swapped) left.found;
+      payloads = all_payloads m f b stay left;
+      few = omega (arith, few, fewer);
+      still = left.pair_stopped;
+      leaves = λ used spare one other since other_since.
+          let o = opens_to_front m f b one other stay left
+          (left.opened_since disk (subst (λ (p : PairState D). m.honest p.used ≡ true) (sym left.found) used) (subst (λ (p : PairState D). m.honest p.spare ≡ true) (sym left.found) spare) one other
+          (subst (λ (p : PairState D). m.since b.pair.used (m.moment p.used) one) (sym left.found) since)
+          (subst (λ (p : PairState D). m.since b.pair.spare (m.moment p.spare) other) (sym left.found) other_since)) in
+          record {
+            front = payloads_in s o.front;
+            rest = payloads_in s o.rest;
+            split = parts_left b.core.setting o.front o.rest (reverse b.core.past) hand o.split;
+            opens = o.opens;
+          };
+    }
+
+journal_stopped : {D F : Type 0} (t : Telling D F) (f : FilesState D) (b : BookState D (JournalState D)) (new : Devices D F) → PayloadsStay → IsLeft t.disk f b → AreOf b new
+    → b.trouble ≡ Some Disk → JournalStopped t f b.core.setting b.core.past (in_hand b.trouble b.core.owed) new
+journal_stopped {D} t f b new stay left of disk =
+    let s = b.core.setting in
+    let hand = in_hand b.trouble b.core.owed in
+    let kept = payloads_in s (reverse b.core.past) in
+    subst (λ (more : List (List ℕ)). PairStopped t.disk f kept more new.journal new.spare) (sym (filter_map-append (entry_payload s) (reverse b.core.past) hand))
+    (pair_stopped t.disk f b.pair kept (payloads_in s hand) new.journal new.spare (gone_down t.disk f b stay left disk) of.journal of.spare)
+
+-- the answers
+
+answers_logged : {D F : Type 0} (t : Telling D F) (s : Setting) (h : List Entry) → AreLaws → AnswersAreLogged t s h
+answers_logged t s h laws later before lane split end =
+    let sends = t.callers.sends in
+    let k = batcher s end.earlier lane in
+    let logged : IsLogged sends end = laws.logged s sends before lane end in
+    let made : Called = record { name = s.config.function; event = sends (last_event s end.earlier lane); reply = end.reply } in
+    let since = calls_since s sends later before k in (
+      logged.0,
+      logged.1 ++ since,
+      ap (λ (g : List Entry). calls s sends g k) split
+          ∙ ((laws.calls s sends later before k).kept
+          ∙ (ap (λ (cs : List Called). cs ++ since) logged.2
+          ∙ append_assoc logged.0 (made ∷ logged.1) since)),
+    )
+
 -- all of it
 pub headline : {D F : Type 0} (t : Telling D F) (f : FilesState D) (b : BookState D (JournalState D)) (new : Devices D F) → AreLaws → IsLeft t.disk f b → AreOf b new → AreGiven t.callers.gave b.core.past
     → Headline t f b.core.setting b.core.past b.trouble (in_hand b.trouble b.core.owed) new
@@ -159,9 +222,16 @@ headline t f b new laws left of given =
       legal_trace = left.legal;
       moments = given;
       journal_kept = journal_kept t f b new laws.stay left of;
+      journal_stopped = journal_stopped t f b new laws.stay left of;
       failure_lines_kept = lines_kept t f b.dest b.trouble b.core.past b.core.owed new (lines_grown t.disk f b left) left.lines.failed (dest_honest t.disk f b left) left.dest_kept left.dest_stopped of.failures;
       in_hand = is_in_hand b.trouble b.core.owed;
       crash = crash_kept t f b new laws.stay left of;
+      one_fate = laws.one b.core.setting b.core.past own;
+      fate_is_earned = laws.earned b.core.setting b.core.past own;
+      answers_are_logged = answers_logged t b.core.setting b.core.past laws;
+      fates_are_recorded = laws.fates b.core.setting b.core.past f.said f.pair.payloads own left.may_be_said left.files.tells left.fates;
+      checkpoint_is_longest = laws.longest b.core.setting b.core.past;
+      checkpoint_is_recorded = laws.kept b.core.setting b.core.past f.said f.pair.payloads own left.may_be_said left.files.tells left.fates;
       order_per_key = laws.order b.core.setting b.core.past own;
       no_repeat = laws.once b.core.setting b.core.past own;
       every_record_counted = laws.counted b.core.setting b.core.past;

@@ -3,6 +3,7 @@ pub mod Headlines
 pub mod Openings
 pub mod Payloads
 pub mod Records
+pub mod Stopped
 pub mod Unbegun
 pub mod Ways
 pub mod Begins

@@ -4,7 +4,7 @@ use Rattle.std.specs.Prelude.{reverse}
 use Rattle.std.proofs.lemmas.List.{append-nil, reverse-append, reverse-reverse}
 use Rattle.std.proofs.lemmas.List.Elements.{filter_map-append}
 use Rattle.esm_model.specs.declared.entry.Entry.{Entry}
-use Rattle.esm_model.specs.Setting.{Setting, Stream, Extends, over}
+use Rattle.esm_model.specs.Setting.{Setting, Stream, Extends}
 use Rattle.esm_model.specs.Step.{Legal}
 use Rattle.esm_payload.specs.EntryPayload.{entry_payload, history_payloads}
 use Rattle.esm_ledger.specs.Ledger.{LegalOver}
@@ -12,12 +12,9 @@ use Rattle.esm_ledger.specs.Coming.{with_list}
 use Rattle.esm_ledger.proofs.Comes.{grown_extends}
 use Rattle.esm_owing.specs.OwingView.{OwingView, with_coming, full_setting}
 use Rattle.esm_sbook.specs.Books.{payloads_in}
+use Rattle.esm_stream.specs.Laws.{PayloadsStay}
 
--- the payloads of a legal history stay when the lists of records go on
-abbrev pub PayloadsStay : Type 0
-PayloadsStay = (s : Setting) (after : List Stream) (h : List Entry) → Extends s.streams after → Legal s h → history_payloads (over s after) h ≡ history_payloads s h
-
-coming_extends : (ts : List Stream) (parts : List Stream) → Extends ts (with_coming ts parts)
+pub coming_extends : (ts : List Stream) (parts : List Stream) → Extends ts (with_coming ts parts)
 coming_extends ts [] n i r at = at
 coming_extends ts (p ∷ parts) n i r at = coming_extends (with_list ts p.shard p.records) parts n i r (grown_extends ts p.shard p.records n i r at)
 
@@ -40,22 +37,22 @@ front_stays stay v legal front rest split =
 pub all_stay : PayloadsStay → (v : OwingView) → LegalOver v.setting v.past → payloads_in (full_setting v) (reverse v.past) ≡ payloads_in v.setting (reverse v.past)
 all_stay stay v legal = front_stays stay v legal (reverse v.past) [] (append-nil (reverse v.past))
 
--- the first entries of a list with at most one more behind it are first ones of the list, or all
-split_one : (front rest es hand : List Entry) → length hand ≤ 1 → front ++ rest ≡ es ++ hand → ((more : List Entry) × (front ++ more ≡ es)) ⊎ (front ≡ es ++ hand)
+-- the first ones of a list with at most one more behind it are first ones of the list, or all
+pub split_one : {A : Type 0} (front rest es hand : List A) → length hand ≤ 1 → front ++ rest ≡ es ++ hand → ((more : List A) × (front ++ more ≡ es)) ⊎ (front ≡ es ++ hand)
 split_one [] rest es hand few split = inl (es, refl)
-split_one (x ∷ []) rest [] hand few split = inr (only hand few split)
+split_one {A} (x ∷ []) rest [] hand few split = inr (only hand few split)
   where
-    only : (ys : List Entry) → length ys ≤ 1 → x ∷ rest ≡ ys → x ∷ [] ≡ ys
+    only : (ys : List A) → length ys ≤ 1 → x ∷ rest ≡ ys → x ∷ [] ≡ ys
     only [] low is = absurd (cc)
     only (y ∷ []) low is = let same : x ≡ y = cc in cc
     only (y ∷ z ∷ ys) low is = absurd (omega (arith, low))
 split_one (x ∷ z ∷ front) rest [] hand few split = absurd (let long : length (x ∷ z ∷ (front ++ rest)) ≡ length hand = ap length split in omega (arith, long, few))
-split_one (x ∷ front) rest (y ∷ es) hand few split =
+split_one {A} (x ∷ front) rest (y ∷ es) hand few split =
     let first : x ≡ y = cc in
     let others : front ++ rest ≡ es ++ hand = cc in
     elim (split_one front rest es hand few others) [
-      | inl within ↦ inl (within.0, ap₂ (λ (a : Entry) (b : List Entry). a ∷ b) first within.1)
-      | inr all ↦ inr (ap₂ (λ (a : Entry) (b : List Entry). a ∷ b) first all)
+      | inl within ↦ inl (within.0, ap₂ (λ (a : A) (b : List A). a ∷ b) first within.1)
+      | inr all ↦ inr (ap₂ (λ (a : A) (b : List A). a ∷ b) first all)
     ]
 
 -- of the first entries of a history and what is in hand

@@ -24,7 +24,8 @@ use Rattle.esm_stream.specs.Ended.{HasStoppedRun}
 use Rattle.esm_stream.specs.Files.{FilesState, IsOpenedFiles}
 use Rattle.esm_stream.specs.Headline.{Devices, Telling}
 use Rattle.esm_stream.specs.Runs.{IsLeft, LeavesSince, new_input}
-use Rattle.esm_stream.proofs.Headlines.{AreLaws, AreOf, headline}
+use Rattle.esm_stream.specs.Laws.{AreLaws}
+use Rattle.esm_stream.proofs.Headlines.{AreOf, headline}
 use Rattle.esm_stream.proofs.Ways.{stopped}
 
 -- the book that would have been opened
@@ -76,10 +77,14 @@ left_new m config calls f files = record {
   found = refl;
   found_dest = refl;
   legal = λ streams extends. tt;
+  fates = refl;
+  may_be_said = tt;
   journal = record { payloads = sym (append-nil f.pair.payloads); down = files.up; found_up = files.up; epoch = refl; swapped = refl; spare = refl; honesty = refl };
   lines = record { lines = ap Some (sym (append-nil f.dest.payloads)); failed = files.dest_up; found_usable = files.dest_up; honesty = refl };
   since = leaves_all m config calls f files;
   pair_kept = files.kept;
+  opened_since = λ disk. absurd (cc);
+  pair_stopped = λ honest other_honest down. absurd (let up = files.up in cc);
   dest_kept = files.lines_kept;
   dest_stopped = λ honest down. absurd (let up = files.dest_up in cc);
   hand = refl;

@@ -13,9 +13,11 @@ use Rattle.esm_model.specs.declared.config.Start.{Start}
 use Rattle.esm_model.specs.declared.item.Record.{Record}
 use Rattle.esm_model.specs.declared.memory.OutOfMemory.{OutOfMemory}
 use Rattle.esm_model.specs.Setting.{Setting, over}
+use Rattle.esm_payload.specs.EntryPayload.{AllMayBeSaid}
+use Rattle.esm_writable.specs.Bounds.{AreWithinBounds}
 use Rattle.esm_book.specs.State.{in_hand}
 use Rattle.esm_ledger.specs.Ledger.{opened_with}
-use Rattle.esm_owing.specs.OwingView.{OwingView, new_view}
+use Rattle.esm_owing.specs.OwingView.{OwingView, full_setting, new_view}
 use Rattle.esm_core.specs.Told.{opened}
 use Rattle.esm_record.specs.declared.item.LineKind.{LineKind}
 use Rattle.esm_record.specs.declared.item.LineKind.TheVariants as kinds
@@ -34,8 +36,9 @@ use Rattle.esm_stream.specs.Headline.{CallsMadeOrOneMore, Devices, Headline, Tel
 use Rattle.esm_stream.specs.Runs.{EndsBy, IsEndOf, IsLeft, new_input}
 use Rattle.esm_stream.specs.declared.run.StreamEnd.{StreamEnd}
 use Rattle.esm_stream.specs.declared.run.StreamEnd.TheVariants as end
-use Rattle.esm_stream.proofs.Headlines.{AreLaws, AreOf, dest_rose, disk_rose, headline}
-use Rattle.esm_stream.proofs.Records.{came_all}
+use Rattle.esm_stream.specs.Laws.{AreLaws}
+use Rattle.esm_stream.proofs.Headlines.{AreOf, dest_rose, disk_rose, headline}
+use Rattle.esm_stream.proofs.Records.{came_all, may_be_said}
 
 -- what the book had at its opening
 pub record StoodSo {D : Type 0} (config : Config) (calls : ℕ) (f : FilesState D) (before : BookState D (JournalState D)) : Type 0 where
@@ -216,3 +219,23 @@ pub found_ran : {D F : Type 0} (t : Telling D F) (before b : BookState D (Journa
     → OnOk r (HasRun t.callers before b callers new_callers) → OnErr r (HasStopped t.callers before b callers new_callers) → b.found ≡ before.found
 found_ran t before b callers new_callers (Ok r) run stopped = run.found
 found_ran t before b callers new_callers (Err none) run stopped = stopped.found
+
+-- the found fates are those that the journal told of
+pub fates_found : {S D F : Type 0} (t : Telling D F) (faults : S → ℕ) (left_in : S → Option (List ℕ)) (config : Config) (calls : ℕ) (f : FilesState D) (before b : BookState D (JournalState D)) (i : InputState S) (callers new_callers : List F) (r : Result RunEnd OutOfMemory)
+    → StoodSo config calls f before → HasCome t faults left_in before b i callers new_callers r → b.core.setting.fates ≡ f.said.fates
+fates_found t faults left_in config calls f before b i callers new_callers (Ok r) stood come =
+    ap (λ (s : Setting). s.fates) (opened_so config calls f before b stood come.run.opened)
+fates_found t faults left_in config calls f before b i callers new_callers (Err none) stood come =
+    ap (λ (s : Setting). s.fates) (opened_so config calls f before b stood come.stopped.opened)
+
+-- each entry that the journal keeps may be said
+said_within : {S D : Type 0} (i : InputState S) (b : BookState D (JournalState D)) (whole : Bool) (bytes : List ℕ) → AreLaws → IsSound b → AreWithinBounds (full_setting b.core)
+    → SomeCame b (records_in_items (from_start i.start (items_read i.kind i.factor whole bytes).items)) → AllMayBeSaid b.core.setting b.core.past
+said_within i b whole bytes laws sound bounds came =
+    let items = from_start i.start (items_read i.kind i.factor whole bytes).items in
+    may_be_said b items laws sound bounds (laws.within i.kind i.factor i.start whole bytes items [] (sym (append-nil items))).few came
+
+pub said_so : {S D F : Type 0} (t : Telling D F) (faults : S → ℕ) (left_in : S → Option (List ℕ)) (before b : BookState D (JournalState D)) (i : InputState S) (callers new_callers : List F) (r : Result RunEnd OutOfMemory)
+    → AreLaws → IsSound b → AreWithinBounds (full_setting b.core) → HasCome t faults left_in before b i callers new_callers r → AllMayBeSaid b.core.setting b.core.past
+said_so t faults left_in before b i callers new_callers (Ok r) laws sound bounds come = said_within i b i.whole i.bytes laws sound bounds (some_came i b r come.came)
+said_so t faults left_in before b i callers new_callers (Err none) laws sound bounds come = said_within i b come.cut.whole come.cut.bytes laws sound bounds come.cut.came

@@ -2,4 +2,5 @@ pub mod Files
 pub mod Headline
 pub mod Ended
 pub mod Openings
+pub mod Laws
 pub mod Runs

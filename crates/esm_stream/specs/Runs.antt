@@ -4,12 +4,14 @@ use Rattle.esm_io.specs.Images.{Only}
 use Rattle.esm_io.specs.Meanings.{DiskMeaning, DestMeaning, destination}
 use Rattle.esm_journal.specs.Pair.{PairState, PairKeepsWhileUp, first_disk, second_disk}
 use Rattle.esm_journal.specs.State.{JournalState, KeepsWhileUp, KeepsWhileDown}
+use Rattle.esm_journal.specs.Stopped.{PairKeepsWhileDown}
 use Rattle.esm_model.specs.declared.book.Trouble.{Trouble}
 use Rattle.esm_model.specs.declared.book.Trouble.TheVariants as trouble
 use Rattle.esm_model.specs.declared.book.Change.{Change}
 use Rattle.esm_model.specs.declared.config.Config.{Config}
 use Rattle.esm_model.specs.declared.config.Start.{Start}
 use Rattle.esm_model.specs.declared.memory.OutOfMemory.{OutOfMemory}
+use Rattle.esm_payload.specs.EntryPayload.{AllMayBeSaid}
 use Rattle.esm_book.specs.State.{in_hand}
 use Rattle.esm_ledger.specs.Ledger.{opened_with, LegalOver}
 use Rattle.esm_owing.specs.OwingView.{new_view, full_setting}
@@ -17,7 +19,7 @@ use Rattle.esm_record.specs.declared.item.LineKind.TheVariants as kinds
 use Rattle.esm_input.specs.declared.ending.InputEnd.{InputEnd}
 use Rattle.esm_input.specs.Reading.{InputState}
 use Rattle.esm_said.specs.SaidLists.{SaidLists}
-use Rattle.esm_sbook.specs.Books.{BookState, OpensToFirst, payloads_in}
+use Rattle.esm_sbook.specs.Books.{BookState, LeavesFirst, OpensToFirst, payloads_in}
 use Rattle.esm_sbook.specs.Keeping.{HasJournal, HasLines, entries_left}
 use Rattle.esm_pool.specs.declared.running.RunEnd.{RunEnd}
 use Rattle.esm_pool.specs.declared.running.RunEnd.TheVariants as ran
@@ -90,10 +92,16 @@ pub record IsLeft {D : Type 0} (m : DiskMeaning D) (f : FilesState D) (b : BookS
   pub found : b.found ≡ f.pair
   pub found_dest : b.found_dest ≡ f.dest
   pub legal : LegalOver b.core.setting b.core.past
+  -- the found fates are those that the journal told of, and each entry that it keeps may be said
+  pub fates : b.core.setting.fates ≡ f.said.fates
+  pub may_be_said : AllMayBeSaid b.core.setting b.core.past
   pub journal : HasJournal m b
   pub lines : HasLines (file_dest m) b
   pub since : LeavesSince m f b
   pub pair_kept : PairKeepsWhileUp m b.pair
+  -- where a disk failed: what a crash leaves since the opening, and what it leaves now
+  pub opened_since : b.trouble ≡ Some trouble.Disk → LeavesFirst m (file_dest m) (full_setting b.core) b.found b.pair b.found_dest b.dest (entries_left b)
+  pub pair_stopped : PairKeepsWhileDown m b.pair
   pub dest_kept : KeepsWhileUp m b.dest
   pub dest_stopped : KeepsWhileDown m b.dest
   -- no records are coming that the entry in hand names

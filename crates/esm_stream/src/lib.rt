@@ -4,6 +4,7 @@
 #![tactic(auto)]
 
 mod files;
+mod laws;
 mod run;
 
 pub use files::{Files, FilesError, FilesParts, open_files};

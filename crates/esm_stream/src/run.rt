@@ -4,7 +4,9 @@ ghost use Rattle.std.specs.Option.{option_copied};
 ghost use Rattle.esm_io.specs.Meanings.{disk as meaning};
 ghost use Rattle.esm_journal.specs.Pair.{PairKeepsWhileUp, first_disk, second_disk};
 ghost use Rattle.esm_journal.specs.State.{KeepsWhileUp, KeepsWhileDown};
+ghost use Rattle.esm_journal.specs.Stopped.{PairKeepsWhileDown};
 ghost use Rattle.esm_model.specs.declared.limits.TheConstants.{MAX_LANES};
+ghost use Rattle.esm_model.specs.Entries.{CallsFollowShut};
 ghost use Rattle.esm_model.specs.Pattern.{read_patterns};
 ghost use Rattle.esm_model.specs.Valid.{IsStreamConfig, is_stream};
 ghost use Rattle.esm_said.specs.Meaning.{history, are_good};
@@ -18,12 +20,11 @@ ghost use Rattle.esm_stream.specs.Ended.{HasEnded, HasStoppedRun};
 ghost use Rattle.esm_stream.specs.Runs.{IsBegun, files_of, HasReason, IsEndOf, EndsBy, StopsBy};
 
 use crate::files::Files;
+use crate::laws::laws_hold;
 use esm_input::{Input, InputEnd};
 use esm_io::{Caller, Clock, Disk, Source};
 use esm_journal::{FileDest, Pair};
-use esm_model::laws::{every_record_counted, no_repeat, order_per_key};
 use esm_model::{BookOpen, Change, Config, Entry, OutOfMemory, Refused, Start, Text, Trouble};
-use esm_payload::laws::history_payloads_stay;
 use esm_pool::{Ran, RunEnd, run_lanes};
 use esm_record::LineKind;
 use esm_said::Says;
@@ -234,6 +235,7 @@ fn run_opened<
         run.book.core.setting.config run.input.start run.book.core.setting.calls (files_of before.now.journal.value before.now.spare.value before.now.failures.value said run.book)
         run.input.source result.input callers.items (reverse result.trace.items)
         (record { journal = result.journal; spare = result.spare; failures = result.failures; callers = result.callers.items })) }
+    ensures read_first { read_first ≡ true → CallsFollowShut (reverse result.trace.items) }
     ensures said { result.said ≡ said }
     ensures as_many { length result.callers.items ≡ MAX_LANES }
 {
@@ -253,10 +255,7 @@ fn run_opened<
         clock,
         read_first,
     );
-    order_per_key();
-    no_repeat();
-    every_record_counted();
-    history_payloads_stay();
+    laws_hold();
     book.since_before(&before.journal, &before.spare);
     let (source, reading) = input.into_parts();
     let end = end_of(alloc, ran, book.trouble(), reading);
@@ -287,6 +286,7 @@ fn closed<S, F, D: Disk>(
     ensures spare { result.spare ≡ second_disk pair }
     ensures failures { result.failures ≡ dest.disk }
     ensures pair_kept { PairKeepsWhileUp (meaning D.honest D.content D.image D.moment D.image_since D.faults) pair }
+    ensures pair_stopped { PairKeepsWhileDown (meaning D.honest D.content D.image D.moment D.image_since D.faults) pair }
     ensures dest_kept { KeepsWhileUp (meaning D.honest D.content D.image D.moment D.image_since D.faults) dest }
     ensures dest_stopped { KeepsWhileDown (meaning D.honest D.content D.image D.moment D.image_since D.faults) dest }
 {
@@ -307,7 +307,7 @@ fn closed<S, F, D: Disk>(
 }
 
 /// Runs the mapping from this starting position on, its reader and its batchers as threads; with `read_first` no call begins
-/// before the input has ended. What is written is written before it counts: each failure line to the failure file, and then
+/// before the end of the input was noted. What is written is written before it counts: each failure line to the failure file, and then
 /// each fate, state and failed try to the journal.
 pub fn run_stream<
     R: Threads + Wait + Sync,
@@ -336,6 +336,7 @@ pub fn run_stream<
     ensures stopped { OnErr result.end (HasStoppedRun (telling (outside C.gave F.sends F.log) (meaning D.honest D.content D.image D.moment D.image_since D.faults)) S.left
         config start calls files input result.input callers.items (reverse result.trace.items)
         (record { journal = result.journal; spare = result.spare; failures = result.failures; callers = result.callers.items })) }
+    ensures read_first { read_first ≡ true → CallsFollowShut (reverse result.trace.items) }
     ensures said { result.said ≡ files.said }
     ensures as_many { length result.callers.items ≡ MAX_LANES }
 {
@@ -352,10 +353,7 @@ pub fn run_stream<
         spare,
         failures,
     };
-    order_per_key();
-    no_repeat();
-    every_record_counted();
-    history_payloads_stay();
+    laws_hold();
     match begin(alloc, config, start, calls, &said, pair, dest, input) {
         Ok(run) => run_opened(rt, alloc, run, said, callers, clock, read_first, &before),
         Err(refused) => {

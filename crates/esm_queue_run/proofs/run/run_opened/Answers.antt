@@ -8,6 +8,7 @@ use Rattle.esm_journal.specs.Pair.{PairState, first_disk, second_disk}
 use Rattle.esm_journal.specs.Reads.{IsOnlyRead}
 use Rattle.esm_model.specs.declared.entry.Entry.{Entry}
 use Rattle.esm_model.specs.declared.book.Trouble.{Trouble}
+use Rattle.esm_model.specs.Entries.{CallsFollowShut}
 use Rattle.esm_input.specs.declared.ending.InputEnd.{InputEnd}
 use Rattle.esm_input.specs.Reading.{InputState}
 use Rattle.esm_qbook.specs.Books.{BookState}
@@ -18,7 +19,8 @@ use Rattle.esm_stream.specs.Headline.{Devices, Telling, telling}
 use Rattle.esm_queue_run.specs.Ended.{HasEnded, HasStoppedRun}
 use Rattle.esm_queue_run.specs.Runs.{EndsBy, IsLeft, files_of, HasReason, IsOfQueue}
 use Rattle.esm_queue_run.specs.declared.run.QueueEnd.{QueueEnd}
-use Rattle.esm_queue_run.proofs.Headlines.{AreLaws, AreOf}
+use Rattle.esm_queue_run.specs.Laws.{AreLaws}
+use Rattle.esm_queue_run.proofs.Headlines.{AreOf}
 use Rattle.esm_queue_run.proofs.Messages.{came_all}
 use Rattle.esm_queue_run.proofs.Ways.{HasCome, IsMadeFor, StoodSo, ended_by, found_ran, found_stays, made_for, of_queue, reason_of, stopped_by}
 use Rattle.esm_queue_run.proofs.run.run_opened.Goals as goal
@@ -38,7 +40,7 @@ returns g c =
     let out = c.closed.result in
     let callers = c.args.callers.items in
     let new : Devices g.row.D.Denot g.row.F.Denot = record { journal = out.journal; spare = out.spare; failures = out.failures; callers = out.callers.items } in
-    let laws : AreLaws = record { once = c.deleted_once.ensures; order = c.order_per_group.ensures; counted = c.every_message_counted.ensures; more = c.legal_over_more.ensures } in
+    let laws : AreLaws = c.laws_hold.ensures in
     let sound = c.trouble.ensures.sound in
     let come : HasCome t g.S.Source.faults g.S.Source.left before b i callers new.callers ran = record {
       run = rw c.closed.ensures.callers c.run_queue-ran.ensures.run;
@@ -59,6 +61,8 @@ returns g c =
       journal = c.trouble.ensures.journal;
       since = c.since_before.ensures;
       pair_kept = c.trouble.ensures.kept;
+      opened_since = λ disk. c.trouble.ensures.images;
+      pair_stopped = rw (← c.into_parts-history.ensures.pair) c.closed.ensures.pair_stopped;
       stays = sound.stays;
       hand = sound.hand;
     } in
@@ -91,6 +95,7 @@ returns g c =
           (subst (λ (h : List Entry). HasStoppedRun t g.S.Source.left config calls visibility files c.args.run.input.source i.source callers h new) (sym trace)
           (stopped_by t g.S.Source.faults g.S.Source.left config calls visibility files c.args.run.input.source i callers before b new ran laws stood left of c.trouble.ensures.cause made come)))
           c.end_of-end.ensures.stopped);
+      read_first = λ first. subst CallsFollowShut (sym trace) (c.run_queue-ran.ensures.later first);
       said = c.closed.ensures.said;
       as_many = stays.1 ∙ c.requires.callers;
     }

@@ -4,12 +4,13 @@ use Rattle.esm_io.specs.Meanings.{DiskMeaning, disk as meaning}
 use Rattle.esm_journal.specs.Pair.{PairState, first_disk, second_disk}
 use Rattle.esm_journal.specs.State.{JournalState}
 use Rattle.esm_model.specs.declared.entry.Entry.{Entry}
+use Rattle.esm_model.specs.Entries.{CallsFollowShut}
 use Rattle.esm_batchers.specs.Working.{outside}
 use Rattle.esm_stream.specs.Files.{FilesState}
 use Rattle.esm_stream.specs.Headline.{Devices, Telling, telling}
 use Rattle.esm_stream.proofs.Unbegun.{on_any_err}
 use Rattle.esm_queue_run.specs.Ended.{HasStoppedRun}
-use Rattle.esm_queue_run.proofs.Headlines.{AreLaws}
+use Rattle.esm_queue_run.specs.Laws.{AreLaws}
 use Rattle.esm_queue_run.proofs.Unbegun.{not_begun}
 use Rattle.esm_queue_run.proofs.run.run_queue.Goals as goal
 
@@ -20,7 +21,7 @@ returns-clause-stopped g c =
     let f : FilesState g.row.D.Denot = c.args.files in
     let out = c.closed.result in
     let new : Devices g.row.D.Denot g.row.F.Denot = record { journal = out.journal; spare = out.spare; failures = out.failures; callers = out.callers.items } in
-    let laws : AreLaws = record { once = c.deleted_once.ensures; order = c.order_per_group.ensures; counted = c.every_message_counted.ensures; more = c.legal_over_more.ensures } in
+    let laws : AreLaws = c.laws_hold.ensures in
     let back : c.in-Err.refused.back ≡ (c.into_parts-pair.result.pair, c.args.input) = c.in-Err.ensures.back in
     let pair : c.in-Err.refused.back.0 ≡ f.pair = ap (λ (x : PairState g.row.D.Denot × g.row.S.Denot). x.0) back ∙ c.into_parts-pair.ensures.pair in
     let input : out.input ≡ c.args.input = c.closed.ensures.input ∙ ap (λ (x : PairState g.row.D.Denot × g.row.S.Denot). x.1) back in
@@ -32,3 +33,8 @@ returns-clause-stopped g c =
     on_any_err out.end
     (subst (λ (x : g.row.S.Denot). HasStoppedRun t g.S.Source.left c.args.config c.args.calls c.args.visibility_ms f c.args.input x c.args.callers.items (reverse out.trace.items) new) (sym input)
     (subst (λ (h : List Entry). HasStoppedRun t g.S.Source.left c.args.config c.args.calls c.args.visibility_ms f c.args.input c.args.input c.args.callers.items h new) (sym none) all))
+
+pub returns-clause-read_first : goal.returns-clause-read_first
+returns-clause-read_first g c =
+    let none : reverse c.closed.result.trace.items ≡ [] = rw (c.closed.ensures.trace, c.new.ensures.items) refl in
+    λ first. subst CallsFollowShut (sym none) tt

@@ -10,6 +10,7 @@ use Rattle.esm_journal.specs.State.{JournalState}
 use Rattle.esm_model.specs.declared.config.Start.{Start}
 use Rattle.esm_model.specs.declared.entry.Entry.{Entry}
 use Rattle.esm_model.specs.declared.book.Trouble.{Trouble}
+use Rattle.esm_model.specs.Entries.{CallsFollowShut}
 use Rattle.esm_input.specs.declared.ending.InputEnd.{InputEnd}
 use Rattle.esm_input.specs.Reading.{InputState}
 use Rattle.esm_sbook.specs.Books.{BookState}
@@ -19,8 +20,9 @@ use Rattle.esm_stream.specs.Files.{FilesState}
 use Rattle.esm_stream.specs.Headline.{Devices, Telling, telling}
 use Rattle.esm_stream.specs.Runs.{EndsBy, IsLeft, files_of}
 use Rattle.esm_stream.specs.declared.run.StreamEnd.{StreamEnd}
-use Rattle.esm_stream.proofs.Headlines.{AreLaws, AreOf}
-use Rattle.esm_stream.proofs.Ways.{HasCome, IsMadeFor, StoodSo, ended_by, found_ran, found_stays, made_for, stopped_by}
+use Rattle.esm_stream.specs.Laws.{AreLaws}
+use Rattle.esm_stream.proofs.Headlines.{AreOf}
+use Rattle.esm_stream.proofs.Ways.{HasCome, IsMadeFor, StoodSo, ended_by, fates_found, found_ran, found_stays, made_for, said_so, stopped_by}
 use Rattle.esm_stream.proofs.run.run_opened.Goals as goal
 
 pub returns : goal.returns
@@ -38,7 +40,7 @@ returns g c =
     let out = c.closed.result in
     let callers = c.args.callers.items in
     let new : Devices g.row.D.Denot g.row.F.Denot = record { journal = out.journal; spare = out.spare; failures = out.failures; callers = out.callers.items } in
-    let laws : AreLaws = record { order = c.order_per_key.ensures; once = c.no_repeat.ensures; counted = c.every_record_counted.ensures; stay = c.history_payloads_stay.ensures } in
+    let laws : AreLaws = c.laws_hold.ensures in
     let come : HasCome t g.S.Source.faults g.S.Source.left before b i callers new.callers ran = record {
       run = rw c.closed.ensures.callers c.run_lanes-ran.ensures.run;
       came = c.run_lanes-ran.ensures.came;
@@ -49,15 +51,20 @@ returns g c =
       cut = c.run_lanes-ran.ensures.cut;
     } in
     let stays = found_stays t g.S.Source.faults g.S.Source.left before b i callers new.callers ran come in
+    let stood : StoodSo config calls files before = record { core = c.requires.begun.core } in
     let left : IsLeft m files b = record {
       files = c.requires.files;
       found = stays.0 ∙ c.requires.begun.found;
       found_dest = stays.1 ∙ c.requires.begun.found_dest;
       legal = c.trouble.ensures.sound.legal;
+      fates = fates_found t g.S.Source.faults g.S.Source.left config calls files before b i callers new.callers ran stood come;
+      may_be_said = said_so t g.S.Source.faults g.S.Source.left before b i callers new.callers ran laws c.trouble.ensures.sound c.trouble.ensures.bounds come;
       journal = c.trouble.ensures.journal;
       lines = c.trouble.ensures.lines;
       since = c.since_before.ensures;
       pair_kept = c.trouble.ensures.kept;
+      opened_since = λ disk. c.trouble.ensures.images;
+      pair_stopped = rw (← c.into_parts-history.ensures.pair) c.closed.ensures.pair_stopped;
       dest_kept = rw (← c.into_parts-history.ensures.dest) c.closed.ensures.dest_kept;
       dest_stopped = rw (← c.into_parts-history.ensures.dest) c.closed.ensures.dest_stopped;
       hand = c.trouble.ensures.hand;
@@ -68,7 +75,6 @@ returns g c =
       failures = rw (← c.into_parts-history.ensures.dest) c.closed.ensures.failures;
     } in
     let made : IsMadeFor config start c.args.run.input.source i = made_for config start c.args.run.input.source c.args.run.input i c.requires.begun.input c.run_lanes-ran.ensures.input in
-    let stood : StoodSo config calls files before = record { core = c.requires.begun.core } in
     let trace : reverse out.trace.items ≡ b.core.past = rw (c.closed.ensures.trace, c.into_parts-history.ensures.history) (reverse-reverse b.core.past) in
     let source : out.input ≡ i.source = c.closed.ensures.input ∙ c.into_parts-source.ensures.source in
     let P : StreamEnd → Type 0 = HasEnded t g.S.Source.faults g.S.Source.left config start calls files c.args.run.input.source out.input callers (reverse out.trace.items) new in
@@ -91,6 +97,7 @@ returns g c =
           (subst (λ (h : List Entry). HasStoppedRun t g.S.Source.left config start calls files c.args.run.input.source i.source callers h new) (sym trace)
           (stopped_by t g.S.Source.faults g.S.Source.left config start calls files c.args.run.input.source i callers before b new ran laws stood left of c.trouble.ensures.cause made come)))
           c.end_of-end.ensures.stopped);
+      read_first = λ first. subst CallsFollowShut (sym trace) (c.run_lanes-ran.ensures.later first);
       said = c.closed.ensures.said;
       as_many = stays.2 ∙ c.requires.callers;
     }

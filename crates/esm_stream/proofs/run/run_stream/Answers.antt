@@ -4,11 +4,12 @@ use Rattle.esm_io.specs.Meanings.{DiskMeaning, disk as meaning}
 use Rattle.esm_journal.specs.Pair.{PairState, first_disk, second_disk}
 use Rattle.esm_journal.specs.State.{JournalState}
 use Rattle.esm_model.specs.declared.entry.Entry.{Entry}
+use Rattle.esm_model.specs.Entries.{CallsFollowShut}
 use Rattle.esm_batchers.specs.Working.{outside}
 use Rattle.esm_stream.specs.Ended.{HasStoppedRun}
 use Rattle.esm_stream.specs.Files.{FilesState, IsOpenedFiles}
 use Rattle.esm_stream.specs.Headline.{Devices, Telling, telling}
-use Rattle.esm_stream.proofs.Headlines.{AreLaws}
+use Rattle.esm_stream.specs.Laws.{AreLaws}
 use Rattle.esm_stream.proofs.Unbegun.{not_begun, on_any_err}
 use Rattle.esm_stream.proofs.run.run_stream.Goals as goal
 
@@ -19,7 +20,7 @@ returns-clause-stopped g c =
     let f : FilesState g.row.D.Denot = c.args.files in
     let out = c.closed.result in
     let new : Devices g.row.D.Denot g.row.F.Denot = record { journal = out.journal; spare = out.spare; failures = out.failures; callers = out.callers.items } in
-    let laws : AreLaws = record { order = c.order_per_key.ensures; once = c.no_repeat.ensures; counted = c.every_record_counted.ensures; stay = c.history_payloads_stay.ensures } in
+    let laws : AreLaws = c.laws_hold.ensures in
     let files : IsOpenedFiles m f = rw (← c.files.view_is) c.files.invariant in
     let back : c.in-Err.refused.back ≡ (c.files.inside.pair, c.files.inside.dest, c.args.input) = c.in-Err.ensures.back in
     let pair : c.in-Err.refused.back.0 ≡ f.pair =
@@ -35,3 +36,8 @@ returns-clause-stopped g c =
     on_any_err out.end
     (subst (λ (x : g.row.S.Denot). HasStoppedRun t g.S.Source.left c.args.config c.args.start c.args.calls f c.args.input x c.args.callers.items (reverse out.trace.items) new) (sym input)
     (subst (λ (h : List Entry). HasStoppedRun t g.S.Source.left c.args.config c.args.start c.args.calls f c.args.input c.args.input c.args.callers.items h new) (sym none) all))
+
+pub returns-clause-read_first : goal.returns-clause-read_first
+returns-clause-read_first g c =
+    let none : reverse c.closed.result.trace.items ≡ [] = rw (c.closed.ensures.trace, c.new.ensures.items) refl in
+    λ first. subst CallsFollowShut (sym none) tt

@@ -1,0 +1,10 @@
+use Rattle.esm_queue_run.proofs.laws.laws_hold.Goals as goal
+
+pub returns : goal.returns
+returns c = record {
+  once = c.deleted_once.ensures;
+  order = c.order_per_group.ensures;
+  counted = c.every_message_counted.ensures;
+  more = c.legal_over_more.ensures;
+  calls = c.queue_calls_kept.ensures;
+}
