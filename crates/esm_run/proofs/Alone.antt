@@ -20,8 +20,9 @@ use Rattle.esm_stream.specs.declared.files.FilesError.{FilesError}
 use Rattle.esm_stream.specs.declared.files.FilesError.TheVariants as files
 use Rattle.esm_stream.specs.declared.run.StreamEnd.{StreamEnd}
 use Rattle.esm_stream.specs.declared.run.StreamEnd.TheVariants as run
-use Rattle.esm_run.specs.Answers.{Outside, RunCause, RunEnded, Seen}
+use Rattle.esm_run.specs.Answers.{RunCause, RunEnded}
 use Rattle.esm_run.specs.Endings.{ending_of, ending_of_files, ending_of_mapping, ending_of_queue, ending_of_reading, file_of}
+use Rattle.esm_run.specs.World.{RunTells, Seen}
 
 same_some : (e d : Ending) → ◌≡◌ {A = Option Ending} (Some e) (Some d) → e ≡ d
 same_some e d is = cc
@@ -95,10 +96,10 @@ queue_words queue.CallsSpent tells = cc
 queue_words queue.DiskFault tells = cc
 queue_words (queue.Changed change) tells = cc
 
-cause_words : {S D F : Type 0} (o : Outside S D F) (r : RunWords) (h : List Entry) (old new : Seen S D F) (text : List ℕ) → RunCause o r h old new text ending.BadWords → ⊥
+cause_words : {S D F : Type 0} (o : RunTells S D F) (r : RunWords) (h : List Entry) (old new : Seen S D F) (text : List ℕ) → RunCause o r h old new text ending.BadWords → ⊥
 cause_words o r h old new text (inl none) = elim none.why [ inl files ↦ files_words files.why files.tells | inr mapping ↦ mapping_words mapping.why mapping.tells ]
 cause_words o r h old new text (inr (inl run)) = stream_words run.end run.tells
 cause_words o r h old new text (inr (inr run)) = queue_words run.end run.tells
 
-pub not_bad_words : {S D F : Type 0} (o : Outside S D F) (r : RunWords) (h : List Entry) (old new : Seen S D F) → RunEnded o r h old new ending.BadWords → ⊥
+pub not_bad_words : {S D F : Type 0} (o : RunTells S D F) (r : RunWords) (h : List Entry) (old new : Seen S D F) → RunEnded o r h old new ending.BadWords → ⊥
 not_bad_words o r h old new ended = cause_words o r h old new ended.text ended.cause

@@ -1,42 +1,31 @@
--- A command over the files alone is no other command, and its words name one.
-use Rattle.std.proofs.Common.{◌≡◌, ◌∙◌, ℕ, Option, Some, None, refl, sym, ap}
-use Rattle.esm_cli.specs.declared.command.Command.{Command}
-use Rattle.esm_cli.specs.declared.command.Command.TheVariants as command
-use Rattle.esm_cli.specs.declared.command.RunWords.{RunWords}
-use Rattle.esm_run.specs.Tended.{command_of}
+-- What became of a command over the files, as the command of the words.
+use Rattle.std.proofs.Common.{◌≡◌, ℕ, refl}
+use Rattle.esm_run.specs.Commands.{AreFilesLeft, FilesEnded, HasEnded, IsCut, IsLeft}
+use Rattle.esm_run.specs.Tended.{IsCompactCut, command_of}
+use Rattle.esm_run.specs.World.{DevicesTell, disks_in}
 use Rattle.esm_run.specs.declared.tending.FilesCommand.{FilesCommand}
 use Rattle.esm_run.specs.declared.tending.FilesCommand.TheVariants.{Init, Upkeep}
 use Rattle.esm_run.specs.declared.tending.Upkeep.TheVariants.{Show, Failures, Compact, Migrate}
+use Rattle.esm_run.specs.declared.world.World.{World}
 
-pub not_run : (c : FilesCommand) (r : RunWords) → command_of c ≡ command.Run r → ⊥
-not_run Init r same = cc
-not_run (Upkeep Show) r same = cc
-not_run (Upkeep Failures) r same = cc
-not_run (Upkeep Compact) r same = cc
-not_run (Upkeep Migrate) r same = cc
+module _ {S K D C F L N : Type 0} (t : DevicesTell S K D F L N) (old new : World S K D C F L) where
+  pub files_ended : (f : FilesCommand) (status : ℕ) → FilesEnded t f old new status → HasEnded t (command_of f) old new status
+  files_ended Init status is = is
+  files_ended (Upkeep Show) status is = is
+  files_ended (Upkeep Failures) status is = is
+  files_ended (Upkeep Compact) status is = is
+  files_ended (Upkeep Migrate) status is = is
 
-pub not_serve : (c : FilesCommand) (requests : ℕ) → command_of c ≡ command.Serve requests → ⊥
-not_serve Init requests same = cc
-not_serve (Upkeep Show) requests same = cc
-not_serve (Upkeep Failures) requests same = cc
-not_serve (Upkeep Compact) requests same = cc
-not_serve (Upkeep Migrate) requests same = cc
+  pub files_left : (f : FilesCommand) → AreFilesLeft t f old new → IsLeft t (command_of f) old new
+  files_left Init is = is
+  files_left (Upkeep Show) is = is
+  files_left (Upkeep Failures) is = is
+  files_left (Upkeep Compact) is = is
+  files_left (Upkeep Migrate) is = is
 
-files_of : Command → Option FilesCommand
-files_of command.Init = Some Init
-files_of command.Show = Some (Upkeep Show)
-files_of command.Failures = Some (Upkeep Failures)
-files_of command.Compact = Some (Upkeep Compact)
-files_of command.Migrate = Some (Upkeep Migrate)
-files_of _ = None
-
-files_of_command : (c : FilesCommand) → files_of (command_of c) ≡ Some c
-unfolding files_of
-files_of_command Init = refl
-files_of_command (Upkeep Show) = refl
-files_of_command (Upkeep Failures) = refl
-files_of_command (Upkeep Compact) = refl
-files_of_command (Upkeep Migrate) = refl
-
-pub same_files : (c d : FilesCommand) → command_of c ≡ command_of d → c ≡ d
-same_files c d same = (let both : Some c ≡ Some d = sym (files_of_command c) ∙ ap files_of same ∙ files_of_command d in cc)
+  pub files_cut : (f : FilesCommand) → (f ≡ Upkeep Compact → IsCompactCut t.disk (disks_in old) (disks_in new)) → IsCut t (command_of f) old new
+  files_cut Init cut = tt
+  files_cut (Upkeep Show) cut = tt
+  files_cut (Upkeep Failures) cut = tt
+  files_cut (Upkeep Compact) cut = cut refl
+  files_cut (Upkeep Migrate) cut = tt

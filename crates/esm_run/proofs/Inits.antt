@@ -9,7 +9,7 @@ use Rattle.esm_init.specs.declared.files.InitEnd.{InitEnd}
 use Rattle.esm_init.specs.declared.files.InitEnd.TheVariants.{Done, NotEmpty, DiskFault}
 use Rattle.esm_run.specs.Endings.{IsToldWith}
 use Rattle.esm_run.specs.Initialized.{AreSound, InitOutcome, init_status}
-use Rattle.esm_run.specs.Written.{Written}
+use Rattle.esm_run.specs.World.{Written}
 use Rattle.esm_run.proofs.OneCommand.{OneStatus}
 
 made_not_empty : {D : Type 0} (m : DiskMeaning D) (old new : Disks D) (f : FileName) (size : ℕ) → AreSound m old new

@@ -13,7 +13,8 @@ use Rattle.esm_registry.specs.State.{OpensToStep, RegistryState}
 use Rattle.esm_api.specs.Request.{Judgement, Unfinished, Refused, Asks}
 use Rattle.esm_api.specs.Serving.{IsApplied, IsUnanswered, Leaves}
 use Rattle.esm_run.specs.Serve.{HoldsMore, IsOpened, OpensToFront, WasOrOpensToFront}
-use Rattle.esm_run.specs.Serving.{AreServed, Connection, IsCutAt, IsDropped, IsServed, IsVisit, Outside, StandsServed, payloads_of}
+use Rattle.esm_run.specs.Serving.{AreServed, Connection, IsCutAt, IsDropped, IsServed, IsVisit, StandsServed, payloads_of}
+use Rattle.esm_run.specs.World.{ServeTells}
 
 -- what a crash leaves over two runs, one after the other
 
@@ -136,13 +137,13 @@ steps_left m old new Unfinished moment failed left = steps_same m old new left
 steps_left m old new (Refused row) moment failed left = steps_same m old new left.0
 steps_left m old new (Asks asked) moment failed left = steps_applied m old new asked moment failed left
 
-steps_stands : {C D : Type 0} (o : Outside C D) (c : Connection C) (old new : RegistryState D) (moment : ℕ) → StandsServed o c old new moment → StepsBy o.disk old.journal new.journal
+steps_stands : {C D : Type 0} (o : ServeTells C D) (c : Connection C) (old new : RegistryState D) (moment : ℕ) → StandsServed o c old new moment → StepsBy o.disk old.journal new.journal
 steps_stands o c old new moment (inl answered) = steps_left o.disk old new answered.1.judgement moment answered.1.failed answered.1.leaves
 steps_stands o c old new moment (inr (inl cut)) = steps_same o.disk old new cut.0.same
 steps_stands o c old new moment (inr (inr (fault, inl waits))) = steps_same o.disk old new waits.same
 steps_stands o c old new moment (inr (inr (fault, inr (status, unsent, responds)))) = steps_left o.disk old new responds.judgement moment responds.failed responds.leaves
 
-steps_unanswered : {C D : Type 0} (o : Outside C D) (c : Connection C) (old new : RegistryState D) (moment : ℕ) → IsUnanswered (o.told c.came) (o.told c.left) o.disk old new moment → StepsBy o.disk old.journal new.journal
+steps_unanswered : {C D : Type 0} (o : ServeTells C D) (c : Connection C) (old new : RegistryState D) (moment : ℕ) → IsUnanswered (o.told c.came) (o.told c.left) o.disk old new moment → StepsBy o.disk old.journal new.journal
 steps_unanswered o c old new moment unanswered = elim unanswered.leaves [
   | inl same ↦ steps_same o.disk old new same
   | inr applied ↦ steps_applied o.disk old new applied.0 moment applied.1 applied.3
@@ -202,7 +203,7 @@ extended {D} m disk found more payload old new honesty up holds steps =
       ];
     }
 
-visited : {C D : Type 0} (o : Outside C D) (c : Connection C) (old new : RegistryState D) (moment : ℕ) (disk : D) (found more : List (List ℕ))
+visited : {C D : Type 0} (o : ServeTells C D) (c : Connection C) (old new : RegistryState D) (moment : ℕ) (disk : D) (found more : List (List ℕ))
     → IsVisit o c old new moment → StepsBy o.disk old.journal new.journal → Holds o.disk disk found more old.journal → Holds o.disk disk found (more ++ option_to_list c.payload) new.journal
 visited o c old new moment disk found more visit steps before = record {
   holds = extended o.disk disk found more c.payload old.journal new.journal before.honesty visit.up before.holds
@@ -211,12 +212,12 @@ visited o c old new moment disk found more visit steps before = record {
   never_falls = omega (arith, visit.never_falls, before.never_falls);
 }
 
-visited_served : {C D : Type 0} (o : Outside C D) (c : Connection C) (old new : RegistryState D) (disk : D) (found more : List (List ℕ))
+visited_served : {C D : Type 0} (o : ServeTells C D) (c : Connection C) (old new : RegistryState D) (disk : D) (found more : List (List ℕ))
     → IsServed o c old new → Holds o.disk disk found more old.journal → Holds o.disk disk found (more ++ option_to_list c.payload) new.journal
 visited_served o c old new disk found more served before =
     visited o c old new served.moment disk found more served.visit (steps_stands o c old new served.moment served.stands) before
 
-visited_dropped : {C D : Type 0} (o : Outside C D) (c : Connection C) (old new : RegistryState D) (disk : D) (found more : List (List ℕ))
+visited_dropped : {C D : Type 0} (o : ServeTells C D) (c : Connection C) (old new : RegistryState D) (disk : D) (found more : List (List ℕ))
     → IsDropped o c old new → Holds o.disk disk found more old.journal → Holds o.disk disk found (more ++ option_to_list c.payload) new.journal
 visited_dropped o c old new disk found more dropped before =
     visited o c old new dropped.moment disk found more dropped.visit (steps_unanswered o c old new dropped.moment dropped.unanswered) before
@@ -226,7 +227,7 @@ visited_dropped o c old new disk found more dropped before =
 abbrev HoldsAt : {D : Type 0} → DiskMeaning D → D → List (List ℕ) → JournalState D → List (List ℕ) → Type 0
 HoldsAt m disk found journal more = Holds m disk found more journal
 
-pub holds_served : {C D : Type 0} (o : Outside C D) (disk : D) (found more : List (List ℕ)) (first last : RegistryState D) (cs : List (Connection C))
+pub holds_served : {C D : Type 0} (o : ServeTells C D) (disk : D) (found more : List (List ℕ)) (first last : RegistryState D) (cs : List (Connection C))
     → AreServed o first cs last → Holds o.disk disk found more first.journal → Holds o.disk disk found (more ++ payloads_of cs) last.journal
 holds_served {C} {D} o disk found more first last [] served before =
     subst (λ (r : RegistryState D). Holds o.disk disk found (more ++ []) r.journal) (sym served)
@@ -239,7 +240,7 @@ payloads_then : {C : Type 0} (cs : List (Connection C)) (o : Option (Connection 
 payloads_then [] o = refl
 payloads_then (c ∷ cs) o = ap (λ l. option_to_list c.payload ++ l) (payloads_then cs o) ∙ sym (append_assoc (option_to_list c.payload) (payloads_of cs) (payloads_of (option_to_list o)))
 
-holds_cut_at : {C D : Type 0} (o : Outside C D) (disk : D) (found more : List (List ℕ)) (middle last : RegistryState D) (before after : Option (List Closed)) (at_last : Option (Connection C))
+holds_cut_at : {C D : Type 0} (o : ServeTells C D) (disk : D) (found more : List (List ℕ)) (middle last : RegistryState D) (before after : Option (List Closed)) (at_last : Option (Connection C))
     → IsCutAt o middle at_last last before after → Holds o.disk disk found more middle.journal → Holds o.disk disk found (more ++ payloads_of (option_to_list at_last)) last.journal
 holds_cut_at {C} {D} o disk found more middle last before after None cut holds =
     subst (λ (r : RegistryState D). Holds o.disk disk found (more ++ []) r.journal) (sym cut.0)
@@ -249,7 +250,7 @@ holds_cut_at o disk found more middle last before after (Some c) (inl served, cl
 holds_cut_at o disk found more middle last before after (Some c) (inr dropped, closed) holds =
     subst (HoldsAt o.disk disk found last.journal) (ap (λ l. more ++ l) (sym (append-nil (option_to_list c.payload)))) (visited_dropped o c middle last disk found more dropped holds)
 
-pub holds_up_to : {C D : Type 0} (o : Outside C D) (disk : D) (found : List (List ℕ)) (first middle last : RegistryState D) (before after : Option (List Closed)) (cs : List (Connection C)) (at_last : Option (Connection C))
+pub holds_up_to : {C D : Type 0} (o : ServeTells C D) (disk : D) (found : List (List ℕ)) (first middle last : RegistryState D) (before after : Option (List Closed)) (cs : List (Connection C)) (at_last : Option (Connection C))
     → AreServed o first cs middle → IsCutAt o middle at_last last before after → Holds o.disk disk found [] first.journal → Holds o.disk disk found (payloads_of (cs ++ option_to_list at_last)) last.journal
 holds_up_to o disk found first middle last before after cs at_last served cut start =
     subst (HoldsAt o.disk disk found last.journal) (sym (payloads_then cs at_last))

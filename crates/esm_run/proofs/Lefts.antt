@@ -11,8 +11,8 @@ use Rattle.esm_journal.specs.Pair.{pair_opened}
 use Rattle.esm_model.specs.declared.memory.OutOfMemory.{OutOfMemory}
 use Rattle.esm_upkeep.specs.Upkeep.{AreKept, AreOnlyRead, IsCompacting, IsKept, IsMigrateEnd, IsMigrating}
 use Rattle.esm_upkeep.specs.declared.ending.UpkeepEnd.{UpkeepEnd}
-use Rattle.esm_run.specs.Initialized.{disks}
 use Rattle.esm_run.specs.Tended.{AreLeft, IsLeft, IsUpkeepEnd}
+use Rattle.esm_run.specs.World.{disks}
 use Rattle.esm_run.specs.declared.tending.FilesCommand.{FilesCommand}
 use Rattle.esm_run.specs.declared.tending.FilesCommand.TheVariants.{Init, Upkeep}
 use Rattle.esm_run.specs.declared.tending.Upkeep.TheVariants.{Show, Failures, Compact, Migrate}

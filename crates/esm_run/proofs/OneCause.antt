@@ -1,8 +1,6 @@
 -- The causes of statuses exclude one another, where no device failed.
-use Rattle.std.proofs.Common.{◌≡◌, ◌∙◌, ℕ, true, false, List, Option, Some, None, ap, inl, inr, subst, sym}
+use Rattle.std.proofs.Common.{◌≡◌, ◌∙◌, ℕ, true, false, List, Option, Some, None, ap, inl, inr, sym}
 use Rattle.std.specs.Prelude.{◌⊎◌, ◌≢◌}
-use Rattle.esm_cli.specs.declared.command.Command.{Command}
-use Rattle.esm_cli.specs.declared.command.Command.TheVariants.{Run, Serve}
 use Rattle.esm_cli.specs.declared.command.RunWords.{RunWords}
 use Rattle.esm_io.specs.Faults.{Rose}
 use Rattle.esm_io.specs.Meanings.{DiskMeaning}
@@ -14,14 +12,10 @@ use Rattle.esm_model.specs.declared.entry.Entry.{Entry}
 use Rattle.esm_report.specs.declared.ending.Ending.{Ending}
 use Rattle.esm_report.specs.declared.ending.Ending.TheVariants as ending
 use Rattle.esm_stream.specs.Files.{FilesState}
-use Rattle.esm_run.specs.Answers.{HasRefusedFiles, HasRefusedMapping, IsOverFiles, IsReadyFor, IsServer, IsSoundRun, Outcome, Outside, RunCause, RunOrBadWords, RunOutcome, Seen}
-use Rattle.esm_run.specs.Built.{SpellsBuilt}
+use Rattle.esm_run.specs.Answers.{HasRefusedFiles, HasRefusedMapping, IsReadyFor, IsSoundRun, RunCause, RunOutcome}
 use Rattle.esm_run.specs.Endings.{ending_of_mapping, status_of, IsTold}
-use Rattle.esm_run.specs.Tended.{command_of}
-use Rattle.esm_run.specs.Written.{Written}
-use Rattle.esm_run.specs.declared.tending.FilesCommand.{FilesCommand}
-use Rattle.esm_run.proofs.FilesCommands.{not_run, not_serve, same_files}
-use Rattle.esm_run.proofs.OneCommand.{OneCommand, OneStatus, no_serve}
+use Rattle.esm_run.specs.World.{RunTells, Seen, Written}
+use Rattle.esm_run.proofs.OneCommand.{OneCommand}
 use Rattle.esm_run.proofs.OneQueueRun.{one_queue_run}
 use Rattle.esm_run.proofs.OneReading.{WholeGoesOn}
 use Rattle.esm_run.proofs.OneReady.{IsOneAnswer, no_mapping_refused, same_mapping, same_reason}
@@ -48,14 +42,14 @@ none_tells e is = cc
 not_memory : (why : MappingError) (e : Ending) → ending_of_mapping why ≡ Some e → why ≢ OutOfMemory
 not_memory why e tells memory = none_tells e (sym (ap ending_of_mapping memory) ∙ tells)
 
-refused_twice : {S D F : Type 0} (o : Outside S D F) (r : RunWords) (old new : Seen S D F) (e d : Ending) → AreLaws o.run.disk → IsSoundRun o r old new
+refused_twice : {S D F : Type 0} (o : RunTells S D F) (r : RunWords) (old new : Seen S D F) (e d : Ending) → AreLaws o.run.disk → IsSoundRun o r old new
     → HasRefusedMapping o.run.disk r old new e → HasRefusedMapping o.run.disk r old new d → status_of e ≡ status_of d
 refused_twice o r old new e d laws sound one other =
     let whys : one.why ≡ other.why =
     same_reason o r old new one.why other.why laws.one_answer sound one.refused (not_memory one.why e one.tells) other.refused (not_memory other.why d other.tells) in
     same_status e d (sym one.tells ∙ ap ending_of_mapping whys ∙ other.tells)
 
-unrun_twice : {S D F : Type 0} (o : Outside S D F) (r : RunWords) (old new : Seen S D F) (e d : Ending) → AreLaws o.run.disk → IsSoundRun o r old new
+unrun_twice : {S D F : Type 0} (o : RunTells S D F) (r : RunWords) (old new : Seen S D F) (e d : Ending) → AreLaws o.run.disk → IsSoundRun o r old new
     → HasRefusedFiles o.run.disk old new e ⊎ HasRefusedMapping o.run.disk r old new e → HasRefusedFiles o.run.disk old new d ⊎ HasRefusedMapping o.run.disk r old new d
     → status_of e ≡ status_of d
 unrun_twice o r old new e d laws sound (inl one) (inl other) = (refused_files o r old new e sound one).0 ∙ sym (refused_files o r old new d sound other).0
@@ -64,7 +58,7 @@ unrun_twice o r old new e d laws sound (inr one) (inl other) = absurd ((refused_
 unrun_twice o r old new e d laws sound (inr one) (inr other) = refused_twice o r old new e d laws sound one other
 
 -- a run over good files of a mapping that was named excludes these reasons
-run_or_unrun : {S D F : Type 0} (o : Outside S D F) (r : RunWords) (old new : Seen S D F) (mapping : NamedMapping) (files : FilesState D) (e : Ending) → AreLaws o.run.disk → IsSoundRun o r old new
+run_or_unrun : {S D F : Type 0} (o : RunTells S D F) (r : RunWords) (old new : Seen S D F) (mapping : NamedMapping) (files : FilesState D) (e : Ending) → AreLaws o.run.disk → IsSoundRun o r old new
     → IsReadyFor o.run.disk r old new mapping files → HasRefusedFiles o.run.disk old new e ⊎ HasRefusedMapping o.run.disk r old new e → ⊥
 run_or_unrun o r old new mapping files e laws sound ready (inl refused) = (refused_files o r old new e sound refused).1 (good_of_ready o.run.disk r old new mapping files ready)
 run_or_unrun o r old new mapping files e laws sound ready (inr refused) =
@@ -78,7 +72,7 @@ one_kind a b same stream queue =
 
 -- why the options of `run` ended
 
-one_cause : {S D F : Type 0} (o : Outside S D F) (r : RunWords) (h : List Entry) (old new : Seen S D F) (t u : List ℕ) (e d : Ending)
+one_cause : {S D F : Type 0} (o : RunTells S D F) (r : RunWords) (h : List Entry) (old new : Seen S D F) (t u : List ℕ) (e d : Ending)
     → AreLaws o.run.disk → IsSoundRun o r old new → RunCause o r h old new t e → RunCause o r h old new u d → status_of e ≡ status_of d
 one_cause o r h old new t u e d laws sound (inl one) (inl other) = unrun_twice o r old new e d laws sound one.why other.why
 one_cause o r h old new t u e d laws sound (inl one) (inr (inl other)) = absurd (run_or_unrun o r old new other.mapping other.files e laws sound other.ready one.why)
@@ -103,91 +97,16 @@ told_status : (faults_before faults_now : ℕ) (before after : Option (List ℕ)
 told_status faults_before faults_now before after text e status sound (inl told) = told.0
 told_status faults_before faults_now before after text e status sound (inr failed) = absurd (sound failed.1.fault)
 
-bad_words_status : (faults_before faults_now : ℕ) (before after : Option (List ℕ)) (text : List ℕ) (status : ℕ)
+pub bad_words_status : (faults_before faults_now : ℕ) (before after : Option (List ℕ)) (text : List ℕ) (status : ℕ)
     → IsTold faults_before faults_now before after text ending.BadWords status → status ≡ 2
 bad_words_status faults_before faults_now before after text status (inl told) = told.0
 bad_words_status faults_before faults_now before after text status (inr failed) = failed.0
 
 -- two outcomes of the same run have one status
 
-same_options : {S D F : Type 0} (o : Outside S D F) (r : RunWords) (output : Written) (h : List Entry) (old new : Seen S D F) (a b : ℕ)
+pub same_options : {S D F : Type 0} (o : RunTells S D F) (r : RunWords) (output : Written) (h : List Entry) (old new : Seen S D F) (a b : ℕ)
     → AreLaws o.run.disk → IsSoundRun o r old new → ¬ Rose output.faults_before output.faults_now → RunOutcome o r output h old new a → RunOutcome o r output h old new b → a ≡ b
 same_options o r output h old new a b laws run_sound sound one other =
     told_status output.faults_before output.faults_now output.before output.after one.ended.text one.ending a sound one.told
     ∙ one_cause o r h old new one.ended.text other.ended.text one.ending other.ending laws run_sound one.ended.cause other.ended.cause
     ∙ sym (told_status output.faults_before output.faults_now output.before output.after other.ended.text other.ending b sound other.told)
-
--- the statuses of `run` and of bad words
-
-same_run : (r q : RunWords) → Run r ≡ Run q → r ≡ q
-same_run r q same = cc
-
--- the words name options of which each run was without faults
-abbrev AreSoundRuns : {S D F : Type 0} → Outside S D F → List (List ℕ) → (old new : Seen S D F) → Type 0
-AreSoundRuns o words old new = (r : RunWords) → SpellsBuilt words (Run r) → IsSoundRun o r old new
-
-one_of_run : {S D F : Type 0} (o : Outside S D F) (words : List (List ℕ)) (output : Written) (h : List Entry) (old new : Seen S D F) (a b : ℕ)
-    → AreLaws o.run.disk → AreSoundRuns o words old new → ¬ Rose output.faults_before output.faults_now
-    → RunOrBadWords o words output h old new a → RunOrBadWords o words output h old new b → a ≡ b
-one_of_run o words output h old new a b laws runs_sound sound (inl one) (inl other) =
-    let runs : one.0 ≡ other.0 = same_run one.0 other.0 (laws.one_command words (Run one.0) (Run other.0) one.1.0 other.1.0) in
-    same_options o other.0 output h old new a b laws (runs_sound other.0 other.1) sound (subst (λ r. RunOutcome o r output h old new a) runs one.2) other.2
-one_of_run o words output h old new a b laws runs_sound sound (inl one) (inr other) = absurd (other.none_spelled (Run one.0) one.1)
-one_of_run o words output h old new a b laws runs_sound sound (inr one) (inl other) = absurd (one.none_spelled (Run other.0) other.1)
-one_of_run o words output h old new a b laws runs_sound sound (inr one) (inr other) =
-    bad_words_status output.faults_before output.faults_now output.before output.after _ a one.told
-    ∙ sym (bad_words_status output.faults_before output.faults_now output.before output.after _ b other.told)
-
--- the statuses of the commands over the files alone and of `serve`
-
-other_and_run : {S D F : Type 0} (o : Outside S D F) (words : List (List ℕ)) (output : Written) (h : List Entry) (old new : Seen S D F) (c : Command) (a : ℕ)
-    → OneCommand → ((r : RunWords) → c ≡ Run r → ⊥) → SpellsBuilt words c → RunOrBadWords o words output h old new a → ⊥
-other_and_run o words output h old new c a one other spelled (inl run) = other run.0 (one words c (Run run.0) spelled.0 run.1.0)
-other_and_run o words output h old new c a one other spelled (inr bad) = bad.none_spelled c spelled
-
-pub files_and_serve : (words : List (List ℕ)) (c : FilesCommand) (requests : ℕ) → OneCommand → SpellsBuilt words (command_of c) → SpellsBuilt words (Serve requests) → ⊥
-files_and_serve words c requests one spelled other = not_serve c requests (one words (command_of c) (Serve requests) spelled.0 other.0)
-
-same_requests : (n m : ℕ) → Serve n ≡ Serve m → n ≡ m
-same_requests n m same = cc
-
-one_of_files : {S D F : Type 0} (words : List (List ℕ)) (h : List Entry) (old new : Seen S D F) (files : FilesCommand → ℕ → Type 0) (a b : ℕ)
-    → OneCommand → ((c : FilesCommand) → SpellsBuilt words (command_of c) → OneStatus (files c)) → IsOverFiles words h old new files a → IsOverFiles words h old new files b → a ≡ b
-one_of_files words h old new files a b one each x y =
-    let same : y.which ≡ x.which = same_files y.which x.which (one words (command_of y.which) (command_of x.which) y.spelled.0 x.spelled.0) in
-    each x.which x.spelled a b x.ended (subst (λ c. files c b) same y.ended)
-
-one_of_serve : {S D F : Type 0} (words : List (List ℕ)) (h : List Entry) (old new : Seen S D F) (serve : ℕ → ℕ → Type 0) (a b : ℕ)
-    → OneCommand → ((requests : ℕ) → SpellsBuilt words (Serve requests) → OneStatus (serve requests)) → IsServer words h old new serve a → IsServer words h old new serve b → a ≡ b
-one_of_serve words h old new serve a b one serves x y =
-    let same : y.requests ≡ x.requests = same_requests y.requests x.requests (one words (Serve y.requests) (Serve x.requests) y.spelled.0 x.spelled.0) in
-    serves x.requests x.spelled a b x.ended (subst (λ n. serve n b) same y.ended)
-
--- these laws, and that no device of the command failed
-pub record AreOne {S D F : Type 0} (o : Outside S D F) (words : List (List ℕ)) (output : Written) (old new : Seen S D F) (files : FilesCommand → ℕ → Type 0) (serve : ℕ → ℕ → Type 0) : Type 0 where
-  pub laws : AreLaws o.run.disk
-  pub of_files : (c : FilesCommand) → SpellsBuilt words (command_of c) → OneStatus (files c)
-  pub of_serve : (requests : ℕ) → SpellsBuilt words (Serve requests) → OneStatus (serve requests)
-  pub of_run : (r : RunWords) → SpellsBuilt words (Run r) → IsSoundRun o r old new
-  pub sound : ¬ Rose output.faults_before output.faults_now
-
-pub one_status : {S D F : Type 0} (o : Outside S D F) (words : List (List ℕ)) (output : Written) (h : List Entry) (old new : Seen S D F) (files : FilesCommand → ℕ → Type 0) (serve : ℕ → ℕ → Type 0) (a b : ℕ)
-    → AreOne o words output old new files serve → Outcome o words output h old new files serve a → Outcome o words output h old new files serve b → a ≡ b
-one_status o words output h old new files serve a b is (inl x) (inl y) =
-    one_of_run o words output h old new a b is.laws is.of_run is.sound x y
-one_status o words output h old new files serve a b is (inl x) (inr (inl y)) =
-    absurd (other_and_run o words output h old new (command_of y.which) a is.laws.one_command (not_run y.which) y.spelled x)
-one_status o words output h old new files serve a b is (inl x) (inr (inr y)) =
-    absurd (other_and_run o words output h old new (Serve y.requests) a is.laws.one_command (no_serve y.requests) y.spelled x)
-one_status o words output h old new files serve a b is (inr (inl x)) (inl y) =
-    absurd (other_and_run o words output h old new (command_of x.which) b is.laws.one_command (not_run x.which) x.spelled y)
-one_status o words output h old new files serve a b is (inr (inr x)) (inl y) =
-    absurd (other_and_run o words output h old new (Serve x.requests) b is.laws.one_command (no_serve x.requests) x.spelled y)
-one_status o words output h old new files serve a b is (inr (inl x)) (inr (inl y)) =
-    one_of_files words h old new files a b is.laws.one_command is.of_files x y
-one_status o words output h old new files serve a b is (inr (inl x)) (inr (inr y)) =
-    absurd (files_and_serve words x.which y.requests is.laws.one_command x.spelled y.spelled)
-one_status o words output h old new files serve a b is (inr (inr x)) (inr (inl y)) =
-    absurd (files_and_serve words y.which x.requests is.laws.one_command y.spelled x.spelled)
-one_status o words output h old new files serve a b is (inr (inr x)) (inr (inr y)) =
-    one_of_serve words h old new serve a b is.laws.one_command is.of_serve x y

@@ -1,16 +1,16 @@
 -- Words spell one command at most.
-use Rattle.std.proofs.Common.{◌≡◌, ℕ, List}
+use Rattle.std.proofs.Common.{◌≡◌, ℕ, List, subst}
 use Rattle.esm_cli.specs.Words.{spells}
 use Rattle.esm_cli.specs.declared.command.Command.{Command}
-use Rattle.esm_cli.specs.declared.command.Command.TheVariants.{Run, Serve}
-use Rattle.esm_cli.specs.declared.command.RunWords.{RunWords}
+use Rattle.esm_run.specs.Built.{SpellsBuilt}
 
 -- the law of the words
 abbrev pub OneCommand : Type 0
 OneCommand = (words : List (List ℕ)) (c d : Command) → spells words c → spells words d → c ≡ d
 
-pub no_serve : (requests : ℕ) (r : RunWords) → Serve requests ≡ Run r → ⊥
-no_serve requests r same = cc
+-- what holds of the command that they spell holds of each that they spell
+pub by_command : (P : Command → Type 0) (words : List (List ℕ)) (c : Command) → OneCommand → SpellsBuilt words c → P c → (d : Command) → SpellsBuilt words d → P d
+by_command P words c one spelled p d also = subst P (one words c d spelled.0 also.0) p
 
 -- two outcomes of a command have one status
 abbrev pub OneStatus : (ℕ → Type 0) → Type 0

@@ -13,7 +13,7 @@ use Rattle.esm_upkeep.specs.declared.ending.JournalFile.TheVariants as file
 use Rattle.esm_upkeep.specs.declared.ending.UpkeepEnd.{UpkeepEnd}
 use Rattle.esm_upkeep.specs.declared.ending.UpkeepEnd.TheVariants as end
 use Rattle.esm_run.specs.Tended.{AreSoundUnder, FilesOutcome, IsSoundDisk, IsUpkeepEnd}
-use Rattle.esm_run.specs.Written.{Written}
+use Rattle.esm_run.specs.World.{Written}
 use Rattle.esm_run.specs.declared.tending.FilesCommand.{FilesCommand}
 use Rattle.esm_run.specs.declared.tending.FilesCommand.TheVariants.{Init, Upkeep}
 use Rattle.esm_run.specs.declared.tending.Upkeep.{Upkeep as Named}

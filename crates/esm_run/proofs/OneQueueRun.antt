@@ -22,8 +22,9 @@ use Rattle.esm_report.specs.declared.ending.Ending.{Ending}
 use Rattle.esm_said.specs.SaidLists.{SaidLists}
 use Rattle.esm_stream.specs.Files.{FilesState}
 use Rattle.esm_stream.specs.Headline.{Devices, Telling}
-use Rattle.esm_run.specs.Answers.{IsQueueRun, IsSoundRun, Outside, Seen, devices_of, visibility_of}
+use Rattle.esm_run.specs.Answers.{IsQueueRun, IsSoundRun, visibility_of}
 use Rattle.esm_run.specs.Endings.{ending_of_queue, ending_of_reading, status_of}
+use Rattle.esm_run.specs.World.{RunTells, Seen, devices_of}
 use Rattle.esm_run.proofs.Fronts.{IsFront, messages_front}
 use Rattle.esm_run.proofs.KeptIds.{same_ids}
 use Rattle.esm_run.proofs.OneReading.{IsReadFrom, WholeGoesOn, one_end, one_front, one_handed, some_of}
@@ -119,7 +120,7 @@ shared_by faults left c old new i j s z h goes told sound one other same legal o
       other_front = λ e ended. messages_front (handed i) (handed j) (one_front faults left (line_kind c) c.factor c.start old new j i e goes told sound second first ended);
     }
 
-pub one_queue_run : {S D F : Type 0} (o : Outside S D F) (r : RunWords) (h : List Entry) (old new : Seen S D F) (text other_text : List ℕ) (e d : Ending)
+pub one_queue_run : {S D F : Type 0} (o : RunTells S D F) (r : RunWords) (h : List Entry) (old new : Seen S D F) (text other_text : List ℕ) (e d : Ending)
     → WholeGoesOn → SameTold → IsSoundRun o r old new → (one : IsQueueRun o r h old new text e) → (other : IsQueueRun o r h old new other_text d) → one.mapping ≡ other.mapping
     → status_of e ≡ status_of d
 one_queue_run o r h old new text other_text e d goes told sound one other mappings =

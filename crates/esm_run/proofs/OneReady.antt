@@ -15,8 +15,9 @@ use Rattle.esm_mapping.specs.declared.named.NamedMapping.{NamedMapping}
 use Rattle.esm_stream.specs.Files.{FilesState}
 use Rattle.esm_stream.specs.Headline.{Devices, Telling}
 use Rattle.esm_upkeep.specs.Upkeep.{OneRose, found}
-use Rattle.esm_run.specs.Answers.{IsReadyFor, IsSoundRegistry, IsSoundRun, Outside, Seen, devices_of}
+use Rattle.esm_run.specs.Answers.{IsReadyFor, IsSoundRegistry, IsSoundRun}
 use Rattle.esm_run.specs.Tended.{IsSoundDisk}
+use Rattle.esm_run.specs.World.{RunTells, Seen, devices_of}
 use Rattle.esm_run.proofs.OneSetting.{SameTold, one_said}
 
 -- the laws of what words name; where they name a mapping by a text, each disk will do
@@ -39,7 +40,7 @@ pub record IsOneAnswer {D : Type 0} (m : DiskMeaning D) : Type 0 where
 
 -- of a sound run the journal's disk is one for a text
 
-journal_sound : {S D F : Type 0} (o : Outside S D F) (r : RunWords) (old new : Seen S D F) → IsSoundRun o r old new → IsSoundDisk o.run.disk old.disks.journal new.disks.journal
+journal_sound : {S D F : Type 0} (o : RunTells S D F) (r : RunWords) (old new : Seen S D F) → IsSoundRun o r old new → IsSoundDisk o.run.disk old.disks.journal new.disks.journal
 journal_sound o r old new sound = record { honest = sound.honest.0; no_fault = λ rose. sound.no_fault (inl rose) }
 
 named_once : {D : Type 0} (m : DiskMeaning D) (w : Which) (journal journal' old new : D) (a b : NamedMapping)
@@ -63,19 +64,19 @@ refused_once m (which.Mapping id) journal journal' old new a b law sound registr
 
 -- of a sound run
 
-pub same_mapping : {S D F : Type 0} (o : Outside S D F) (r : RunWords) (old new : Seen S D F) (a b : NamedMapping) (f g : FilesState D)
+pub same_mapping : {S D F : Type 0} (o : RunTells S D F) (r : RunWords) (old new : Seen S D F) (a b : NamedMapping) (f g : FilesState D)
     → IsOneAnswer o.run.disk → IsSoundRun o r old new → IsReadyFor o.run.disk r old new a f → IsReadyFor o.run.disk r old new b g → a ≡ b
 same_mapping o r old new a b f g laws sound one other =
     named_once o.run.disk r.which old.disks.journal new.disks.journal old.disks.registry new.disks.registry a b
     laws.one_mapping (journal_sound o r old new sound) sound.registry one.named other.named
 
-pub no_mapping_refused : {S D F : Type 0} (o : Outside S D F) (r : RunWords) (old new : Seen S D F) (a : NamedMapping) (f : FilesState D) (why : MappingError)
+pub no_mapping_refused : {S D F : Type 0} (o : RunTells S D F) (r : RunWords) (old new : Seen S D F) (a : NamedMapping) (f : FilesState D) (why : MappingError)
     → IsOneAnswer o.run.disk → IsSoundRun o r old new → IsReadyFor o.run.disk r old new a f → WhyNot o.run.disk r.which old.disks.registry new.disks.registry why → why ≡ OutOfMemory
 no_mapping_refused o r old new a f why laws sound ready refused =
     named_for_no_reason o.run.disk r.which old.disks.journal new.disks.journal old.disks.registry new.disks.registry a why
     laws.no_reason (journal_sound o r old new sound) sound.registry ready.named refused
 
-pub same_reason : {S D F : Type 0} (o : Outside S D F) (r : RunWords) (old new : Seen S D F) (a b : MappingError) → IsOneAnswer o.run.disk → IsSoundRun o r old new
+pub same_reason : {S D F : Type 0} (o : RunTells S D F) (r : RunWords) (old new : Seen S D F) (a b : MappingError) → IsOneAnswer o.run.disk → IsSoundRun o r old new
     → WhyNot o.run.disk r.which old.disks.registry new.disks.registry a → a ≢ OutOfMemory → WhyNot o.run.disk r.which old.disks.registry new.disks.registry b → b ≢ OutOfMemory → a ≡ b
 same_reason o r old new a b laws sound one caused other caused_too =
     refused_once o.run.disk r.which old.disks.journal new.disks.journal old.disks.registry new.disks.registry a b
@@ -87,7 +88,7 @@ pub record IsFaultless {D F : Type 0} (t : Telling D F) (f : FilesState D) (new 
   pub pair : OneRose t.disk f.journal f.spare new.journal new.spare → ⊥
   pub failures : Rose (t.disk.faults f.failures) (t.disk.faults new.failures) → ⊥
 
-pub faultless : {S D F : Type 0} (o : Outside S D F) (r : RunWords) (old new : Seen S D F) (mapping : NamedMapping) (f : FilesState D)
+pub faultless : {S D F : Type 0} (o : RunTells S D F) (r : RunWords) (old new : Seen S D F) (mapping : NamedMapping) (f : FilesState D)
     → IsSoundRun o r old new → IsReadyFor o.run.disk r old new mapping f → IsFaultless o.run f (devices_of new)
 faultless o r old new mapping f sound ready = record {
   pair = subst (λ d. OneRose o.run.disk d f.spare new.disks.journal new.disks.spare → ⊥) (sym ready.journal)
@@ -96,7 +97,7 @@ faultless o r old new mapping f sound ready = record {
 }
 
 -- the pair was found so
-opens_to : {S D F : Type 0} (o : Outside S D F) (r : RunWords) (old new : Seen S D F) (mapping : NamedMapping) (f : FilesState D) → IsSoundRun o r old new → IsReadyFor o.run.disk r old new mapping f
+opens_to : {S D F : Type 0} (o : RunTells S D F) (r : RunWords) (old new : Seen S D F) (mapping : NamedMapping) (f : FilesState D) → IsSoundRun o r old new → IsReadyFor o.run.disk r old new mapping f
     → found o.run.disk old.disks.journal old.disks.spare ≡ Holding f.pair.epoch f.pair.payloads
 opens_to o r old new mapping f sound ready =
     ap (λ d. found o.run.disk d old.disks.spare) (sym ready.journal)
@@ -106,7 +107,7 @@ opens_to o r old new mapping f sound ready =
       subst (λ d. o.run.disk.honest d ≡ true) (sym ready.spare) sound.honest.1,
     )
 
-pub same_said : {S D F : Type 0} (o : Outside S D F) (r : RunWords) (old new : Seen S D F) (a b : NamedMapping) (f g : FilesState D)
+pub same_said : {S D F : Type 0} (o : RunTells S D F) (r : RunWords) (old new : Seen S D F) (a b : NamedMapping) (f g : FilesState D)
     → SameTold → IsSoundRun o r old new → IsReadyFor o.run.disk r old new a f → IsReadyFor o.run.disk r old new b g → f.said ≡ g.said
 same_said o r old new a b f g told sound one other =
     one_said (found o.run.disk old.disks.journal old.disks.spare) f.pair.epoch g.pair.epoch f.pair.payloads g.pair.payloads f.said g.said told

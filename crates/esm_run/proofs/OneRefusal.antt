@@ -12,8 +12,9 @@ use Rattle.esm_stream.specs.declared.files.FilesError.TheVariants as files
 use Rattle.esm_cli.specs.declared.command.RunWords.{RunWords}
 use Rattle.esm_init.specs.declared.disks.Disks.{Disks}
 use Rattle.esm_mapping.specs.declared.named.NamedMapping.{NamedMapping}
-use Rattle.esm_run.specs.Answers.{AreGoodFiles, HasRefusedFiles, IsReadyFor, IsSoundRun, Outside, Seen}
+use Rattle.esm_run.specs.Answers.{AreGoodFiles, HasRefusedFiles, IsReadyFor, IsSoundRun}
 use Rattle.esm_run.specs.Endings.{ending_of_files, status_of}
+use Rattle.esm_run.specs.World.{RunTells, Seen}
 use Rattle.esm_run.proofs.BadPayloads.{AreAny, AreGood, Holds, not_bad, not_damaged, not_foreign}
 
 -- what good files hold
@@ -45,7 +46,7 @@ told_so a e is = (let same : e ≡ a = cc in ap status_of same)
 abbrev IsBadFiles : {D : Type 0} → DiskMeaning D → Disks D → Ending → Type 0
 IsBadFiles m disks e = (status_of e ≡ 8) × (AreGoodFiles m disks → ⊥)
 
-refused_for : {S D F : Type 0} (o : Outside S D F) (r : RunWords) (old new : Seen S D F) (why : FilesError) (e : Ending) → IsSoundRun o r old new → ending_of_files why ≡ Some e
+refused_for : {S D F : Type 0} (o : RunTells S D F) (r : RunWords) (old new : Seen S D F) (why : FilesError) (e : Ending) → IsSoundRun o r old new → ending_of_files why ≡ Some e
     → WhyRefused o.run.disk old.disks.journal old.disks.spare old.disks.failures new.disks.journal new.disks.spare new.disks.failures why → IsBadFiles o.run.disk old.disks e
 refused_for o r old new (files.NotAJournal file.Journal) e sound tells why = (
   told_so (ending.NotAJournal name.Journal) e tells,
@@ -71,6 +72,6 @@ refused_for o r old new (files.BadPayload index) e sound tells why = (
 refused_for o r old new files.DiskFault e sound tells why = absurd (elim why [ inl rose ↦ sound.no_fault rose | inr rose ↦ sound.no_failures_fault rose ])
 refused_for o r old new files.OutOfMemory e sound tells why = absurd (cc)
 
-pub refused_files : {S D F : Type 0} (o : Outside S D F) (r : RunWords) (old new : Seen S D F) (e : Ending) → IsSoundRun o r old new → HasRefusedFiles o.run.disk old new e
+pub refused_files : {S D F : Type 0} (o : RunTells S D F) (r : RunWords) (old new : Seen S D F) (e : Ending) → IsSoundRun o r old new → HasRefusedFiles o.run.disk old new e
     → (status_of e ≡ 8) × (AreGoodFiles o.run.disk old.disks → ⊥)
 refused_files o r old new e sound is = refused_for o r old new is.why e sound is.tells is.refused.cause

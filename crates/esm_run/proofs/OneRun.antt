@@ -20,8 +20,9 @@ use Rattle.esm_stream.specs.Files.{FilesState}
 use Rattle.esm_stream.specs.Headline.{Devices, Telling}
 use Rattle.esm_stream.specs.declared.run.StreamEnd.{StreamEnd}
 use Rattle.esm_stream.specs.declared.run.StreamEnd.TheVariants as end
-use Rattle.esm_run.specs.Answers.{IsSoundRun, IsStreamRun, Outside, Seen, devices_of}
+use Rattle.esm_run.specs.Answers.{IsSoundRun, IsStreamRun}
 use Rattle.esm_run.specs.Endings.{ending_of, ending_of_reading, status_of}
+use Rattle.esm_run.specs.World.{RunTells, Seen, devices_of}
 use Rattle.esm_run.proofs.Fronts.{IsFront, records_front}
 use Rattle.esm_run.proofs.KeptNumbers.{unchanged}
 use Rattle.esm_run.proofs.OneReading.{IsReadFrom, WholeGoesOn, one_end, one_front, some_of}
@@ -92,23 +93,23 @@ shared_by faults left c start old new i j s z h goes told sound one other same l
       other_front = λ e ended. records_front (handed i) (handed j) (one_front faults left kinds.Stream c.factor start old new j i e goes told sound second first ended);
     }
 
-pub one_run : {S D F : Type 0} (o : Outside S D F) (r : RunWords) (h : List Entry) (old new : Seen S D F) (text other_text : List ℕ) (e d : Ending)
+pub one_run : {S D F : Type 0} (o : RunTells S D F) (r : RunWords) (h : List Entry) (old new : Seen S D F) (text other_text : List ℕ) (e d : Ending)
     → WholeGoesOn → SameTold → IsSoundRun o r old new → (one : IsStreamRun o r h old new text e) → (other : IsStreamRun o r h old new other_text d) → one.mapping ≡ other.mapping
     → status_of e ≡ status_of d
 one_run o r h old new text other_text e d goes told sound one other mappings =
     let saids : one.files.said ≡ other.files.said =
     same_said o r old new one.mapping other.mapping one.files other.files told sound one.ready other.ready in
-    let xs : List Record = records_in_items (handed one.run.input) in
-    let ys : List Record = records_in_items (handed other.run.input) in
-    let input : IsInputOf o.faults o.left one.mapping.config one.mapping.start old.input new.input other.run.input =
-    subst (λ (n : NamedMapping). IsInputOf o.faults o.left n.config n.start old.input new.input other.run.input) (sym mappings) other.run.is_input in
-    let same : other.run.setting ≡ over one.run.setting other.run.setting.streams =
-    one_setting one.mapping.config other.mapping.config r.calls one.files.said other.files.said xs ys one.run.setting other.run.setting
-    (ap (λ (n : NamedMapping). n.config) mappings) saids one.run.is_setting other.run.is_setting in
+    let xs : List Record = records_in_items (handed one.input) in
+    let ys : List Record = records_in_items (handed other.input) in
+    let input : IsInputOf o.faults o.left one.mapping.config one.mapping.start old.input new.input other.input =
+    subst (λ (n : NamedMapping). IsInputOf o.faults o.left n.config n.start old.input new.input other.input) (sym mappings) other.is_input in
+    let same : other.setting ≡ over one.setting other.setting.streams =
+    one_setting one.mapping.config other.mapping.config r.calls one.files.said other.files.said xs ys one.setting other.setting
+    (ap (λ (n : NamedMapping). n.config) mappings) saids one.is_setting other.is_setting in
     ap status_of one.tells
-    ∙ one_stream_end o.run one.files other.files one.run.setting other.run.setting h xs ys one.run.input.end other.run.input.end (devices_of new) one.end other.end
+    ∙ one_stream_end o.run one.files other.files one.setting other.setting h xs ys one.input.end other.input.end (devices_of new) one.end other.end
     (faultless o r old new one.mapping one.files sound one.ready) (faultless o r old new other.mapping other.files sound other.ready)
-    (shared_by o.faults o.left one.mapping.config one.mapping.start old.input new.input one.run.input other.run.input one.run.setting other.run.setting h goes sound.told sound.no_input_fault
-    one.run.is_input input same one.run.headline.legal_trace other.run.headline.legal_trace)
-    one.run.cause other.run.cause
+    (shared_by o.faults o.left one.mapping.config one.mapping.start old.input new.input one.input other.input one.setting other.setting h goes sound.told sound.no_input_fault
+    one.is_input input same one.headline.legal_trace other.headline.legal_trace)
+    one.cause other.cause
     ∙ sym (ap status_of other.tells)

@@ -13,8 +13,8 @@ use Rattle.esm_run.specs.declared.connections.Stop.TheVariants as stop
 use Rattle.esm_run.specs.declared.registry_file.ServeEnd.{ServeEnd}
 use Rattle.esm_run.specs.declared.registry_file.ServeEnd.TheVariants as end
 use Rattle.esm_run.specs.Serve.{IsServeEnd, IsSoundServe, ServeOutcome, serve_status, stop_status}
-use Rattle.esm_run.specs.Serving.{DoorSeen, Outside, StopsFor}
-use Rattle.esm_run.specs.Written.{Written}
+use Rattle.esm_run.specs.Serving.{StopsFor}
+use Rattle.esm_run.specs.World.{DoorSeen, ServeTells, Written}
 use Rattle.esm_run.proofs.Inits.{told_with}
 use Rattle.esm_run.proofs.OneCommand.{OneStatus}
 
@@ -53,13 +53,13 @@ not_bad bytes a n opens none (payloads, holding, (s, says)) =
     let both : Some s ≡ None = sym says ∙ ap mappings_of same ∙ none_behind a n none in
     cc
 
-stopped_well : {C D : Type 0} (o : Outside C D) (old new : D) (door : DoorSeen) (requests : ℕ) (accepted : Accepted) (why : Stop) (down : _) → IsSoundServe o old new door
+stopped_well : {C D : Type 0} (o : ServeTells C D) (old new : D) (door : DoorSeen) (requests : ℕ) (accepted : Accepted) (why : Stop) (down : _) → IsSoundServe o old new door
     → StopsFor (o.disk.faults old) (o.disk.faults new) down door requests accepted.count why → stop_status why ≡ 0
 stopped_well o old new door requests accepted stop.Done down sound stops = refl
 stopped_well o old new door requests accepted stop.DiskFault down sound stops = absurd (sound.no_disk_fault stops.0)
 stopped_well o old new door requests accepted stop.DoorFault down sound stops = absurd (sound.no_door_fault stops.0)
 
-good_or_bad : {C D : Type 0} (o : Outside C D) (old new : D) (door : DoorSeen) (requests : ℕ) (e : ServeEnd) → IsSoundServe o old new door → IsServeEnd o old new door requests e
+good_or_bad : {C D : Type 0} (o : ServeTells C D) (old new : D) (door : DoorSeen) (requests : ℕ) (e : ServeEnd) → IsSoundServe o old new door → IsServeEnd o old new door requests e
     → IsGoodOrBad (o.disk.content old) (serve_status e)
 good_or_bad o old new door requests end.NotAJournal sound is = inr (refl, not_foreign (o.disk.content old) (is.1 sound.honest))
 good_or_bad o old new door requests (end.Damaged place) sound is = inr (refl, not_damaged (o.disk.content old) place (is.1 sound.honest))
@@ -79,7 +79,7 @@ one_of_both bytes a b (inl one) (inr other) = absurd (other.1 one.1)
 one_of_both bytes a b (inr one) (inl other) = absurd (one.1 other.1)
 one_of_both bytes a b (inr one) (inr other) = one.0 ∙ sym other.0
 
-pub one_serve : {C D : Type 0} (o : Outside C D) (old new : D) (door : DoorSeen) (output : Written) (requests : ℕ) → (Rose output.faults_before output.faults_now → ⊥) → IsSoundServe o old new door
+pub one_serve : {C D : Type 0} (o : ServeTells C D) (old new : D) (door : DoorSeen) (output : Written) (requests : ℕ) → (Rose output.faults_before output.faults_now → ⊥) → IsSoundServe o old new door
     → OneStatus (ServeOutcome o old new door output requests)
 one_serve o old new door output requests sound serve_sound a b one other =
     told_with output.faults_before output.faults_now output.before output.after _ _ _ a sound one.told

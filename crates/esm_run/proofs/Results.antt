@@ -1,6 +1,6 @@
 -- Facts of what a result holds.
 use Rattle.std.proofs.Common.{◌≡◌, subst, Result, Ok, Err}
-use Rattle.std.specs.Prelude.{OnOk, OnErr, IfErr, IfOk}
+use Rattle.std.specs.Prelude.{OnOk, OnErr, IfErr, IfOk, IsOkAnd}
 
 pub on_ok : {A E : Type 0} (r : Result A E) (P : Type 0) → P → OnOk r P
 on_ok (Ok a) P p = p
@@ -27,3 +27,7 @@ at_err P r e is p = subst (λ (r : Result _ _). IfErr r P) is p
 pub with_err : {A E : Type 0} {P Q : Type 0} (r : Result A E) → (P → Q) → OnErr r P → OnErr r Q
 with_err (Ok a) more p = tt
 with_err (Err e) more p = more p
+
+pub with_both : {A E : Type 0} {P Q : A → Type 0} {R : Type 0} (r : Result A E) → ((a : A) → P a → Q a → R) → IsOkAnd r P → IfOk r Q → R
+with_both (Ok a) more p q = more a p q
+with_both (Err e) more p q = absurd p

@@ -4,6 +4,7 @@ use Rattle.std.specs.Prelude.{◌⊎◌, IfOk, OnErr}
 use Rattle.esm_model.specs.Valid.{is_stream}
 use Rattle.esm_model.specs.declared.entry.Entry.{Entry}
 use Rattle.esm_model.specs.declared.memory.OutOfMemory.{OutOfMemory}
+use Rattle.esm_model.specs.Entries.{CallsFollowShut}
 use Rattle.esm_model.specs.Setting.{Setting}
 use Rattle.esm_cli.specs.declared.command.RunWords.{RunWords}
 use Rattle.esm_cli.specs.declared.command.Which.{Which}
@@ -24,11 +25,11 @@ use Rattle.esm_stream.specs.Ended as stream
 use Rattle.esm_stream.specs.Files.{FilesState, IsOpenedFiles, AreRefused}
 use Rattle.esm_stream.specs.declared.files.FilesError.{FilesError}
 use Rattle.esm_stream.specs.declared.run.StreamEnd.{StreamEnd}
-use Rattle.esm_run.specs.Answers.{Outside, Seen, AreGoodFiles, HasNotBegun, HasRefusedFiles, HasRefusedMapping, IsCutOf, IsReadyFor, IsRegistryLeft, RunEnded, RunOutcome, devices_of, visibility_of}
+use Rattle.esm_run.specs.Answers.{AreGoodFiles, HasNotBegun, HasRefusedFiles, HasRefusedMapping, IsCutOf, IsReadyFor, IsRegistryLeft, RunEnded, RunOutcome, visibility_of}
+use Rattle.esm_run.specs.Headline.{Headline}
 use Rattle.esm_run.specs.Endings.{IsTold, ending_of, ending_of_files, ending_of_mapping, ending_of_queue}
-use Rattle.esm_run.specs.Initialized.{disks}
 use Rattle.esm_run.specs.Ran.{EndsWith, IsEndingOf, IsEndingOfQueue, IsReport}
-use Rattle.esm_run.specs.Written.{Written}
+use Rattle.esm_run.specs.World.{RunTells, Seen, Written, devices_of, disks}
 use Rattle.esm_run.specs.declared.left.Began.{Began}
 use Rattle.esm_run.specs.declared.left.Began.TheVariants as began
 use Rattle.esm_run.proofs.Alone.{files_alone, mapping_alone}
@@ -54,8 +55,8 @@ registry_left m (Mapping id) old new read untouched = read
 pub registry_unopened : {D : Type 0} (m : DiskMeaning D) (which : Which) (disk : D) → IsOnlyRead m disk disk → IsRegistryLeft m which disk disk
 registry_unopened m which disk read = registry_left m which disk disk read (λ text is. refl)
 
-module _ {S D F : Type 0} (o : Outside S D F) (r : RunWords) (h : List Entry) (old new : Seen S D F) where
-  module _ (mapping : NamedMapping) (files : FilesState D) (ready : IsReadyFor o.run.disk r old new mapping files) where
+module _ {S D F : Type 0} (o : RunTells S D F) (r : RunWords) (h : List Entry) (old new : Seen S D F) where
+  module _ (mapping : NamedMapping) (files : FilesState D) (ready : IsReadyFor o.run.disk r old new mapping files) (later : r.read_first ≡ true → CallsFollowShut h) where
     -- a stream's mapping ran
 
     abbrev HasStreamEnded : StreamEnd → Type 0
@@ -64,10 +65,48 @@ module _ {S D F : Type 0} (o : Outside S D F) (r : RunWords) (h : List Entry) (o
     abbrev HasStreamStopped : Type 0
     HasStreamStopped = stream.HasStoppedRun o.run o.left mapping.config mapping.start r.calls files old.input new.input old.callers h (devices_of new)
 
+    headline_of : (end : StreamEnd) (is : HasStreamEnded end) → Headline o r files is.setting h end is.hand old new (report_text is.setting h (ending_of end))
+    headline_of end is = record {
+      legal_trace = is.headline.legal_trace;
+      moments = is.headline.moments;
+      calls_made = is.calls_made;
+      none_runs = is.rests;
+      journal_kept = is.headline.journal_kept;
+      journal_stopped = is.headline.journal_stopped;
+      crash_kept = is.headline.crash;
+      in_hand = is.headline.in_hand;
+      failure_lines_kept = is.headline.failure_lines_kept;
+      report_told = refl;
+      order_per_key = is.headline.order_per_key;
+      no_repeat = is.headline.no_repeat;
+      every_record_counted = is.headline.every_record_counted;
+      checkpoint_is_longest = is.headline.checkpoint_is_longest;
+      checkpoint_is_recorded = is.headline.checkpoint_is_recorded;
+      one_fate = is.headline.one_fate;
+      fates_are_recorded = is.headline.fates_are_recorded;
+      fate_is_earned = is.headline.fate_is_earned;
+      answers_are_logged = is.headline.answers_are_logged;
+      read_first = later;
+    }
+
     stream_ended : is_stream mapping.config.kind ≡ true → (end : StreamEnd) → HasStreamEnded end → RunEnded o r h old new (ending_of end)
     stream_ended kind end is = record {
       text = report_text is.setting h (ending_of end);
-      cause = inr (inl (record { mapping = mapping; files = files; ready = ready; kind = kind; end = end; run = is; tells = refl; text_is = refl }));
+      cause = inr (inl (record {
+        mapping = mapping;
+        files = files;
+        ready = ready;
+        kind = kind;
+        input = is.input;
+        is_input = is.is_input;
+        setting = is.setting;
+        is_setting = is.is_setting;
+        end = end;
+        tells = refl;
+        cause = is.cause;
+        hand = is.hand;
+        headline = headline_of end is;
+      }));
     }
 
     -- it came to its end, which is told
@@ -87,7 +126,7 @@ module _ {S D F : Type 0} (o : Outside S D F) (r : RunWords) (h : List Entry) (o
     -- it was stopped, or its end could not be told
     pub stream_cut : is_stream mapping.config.kind ≡ true → (end : Result StreamEnd OutOfMemory) → IfOk end HasStreamEnded → OnErr end HasStreamStopped → IsCutOf o r h old new
     stream_cut kind (Ok end) is stopped = inr (inr (ending_of end, stream_ended kind end is))
-    stream_cut kind (Err why) is stopped = inr (inl (inl (record { mapping = mapping; files = files; ready = ready; kind = kind; run = stopped })))
+    stream_cut kind (Err why) is stopped = inr (inl (inl (record { mapping = mapping; files = files; ready = ready; kind = kind; run = stopped; read_first = later })))
 
     -- a queue's mapping ran
 
@@ -100,7 +139,7 @@ module _ {S D F : Type 0} (o : Outside S D F) (r : RunWords) (h : List Entry) (o
     queue_ended : is_stream mapping.config.kind ≡ false → (end : QueueEnd) → HasQueueEnded end → RunEnded o r h old new (ending_of_queue end)
     queue_ended kind end is = record {
       text = queue_report_text is.setting h (ending_of_queue end);
-      cause = inr (inr (record { mapping = mapping; files = files; ready = ready; kind = kind; end = end; run = is; tells = refl; text_is = refl }));
+      cause = inr (inr (record { mapping = mapping; files = files; ready = ready; kind = kind; end = end; run = is; tells = refl; text_is = refl; read_first = later }));
     }
 
     pub queue_ends : is_stream mapping.config.kind ≡ false → (said : SaidLists) (end : Result QueueEnd OutOfMemory) (e : Ending) → said ≡ files.said
@@ -119,7 +158,7 @@ module _ {S D F : Type 0} (o : Outside S D F) (r : RunWords) (h : List Entry) (o
 
     pub queue_cut : is_stream mapping.config.kind ≡ false → (end : Result QueueEnd OutOfMemory) → IfOk end HasQueueEnded → OnErr end HasQueueStopped → IsCutOf o r h old new
     queue_cut kind (Ok end) is stopped = inr (inr (ending_of_queue end, queue_ended kind end is))
-    queue_cut kind (Err why) is stopped = inr (inl (inr (record { mapping = mapping; files = files; ready = ready; kind = kind; run = stopped })))
+    queue_cut kind (Err why) is stopped = inr (inl (inr (record { mapping = mapping; files = files; ready = ready; kind = kind; run = stopped; read_first = later })))
 
   -- nothing ran
 

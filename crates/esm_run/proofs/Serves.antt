@@ -19,7 +19,8 @@ use Rattle.esm_run.specs.declared.registry_file.ServeEnd.{ServeEnd}
 use Rattle.esm_run.specs.declared.registry_file.ServeEnd.TheVariants as end
 use Rattle.esm_run.specs.Refusals.{end_of_file, end_of_payloads}
 use Rattle.esm_run.specs.Serve.{HasServed, HasServedUpTo, IsOpened, IsServeCut, IsServeEnd, IsUnserved}
-use Rattle.esm_run.specs.Serving.{DoorSeen, HaveServed, HaveServedUpTo, Outside, StopsFor}
+use Rattle.esm_run.specs.Serving.{HaveServed, HaveServedUpTo, StopsFor}
+use Rattle.esm_run.specs.World.{DoorSeen, ServeTells}
 use Rattle.esm_run.proofs.Kept.{holds_opened, holds_served, holds_up_to}
 use Rattle.esm_run.proofs.Visits.{rose_before}
 
@@ -32,7 +33,7 @@ stops_before first before now down door requests count stop.DoorFault lower stop
 
 -- over a registry that opened
 
-pub has_served : {C D : Type 0} (o : Outside C D) (old new : D) (door : DoorSeen) (requests : ℕ) (accepted : Accepted) (first last : RegistryState D) → IsOpened o.disk old first → HaveServed o first last door accepted.count
+pub has_served : {C D : Type 0} (o : ServeTells C D) (old new : D) (door : DoorSeen) (requests : ℕ) (accepted : Accepted) (first last : RegistryState D) → IsOpened o.disk old first → HaveServed o first last door accepted.count
     → StopsFor (o.disk.faults first.journal.disk) (o.disk.faults last.journal.disk) last.journal.down door requests accepted.count accepted.stop → new ≡ last.journal.disk
     → HasServed o old new door requests accepted
 has_served o old new door requests accepted first last opened served stops is = record {
@@ -47,7 +48,7 @@ has_served o old new door requests accepted first last opened served stops is = 
       opened.only_read.never_falls stops);
 }
 
-pub has_served_up_to : {C D : Type 0} (o : Outside C D) (old new : D) (door : DoorSeen) (first last : RegistryState D) → IsOpened o.disk old first → HaveServedUpTo o first last door → new ≡ last.journal.disk
+pub has_served_up_to : {C D : Type 0} (o : ServeTells C D) (old new : D) (door : DoorSeen) (first last : RegistryState D) → IsOpened o.disk old first → HaveServedUpTo o first last door → new ≡ last.journal.disk
     → HasServedUpTo o old new door
 has_served_up_to o old new door first last opened served is = record {
   first = first;
@@ -60,7 +61,7 @@ has_served_up_to o old new door first last opened served is = record {
 
 -- what was served to its end, and only not told
 
-whole_up_to : {C D : Type 0} (o : Outside C D) (first last : RegistryState D) (door : DoorSeen) (count : ℕ) → HaveServed o first last door count → HaveServedUpTo o first last door
+whole_up_to : {C D : Type 0} (o : ServeTells C D) (first last : RegistryState D) (door : DoorSeen) (count : ℕ) → HaveServed o first last door count → HaveServedUpTo o first last door
 whole_up_to o first last door count served = record {
   connections = served.connections;
   middle = last;
@@ -71,7 +72,7 @@ whole_up_to o first last door count served = record {
   cut = (refl, refl);
 }
 
-pub cut_of_end : {C D : Type 0} (o : Outside C D) (old new : D) (door : DoorSeen) (requests : ℕ) (e : ServeEnd) → IsServeEnd o old new door requests e → IsServeCut o old new door
+pub cut_of_end : {C D : Type 0} (o : ServeTells C D) (old new : D) (door : DoorSeen) (requests : ℕ) (e : ServeEnd) → IsServeEnd o old new door requests e → IsServeCut o old new door
 cut_of_end o old new door requests end.NotAJournal is = inl is.0
 cut_of_end o old new door requests (end.Damaged place) is = inl is.0
 cut_of_end o old new door requests (end.BadPayload index) is = inl is.0
@@ -79,7 +80,7 @@ cut_of_end o old new door requests end.OpenFault is = inl is.0
 cut_of_end o old new door requests (end.Served accepted) is =
     inr (has_served_up_to o old new door is.first is.last is.opened (whole_up_to o is.first is.last door accepted.count is.served) is.disk_is)
 
-pub serve_cut : {C D : Type 0} (o : Outside C D) (old new : D) (door : DoorSeen) (requests : ℕ) (result : Result ServeEnd OutOfMemory) → IfOk result (IsServeEnd o old new door requests) → OnErr result (IsServeCut o old new door) → IsServeCut o old new door
+pub serve_cut : {C D : Type 0} (o : ServeTells C D) (old new : D) (door : DoorSeen) (requests : ℕ) (result : Result ServeEnd OutOfMemory) → IfOk result (IsServeEnd o old new door requests) → OnErr result (IsServeCut o old new door) → IsServeCut o old new door
 serve_cut o old new door requests (Ok e) ended cut = cut_of_end o old new door requests e ended
 serve_cut o old new door requests (Err e) ended cut = cut
 
@@ -108,7 +109,7 @@ unserved_same m old new door only_now same closed no_call = record {
 pub unserved : {D : Type 0} (m : DiskMeaning D) (old new : D) (door : DoorSeen) → IsOnlyRead m old new → door.after ≡ door.before → door.faults_now ≡ door.faults_before → IsUnserved m old new door
 unserved m old new door only_read same no_call = record { only_read = only_read; no_connection = same; no_call = no_call }
 
-pub refused_file : {C D : Type 0} (o : Outside C D) (old new : D) (door : DoorSeen) (requests : ℕ) (why : OpenError) → IsUnserved o.disk old new door
+pub refused_file : {C D : Type 0} (o : ServeTells C D) (old new : D) (door : DoorSeen) (requests : ℕ) (why : OpenError) → IsUnserved o.disk old new door
     → RefusedFor (λ first. o.disk.honest old ≡ true → (opened (header_of 1) (o.disk.content old) ≡ Foreign) × (first ≡ eight_at (o.disk.content old) 0))
     (λ place. o.disk.honest old ≡ true → opened (header_of 1) (o.disk.content old) ≡ Damaged place) (Rose (o.disk.faults old) (o.disk.faults new)) why
     → IfOk (end_of_file why) (IsServeEnd o old new door requests)
@@ -117,7 +118,7 @@ refused_file o old new door requests (open_error.Damaged place) unserved why = (
 refused_file o old new door requests open_error.DiskFault unserved why = (unserved, why)
 refused_file o old new door requests open_error.OutOfMemory unserved why = tt
 
-pub refused_payloads : {C D : Type 0} (o : Outside C D) (old new : D) (door : DoorSeen) (requests : ℕ) (found : List (List ℕ)) (why : RegistryOpen) → IsUnserved o.disk old new door
+pub refused_payloads : {C D : Type 0} (o : ServeTells C D) (old new : D) (door : DoorSeen) (requests : ℕ) (found : List (List ℕ)) (why : RegistryOpen) → IsUnserved o.disk old new door
     → (o.disk.honest old ≡ true → OpensTo (header_of 1) found (o.disk.content old)) → ((index : ℕ) → why ≡ payloads_error.BadPayload index → IsFirstBad found index)
     → IfOk (end_of_payloads why) (IsServeEnd o old new door requests)
 refused_payloads o old new door requests found (payloads_error.BadPayload index) unserved opens bad = (unserved, λ honest. (found, opens honest, bad index refl))

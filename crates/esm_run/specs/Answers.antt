@@ -1,10 +1,10 @@
--- What a command's words did to the world. This product's own.
-use Rattle.std.specs.Prelude.{◌≡◌, ◌⊎◌, ◌*◌, ℕ, Bool, true, false, List, [], Option, Some, IsSome}
-use Rattle.esm_model.specs.declared.called.Called.{Called}
+-- How the options of `run` ended, and what they left. This product's own.
+use Rattle.std.specs.Prelude.{◌≡◌, ◌⊎◌, ◌*◌, ℕ, true, false, List, [], Some, IsSome}
 use Rattle.esm_model.specs.declared.entry.Entry.{Entry}
+use Rattle.esm_model.specs.Entries.{CallsFollowShut}
+use Rattle.esm_model.specs.Setting.{Setting}
 use Rattle.esm_model.specs.Valid.{is_stream}
 use Rattle.esm_cli.specs.declared.command.Command.{Command}
-use Rattle.esm_cli.specs.declared.command.Command.TheVariants.{Run, Serve}
 use Rattle.esm_cli.specs.declared.command.RunWords.{RunWords}
 use Rattle.esm_cli.specs.declared.command.Which.{Which}
 use Rattle.esm_cli.specs.declared.command.Which.TheVariants.{Config, Mapping}
@@ -12,50 +12,28 @@ use Rattle.esm_init.specs.declared.disks.Disks.{Disks}
 use Rattle.esm_io.specs.Faults.{Rose}
 use Rattle.esm_io.specs.Meanings.{DiskMeaning}
 use Rattle.esm_journal.specs.Reads.{IsOnlyRead}
+use Rattle.esm_input.specs.Reading.{InputState, handed}
 use Rattle.esm_mapping.specs.Named.{IsNamed, WhyNot}
 use Rattle.esm_mapping.specs.declared.named.MappingError.{MappingError}
 use Rattle.esm_mapping.specs.declared.named.NamedMapping.{NamedMapping}
-use Rattle.esm_batchers.specs.Working.{outside}
+use Rattle.esm_pool.specs.Coming.{records_in_items}
 use Rattle.esm_queue_report.specs.Queue.{queue_report_text}
 use Rattle.esm_queue_run.specs.Ended as queue
 use Rattle.esm_queue_run.specs.declared.run.QueueEnd.{QueueEnd}
 use Rattle.esm_report.specs.declared.ending.Ending.{Ending}
 use Rattle.esm_report.specs.declared.ending.Ending.TheVariants as ending
-use Rattle.esm_report.specs.Report.{last_line, report_text}
+use Rattle.esm_report.specs.Report.{last_line}
 use Rattle.esm_stream.specs.Ended as stream
+use Rattle.esm_stream.specs.Headline.{IsSettingOf}
 use Rattle.esm_stream.specs.Files.{FilesState, IsOpenedFiles, AreRefused, AreUnwritten, AreGoodPayloads, AreFoundLines}
-use Rattle.esm_stream.specs.Headline.{Telling, Devices, telling}
 use Rattle.esm_stream.specs.declared.files.FilesError.{FilesError}
 use Rattle.esm_stream.specs.declared.run.StreamEnd.{StreamEnd}
 use Rattle.esm_upkeep.specs.Upkeep.{AreHonest, OneRose}
 use Rattle.esm_run.specs.Built.{SpellsBuilt}
 use Rattle.esm_run.specs.Endings.{IsTold, ending_of, ending_of_files, ending_of_mapping, ending_of_queue}
-use Rattle.esm_run.specs.Initialized.{disks}
-use Rattle.esm_run.specs.Written.{Written}
-use Rattle.esm_run.specs.declared.tending.FilesCommand.{FilesCommand}
-use Rattle.esm_run.specs.Tended.{IsSoundDisk, command_of}
-
--- what devices tell: of the clock, the callers and the disks, and of the input
-pub record Outside (S D F : Type 0) : Type 1 where
-  pub run : Telling D F
-  pub faults : S → ℕ
-  pub left : S → Option (List ℕ)
-
-abbrev pub outside_of : {S D F : Type 0} → (ℕ → Bool) → (List ℕ → List ℕ) → (F → Option (List Called)) → DiskMeaning D → (S → ℕ) → (S → Option (List ℕ)) → Outside S D F
-outside_of gave sends log disk faults left = record { run = telling (outside gave sends log) disk; faults = faults; left = left }
-
--- what is seen of a world before or after: its input, disks and callers
-pub record Seen (S D F : Type 0) : Type 0 where
-  pub input : S
-  pub disks : Disks D
-  pub callers : List F
-
-abbrev pub seen_of : {S D F : Type 0} → S → (journal spare failures registry : D) → List F → Seen S D F
-seen_of input journal spare failures registry callers = record { input = input; disks = disks journal spare failures registry; callers = callers }
-
--- the disks that a run writes, and the callers
-abbrev pub devices_of : {S D F : Type 0} → Seen S D F → Devices D F
-devices_of w = record { journal = w.disks.journal; spare = w.disks.spare; failures = w.disks.failures; callers = w.callers }
+use Rattle.esm_run.specs.Headline.{Headline}
+use Rattle.esm_run.specs.Tended.{IsSoundDisk}
+use Rattle.esm_run.specs.World.{RunTells, Seen, Written, devices_of, disks}
 
 -- nothing came, and input and callers are as before
 pub record IsUntouched {S D F : Type 0} (h : List Entry) (old new : Seen S D F) : Type 0 where
@@ -118,18 +96,25 @@ abbrev pub visibility_of : RunWords → ℕ
 visibility_of r = r.visibility * 1000
 
 -- the stream's mapping of these options ran, and its report is told
-pub record IsStreamRun {S D F : Type 0} (o : Outside S D F) (r : RunWords) (h : List Entry) (old new : Seen S D F) (text : List ℕ) (ending : Ending) : Type 0 where
+pub record IsStreamRun {S D F : Type 0} (o : RunTells S D F) (r : RunWords) (h : List Entry) (old new : Seen S D F) (text : List ℕ) (ending : Ending) : Type 0 where
   pub mapping : NamedMapping
   pub files : FilesState D
   pub ready : IsReadyFor o.run.disk r old new mapping files
   pub kind : is_stream mapping.config.kind ≡ true
+  -- the input as it was read, and the setting that it makes
+  pub input : InputState S
+  pub is_input : stream.IsInputOf o.faults o.left mapping.config mapping.start old.input new.input input
+  pub setting : Setting
+  pub is_setting : IsSettingOf mapping.config r.calls files.said (records_in_items (handed input)) setting
+  -- how it ended, and why
   pub end : StreamEnd
-  pub run : stream.HasEnded o.run o.faults o.left mapping.config mapping.start r.calls files old.input new.input old.callers h (devices_of new) end
   pub tells : ending ≡ ending_of end
-  pub text_is : text ≡ report_text run.setting h ending
+  pub cause : stream.IsCauseOf o.run files setting h (records_in_items (handed input)) input.end (devices_of new) end
+  pub hand : List Entry
+  pub headline : Headline o r files setting h end hand old new text
 
 -- the queue's mapping of these options ran, and its report is told
-pub record IsQueueRun {S D F : Type 0} (o : Outside S D F) (r : RunWords) (h : List Entry) (old new : Seen S D F) (text : List ℕ) (ending : Ending) : Type 0 where
+pub record IsQueueRun {S D F : Type 0} (o : RunTells S D F) (r : RunWords) (h : List Entry) (old new : Seen S D F) (text : List ℕ) (ending : Ending) : Type 0 where
   pub mapping : NamedMapping
   pub files : FilesState D
   pub ready : IsReadyFor o.run.disk r old new mapping files
@@ -138,20 +123,22 @@ pub record IsQueueRun {S D F : Type 0} (o : Outside S D F) (r : RunWords) (h : L
   pub run : queue.HasEnded o.run o.faults o.left mapping.config r.calls (visibility_of r) files old.input new.input old.callers h (devices_of new) end
   pub tells : ending ≡ ending_of_queue end
   pub text_is : text ≡ queue_report_text run.setting h ending
+  -- with `--read-first` no call begins before the end of the input was noted
+  pub read_first : r.read_first ≡ true → CallsFollowShut h
 
 -- why the options of `run` ended so, and what is told: nothing ran, or the mapping ran, a stream's or a queue's
-abbrev pub RunCause : {S D F : Type 0} → Outside S D F → RunWords → List Entry → (old new : Seen S D F) → (text : List ℕ) → Ending → Type 0
+abbrev pub RunCause : {S D F : Type 0} → RunTells S D F → RunWords → List Entry → (old new : Seen S D F) → (text : List ℕ) → Ending → Type 0
 RunCause o r h old new text ending =
     HasNotRun o.run.disk r h old new text ending
     ⊎ (IsStreamRun o r h old new text ending ⊎ IsQueueRun o r h old new text ending)
 
 -- the options of `run` came to this ending, and this is their report
-pub record RunEnded {S D F : Type 0} (o : Outside S D F) (r : RunWords) (h : List Entry) (old new : Seen S D F) (ending : Ending) : Type 0 where
+pub record RunEnded {S D F : Type 0} (o : RunTells S D F) (r : RunWords) (h : List Entry) (old new : Seen S D F) (ending : Ending) : Type 0 where
   pub text : List ℕ
   pub cause : RunCause o r h old new text ending
 
 -- the options of `run` ended with the status: why, and what was told
-pub record RunOutcome {S D F : Type 0} (o : Outside S D F) (r : RunWords) (output : Written) (h : List Entry) (old new : Seen S D F) (status : ℕ) : Type 0 where
+pub record RunOutcome {S D F : Type 0} (o : RunTells S D F) (r : RunWords) (output : Written) (h : List Entry) (old new : Seen S D F) (status : ℕ) : Type 0 where
   pub ending : Ending
   pub ended : RunEnded o r h old new ending
   pub told : IsTold output.faults_before output.faults_now output.before output.after ended.text ending status
@@ -162,32 +149,6 @@ pub record AreBadWords {S D F : Type 0} (words : List (List ℕ)) (output : Writ
   pub untouched : IsUntouched h old new
   pub told : IsTold output.faults_before output.faults_now output.before output.after (last_line ending.BadWords) ending.BadWords status
 
--- the options of `run` that the words spell ended with the status, or they spell no command that is built
-abbrev pub RunOrBadWords : {S D F : Type 0} → Outside S D F → List (List ℕ) → Written → List Entry → (old new : Seen S D F) → ℕ → Type 0
-RunOrBadWords o words output h old new status =
-    ((r : RunWords) × SpellsBuilt words (Run r) × RunOutcome o r output h old new status)
-    ⊎ AreBadWords words output h old new status
-
--- a command over the files alone ended with the status, and nothing was read or called
-pub record IsOverFiles {S D F : Type 0} (words : List (List ℕ)) (h : List Entry) (old new : Seen S D F) (outcome : FilesCommand → (status : ℕ) → Type 0) (status : ℕ) : Type 0 where
-  pub which : FilesCommand
-  pub spelled : SpellsBuilt words (command_of which)
-  pub untouched : IsUntouched h old new
-  pub ended : outcome which status
-
--- `serve` ended with the status, and nothing was read or called
-pub record IsServer {S D F : Type 0} (words : List (List ℕ)) (h : List Entry) (old new : Seen S D F) (outcome : (requests status : ℕ) → Type 0) (status : ℕ) : Type 0 where
-  pub requests : ℕ
-  pub spelled : SpellsBuilt words (Serve requests)
-  pub untouched : IsUntouched h old new
-  pub ended : outcome requests status
-
--- what the words did; `files` and `serve` are what the commands over the files alone and `serve` did
-abbrev pub Outcome : {S D F : Type 0} → Outside S D F → List (List ℕ) → Written → List Entry → (old new : Seen S D F) → (files : FilesCommand → ℕ → Type 0) → (serve : ℕ → ℕ → Type 0) → ℕ → Type 0
-Outcome o words output h old new files serve status =
-    RunOrBadWords o words output h old new status
-    ⊎ (IsOverFiles words h old new files status ⊎ IsServer words h old new serve status)
-
 -- the registry's disk, where the words name a mapping of it
 abbrev pub IsSoundRegistry : {D : Type 0} → DiskMeaning D → Which → (old new : D) → Type 0
 IsSoundRegistry m (Config text) old new = Unit {0}
@@ -195,7 +156,7 @@ IsSoundRegistry m (Mapping id) old new = IsSoundDisk m old new
 
 -- no fault: the input tells its bytes, and no count of faults of the input or of a disk of a run rose or stands at its last
 -- value, and these disks are honest
-pub record IsSoundRun {S D F : Type 0} (o : Outside S D F) (r : RunWords) (old new : Seen S D F) : Type 0 where
+pub record IsSoundRun {S D F : Type 0} (o : RunTells S D F) (r : RunWords) (old new : Seen S D F) : Type 0 where
   pub told : IsSome (o.left old.input)
   pub no_input_fault : ¬ Rose (o.faults old.input) (o.faults new.input)
   pub honest : AreHonest o.run.disk old.disks.journal old.disks.spare
@@ -207,30 +168,27 @@ pub record IsSoundRun {S D F : Type 0} (o : Outside S D F) (r : RunWords) (old n
 -- want of memory
 
 -- it stopped the run of the stream's mapping of these options
-pub record IsStoppedStream {S D F : Type 0} (o : Outside S D F) (r : RunWords) (h : List Entry) (old new : Seen S D F) : Type 0 where
+pub record IsStoppedStream {S D F : Type 0} (o : RunTells S D F) (r : RunWords) (h : List Entry) (old new : Seen S D F) : Type 0 where
   pub mapping : NamedMapping
   pub files : FilesState D
   pub ready : IsReadyFor o.run.disk r old new mapping files
   pub kind : is_stream mapping.config.kind ≡ true
   pub run : stream.HasStoppedRun o.run o.left mapping.config mapping.start r.calls files old.input new.input old.callers h (devices_of new)
+  pub read_first : r.read_first ≡ true → CallsFollowShut h
 
 -- it stopped the run of the queue's mapping of these options
-pub record IsStoppedQueue {S D F : Type 0} (o : Outside S D F) (r : RunWords) (h : List Entry) (old new : Seen S D F) : Type 0 where
+pub record IsStoppedQueue {S D F : Type 0} (o : RunTells S D F) (r : RunWords) (h : List Entry) (old new : Seen S D F) : Type 0 where
   pub mapping : NamedMapping
   pub files : FilesState D
   pub ready : IsReadyFor o.run.disk r old new mapping files
   pub kind : is_stream mapping.config.kind ≡ false
   pub run : queue.HasStoppedRun o.run o.left mapping.config r.calls (visibility_of r) files old.input new.input old.callers h (devices_of new)
+  pub read_first : r.read_first ≡ true → CallsFollowShut h
 
 -- it stopped the run of a mapping
-abbrev pub IsStoppedOf : {S D F : Type 0} → Outside S D F → RunWords → List Entry → (old new : Seen S D F) → Type 0
+abbrev pub IsStoppedOf : {S D F : Type 0} → RunTells S D F → RunWords → List Entry → (old new : Seen S D F) → Type 0
 IsStoppedOf o r h old new = IsStoppedStream o r h old new ⊎ IsStoppedQueue o r h old new
 
 -- it stopped these options of `run`: before anything came; in the run; or when the run had ended and was to be told
-abbrev pub IsCutOf : {S D F : Type 0} → Outside S D F → RunWords → List Entry → (old new : Seen S D F) → Type 0
+abbrev pub IsCutOf : {S D F : Type 0} → RunTells S D F → RunWords → List Entry → (old new : Seen S D F) → Type 0
 IsCutOf o r h old new = HasNotBegun o.run.disk r h old new ⊎ (IsStoppedOf o r h old new ⊎ ((e : Ending) × RunEnded o r h old new e))
-
--- it stopped what the words ask for
-abbrev pub IsCut : {S D F : Type 0} → Outside S D F → List (List ℕ) → List Entry → (old new : Seen S D F) → Type 0
-IsCut o words h old new =
-    IsUntouched h old new ⊎ ((r : RunWords) × SpellsBuilt words (Run r) × IsCutOf o r h old new)

@@ -3,13 +3,14 @@
 use Rattle.std.specs.Prelude.{◌≡◌, ℕ, Bool, true, false, List}
 use Rattle.esm_cli.specs.Words.{spells}
 use Rattle.esm_cli.specs.declared.command.Command.{Command}
-use Rattle.esm_cli.specs.declared.command.Command.TheVariants.{Init, Run, Show, Failures, Compact, Serve, Migrate}
+use Rattle.esm_cli.specs.declared.command.Command.TheVariants.{Init, Run, Show, Failures, Gen, Compact, Serve, Migrate}
 
 abbrev pub is_built : Command → Bool
 is_built Init = true
 is_built (Run r) = true
 is_built Show = true
 is_built Failures = true
+is_built (Gen records) = true
 is_built Compact = true
 is_built (Serve requests) = true
 is_built Migrate = true

@@ -9,11 +9,7 @@ use Rattle.esm_init.specs.declared.disks.FileName.{FileName}
 use Rattle.esm_init.specs.declared.files.InitEnd.{InitEnd}
 use Rattle.esm_init.specs.declared.files.InitEnd.TheVariants.{Done, NotEmpty, DiskFault}
 use Rattle.esm_run.specs.Endings.{IsToldWith}
-use Rattle.esm_run.specs.Written.{Written}
-
--- the disks of a world
-abbrev pub disks : {D : Type 0} → (journal spare failures registry : D) → Disks D
-disks journal spare failures registry = record { journal = journal; spare = spare; failures = failures; registry = registry }
+use Rattle.esm_run.specs.World.{Written}
 
 abbrev pub init_status : InitEnd → ℕ
 init_status Done = 0

@@ -12,8 +12,9 @@ use Rattle.esm_report.specs.declared.ending.Ending.{Ending}
 use Rattle.esm_report.specs.Report.{last_line, report_text, stands_alone}
 use Rattle.esm_said.specs.SaidLists.{SaidLists}
 use Rattle.esm_stream.specs.declared.run.StreamEnd.{StreamEnd}
-use Rattle.esm_run.specs.Answers.{Outside, Seen, RunEnded}
+use Rattle.esm_run.specs.Answers.{RunEnded}
 use Rattle.esm_run.specs.Endings.{ending_of, ending_of_queue}
+use Rattle.esm_run.specs.World.{RunTells, Seen}
 use Rattle.esm_run.specs.declared.left.Began.{Began}
 use Rattle.esm_run.specs.declared.left.Began.TheVariants as began
 
@@ -52,6 +53,6 @@ IsReport h ending (began.Stream said) text = IsStreamReport h ending said text
 IsReport h ending (began.Queue said) text = IsQueueReport h ending said text
 
 -- the options came to this ending, and their report is of what began
-pub record EndsWith {S D F : Type 0} (o : Outside S D F) (r : RunWords) (h : List Entry) (old new : Seen S D F) (b : Began) (ending : Ending) : Type 0 where
+pub record EndsWith {S D F : Type 0} (o : RunTells S D F) (r : RunWords) (h : List Entry) (old new : Seen S D F) (b : Began) (ending : Ending) : Type 0 where
   pub ended : RunEnded o r h old new ending
   pub report : IsReport h ending b ended.text

@@ -18,8 +18,8 @@ use Rattle.esm_run.specs.declared.registry_file.ServeEnd.{ServeEnd}
 use Rattle.esm_run.specs.declared.registry_file.ServeEnd.TheVariants as end
 use Rattle.esm_run.specs.Endings.{IsToldWith}
 use Rattle.esm_run.specs.Initialized.{OUTPUT_FAULT}
-use Rattle.esm_run.specs.Serving.{Outside, DoorSeen, HaveServed, HaveServedUpTo, StopsFor, payloads_of}
-use Rattle.esm_run.specs.Written.{Written}
+use Rattle.esm_run.specs.Serving.{HaveServed, HaveServedUpTo, StopsFor, payloads_of}
+use Rattle.esm_run.specs.World.{DoorSeen, ServeTells, Written}
 
 -- statuses and texts
 
@@ -93,7 +93,7 @@ pub record IsUnserved {D : Type 0} (m : DiskMeaning D) (old new : D) (door : Doo
   pub no_call : door.faults_now ≡ door.faults_before
 
 -- the file opened, connections were served over its registry, and why no more were
-pub record HasServed {C D : Type 0} (o : Outside C D) (old new : D) (door : DoorSeen) (requests : ℕ) (accepted : Accepted) : Type 0 where
+pub record HasServed {C D : Type 0} (o : ServeTells C D) (old new : D) (door : DoorSeen) (requests : ℕ) (accepted : Accepted) : Type 0 where
   pub first : RegistryState D
   pub last : RegistryState D
   pub opened : IsOpened o.disk old first
@@ -107,20 +107,20 @@ abbrev pub HasBadPayload : ℕ → List ℕ → Type 0
 HasBadPayload index bytes = (payloads : List (List ℕ)) × OpensTo (header_of 1) payloads bytes × IsFirstBad payloads index
 
 -- why it ended so; `old` and `new` are the registry's disk before and after it
-abbrev pub IsServeEnd : {C D : Type 0} → Outside C D → (old new : D) → DoorSeen → (requests : ℕ) → ServeEnd → Type 0
+abbrev pub IsServeEnd : {C D : Type 0} → ServeTells C D → (old new : D) → DoorSeen → (requests : ℕ) → ServeEnd → Type 0
 IsServeEnd o old new door requests end.NotAJournal = IsUnserved o.disk old new door × (o.disk.honest old ≡ true → opened (header_of 1) (o.disk.content old) ≡ Foreign)
 IsServeEnd o old new door requests (end.Damaged place) = IsUnserved o.disk old new door × (o.disk.honest old ≡ true → opened (header_of 1) (o.disk.content old) ≡ Damaged place)
 IsServeEnd o old new door requests (end.BadPayload index) = IsUnserved o.disk old new door × (o.disk.honest old ≡ true → HasBadPayload index (o.disk.content old))
 IsServeEnd o old new door requests end.OpenFault = IsUnserved o.disk old new door × Rose (o.disk.faults old) (o.disk.faults new)
 IsServeEnd o old new door requests (end.Served accepted) = HasServed o old new door requests accepted
 
-pub record ServeOutcome {C D : Type 0} (o : Outside C D) (old new : D) (door : DoorSeen) (output : Written) (requests status : ℕ) : Type 0 where
+pub record ServeOutcome {C D : Type 0} (o : ServeTells C D) (old new : D) (door : DoorSeen) (output : Written) (requests status : ℕ) : Type 0 where
   pub end : ServeEnd
   pub cause : IsServeEnd o old new door requests end
   pub told : IsToldWith output.faults_before output.faults_now output.before output.after (serve_text end) (serve_status end) OUTPUT_FAULT status
 
 -- the registry's disk is honest, and neither its count of faults nor the door's rose or stands at its last value
-pub record IsSoundServe {C D : Type 0} (o : Outside C D) (old new : D) (door : DoorSeen) : Type 0 where
+pub record IsSoundServe {C D : Type 0} (o : ServeTells C D) (old new : D) (door : DoorSeen) : Type 0 where
   pub honest : o.disk.honest old ≡ true
   pub no_disk_fault : ¬ Rose (o.disk.faults old) (o.disk.faults new)
   pub no_door_fault : ¬ Rose door.faults_before door.faults_now
@@ -128,7 +128,7 @@ pub record IsSoundServe {C D : Type 0} (o : Outside C D) (old new : D) (door : D
 -- want of memory
 
 -- the file opened, and want of memory stopped the serving of connections, or what was to be told of it
-pub record HasServedUpTo {C D : Type 0} (o : Outside C D) (old new : D) (door : DoorSeen) : Type 0 where
+pub record HasServedUpTo {C D : Type 0} (o : ServeTells C D) (old new : D) (door : DoorSeen) : Type 0 where
   pub first : RegistryState D
   pub last : RegistryState D
   pub opened : IsOpened o.disk old first
@@ -137,5 +137,5 @@ pub record HasServedUpTo {C D : Type 0} (o : Outside C D) (old new : D) (door : 
   pub journal : HoldsMore o.disk old first.journal.payloads (payloads_of (served.connections ++ option_to_list served.stopped_with)) last.journal
 
 -- it stopped before a connection was accepted, or later
-abbrev pub IsServeCut : {C D : Type 0} → Outside C D → (old new : D) → DoorSeen → Type 0
+abbrev pub IsServeCut : {C D : Type 0} → ServeTells C D → (old new : D) → DoorSeen → Type 0
 IsServeCut o old new door = IsUnserved o.disk old new door ⊎ HasServedUpTo o old new door

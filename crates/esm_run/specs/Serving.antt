@@ -2,32 +2,12 @@
 use Rattle.std.specs.Prelude.{◌≡◌, ◌⊎◌, ◌<◌, ◌≤◌, ℕ, Bool, true, false, List, [], ◌∷◌, ◌++◌, length, Option, Some, None}
 use Rattle.std.specs.Option.{option_to_list}
 use Rattle.esm_io.specs.Faults.{Rose}
-use Rattle.esm_io.specs.Meanings.{DiskMeaning}
-use Rattle.esm_io.specs.Talks.{Talk, Closed, Closes, IsFresh, IsReadOut}
+use Rattle.esm_io.specs.Talks.{Closed, Closes, IsFresh, IsReadOut}
 use Rattle.esm_registry.specs.State.{RegistryState}
 use Rattle.esm_api.specs.Serving.{Responds, Waits, IsUnanswered}
 use Rattle.esm_run.specs.declared.connections.Stop.{Stop}
 use Rattle.esm_run.specs.declared.connections.Stop.TheVariants.{Done, DiskFault, DoorFault}
-
--- which moments the clock gave, what connections tell, how often they failed, and what the registry's disk means
-pub record Outside (C D : Type 0) : Type 1 where
-  pub gave : ℕ → Bool
-  pub told : C → Option Talk
-  pub faults : C → ℕ
-  pub disk : DiskMeaning D
-
-abbrev pub outside : {C D : Type 0} → (ℕ → Bool) → (C → Option Talk) → (C → ℕ) → DiskMeaning D → Outside C D
-outside gave told faults disk = record { gave = gave; told = told; faults = faults; disk = disk }
-
--- what is seen of a door before and after: its count of faults, and the connections that were closed, where it tells them
-pub record DoorSeen : Type 0 where
-  pub faults_before : ℕ
-  pub faults_now : ℕ
-  pub before : Option (List Closed)
-  pub after : Option (List Closed)
-
-abbrev pub door_of : {L : Type 0} → (faults : L → ℕ) → (closed : L → Option (List Closed)) → (old new : L) → DoorSeen
-door_of faults closed old new = record { faults_before = faults old; faults_now = faults new; before = closed old; after = closed new }
+use Rattle.esm_run.specs.World.{DoorSeen, ServeTells}
 
 -- a connection as it was accepted and as it was handed to the door, and the payload of its command, where one was accepted
 pub record Connection (C : Type 0) : Type 0 where
@@ -37,7 +17,7 @@ pub record Connection (C : Type 0) : Type 0 where
 
 -- as one service leaves it: answered whole; ended before a whole request, with nothing left to read; or cut short by a fault
 -- of its own, before a whole request or while it was answered
-abbrev pub StandsServed : {C D : Type 0} → Outside C D → Connection C → (old new : RegistryState D) → (moment : ℕ) → Type 0
+abbrev pub StandsServed : {C D : Type 0} → ServeTells C D → Connection C → (old new : RegistryState D) → (moment : ℕ) → Type 0
 StandsServed o c old new moment =
     ((status : ℕ) × Responds o.told c.came c.left o.disk old new moment status [])
     ⊎ ((Waits (o.told c.came) (o.told c.left) old new × IsReadOut (o.told c.left))
@@ -46,7 +26,7 @@ StandsServed o c old new moment =
 
 -- what holds of each connection that was accepted: no call was made on it before, the registry was not down, it was served at
 -- a moment that the clock gave, and the journal has one payload more where its command was accepted
-pub record IsVisit {C D : Type 0} (o : Outside C D) (c : Connection C) (old new : RegistryState D) (moment : ℕ) : Type 0 where
+pub record IsVisit {C D : Type 0} (o : ServeTells C D) (c : Connection C) (old new : RegistryState D) (moment : ℕ) : Type 0 where
   pub fresh : IsFresh (o.told c.came)
   pub faultless : o.faults c.came ≡ 0
   pub up : old.journal.down ≡ false
@@ -56,24 +36,24 @@ pub record IsVisit {C D : Type 0} (o : Outside C D) (c : Connection C) (old new 
   pub never_falls : o.disk.faults old.journal.disk ≤ o.disk.faults new.journal.disk
 
 -- it was accepted and served, and the registry goes from the one to the other
-pub record IsServed {C D : Type 0} (o : Outside C D) (c : Connection C) (old new : RegistryState D) : Type 0 where
+pub record IsServed {C D : Type 0} (o : ServeTells C D) (c : Connection C) (old new : RegistryState D) : Type 0 where
   pub moment : ℕ
   pub visit : IsVisit o c old new moment
   pub stands : StandsServed o c old new moment
 
 -- it was accepted, and want of memory left it without an answer; a whole request may have taken effect
-pub record IsDropped {C D : Type 0} (o : Outside C D) (c : Connection C) (old new : RegistryState D) : Type 0 where
+pub record IsDropped {C D : Type 0} (o : ServeTells C D) (c : Connection C) (old new : RegistryState D) : Type 0 where
   pub moment : ℕ
   pub visit : IsVisit o c old new moment
   pub unanswered : IsUnanswered (o.told c.came) (o.told c.left) o.disk old new moment
 
 -- these were served in this order, and the registry goes from the first to the last
-abbrev pub AreServed : {C D : Type 0} → Outside C D → (first : RegistryState D) → List (Connection C) → (last : RegistryState D) → Type 0
+abbrev pub AreServed : {C D : Type 0} → ServeTells C D → (first : RegistryState D) → List (Connection C) → (last : RegistryState D) → Type 0
 AreServed o first [] last = last ≡ first
 AreServed {C} {D} o first (c ∷ cs) last = (middle : RegistryState D) × IsServed o c first middle × AreServed o middle cs last
 
 -- these were closed in this order
-abbrev pub AreClosed : {C D : Type 0} → Outside C D → (before after : Option (List Closed)) → List (Connection C) → Type 0
+abbrev pub AreClosed : {C D : Type 0} → ServeTells C D → (before after : Option (List Closed)) → List (Connection C) → Type 0
 AreClosed o before after [] = after ≡ before
 AreClosed o before after (c ∷ cs) =
     (between : Option (List Closed)) × Closes before between (o.told c.left) (o.faults c.left) × AreClosed o between after cs
@@ -84,7 +64,7 @@ payloads_of [] = []
 payloads_of (c ∷ cs) = option_to_list c.payload ++ payloads_of cs
 
 -- so many connections were accepted, served and closed, one after the other
-pub record HaveServed {C D : Type 0} (o : Outside C D) (first last : RegistryState D) (door : DoorSeen) (count : ℕ) : Type 0 where
+pub record HaveServed {C D : Type 0} (o : ServeTells C D) (first last : RegistryState D) (door : DoorSeen) (count : ℕ) : Type 0 where
   pub connections : List (Connection C)
   pub count_is : count ≡ length connections
   pub served : AreServed o first connections last
@@ -99,13 +79,13 @@ StopsFor before now down door requests count DoorFault = Rose door.faults_before
 -- want of memory
 
 -- it came between two connections, or with this one, which is then perhaps unanswered or missing in the door's list
-abbrev pub IsCutAt : {C D : Type 0} → Outside C D → (old : RegistryState D) → Option (Connection C) → (new : RegistryState D) → (before after : Option (List Closed)) → Type 0
+abbrev pub IsCutAt : {C D : Type 0} → ServeTells C D → (old : RegistryState D) → Option (Connection C) → (new : RegistryState D) → (before after : Option (List Closed)) → Type 0
 IsCutAt o old None new before after = (new ≡ old) × (after ≡ before)
 IsCutAt o old (Some c) new before after =
     (IsServed o c old new ⊎ IsDropped o c old new) × ((after ≡ before) ⊎ Closes before after (o.told c.left) (o.faults c.left))
 
 -- connections were accepted, served and closed, and want of memory stopped this
-pub record HaveServedUpTo {C D : Type 0} (o : Outside C D) (first last : RegistryState D) (door : DoorSeen) : Type 0 where
+pub record HaveServedUpTo {C D : Type 0} (o : ServeTells C D) (first last : RegistryState D) (door : DoorSeen) : Type 0 where
   pub connections : List (Connection C)
   pub middle : RegistryState D
   pub between : Option (List Closed)

@@ -17,7 +17,7 @@ use Rattle.esm_run.specs.declared.tending.Upkeep.{Upkeep}
 use Rattle.esm_run.specs.declared.tending.Upkeep.TheVariants.{Show, Failures, Compact, Migrate}
 use Rattle.esm_run.specs.Endings.{IsToldWith}
 use Rattle.esm_run.specs.Initialized.{AreSound, InitOutcome, OUTPUT_FAULT}
-use Rattle.esm_run.specs.Written.{Written}
+use Rattle.esm_run.specs.World.{Written}
 
 -- the command of the words
 

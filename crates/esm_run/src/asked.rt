@@ -1,4 +1,4 @@
-// What the words of the command line ask for: a command over the files, serving connections, or a run.
+// What the words of the command line ask for: a command over the files, serving connections, a generated stream or a run.
 ghost use Rattle.std.specs.Prelude.{◌≡◌, map, true};
 ghost use Rattle.std.specs.String.{string_bytes};
 ghost use Rattle.esm_run.specs.Asked.{AsksFor, IsAsked};
@@ -16,8 +16,12 @@ pub enum Asked {
     Files(FilesCommand),
     /// That so many connections are served.
     Serve { requests: u32 },
-    /// A run, or why there is no command.
-    Run(Result<RunWords, WordsError>),
+    /// That a generated stream of so many records runs.
+    Gen { records: u32 },
+    /// A run.
+    Run(RunWords),
+    /// Nothing, since the words give no command.
+    Nothing(WordsError),
 }
 
 /// What a command that is built asks for.
@@ -32,7 +36,8 @@ fn part(command: Command) -> Asked
         Command::Compact => Asked::Files(FilesCommand::Upkeep(Upkeep::Compact)),
         Command::Migrate => Asked::Files(FilesCommand::Upkeep(Upkeep::Migrate)),
         Command::Serve { requests } => Asked::Serve { requests },
-        Command::Run(options) => Asked::Run(Ok(options)),
+        Command::Gen { records } => Asked::Gen { records },
+        Command::Run(options) => Asked::Run(options),
         _ => unreachable!(),
     }
 }
@@ -43,6 +48,6 @@ pub fn asked_by(alloc: Global, words: &[String]) -> Asked
 {
     match built_command(alloc, words) {
         Ok(command) => part(command),
-        Err(why) => Asked::Run(Err(why)),
+        Err(why) => Asked::Nothing(why),
     }
 }

@@ -17,6 +17,7 @@ fn is_built(command: &Command) -> bool
         | Command::Run(_)
         | Command::Show
         | Command::Failures
+        | Command::Gen { .. }
         | Command::Compact
         | Command::Serve { .. }
         | Command::Migrate => true,

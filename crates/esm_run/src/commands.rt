@@ -6,9 +6,9 @@ ghost use Rattle.esm_report.specs.declared.ending.Ending.{Ending};
 ghost use Rattle.esm_report.specs.declared.ending.Ending.TheVariants.{BadWords};
 ghost use Rattle.esm_report.specs.Report.{last_line, stands_alone};
 ghost use Rattle.esm_run.specs.Endings.{IsTold};
-ghost use Rattle.esm_run.specs.Answers.{RunOutcome, IsCutOf, IsRegistryLeft, outside_of, seen_of};
+ghost use Rattle.esm_run.specs.Answers.{RunOutcome, IsCutOf, IsRegistryLeft};
 ghost use Rattle.esm_run.specs.Ran.{IsReport};
-ghost use Rattle.esm_run.specs.Written.{written_of};
+ghost use Rattle.esm_run.specs.World.{run_tells, seen_of, written_of};
 
 use crate::left::{Began, Ran, RunDevices};
 use crate::output::{OUT_OF_MEMORY, tell};
@@ -117,11 +117,11 @@ pub fn run<
     L: Door,
 >(rt: &R, alloc: Global, words: RunWords, world: World<S, K, D, C, F, L>) -> Ended<S, K, D, C, F, L>
     requires { length world.callers.items ≡ MAX_LANES }
-    ensures outcome { result.status ≢ 70 → RunOutcome (outside_of C.gave F.sends F.log (meaning D.honest D.content D.image D.moment D.image_since D.faults) S.faults S.left) words
+    ensures outcome { result.status ≢ 70 → RunOutcome (run_tells C.gave F.sends F.log (meaning D.honest D.content D.image D.moment D.image_since D.faults) S.faults S.left) words
         (written_of K.faults K.written world.out result.world.out) (reverse result.world.trace.items)
         (seen_of world.input world.journal world.spare world.failures world.registry world.callers.items)
         (seen_of result.world.input result.world.journal result.world.spare result.world.failures result.world.registry result.world.callers.items) result.status }
-    ensures want_of_memory { result.status ≡ 70 → IsCutOf (outside_of C.gave F.sends F.log (meaning D.honest D.content D.image D.moment D.image_since D.faults) S.faults S.left) words (reverse result.world.trace.items)
+    ensures want_of_memory { result.status ≡ 70 → IsCutOf (run_tells C.gave F.sends F.log (meaning D.honest D.content D.image D.moment D.image_since D.faults) S.faults S.left) words (reverse result.world.trace.items)
         (seen_of world.input world.journal world.spare world.failures world.registry world.callers.items)
         (seen_of result.world.input result.world.journal result.world.spare result.world.failures result.world.registry result.world.callers.items) }
     ensures good_words { result.status ≢ 2 }

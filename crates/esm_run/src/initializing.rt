@@ -5,8 +5,8 @@ ghost use Rattle.esm_init.specs.Init.{AreSafe};
 ghost use Rattle.esm_init.specs.Text.{init_text};
 ghost use Rattle.esm_init.specs.declared.files.InitEnd.{InitEnd};
 ghost use Rattle.esm_run.specs.Endings.{IsToldWith};
-ghost use Rattle.esm_run.specs.Initialized.{InitOutcome, disks, init_status};
-ghost use Rattle.esm_run.specs.Written.{written_of};
+ghost use Rattle.esm_run.specs.Initialized.{InitOutcome, init_status};
+ghost use Rattle.esm_run.specs.World.{disks, written_of};
 
 use crate::output::{OUT_OF_MEMORY, OUTPUT_FAULT, write_all};
 use crate::world::{Ended, World};

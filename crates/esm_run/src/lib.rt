@@ -5,6 +5,7 @@ mod asked;
 mod built;
 mod commands;
 mod connections;
+mod generating;
 mod initializing;
 mod left;
 mod output;

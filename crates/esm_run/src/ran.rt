@@ -4,9 +4,9 @@ ghost use Rattle.esm_io.specs.Meanings.{disk as meaning};
 ghost use Rattle.esm_mapping.specs.Named.{IsNamed, MayRun};
 ghost use Rattle.esm_model.specs.Valid.{is_stream};
 ghost use Rattle.esm_model.specs.declared.limits.TheConstants.{MAX_LANES};
-ghost use Rattle.esm_run.specs.Answers.{AreGoodFiles, HasNotBegun, IsCutOf, IsRegistryLeft, outside_of, seen_of};
-ghost use Rattle.esm_run.specs.Initialized.{disks};
+ghost use Rattle.esm_run.specs.Answers.{AreGoodFiles, HasNotBegun, IsCutOf, IsRegistryLeft};
 ghost use Rattle.esm_run.specs.Ran.{EndsWith};
+ghost use Rattle.esm_run.specs.World.{disks, run_tells, seen_of};
 ghost use Rattle.esm_run.specs.declared.left.Began.TheVariants as began;
 
 use crate::left::{Ran, RunDevices, not_begun, queue_ran, stream_ran};
@@ -97,13 +97,13 @@ fn run_mapping<
     ensures ended { IfOk result.end (λ ending. (registry : D)
         → IsNamed (meaning D.honest D.content D.image D.moment D.image_since D.faults) words.now.which registry mapping
         → IsRegistryLeft (meaning D.honest D.content D.image D.moment D.image_since D.faults) words.now.which registry opened.registry
-        → EndsWith (outside_of C.gave F.sends F.log (meaning D.honest D.content D.image D.moment D.image_since D.faults) S.faults S.left) words.now (reverse result.trace.items)
+        → EndsWith (run_tells C.gave F.sends F.log (meaning D.honest D.content D.image D.moment D.image_since D.faults) S.faults S.left) words.now (reverse result.trace.items)
         (seen_of opened.input opened.files.journal opened.files.spare opened.files.failures registry opened.callers.items)
         (seen_of result.devices.input result.devices.journal result.devices.spare result.devices.failures result.devices.registry result.devices.callers.items) result.began ending) }
     ensures stopped { OnErr result.end ((registry : D)
         → IsNamed (meaning D.honest D.content D.image D.moment D.image_since D.faults) words.now.which registry mapping
         → IsRegistryLeft (meaning D.honest D.content D.image D.moment D.image_since D.faults) words.now.which registry opened.registry
-        → IsCutOf (outside_of C.gave F.sends F.log (meaning D.honest D.content D.image D.moment D.image_since D.faults) S.faults S.left) words.now (reverse result.trace.items)
+        → IsCutOf (run_tells C.gave F.sends F.log (meaning D.honest D.content D.image D.moment D.image_since D.faults) S.faults S.left) words.now (reverse result.trace.items)
         (seen_of opened.input opened.files.journal opened.files.spare opened.files.failures registry opened.callers.items)
         (seen_of result.devices.input result.devices.journal result.devices.spare result.devices.failures result.devices.registry result.devices.callers.items)) }
     ensures registry { result.devices.registry ≡ opened.registry }
@@ -150,10 +150,10 @@ fn run_opened<
     F: Caller + Send,
 >(rt: &R, alloc: Global, words: &RunWords, opened: Opened<S, D, F>, clock: &C) -> Ran<S, D, F>
     requires callers { length opened.callers.items ≡ MAX_LANES }
-    ensures ended { IfOk result.end (EndsWith (outside_of C.gave F.sends F.log (meaning D.honest D.content D.image D.moment D.image_since D.faults) S.faults S.left) words.now (reverse result.trace.items)
+    ensures ended { IfOk result.end (EndsWith (run_tells C.gave F.sends F.log (meaning D.honest D.content D.image D.moment D.image_since D.faults) S.faults S.left) words.now (reverse result.trace.items)
         (seen_of opened.input opened.files.journal opened.files.spare opened.files.failures opened.registry opened.callers.items)
         (seen_of result.devices.input result.devices.journal result.devices.spare result.devices.failures result.devices.registry result.devices.callers.items) result.began) }
-    ensures stopped { OnErr result.end (IsCutOf (outside_of C.gave F.sends F.log (meaning D.honest D.content D.image D.moment D.image_since D.faults) S.faults S.left) words.now (reverse result.trace.items)
+    ensures stopped { OnErr result.end (IsCutOf (run_tells C.gave F.sends F.log (meaning D.honest D.content D.image D.moment D.image_since D.faults) S.faults S.left) words.now (reverse result.trace.items)
         (seen_of opened.input opened.files.journal opened.files.spare opened.files.failures opened.registry opened.callers.items)
         (seen_of result.devices.input result.devices.journal result.devices.spare result.devices.failures result.devices.registry result.devices.callers.items)) }
     ensures registry { IsRegistryLeft (meaning D.honest D.content D.image D.moment D.image_since D.faults) words.now.which opened.registry result.devices.registry }
@@ -186,10 +186,10 @@ pub fn run_words<
     F: Caller + Send,
 >(rt: &R, alloc: Global, words: RunWords, devices: RunDevices<S, D, F>, clock: &C) -> Ran<S, D, F>
     requires { length devices.callers.items ≡ MAX_LANES }
-    ensures ended { IfOk result.end (EndsWith (outside_of C.gave F.sends F.log (meaning D.honest D.content D.image D.moment D.image_since D.faults) S.faults S.left) words (reverse result.trace.items)
+    ensures ended { IfOk result.end (EndsWith (run_tells C.gave F.sends F.log (meaning D.honest D.content D.image D.moment D.image_since D.faults) S.faults S.left) words (reverse result.trace.items)
         (seen_of devices.input devices.journal devices.spare devices.failures devices.registry devices.callers.items)
         (seen_of result.devices.input result.devices.journal result.devices.spare result.devices.failures result.devices.registry result.devices.callers.items) result.began) }
-    ensures stopped { OnErr result.end (IsCutOf (outside_of C.gave F.sends F.log (meaning D.honest D.content D.image D.moment D.image_since D.faults) S.faults S.left) words (reverse result.trace.items)
+    ensures stopped { OnErr result.end (IsCutOf (run_tells C.gave F.sends F.log (meaning D.honest D.content D.image D.moment D.image_since D.faults) S.faults S.left) words (reverse result.trace.items)
         (seen_of devices.input devices.journal devices.spare devices.failures devices.registry devices.callers.items)
         (seen_of result.devices.input result.devices.journal result.devices.spare result.devices.failures result.devices.registry result.devices.callers.items)) }
     ensures registry { IsRegistryLeft (meaning D.honest D.content D.image D.moment D.image_since D.faults) words.which devices.registry result.devices.registry }

@@ -3,7 +3,7 @@ ghost use Rattle.std.specs.Prelude.{◌≡◌, false, IfOk, OnErr};
 ghost use Rattle.esm_io.specs.Meanings.{disk as meaning};
 ghost use Rattle.esm_run.specs.Refusals.{end_of_file, end_of_payloads};
 ghost use Rattle.esm_run.specs.Serve.{IsOpened, IsServeCut, IsServeEnd};
-ghost use Rattle.esm_run.specs.Serving.{door_of, outside};
+ghost use Rattle.esm_run.specs.World.{door_of, serve_tells};
 
 use crate::connections::{Accepted, serve_connections};
 use esm_io::{Clock, Disk, Door};
@@ -66,10 +66,10 @@ fn serve_registry<D: Disk, C: Clock, L: Door>(
 ) -> ServedFile<D>
     requires up { registry.journal.down ≡ false }
     ensures end { IfOk result.end (λ end. (disk : D) → IsOpened (meaning D.honest D.content D.image D.moment D.image_since D.faults) disk registry
-        → IsServeEnd (outside C.gave L.Conn.told L.Conn.faults (meaning D.honest D.content D.image D.moment D.image_since D.faults))
+        → IsServeEnd (serve_tells C.gave L.Conn.told L.Conn.faults (meaning D.honest D.content D.image D.moment D.image_since D.faults))
         disk result.disk (door_of L.faults L.closed door.old door.new) requests end) }
     ensures cut { OnErr result.end ((disk : D) → IsOpened (meaning D.honest D.content D.image D.moment D.image_since D.faults) disk registry
-        → IsServeCut (outside C.gave L.Conn.told L.Conn.faults (meaning D.honest D.content D.image D.moment D.image_since D.faults))
+        → IsServeCut (serve_tells C.gave L.Conn.told L.Conn.faults (meaning D.honest D.content D.image D.moment D.image_since D.faults))
         disk result.disk (door_of L.faults L.closed door.old door.new)) }
 {
     let mut registry = registry;
@@ -95,9 +95,9 @@ pub fn serve_file<D: Disk, C: Clock, L: Door>(
     door: &mut L,
     disk: D,
 ) -> ServedFile<D>
-    ensures end { IfOk result.end (IsServeEnd (outside C.gave L.Conn.told L.Conn.faults (meaning D.honest D.content D.image D.moment D.image_since D.faults))
+    ensures end { IfOk result.end (IsServeEnd (serve_tells C.gave L.Conn.told L.Conn.faults (meaning D.honest D.content D.image D.moment D.image_since D.faults))
         disk result.disk (door_of L.faults L.closed door.old door.new) requests) }
-    ensures cut { OnErr result.end (IsServeCut (outside C.gave L.Conn.told L.Conn.faults (meaning D.honest D.content D.image D.moment D.image_since D.faults))
+    ensures cut { OnErr result.end (IsServeCut (serve_tells C.gave L.Conn.told L.Conn.faults (meaning D.honest D.content D.image D.moment D.image_since D.faults))
         disk result.disk (door_of L.faults L.closed door.old door.new)) }
 {
     let journal = match Journal::open(alloc, disk) {

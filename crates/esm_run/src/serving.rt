@@ -3,8 +3,7 @@ ghost use Rattle.std.specs.Prelude.{◌≡◌, ◌≢◌, Ok, IfOk};
 ghost use Rattle.esm_io.specs.Meanings.{disk as meaning};
 ghost use Rattle.esm_run.specs.Endings.{IsToldWith};
 ghost use Rattle.esm_run.specs.Serve.{IsServeCut, ServeOutcome, last_line, serve_status, serve_text, served_text, stop_status};
-ghost use Rattle.esm_run.specs.Serving.{door_of, outside};
-ghost use Rattle.esm_run.specs.Written.{written_of};
+ghost use Rattle.esm_run.specs.World.{door_of, serve_tells, written_of};
 ghost use Rattle.esm_run.specs.declared.registry_file.ServeEnd.{ServeEnd};
 
 use crate::connections::Stop;
@@ -115,10 +114,10 @@ pub fn serve<S, K: Sink, D: Disk, C: Clock, F, L: Door>(
     requests: u32,
     world: World<S, K, D, C, F, L>,
 ) -> Ended<S, K, D, C, F, L>
-    ensures outcome { result.status ≢ 70 → ServeOutcome (outside C.gave L.Conn.told L.Conn.faults (meaning D.honest D.content D.image D.moment D.image_since D.faults))
+    ensures outcome { result.status ≢ 70 → ServeOutcome (serve_tells C.gave L.Conn.told L.Conn.faults (meaning D.honest D.content D.image D.moment D.image_since D.faults))
         world.registry result.world.registry (door_of L.faults L.closed world.door result.world.door)
         (written_of K.faults K.written world.out result.world.out) requests result.status }
-    ensures want_of_memory { result.status ≡ 70 → IsServeCut (outside C.gave L.Conn.told L.Conn.faults (meaning D.honest D.content D.image D.moment D.image_since D.faults))
+    ensures want_of_memory { result.status ≡ 70 → IsServeCut (serve_tells C.gave L.Conn.told L.Conn.faults (meaning D.honest D.content D.image D.moment D.image_since D.faults))
         world.registry result.world.registry (door_of L.faults L.closed world.door result.world.door) }
     ensures untold { result.status ≡ 70 → result.world.out ≡ world.out }
     ensures good_words { result.status ≢ 2 }

@@ -7,9 +7,8 @@ ghost use Rattle.esm_upkeep.specs.declared.ending.UpkeepEnd.{UpkeepEnd};
 ghost use Rattle.esm_run.specs.declared.tending.FilesCommand.TheVariants as files;
 ghost use Rattle.esm_run.specs.declared.tending.Upkeep.TheVariants.{Compact};
 ghost use Rattle.esm_run.specs.Endings.{IsToldWith};
-ghost use Rattle.esm_run.specs.Initialized.{disks};
 ghost use Rattle.esm_run.specs.Tended.{AreLeft, FilesOutcome, IsCompactCut, IsLeft, IsUpkeepEnd, UpkeepOutcome};
-ghost use Rattle.esm_run.specs.Written.{written_of};
+ghost use Rattle.esm_run.specs.World.{disks, written_of};
 
 use crate::initializing::initialize;
 use crate::output::{OUT_OF_MEMORY, OUTPUT_FAULT, write_all};

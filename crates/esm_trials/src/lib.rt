@@ -4,6 +4,8 @@
 #![tactic(auto)]
 
 #[cfg(test)]
+mod generated;
+#[cfg(test)]
 mod mappings;
 #[cfg(test)]
 mod runs;

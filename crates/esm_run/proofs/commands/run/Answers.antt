@@ -1,7 +1,6 @@
 use Rattle.std.proofs.Common.{ap, inr, reverse, subst}
-use Rattle.esm_run.specs.Answers.{seen_of}
 use Rattle.esm_run.specs.Ran.{IsReport}
-use Rattle.esm_run.specs.Written.{written_of}
+use Rattle.esm_run.specs.World.{seen_of, written_of}
 use Rattle.esm_run.proofs.Alone.{not_bad_words}
 use Rattle.esm_run.proofs.RunEndings.{told_run}
 use Rattle.esm_run.proofs.Results.{at_ok, by_result, if_ok}

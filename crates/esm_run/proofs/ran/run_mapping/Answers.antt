@@ -13,7 +13,7 @@ returns-then-is_stream-clause-ended g c =
       spare = refl;
       failures = refl;
       opened = c.keeps.ensures;
-    }) (sym c.is_stream.ensures ∙ c.if-is_stream.true) c.run_stream-run.result.said c.run_stream-run.result.end e c.run_stream-run.ensures.said c.run_stream-run.ensures.ended tells) c.stream_ran.ensures.ended)
+    }) c.run_stream-run.ensures.read_first (sym c.is_stream.ensures ∙ c.if-is_stream.true) c.run_stream-run.result.said c.run_stream-run.result.end e c.run_stream-run.ensures.said c.run_stream-run.ensures.ended tells) c.stream_ran.ensures.ended)
 
 pub returns-then-is_stream-clause-stopped : goal.returns-then-is_stream-clause-stopped
 returns-then-is_stream-clause-stopped g c =
@@ -25,7 +25,7 @@ returns-then-is_stream-clause-stopped g c =
       spare = refl;
       failures = refl;
       opened = c.keeps.ensures;
-    }) (sym c.is_stream.ensures ∙ c.if-is_stream.true) c.run_stream-run.result.end c.run_stream-run.ensures.ended c.run_stream-run.ensures.stopped))
+    }) c.run_stream-run.ensures.read_first (sym c.is_stream.ensures ∙ c.if-is_stream.true) c.run_stream-run.result.end c.run_stream-run.ensures.ended c.run_stream-run.ensures.stopped))
 
 pub returns-else-is_stream-clause-ended : goal.returns-else-is_stream-clause-ended
 returns-else-is_stream-clause-ended g c =
@@ -37,7 +37,7 @@ returns-else-is_stream-clause-ended g c =
       spare = refl;
       failures = refl;
       opened = c.keeps.ensures;
-    }) (sym c.is_stream.ensures ∙ c.if-is_stream.false) c.run_queue-run.result.said c.run_queue-run.result.end e c.run_queue-run.ensures.said c.run_queue-run.ensures.ended tells) c.queue_ran.ensures.ended)
+    }) c.run_queue-run.ensures.read_first (sym c.is_stream.ensures ∙ c.if-is_stream.false) c.run_queue-run.result.said c.run_queue-run.result.end e c.run_queue-run.ensures.said c.run_queue-run.ensures.ended tells) c.queue_ran.ensures.ended)
 
 pub returns-else-is_stream-clause-stopped : goal.returns-else-is_stream-clause-stopped
 returns-else-is_stream-clause-stopped g c =
@@ -49,4 +49,4 @@ returns-else-is_stream-clause-stopped g c =
       spare = refl;
       failures = refl;
       opened = c.keeps.ensures;
-    }) (sym c.is_stream.ensures ∙ c.if-is_stream.false) c.run_queue-run.result.end c.run_queue-run.ensures.ended c.run_queue-run.ensures.stopped))
+    }) c.run_queue-run.ensures.read_first (sym c.is_stream.ensures ∙ c.if-is_stream.false) c.run_queue-run.result.end c.run_queue-run.ensures.ended c.run_queue-run.ensures.stopped))

@@ -1,104 +1,31 @@
-use Rattle.std.proofs.Common.{◌∙◌, ap, inl, inr, reverse, subst, sym}
+use Rattle.std.proofs.Common.{◌∙◌, ap, inl, inr, reverse}
 use Rattle.std.specs.Prelude.{map}
 use Rattle.std.specs.String.{string_bytes}
-use Rattle.esm_cli.specs.declared.command.Command.TheVariants.{Serve}
-use Rattle.esm_init.specs.declared.disks.Disks.{Disks}
+use Rattle.esm_cli.specs.declared.command.Command.TheVariants.{Gen, Run, Serve}
 use Rattle.esm_io.specs.Meanings.{disk as meaning}
 use Rattle.esm_said.specs.Meaning.{history}
-use Rattle.esm_upkeep.specs.Upkeep.{AreOnlyRead}
-use Rattle.esm_run.specs.Answers.{outside_of, seen_of}
-use Rattle.esm_run.specs.Initialized.{disks}
-use Rattle.esm_run.specs.Serving.{door_of, outside}
+use Rattle.esm_run.specs.Commands.{IsLeft}
 use Rattle.esm_run.specs.Tended.{command_of}
-use Rattle.esm_run.specs.Written.{written_of}
-use Rattle.esm_run.specs.declared.tending.FilesCommand.TheVariants.{Upkeep}
-use Rattle.esm_run.specs.declared.tending.Upkeep.TheVariants.{Compact}
-use Rattle.esm_run.proofs.Cuts.{run_and_files, run_and_serve}
-use Rattle.esm_run.proofs.FilesCommands.{not_run}
-use Rattle.esm_run.proofs.Lefts.{left_of_same, pair_same}
-use Rattle.esm_run.proofs.OneCommand.{no_serve}
+use Rattle.esm_run.specs.World.{devices}
+use Rattle.esm_run.proofs.Cuts.{left_alone, stopped_alone, stopped_at, untouched_alone}
+use Rattle.esm_run.proofs.FilesCommands.{files_cut, files_ended, files_left}
+use Rattle.esm_run.proofs.OneCommand.{by_command}
 use Rattle.esm_run.proofs.OneOutcome.{one_outcome}
-use Rattle.esm_run.proofs.Serves.{unserved_same}
 use Rattle.esm_run.proofs.top.esm.Goals as goal
 
--- `run`, or no command
+-- a command over the files
 
-pub returns-in-Run-clause-exact : goal.returns-in-Run-clause-exact
-returns-in-Run-clause-exact g c = λ known sound runs_sound disks_sound serve_sound other is.
-    let before = c.args.world in
-    let after = c.perform.result.world in
-    let m = meaning g.D.Disk.honest g.D.Disk.content g.D.Disk.image g.D.Disk.moment g.D.Disk.image_since g.D.Disk.faults in
-    one_outcome (outside_of g.C.Clock.gave g.F.Caller.sends g.F.Caller.log m g.S.Source.faults g.S.Source.left)
-    (outside g.C.Clock.gave g.L.Conn.Link.told g.L.Conn.Link.faults m)
-    (map string_bytes c.args.words.now) (written_of g.K.Sink.faults g.K.Sink.written before.out after.out) (reverse after.trace.items)
-    (seen_of before.input before.journal before.spare before.failures before.registry before.callers.items)
-    (seen_of after.input after.journal after.spare after.failures after.registry after.callers.items)
-    (door_of g.L.Door.faults g.L.Door.closed before.door after.door) other c.perform.result.status
-    (record {
-      one_command = c.one_command.ensures;
-      whole_goes_on = c.whole_goes_on.ensures;
-      same_told = λ t u payloads. c.same_told.ensures t u (history payloads) (history payloads);
-      one_answer = record {
-        one_mapping = c.one_answer.ensures.one_mapping;
-        no_reason = c.one_answer.ensures.no_reason;
-        one_reason = c.one_answer.ensures.one_reason;
-      };
-    }) sound runs_sound disks_sound serve_sound is
-    (inl (c.perform.ensures.outcome known))
-
-pub returns-in-Run-clause-serve_cut : goal.returns-in-Run-clause-serve_cut
-returns-in-Run-clause-serve_cut g c = λ short requests spelled.
-    let before = c.args.world in
-    let after = c.perform.result.world in
-    let same = c.perform.ensures.undone (Serve requests) (no_serve requests) spelled in
-    inl (unserved_same (meaning g.D.Disk.honest g.D.Disk.content g.D.Disk.image g.D.Disk.moment g.D.Disk.image_since g.D.Disk.faults) before.registry after.registry
-    (door_of g.L.Door.faults g.L.Door.closed before.door after.door) (λ bytes. (g.met.D.Disk g.world.𝓛 g.world.𝓜 g.world.𝓡 ((λ s x. x), (λ x. x), (λ x. x), λ x. x)).only_now before.registry bytes)
-    (ap (λ w. w.registry) same) (ap (λ w. g.L.Door.closed w.door) same) (ap (λ w. g.L.Door.faults w.door) same))
-
-pub returns-in-Run-clause-compact_cut : goal.returns-in-Run-clause-compact_cut
-returns-in-Run-clause-compact_cut g c = λ short spelled.
-    let before = c.args.world in
-    let m = meaning g.D.Disk.honest g.D.Disk.content g.D.Disk.image g.D.Disk.moment g.D.Disk.image_since g.D.Disk.faults in
-    let d = Upkeep Compact in
-    inl (subst (λ w. AreOnlyRead m before.journal before.spare w.journal w.spare) (sym (c.perform.ensures.undone (command_of d) (not_run d) spelled))
-    (pair_same m (λ disk bytes. (g.met.D.Disk g.world.𝓛 g.world.𝓜 g.world.𝓡 ((λ s x. x), (λ x. x), (λ x. x), λ x. x)).only_now disk bytes) before.journal before.spare))
-
-pub returns-in-Run-clause-safe_disks : goal.returns-in-Run-clause-safe_disks
-returns-in-Run-clause-safe_disks g c = λ d spelled.
-    left_of_same (meaning g.D.Disk.honest g.D.Disk.content g.D.Disk.image g.D.Disk.moment g.D.Disk.image_since g.D.Disk.faults) (λ disk bytes. (g.met.D.Disk g.world.𝓛 g.world.𝓜 g.world.𝓡 ((λ s x. x), (λ x. x), (λ x. x), λ x. x)).only_now disk bytes) _ _
-    (ap (λ w. disks w.journal w.spare w.failures w.registry) (c.perform.ensures.undone (command_of d) (not_run d) spelled)) d
-
-pub returns-in-Run-clause-kept_by_serve : goal.returns-in-Run-clause-kept_by_serve
-returns-in-Run-clause-kept_by_serve g c = λ requests spelled.
-    let before = c.args.world in
-    let after = c.perform.result.world in
-    let same = c.perform.ensures.undone (Serve requests) (no_serve requests) spelled in
-    same
-    ∙ ap (λ r. record before { out = after.out; registry = r }) (sym (ap (λ w. w.registry) same))
-    ∙ ap (λ d. record before { out = after.out; registry = after.registry; door = d }) (sym (ap (λ w. w.door) same))
-
-pub returns-in-Run-clause-kept_by_files : goal.returns-in-Run-clause-kept_by_files
-returns-in-Run-clause-kept_by_files g c = λ d spelled.
-    let before = c.args.world in
-    let after = c.perform.result.world in
-    let same = c.perform.ensures.undone (command_of d) (not_run d) spelled in
-    same
-    ∙ ap (λ (all : Disks _). record before { out = after.out; journal = all.journal; spare = all.spare; failures = all.failures; registry = all.registry })
-    (sym (ap (λ w. disks w.journal w.spare w.failures w.registry) same))
-
--- a command over the files is no other one, and not `serve`
+pub returns-in-Files-clause-outcome : goal.returns-in-Files-clause-outcome
+returns-in-Files-clause-outcome g c = λ known.
+    let t = devices g.C.Clock.gave g.F.Caller.sends g.F.Caller.log (meaning g.D.Disk.honest g.D.Disk.content g.D.Disk.image g.D.Disk.moment g.D.Disk.image_since g.D.Disk.faults)
+    g.S.Source.faults g.S.Source.left g.K.Sink.faults g.K.Sink.written g.L.Door.faults g.L.Door.closed g.L.Conn.Link.told g.L.Conn.Link.faults in
+    inl ((command_of c.in-Files.command), c.in-Files.ensures, files_ended t c.args.world c.tend.result.world c.in-Files.command c.tend.result.status (c.tend.ensures.outcome known))
 
 pub returns-in-Files-clause-exact : goal.returns-in-Files-clause-exact
-returns-in-Files-clause-exact g c = λ known sound runs_sound disks_sound serve_sound other is.
-    let before = c.args.world in
-    let after = c.tend.result.world in
-    let m = meaning g.D.Disk.honest g.D.Disk.content g.D.Disk.image g.D.Disk.moment g.D.Disk.image_since g.D.Disk.faults in
-    one_outcome (outside_of g.C.Clock.gave g.F.Caller.sends g.F.Caller.log m g.S.Source.faults g.S.Source.left)
-    (outside g.C.Clock.gave g.L.Conn.Link.told g.L.Conn.Link.faults m)
-    (map string_bytes c.args.words.now) (written_of g.K.Sink.faults g.K.Sink.written before.out after.out) (reverse after.trace.items)
-    (seen_of before.input before.journal before.spare before.failures before.registry before.callers.items)
-    (seen_of after.input after.journal after.spare after.failures after.registry after.callers.items)
-    (door_of g.L.Door.faults g.L.Door.closed before.door after.door) other c.tend.result.status
+returns-in-Files-clause-exact g c = λ known sound other is.
+    let t = devices g.C.Clock.gave g.F.Caller.sends g.F.Caller.log (meaning g.D.Disk.honest g.D.Disk.content g.D.Disk.image g.D.Disk.moment g.D.Disk.image_since g.D.Disk.faults)
+    g.S.Source.faults g.S.Source.left g.K.Sink.faults g.K.Sink.written g.L.Door.faults g.L.Door.closed g.L.Conn.Link.told g.L.Conn.Link.faults in
+    one_outcome t (map string_bytes c.args.words.now) c.args.world c.tend.result.world other c.tend.result.status
     (record {
       one_command = c.one_command.ensures;
       whole_goes_on = c.whole_goes_on.ensures;
@@ -108,35 +35,46 @@ returns-in-Files-clause-exact g c = λ known sound runs_sound disks_sound serve_
         no_reason = c.one_answer.ensures.no_reason;
         one_reason = c.one_answer.ensures.one_reason;
       };
-    }) sound runs_sound disks_sound serve_sound is
-    (inr (inl (record {
-      which = c.in-Files.command;
-      spelled = c.in-Files.ensures;
-      untouched = record {
-        no_trace = ap (λ w. reverse w.trace.items) c.tend.ensures.kept ∙ ap reverse c.requires.trace;
-        unread = ap (λ w. w.input) c.tend.ensures.kept;
-        uncalled = ap (λ w. w.callers.items) c.tend.ensures.kept;
-      };
-      ended = c.tend.ensures.outcome known;
-    })))
+    }) sound is (inl ((command_of c.in-Files.command), c.in-Files.ensures, files_ended t c.args.world c.tend.result.world c.in-Files.command c.tend.result.status (c.tend.ensures.outcome known)))
 
-pub returns-in-Files-clause-run_cut : goal.returns-in-Files-clause-run_cut
-returns-in-Files-clause-run_cut g c = λ short r spelled.
-    absurd (run_and_files (map string_bytes c.args.words.now) r c.in-Files.command c.one_command.ensures spelled c.in-Files.ensures)
+pub returns-in-Files-clause-bad_words : goal.returns-in-Files-clause-bad_words
+returns-in-Files-clause-bad_words g c = λ bad. absurd (c.tend.ensures.good_words bad)
 
--- nor is `serve` one of them
+pub returns-in-Files-clause-spelled : goal.returns-in-Files-clause-spelled
+returns-in-Files-clause-spelled g c = λ good known. ((command_of c.in-Files.command), c.in-Files.ensures)
+
+pub returns-in-Files-clause-want_of_memory : goal.returns-in-Files-clause-want_of_memory
+returns-in-Files-clause-want_of_memory g c = λ short.
+    let t = devices g.C.Clock.gave g.F.Caller.sends g.F.Caller.log (meaning g.D.Disk.honest g.D.Disk.content g.D.Disk.image g.D.Disk.moment g.D.Disk.image_since g.D.Disk.faults)
+    g.S.Source.faults g.S.Source.left g.K.Sink.faults g.K.Sink.written g.L.Door.faults g.L.Door.closed g.L.Conn.Link.told g.L.Conn.Link.faults in
+    stopped_at t c.args.world c.tend.result.world (map string_bytes c.args.words.now) (command_of c.in-Files.command) c.one_command.ensures c.in-Files.ensures (c.tend.ensures.untold short) (files_cut t c.args.world c.tend.result.world c.in-Files.command (c.tend.ensures.compact_cut short))
+
+pub returns-in-Files-clause-left : goal.returns-in-Files-clause-left
+returns-in-Files-clause-left g c = λ d spelled.
+    let t = devices g.C.Clock.gave g.F.Caller.sends g.F.Caller.log (meaning g.D.Disk.honest g.D.Disk.content g.D.Disk.image g.D.Disk.moment g.D.Disk.image_since g.D.Disk.faults)
+    g.S.Source.faults g.S.Source.left g.K.Sink.faults g.K.Sink.written g.L.Door.faults g.L.Door.closed g.L.Conn.Link.told g.L.Conn.Link.faults in
+    by_command (λ d. IsLeft t d c.args.world c.tend.result.world) (map string_bytes c.args.words.now) (command_of c.in-Files.command) c.one_command.ensures c.in-Files.ensures (files_left t c.args.world c.tend.result.world c.in-Files.command (record { kept = c.tend.ensures.kept; files_left = c.tend.ensures.left })) d spelled
+
+pub returns-in-Files-clause-untouched : goal.returns-in-Files-clause-untouched
+returns-in-Files-clause-untouched g c = λ none. absurd (none (command_of c.in-Files.command) c.in-Files.ensures)
+
+pub returns-in-Files-clause-clock : goal.returns-in-Files-clause-clock
+returns-in-Files-clause-clock g c = ap (λ w. w.clock) c.tend.ensures.kept
+
+pub returns-in-Files-clause-door : goal.returns-in-Files-clause-door
+returns-in-Files-clause-door g c = λ none. ap (λ w. w.door) c.tend.ensures.kept
+
+-- `serve`
+
+pub returns-in-Serve-clause-outcome : goal.returns-in-Serve-clause-outcome
+returns-in-Serve-clause-outcome g c = λ known.
+    inl ((Serve c.in-Serve.requests), c.in-Serve.ensures, c.serve.ensures.outcome known)
 
 pub returns-in-Serve-clause-exact : goal.returns-in-Serve-clause-exact
-returns-in-Serve-clause-exact g c = λ known sound runs_sound disks_sound serve_sound other is.
-    let before = c.args.world in
-    let after = c.serve.result.world in
-    let m = meaning g.D.Disk.honest g.D.Disk.content g.D.Disk.image g.D.Disk.moment g.D.Disk.image_since g.D.Disk.faults in
-    one_outcome (outside_of g.C.Clock.gave g.F.Caller.sends g.F.Caller.log m g.S.Source.faults g.S.Source.left)
-    (outside g.C.Clock.gave g.L.Conn.Link.told g.L.Conn.Link.faults m)
-    (map string_bytes c.args.words.now) (written_of g.K.Sink.faults g.K.Sink.written before.out after.out) (reverse after.trace.items)
-    (seen_of before.input before.journal before.spare before.failures before.registry before.callers.items)
-    (seen_of after.input after.journal after.spare after.failures after.registry after.callers.items)
-    (door_of g.L.Door.faults g.L.Door.closed before.door after.door) other c.serve.result.status
+returns-in-Serve-clause-exact g c = λ known sound other is.
+    let t = devices g.C.Clock.gave g.F.Caller.sends g.F.Caller.log (meaning g.D.Disk.honest g.D.Disk.content g.D.Disk.image g.D.Disk.moment g.D.Disk.image_since g.D.Disk.faults)
+    g.S.Source.faults g.S.Source.left g.K.Sink.faults g.K.Sink.written g.L.Door.faults g.L.Door.closed g.L.Conn.Link.told g.L.Conn.Link.faults in
+    one_outcome t (map string_bytes c.args.words.now) c.args.world c.serve.result.world other c.serve.result.status
     (record {
       one_command = c.one_command.ensures;
       whole_goes_on = c.whole_goes_on.ensures;
@@ -146,26 +84,187 @@ returns-in-Serve-clause-exact g c = λ known sound runs_sound disks_sound serve_
         no_reason = c.one_answer.ensures.no_reason;
         one_reason = c.one_answer.ensures.one_reason;
       };
-    }) sound runs_sound disks_sound serve_sound is
-    (inr (inr (record {
-      requests = c.in-Serve.requests;
-      spelled = c.in-Serve.ensures;
-      untouched = record {
-        no_trace = ap (λ w. reverse w.trace.items) c.serve.ensures.kept ∙ ap reverse c.requires.trace;
-        unread = ap (λ w. w.input) c.serve.ensures.kept;
-        uncalled = ap (λ w. w.callers.items) c.serve.ensures.kept;
-      };
-      ended = c.serve.ensures.outcome known;
-    })))
+    }) sound is (inl ((Serve c.in-Serve.requests), c.in-Serve.ensures, c.serve.ensures.outcome known))
 
-pub returns-in-Serve-clause-kept : goal.returns-in-Serve-clause-kept
-returns-in-Serve-clause-kept g c = λ none.
-    absurd (none c.in-Serve.requests c.in-Serve.ensures)
+pub returns-in-Serve-clause-bad_words : goal.returns-in-Serve-clause-bad_words
+returns-in-Serve-clause-bad_words g c = λ bad. absurd (c.serve.ensures.good_words bad)
+
+pub returns-in-Serve-clause-spelled : goal.returns-in-Serve-clause-spelled
+returns-in-Serve-clause-spelled g c = λ good known. ((Serve c.in-Serve.requests), c.in-Serve.ensures)
+
+pub returns-in-Serve-clause-want_of_memory : goal.returns-in-Serve-clause-want_of_memory
+returns-in-Serve-clause-want_of_memory g c = λ short.
+    let t = devices g.C.Clock.gave g.F.Caller.sends g.F.Caller.log (meaning g.D.Disk.honest g.D.Disk.content g.D.Disk.image g.D.Disk.moment g.D.Disk.image_since g.D.Disk.faults)
+    g.S.Source.faults g.S.Source.left g.K.Sink.faults g.K.Sink.written g.L.Door.faults g.L.Door.closed g.L.Conn.Link.told g.L.Conn.Link.faults in
+    stopped_at t c.args.world c.serve.result.world (map string_bytes c.args.words.now) (Serve c.in-Serve.requests) c.one_command.ensures c.in-Serve.ensures (c.serve.ensures.untold short) (c.serve.ensures.want_of_memory short)
+
+pub returns-in-Serve-clause-left : goal.returns-in-Serve-clause-left
+returns-in-Serve-clause-left g c = λ d spelled.
+    let t = devices g.C.Clock.gave g.F.Caller.sends g.F.Caller.log (meaning g.D.Disk.honest g.D.Disk.content g.D.Disk.image g.D.Disk.moment g.D.Disk.image_since g.D.Disk.faults)
+    g.S.Source.faults g.S.Source.left g.K.Sink.faults g.K.Sink.written g.L.Door.faults g.L.Door.closed g.L.Conn.Link.told g.L.Conn.Link.faults in
+    by_command (λ d. IsLeft t d c.args.world c.serve.result.world) (map string_bytes c.args.words.now) (Serve c.in-Serve.requests) c.one_command.ensures c.in-Serve.ensures (c.serve.ensures.kept) d spelled
 
 pub returns-in-Serve-clause-untouched : goal.returns-in-Serve-clause-untouched
-returns-in-Serve-clause-untouched g c = λ none.
-    absurd (none (Serve c.in-Serve.requests) c.in-Serve.ensures)
+returns-in-Serve-clause-untouched g c = λ none. absurd (none (Serve c.in-Serve.requests) c.in-Serve.ensures)
 
-pub returns-in-Serve-clause-run_cut : goal.returns-in-Serve-clause-run_cut
-returns-in-Serve-clause-run_cut g c = λ short r spelled.
-    absurd (run_and_serve (map string_bytes c.args.words.now) r c.in-Serve.requests c.one_command.ensures spelled c.in-Serve.ensures)
+pub returns-in-Serve-clause-clock : goal.returns-in-Serve-clause-clock
+returns-in-Serve-clause-clock g c = ap (λ w. w.clock) c.serve.ensures.kept
+
+pub returns-in-Serve-clause-door : goal.returns-in-Serve-clause-door
+returns-in-Serve-clause-door g c = λ none. absurd (none c.in-Serve.requests c.in-Serve.ensures)
+
+-- `gen`
+
+pub returns-in-Gen-clause-outcome : goal.returns-in-Gen-clause-outcome
+returns-in-Gen-clause-outcome g c = λ known.
+    inl ((Gen c.in-Gen.records), c.in-Gen.ensures, c.generate.ensures.outcome known)
+
+pub returns-in-Gen-clause-exact : goal.returns-in-Gen-clause-exact
+returns-in-Gen-clause-exact g c = λ known sound other is.
+    let t = devices g.C.Clock.gave g.F.Caller.sends g.F.Caller.log (meaning g.D.Disk.honest g.D.Disk.content g.D.Disk.image g.D.Disk.moment g.D.Disk.image_since g.D.Disk.faults)
+    g.S.Source.faults g.S.Source.left g.K.Sink.faults g.K.Sink.written g.L.Door.faults g.L.Door.closed g.L.Conn.Link.told g.L.Conn.Link.faults in
+    one_outcome t (map string_bytes c.args.words.now) c.args.world c.generate.result.world other c.generate.result.status
+    (record {
+      one_command = c.one_command.ensures;
+      whole_goes_on = c.whole_goes_on.ensures;
+      same_told = λ t u payloads. c.same_told.ensures t u (history payloads) (history payloads);
+      one_answer = record {
+        one_mapping = c.one_answer.ensures.one_mapping;
+        no_reason = c.one_answer.ensures.no_reason;
+        one_reason = c.one_answer.ensures.one_reason;
+      };
+    }) sound is (inl ((Gen c.in-Gen.records), c.in-Gen.ensures, c.generate.ensures.outcome known))
+
+pub returns-in-Gen-clause-bad_words : goal.returns-in-Gen-clause-bad_words
+returns-in-Gen-clause-bad_words g c = λ bad. absurd (c.generate.ensures.good_words bad)
+
+pub returns-in-Gen-clause-spelled : goal.returns-in-Gen-clause-spelled
+returns-in-Gen-clause-spelled g c = λ good known. ((Gen c.in-Gen.records), c.in-Gen.ensures)
+
+pub returns-in-Gen-clause-want_of_memory : goal.returns-in-Gen-clause-want_of_memory
+returns-in-Gen-clause-want_of_memory g c = λ short.
+    let t = devices g.C.Clock.gave g.F.Caller.sends g.F.Caller.log (meaning g.D.Disk.honest g.D.Disk.content g.D.Disk.image g.D.Disk.moment g.D.Disk.image_since g.D.Disk.faults)
+    g.S.Source.faults g.S.Source.left g.K.Sink.faults g.K.Sink.written g.L.Door.faults g.L.Door.closed g.L.Conn.Link.told g.L.Conn.Link.faults in
+    stopped_at t c.args.world c.generate.result.world (map string_bytes c.args.words.now) (Gen c.in-Gen.records) c.one_command.ensures c.in-Gen.ensures (c.generate.ensures.untold short) (inr (c.generate.ensures.want_of_memory short))
+
+pub returns-in-Gen-clause-left : goal.returns-in-Gen-clause-left
+returns-in-Gen-clause-left g c = λ d spelled.
+    let t = devices g.C.Clock.gave g.F.Caller.sends g.F.Caller.log (meaning g.D.Disk.honest g.D.Disk.content g.D.Disk.image g.D.Disk.moment g.D.Disk.image_since g.D.Disk.faults)
+    g.S.Source.faults g.S.Source.left g.K.Sink.faults g.K.Sink.written g.L.Door.faults g.L.Door.closed g.L.Conn.Link.told g.L.Conn.Link.faults in
+    by_command (λ d. IsLeft t d c.args.world c.generate.result.world) (map string_bytes c.args.words.now) (Gen c.in-Gen.records) c.one_command.ensures c.in-Gen.ensures (c.generate.ensures.kept) d spelled
+
+pub returns-in-Gen-clause-untouched : goal.returns-in-Gen-clause-untouched
+returns-in-Gen-clause-untouched g c = λ none. absurd (none (Gen c.in-Gen.records) c.in-Gen.ensures)
+
+pub returns-in-Gen-clause-clock : goal.returns-in-Gen-clause-clock
+returns-in-Gen-clause-clock g c = ap (λ w. w.clock) c.generate.ensures.kept
+
+pub returns-in-Gen-clause-door : goal.returns-in-Gen-clause-door
+returns-in-Gen-clause-door g c = λ none. ap (λ w. w.door) c.generate.ensures.kept
+
+-- `run`
+
+pub returns-in-Run-clause-outcome : goal.returns-in-Run-clause-outcome
+returns-in-Run-clause-outcome g c = λ known.
+    inl ((Run c.in-Run.options), c.in-Run.ensures, c.run.ensures.outcome known)
+
+pub returns-in-Run-clause-exact : goal.returns-in-Run-clause-exact
+returns-in-Run-clause-exact g c = λ known sound other is.
+    let t = devices g.C.Clock.gave g.F.Caller.sends g.F.Caller.log (meaning g.D.Disk.honest g.D.Disk.content g.D.Disk.image g.D.Disk.moment g.D.Disk.image_since g.D.Disk.faults)
+    g.S.Source.faults g.S.Source.left g.K.Sink.faults g.K.Sink.written g.L.Door.faults g.L.Door.closed g.L.Conn.Link.told g.L.Conn.Link.faults in
+    one_outcome t (map string_bytes c.args.words.now) c.args.world c.run.result.world other c.run.result.status
+    (record {
+      one_command = c.one_command.ensures;
+      whole_goes_on = c.whole_goes_on.ensures;
+      same_told = λ t u payloads. c.same_told.ensures t u (history payloads) (history payloads);
+      one_answer = record {
+        one_mapping = c.one_answer.ensures.one_mapping;
+        no_reason = c.one_answer.ensures.no_reason;
+        one_reason = c.one_answer.ensures.one_reason;
+      };
+    }) sound is (inl ((Run c.in-Run.options), c.in-Run.ensures, c.run.ensures.outcome known))
+
+pub returns-in-Run-clause-bad_words : goal.returns-in-Run-clause-bad_words
+returns-in-Run-clause-bad_words g c = λ bad. absurd (c.run.ensures.good_words bad)
+
+pub returns-in-Run-clause-spelled : goal.returns-in-Run-clause-spelled
+returns-in-Run-clause-spelled g c = λ good known. ((Run c.in-Run.options), c.in-Run.ensures)
+
+pub returns-in-Run-clause-want_of_memory : goal.returns-in-Run-clause-want_of_memory
+returns-in-Run-clause-want_of_memory g c = λ short.
+    let t = devices g.C.Clock.gave g.F.Caller.sends g.F.Caller.log (meaning g.D.Disk.honest g.D.Disk.content g.D.Disk.image g.D.Disk.moment g.D.Disk.image_since g.D.Disk.faults)
+    g.S.Source.faults g.S.Source.left g.K.Sink.faults g.K.Sink.written g.L.Door.faults g.L.Door.closed g.L.Conn.Link.told g.L.Conn.Link.faults in
+    stopped_at t c.args.world c.run.result.world (map string_bytes c.args.words.now) (Run c.in-Run.options) c.one_command.ensures c.in-Run.ensures (c.run.ensures.untold short) (c.run.ensures.want_of_memory short)
+
+pub returns-in-Run-clause-left : goal.returns-in-Run-clause-left
+returns-in-Run-clause-left g c = λ d spelled.
+    let t = devices g.C.Clock.gave g.F.Caller.sends g.F.Caller.log (meaning g.D.Disk.honest g.D.Disk.content g.D.Disk.image g.D.Disk.moment g.D.Disk.image_since g.D.Disk.faults)
+    g.S.Source.faults g.S.Source.left g.K.Sink.faults g.K.Sink.written g.L.Door.faults g.L.Door.closed g.L.Conn.Link.told g.L.Conn.Link.faults in
+    by_command (λ d. IsLeft t d c.args.world c.run.result.world) (map string_bytes c.args.words.now) (Run c.in-Run.options) c.one_command.ensures c.in-Run.ensures (c.run.ensures.registry) d spelled
+
+pub returns-in-Run-clause-untouched : goal.returns-in-Run-clause-untouched
+returns-in-Run-clause-untouched g c = λ none. absurd (none (Run c.in-Run.options) c.in-Run.ensures)
+
+pub returns-in-Run-clause-clock : goal.returns-in-Run-clause-clock
+returns-in-Run-clause-clock g c = ap (λ w. w.clock) c.run.ensures.kept
+
+pub returns-in-Run-clause-door : goal.returns-in-Run-clause-door
+returns-in-Run-clause-door g c = λ none. ap (λ w. w.door) c.run.ensures.kept
+
+-- no command
+
+pub returns-in-Nothing-clause-outcome : goal.returns-in-Nothing-clause-outcome
+returns-in-Nothing-clause-outcome g c = λ known.
+    let t = devices g.C.Clock.gave g.F.Caller.sends g.F.Caller.log (meaning g.D.Disk.honest g.D.Disk.content g.D.Disk.image g.D.Disk.moment g.D.Disk.image_since g.D.Disk.faults)
+    g.S.Source.faults g.S.Source.left g.K.Sink.faults g.K.Sink.written g.L.Door.faults g.L.Door.closed g.L.Conn.Link.told g.L.Conn.Link.faults in
+    inr (record {
+      none_spelled = c.in-Nothing.ensures (c.refuse.ensures.told known).0;
+      untouched = untouched_alone t c.args.world c.refuse.result.world (λ disk bytes. (g.met.D.Disk g.world.𝓛 g.world.𝓜 g.world.𝓡 ((λ s x. x), (λ x. x), (λ x. x), λ x. x)).only_now disk bytes) c.refuse.ensures.same (ap (λ w. reverse w.trace.items) c.refuse.ensures.same ∙ ap reverse c.requires.trace);
+      told = (c.refuse.ensures.told known).1;
+    })
+
+pub returns-in-Nothing-clause-exact : goal.returns-in-Nothing-clause-exact
+returns-in-Nothing-clause-exact g c = λ known sound other is.
+    let t = devices g.C.Clock.gave g.F.Caller.sends g.F.Caller.log (meaning g.D.Disk.honest g.D.Disk.content g.D.Disk.image g.D.Disk.moment g.D.Disk.image_since g.D.Disk.faults)
+    g.S.Source.faults g.S.Source.left g.K.Sink.faults g.K.Sink.written g.L.Door.faults g.L.Door.closed g.L.Conn.Link.told g.L.Conn.Link.faults in
+    one_outcome t (map string_bytes c.args.words.now) c.args.world c.refuse.result.world other c.refuse.result.status
+    (record {
+      one_command = c.one_command.ensures;
+      whole_goes_on = c.whole_goes_on.ensures;
+      same_told = λ t u payloads. c.same_told.ensures t u (history payloads) (history payloads);
+      one_answer = record {
+        one_mapping = c.one_answer.ensures.one_mapping;
+        no_reason = c.one_answer.ensures.no_reason;
+        one_reason = c.one_answer.ensures.one_reason;
+      };
+    }) sound is
+    (inr (record {
+      none_spelled = c.in-Nothing.ensures (c.refuse.ensures.told known).0;
+      untouched = untouched_alone t c.args.world c.refuse.result.world (λ disk bytes. (g.met.D.Disk g.world.𝓛 g.world.𝓜 g.world.𝓡 ((λ s x. x), (λ x. x), (λ x. x), λ x. x)).only_now disk bytes) c.refuse.ensures.same (ap (λ w. reverse w.trace.items) c.refuse.ensures.same ∙ ap reverse c.requires.trace);
+      told = (c.refuse.ensures.told known).1;
+    }))
+
+pub returns-in-Nothing-clause-spelled : goal.returns-in-Nothing-clause-spelled
+returns-in-Nothing-clause-spelled g c = λ good known.
+    elim (c.refuse.ensures.told known).1 [ inl told ↦ absurd (good told.0) | inr told ↦ absurd (good told.0) ]
+
+pub returns-in-Nothing-clause-want_of_memory : goal.returns-in-Nothing-clause-want_of_memory
+returns-in-Nothing-clause-want_of_memory g c = λ short.
+    let t = devices g.C.Clock.gave g.F.Caller.sends g.F.Caller.log (meaning g.D.Disk.honest g.D.Disk.content g.D.Disk.image g.D.Disk.moment g.D.Disk.image_since g.D.Disk.faults)
+    g.S.Source.faults g.S.Source.left g.K.Sink.faults g.K.Sink.written g.L.Door.faults g.L.Door.closed g.L.Conn.Link.told g.L.Conn.Link.faults in
+    stopped_alone t c.args.world c.refuse.result.world (λ disk bytes. (g.met.D.Disk g.world.𝓛 g.world.𝓜 g.world.𝓡 ((λ s x. x), (λ x. x), (λ x. x), λ x. x)).only_now disk bytes) c.refuse.ensures.same (ap (λ w. reverse w.trace.items) c.refuse.ensures.same ∙ ap reverse c.requires.trace) (map string_bytes c.args.words.now) (c.refuse.ensures.untold short)
+
+pub returns-in-Nothing-clause-left : goal.returns-in-Nothing-clause-left
+returns-in-Nothing-clause-left g c = λ d spelled.
+    let t = devices g.C.Clock.gave g.F.Caller.sends g.F.Caller.log (meaning g.D.Disk.honest g.D.Disk.content g.D.Disk.image g.D.Disk.moment g.D.Disk.image_since g.D.Disk.faults)
+    g.S.Source.faults g.S.Source.left g.K.Sink.faults g.K.Sink.written g.L.Door.faults g.L.Door.closed g.L.Conn.Link.told g.L.Conn.Link.faults in
+    left_alone t c.args.world c.refuse.result.world (λ disk bytes. (g.met.D.Disk g.world.𝓛 g.world.𝓜 g.world.𝓡 ((λ s x. x), (λ x. x), (λ x. x), λ x. x)).only_now disk bytes) c.refuse.ensures.same d
+
+pub returns-in-Nothing-clause-untouched : goal.returns-in-Nothing-clause-untouched
+returns-in-Nothing-clause-untouched g c = λ none. c.refuse.ensures.same
+
+pub returns-in-Nothing-clause-clock : goal.returns-in-Nothing-clause-clock
+returns-in-Nothing-clause-clock g c = ap (λ w. w.clock) c.refuse.ensures.same
+
+pub returns-in-Nothing-clause-door : goal.returns-in-Nothing-clause-door
+returns-in-Nothing-clause-door g c = λ none. ap (λ w. w.door) c.refuse.ensures.same

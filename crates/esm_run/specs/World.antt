@@ -1,0 +1,133 @@
+-- What devices tell, each time as one value, so that a contract is handed one argument for it, and what is seen of a world
+-- before and after a command. This product's own.
+use Rattle.std.specs.Prelude.{ℕ, Bool, List, Option, reverse}
+use Rattle.esm_batchers.specs.Working.{outside}
+use Rattle.esm_init.specs.declared.disks.Disks.{Disks}
+use Rattle.esm_io.specs.Meanings.{DiskMeaning}
+use Rattle.esm_io.specs.Talks.{Closed, Talk}
+use Rattle.esm_model.specs.declared.called.Called.{Called}
+use Rattle.esm_model.specs.declared.entry.Entry.{Entry}
+use Rattle.esm_stream.specs.Headline.{Devices, Telling, telling}
+use Rattle.esm_run.specs.declared.world.World.{World}
+
+-- what the devices of a world tell
+
+-- of an input, an output, a disk, a caller, a door and a connection
+pub record DevicesTell (S K D F L N : Type 0) : Type 1 where
+  -- which moments the clock gave
+  pub gave : ℕ → Bool
+  -- what a caller sends for an event, and the calls that it logged, where it tells them
+  pub sends : List ℕ → List ℕ
+  pub log : F → Option (List Called)
+  -- what a disk means
+  pub disk : DiskMeaning D
+  -- how often the input failed, and its bytes that are left, where it tells them
+  pub input_faults : S → ℕ
+  pub left : S → Option (List ℕ)
+  -- how often the output failed, and what it took, where it tells that
+  pub output_faults : K → ℕ
+  pub written : K → Option (List ℕ)
+  -- how often the door failed, and the connections that it closed, where it tells them
+  pub door_faults : L → ℕ
+  pub closed : L → Option (List Closed)
+  -- what a connection tells, and how often it failed
+  pub talk : N → Option Talk
+  pub link_faults : N → ℕ
+
+abbrev pub devices : {S K D F L N : Type 0} → (ℕ → Bool) → (List ℕ → List ℕ) → (F → Option (List Called)) → DiskMeaning D → (S → ℕ) → (S → Option (List ℕ)) → (K → ℕ) → (K → Option (List ℕ)) → (L → ℕ) → (L → Option (List Closed)) → (N → Option Talk) → (N → ℕ) → DevicesTell S K D F L N
+devices gave sends log disk input_faults left output_faults written door_faults closed talk link_faults = record {
+  gave = gave;
+  sends = sends;
+  log = log;
+  disk = disk;
+  input_faults = input_faults;
+  left = left;
+  output_faults = output_faults;
+  written = written;
+  door_faults = door_faults;
+  closed = closed;
+  talk = talk;
+  link_faults = link_faults;
+}
+
+-- what those of a run tell: of the clock, the callers and the disks, and of the input
+pub record RunTells (S D F : Type 0) : Type 1 where
+  pub run : Telling D F
+  pub faults : S → ℕ
+  pub left : S → Option (List ℕ)
+
+abbrev pub run_tells : {S D F : Type 0} → (ℕ → Bool) → (List ℕ → List ℕ) → (F → Option (List Called)) → DiskMeaning D → (S → ℕ) → (S → Option (List ℕ)) → RunTells S D F
+run_tells gave sends log disk faults left = record { run = telling (outside gave sends log) disk; faults = faults; left = left }
+
+-- what those of `serve` tell: which moments the clock gave, what connections tell, how often they failed, and what the
+-- registry's disk means
+pub record ServeTells (C D : Type 0) : Type 1 where
+  pub gave : ℕ → Bool
+  pub told : C → Option Talk
+  pub faults : C → ℕ
+  pub disk : DiskMeaning D
+
+abbrev pub serve_tells : {C D : Type 0} → (ℕ → Bool) → (C → Option Talk) → (C → ℕ) → DiskMeaning D → ServeTells C D
+serve_tells gave told faults disk = record { gave = gave; told = told; faults = faults; disk = disk }
+
+abbrev pub of_run : {S K D F L N : Type 0} → DevicesTell S K D F L N → RunTells S D F
+of_run t = run_tells t.gave t.sends t.log t.disk t.input_faults t.left
+
+abbrev pub of_serve : {S K D F L N : Type 0} → DevicesTell S K D F L N → ServeTells N D
+of_serve t = serve_tells t.gave t.talk t.link_faults t.disk
+
+-- what is seen of a world
+
+-- its disks
+abbrev pub disks : {D : Type 0} → (journal spare failures registry : D) → Disks D
+disks journal spare failures registry = record { journal = journal; spare = spare; failures = failures; registry = registry }
+
+-- what a run uses of it: its input, disks and callers
+pub record Seen (S D F : Type 0) : Type 0 where
+  pub input : S
+  pub disks : Disks D
+  pub callers : List F
+
+abbrev pub seen_of : {S D F : Type 0} → S → (journal spare failures registry : D) → List F → Seen S D F
+seen_of input journal spare failures registry callers = record { input = input; disks = disks journal spare failures registry; callers = callers }
+
+-- the disks that a run writes, and the callers
+abbrev pub devices_of : {S D F : Type 0} → Seen S D F → Devices D F
+devices_of w = record { journal = w.disks.journal; spare = w.disks.spare; failures = w.disks.failures; callers = w.callers }
+
+-- an output before and after
+pub record Written : Type 0 where
+  pub faults_before : ℕ
+  pub faults_now : ℕ
+  pub before : Option (List ℕ)
+  pub after : Option (List ℕ)
+
+abbrev pub written_of : {K : Type 0} → (faults : K → ℕ) → (written : K → Option (List ℕ)) → (old new : K) → Written
+written_of faults written old new = record { faults_before = faults old; faults_now = faults new; before = written old; after = written new }
+
+-- a door before and after: its count of faults, and the connections that were closed, where it tells them
+pub record DoorSeen : Type 0 where
+  pub faults_before : ℕ
+  pub faults_now : ℕ
+  pub before : Option (List Closed)
+  pub after : Option (List Closed)
+
+abbrev pub door_of : {L : Type 0} → (faults : L → ℕ) → (closed : L → Option (List Closed)) → (old new : L) → DoorSeen
+door_of faults closed old new = record { faults_before = faults old; faults_now = faults new; before = closed old; after = closed new }
+
+-- the same of the world itself; its history is written newest entry first
+
+abbrev pub history : {S K D C F L : Type 0} → World S K D C F L → List Entry
+history w = reverse w.trace.items
+
+abbrev pub disks_in : {S K D C F L : Type 0} → World S K D C F L → Disks D
+disks_in w = disks w.journal w.spare w.failures w.registry
+
+abbrev pub seen : {S K D C F L : Type 0} → World S K D C F L → Seen S D F
+seen w = seen_of w.input w.journal w.spare w.failures w.registry w.callers.items
+
+abbrev pub output : {S K D C F L N : Type 0} → DevicesTell S K D F L N → (old new : World S K D C F L) → Written
+output t old new = written_of t.output_faults t.written old.out new.out
+
+abbrev pub door : {S K D C F L N : Type 0} → DevicesTell S K D F L N → (old new : World S K D C F L) → DoorSeen
+door t old new = door_of t.door_faults t.closed old.door new.door
