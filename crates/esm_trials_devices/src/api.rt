@@ -1,9 +1,11 @@
 // The worked examples of requests, over a link and a disk in memory.
 ghost use Rattle.std.specs.Prelude.{◌<◌};
 
+use crate::disks::disk;
 use esm_api::{Served, serve_one};
 use esm_io::{MemDisk, MemLink};
 use esm_journal::Journal;
+use esm_model::OutOfMemory;
 use esm_registry::Registry;
 use memchr::memmem::find;
 use std::alloc::{AllocError, Global};
@@ -30,9 +32,17 @@ const NONE: &[u8] =
 
 /// A registry without mappings.
 fn fresh(alloc: Global) -> Result<Registry<MemDisk>, Fail> {
-    let disk = MemDisk::new(alloc, Vec::new(alloc), Vec::new(alloc));
-    let journal = Journal::init(alloc, disk)?;
+    let journal = Journal::init(alloc, disk(alloc, &[], &[])?)?;
     Ok(Registry::open(alloc, journal).ok().ok_or("registry")?)
+}
+
+/// A link that gives the request in pieces, and whose calls with these numbers fail.
+fn link(alloc: Global, request: &[u8], piece: usize, fails: &[u64]) -> Result<MemLink, AllocError>
+    requires { 0 < piece }
+{
+    let bytes = Vec::from_slice(alloc, request)?;
+    let fails = Vec::from_slice(alloc, fails)?;
+    Ok(MemLink::new(alloc, bytes, piece, fails))
 }
 
 /// What comes of a request in pieces over a link whose calls with these numbers fail, and what is written.
@@ -42,17 +52,29 @@ fn exchange(
     request: &[u8],
     piece: usize,
     fails: &[u64],
-) -> Result<(Served, Vec<u8>), Fail>
+) -> Result<(Served, Vec<u8>), OutOfMemory>
     requires { 0 < piece }
 {
     if registry.down() {
         return Ok((Served::LinkFault, Vec::new(alloc)));
     }
-    let bytes = Vec::from_slice(alloc, request)?;
-    let fails = Vec::from_slice(alloc, fails)?;
-    let mut link = MemLink::new(alloc, bytes, piece, fails);
+    let mut link = link(alloc, request, piece, fails)?;
     let served = serve_one(alloc, &mut link, registry, 0)?;
     Ok((served, Vec::from_slice(alloc, link.written())?))
+}
+
+/// Whether this comes of a request in pieces, and is written.
+fn is_served(
+    alloc: Global,
+    registry: &mut Registry<MemDisk>,
+    request: &[u8],
+    piece: usize,
+    expected: (Served, &[u8]),
+) -> Result<bool, OutOfMemory>
+    requires { 0 < piece }
+{
+    let (served, written) = exchange(alloc, registry, request, piece, &[])?;
+    Ok(served == expected.0 && written.as_slice() == expected.1)
 }
 
 /// A step of a session: the request, and what its answer has.
@@ -147,33 +169,60 @@ fn is_answered(
     request: &[u8],
     status: u16,
     text: &[u8],
-) -> Result<bool, Fail> {
+) -> Result<bool, OutOfMemory> {
     let (served, written) = exchange(alloc, registry, request, 7, &[])?;
     Ok(served == Served::Answered(status) && find(&written, text).is_some())
 }
 
+fn is_step(
+    alloc: Global,
+    registry: &mut Registry<MemDisk>,
+    step: &Step,
+) -> Result<bool, OutOfMemory> {
+    let request = request(alloc, step)?;
+    let text = step.text.as_bytes();
+    is_answered(alloc, registry, request.as_bytes(), step.status, text)
+}
+
+/// The number of the first step that is answered otherwise.
+fn first_other_step(
+    alloc: Global,
+    registry: &mut Registry<MemDisk>,
+) -> Result<Option<usize>, Fail> {
+    for (i, step) in STEPS.iter().enumerate() {
+        if !is_step(alloc, registry, step)? {
+            return Ok(Some(i));
+        }
+    }
+    Ok(None)
+}
+
 #[test]
 fn mapping_commands(rt: HostRuntime) -> Result<(), Fail> {
-    let alloc = rt.alloc();
-    let mut registry = fresh(alloc)?;
-    for step in &STEPS {
-        let request = request(alloc, step)?;
-        let text = step.text.as_bytes();
-        assert!(rt; is_answered(alloc, &mut registry, request.as_bytes(), step.status, text)?);
-    }
+    let mut registry = fresh(rt.alloc())?;
+    assert_eq!(rt; first_other_step(rt.alloc(), &mut registry)?, None);
     Ok(())
+}
+
+/// The length of the first pieces in which a target with a query is served otherwise.
+fn first_other_piece(
+    alloc: Global,
+    registry: &mut Registry<MemDisk>,
+) -> Result<Option<usize>, OutOfMemory> {
+    let request = b"GET /2015-03-31/event-source-mappings?x=1 HTTP/1.1\r\nHost: a\r\n\r\n";
+    for piece in 1..200 {
+        let expected = (Served::Answered(400), QUERY);
+        if !is_served(alloc, registry, request, piece, expected)? {
+            return Ok(Some(piece));
+        }
+    }
+    Ok(None)
 }
 
 #[test]
 fn api_query(rt: HostRuntime) -> Result<(), Fail> {
-    let alloc = rt.alloc();
-    let mut registry = fresh(alloc)?;
-    let request = b"GET /2015-03-31/event-source-mappings?x=1 HTTP/1.1\r\nHost: a\r\n\r\n";
-    for piece in 1..200 {
-        let (served, written) = exchange(alloc, &mut registry, request, piece, &[])?;
-        assert_eq!(rt; served, Served::Answered(400));
-        assert_eq!(rt; written.as_slice(), QUERY);
-    }
+    let mut registry = fresh(rt.alloc())?;
+    assert_eq!(rt; first_other_piece(rt.alloc(), &mut registry)?, None);
     Ok(())
 }
 
@@ -183,27 +232,31 @@ const CUT: [&[u8]; 2] = [
     b"POST /2015-03-31/event-source-mappings HTTP/1.1\r\nContent-Length: 3\r\n\r\n{}",
 ];
 
+/// Whether the request is cut in a fresh registry, and nothing is written.
+fn is_cut(alloc: Global, request: &[u8]) -> Result<bool, Fail> {
+    let mut registry = fresh(alloc)?;
+    Ok(is_served(alloc, &mut registry, request, 4_096, (Served::Cut, &[]))?)
+}
+
 #[test]
 fn cut_request(rt: HostRuntime) -> Result<(), Fail> {
-    let alloc = rt.alloc();
-    let mut registry = fresh(alloc)?;
     for request in CUT {
-        let (served, written) = exchange(alloc, &mut registry, request, 4_096, &[])?;
-        assert_eq!(rt; served, Served::Cut);
-        assert!(rt; written.is_empty());
+        assert!(rt; is_cut(rt.alloc(), request)?);
     }
     Ok(())
 }
 
-/// The list is one read and one write; the link would fail at the next call.
+/// Whether a fresh registry's list is one read and one write; the link would fail at the next call.
+fn is_list_read_once(alloc: Global) -> Result<bool, Fail> {
+    let list = b"GET /2015-03-31/event-source-mappings HTTP/1.1\r\n\r\n";
+    let mut registry = fresh(alloc)?;
+    let (served, written) = exchange(alloc, &mut registry, list, 4_096, &[2])?;
+    Ok(served == Served::Answered(200) && written.as_slice() == NONE)
+}
+
 #[test]
 fn no_read_behind_a_request(rt: HostRuntime) -> Result<(), Fail> {
-    let alloc = rt.alloc();
-    let mut registry = fresh(alloc)?;
-    let list = b"GET /2015-03-31/event-source-mappings HTTP/1.1\r\n\r\n";
-    let (served, written) = exchange(alloc, &mut registry, list, 4_096, &[2])?;
-    assert_eq!(rt; served, Served::Answered(200));
-    assert_eq!(rt; written.as_slice(), NONE);
+    assert!(rt; is_list_read_once(rt.alloc())?);
     Ok(())
 }
 
@@ -217,13 +270,17 @@ fn long_head(alloc: Global, len: usize) -> Result<Vec<u8>, AllocError> {
     Ok(head)
 }
 
+/// Whether a fresh registry answers so.
+fn is_refused(alloc: Global, request: &[u8], status: u16, text: &str) -> Result<bool, Fail> {
+    let mut registry = fresh(alloc)?;
+    Ok(is_answered(alloc, &mut registry, request, status, text.as_bytes())?)
+}
+
 #[test]
 fn hostile_inputs(rt: HostRuntime) -> Result<(), Fail> {
-    let alloc = rt.alloc();
-    let mut registry = fresh(alloc)?;
-    let head = long_head(alloc, 16_385)?;
-    assert!(rt; is_answered(alloc, &mut registry, &head, 400, b"\"Message\":\"head\"}")?);
+    let head = long_head(rt.alloc(), 16_385)?;
+    assert!(rt; is_refused(rt.alloc(), &head, 400, "\"Message\":\"head\"}")?);
     let long = b"POST /2015-03-31/event-source-mappings HTTP/1.1\r\nContent-Length: 65537\r\n\r\n";
-    assert!(rt; is_answered(alloc, &mut registry, long, 413, b"\"Message\":\"body\"}")?);
+    assert!(rt; is_refused(rt.alloc(), long, 413, "\"Message\":\"body\"}")?);
     Ok(())
 }

@@ -2,61 +2,124 @@
 ghost use Rattle.std.specs.Prelude.{IfOk};
 ghost use Rattle.esm_trials_devices.specs.Toy.{MayAsk};
 
+use crate::disks::fresh_pair;
 use crate::toy::Names;
 use esm_book::{CallError, Durable};
 use esm_io::{MemDest, MemDisk};
-use esm_journal::{Journal, Pair};
+use esm_journal::Pair;
 use esm_model::{Bytes, OutOfMemory, Trouble};
 use std::alloc::Global;
 use std::test::Fail;
 
-/// A book of names over fresh devices. The calls of the journal's disk with these numbers fail, and the deliveries with
-/// those.
-fn fresh(
-    alloc: Global,
-    disk_fails: &[u64],
-    dest_fails: &[u64],
-) -> Result<Durable<Names, MemDisk, MemDest>, Fail> {
-    let disk = MemDisk::new(alloc, Vec::new(alloc), disk_fails.to_vec(alloc)?);
-    let journal = Pair::first(disk)?;
-    let spare = Journal::blank(MemDisk::new(alloc, Vec::new(alloc), Vec::new(alloc)))?;
-    let pair = Pair::open(alloc, journal, spare)?;
-    let dest = MemDest::new(alloc, dest_fails.to_vec(alloc)?);
-    Ok(Durable::new(Names::new(alloc), pair, dest))
+/// What a call answers, and why a book is down.
+#[derive(Clone, Copy, PartialEq, Eq)]
+enum Answer {
+    /// So many names came before.
+    Before(usize),
+    Disk,
+    Dest,
+    Changed,
+    Down,
+    NoMemory,
 }
 
-fn name(alloc: Global) -> Result<Option<Bytes>, OutOfMemory>
+use Answer::{Before, Changed, Dest, Disk, Down};
+
+/// Two calls of a fresh book over devices that may fail.
+#[derive(Clone, Copy)]
+struct Story<'a> {
+    /// The calls of the journal's disk with these numbers fail, and the deliveries with those.
+    disk_fails: &'a [u64],
+    dest_fails: &'a [u64],
+    /// Whether the call has a name, and what it answers.
+    calls: [(bool, Answer); 2],
+    trouble: Option<Answer>,
+    /// The payloads that a crash leaves by this choice, and the lines that were delivered.
+    choice: u64,
+    left: (usize, usize),
+}
+
+type Book = Durable<Names, MemDisk, MemDest>;
+
+/// A book of names over fresh devices.
+fn fresh(alloc: Global, story: &Story) -> Result<Book, Fail> {
+    let fails = story.dest_fails.to_vec(alloc)?;
+    let pair = fresh_pair(alloc, story.disk_fails)?;
+    Ok(Durable::new(Names::new(alloc), pair, MemDest::new(alloc, fails)))
+}
+
+fn name(alloc: Global, is_named: bool) -> Result<Option<Bytes>, OutOfMemory>
     ensures { IfOk result MayAsk }
 {
-    Ok(Some(Bytes::from_vec(b"name".to_vec(alloc)?)))
+    if is_named {
+        Ok(Some(Bytes::from_vec(b"name".to_vec(alloc)?)))
+    } else {
+        Ok(None)
+    }
 }
 
-/// How many payloads a crash leaves, and how many lines were delivered.
-fn left(
-    alloc: Global,
-    book: Durable<Names, MemDisk, MemDest>,
-    choice: u64,
-) -> Result<(usize, usize), Fail> {
-    let parts = book.into_parts();
-    let lines = parts.dest.lines().len();
-    let (first, second) = parts.pair.into_disks();
+fn told(called: Result<usize, CallError>) -> Answer {
+    match called {
+        Ok(before) => Before(before),
+        Err(CallError::DiskFault) => Disk,
+        Err(CallError::DestFault) => Dest,
+        Err(CallError::Changed(_)) => Changed,
+        Err(CallError::Down) => Down,
+        Err(CallError::OutOfMemory) => Answer::NoMemory,
+    }
+}
+
+fn ask(book: &mut Book, alloc: Global, is_named: bool) -> Result<Answer, OutOfMemory> {
+    let call = name(alloc, is_named)?;
+    Ok(told(book.carry_out(alloc, call)))
+}
+
+fn trouble(book: &Book) -> Option<Answer> {
+    match book.trouble() {
+        None => None,
+        Some(Trouble::Disk) => Some(Disk),
+        Some(Trouble::Dest) => Some(Dest),
+        Some(Trouble::Changed(_)) => Some(Changed),
+    }
+}
+
+/// Whether the calls answer as the story tells, and leave the book in that trouble.
+fn is_called(book: &mut Book, alloc: Global, story: &Story) -> Result<bool, OutOfMemory> {
+    let [first, second] = story.calls;
+    let one = ask(book, alloc, first.0)?;
+    let other = ask(book, alloc, second.0)?;
+    Ok(one == first.1 && other == second.1 && trouble(book) == story.trouble)
+}
+
+/// How many payloads a crash leaves.
+fn crashed(alloc: Global, pair: Pair<MemDisk>, choice: u64) -> Result<usize, Fail> {
+    let (first, second) = pair.into_disks();
     let first = first.crash(alloc, choice)?;
     let second = second.crash(alloc, choice)?;
-    Ok((Pair::open(alloc, first, second)?.payloads().len(), lines))
+    Ok(Pair::open(alloc, first, second)?.payloads().len())
 }
 
-/// Two names: each is a payload and a line. A call that adds nothing more changes no device.
+fn is_so(alloc: Global, story: &Story) -> Result<bool, Fail> {
+    let mut book = fresh(alloc, story)?;
+    let is_called = is_called(&mut book, alloc, story)?;
+    let parts = book.into_parts();
+    let lines = parts.dest.lines().len();
+    let payloads = crashed(alloc, parts.pair, story.choice)?;
+    Ok(is_called && (payloads, lines) == story.left)
+}
+
+/// Two names: each is a payload and a line.
 #[test]
 fn names_are_written(rt: HostRuntime) -> Result<(), Fail> {
-    let alloc = rt.alloc();
-    let mut book = fresh(alloc, &[], &[])?;
-    for before in 0..2 {
-        let call = name(alloc)?;
-        let called = book.carry_out(alloc, call);
-        assert!(rt; matches!(&called, Ok(n) if *n == before));
-    }
-    assert!(rt; book.trouble().is_none());
-    assert_eq!(rt; left(alloc, book, 0)?, (2, 2));
+    let story = Story {
+        disk_fails: &[],
+        dest_fails: &[],
+        calls: [(true, Before(0)), (true, Before(1))],
+        trouble: None,
+        choice: 0,
+        left: (2, 2),
+    };
+    assert!(rt; is_so(rt.alloc(), &story)?);
     Ok(())
 }
 
@@ -64,17 +127,16 @@ fn names_are_written(rt: HostRuntime) -> Result<(), Fail> {
 /// line was delivered before.
 #[test]
 fn a_disk_fails(rt: HostRuntime) -> Result<(), Fail> {
-    let alloc = rt.alloc();
     for (call, choice, payloads) in [(10, 1, 0), (11, 1, 0), (12, 1, 0), (13, 0, 0), (13, 1, 1)] {
-        let mut book = fresh(alloc, &[call], &[])?;
-        let called = name(alloc)?;
-        let called = book.carry_out(alloc, called);
-        assert!(rt; matches!(&called, Err(CallError::DiskFault)), "at {call}");
-        assert!(rt; matches!(book.trouble(), Some(Trouble::Disk)), "at {call}");
-        let again = name(alloc)?;
-        let again = book.carry_out(alloc, again);
-        assert!(rt; matches!(&again, Err(CallError::Down)), "at {call}");
-        assert_eq!(rt; left(alloc, book, choice)?, (payloads, 1), "at {call}");
+        let story = Story {
+            disk_fails: &[call],
+            dest_fails: &[],
+            calls: [(true, Disk), (true, Down)],
+            trouble: Some(Disk),
+            choice,
+            left: (payloads, 1),
+        };
+        assert!(rt; is_so(rt.alloc(), &story)?, "at {call}");
     }
     Ok(())
 }
@@ -82,29 +144,29 @@ fn a_disk_fails(rt: HostRuntime) -> Result<(), Fail> {
 /// A destination that fails leaves the book without the payload.
 #[test]
 fn a_destination_fails(rt: HostRuntime) -> Result<(), Fail> {
-    let alloc = rt.alloc();
-    let mut book = fresh(alloc, &[], &[0])?;
-    let call = name(alloc)?;
-    let called = book.carry_out(alloc, call);
-    assert!(rt; matches!(&called, Err(CallError::DestFault)));
-    assert!(rt; matches!(book.trouble(), Some(Trouble::Dest)));
-    let again = book.carry_out(alloc, None);
-    assert!(rt; matches!(&again, Err(CallError::Down)));
-    assert_eq!(rt; left(alloc, book, 1)?, (0, 0));
+    let story = Story {
+        disk_fails: &[],
+        dest_fails: &[0],
+        calls: [(true, Dest), (false, Down)],
+        trouble: Some(Dest),
+        choice: 1,
+        left: (0, 0),
+    };
+    assert!(rt; is_so(rt.alloc(), &story)?);
     Ok(())
 }
 
 /// After a change no call is made.
 #[test]
 fn a_change_stops(rt: HostRuntime) -> Result<(), Fail> {
-    let alloc = rt.alloc();
-    let mut book = fresh(alloc, &[], &[])?;
-    let stopped = book.carry_out(alloc, None);
-    assert!(rt; matches!(&stopped, Err(CallError::Changed(_))));
-    assert!(rt; matches!(book.trouble(), Some(Trouble::Changed(_))));
-    let call = name(alloc)?;
-    let called = book.carry_out(alloc, call);
-    assert!(rt; matches!(&called, Err(CallError::Down)));
-    assert_eq!(rt; left(alloc, book, 1)?, (0, 0));
+    let story = Story {
+        disk_fails: &[],
+        dest_fails: &[],
+        calls: [(false, Changed), (true, Down)],
+        trouble: Some(Changed),
+        choice: 1,
+        left: (0, 0),
+    };
+    assert!(rt; is_so(rt.alloc(), &story)?);
     Ok(())
 }

@@ -6,11 +6,44 @@ use esm_io::{Caller, MemLink};
 use esm_model::{OutOfMemory, Reply};
 use std::alloc::{AllocError, Global};
 use std::io::{Read, Write};
-use std::net::TcpListener;
+use std::net::{Net, TcpListener};
 use std::test::Fail;
 use std::{io, thread};
 
-/// The reply to a response that comes in pieces over a link whose calls with these numbers fail.
+/// What a reply comes to; an answer by its status and error, and a garbled one by the number of bytes that were read.
+#[derive(Clone, Copy, Debug, PartialEq, Eq)]
+enum Outcome {
+    Answered(u16, bool),
+    Garbled(usize),
+    Lost,
+    NoMemory,
+}
+
+use Outcome::{Answered, Garbled, Lost};
+
+/// A link that gives the response in pieces, and whose calls with these numbers fail.
+fn link(alloc: Global, response: &[u8], piece: usize, fails: &[u64]) -> Result<MemLink, AllocError>
+    requires { 0 < piece }
+{
+    let bytes = Vec::from_slice(alloc, response)?;
+    let fails = Vec::from_slice(alloc, fails)?;
+    Ok(MemLink::new(alloc, bytes, piece, fails))
+}
+
+/// The reply to such a response, with what the work area holds already.
+fn reply_in(
+    alloc: Global,
+    response: &[u8],
+    piece: usize,
+    fails: &[u64],
+    buffer: &mut Vec<u8>,
+) -> Result<Reply, OutOfMemory>
+    requires { 0 < piece }
+{
+    let mut link = link(alloc, response, piece, fails)?;
+    invoke(alloc, &mut link, "f", b"{}", buffer)
+}
+
 fn reply_to(
     alloc: Global,
     response: &[u8],
@@ -19,17 +52,23 @@ fn reply_to(
 ) -> Result<Reply, OutOfMemory>
     requires { 0 < piece }
 {
-    let bytes = Vec::from_slice(alloc, response)?;
-    let fails = Vec::from_slice(alloc, fails)?;
-    let mut link = MemLink::new(alloc, bytes, piece, fails);
-    invoke(alloc, &mut link, "f", b"{}", &mut Vec::new(alloc))
+    let mut buffer = Vec::new(alloc);
+    reply_in(alloc, response, piece, fails, &mut buffer)
 }
 
-/// The reply to a response that comes whole, with what the work area holds already.
-fn reply_in(alloc: Global, response: &[u8], buffer: &mut Vec<u8>) -> Result<Reply, OutOfMemory> {
-    let bytes = Vec::from_slice(alloc, response)?;
-    let mut link = MemLink::new(alloc, bytes, 4_096, Vec::new(alloc));
-    invoke(alloc, &mut link, "f", b"{}", buffer)
+fn judged(reply: &Result<Reply, OutOfMemory>) -> Outcome {
+    match reply {
+        Ok(Reply::Answered { status, error, .. }) => Answered(*status, *error),
+        Ok(Reply::Garbled { bytes }) => Garbled(bytes.as_slice().len()),
+        Ok(Reply::Lost) => Lost,
+        Err(OutOfMemory) => Outcome::NoMemory,
+    }
+}
+
+fn outcome_of(alloc: Global, response: &[u8], piece: usize, fails: &[u64]) -> Outcome
+    requires { 0 < piece }
+{
+    judged(&reply_to(alloc, response, piece, fails))
 }
 
 /// Such a response is answered with this status, error and body.
@@ -55,106 +94,102 @@ fn is_garbled(alloc: Global, response: &[u8], count: usize) -> bool {
     }
 }
 
+const TWO_BYTES: &[u8] = b"HTTP/1.1 200 OK\r\nContent-Length: 2\r\n\r\n{}";
+
+/// Responses, the status, the error and the body of their answers: `reply-read`, `chunked-reply`, `error-header`, and
+/// one with two lengths.
+const ANSWERED: [(&[u8], u16, bool, &[u8]); 4] = [
+    (TWO_BYTES, 200, false, b"{}"),
+    (
+        b"HTTP/1.1 200 OK\r\nTransfer-Encoding: chunked\r\n\r\n2\r\n{}\r\n0\r\n\r\n",
+        200,
+        false,
+        b"{}",
+    ),
+    (
+        b"HTTP/1.1 200 OK\r\nx-amz-function-error: Unhandled\r\n\r\nno",
+        200,
+        true,
+        b"no",
+    ),
+    (
+        b"HTTP/1.1 429 Slow\r\nContent-Length: 1\r\ncontent-length: 1\r\n\r\n1 more",
+        429,
+        false,
+        b"1",
+    ),
+];
+
+/// Responses that are garbled, and how many bytes of each are read: `cut-reply`, and codings that are none.
+const GARBLED: [(&[u8], usize); 4] = [
+    (b"HTTP/1.1 2", 10),
+    (b"HTTP/1.1 200 OK\r\nContent-Length: 3\r\n\r\n{}", 40),
+    (
+        b"HTTP/1.1 200 OK\r\nContent-Length: 1\r\ncontent-length: 2\r\n\r\n{}",
+        57,
+    ),
+    (b"HTTP/1.1 200 OK\r\nTransfer-Encoding: gzip\r\n\r\n{}", 44),
+];
+
 #[test]
-fn reply_read(rt: HostRuntime) {
-    let alloc = rt.alloc();
-    assert!(rt;
-        answers(
-            alloc,
-            b"HTTP/1.1 200 OK\r\nContent-Length: 2\r\n\r\n{}",
-            200,
-            false,
-            b"{}"
-        )
-    );
-    assert!(rt; is_garbled(alloc, b"HTTP/1.1 2", 10));
+fn answered_responses(rt: HostRuntime) {
+    for (response, status, error, body) in ANSWERED {
+        assert!(rt;
+            answers(rt.alloc(), response, status, error, body),
+            "{body:?}"
+        );
+    }
 }
 
 #[test]
-fn chunked_reply(rt: HostRuntime) {
-    let alloc = rt.alloc();
-    let response = b"HTTP/1.1 200 OK\r\nTransfer-Encoding: chunked\r\n\r\n2\r\n{}\r\n0\r\n\r\n";
-    assert!(rt; answers(alloc, response, 200, false, b"{}"));
+fn garbled_responses(rt: HostRuntime) {
+    for (response, count) in GARBLED {
+        assert!(rt; is_garbled(rt.alloc(), response, count), "{count}");
+    }
 }
 
+/// A link fails at its first call, or at its next call: the request is one write, the response one read.
 #[test]
-fn error_header(rt: HostRuntime) {
-    let alloc = rt.alloc();
-    let response = b"HTTP/1.1 200 OK\r\nx-amz-function-error: Unhandled\r\n\r\nno";
-    assert!(rt; answers(alloc, response, 200, true, b"no"));
-}
-
-#[test]
-fn cut_reply(rt: HostRuntime) {
-    let alloc = rt.alloc();
-    assert!(rt; is_garbled(alloc, b"HTTP/1.1 200 OK\r\nContent-Length: 3\r\n\r\n{}", 40));
-    assert!(rt;
-        matches!(
-            &reply_to(alloc, b"HTTP/1.1 200 OK\r\n\r\n", 9, &[0]),
-            Ok(Reply::Lost)
-        )
-    );
-}
-
-/// A link fails at its next call: the request is one write, the response one read.
-#[test]
-fn no_read_behind_a_response(rt: HostRuntime) {
-    let alloc = rt.alloc();
-    let response = b"HTTP/1.1 200 OK\r\nContent-Length: 2\r\n\r\n{}";
-    assert!(rt;
-        matches!(
-            &reply_to(alloc, response, 200, &[2]),
-            Ok(Reply::Answered { status: 200, .. })
-        )
-    );
+fn links_that_fail(rt: HostRuntime) {
     let unbounded = b"HTTP/1.1 200 OK\r\n\r\n{}";
-    assert!(rt; matches!(&reply_to(alloc, unbounded, 200, &[2]), Ok(Reply::Lost)));
+    assert_eq!(rt;
+        outcome_of(rt.alloc(), b"HTTP/1.1 200 OK\r\n\r\n", 9, &[0]),
+        Lost
+    );
+    assert_eq!(rt;
+        outcome_of(rt.alloc(), TWO_BYTES, 200, &[2]),
+        Answered(200, false)
+    );
+    assert_eq!(rt; outcome_of(rt.alloc(), unbounded, 200, &[2]), Lost);
 }
 
-#[test]
-fn two_lengths_and_another_coding(rt: HostRuntime) {
-    let alloc = rt.alloc();
-    let same = b"HTTP/1.1 429 Slow\r\nContent-Length: 1\r\ncontent-length: 1\r\n\r\n1 more";
-    assert!(rt; answers(alloc, same, 429, false, b"1"));
-    assert!(rt;
-        is_garbled(
-            alloc,
-            b"HTTP/1.1 200 OK\r\nContent-Length: 1\r\ncontent-length: 2\r\n\r\n{}",
-            57
-        )
-    );
-    assert!(rt;
-        is_garbled(
-            alloc,
-            b"HTTP/1.1 200 OK\r\nTransfer-Encoding: gzip\r\n\r\n{}",
-            44
-        )
-    );
+/// What a response comes to, and how large its work area then is.
+fn work_area(alloc: Global) -> (Outcome, usize) {
+    let mut buffer = Vec::new(alloc);
+    let outcome = judged(&reply_in(alloc, TWO_BYTES, 4_096, &[], &mut buffer));
+    (outcome, buffer.capacity())
 }
 
 #[test]
 fn small_work_area(rt: HostRuntime) {
-    let alloc = rt.alloc();
-    let mut buffer = Vec::new(alloc);
-    let response = b"HTTP/1.1 200 OK\r\nContent-Length: 2\r\n\r\n{}";
-    assert!(rt;
-        matches!(
-            &reply_in(alloc, response, &mut buffer),
-            Ok(Reply::Answered { status: 200, .. })
-        )
-    );
-    assert!(rt; buffer.capacity() < 16_384);
+    let (outcome, capacity) = work_area(rt.alloc());
+    assert_eq!(rt; outcome, Answered(200, false));
+    assert!(rt; capacity < 16_384);
 }
 
-/// A whole response stands in the work area, and the link ends in its head.
+/// Whether the reply to a head that is cut has the bytes of that head, where a whole response stands in the work area.
+fn is_area_cleared(alloc: Global) -> Result<bool, OutOfMemory> {
+    let head = b"HTTP/1.1 200 OK\r\n".as_slice();
+    let mut buffer = Vec::from_slice(alloc, TWO_BYTES)?;
+    match reply_in(alloc, head, 4_096, &[], &mut buffer)? {
+        Reply::Garbled { bytes } => Ok(bytes.as_slice() == head),
+        _ => Ok(false),
+    }
+}
+
 #[test]
 fn work_area_of_another_call(rt: HostRuntime) -> Result<(), Fail> {
-    let alloc = rt.alloc();
-    let mut buffer = Vec::from_slice(alloc, b"HTTP/1.1 200 OK\r\nContent-Length: 2\r\n\r\n{}")?;
-    let reply = reply_in(alloc, b"HTTP/1.1 200 OK\r\n", &mut buffer);
-    assert!(rt;
-        matches!(&reply, Ok(Reply::Garbled { bytes }) if bytes.as_slice() == b"HTTP/1.1 200 OK\r\n".as_slice())
-    );
+    assert!(rt; is_area_cleared(rt.alloc())?);
     Ok(())
 }
 
@@ -171,21 +206,41 @@ fn long_head(alloc: Global, len: usize) -> Result<Vec<u8>, AllocError>
     Ok(text)
 }
 
+/// Whether a response whose head has so many bytes is answered.
+fn is_head_answered(alloc: Global, len: usize) -> Result<bool, AllocError>
+    requires low { 24 ≤ len }
+    requires high { len ≤ 20000 }
+{
+    let response = long_head(alloc, len)?;
+    Ok(answers(alloc, response.as_slice(), 200, false, b""))
+}
+
+/// Whether it is garbled once so many bytes were read.
+fn is_head_garbled(alloc: Global, len: usize, count: usize) -> Result<bool, AllocError>
+    requires low { 24 ≤ len }
+    requires high { len ≤ 20000 }
+{
+    let response = long_head(alloc, len)?;
+    Ok(is_garbled(alloc, response.as_slice(), count))
+}
+
 #[test]
 fn hostile_head(rt: HostRuntime) -> Result<(), Fail> {
-    let alloc = rt.alloc();
-    assert!(rt; answers(alloc, long_head(alloc, 16_384)?.as_slice(), 200, false, b""));
-    assert!(rt; is_garbled(alloc, long_head(alloc, 16_385)?.as_slice(), 16_384));
+    assert!(rt; is_head_answered(rt.alloc(), 16_384)?);
+    assert!(rt; is_head_garbled(rt.alloc(), 16_385, 16_384)?);
     Ok(())
+}
+
+/// Whether the request is written, and garbled where nothing is answered.
+fn is_requested(alloc: Global) -> bool {
+    let mut link = MemLink::new(alloc, Vec::new(alloc), 4_096, Vec::new(alloc));
+    let reply = invoke(alloc, &mut link, "f", b"{}", &mut Vec::new(alloc));
+    judged(&reply) == Garbled(0) && link.written() == REQUEST
 }
 
 #[test]
 fn request_bytes(rt: HostRuntime) {
-    let alloc = rt.alloc();
-    let mut link = MemLink::new(alloc, Vec::new(alloc), 4_096, Vec::new(alloc));
-    let reply = invoke(alloc, &mut link, "f", b"{}", &mut Vec::new(alloc));
-    assert!(rt; matches!(&reply, Ok(Reply::Garbled { .. })));
-    assert_eq!(rt; link.written(), REQUEST);
+    assert!(rt; is_requested(rt.alloc()));
 }
 
 /// The request for the event `{}` of the function `f`.
@@ -201,24 +256,18 @@ fn serve_once(listener: &TcpListener) -> io::Result<bool> {
     Ok(request.as_slice() == REQUEST)
 }
 
+/// What a call on the port comes to.
+fn called<R: Net + Clone>(rt: &R, alloc: Global, port: u16) -> Result<Outcome, OutOfMemory> {
+    let mut caller = HttpCaller::new(rt, alloc, port)?;
+    Ok(judged(&caller.call(alloc, "f", b"{}")))
+}
+
 #[test]
 fn http_caller_against_a_listener(rt: HostRuntime) -> Result<(), Fail> {
-    let alloc = rt.alloc();
     let listener = TcpListener::bind(&rt, "127.0.0.1:0")?;
     let port = listener.local_addr()?.port();
     let server = thread::spawn(&rt, move || matches!(serve_once(&listener), Ok(true)))?;
-    let mut caller = HttpCaller::new(&rt, alloc, port).ok().ok_or("memory")?;
-    let reply = caller.call(alloc, "f", b"{}").ok().ok_or("memory")?;
+    assert_eq!(rt; called(&rt, rt.alloc(), port)?, Answered(200, false));
     assert!(rt; server.join(&rt));
-    assert!(rt;
-        matches!(
-            &reply,
-            Reply::Answered {
-                status: 200,
-                error: false,
-                ..
-            }
-        )
-    );
     Ok(())
 }

@@ -1,7 +1,10 @@
 // Tests: a journal's bytes, and what is left of it after a disk failed while it was written, and a crash.
+ghost use Rattle.std.specs.Prelude.{◌≡◌, false, IfOk};
+
+use crate::disks::{blank, disk, fresh_pair};
 use esm_io::{Dest, MemDisk};
 use esm_journal::*;
-use esm_model::{Bytes, Refused};
+use esm_model::{Bytes, OutOfMemory};
 use std::alloc::Global;
 use std::test::Fail;
 
@@ -11,103 +14,143 @@ const FILE: [u8; 52] =
 
 const PAYLOAD: [u8; 29] = *b"\x01\0\0\0\0\0\0\0\0\x01\0\0\0\0\0\0\0\0\0\0\0\0\x01\0\0\0\0\x011";
 
-/// How many payloads a journal has after the `k`-th call of its disk failed while one was added, and a crash.
-fn left_after(alloc: Global, k: u64, choice: u64) -> Result<usize, Fail> {
-    let fails = [k].to_vec(alloc)?;
-    let mut journal = Journal::init(alloc, MemDisk::new(alloc, Vec::new(alloc), fails))?;
-    let added = journal.append(alloc, &PAYLOAD);
-    if !matches!(&added, Err(AppendError::DiskFault)) {
-        return Ok(99);
+/// A fresh journal; the calls of its disk with these numbers fail.
+fn fresh(alloc: Global, fails: &[u64]) -> Result<Journal<MemDisk>, Fail> {
+    let empty = disk(alloc, &[], fails)?;
+    Ok(Journal::init(alloc, empty)?)
+}
+
+/// The journal of `FILE`.
+fn opened(alloc: Global) -> Result<Journal<MemDisk>, Fail>
+    ensures up { IfOk result (λ journal. journal.down ≡ false) }
+{
+    let file = disk(alloc, &FILE, &[])?;
+    Ok(Journal::open(alloc, file)?)
+}
+
+/// The disk of a journal whose `k`-th call failed while a payload was added.
+fn stopped(alloc: Global, k: u64) -> Result<MemDisk, Fail> {
+    let mut journal = fresh(alloc, &[k])?;
+    match journal.append(alloc, &PAYLOAD) {
+        Err(AppendError::DiskFault) => Ok(journal.into_disk()),
+        _ => Err(Fail::from("no fault")),
     }
-    let disk = journal.into_disk().crash(alloc, choice)?;
+}
+
+/// How many payloads the journal then has after a crash.
+fn left_after(alloc: Global, k: u64, choice: u64) -> Result<usize, Fail> {
+    let disk = stopped(alloc, k)?;
+    let disk = disk.crash(alloc, choice)?;
     Ok(Journal::open(alloc, disk)?.payloads().len())
+}
+
+/// The same for the choices 0, 1 and 165.
+fn all_left_after(alloc: Global, k: u64) -> Result<[usize; 3], Fail> {
+    let none = left_after(alloc, k, 0)?;
+    let first = left_after(alloc, k, 1)?;
+    let some = left_after(alloc, k, 165)?;
+    Ok([none, first, some])
 }
 
 /// The calls of `append` are the disk's calls 6 to 9: a write, a sync, the gate's write, a sync.
 #[test]
 fn append_stopped(rt: HostRuntime) -> Result<(), Fail> {
-    let alloc = rt.alloc();
     for k in 6..9 {
-        assert_eq!(rt; left_after(alloc, k, 0)?, 0);
-        assert_eq!(rt; left_after(alloc, k, 1)?, 0);
-        assert_eq!(rt; left_after(alloc, k, 165)?, 0);
+        assert_eq!(rt; all_left_after(rt.alloc(), k)?, [0, 0, 0], "{k}");
     }
-    assert_eq!(rt; left_after(alloc, 9, 0)?, 0);
-    assert_eq!(rt; left_after(alloc, 9, 1)?, 1);
-    assert_eq!(rt; left_after(alloc, 9, 165)?, 0);
+    assert_eq!(rt; all_left_after(rt.alloc(), 9)?, [0, 1, 0]);
     Ok(())
+}
+
+/// The disk of a journal to which the payload was added.
+fn written(alloc: Global) -> Result<MemDisk, Fail> {
+    let mut journal = fresh(alloc, &[])?;
+    journal.reserve(alloc, &[29])?;
+    journal.append(alloc, &PAYLOAD)?;
+    Ok(journal.into_disk())
 }
 
 #[test]
 fn journal_has_the_bytes(rt: HostRuntime) -> Result<(), Fail> {
-    let alloc = rt.alloc();
-    let disk = MemDisk::new(alloc, Vec::new(alloc), Vec::new(alloc));
-    let mut journal = Journal::init(alloc, disk)?;
-    journal.reserve(alloc, &[29])?;
-    journal.append(alloc, &PAYLOAD)?;
-    let disk = journal.into_disk();
-    assert_eq!(rt; disk.bytes(), FILE.as_slice());
+    assert!(rt; written(rt.alloc())?.bytes() == FILE.as_slice());
     Ok(())
+}
+
+/// The answer to a payload that is one byte too long.
+fn long_added(alloc: Global) -> Result<Option<AppendError>, Fail> {
+    let long = vec![in alloc; 0; 16_777_217]?;
+    let mut journal = opened(alloc)?;
+    Ok(journal.append(alloc, &long).err())
+}
+
+/// The answer where a blank file is to be made of one that is.
+fn blank_again(alloc: Global) -> Result<Option<InitError>, Fail> {
+    match Journal::blank(blank(alloc)?) {
+        Ok(_) => Ok(None),
+        Err(refused) => Ok(Some(refused.why)),
+    }
 }
 
 #[test]
 fn payload_bytes(rt: HostRuntime) -> Result<(), Fail> {
-    let alloc = rt.alloc();
-    let disk = MemDisk::new(alloc, FILE.to_vec(alloc)?, Vec::new(alloc));
-    let mut journal = Journal::open(alloc, disk)?;
-    let long = vec![in alloc; 0; 16_777_217]?;
-    let added = journal.append(alloc, &long);
-    assert!(rt; matches!(&added, Err(AppendError::TooLong(16_777_217))));
-    let spare = Journal::blank(MemDisk::new(alloc, Vec::new(alloc), Vec::new(alloc)))?;
-    let again = Journal::blank(spare);
-    assert!(rt;
-        matches!(
-            &again,
-            Err(Refused {
-                why: InitError::NotEmpty(18),
-                ..
-            })
-        )
+    assert_eq!(rt;
+        long_added(rt.alloc())?,
+        Some(AppendError::TooLong(16_777_217))
     );
+    assert_eq!(rt; blank_again(rt.alloc())?, Some(InitError::NotEmpty(18)));
     Ok(())
+}
+
+/// How many lines a destination over `FILE` has after a delivery.
+fn delivered(alloc: Global) -> Result<usize, Fail> {
+    let mut dest = FileDest::new(opened(alloc)?);
+    dest.reserve(alloc, 2)?;
+    dest.deliver(alloc, b"{}")?;
+    Ok(dest.into_journal().payloads().len())
 }
 
 #[test]
 fn lines_are_delivered(rt: HostRuntime) -> Result<(), Fail> {
-    let alloc = rt.alloc();
-    let disk = MemDisk::new(alloc, FILE.to_vec(alloc)?, Vec::new(alloc));
-    let mut dest = FileDest::new(Journal::open(alloc, disk)?);
-    dest.reserve(alloc, 2)?;
-    dest.deliver(alloc, b"{}")?;
-    assert_eq!(rt; dest.into_journal().payloads().len(), 2);
+    assert_eq!(rt; delivered(rt.alloc())?, 2);
     Ok(())
+}
+
+/// The disks of a pair to which the payload was added.
+fn added(alloc: Global) -> Result<(MemDisk, MemDisk), Fail> {
+    let mut pair = fresh_pair(alloc, &[])?;
+    pair.reserve(alloc, &[29])?;
+    pair.append(alloc, &PAYLOAD)?;
+    Ok(pair.into_disks())
+}
+
+/// The bytes of the first of these disks, and the payloads and the epoch of the pair opened anew.
+fn reopened(alloc: Global) -> Result<(usize, usize, u64), Fail> {
+    let (journal, spare) = added(alloc)?;
+    let bytes = journal.bytes().len();
+    let pair = Pair::open(alloc, journal, spare)?;
+    Ok((bytes, pair.payloads().len(), pair.epoch()))
 }
 
 #[test]
 fn pair_opens_to_what_was_added(rt: HostRuntime) -> Result<(), Fail> {
-    let alloc = rt.alloc();
-    let journal = Pair::first(MemDisk::new(alloc, Vec::new(alloc), Vec::new(alloc)))?;
-    let spare = Journal::blank(MemDisk::new(alloc, Vec::new(alloc), Vec::new(alloc)))?;
-    let mut pair = Pair::open(alloc, journal, spare)?;
-    pair.reserve(alloc, &[29])?;
-    pair.append(alloc, &PAYLOAD)?;
-    let (journal, spare) = pair.into_disks();
-    assert_eq!(rt; journal.bytes().len(), 52);
-    let pair = Pair::open(alloc, journal, spare)?;
-    assert_eq!(rt; pair.payloads().len(), 1);
-    assert_eq!(rt; pair.epoch(), 1);
+    assert_eq!(rt; reopened(rt.alloc())?, (52, 1, 1));
     Ok(())
+}
+
+/// The disk that was a fresh pair's spare one, after a list without payloads was written.
+fn compacted(alloc: Global) -> Result<MemDisk, Fail> {
+    let mut pair = fresh_pair(alloc, &[])?;
+    if pair.epoch() != 1 {
+        return Err(Fail::from("not the first epoch"));
+    }
+    pair.rewrite(alloc, &[])?;
+    let (_, spare) = pair.into_disks();
+    Ok(spare)
 }
 
 #[test]
 fn compact_fresh(rt: HostRuntime) -> Result<(), Fail> {
-    let alloc = rt.alloc();
-    let journal = Pair::first(MemDisk::new(alloc, Vec::new(alloc), Vec::new(alloc)))?;
-    let spare = Journal::blank(MemDisk::new(alloc, Vec::new(alloc), Vec::new(alloc)))?;
-    let mut pair = Pair::open(alloc, journal, spare)?;
-    assert!(rt; pair.epoch() == 1);
-    pair.rewrite(alloc, &[])?;
-    let (_, spare) = pair.into_disks();
+    let spare = compacted(rt.alloc())?;
     assert_eq!(rt;
         spare.bytes(),
         b"ESMJ0002\0\0\0\0\0\0\0\x02\x01\0".as_slice()
@@ -115,59 +158,92 @@ fn compact_fresh(rt: HostRuntime) -> Result<(), Fail> {
     Ok(())
 }
 
-/// How many payloads a pair of one payload has after the `k`-th call of its spare disk failed while a list of two was
-/// written to it, and a crash.
-fn left_of_list(alloc: Global, k: u64, choice: u64) -> Result<usize, Fail> {
-    let used = *b"ESMJ0002\0\0\0\0\0\0\0\x02\x01\x01\0\0\0\x01a\0";
-    let spare = *b"ESMJ0002\0\0\0\0\0\0\0\x01\x01\0";
-    let used = MemDisk::new(alloc, used.to_vec(alloc)?, Vec::new(alloc));
-    let spare = MemDisk::new(alloc, spare.to_vec(alloc)?, [k].to_vec(alloc)?);
-    let mut pair = Pair::open(alloc, used, spare)?;
+/// A pair of one payload, in the epoch 2; the `k`-th call of its spare disk fails.
+fn used_pair(alloc: Global, k: u64) -> Result<Pair<MemDisk>, Fail>
+    ensures { IfOk result (λ pair. pair.epoch ≡ 2) }
+{
+    let used = disk(
+        alloc,
+        b"ESMJ0002\0\0\0\0\0\0\0\x02\x01\x01\0\0\0\x01a\0",
+        &[],
+    )?;
+    let spare = disk(alloc, b"ESMJ0002\0\0\0\0\0\0\0\x01\x01\0", &[k])?;
+    let pair = Pair::open(alloc, used, spare)?;
     if pair.epoch() != 2 {
-        return Ok(99);
+        return Err(Fail::from("not the second epoch"));
     }
+    Ok(pair)
+}
+
+fn list_of_two(alloc: Global) -> Result<[Bytes; 2], OutOfMemory> {
     let first = Bytes::from_vec(b"bc".to_vec(alloc)?);
     let second = Bytes::from_vec(b"d".to_vec(alloc)?);
-    let written = pair.rewrite(alloc, &[first, second]);
-    if !matches!(&written, Err(AppendError::DiskFault)) {
-        return Ok(99);
+    Ok([first, second])
+}
+
+/// The disks of this pair after a list of two payloads was to be written.
+fn list_stopped(alloc: Global, k: u64) -> Result<(MemDisk, MemDisk), Fail> {
+    let list = list_of_two(alloc)?;
+    let mut pair = used_pair(alloc, k)?;
+    match pair.rewrite(alloc, &list) {
+        Err(AppendError::DiskFault) => Ok(pair.into_disks()),
+        _ => Err(Fail::from("no fault")),
     }
-    let (used, spare) = pair.into_disks();
-    let pair = Pair::open(alloc, used, spare.crash(alloc, choice)?)?;
-    Ok(pair.payloads().len())
+}
+
+/// How many payloads the pair then has after a crash of the spare disk.
+fn left_of_list(alloc: Global, k: u64, choice: u64) -> Result<usize, Fail> {
+    let (used, spare) = list_stopped(alloc, k)?;
+    let spare = spare.crash(alloc, choice)?;
+    Ok(Pair::open(alloc, used, spare)?.payloads().len())
+}
+
+/// The same for the choices 0, 1 and 165.
+fn all_left_of_list(alloc: Global, k: u64) -> Result<[usize; 3], Fail> {
+    let none = left_of_list(alloc, k, 0)?;
+    let first = left_of_list(alloc, k, 1)?;
+    let some = left_of_list(alloc, k, 165)?;
+    Ok([none, first, some])
 }
 
 /// The calls of `rewrite` are the spare disk's calls 3 to 9: the old seal, a sync, the head, the list, a sync, the new
 /// seal, a sync.
 #[test]
 fn rewrite_stopped(rt: HostRuntime) -> Result<(), Fail> {
-    let alloc = rt.alloc();
     for k in 3..9 {
-        assert_eq!(rt; left_of_list(alloc, k, 0)?, 1);
-        assert_eq!(rt; left_of_list(alloc, k, 1)?, 1);
-        assert_eq!(rt; left_of_list(alloc, k, 165)?, 1);
+        assert_eq!(rt; all_left_of_list(rt.alloc(), k)?, [1, 1, 1], "{k}");
     }
-    assert_eq!(rt; left_of_list(alloc, 9, 0)?, 1);
-    assert_eq!(rt; left_of_list(alloc, 9, 1)?, 2);
-    assert_eq!(rt; left_of_list(alloc, 9, 165)?, 2);
+    assert_eq!(rt; all_left_of_list(rt.alloc(), 9)?, [1, 2, 2]);
     Ok(())
+}
+
+/// The pair of `FILE` and a blank spare disk of version 1, migrated.
+fn migrated(alloc: Global) -> Result<Migrated<MemDisk>, Fail> {
+    let journal = disk(alloc, &FILE, &[])?;
+    let spare = disk(alloc, b"ESMJ0001\0\0\0\0\0\0\0\0\0\0", &[])?;
+    Ok(Pair::migrate(alloc, journal, spare)?)
+}
+
+/// The version in which it was found, the number of payloads, the bytes of its spare disk, and its head.
+fn migrated_once(alloc: Global) -> Result<(u8, u32, usize, Option<[u8; 17]>), Fail> {
+    let once = migrated(alloc)?;
+    let (was, count) = (once.was, once.count);
+    let (_, spare) = once.pair.into_disks();
+    let bytes = spare.bytes();
+    Ok((was, count, bytes.len(), bytes.first_chunk::<17>().copied()))
+}
+
+/// The version in which it was found when it was migrated again, and its payloads.
+fn migrated_again(alloc: Global) -> Result<(u8, usize), Fail> {
+    let (journal, spare) = migrated(alloc)?.pair.into_disks();
+    let again = Pair::migrate(alloc, journal, spare)?;
+    Ok((again.was, again.pair.payloads().len()))
 }
 
 #[test]
 fn migrate_once(rt: HostRuntime) -> Result<(), Fail> {
-    let alloc = rt.alloc();
-    let spare = *b"ESMJ0001\0\0\0\0\0\0\0\0\0\0";
-    let journal = MemDisk::new(alloc, FILE.to_vec(alloc)?, Vec::new(alloc));
-    let spare = MemDisk::new(alloc, spare.to_vec(alloc)?, Vec::new(alloc));
-    let moved = Pair::migrate(alloc, journal, spare)?;
-    assert_eq!(rt; moved.was, 1);
-    assert_eq!(rt; moved.count, 1);
-    let (journal, spare) = moved.pair.into_disks();
-    assert_eq!(rt; spare.bytes().len(), 52);
-    let (head, _) = spare.bytes().split_at(17);
-    assert_eq!(rt; head, b"ESMJ0002\0\0\0\0\0\0\0\x02\x01".as_slice());
-    let again = Pair::migrate(alloc, journal, spare)?;
-    assert_eq!(rt; again.was, 2);
-    assert_eq!(rt; again.pair.payloads().len(), 1);
+    let head = *b"ESMJ0002\0\0\0\0\0\0\0\x02\x01";
+    assert_eq!(rt; migrated_once(rt.alloc())?, (1, 1, 52, Some(head)));
+    assert_eq!(rt; migrated_again(rt.alloc())?, (2, 1));
     Ok(())
 }

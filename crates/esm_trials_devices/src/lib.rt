@@ -10,6 +10,8 @@ mod book;
 #[cfg(test)]
 mod crossing;
 #[cfg(test)]
+mod disks;
+#[cfg(test)]
 mod invoke;
 #[cfg(test)]
 mod journal;

@@ -7,7 +7,7 @@ use esm_io::{
     MemSource, Sink, Source, StepClock,
 };
 use std::alloc::{AllocError, Global};
-use std::process::Abort;
+use std::test::Fail;
 
 /// What was answered; 9 is a call that failed.
 fn counted(answer: Result<usize, Failed>) -> usize {
@@ -17,11 +17,10 @@ fn counted(answer: Result<usize, Failed>) -> usize {
     }
 }
 
-#[test]
-fn source_fails_in_mid_stream(rt: HostRuntime) {
-    let alloc = rt.alloc();
-    let bytes = [1, 2, 3].to_vec(alloc).expect(&rt, "memory");
-    let fails = [1].to_vec(alloc).expect(&rt, "memory");
+/// What four reads answer of which the second fails, and what they read.
+fn read_four(alloc: Global) -> Result<([usize; 4], [u8; 4]), AllocError> {
+    let bytes = [1, 2, 3].to_vec(alloc)?;
+    let fails = [1].to_vec(alloc)?;
     let mut source = MemSource::new(bytes, 2, fails);
     let mut into = [0; 4];
     let counts = [
@@ -30,22 +29,30 @@ fn source_fails_in_mid_stream(rt: HostRuntime) {
         counted(source.read(&mut into)),
         counted(source.read(&mut into)),
     ];
-    assert_eq!(rt; counts, [2, 9, 1, 0]);
-    assert_eq!(rt; into, [3, 2, 0, 0]);
+    Ok((counts, into))
 }
 
 #[test]
-fn sink_fails_in_mid_stream(rt: HostRuntime) {
-    let alloc = rt.alloc();
-    let fails = [1].to_vec(alloc).expect(&rt, "memory");
-    let mut sink = MemSink::new(alloc, 2, fails);
+fn source_fails_in_mid_stream(rt: HostRuntime) -> Result<(), Fail> {
+    assert_eq!(rt; read_four(rt.alloc())?, ([2, 9, 1, 0], [3, 2, 0, 0]));
+    Ok(())
+}
+
+/// What three writes answer of which the second fails, and whether 1, 2 and 3 were written.
+fn write_three(alloc: Global) -> Result<([usize; 3], bool), AllocError> {
+    let mut sink = MemSink::new(alloc, 2, [1].to_vec(alloc)?);
     let counts = [
         counted(sink.write(&[1, 2, 3])),
         counted(sink.write(&[3])),
         counted(sink.write(&[3])),
     ];
-    assert_eq!(rt; counts, [2, 9, 1]);
-    assert_eq!(rt; sink.written(), [1, 2, 3].as_slice());
+    Ok((counts, sink.written() == [1, 2, 3].as_slice()))
+}
+
+#[test]
+fn sink_fails_in_mid_stream(rt: HostRuntime) -> Result<(), Fail> {
+    assert_eq!(rt; write_three(rt.alloc())?, ([2, 9, 1], true));
+    Ok(())
 }
 
 #[test]
@@ -55,38 +62,34 @@ fn clock_steps(rt: HostRuntime) {
     assert_eq!(rt; moments, [5, 9, 9, 9]);
 }
 
-/// What a crash leaves of bytes 1 to 4, all synced, over which 7, 8 and 9 were written from the last of them on.
-fn left_by(rt: &impl Abort, alloc: Global, choice: u64) -> MemDisk {
-    let bytes = [1, 2, 3, 4].to_vec(alloc).expect(rt, "memory");
-    let mut disk = MemDisk::new(alloc, bytes, Vec::new(alloc));
-    disk.write_at(3, &[7, 8, 9]).expect(rt, "memory");
-    disk.crash(alloc, choice).ok().expect(rt, "memory")
+/// Whether a crash leaves these of the bytes 1 to 4, all synced, over which 7, 8 and 9 were written from the last of
+/// them on.
+fn is_left(alloc: Global, choice: u64, left: &[u8]) -> Result<bool, Fail> {
+    let mut disk = MemDisk::new(alloc, [1, 2, 3, 4].to_vec(alloc)?, Vec::new(alloc));
+    disk.write_at(3, &[7, 8, 9])?;
+    Ok(disk.crash(alloc, choice)?.bytes() == left)
 }
 
 // 165 has the bits 0, 2, 5 and 7: of the places 3, 4 and 5 only the last has arrived.
 #[test]
-fn crash_leaves_what_has_arrived(rt: HostRuntime) {
-    let alloc = rt.alloc();
-    assert_eq!(rt; left_by(&rt, alloc, 0).bytes(), [1, 2, 3, 4].as_slice());
-    assert_eq!(rt;
-        left_by(&rt, alloc, 1).bytes(),
-        [1, 2, 3, 7, 8, 9].as_slice()
-    );
-    assert_eq!(rt;
-        left_by(&rt, alloc, 165).bytes(),
-        [1, 2, 3, 4, 0, 9].as_slice()
-    );
+fn crash_leaves_what_has_arrived(rt: HostRuntime) -> Result<(), Fail> {
+    assert!(rt; is_left(rt.alloc(), 0, &[1, 2, 3, 4])?);
+    assert!(rt; is_left(rt.alloc(), 1, &[1, 2, 3, 7, 8, 9])?);
+    assert!(rt; is_left(rt.alloc(), 165, &[1, 2, 3, 4, 0, 9])?);
+    Ok(())
+}
+
+/// Whether a byte is put into a disk of three, and how many calls that and its length are.
+fn put_one(alloc: Global) -> Result<(bool, u64), AllocError> {
+    let mut disk = MemDisk::new(alloc, [1, 2, 3].to_vec(alloc)?, Vec::new(alloc));
+    let is_put = put_byte(&mut disk, 1, 9).is_ok() && disk.len() == Ok(3);
+    Ok((is_put && disk.bytes() == [1, 9, 3].as_slice(), disk.calls()))
 }
 
 #[test]
-fn disk_puts_a_byte_and_counts_its_calls(rt: HostRuntime) {
-    let alloc = rt.alloc();
-    let bytes = [1, 2, 3].to_vec(alloc).expect(&rt, "memory");
-    let mut disk = MemDisk::new(alloc, bytes, Vec::new(alloc));
-    assert!(rt; put_byte(&mut disk, 1, 9).is_ok());
-    assert!(rt; disk.len() == Ok(3));
-    assert_eq!(rt; disk.bytes(), [1, 9, 3].as_slice());
-    assert_eq!(rt; disk.calls(), 3);
+fn disk_puts_a_byte_and_counts_its_calls(rt: HostRuntime) -> Result<(), Fail> {
+    assert_eq!(rt; put_one(rt.alloc())?, (true, 3));
+    Ok(())
 }
 
 /// A door with one connection, on which 1 and 2 are to be read.
@@ -107,13 +110,19 @@ fn serve(door: &mut MemDoor, alloc: Global) -> Result<[usize; 2], Failed> {
     }
 }
 
+/// What two connections give where the door has one, and how many the door keeps.
+fn serve_two(alloc: Global) -> Result<[Result<[usize; 2], Failed>; 2], AllocError> {
+    let mut door = door_of_one(alloc)?;
+    let first = serve(&mut door, alloc);
+    let is_kept = door.closed().len() == 1;
+    let second = serve(&mut door, alloc);
+    Ok([if is_kept { first } else { Err(Failed) }, second])
+}
+
 #[test]
-fn door_gives_a_link_and_keeps_it(rt: HostRuntime) {
-    let alloc = rt.alloc();
-    let mut door = door_of_one(alloc).expect(&rt, "memory");
-    assert!(rt; serve(&mut door, alloc) == Ok([2, 1]));
-    assert_eq!(rt; door.closed().len(), 1);
-    assert!(rt; serve(&mut door, alloc).is_err());
+fn door_gives_a_link_and_keeps_it(rt: HostRuntime) -> Result<(), Fail> {
+    assert!(rt; serve_two(rt.alloc())? == [Ok([2, 1]), Err(Failed)]);
+    Ok(())
 }
 
 /// Delivers two lines, the first in room that was made for it.
@@ -127,12 +136,15 @@ fn deliver_two(dest: &mut MemDest, alloc: Global) -> Result<(), DestError>
     dest.deliver(alloc, &[4])
 }
 
+/// Whether the second of two deliveries fails, and how many lines there are then.
+fn delivered(alloc: Global) -> Result<(bool, usize), AllocError> {
+    let mut dest = MemDest::new(alloc, [1].to_vec(alloc)?);
+    let has_failed = matches!(deliver_two(&mut dest, alloc), Err(DestError::Failed));
+    Ok((has_failed, dest.lines().len()))
+}
+
 #[test]
-fn dest_keeps_lines_until_it_fails(rt: HostRuntime) {
-    let alloc = rt.alloc();
-    let fails = [1].to_vec(alloc).expect(&rt, "memory");
-    let mut dest = MemDest::new(alloc, fails);
-    let delivered = deliver_two(&mut dest, alloc);
-    assert!(rt; matches!(&delivered, Err(DestError::Failed)));
-    assert_eq!(rt; dest.lines().len(), 1);
+fn dest_keeps_lines_until_it_fails(rt: HostRuntime) -> Result<(), Fail> {
+    assert_eq!(rt; delivered(rt.alloc())?, (true, 1));
+    Ok(())
 }

@@ -2,9 +2,10 @@
 
 use esm_io::{Disk, Door, Failed, FileDisk, FileSource, Link, Source, TcpDoor, TcpLink};
 use esm_model::Text;
+use std::fs::File;
 use std::net::{Ipv4Addr, Net, OpenListener, TcpListener, TcpStream};
 use std::process::{Abort, Process};
-use std::rt::{Clock, Env};
+use std::rt::{Clock, Env, Files};
 use std::time::Duration;
 use std::{env, fs, process, thread};
 
@@ -19,21 +20,24 @@ fn text<R: AllocGlobal + Abort>(rt: &R, path: &str) -> Text {
     Text::from_vec(String::from_str(rt.alloc(), path).expect(rt, "memory"))
 }
 
+/// Whether an empty disk takes three bytes and gives the last two.
+fn keeps<R: Files<File = File> + Clone>(disk: &mut FileDisk<R>) -> bool {
+    let mut into = [0; 2];
+    disk.len() == Ok(0)
+        && disk.write_at(0, &[1, 2, 3]) == Ok(())
+        && disk.sync() == Ok(())
+        && disk.read(1, &mut into) == Ok(())
+        && into == [2, 3]
+}
+
 #[test]
 fn file_disk_keeps_its_bytes_and_its_lock(rt: HostRuntime) {
     let path = temporary(&rt, rt.process(), "disk");
     let mut disk = FileDisk::new(&rt, text(&rt, path.as_str())).expect(&rt, "memory");
     let mut other = FileDisk::new(&rt, text(&rt, path.as_str())).expect(&rt, "memory");
-    assert!(rt; disk.len() == Ok(0));
-    assert!(rt; disk.write_at(0, &[1, 2, 3]) == Ok(()));
-    assert!(rt; disk.sync() == Ok(()));
-    let mut into = [0; 2];
-    assert!(rt; disk.read(1, &mut into) == Ok(()));
-    assert_eq!(rt; into, [2, 3]);
-    assert!(rt; other.len() == Err(Failed));
+    assert!(rt; keeps(&mut disk) && other.len() == Err(Failed));
     drop(disk);
-    assert!(rt; other.len() == Ok(3));
-    assert!(rt; fs::remove_file(&rt, path.as_str()).is_ok());
+    assert!(rt; other.len() == Ok(3) && fs::remove_file(&rt, path.as_str()).is_ok());
 }
 
 #[test]
@@ -43,16 +47,18 @@ fn file_disk_wants_its_folder(rt: HostRuntime) {
     assert!(rt; disk.len() == Err(Failed));
 }
 
+/// Whether the file's bytes are `ab`.
+fn is_ab<R: Files + Clone>(source: &mut FileSource<R>) -> bool {
+    let mut into = [0; 4];
+    source.read(&mut into) == Ok(2) && into == [97, 98, 0, 0] && source.read(&mut into) == Ok(0)
+}
+
 #[test]
 fn file_source_gives_a_file(rt: HostRuntime) {
     let path = temporary(&rt, rt.process(), "source");
     let mut source = FileSource::new(&rt, text(&rt, path.as_str())).expect(&rt, "memory");
-    let mut into = [0; 4];
-    assert!(rt; source.read(&mut into) == Err(Failed));
-    assert!(rt; fs::write(&rt, path.as_str(), "ab").is_ok());
-    assert!(rt; source.read(&mut into) == Ok(2));
-    assert_eq!(rt; into, [97, 98, 0, 0]);
-    assert!(rt; source.read(&mut into) == Ok(0));
+    assert!(rt; source.read(&mut [0; 4]) == Err(Failed));
+    assert!(rt; fs::write(&rt, path.as_str(), "ab").is_ok() && is_ab(&mut source));
     assert!(rt; fs::remove_file(&rt, path.as_str()).is_ok());
 }
 

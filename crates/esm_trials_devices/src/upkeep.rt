@@ -1,4 +1,5 @@
 // Tests: what `show`, `compact`, `migrate` and `failures` print, and the bytes that they leave on the disks.
+use crate::disks::disk;
 use esm_io::MemDisk;
 use esm_model::OutOfMemory;
 use esm_upkeep::{PairEnded, UpkeepEnd, compact, failures, migrate, show, upkeep_text};
@@ -19,10 +20,6 @@ const OLD_SPARE: [u8; 18] = *b"ESMJ0001\0\0\0\0\0\0\0\0\0\0";
 /// A failure file with one line.
 const LINES: [u8; 25] = *b"ESMJ0001\0\0\0\0\0\0\0\x01\x01\x01\0\0\0\x02{}\0";
 
-fn disk(alloc: Global, bytes: &[u8]) -> Result<MemDisk, OutOfMemory> {
-    Ok(MemDisk::new(alloc, Vec::from_slice(alloc, bytes)?, Vec::new(alloc)))
-}
-
 /// What is printed, or nothing where memory was wanting.
 fn text(alloc: Global, end: Result<UpkeepEnd, OutOfMemory>) -> Result<Vec<u8>, OutOfMemory> {
     match end {
@@ -40,87 +37,93 @@ struct Left {
 }
 
 fn left_by(alloc: Global, ended: PairEnded<MemDisk>) -> Result<Left, OutOfMemory> {
+    let journal = Vec::from_slice(alloc, ended.journal.bytes())?;
+    let spare = Vec::from_slice(alloc, ended.spare.bytes())?;
+    let text = text(alloc, ended.end)?;
     Ok(Left {
-        text: text(alloc, ended.end)?,
-        journal: Vec::from_slice(alloc, ended.journal.bytes())?,
-        spare: Vec::from_slice(alloc, ended.spare.bytes())?,
+        text,
+        journal,
+        spare,
     })
 }
 
 fn shown(alloc: Global, journal: &[u8], spare: &[u8]) -> Result<Left, OutOfMemory> {
-    left_by(
-        alloc,
-        show(alloc, disk(alloc, journal)?, disk(alloc, spare)?),
-    )
+    let journal = disk(alloc, journal, &[])?;
+    let spare = disk(alloc, spare, &[])?;
+    left_by(alloc, show(alloc, journal, spare))
 }
 
 fn rewritten(alloc: Global, journal: &[u8], spare: &[u8]) -> Result<Left, OutOfMemory> {
-    left_by(
-        alloc,
-        compact(alloc, disk(alloc, journal)?, disk(alloc, spare)?),
-    )
+    let journal = disk(alloc, journal, &[])?;
+    let spare = disk(alloc, spare, &[])?;
+    left_by(alloc, compact(alloc, journal, spare))
 }
 
 fn migrated(alloc: Global, journal: &[u8], spare: &[u8]) -> Result<Left, OutOfMemory> {
-    left_by(
-        alloc,
-        migrate(alloc, disk(alloc, journal)?, disk(alloc, spare)?),
-    )
+    let journal = disk(alloc, journal, &[])?;
+    let spare = disk(alloc, spare, &[])?;
+    left_by(alloc, migrate(alloc, journal, spare))
 }
 
-fn listed(alloc: Global, bytes: &[u8]) -> Result<Vec<u8>, OutOfMemory> {
-    text(alloc, failures(alloc, disk(alloc, bytes)?).end)
+/// Whether this is shown.
+fn shows(alloc: Global, journal: &[u8], spare: &[u8], text: &str) -> Result<bool, OutOfMemory> {
+    Ok(shown(alloc, journal, spare)?.text.as_slice() == text.as_bytes())
 }
 
 #[test]
 fn show_fresh(rt: HostRuntime) -> Result<(), Fail> {
-    let left = shown(rt.alloc(), &FRESH, &SPARE)?;
-    assert_eq!(rt; left.text.as_slice(), b"done\n".as_slice());
+    assert!(rt; shows(rt.alloc(), &FRESH, &SPARE, "done\n")?);
     Ok(())
 }
 
 #[test]
 fn compact_fresh(rt: HostRuntime) -> Result<(), Fail> {
     let left = rewritten(rt.alloc(), &FRESH, &SPARE)?;
-    assert_eq!(rt;
-        left.text.as_slice(),
-        b"compacted 0 to 0\ndone\n".as_slice()
-    );
-    assert_eq!(rt;
-        left.spare.as_slice(),
-        b"ESMJ0002\0\0\0\0\0\0\0\x02\x01\0".as_slice()
-    );
+    assert!(rt; left.text.as_slice() == b"compacted 0 to 0\ndone\n".as_slice());
+    assert!(rt; left.spare.as_slice() == b"ESMJ0002\0\0\0\0\0\0\0\x02\x01\0".as_slice());
     Ok(())
+}
+
+/// What is left of the pair of version 1 by `migrate`, made once and again.
+fn migrated_twice(alloc: Global) -> Result<(Left, Left), OutOfMemory> {
+    let once = migrated(alloc, &OLD, &OLD_SPARE)?;
+    let twice = migrated(alloc, &once.journal, &once.spare)?;
+    Ok((once, twice))
+}
+
+/// Whether the first migration tells of one payload and leaves a spare disk of as many bytes, and the second of the
+/// version.
+fn are_told(once: &Left, twice: &Left) -> bool {
+    once.text.as_slice() == b"migrated 1\ndone\n".as_slice()
+        && once.spare.len() == 52
+        && twice.text.as_slice() == b"version 2\ndone\n".as_slice()
 }
 
 /// Beside a spare of version 1; then the pair shows its record, and is of version 2.
 #[test]
 fn migrate_once(rt: HostRuntime) -> Result<(), Fail> {
-    let alloc = rt.alloc();
-    let refused = shown(alloc, &OLD, &OLD_SPARE)?;
-    assert_eq!(rt;
-        refused.text.as_slice(),
-        b"not a journal journal.esm\n".as_slice()
-    );
-    let once = migrated(alloc, &OLD, &OLD_SPARE)?;
-    assert_eq!(rt; once.text.as_slice(), b"migrated 1\ndone\n".as_slice());
-    assert_eq!(rt; once.spare.len(), 52);
-    let twice = migrated(alloc, &once.journal, &once.spare)?;
-    assert_eq!(rt; twice.text.as_slice(), b"version 2\ndone\n".as_slice());
-    let shown = shown(alloc, &twice.journal, &twice.spare)?;
-    assert_eq!(rt;
-        shown.text.as_slice(),
-        b"shard shardId-000000000000 given 1 frontier 1\ndone\n".as_slice()
-    );
+    let (once, twice) = migrated_twice(rt.alloc())?;
+    assert!(rt; are_told(&once, &twice));
+    let text = "shard shardId-000000000000 given 1 frontier 1\ndone\n";
+    assert!(rt; shows(rt.alloc(), &twice.journal, &twice.spare, text)?);
     Ok(())
 }
 
 #[test]
+fn old_version_refused(rt: HostRuntime) -> Result<(), Fail> {
+    assert!(rt; shows(rt.alloc(), &OLD, &OLD_SPARE, "not a journal journal.esm\n")?);
+    Ok(())
+}
+
+/// Whether this is printed of a failure file.
+fn lists(alloc: Global, bytes: &[u8], listed: &str) -> Result<bool, OutOfMemory> {
+    let file = disk(alloc, bytes, &[])?;
+    Ok(text(alloc, failures(alloc, file).end)?.as_slice() == listed.as_bytes())
+}
+
+#[test]
 fn failures_listed(rt: HostRuntime) -> Result<(), Fail> {
-    let alloc = rt.alloc();
-    let text = listed(alloc, &LINES)?;
-    assert_eq!(rt; text.as_slice(), b"{}\ndone\n".as_slice());
-    let text = listed(alloc, &LINES[..20])?;
-    assert_eq!(rt; text.as_slice(), b"damaged failures.esm 20\n".as_slice());
+    assert!(rt; lists(rt.alloc(), &LINES, "{}\ndone\n")?);
+    assert!(rt; lists(rt.alloc(), &LINES[..20], "damaged failures.esm 20\n")?);
     Ok(())
 }

@@ -1,5 +1,6 @@
 // Tests: where a batch is cut, by the payload limit and by the batching window.
 use esm_batch::{Cut, Limits, Piece1, Why, cut};
+use std::alloc::Global;
 use std::test::Fail;
 
 /// The bytes that an event's elements and commas may have: 6 MB less `{"Records":[` and `]}`.
@@ -34,81 +35,37 @@ fn cut_of_any_age(
     }
 }
 
-#[test]
-fn payload_limit(rt: HostRuntime) -> Result<(), Fail> {
-    let items = vec![in rt.alloc(); ITEM; 10_000]?;
-    let first = cut_of_any_age(items.as_slice(), 10_000, 0, false, 0);
-    assert_eq!(rt;
-        first,
-        Some(Cut {
-            count: 7_844,
-            why: Why::Full
-        })
-    );
-    let rest = items.as_slice().get(7_844..).ok_or("no rest")?;
-    let second = cut_of_any_age(rest, 10_000, 0, false, 0);
-    assert_eq!(rt;
-        second,
-        Some(Cut {
-            count: 2_156,
-            why: Why::Waited
-        })
-    );
-    Ok(())
+/// The cut of 10,000 items behind the first so many.
+fn cut_of_rest(alloc: Global, first: usize) -> Result<Option<Cut>, Fail> {
+    let items = vec![in alloc; ITEM; 10_000]?;
+    let rest = items.as_slice().get(first..).ok_or("no rest")?;
+    Ok(cut_of_any_age(rest, 10_000, 0, false, 0))
 }
 
 #[test]
-fn batching_window(rt: HostRuntime) {
-    let items = [ITEM; 2];
-    let (one, two) = (&items[..1], &items[..]);
-    let rows = [
-        (
-            one,
-            false,
-            0,
-            Cut {
-                count: 1,
-                why: Why::Waiting { until: 1_000 },
-            },
-        ),
-        (
-            one,
-            false,
-            999,
-            Cut {
-                count: 1,
-                why: Why::Waiting { until: 1_000 },
-            },
-        ),
-        (
-            one,
-            false,
-            1_000,
-            Cut {
-                count: 1,
-                why: Why::Waited,
-            },
-        ),
-        (
-            two,
-            false,
-            0,
-            Cut {
-                count: 2,
-                why: Why::Full,
-            },
-        ),
-        (
-            one,
-            true,
-            0,
-            Cut {
-                count: 1,
-                why: Why::Shut,
-            },
-        ),
-    ];
-    for (items, shut, now, expected) in rows {
-        assert_eq!(rt; cut_of_any_age(items, 2, 1_000, shut, now), Some(expected));
+fn payload_limit(rt: HostRuntime) -> Result<(), Fail> {
+    let rows = [(0, 7_844, Why::Full), (7_844, 2_156, Why::Waited)];
+    for (first, count, why) in rows {
+        assert_eq!(rt; cut_of_rest(rt.alloc(), first)?, Some(Cut { count, why }));
     }
+    Ok(())
+}
+
+/// So many of two items, whether the input ended, the moment, and how many are cut and why.
+const WINDOW: [(usize, bool, u64, u32, Why); 5] = [
+    (1, false, 0, 1, Why::Waiting { until: 1_000 }),
+    (1, false, 999, 1, Why::Waiting { until: 1_000 }),
+    (1, false, 1_000, 1, Why::Waited),
+    (2, false, 0, 2, Why::Full),
+    (1, true, 0, 1, Why::Shut),
+];
+
+#[test]
+fn batching_window(rt: HostRuntime) -> Result<(), Fail> {
+    for (items, shut, now, count, why) in WINDOW {
+        let items = [ITEM; 2].as_slice().get(..items).ok_or("two items")?;
+        let cut = cut_of_any_age(items, 2, 1_000, shut, now);
+        assert_eq!(rt; cut, Some(Cut { count, why }));
+    }
+    Ok(())
 }

@@ -1,5 +1,5 @@
 // Tests: the lane table, by calls that end with bisects, item failures, found tries and delays.
-ghost use Rattle.std.specs.Prelude.{◌≡◌, ◌<◌, ◌≤◌, length, IfOk, IfSome};
+ghost use Rattle.std.specs.Prelude.{◌≡◌, ◌<◌, ◌≤◌, length, IfSome, OnOk};
 ghost use Rattle.esm_model.specs.declared.limits.TheConstants.{MAX_TRIES};
 
 use esm_model::Rest::{Counted, Exhausted, Nothing, Split};
@@ -7,11 +7,6 @@ use esm_model::{OutOfMemory, Rest, Verdict};
 use esm_tables::{LaneState, LaneTable, Running};
 use std::alloc::Global;
 use std::test::Fail;
-
-/// So many succeeded, and this becomes of the others.
-fn verdict(succeeded: u32, rest: Rest) -> Verdict {
-    Verdict { succeeded, rest }
-}
 
 /// A record of the only lane comes.
 fn come(
@@ -59,80 +54,92 @@ fn call(table: &mut LaneTable, alloc: Global, verdict: Verdict) -> Result<String
     Ok(text)
 }
 
-/// So many fresh records in one lane, from 1 on.
-fn fresh(alloc: Global, count: u32) -> Result<LaneTable, OutOfMemory>
-    requires { count < 100 }
-    ensures { IfOk result (λ t. length t.lanes ≡ 1) }
+/// Records of the only lane come, each with these tries.
+fn come_all(
+    table: &mut LaneTable,
+    alloc: Global,
+    places: &[u32],
+    tries: Option<u32>,
+) -> Result<(), OutOfMemory>
+    requires known { 0 < length table.old.lanes }
+    requires some { IfSome tries (λ t. 1 ≤ t) }
+    requires most { IfSome tries (λ t. t ≤ MAX_TRIES) }
+    ensures { OnOk result (0 < length table.new.lanes) }
 {
-    let mut table = LaneTable::new(alloc, 1)?;
-    for place in 0..count {
-        come(&mut table, alloc, place + 1, None)?;
+    for place in places {
+        come(table, alloc, *place, tries)?;
     }
-    Ok(table)
+    Ok(())
 }
 
-/// The calls that end with these verdicts.
-fn calls(table: &mut LaneTable, alloc: Global, verdicts: &[Verdict]) -> Result<String, Fail>
+/// The calls of which so many places succeed, and this becomes of the others.
+fn calls(table: &mut LaneTable, alloc: Global, ends: &[(u32, Rest)]) -> Result<String, Fail>
     requires { 0 < length table.old.lanes }
 {
     let mut text = String::new(alloc);
-    for verdict in verdicts {
-        let one = call(table, alloc, *verdict)?;
+    for (succeeded, rest) in ends {
+        let verdict = Verdict {
+            succeeded: *succeeded,
+            rest: *rest,
+        };
+        let one = call(table, alloc, verdict)?;
         text.push_str(&one)?;
     }
     Ok(text)
 }
 
-#[test]
-fn bisect_eight(rt: HostRuntime) -> Result<(), Fail> {
-    let alloc = rt.alloc();
-    let mut table = fresh(alloc, 8)?;
-    let ends = [
-        verdict(0, Split(4)),
-        verdict(4, Nothing),
-        verdict(0, Split(2)),
-        verdict(0, Split(1)),
-        verdict(0, Exhausted),
-        verdict(1, Nothing),
-        verdict(2, Nothing),
-        verdict(0, Nothing),
-    ];
-    let text = calls(&mut table, alloc, &ends)?;
-    let first = "[1, 2, 3, 4, 5, 6, 7, 8] 0 [1, 2, 3, 4] 0 [5, 6, 7, 8] 0 ";
-    assert_eq!(rt;
-        text.as_str(),
-        format!(in alloc; "{first}[5, 6] 0 [5] 0 [6] 0 [7, 8] 0 -")?.as_str()
-    );
-    Ok(())
+/// The fresh places of a lane, those that were found with two tries, the ends of the calls, and the calls.
+type Row = (
+    &'static [u32],
+    &'static [u32],
+    &'static [(u32, Rest)],
+    &'static str,
+);
+
+/// The example `bisect-eight`, failures of items that are counted, and found tries that stay apart.
+const ROWS: [Row; 3] = [
+    (
+        &[1, 2, 3, 4, 5, 6, 7, 8],
+        &[],
+        &[
+            (0, Split(4)),
+            (4, Nothing),
+            (0, Split(2)),
+            (0, Split(1)),
+            (0, Exhausted),
+            (1, Nothing),
+            (2, Nothing),
+            (0, Nothing),
+        ],
+        "[1, 2, 3, 4, 5, 6, 7, 8] 0 [1, 2, 3, 4] 0 [5, 6, 7, 8] 0 [5, 6] 0 [5] 0 [6] 0 [7, 8] 0 -",
+    ),
+    (
+        &[1, 2, 3],
+        &[],
+        &[(1, Counted), (0, Exhausted), (0, Nothing)],
+        "[1, 2, 3] 0 [2, 3] 1 -",
+    ),
+    (
+        &[1],
+        &[2, 3],
+        &[(1, Nothing), (0, Counted), (2, Nothing)],
+        "[1] 0 [2, 3] 2 [2, 3] 3 ",
+    ),
+];
+
+/// Whether a lane has the calls of the row.
+fn is_called(alloc: Global, (fresh, found, ends, expected): &Row) -> Result<bool, Fail> {
+    let mut table = LaneTable::new(alloc, 1)?;
+    come_all(&mut table, alloc, fresh, None)?;
+    come_all(&mut table, alloc, found, Some(2))?;
+    Ok(calls(&mut table, alloc, ends)?.as_str() == *expected)
 }
 
 #[test]
-fn item_failures_counted(rt: HostRuntime) -> Result<(), Fail> {
-    let alloc = rt.alloc();
-    let mut table = fresh(alloc, 3)?;
-    let ends = [
-        verdict(1, Counted),
-        verdict(0, Exhausted),
-        verdict(0, Nothing),
-    ];
-    let text = calls(&mut table, alloc, &ends)?;
-    assert_eq!(rt; text.as_str(), "[1, 2, 3] 0 [2, 3] 1 -");
-    Ok(())
-}
-
-#[test]
-fn found_tries_stay_apart(rt: HostRuntime) -> Result<(), Fail> {
-    let alloc = rt.alloc();
-    let mut table = fresh(alloc, 1)?;
-    come(&mut table, alloc, 2, Some(2))?;
-    come(&mut table, alloc, 3, Some(2))?;
-    let ends = [
-        verdict(1, Nothing),
-        verdict(0, Counted),
-        verdict(2, Nothing),
-    ];
-    let text = calls(&mut table, alloc, &ends)?;
-    assert_eq!(rt; text.as_str(), "[1] 0 [2, 3] 2 [2, 3] 3 ");
+fn calls_of_a_lane(rt: HostRuntime) -> Result<(), Fail> {
+    for row in &ROWS {
+        assert!(rt; is_called(rt.alloc(), row)?, "{}", row.3);
+    }
     Ok(())
 }
 

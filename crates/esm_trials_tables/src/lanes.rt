@@ -85,67 +85,80 @@ fn pieces(alloc: Global, calls: &[Call]) -> Result<String, Fail> {
     Ok(text)
 }
 
-#[test]
-fn adds_join_fresh_pieces(rt: HostRuntime) -> Result<(), Fail> {
-    let alloc = rt.alloc();
-    let whole = pieces(alloc, &[Add(1), Add(2), Add(3)])?;
-    assert_eq!(rt; whole.as_str(), "[1, 2, 3] fresh 0, ---");
-    let rest = pieces(alloc, &[Add(1), Add(2), Split(1, 0), Add(3)])?;
-    assert_eq!(rt; rest.as_str(), "[1] tried 0, [2, 3] fresh 0, --");
-    let none_left = pieces(alloc, &[Add(1), Add(2), Split(2, 1), Add(3)])?;
-    assert_eq!(rt; none_left.as_str(), "[1, 2] tried 1, [3] fresh 0, --");
-    let emptied = pieces(alloc, &[Add(1), Add(2), Cut(2), Add(3)])?;
-    assert_eq!(rt; emptied.as_str(), "[3] fresh 0, ---");
-    Ok(())
-}
-
-#[test]
-fn tried_places_join_their_tries(rt: HostRuntime) -> Result<(), Fail> {
-    let alloc = rt.alloc();
-    let other = pieces(alloc, &[Tried(1, 2), Tried(2, 2), Tried(3, 3)])?;
-    assert_eq!(rt; other.as_str(), "[1, 2] tried 2, [3] tried 3, --");
-    let between = pieces(alloc, &[Tried(1, 2), Add(2), Tried(3, 2)])?;
-    assert_eq!(rt;
-        between.as_str(),
-        "[1] tried 2, [2] fresh 0, [3] tried 2, -"
-    );
-    let rest = pieces(alloc, &[Tried(1, 2), Tried(2, 2), Split(1, 3), Tried(3, 2)])?;
-    assert_eq!(rt; rest.as_str(), "[1] tried 3, [2, 3] tried 2, --");
-    let first_part = pieces(alloc, &[Tried(1, 2), Tried(2, 2), Split(2, 2), Tried(3, 2)])?;
-    assert_eq!(rt; first_part.as_str(), "[1, 2] tried 2, [3] tried 2, --");
-    Ok(())
-}
-
-#[test]
-fn splits_and_cuts_are_of_the_front(rt: HostRuntime) -> Result<(), Fail> {
-    let alloc = rt.alloc();
-    let halves = pieces(alloc, &[Add(1), Add(2), Add(3), Split(2, 1), Cut(1)])?;
-    assert_eq!(rt; halves.as_str(), "[2] tried 1, [3] fresh 0, --");
-    let twice = pieces(alloc, &[Add(1), Add(2), Add(3), Split(3, 1), Split(1, 1)])?;
-    assert_eq!(rt; twice.as_str(), "[1] tried 1, [2, 3] tried 1, --");
-    let no_join = pieces(
-        alloc,
+/// Calls, and the pieces that they leave.
+const ROWS: [(&[Call], &str); 12] = [
+    // Adds join fresh pieces.
+    (&[Add(1), Add(2), Add(3)], "[1, 2, 3] fresh 0, ---"),
+    (
+        &[Add(1), Add(2), Split(1, 0), Add(3)],
+        "[1] tried 0, [2, 3] fresh 0, --",
+    ),
+    (
+        &[Add(1), Add(2), Split(2, 1), Add(3)],
+        "[1, 2] tried 1, [3] fresh 0, --",
+    ),
+    (&[Add(1), Add(2), Cut(2), Add(3)], "[3] fresh 0, ---"),
+    // Places with tries join pieces of as many tries.
+    (
+        &[Tried(1, 2), Tried(2, 2), Tried(3, 3)],
+        "[1, 2] tried 2, [3] tried 3, --",
+    ),
+    (
+        &[Tried(1, 2), Add(2), Tried(3, 2)],
+        "[1] tried 2, [2] fresh 0, [3] tried 2, -",
+    ),
+    (
+        &[Tried(1, 2), Tried(2, 2), Split(1, 3), Tried(3, 2)],
+        "[1] tried 3, [2, 3] tried 2, --",
+    ),
+    (
+        &[Tried(1, 2), Tried(2, 2), Split(2, 2), Tried(3, 2)],
+        "[1, 2] tried 2, [3] tried 2, --",
+    ),
+    // Splits and cuts are of the front piece.
+    (
+        &[Add(1), Add(2), Add(3), Split(2, 1), Cut(1)],
+        "[2] tried 1, [3] fresh 0, --",
+    ),
+    (
+        &[Add(1), Add(2), Add(3), Split(3, 1), Split(1, 1)],
+        "[1] tried 1, [2, 3] tried 1, --",
+    ),
+    (
         &[Add(1), Add(2), Split(2, 1), Split(1, 1), Tried(3, 1)],
-    )?;
-    assert_eq!(rt;
-        no_join.as_str(),
-        "[1] tried 1, [2] tried 1, [3] tried 1, -"
-    );
-    let cut = pieces(alloc, &[Tried(1, 2), Tried(2, 2), Cut(1), Tried(3, 2)])?;
-    assert_eq!(rt; cut.as_str(), "[2, 3] tried 2, ---");
-    Ok(())
+        "[1] tried 1, [2] tried 1, [3] tried 1, -",
+    ),
+    (
+        &[Tried(1, 2), Tried(2, 2), Cut(1), Tried(3, 2)],
+        "[2, 3] tried 2, ---",
+    ),
+];
+
+fn are_left(alloc: Global, calls: &[Call], expected: &str) -> Result<bool, Fail> {
+    Ok(pieces(alloc, calls)?.as_str() == expected)
 }
 
 #[test]
-fn other_lanes_stay(rt: HostRuntime) -> Result<(), Fail> {
-    let alloc = rt.alloc();
+fn pieces_that_calls_leave(rt: HostRuntime) -> Result<(), Fail> {
+    for (calls, expected) in &ROWS {
+        assert!(rt; are_left(rt.alloc(), calls, expected)?, "{expected}");
+    }
+    Ok(())
+}
+
+/// How many places are open in each of two lanes, of which the second had calls, and whether the first has a piece.
+fn open_places(alloc: Global) -> Result<(u32, u32, bool), OutOfMemory> {
     let mut lanes = Lanes::new(alloc, 2)?;
     lanes.reserve(alloc, 1, 2, 1)?;
     make(&mut lanes, alloc, Add(5))?;
     make(&mut lanes, alloc, Add(6))?;
     make(&mut lanes, alloc, Split(1, 1))?;
-    assert_eq!(rt; lanes.count(1), 2);
-    assert_eq!(rt; lanes.count(0), 0);
-    assert!(rt; lanes.front(0).is_none());
+    let has_piece = lanes.front(0).is_some();
+    Ok((lanes.count(0), lanes.count(1), has_piece))
+}
+
+#[test]
+fn other_lanes_stay(rt: HostRuntime) -> Result<(), Fail> {
+    assert_eq!(rt; open_places(rt.alloc())?, (0, 2, false));
     Ok(())
 }

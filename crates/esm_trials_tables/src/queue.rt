@@ -23,6 +23,22 @@ fn text(alloc: Global, chars: &str) -> Result<Text, AllocError> {
     Ok(Text::from_vec(String::from_str(alloc, chars)?))
 }
 
+/// A message with this number as its id.
+fn message(alloc: Global, number: u32, group: Option<&str>) -> Result<Message, AllocError> {
+    let group = match group {
+        None => None,
+        Some(name) => Some(text(alloc, name)?),
+    };
+    let id = Text::from_vec(number.to_string(alloc)?);
+    let body = text(alloc, "x")?;
+    Ok(Message {
+        id,
+        group,
+        body,
+        sent: 0,
+    })
+}
+
 /// Messages of these groups come at 0, with the ids `0`, `1` and so on.
 fn queue_of(alloc: Global, groups: &[Option<&str>]) -> Result<Queue, OutOfMemory> {
     let fifo = groups.iter().any(|group| group.is_some());
@@ -30,22 +46,8 @@ fn queue_of(alloc: Global, groups: &[Option<&str>]) -> Result<Queue, OutOfMemory
     queue.reserve(alloc, 3)?;
     for group in groups {
         if queue.len() < u32::MAX {
-            let id = Text::from_vec(queue.len().to_string(alloc)?);
-            let group = match group {
-                None => None,
-                Some(name) => Some(text(alloc, name)?),
-            };
-            let body = text(alloc, "x")?;
-            queue.came(
-                alloc,
-                Message {
-                    id,
-                    group,
-                    body,
-                    sent: 0,
-                },
-                0,
-            )?;
+            let message = message(alloc, queue.len(), *group)?;
+            queue.came(alloc, message, 0)?;
         }
     }
     Ok(queue)
@@ -67,29 +69,40 @@ fn told(alloc: Global, number: Option<u64>) -> Result<String, AllocError> {
     }
 }
 
+fn received(queue: &mut Queue, alloc: Global, now: u64, max: u32) -> Result<String, OutOfMemory> {
+    let mut places = Vec::new(alloc);
+    for received in &queue.receive(alloc, now, max)? {
+        places.push(received.place)?;
+    }
+    Ok(listed(alloc, &places)?)
+}
+
+fn peeked(queue: &Queue, alloc: Global, now: u64, max: u32) -> Result<String, OutOfMemory> {
+    let places = queue.peek(alloc, now, max)?;
+    Ok(listed(alloc, places.as_slice())?)
+}
+
+fn id_of(queue: &Queue, alloc: Global, place: u32) -> Result<String, AllocError> {
+    match queue.message(place) {
+        None => String::from_str(alloc, "none"),
+        Some(message) => String::from_str(alloc, message.id.as_str()),
+    }
+}
+
+fn deleted(queue: &mut Queue, place: u32) -> bool {
+    place < queue.len() && queue.delete(place)
+}
+
 /// What the call answers: places each with a blank behind it, or one word.
 fn answer(queue: &mut Queue, alloc: Global, call: Call) -> Result<String, OutOfMemory> {
     match call {
-        Receive(now, max) => {
-            let mut places = Vec::new(alloc);
-            for received in &queue.receive(alloc, now, max)? {
-                places.push(received.place)?;
-            }
-            Ok(listed(alloc, &places)?)
-        }
-        Peek(now, max) => Ok(listed(alloc, queue.peek(alloc, now, max)?.as_slice())?),
-        Delete(place) => {
-            let known = place < queue.len();
-            let gone = known && queue.delete(place);
-            Ok(gone.to_string(alloc)?)
-        }
+        Receive(now, max) => received(queue, alloc, now, max),
+        Peek(now, max) => peeked(queue, alloc, now, max),
+        Delete(place) => Ok(deleted(queue, place).to_string(alloc)?),
         Count(place) => Ok(queue.count(place).to_string(alloc)?),
         First(place) => Ok(told(alloc, queue.first(place))?),
         Next(now) => Ok(told(alloc, queue.next_show(now))?),
-        Id(place) => match queue.message(place) {
-            None => Ok(String::from_str(alloc, "none")?),
-            Some(message) => Ok(String::from_str(alloc, message.id.as_str())?),
-        },
+        Id(place) => Ok(id_of(queue, alloc, place)?),
     }
 }
 
@@ -104,10 +117,20 @@ fn answers(queue: &mut Queue, alloc: Global, rows: &[(Call, &str)]) -> Result<bo
     Ok(true)
 }
 
+/// Whether the calls of a queue with messages of these groups answer so.
+fn are_answered(
+    alloc: Global,
+    groups: &[Option<&str>],
+    rows: &[(Call, &str)],
+) -> Result<bool, OutOfMemory> {
+    let mut queue = queue_of(alloc, groups)?;
+    answers(&mut queue, alloc, rows)
+}
+
+const GROUPS: [Option<&str>; 3] = [Some("A"), Some("B"), Some("A")];
+
 #[test]
 fn fifo_receive(rt: HostRuntime) -> Result<(), Fail> {
-    let alloc = rt.alloc();
-    let mut queue = queue_of(alloc, &[Some("A"), Some("B"), Some("A")])?;
     let rows = [
         (Receive(0, 1), "0 "),
         (Receive(0, 10), "1 "),
@@ -117,16 +140,13 @@ fn fifo_receive(rt: HostRuntime) -> Result<(), Fail> {
         (Delete(0), "false"),
         (Receive(30000, 10), "1 2 "),
     ];
-    assert!(rt; answers(&mut queue, alloc, &rows)?);
-    let mut fresh = queue_of(alloc, &[Some("A"), Some("B"), Some("A")])?;
-    assert!(rt; answers(&mut fresh, alloc, &[(Receive(0, 10), "0 1 2 ")])?);
+    assert!(rt; are_answered(rt.alloc(), &GROUPS, &rows)?);
+    assert!(rt; are_answered(rt.alloc(), &GROUPS, &[(Receive(0, 10), "0 1 2 ")])?);
     Ok(())
 }
 
 #[test]
 fn queue_peek(rt: HostRuntime) -> Result<(), Fail> {
-    let alloc = rt.alloc();
-    let mut queue = queue_of(alloc, &[Some("A"), Some("B"), Some("A")])?;
     let rows = [
         (Peek(0, 10), "0 1 2 "),
         (Receive(0, 1), "0 "),
@@ -138,15 +158,13 @@ fn queue_peek(rt: HostRuntime) -> Result<(), Fail> {
         (Id(2), "2"),
         (Id(3), "none"),
     ];
-    assert!(rt; answers(&mut queue, alloc, &rows)?);
+    assert!(rt; are_answered(rt.alloc(), &GROUPS, &rows)?);
     Ok(())
 }
 
 /// A standard queue, where a moment may be earlier than one before it.
 #[test]
 fn standard_receive(rt: HostRuntime) -> Result<(), Fail> {
-    let alloc = rt.alloc();
-    let mut queue = queue_of(alloc, &[None, None, None])?;
     let rows = [
         (Receive(1000, 2), "0 1 "),
         (Delete(1), "true"),
@@ -161,6 +179,6 @@ fn standard_receive(rt: HostRuntime) -> Result<(), Fail> {
         (Count(0), "2"),
         (First(0), "1000"),
     ];
-    assert!(rt; answers(&mut queue, alloc, &rows)?);
+    assert!(rt; are_answered(rt.alloc(), &[None, None, None], &rows)?);
     Ok(())
 }

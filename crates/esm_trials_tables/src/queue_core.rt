@@ -1,5 +1,5 @@
 // Tests: what the core of a queue's book decides where no message came.
-ghost use Rattle.std.specs.Prelude.{◌≡◌, [], IfOk};
+ghost use Rattle.std.specs.Prelude.{◌≡◌, [], IfOk, OnOk};
 ghost use Rattle.esm_model.specs.declared.config.Kind.TheVariants.{Standard};
 ghost use Rattle.esm_queue_model.specs.WorkedHistories.{queue_mapping};
 
@@ -64,21 +64,31 @@ fn core(alloc: Global) -> Result<QueueCore, Fail>
     Ok(core)
 }
 
+/// When a batcher of the empty queue asks again.
+fn pause(core: &mut QueueCore, alloc: Global) -> Result<u64, Fail>
+    requires settled { core.old.owed ≡ [] }
+    requires past { core.old.past ≡ [] }
+    ensures settled { OnOk result (core.new.owed ≡ []) }
+    ensures past { OnOk result (core.new.past ≡ []) }
+{
+    match core.next(alloc, 0, 0)? {
+        Next::Idle { until } => Ok(until),
+        _ => Err("no pause".into()),
+    }
+}
+
+/// When the batcher asks again, whether it finishes once the input ended, and how many entries there are then.
+fn ended(alloc: Global) -> Result<(u64, bool, usize), Fail> {
+    let mut core = core(alloc)?;
+    let until = pause(&mut core, alloc)?;
+    core.shut(0);
+    let finished = matches!(core.next(alloc, 0, 0)?, Next::Finished);
+    Ok((until, finished, core.into_history().len()))
+}
+
 /// With ample memory a core decides: a batcher of an empty queue pauses, and finishes once the input ended.
 #[test]
 fn empty_queue(rt: HostRuntime) -> Result<(), Fail> {
-    let alloc = rt.alloc();
-    let mut core = core(alloc)?;
-    let Next::Idle { until } = core.next(alloc, 0, 0)? else {
-        return Err("no pause".into());
-    };
-    assert_eq!(rt; until, 20);
-    core.shut(0);
-    let finished = match core.next(alloc, 0, 0)? {
-        Next::Finished => true,
-        _ => false,
-    };
-    assert!(rt; finished);
-    assert_eq!(rt; core.into_history().len(), 1);
+    assert_eq!(rt; ended(rt.alloc())?, (20, true, 1));
     Ok(())
 }

@@ -226,36 +226,59 @@ fn refusal(answer: Result<Config, ConfigError>) -> Result<Option<Param>, Fail> {
     }
 }
 
+/// The field that is refused of a mapping.
+fn refused(alloc: Global, first: &str, more: &str) -> Result<Option<Param>, Fail> {
+    let value = mapping(alloc, first, more)?;
+    refusal(read(alloc, &value))
+}
+
+/// The field that is refused of an update of the stream's mapping.
+fn refused_update(alloc: Global, update: &str) -> Result<Option<Param>, Fail> {
+    let value = Value::from_str(alloc, update)?;
+    let old = given(alloc, STREAM)?;
+    refusal(merge(alloc, &old, &value))
+}
+
+fn given(alloc: Global, first: &str) -> Result<Config, Fail> {
+    let value = mapping(alloc, first, "")?;
+    Ok(read(alloc, &value)?)
+}
+
 #[test]
 fn judged_rows(rt: HostRuntime) -> Result<(), Fail> {
     for (first, more, expected) in &ROWS {
-        let value = mapping(rt.alloc(), first, more)?;
-        let refused = refusal(read(rt.alloc(), &value))?;
-        assert_eq!(rt; refused, *expected, "{first}{more}");
+        assert_eq!(rt;
+            refused(rt.alloc(), first, more)?,
+            *expected,
+            "{first}{more}"
+        );
     }
     Ok(())
 }
 
 #[test]
 fn judged_updates(rt: HostRuntime) -> Result<(), Fail> {
-    let old = read(rt.alloc(), &mapping(rt.alloc(), STREAM, "")?)?;
     for (update, expected) in &UPDATES {
-        let value = Value::from_str(rt.alloc(), update)?;
-        let refused = refusal(merge(rt.alloc(), &old, &value))?;
-        assert_eq!(rt; refused, *expected, "{update}");
+        assert_eq!(rt; refused_update(rt.alloc(), update)?, *expected, "{update}");
     }
     Ok(())
 }
 
+/// The text of the stream's mapping.
+fn written(alloc: Global) -> Result<Vec<u8>, Fail> {
+    let config = given(alloc, STREAM)?;
+    Ok(text(alloc, &config)?)
+}
+
+/// The kind of the FIFO queue's mapping, and its batch size.
+fn fifo(alloc: Global) -> Result<(Kind, u32), Fail> {
+    let config = given(alloc, FIFO)?;
+    Ok((config.kind, config.batch_size))
+}
+
 #[test]
 fn written_mappings(rt: HostRuntime) -> Result<(), Fail> {
-    let config = read(rt.alloc(), &mapping(rt.alloc(), STREAM, "")?)?;
-    assert_eq!(rt;
-        text(rt.alloc(), &config)?.as_slice(),
-        STREAM_TEXT.as_bytes()
-    );
-    let queue = read(rt.alloc(), &mapping(rt.alloc(), FIFO, "")?)?;
-    assert_eq!(rt; queue.kind, Kind::Fifo);
-    assert_eq!(rt; queue.batch_size, 10);
+    assert!(rt; written(rt.alloc())?.as_slice() == STREAM_TEXT.as_bytes());
+    assert_eq!(rt; fifo(rt.alloc())?, (Kind::Fifo, 10));
     Ok(())
 }

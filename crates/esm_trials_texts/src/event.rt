@@ -1,59 +1,23 @@
 // Tests: the events of streams and queues, with their escapes, payload limit and record age.
 ghost use Rattle.std.specs.Prelude.{◌≡◌, ◌≤◌, true, length, IfOk};
 ghost use Rattle.esm_model.specs.declared.limits.TheConstants.{MAX_DATA, MAX_KEY};
+ghost use Rattle.esm_model.specs.QueueEvent.{IsQueueConfig};
 ghost use Rattle.esm_model.specs.Valid.{IsStreamConfig, IsValidRecord, is_between, char_count};
-ghost use Rattle.esm_model.specs.Worked.{plain_mapping};
+ghost use Rattle.esm_model.specs.ValidCall.{IsValidFailure};
 ghost use Rattle.esm_event.specs.QueueExample.{queue_mapping, test_message};
 
+use crate::mappings::{stream_mapping, text};
 use esm_event::{failure_text, frame_bytes, queue_bytes, queue_event, stream_bytes, stream_event};
-use esm_model::{Bytes, Config, Failure, Kind, Message, Received, Record, Seq, Start, Text, Texts};
+use esm_model::{Bytes, Config, Failure, Kind, Message, Received, Record, Seq, Text};
 use memchr::memmem::find;
 use std::alloc::{AllocError, Global};
 use std::test::Fail;
 
-fn text(alloc: Global, chars: &str) -> Result<Text, AllocError>
-    ensures { IfOk result (λ t. t ≡ chars.now) }
-{
-    Ok(Text::from_vec(String::from_str(alloc, chars)?))
-}
-
-/// The mapping of the examples: a stream `s` read by a function `f`.
-fn mapping(alloc: Global) -> Result<Config, AllocError>
-    ensures { IfOk result (λ c. c ≡ plain_mapping) }
-{
-    let source_arn = text(alloc, "arn:aws:kinesis:us-east-1:123456789012:stream/s")?;
-    let function = text(alloc, "f")?;
-    let function_arn = text(alloc, "arn:aws:lambda:us-east-1:123456789012:function:f")?;
-    let region = text(alloc, "us-east-1")?;
-    let account = text(alloc, "123456789012")?;
-    Ok(Config {
-        source_arn,
-        function,
-        function_arn,
-        region,
-        account,
-        kind: Kind::Stream,
-        batch_size: 100,
-        window_ms: 0,
-        factor: 1,
-        retries: None,
-        age_ms: None,
-        bisect: false,
-        item_failures: false,
-        tumbling_ms: 0,
-        start: Start::TrimHorizon,
-        destination: None,
-        filters: Texts::from_vec(Vec::new(alloc)),
-        concurrency: None,
-        enabled: true,
-    })
-}
-
-/// The same mapping, known to be valid.
+/// The mapping of the examples, known to be valid.
 fn config(alloc: Global) -> Result<Config, AllocError>
     ensures { IfOk result IsStreamConfig }
 {
-    let plain = mapping(alloc)?;
+    let plain = stream_mapping(alloc)?;
     Ok(plain)
 }
 
@@ -72,27 +36,43 @@ fn record_of(alloc: Global, key: &str, sequence: &str, payload: &[u8]) -> Result
     })
 }
 
+/// The bytes of the element of a record with the key `1`.
+fn element(alloc: Global, sequence: &str, payload: &[u8]) -> Result<u32, Fail>
+    requires { length payload.now ≤ MAX_DATA }
+{
+    let config = config(alloc)?;
+    let item = record_of(alloc, "1", sequence, payload)?;
+    Ok(stream_bytes(&config, &item))
+}
+
+/// The bytes of an event without its elements and commas.
+fn frame(alloc: Global) -> Result<u32, AllocError> {
+    let config = config(alloc)?;
+    Ok(frame_bytes(&config, None))
+}
+
+/// The event of the record 1 of `Hello`, with this key.
+fn hello(alloc: Global, key: &str) -> Result<Vec<u8>, Fail>
+    requires { is_between 1 MAX_KEY (char_count key.now) ≡ true }
+{
+    let config = config(alloc)?;
+    let batch = [record_of(alloc, key, "1", b"Hello")?];
+    Ok(stream_event(alloc, &config, &batch, None)?)
+}
+
 #[test]
 fn one_record(rt: HostRuntime) -> Result<(), Fail> {
-    let alloc = rt.alloc();
-    let config = config(alloc)?;
-    let item = record_of(alloc, "1", "1", b"Hello")?;
-    assert_eq!(rt; stream_bytes(&config, &item), 401);
-    let batch = [item];
-    let event = stream_event(alloc, &config, &batch, None)?;
-    assert_eq!(rt; event.len(), 415);
-    assert_eq!(rt; event.as_slice(), ONE_RECORD.as_bytes());
+    assert_eq!(rt; element(rt.alloc(), "1", b"Hello")?, 401);
+    assert_eq!(rt; ONE_RECORD.len(), 415);
+    assert!(rt; hello(rt.alloc(), "1")?.as_slice() == ONE_RECORD.as_bytes());
     Ok(())
 }
 
 #[test]
 fn payload_limit(rt: HostRuntime) -> Result<(), Fail> {
-    let alloc = rt.alloc();
-    let config = config(alloc)?;
-    let item = record_of(alloc, "1", "10000", &[0; 300])?;
-    let element = u64::from(stream_bytes(&config, &item));
+    let element = u64::from(element(rt.alloc(), "10000", &[0; 300])?);
+    let frame = u64::from(frame(rt.alloc())?);
     assert_eq!(rt; element, 801);
-    let frame = u64::from(frame_bytes(&config, None));
     assert_eq!(rt; frame + 7844 * element + 7843, 6_290_901);
     Ok(())
 }
@@ -101,11 +81,21 @@ fn payload_limit(rt: HostRuntime) -> Result<(), Fail> {
 fn queue(alloc: Global) -> Result<Config, AllocError>
     ensures { IfOk result (λ c. c ≡ queue_mapping) }
 {
-    let mut config = mapping(alloc)?;
-    config.source_arn = text(alloc, "arn:aws:sqs:us-east-1:123456789012:q")?;
+    let source_arn = text(alloc, "arn:aws:sqs:us-east-1:123456789012:q")?;
+    let mut config = stream_mapping(alloc)?;
+    config.source_arn = source_arn;
     config.kind = Kind::Standard;
     config.batch_size = 10;
     Ok(config)
+}
+
+/// The same mapping, known to be valid.
+fn queue_config(alloc: Global) -> Result<Config, AllocError>
+    ensures standard { IfOk result (λ c. c ≡ queue_mapping) }
+    ensures valid { IfOk result IsQueueConfig }
+{
+    let plain = queue(alloc)?;
+    Ok(plain)
 }
 
 fn first_message(alloc: Global) -> Result<Received, AllocError>
@@ -127,38 +117,46 @@ fn first_message(alloc: Global) -> Result<Received, AllocError>
     })
 }
 
+/// The bytes of the element of the first message.
+fn message_element(alloc: Global) -> Result<u32, AllocError> {
+    let config = queue_config(alloc)?;
+    let item = first_message(alloc)?;
+    Ok(queue_bytes(&config, &item))
+}
+
+/// The event of the first message.
+fn message_event(alloc: Global) -> Result<Vec<u8>, Fail> {
+    let config = queue_config(alloc)?;
+    let batch = [first_message(alloc)?];
+    Ok(queue_event(alloc, &config, &batch)?)
+}
+
 #[test]
 fn queue_event_of_one_message(rt: HostRuntime) -> Result<(), Fail> {
-    let alloc = rt.alloc();
-    let config = queue(alloc)?;
-    let item = first_message(alloc)?;
-    assert_eq!(rt; queue_bytes(&config, &item), 344);
-    let batch = [item];
-    let event = queue_event(alloc, &config, &batch)?;
-    assert_eq!(rt; event.as_slice(), QUEUE_EVENT.as_bytes());
+    assert_eq!(rt; message_element(rt.alloc())?, 344);
+    assert!(rt; message_event(rt.alloc())?.as_slice() == QUEUE_EVENT.as_bytes());
     Ok(())
 }
 
 #[test]
 fn escapes(rt: HostRuntime) -> Result<(), Fail> {
-    let alloc = rt.alloc();
-    let config = config(alloc)?;
-    let batch = [record_of(alloc, "\"\\\u{1f}é", "1", b"Hello")?];
-    let event = stream_event(alloc, &config, &batch, None)?;
+    let event = hello(rt.alloc(), "\"\\\u{1f}é")?;
     let key = "\"partitionKey\":\"\\\"\\\\\\u001fé\"";
     assert!(rt; find(event.as_slice(), key.as_bytes()).is_some());
     Ok(())
 }
 
-#[test]
-fn record_age(rt: HostRuntime) -> Result<(), Fail> {
-    let alloc = rt.alloc();
-    let config = config(alloc)?;
-    let failure = Failure {
+/// The record 1 had no call before it was too old, at 60,001.
+fn too_old(alloc: Global) -> Result<Failure, Fail>
+    ensures { IfOk result IsValidFailure }
+{
+    let first = Seq::read(alloc, "1")?;
+    let last = Seq::read(alloc, "1")?;
+    Ok(Failure {
         shard: 0,
         place: 0,
-        first: Seq::read(alloc, "1")?,
-        last: Seq::read(alloc, "1")?,
+        first,
+        last,
         first_arrival: 0,
         last_arrival: 0,
         count: 1,
@@ -166,9 +164,18 @@ fn record_age(rt: HostRuntime) -> Result<(), Fail> {
         calls: 0,
         response: None,
         moment: 60_001,
-    };
-    let line = failure_text(alloc, &config, &failure)?;
-    assert_eq!(rt; line.as_slice(), RECORD_AGE.as_bytes());
+    })
+}
+
+fn failure_line(alloc: Global) -> Result<Text, Fail> {
+    let config = config(alloc)?;
+    let failure = too_old(alloc)?;
+    Ok(failure_text(alloc, &config, &failure)?)
+}
+
+#[test]
+fn record_age(rt: HostRuntime) -> Result<(), Fail> {
+    assert!(rt; failure_line(rt.alloc())?.as_slice() == RECORD_AGE.as_bytes());
     Ok(())
 }
 

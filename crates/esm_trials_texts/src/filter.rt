@@ -1,11 +1,15 @@
 // The worked examples of filter patterns, and rows for each operator.
+use crate::mappings::text;
 use esm_filter::{Criteria, FilterError, PatternError};
-use esm_model::{Bytes, Kind, Message, Record, Seq, Text};
+use esm_model::{Bytes, Kind, Message, Record, Seq};
 use std::alloc::Global;
 use std::test::Fail;
 
-/// A pattern, the data of a record, and whether the record passes.
-const RECORDS: &str = r#"{"data":{"a":[{"prefix":"x"}]}} | {"a":["no","xy"]} | passes
+/// A pattern, the data of a record, and whether the record passes. The first three are the example `filtered-data`.
+const RECORDS: &str = r#"{"data":{"n":[1]}} | Hello | fails
+{"data":{"n":[1]}} | {"n":1} | passes
+{"partitionKey":["1"]} | Hello | passes
+{"data":{"a":[{"prefix":"x"}]}} | {"a":["no","xy"]} | passes
 {"data":{"a":[{"prefix":"xy"}]}} | {"a":"zxy"} | fails
 {"data":{"a":[{"prefix":"xy"}]}} | {"a":"x"} | fails
 {"data":{"a":[{"suffix":"yz"}]}} | {"a":"xyz"} | passes
@@ -148,50 +152,57 @@ const BAD_TEST: &str = r#"{"a":1}
 {"a":[1.5],"b":[]}
 {"b":[],"a":[1.5]}"#;
 
-fn text(alloc: Global, chars: &str) -> Result<Text, Fail> {
-    Ok(Text::from_vec(String::from_str(alloc, chars)?))
-}
-
 fn one_record(alloc: Global, data: &str) -> Result<Record, Fail> {
+    let seq = Seq::read(alloc, "1")?;
+    let key = text(alloc, "1")?;
+    let payload = Vec::from_slice(alloc, data.as_bytes())?;
     Ok(Record {
         shard: 0,
-        seq: Seq::read(alloc, "1").ok().ok_or("a sequence number")?,
-        key: text(alloc, "1")?,
-        payload: Bytes::from_vec(Vec::from_slice(alloc, data.as_bytes())?),
+        seq,
+        key,
+        payload: Bytes::from_vec(payload),
         arrival: 0,
     })
 }
 
 fn one_message(alloc: Global, body: &str) -> Result<Message, Fail> {
+    let id = text(alloc, "m-1")?;
+    let body = text(alloc, body)?;
     Ok(Message {
-        id: text(alloc, "m-1")?,
+        id,
         group: None,
-        body: text(alloc, body)?,
+        body,
         sent: 0,
     })
 }
 
 fn criteria(alloc: Global, kind: Kind, pattern: &str) -> Result<Criteria, Fail> {
-    let mut texts = Vec::new(alloc);
-    texts.push(text(alloc, pattern)?)?;
+    let texts = [text(alloc, pattern)?];
     Ok(Criteria::read(alloc, kind, &texts).ok().ok_or("a pattern")?)
 }
 
-fn record_passes(alloc: Global, pattern: &str, data: &str) -> Result<bool, Fail> {
-    let read = criteria(alloc, Kind::Stream, pattern)?;
+fn passes_record(alloc: Global, criteria: &Criteria, data: &str) -> Result<bool, Fail> {
     let item = one_record(alloc, data)?;
-    Ok(read.passes_record(alloc, &item).ok().ok_or("memory")?)
+    Ok(criteria.passes_record(alloc, &item)?)
+}
+
+fn passes_message(alloc: Global, criteria: &Criteria, body: &str) -> Result<bool, Fail> {
+    let item = one_message(alloc, body)?;
+    Ok(criteria.passes_message(alloc, &item)?)
+}
+
+fn record_passes(alloc: Global, pattern: &str, data: &str) -> Result<bool, Fail> {
+    let criteria = criteria(alloc, Kind::Stream, pattern)?;
+    passes_record(alloc, &criteria, data)
 }
 
 fn message_passes(alloc: Global, pattern: &str, body: &str) -> Result<bool, Fail> {
-    let read = criteria(alloc, Kind::Standard, pattern)?;
-    let item = one_message(alloc, body)?;
-    Ok(read.passes_message(alloc, &item).ok().ok_or("memory")?)
+    let criteria = criteria(alloc, Kind::Standard, pattern)?;
+    passes_message(alloc, &criteria, body)
 }
 
 fn refusal(alloc: Global, pattern: &str) -> Result<Option<FilterError>, Fail> {
-    let mut texts = Vec::new(alloc);
-    texts.push(text(alloc, pattern)?)?;
+    let texts = [text(alloc, pattern)?];
     Ok(Criteria::read(alloc, Kind::Stream, &texts).err())
 }
 
@@ -200,6 +211,17 @@ fn parts(row: &str) -> Option<(&str, &str, bool)> {
     let (pattern, rest) = row.split_once(" | ")?;
     let (judged, expected) = rest.split_once(" | ")?;
     Some((pattern, judged, expected == "passes"))
+}
+
+/// Whether the record of the row passes or fails as the row tells.
+fn is_record_judged(alloc: Global, row: &str) -> Result<bool, Fail> {
+    let (pattern, data, expected) = parts(row).ok_or("three parts")?;
+    Ok(record_passes(alloc, pattern, data)? == expected)
+}
+
+fn is_message_judged(alloc: Global, row: &str) -> Result<bool, Fail> {
+    let (pattern, body, expected) = parts(row).ok_or("three parts")?;
+    Ok(message_passes(alloc, pattern, body)? == expected)
 }
 
 /// The text `before`, the piece so often, and `after`.
@@ -218,37 +240,25 @@ fn repeated(
     Ok(chars)
 }
 
-/// JSON data whose field `deep` nests this many lists.
-fn nested(alloc: Global, depth: u32) -> Result<String, Fail> {
+/// Whether `n` of a record passes whose field `deep` nests this many lists.
+fn nested_passes(alloc: Global, depth: u32) -> Result<bool, Fail> {
     let opened = repeated(alloc, "{\"n\":1,\"deep\":", "[", depth, "")?;
-    repeated(alloc, opened.as_str(), "]", depth, "}")
+    let data = repeated(alloc, opened.as_str(), "]", depth, "}")?;
+    record_passes(alloc, "{\"data\":{\"n\":[1]}}", data.as_str())
 }
 
 #[test]
-fn filtered_data(rt: HostRuntime) -> Result<(), Fail> {
-    assert!(rt; !record_passes(rt.alloc(), "{\"data\":{\"n\":[1]}}", "Hello")?);
-    assert!(rt; record_passes(rt.alloc(), "{\"data\":{\"n\":[1]}}", "{\"n\":1}")?);
-    assert!(rt; record_passes(rt.alloc(), "{\"partitionKey\":[\"1\"]}", "Hello")?);
+fn judged_records(rt: HostRuntime) -> Result<(), Fail> {
+    for row in RECORDS.lines() {
+        assert!(rt; is_record_judged(rt.alloc(), row)?, "{row}");
+    }
     Ok(())
 }
 
 #[test]
-fn pattern_table(rt: HostRuntime) -> Result<(), Fail> {
-    for row in RECORDS.lines() {
-        let (pattern, data, expected) = parts(row).ok_or("three parts")?;
-        assert_eq!(rt;
-            record_passes(rt.alloc(), pattern, data)?,
-            expected,
-            "{row}"
-        );
-    }
+fn judged_messages(rt: HostRuntime) -> Result<(), Fail> {
     for row in MESSAGES.lines() {
-        let (pattern, body, expected) = parts(row).ok_or("three parts")?;
-        assert_eq!(rt;
-            message_passes(rt.alloc(), pattern, body)?,
-            expected,
-            "{row}"
-        );
+        assert!(rt; is_message_judged(rt.alloc(), row)?, "{row}");
     }
     Ok(())
 }
@@ -256,14 +266,24 @@ fn pattern_table(rt: HostRuntime) -> Result<(), Fail> {
 /// A JSON text may nest 127 deep; deeper data is no JSON, so that an object pattern for it fails.
 #[test]
 fn nested_data(rt: HostRuntime) -> Result<(), Fail> {
-    for (depth, expected) in [(100, true), (200, false)] {
-        let data = nested(rt.alloc(), depth)?;
-        assert_eq!(rt;
-            record_passes(rt.alloc(), "{\"data\":{\"n\":[1]}}", data.as_str())?,
-            expected
-        );
-    }
+    assert!(rt; nested_passes(rt.alloc(), 100)?);
+    assert!(rt; !nested_passes(rt.alloc(), 200)?);
     Ok(())
+}
+
+/// The first of these patterns, one a line, that is not refused for this reason.
+fn first_other<'a>(
+    alloc: Global,
+    patterns: &'a str,
+    why: PatternError,
+) -> Result<Option<&'a str>, Fail> {
+    let expected = Some(FilterError::BadPattern { filter: 0, why });
+    for pattern in patterns.lines() {
+        if refusal(alloc, pattern)? != expected {
+            return Ok(Some(pattern));
+        }
+    }
+    Ok(None)
 }
 
 #[test]
@@ -274,56 +294,62 @@ fn refused_patterns(rt: HostRuntime) -> Result<(), Fail> {
         (EMPTY, PatternError::Empty),
         (BAD_TEST, PatternError::BadTest),
     ] {
-        for pattern in patterns.lines() {
-            let expected = FilterError::BadPattern { filter: 0, why };
-            assert_eq!(rt; refusal(rt.alloc(), pattern)?, Some(expected), "{pattern}");
-        }
+        assert_eq!(rt; first_other(rt.alloc(), patterns, why)?, None);
     }
     Ok(())
+}
+
+/// Why a pattern is refused whose text has so many characters of two bytes.
+fn long_refusal(alloc: Global, count: u32) -> Result<Option<FilterError>, Fail> {
+    let pattern = repeated(alloc, "{\"a\":[\"", "é", count, "\"]}")?;
+    refusal(alloc, pattern.as_str())
 }
 
 /// Characters count, not bytes.
 #[test]
 fn long_patterns(rt: HostRuntime) -> Result<(), Fail> {
-    let longest = repeated(rt.alloc(), "{\"a\":[\"", "é", 4086, "\"]}")?;
-    assert_eq!(rt; refusal(rt.alloc(), longest.as_str())?, None);
-    let longer = repeated(rt.alloc(), "{\"a\":[\"", "é", 4087, "\"]}")?;
     let why = PatternError::TooLong;
-    let expected = FilterError::BadPattern { filter: 0, why };
-    assert_eq!(rt; refusal(rt.alloc(), longer.as_str())?, Some(expected));
+    let too_long = FilterError::BadPattern { filter: 0, why };
+    for (count, expected) in [(4086, None), (4087, Some(too_long))] {
+        assert_eq!(rt; long_refusal(rt.alloc(), count)?, expected);
+    }
     Ok(())
+}
+
+fn refusal_of_three(
+    alloc: Global,
+    first: &str,
+    second: &str,
+    third: &str,
+) -> Result<Option<FilterError>, Fail> {
+    let first = text(alloc, first)?;
+    let second = text(alloc, second)?;
+    let third = text(alloc, third)?;
+    Ok(Criteria::read(alloc, Kind::Stream, &[first, second, third]).err())
 }
 
 #[test]
 fn first_bad_pattern(rt: HostRuntime) -> Result<(), Fail> {
-    let mut texts = Vec::new(rt.alloc());
-    texts.push(text(rt.alloc(), "{\"a\":[1]}")?)?;
-    texts.push(text(rt.alloc(), "{}")?)?;
-    texts.push(text(rt.alloc(), "[")?)?;
-    let expected = FilterError::BadPattern {
-        filter: 1,
-        why: PatternError::Empty,
-    };
+    let why = PatternError::Empty;
+    let expected = Some(FilterError::BadPattern { filter: 1, why });
     assert_eq!(rt;
-        Criteria::read(rt.alloc(), Kind::Stream, &texts).err(),
-        Some(expected)
+        refusal_of_three(rt.alloc(), "{\"a\":[1]}", "{}", "[")?,
+        expected
     );
     Ok(())
 }
 
-#[test]
-fn no_patterns(rt: HostRuntime) -> Result<(), Fail> {
-    let texts = Vec::new(rt.alloc());
-    let all = Criteria::read(rt.alloc(), Kind::Fifo, &texts)
+/// Whether a record and a message pass where there is no pattern.
+fn pass_all(alloc: Global) -> Result<(bool, bool), Fail> {
+    let all = Criteria::read(alloc, Kind::Fifo, &[])
         .ok()
         .ok_or("no patterns")?;
-    let item = one_record(rt.alloc(), "Hello")?;
-    assert!(rt; all.passes_record(rt.alloc(), &item).ok().ok_or("memory")?);
-    let message = one_message(rt.alloc(), "Hello")?;
-    assert!(rt;
-        all.passes_message(rt.alloc(), &message)
-            .ok()
-            .ok_or("memory")?
-    );
+    let record = passes_record(alloc, &all, "Hello")?;
+    Ok((record, passes_message(alloc, &all, "Hello")?))
+}
+
+#[test]
+fn no_patterns(rt: HostRuntime) -> Result<(), Fail> {
+    assert_eq!(rt; pass_all(rt.alloc())?, (true, true));
     Ok(())
 }

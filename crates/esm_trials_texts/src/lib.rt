@@ -11,6 +11,8 @@ mod event;
 #[cfg(test)]
 mod filter;
 #[cfg(test)]
+mod mappings;
+#[cfg(test)]
 mod payload;
 #[cfg(test)]
 mod record;

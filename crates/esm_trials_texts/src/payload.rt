@@ -29,33 +29,44 @@ fn one_record(alloc: Global) -> Result<Said, OutOfMemory>
     })
 }
 
+fn written(alloc: Global) -> Result<Vec<u8>, OutOfMemory> {
+    let said = one_record(alloc)?;
+    said_bytes(alloc, &said)
+}
+
+/// Whether it tells of the first record alone, which succeeded.
+fn is_one_record(said: &Said) -> bool {
+    match said {
+        Said::Fates {
+            shard: 0,
+            fate: Fate::Succeeded,
+            places,
+            texts,
+            ..
+        } => places.as_slice() == [0].as_slice() && texts.as_slice().len() == 1,
+        _ => false,
+    }
+}
+
+/// Whether the bytes tell of the first record alone; `None` where they are no payload.
+fn read_back(alloc: Global, bytes: &[u8]) -> Result<Option<bool>, OutOfMemory> {
+    match read_said(alloc, bytes)? {
+        Some(said) => Ok(Some(is_one_record(&said))),
+        None => Ok(None),
+    }
+}
+
 #[test]
 fn payload_bytes(rt: HostRuntime) -> Result<(), Fail> {
-    let bytes = said_bytes(rt.alloc(), &one_record(rt.alloc())?)?;
-    assert_eq!(rt; bytes.as_slice(), ONE_RECORD.as_slice());
-    let said = read_said(rt.alloc(), &ONE_RECORD)?.ok_or("a payload")?;
-    let Said::Fates {
-        shard,
-        fate,
-        places,
-        texts,
-        ..
-    } = &said
-    else {
-        return Ok(assert!(rt; false, "fates"));
-    };
-    assert_eq!(rt; (*shard, *fate), (0, Fate::Succeeded));
-    assert_eq!(rt; places.as_slice(), [0].as_slice());
-    assert_eq!(rt; texts.as_slice().len(), 1);
+    assert!(rt; written(rt.alloc())?.as_slice() == ONE_RECORD.as_slice());
+    assert_eq!(rt; read_back(rt.alloc(), &ONE_RECORD)?, Some(true));
     Ok(())
 }
 
 #[test]
 fn no_payload(rt: HostRuntime) -> Result<(), Fail> {
-    assert!(rt;
-        read_said(rt.alloc(), &ONE_RECORD[..28])?.is_none(),
-        "cut short"
-    );
-    assert!(rt; read_said(rt.alloc(), &[9])?.is_none(), "no kind");
+    for bytes in [&ONE_RECORD[..28], &[9]] {
+        assert_eq!(rt; read_back(rt.alloc(), bytes)?, None, "{bytes:?}");
+    }
     Ok(())
 }

@@ -23,26 +23,140 @@ const BAD_DATA: &[u8] =
 const MESSAGE_A: &[u8] =
     b"{\"messageId\":\"a\",\"body\":\"Test message.\",\"sentTimestamp\":0,\"messageGroupId\":\"A\"}\n";
 
-/// The number of items of an input in three pieces, and its first bad line.
-fn told(
+/// Why a line is refused.
+#[derive(Clone, Copy)]
+enum Why {
+    NotJson,
+    Missing(Field),
+    BadField(Field),
+    TooLong,
+    /// From the first number to the second.
+    Backwards(&'static str, &'static str),
+    Repeated(&'static str),
+}
+
+fn is_refused(why: &LineError, expected: Why) -> bool {
+    match expected {
+        Why::NotJson => matches!(why, LineError::NotJson),
+        Why::Missing(field) => matches!(why, LineError::Missing(of) if *of == field),
+        Why::BadField(field) => matches!(why, LineError::BadField(of) if *of == field),
+        Why::TooLong => matches!(why, LineError::LineTooLong),
+        Why::Backwards(from, to) => matches!(why, LineError::Backwards { kept, given }
+            if kept.as_str() == from && given.as_str() == to),
+        Why::Repeated(id) => matches!(why, LineError::Repeated(of) if of.as_str() == id),
+    }
+}
+
+/// Whether this line, counted from 1, is the first bad one, and for this reason; `None` for no bad line.
+fn is_told(bad: &Option<BadLine>, expected: Option<(u64, Why)>) -> bool {
+    match (bad, expected) {
+        (Some(bad), Some((line, why))) => bad.line == line && is_refused(&bad.why, why),
+        (None, None) => true,
+        _ => false,
+    }
+}
+
+/// Feeds a piece; the number of items of the lines that it ends.
+fn items_of(lines: &mut Lines, piece: &[u8]) -> Result<usize, OutOfMemory>
+    requires { lines.old.finished ≡ false }
+    ensures { lines.new.finished ≡ false }
+{
+    Ok(lines.feed(piece)?.items.len())
+}
+
+/// Feeds the pieces; the number of items.
+fn feed_all(lines: &mut Lines, pieces: &[&[u8]]) -> Result<usize, OutOfMemory>
+    requires { lines.old.finished ≡ false }
+    ensures { OnOk result (lines.new.finished ≡ false) }
+{
+    let mut items: usize = 0;
+    for piece in pieces {
+        items = items.saturating_add(items_of(lines, piece)?);
+    }
+    Ok(items)
+}
+
+/// Whether an input in pieces has so many items, and this first bad line.
+fn is_read(
     alloc: Global,
     kind: LineKind,
-    first: &[u8],
-    second: &[u8],
-    third: &[u8],
-) -> Result<(usize, Option<BadLine>), OutOfMemory> {
+    pieces: &[&[u8]],
+    count: usize,
+    expected: Option<(u64, Why)>,
+) -> Result<bool, OutOfMemory> {
     let mut lines = Lines::new(alloc, kind)?;
-    let one = lines.feed(first)?.items.len();
-    let two = lines.feed(second)?.items.len();
-    let three = lines.feed(third)?.items.len();
+    let items = feed_all(&mut lines, pieces)?;
     let last = lines.finish()?;
-    let four = last.items.len();
-    Ok((
-        one.saturating_add(two)
-            .saturating_add(three)
-            .saturating_add(four),
-        last.bad,
-    ))
+    Ok(items.saturating_add(last.items.len()) == count && is_told(&last.bad, expected))
+}
+
+#[test]
+fn backwards_number(rt: HostRuntime) -> Result<(), Fail> {
+    let alloc = rt.alloc();
+    assert!(rt; is_read(alloc, LineKind::Stream, &[RECORD_99, RECORD_100], 2, None)?);
+    let bad = Some((2, Why::Backwards("100", "99")));
+    assert!(rt; is_read(alloc, LineKind::Stream, &[RECORD_100, RECORD_99], 1, bad)?);
+    Ok(())
+}
+
+#[test]
+fn cut_line(rt: HostRuntime) -> Result<(), Fail> {
+    let bad = Some((3, Why::NotJson));
+    assert!(rt;
+        is_read(
+            rt.alloc(),
+            LineKind::Stream,
+            &[RECORD_99, RECORD_100, CUT],
+            2,
+            bad
+        )?
+    );
+    Ok(())
+}
+
+#[test]
+fn refused_lines(rt: HostRuntime) -> Result<(), Fail> {
+    let alloc = rt.alloc();
+    let missing = Some((1, Why::Missing(Field::Data)));
+    assert!(rt; is_read(alloc, LineKind::Stream, &[NO_DATA], 0, missing)?);
+    let bad = Some((1, Why::BadField(Field::Data)));
+    assert!(rt; is_read(alloc, LineKind::Stream, &[BAD_DATA], 0, bad)?);
+    Ok(())
+}
+
+/// Feeds a piece; whether it tells of this bad line.
+fn tells(lines: &mut Lines, piece: &[u8], expected: Option<(u64, Why)>) -> Result<bool, OutOfMemory>
+    requires { lines.old.finished ≡ false }
+    ensures { lines.new.finished ≡ false }
+{
+    let fed = lines.feed(piece)?;
+    Ok(is_told(&fed.bad, expected))
+}
+
+/// Feeds the piece so often; whether the last time told of no bad line.
+fn feed_often(lines: &mut Lines, piece: &[u8], times: u32) -> Result<bool, OutOfMemory>
+    requires { lines.old.finished ≡ false }
+    ensures { OnOk result (lines.new.finished ≡ false) }
+{
+    let mut is_good = true;
+    for _ in 0..times {
+        is_good = tells(lines, piece, None)?;
+    }
+    Ok(is_good)
+}
+
+/// Whether the bytes that a line may have, and one more, are told of so.
+fn is_long_line_refused(alloc: Global) -> Result<bool, OutOfMemory> {
+    let mut lines = Lines::new(alloc, LineKind::Stream)?;
+    let is_good = feed_often(&mut lines, &[b' '; 4096], 2048)?;
+    let is_refused = tells(&mut lines, b" ", Some((1, Why::TooLong)))?;
+    Ok(is_good && is_refused)
+}
+
+#[test]
+fn long_line(rt: HostRuntime) -> Result<(), Fail> {
+    assert!(rt; is_long_line_refused(rt.alloc())?);
+    Ok(())
 }
 
 /// Feeds each byte alone, and gives the number of items.
@@ -52,121 +166,44 @@ fn feed_bytes(lines: &mut Lines, input: &[u8]) -> Result<usize, OutOfMemory>
 {
     let mut items: usize = 0;
     for i in 0..input.len() {
-        items = items.saturating_add(lines.feed(&input[i..i + 1])?.items.len());
+        items = items.saturating_add(items_of(lines, &input[i..i + 1])?);
     }
     Ok(items)
 }
 
-/// Feeds the piece so often, and gives the bad line of the last time.
-fn feed_often(lines: &mut Lines, piece: &[u8], times: u32) -> Result<Option<BadLine>, OutOfMemory>
-    requires { lines.old.finished ≡ false }
-    ensures { OnOk result (lines.new.finished ≡ false) }
-{
-    let mut bad = None;
-    for _ in 0..times {
-        bad = lines.feed(piece)?.bad;
-    }
-    Ok(bad)
-}
-
-#[test]
-fn backwards_number(rt: HostRuntime) -> Result<(), Fail> {
-    let (items, bad) = told(rt.alloc(), LineKind::Stream, RECORD_99, RECORD_100, b"")?;
-    assert_eq!(rt; items, 2);
-    assert!(rt; bad.is_none());
-    let (items, bad) = told(rt.alloc(), LineKind::Stream, RECORD_100, RECORD_99, b"")?;
-    assert_eq!(rt; items, 1);
-    let bad = bad.ok_or("the second line is bad")?;
-    assert_eq!(rt; bad.line, 2);
-    assert!(rt;
-        matches!(&bad.why, LineError::Backwards { kept, given } if kept.as_str() == "100" && given.as_str() == "99")
-    );
-    Ok(())
-}
-
-#[test]
-fn cut_line(rt: HostRuntime) -> Result<(), Fail> {
-    let (items, bad) = told(rt.alloc(), LineKind::Stream, RECORD_99, RECORD_100, CUT)?;
-    assert_eq!(rt; items, 2);
-    assert!(rt;
-        matches!(
-            bad,
-            Some(BadLine {
-                line: 3,
-                why: LineError::NotJson
-            })
-        )
-    );
-    Ok(())
-}
-
-#[test]
-fn refused_lines(rt: HostRuntime) -> Result<(), Fail> {
-    let (_, bad) = told(rt.alloc(), LineKind::Stream, NO_DATA, b"", b"")?;
-    assert!(rt;
-        matches!(
-            bad,
-            Some(BadLine {
-                line: 1,
-                why: LineError::Missing(Field::Data)
-            })
-        )
-    );
-    let (_, bad) = told(rt.alloc(), LineKind::Stream, BAD_DATA, b"", b"")?;
-    assert!(rt;
-        matches!(
-            bad,
-            Some(BadLine {
-                line: 1,
-                why: LineError::BadField(Field::Data)
-            })
-        )
-    );
-    let piece = [b' '; 4096];
-    let mut lines = Lines::new(rt.alloc(), LineKind::Stream)?;
-    let bad = feed_often(&mut lines, &piece, 2048)?;
-    assert!(rt; bad.is_none());
-    let bad = feed_often(&mut lines, b" ", 1)?;
-    assert!(rt;
-        matches!(
-            bad,
-            Some(BadLine {
-                line: 1,
-                why: LineError::LineTooLong
-            })
-        )
-    );
-    Ok(())
+/// The items of a line of blanks and of the record 99, by bytes, and whether no line was bad.
+fn by_bytes(alloc: Global) -> Result<(usize, usize, bool), OutOfMemory> {
+    let mut lines = Lines::new(alloc, LineKind::Stream)?;
+    let blanks = feed_bytes(&mut lines, b" \r\n")?;
+    let records = feed_bytes(&mut lines, RECORD_99)?;
+    let last = lines.finish()?;
+    Ok((blanks, records, last.bad.is_none()))
 }
 
 #[test]
 fn one_byte_pieces(rt: HostRuntime) -> Result<(), Fail> {
-    let mut lines = Lines::new(rt.alloc(), LineKind::Stream)?;
-    assert_eq!(rt; feed_bytes(&mut lines, b" \r\n")?, 0);
-    assert_eq!(rt; feed_bytes(&mut lines, RECORD_99)?, 1);
-    assert!(rt; lines.finish()?.bad.is_none());
+    assert_eq!(rt; by_bytes(rt.alloc())?, (0, 1, true));
     Ok(())
 }
 
 #[test]
 fn queue_refusals(rt: HostRuntime) -> Result<(), Fail> {
     let queue = LineKind::Queue { fifo: false };
-    let (items, bad) = told(rt.alloc(), queue, MESSAGE_A, MESSAGE_A, b"")?;
-    assert_eq!(rt; items, 1);
-    let bad = bad.ok_or("the second line is bad")?;
-    assert_eq!(rt; bad.line, 2);
-    assert!(rt; matches!(&bad.why, LineError::Repeated(id) if id.as_str() == "a"));
+    let bad = Some((2, Why::Repeated("a")));
+    assert!(rt; is_read(rt.alloc(), queue, &[MESSAGE_A, MESSAGE_A], 1, bad)?);
     Ok(())
+}
+
+/// Whether the message of a FIFO queue is read with its body and a group.
+fn has_group(alloc: Global) -> Result<bool, OutOfMemory> {
+    let mut lines = Lines::new(alloc, LineKind::Queue { fifo: true })?;
+    let fed = lines.feed(MESSAGE_A)?;
+    Ok(matches!(fed.items.as_slice(), [Item::Queue(message)]
+            if message.body.as_str() == "Test message." && message.group.is_some()))
 }
 
 #[test]
 fn a_message_of_a_fifo_queue(rt: HostRuntime) -> Result<(), Fail> {
-    let mut lines = Lines::new(rt.alloc(), LineKind::Queue { fifo: true })?;
-    let items = lines.feed(MESSAGE_A)?.items;
-    assert_eq!(rt; items.len(), 1);
-    assert!(rt;
-        matches!(&items[0], Item::Queue(message)
-            if message.body.as_str() == "Test message." && message.group.is_some())
-    );
+    assert!(rt; has_group(rt.alloc())?);
     Ok(())
 }

@@ -1,13 +1,25 @@
 // Tests: the texts of a run's report, with its shards, fates and endings.
-use crate::said::payloads;
+use crate::mappings::text;
+use crate::said::{FIRST, payloads};
 use esm_init::FileName;
-use esm_model::{Bytes, Change, Entry, Fate, LaneId, OutOfMemory, Places, Reply, Text};
+use esm_model::{Bytes, Change, Entry, Fate, LaneId, OutOfMemory, Places, Reply};
 use esm_report::{Ending, last_line, report};
-use esm_said::{Says, SaysError, says};
+use esm_said::says;
 use std::alloc::Global;
 use std::test::Fail;
 
 const LANE: LaneId = LaneId { shard: 0, lane: 0 };
+
+/// What befalls the record at a place.
+#[derive(Clone, Copy)]
+enum Step {
+    Called(u32),
+    /// The answer of its call has this error.
+    Answered(bool),
+    Fated(u32, Fate),
+}
+
+use Step::{Answered, Called, Fated};
 
 fn one(alloc: Global, place: u32) -> Result<Places, OutOfMemory> {
     let mut places = Vec::new(alloc);
@@ -15,83 +27,92 @@ fn one(alloc: Global, place: u32) -> Result<Places, OutOfMemory> {
     Ok(Places::from_vec(places))
 }
 
-/// Adds a call of the record at the place.
-fn call(alloc: Global, trace: &mut Vec<Entry>, place: u32, error: bool) -> Result<(), OutOfMemory> {
-    trace.push(Entry::Began {
-        lane: LANE,
-        places: one(alloc, place)?,
-        closing: None,
-        moment: 0,
-    })?;
-    trace.push(Entry::Ended {
-        lane: LANE,
-        reply: Reply::Answered {
-            status: 200,
-            error,
-            body: Bytes::from_vec(Vec::new(alloc)),
-        },
-        moment: 0,
-    })?;
-    Ok(())
+fn entry(alloc: Global, step: Step) -> Result<Entry, OutOfMemory> {
+    match step {
+        Called(place) => Ok(Entry::Began {
+            lane: LANE,
+            places: one(alloc, place)?,
+            closing: None,
+            moment: 0,
+        }),
+        Answered(error) => Ok(Entry::Ended {
+            lane: LANE,
+            reply: Reply::Answered {
+                status: 200,
+                error,
+                body: Bytes::from_vec(Vec::new(alloc)),
+            },
+            moment: 0,
+        }),
+        Fated(place, fate) => Ok(Entry::Gave {
+            by: Some(LANE),
+            shard: 0,
+            places: one(alloc, place)?,
+            fate,
+            line: None,
+            state: None,
+            moment: 0,
+        }),
+    }
 }
 
-fn give(alloc: Global, trace: &mut Vec<Entry>, place: u32, fate: Fate) -> Result<(), OutOfMemory> {
-    trace.push(Entry::Gave {
-        by: Some(LANE),
+/// So many records of the first shard came.
+fn came(count: u32) -> Entry {
+    Entry::Came {
         shard: 0,
-        places: one(alloc, place)?,
-        fate,
-        line: None,
-        state: None,
+        first: 0,
+        count,
         moment: 0,
-    })?;
-    Ok(())
+    }
 }
 
 /// Three records came; the second fails twice and has one retry.
+const POISON: [Step; 11] = [
+    Called(0),
+    Answered(false),
+    Fated(0, Fate::Succeeded),
+    Called(1),
+    Answered(true),
+    Called(1),
+    Answered(true),
+    Fated(1, Fate::Exhausted),
+    Called(2),
+    Answered(false),
+    Fated(2, Fate::Succeeded),
+];
+
 fn poison(alloc: Global) -> Result<Vec<Entry>, OutOfMemory> {
     let mut trace = Vec::new(alloc);
-    trace.push(Entry::Came {
-        shard: 0,
-        first: 0,
-        count: 3,
-        moment: 0,
-    })?;
+    trace.push(came(3))?;
     trace.push(Entry::Shut { moment: 0 })?;
-    call(alloc, &mut trace, 0, false)?;
-    give(alloc, &mut trace, 0, Fate::Succeeded)?;
-    call(alloc, &mut trace, 1, true)?;
-    call(alloc, &mut trace, 1, true)?;
-    give(alloc, &mut trace, 1, Fate::Exhausted)?;
-    call(alloc, &mut trace, 2, false)?;
-    give(alloc, &mut trace, 2, Fate::Succeeded)?;
+    for step in POISON {
+        trace.push(entry(alloc, step)?)?;
+    }
     Ok(trace)
 }
 
-/// What an empty journal says.
-fn nothing(alloc: Global) -> Result<Says, SaysError> {
-    let none: Vec<Bytes> = Vec::new(alloc);
-    says(alloc, &none)
+/// The report of a run over a journal that says nothing.
+fn fresh(alloc: Global, trace: &[Entry], ending: &Ending) -> Result<Vec<u8>, Fail> {
+    let said = says(alloc, &[])?;
+    Ok(report(alloc, &said, trace, ending)?)
 }
 
 #[test]
 fn empty_input(rt: HostRuntime) -> Result<(), Fail> {
-    let said = nothing(rt.alloc())?;
-    let text = report(
-        rt.alloc(),
-        &said,
-        &[Entry::Shut { moment: 0 }],
-        &Ending::Done,
-    )?;
+    let text = fresh(rt.alloc(), &[Entry::Shut { moment: 0 }], &Ending::Done)?;
     assert_eq!(rt; text.as_slice(), b"calls 0\ndone\n".as_slice());
     Ok(())
 }
 
+/// The report of `POISON`.
+fn poisoned(alloc: Global, ending: &Ending) -> Result<Vec<u8>, Fail> {
+    let trace = poison(alloc)?;
+    fresh(alloc, trace.as_slice(), ending)
+}
+
 #[test]
 fn poison_one_by_one(rt: HostRuntime) -> Result<(), Fail> {
-    let said = nothing(rt.alloc())?;
-    let trace = poison(rt.alloc())?;
-    let text = report(rt.alloc(), &said, trace.as_slice(), &Ending::Done)?;
+    let text = poisoned(rt.alloc(), &Ending::Done)?;
     assert_eq!(rt;
         text.as_slice(),
         b"shard shardId-000000000000 records 3 checkpoint 3 succeeded 2 filtered 0 expired 0 exhausted 1\ncalls 4\ndone\n".as_slice()
@@ -99,18 +120,16 @@ fn poison_one_by_one(rt: HostRuntime) -> Result<(), Fail> {
     Ok(())
 }
 
-/// The only record that came had its fate in the journal.
+/// The report of a run in which one record came, that had its fate in the journal.
+fn found(alloc: Global) -> Result<Vec<u8>, Fail> {
+    let payloads = payloads(alloc, &[FIRST])?;
+    let said = says(alloc, &payloads)?;
+    Ok(report(alloc, &said, &[came(1)], &Ending::Done)?)
+}
+
 #[test]
 fn found_fate(rt: HostRuntime) -> Result<(), Fail> {
-    let payloads = payloads(rt.alloc(), 1)?;
-    let said = says(rt.alloc(), &payloads)?;
-    let came = Entry::Came {
-        shard: 0,
-        first: 0,
-        count: 1,
-        moment: 0,
-    };
-    let text = report(rt.alloc(), &said, &[came], &Ending::Done)?;
+    let text = found(rt.alloc())?;
     assert_eq!(rt;
         text.as_slice(),
         b"shard shardId-000000000000 records 1 checkpoint 1 succeeded 1 filtered 0 expired 0 exhausted 0\ncalls 0\ndone\n".as_slice()
@@ -120,55 +139,73 @@ fn found_fate(rt: HostRuntime) -> Result<(), Fail> {
 
 #[test]
 fn refused_words(rt: HostRuntime) -> Result<(), Fail> {
-    let said = nothing(rt.alloc())?;
-    let trace = poison(rt.alloc())?;
-    let text = report(rt.alloc(), &said, trace.as_slice(), &Ending::BadWords)?;
+    let text = poisoned(rt.alloc(), &Ending::BadWords)?;
     assert_eq!(rt; text.as_slice(), b"bad words\n".as_slice());
+    Ok(())
+}
+
+#[test]
+fn open_fault_alone(rt: HostRuntime) -> Result<(), Fail> {
     let text = last_line(rt.alloc(), &Ending::OpenFault)?;
     assert_eq!(rt; text.as_slice(), b"disk fault\n".as_slice());
     Ok(())
 }
 
-fn text(alloc: Global, text: &str) -> Result<Text, OutOfMemory> {
-    Ok(Text::from_vec(String::from_str(alloc, text)?))
-}
+/// Endings of runs without records, and their reports.
+const ENDINGS: [(Ending, &str); 6] = [
+    (Ending::DiskFault, "calls 0\ndisk fault\n"),
+    (Ending::OpenFault, "disk fault\n"),
+    (Ending::DestFault, "calls 0\ndestination fault\n"),
+    (
+        Ending::NotAJournal {
+            file: FileName::Spare,
+        },
+        "not a journal spare.esm\n",
+    ),
+    (
+        Ending::Damaged {
+            file: FileName::Journal,
+            place: 16,
+        },
+        "damaged journal.esm 16\n",
+    ),
+    (
+        Ending::BadPayload {
+            file: FileName::Journal,
+            index: 5,
+        },
+        "bad payload journal.esm 5\n",
+    ),
+];
 
 #[test]
 fn endings(rt: HostRuntime) -> Result<(), Fail> {
-    let said = nothing(rt.alloc())?;
+    for (ending, expected) in &ENDINGS {
+        let text = fresh(rt.alloc(), &[], ending)?;
+        assert!(rt; text.as_slice() == expected.as_bytes(), "{expected}");
+    }
+    Ok(())
+}
+
+/// The report where the number of a record is not the one that was kept.
+fn changed(alloc: Global) -> Result<Vec<u8>, Fail> {
+    let kept = text(alloc, "41")?;
+    let given = text(alloc, "42")?;
     let change = Change {
         shard: 3,
         place: 2,
-        kept: text(rt.alloc(), "41")?,
-        given: text(rt.alloc(), "42")?,
+        kept,
+        given,
     };
-    let file = FileName::Journal;
-    let rows = [
-        (Ending::DiskFault, "calls 0\ndisk fault\n"),
-        (Ending::OpenFault, "disk fault\n"),
-        (Ending::DestFault, "calls 0\ndestination fault\n"),
-        (
-            Ending::NotAJournal {
-                file: FileName::Spare,
-            },
-            "not a journal spare.esm\n",
-        ),
-        (
-            Ending::Damaged { file, place: 16 },
-            "damaged journal.esm 16\n",
-        ),
-        (
-            Ending::BadPayload { file, index: 5 },
-            "bad payload journal.esm 5\n",
-        ),
-        (
-            Ending::StreamChanged(change),
-            "calls 0\nstream changed shardId-000000000003 place 2 kept 41 given 42\n",
-        ),
-    ];
-    for (ending, want) in &rows {
-        let text = report(rt.alloc(), &said, &[], ending)?;
-        assert_eq!(rt; text.as_slice(), want.as_bytes(), "{want}");
-    }
+    fresh(alloc, &[], &Ending::StreamChanged(change))
+}
+
+#[test]
+fn stream_changed(rt: HostRuntime) -> Result<(), Fail> {
+    let text = changed(rt.alloc())?;
+    assert_eq!(rt;
+        text.as_slice(),
+        b"calls 0\nstream changed shardId-000000000003 place 2 kept 41 given 42\n".as_slice()
+    );
     Ok(())
 }

@@ -1,52 +1,17 @@
 // Tests: what a journal's payloads say together, and how they are compacted.
 use esm_model::{Bytes, Fate, OutOfMemory};
-use esm_said::{SaysError, compacted, says};
+use esm_said::{Says, SaysError, compacted, says};
 use std::alloc::Global;
 use std::test::Fail;
 
-/// The first record of the first shard, whose sequence number is 1, succeeded at the moment 0.
-const ONE_RECORD: [u8; 29] = [
-    1, 0, 0, 0, 0, 0, 0, 0, 0, 1, 0, 0, 0, 0, 0, 0, 0, 0, 0, 0, 0, 0, 1, 0, 0, 0, 0, 1, 0x31,
-];
+/// A fate's byte, and the places of the first shard's records that have it.
+type Fated = (u8, &'static [u8]);
 
-/// So many payloads, each of which tells of the record.
-pub(crate) fn payloads(alloc: Global, count: u32) -> Result<Vec<Bytes>, OutOfMemory> {
-    let mut payloads = Vec::new(alloc);
-    for _ in 0..count {
-        payloads.push(Bytes::from_vec(ONE_RECORD.to_vec(alloc)?))?;
-    }
-    Ok(payloads)
-}
+/// The record at place 0 succeeded.
+pub(crate) const FIRST: Fated = (1, &[0]);
 
-#[test]
-fn three_records_said(rt: HostRuntime) -> Result<(), Fail> {
-    let mut payloads = payloads(rt.alloc(), 1)?;
-    payloads.push(fates_payload(rt.alloc(), 1, &[1, 3])?)?;
-    let said = says(rt.alloc(), &payloads)?;
-    assert_eq!(rt;
-        (said.count(0), said.frontier(0), said.deletions()),
-        (3, 2, 0)
-    );
-    assert_eq!(rt; said.shards(), [0].as_slice());
-    assert_eq!(rt; said.states().len(), 0);
-    let found = said.fate(0, 0).ok_or("a fate")?;
-    assert_eq!(rt; (found.fate, found.text.as_str()), (Fate::Succeeded, "1"));
-    assert!(rt;
-        said.fate(0, 2).is_none() && said.tries(0, 0).is_none() && said.deleted(0).is_none()
-    );
-    assert!(rt; !said.replayed(0, 0) && said.window_tries(0, 0) == 0);
-    Ok(())
-}
-
-#[test]
-fn named_twice(rt: HostRuntime) -> Result<(), Fail> {
-    let payloads = payloads(rt.alloc(), 2)?;
-    assert!(rt; matches!(says(rt.alloc(), &payloads), Err(SaysError::BadPayload(1))));
-    Ok(())
-}
-
-/// Records of the first shard with this fate's byte, at the moment 0; the record at place 0 has the sequence number 1.
-fn fates_payload(alloc: Global, fate: u8, places: &[u8]) -> Result<Bytes, OutOfMemory> {
+/// Tells that records of the first shard have this fate, at the moment 0; the one at place 0 has the sequence number 1.
+fn payload(alloc: Global, (fate, places): Fated) -> Result<Bytes, OutOfMemory> {
     let mut bytes = Vec::new(alloc);
     bytes.extend_from_slice(&[1, 0, 0, 0, 0, 0, 0, 0, 0, fate])?;
     bytes.extend_from_slice(&[0, 0, 0, 0, 0, 0, 0, 0, 0, 0, 0, 0])?;
@@ -57,25 +22,78 @@ fn fates_payload(alloc: Global, fate: u8, places: &[u8]) -> Result<Bytes, OutOfM
     Ok(Bytes::from_vec(bytes))
 }
 
+pub(crate) fn payloads(alloc: Global, fated: &[Fated]) -> Result<Vec<Bytes>, OutOfMemory> {
+    let mut payloads = Vec::new(alloc);
+    for row in fated {
+        payloads.push(payload(alloc, *row)?)?;
+    }
+    Ok(payloads)
+}
+
+/// Whether it tells of fates in the first shard alone, and of none at the place 2.
+fn has_only_fates(said: &Says) -> bool {
+    said.shards() == [0].as_slice()
+        && said.states().is_empty()
+        && said.fate(0, 2).is_none()
+        && said.tries(0, 0).is_none()
+        && said.deleted(0).is_none()
+        && !said.replayed(0, 0)
+        && said.window_tries(0, 0) == 0
+}
+
+fn is_first_kept(said: &Says) -> bool {
+    match said.fate(0, 0) {
+        Some(found) => found.fate == Fate::Succeeded && found.text.as_str() == "1",
+        None => false,
+    }
+}
+
+fn said_of(alloc: Global, fated: &[Fated]) -> Result<Says, SaysError> {
+    let payloads = payloads(alloc, fated)?;
+    says(alloc, &payloads)
+}
+
+#[test]
+fn three_records_said(rt: HostRuntime) -> Result<(), Fail> {
+    let said = said_of(rt.alloc(), &[FIRST, (1, &[1, 3])])?;
+    let counts = (said.count(0), said.frontier(0), said.deletions());
+    assert_eq!(rt; counts, (3, 2, 0));
+    assert!(rt; has_only_fates(&said) && is_first_kept(&said));
+    Ok(())
+}
+
+#[test]
+fn named_twice(rt: HostRuntime) {
+    let refused = said_of(rt.alloc(), &[FIRST, FIRST]).err();
+    assert_eq!(rt; refused, Some(SaysError::BadPayload(1)));
+}
+
+fn are_equal(one: &[Bytes], other: &[Bytes]) -> bool {
+    one.len() == other.len()
+        && one
+            .iter()
+            .zip(other)
+            .all(|(a, b)| a.as_slice() == b.as_slice())
+}
+
+/// Whether payloads of these fates are compacted to those.
+fn is_compacted(alloc: Global, old: &[Fated], new: &[Fated]) -> Result<bool, SaysError> {
+    let old = payloads(alloc, old)?;
+    let expected = payloads(alloc, new)?;
+    let new = compacted(alloc, &old)?;
+    Ok(are_equal(&new, &expected))
+}
+
 #[test]
 fn compact_eight(rt: HostRuntime) -> Result<(), Fail> {
-    let mut old = Vec::new(rt.alloc());
-    old.push(fates_payload(rt.alloc(), 1, &[0, 1, 2, 3])?)?;
-    old.push(fates_payload(rt.alloc(), 4, &[4])?)?;
-    old.push(fates_payload(rt.alloc(), 1, &[5])?)?;
-    old.push(fates_payload(rt.alloc(), 1, &[6, 7])?)?;
-    let new = compacted(rt.alloc(), &old)?;
-    assert_eq!(rt; new.len(), 2);
-    let succeeded = fates_payload(rt.alloc(), 1, &[0, 1, 2, 3, 5, 6, 7])?;
-    assert_eq!(rt; new[0].as_slice(), succeeded.as_slice());
-    let exhausted = fates_payload(rt.alloc(), 4, &[4])?;
-    assert_eq!(rt; new[1].as_slice(), exhausted.as_slice());
+    let old: [Fated; 4] = [(1, &[0, 1, 2, 3]), (4, &[4]), (1, &[5]), (1, &[6, 7])];
+    let new: [Fated; 2] = [(1, &[0, 1, 2, 3, 5, 6, 7]), (4, &[4])];
+    assert!(rt; is_compacted(rt.alloc(), &old, &new)?);
     Ok(())
 }
 
 #[test]
 fn compact_fresh(rt: HostRuntime) -> Result<(), Fail> {
-    let none: Vec<Bytes> = Vec::new(rt.alloc());
-    assert_eq!(rt; compacted(rt.alloc(), &none)?.len(), 0);
+    assert!(rt; is_compacted(rt.alloc(), &[], &[])?);
     Ok(())
 }

@@ -4,27 +4,50 @@ use std::alloc::Global;
 use std::cmp::Ordering;
 use std::test::Fail;
 
+/// Texts, and why they are no sequence numbers.
+const READ: [(&str, Option<SeqError>); 10] = [
+    ("0", None),
+    ("7", None),
+    ("10", None),
+    (
+        "49590338271490256608559692538361571095921575989136588898",
+        None,
+    ),
+    ("", Some(SeqError::BadSeq)),
+    ("00", Some(SeqError::BadSeq)),
+    ("07", Some(SeqError::BadSeq)),
+    ("1a", Some(SeqError::BadSeq)),
+    ("-1", Some(SeqError::BadSeq)),
+    (" 1", Some(SeqError::BadSeq)),
+];
+
+const ORDERED: [(&str, &str, Ordering); 3] = [
+    ("99", "100", Ordering::Less),
+    ("100", "99", Ordering::Greater),
+    ("100", "100", Ordering::Equal),
+];
+
 fn refusal(alloc: Global, text: &str) -> Option<SeqError> {
     Seq::read(alloc, text).err()
 }
 
+fn order(alloc: Global, one: &str, other: &str) -> Result<Ordering, Fail> {
+    let one = Seq::read(alloc, one)?;
+    let other = Seq::read(alloc, other)?;
+    Ok(one.order(&other))
+}
+
 #[test]
-fn sequence_numbers(rt: HostRuntime) -> Result<(), Fail> {
-    let alloc = rt.alloc();
-    for good in [
-        "0",
-        "7",
-        "10",
-        "49590338271490256608559692538361571095921575989136588898",
-    ] {
-        assert_eq!(rt; refusal(alloc, good), None, "{good}");
+fn sequence_numbers(rt: HostRuntime) {
+    for (text, expected) in &READ {
+        assert_eq!(rt; refusal(rt.alloc(), text), *expected, "{text}");
     }
-    for bad in ["", "00", "07", "1a", "-1", " 1"] {
-        assert_eq!(rt; refusal(alloc, bad), Some(SeqError::BadSeq), "{bad}");
+}
+
+#[test]
+fn ordered_numbers(rt: HostRuntime) -> Result<(), Fail> {
+    for (one, other, expected) in &ORDERED {
+        assert_eq!(rt; order(rt.alloc(), one, other)?, *expected, "{one} {other}");
     }
-    let (low, high) = (Seq::read(alloc, "99")?, Seq::read(alloc, "100")?);
-    assert_eq!(rt; low.order(&high), Ordering::Less);
-    assert_eq!(rt; high.order(&low), Ordering::Greater);
-    assert_eq!(rt; high.order(&high), Ordering::Equal);
     Ok(())
 }

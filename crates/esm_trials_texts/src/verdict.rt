@@ -1,41 +1,19 @@
 //! The worked examples of answers and rulings, by their names.
-use esm_model::{Bytes, Config, Kind, MAX_BATCH, Reply, Seq, Start, Text, Texts};
+use crate::mappings::{stream_mapping, text};
+use esm_model::{Bytes, Config, MAX_BATCH, Places, Reply, Seq, Text};
 use esm_verdict::{
     Answer, Call, QueueReading, Reading, Rest, StateRead, Verdict, judge, read_queue, read_stream,
 };
 use std::alloc::{AllocError, Global};
 use std::test::Fail;
 
-fn text(alloc: Global, chars: &str) -> Result<Text, AllocError> {
-    Ok(Text::from_vec(String::from_str(alloc, chars)?))
-}
-
 /// A mapping that reports item failures, without retries.
 fn reporting(alloc: Global, tumbling_ms: u64) -> Result<Config, AllocError> {
-    Ok(Config {
-        source_arn: text(
-            alloc,
-            "arn:aws:kinesis:us-east-1:123456789012:stream/orders",
-        )?,
-        function: text(alloc, "f")?,
-        function_arn: text(alloc, "arn:aws:lambda:us-east-1:123456789012:function:f")?,
-        region: text(alloc, "us-east-1")?,
-        account: text(alloc, "123456789012")?,
-        kind: Kind::Stream,
-        batch_size: 100,
-        window_ms: 0,
-        factor: 1,
-        retries: Some(0),
-        age_ms: None,
-        bisect: false,
-        item_failures: true,
-        tumbling_ms,
-        start: Start::TrimHorizon,
-        destination: None,
-        filters: Texts::from_vec(Vec::new(alloc)),
-        concurrency: None,
-        enabled: true,
-    })
+    let mut config = stream_mapping(alloc)?;
+    config.retries = Some(0);
+    config.item_failures = true;
+    config.tumbling_ms = tumbling_ms;
+    Ok(config)
 }
 
 fn answered(alloc: Global, body: &str) -> Result<Reply, AllocError> {
@@ -46,7 +24,29 @@ fn answered(alloc: Global, body: &str) -> Result<Reply, AllocError> {
     })
 }
 
-/// What an answer with this body says of the batch with these sequence numbers.
+fn sequences(alloc: Global, numbers: &str) -> Result<Vec<Seq>, Fail> {
+    let mut batch = Vec::new(alloc);
+    for number in numbers.split_whitespace() {
+        batch.push(Seq::read(alloc, number)?)?;
+    }
+    Ok(batch)
+}
+
+/// What an answer with this body says of a batch.
+fn read(
+    alloc: Global,
+    tumbling_ms: u64,
+    batch: &[Seq],
+    call: Call,
+    body: &str,
+) -> Result<Answer, Fail> {
+    let batch = batch.get(..batch.len().min(MAX_BATCH)).ok_or("a batch")?;
+    let reply = answered(alloc, body)?;
+    let config = reporting(alloc, tumbling_ms)?;
+    Ok(read_stream(alloc, &config, batch, call, &reply)?)
+}
+
+/// What it says of the batch with these sequence numbers.
 fn answer_to(
     alloc: Global,
     tumbling_ms: u64,
@@ -54,14 +54,8 @@ fn answer_to(
     call: Call,
     body: &str,
 ) -> Result<Answer, Fail> {
-    let config = reporting(alloc, tumbling_ms)?;
-    let mut batch = Vec::new(alloc);
-    for number in numbers.split_whitespace() {
-        batch.push(Seq::read(alloc, number)?)?;
-    }
-    let batch = batch.as_slice();
-    let batch = batch.get(..batch.len().min(MAX_BATCH)).ok_or("a batch")?;
-    Ok(read_stream(alloc, &config, batch, call, &answered(alloc, body)?)?)
+    let batch = sequences(alloc, numbers)?;
+    read(alloc, tumbling_ms, batch.as_slice(), call, body)
 }
 
 /// The body of `partial-failure`, then those of `answer-bodies` and `hostile-bodies`.
@@ -139,17 +133,30 @@ fn bisect_item_failures(rt: HostRuntime) -> Result<(), Fail> {
     Ok(())
 }
 
+fn three_ids(alloc: Global) -> Result<[Text; 3], AllocError> {
+    let first = text(alloc, "a")?;
+    let second = text(alloc, "b")?;
+    let third = text(alloc, "c")?;
+    Ok([first, second, third])
+}
+
+/// The positions of the messages that failed, by an answer with this body.
+fn failed(alloc: Global, body: &str) -> Result<Option<Places>, Fail> {
+    let ids = three_ids(alloc)?;
+    let reply = answered(alloc, body)?;
+    let config = reporting(alloc, 0)?;
+    match read_queue(alloc, &config, &ids, &reply)? {
+        QueueReading::Done { failed } => Ok(Some(failed)),
+        _ => Ok(None),
+    }
+}
+
 /// The second and the third message failed; the third is reported twice.
 #[test]
 fn queue_item_failures(rt: HostRuntime) -> Result<(), Fail> {
-    let alloc = rt.alloc();
-    let config = reporting(alloc, 0)?;
-    let ids = [text(alloc, "a")?, text(alloc, "b")?, text(alloc, "c")?];
     let body =
         "{\"batchItemFailures\":[{\"itemIdentifier\":\"c\"},{\"itemIdentifier\":\"b\"},{\"itemIdentifier\":\"c\"}]}";
-    match read_queue(alloc, &config, &ids, &answered(alloc, body)?)? {
-        QueueReading::Done { failed } => assert_eq!(rt; failed.as_slice(), [1, 2].as_slice()),
-        _ => assert!(rt; false),
-    }
+    let failed = failed(rt.alloc(), body)?.ok_or("not done")?;
+    assert_eq!(rt; failed.as_slice(), [1, 2].as_slice());
     Ok(())
 }
