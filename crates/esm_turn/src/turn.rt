@@ -19,9 +19,6 @@ use std::snapshot::Snapshot;
 use std::sync::Wait;
 use std::sync::atomic::{AtomicU32, Ordering};
 
-/// How often a waiting seat spins, each time twice as long, before it sleeps. This product's own.
-const MAX_SPINS: u32 = 7;
-
 /// A value that one seat at a time has out.
 ///
 /// Whenever the value is at home it has the setup that it was made with, its history is legal and begins with what each
@@ -197,8 +194,8 @@ impl<T: Kept> Turn<T> {
         self.sleeping.fetch_sub(1, Ordering::SeqCst);
     }
 
-    /// Takes the value out for this seat, and waits while another seat has it: it spins a while, then sleeps until a
-    /// `give` wakes it, so that many waiting seats cost no processor.
+    /// Takes the value out for this seat, and waits while another seat has it: it backs off, then sleeps until a `give`
+    /// wakes it, so that many waiting seats cost no processor.
     pub fn take<R: Wait>(&self, rt: &R, seat: &mut Seat<T>) -> Held<T>
         requires at { seat.old.at ≡ self.now.at }
         requires free { seat.old.holds ≡ false }
@@ -210,16 +207,14 @@ impl<T: Kept> Turn<T> {
         ensures seat { seat.new ≡ record seat.old { seen = T.history result.value; mark = T.mark result.value; holds = true } }
     {
         let backoff = Backoff::new();
-        let mut spins = MAX_SPINS;
         for _ in rt.forever() {
             if let Some(held) = self.try_take(seat) {
                 return held;
             }
-            if spins == 0 {
+            if backoff.is_completed() {
                 self.sleep(rt);
             } else {
-                backoff.spin();
-                spins -= 1;
+                backoff.snooze();
             }
         }
         unreachable!()
