@@ -1,7 +1,6 @@
 -- Fresh files.
 use Rattle.std.proofs.Common.{◌≡◌, ℕ, ◌≤◌, ◌==◌, Bool, true, false, List, [], ◌∷◌, ◌++◌, length, drop, slice_index, nat_eq, nat_lt, if◌then◌else◌, arith, refl, sym, ap, ◌∙◌, append_assoc, length-append, length-drop}
-use Rattle.std.proofs.lemmas.List.{take_at, drop_at, append-nil}
-use borrow.Rule.Slice.PartMut.{put_mid}
+use Rattle.std.proofs.lemmas.List.{append-nil}
 use Rattle.std.specs.List.{starts_with}
 use Rattle.std.specs.Int.{w64, to_be_bytes}
 use Rattle.esm_io.specs.Images.{overwritten, Torn}
@@ -9,19 +8,6 @@ use Rattle.esm_journal.specs.File.{Opening, Holding, Foreign, Damaged, IsFile, b
 use Rattle.esm_journal.specs.Fresh.{HoldsNone}
 use Rattle.esm_journal.specs.Pair.{is_taken, beside, pair_opened}
 use Rattle.esm_journal.proofs.Written.{overwritten_behind}
-
-abbrev zeros : List ℕ
-zeros = 0 ∷ 0 ∷ 0 ∷ 0 ∷ 0 ∷ 0 ∷ 0 ∷ 0 ∷ 0 ∷ 0 ∷ []
-
--- the header, then eight bytes
-pub blank_parts : (header number start part : List ℕ) → start ≡ header → part ≡ number → length header ≡ 8 → put_mid 8 8 (start ++ zeros) part ≡ header ++ number ++ 0 ∷ 0 ∷ []
-blank_parts header number start part is_header is_number eight =
-    let size : length start ≡ 8 = ap (λ (l : List ℕ). length l) is_header ∙ eight in
-    ap (λ l. l ++ (part ++ drop 8 (drop 8 (start ++ zeros)))) (take_at start zeros 8 size)
-    ∙ ap (λ l. start ++ (part ++ drop 8 l)) (drop_at start zeros 8 size)
-    ∙ sym (append_assoc start part (0 ∷ 0 ∷ []))
-    ∙ ap (λ l. l ++ part ++ 0 ∷ 0 ∷ []) is_header
-    ∙ ap (λ l. header ++ l ++ 0 ∷ 0 ∷ []) is_number
 
 -- the seal is opened
 pub sealed : (header : List ℕ) → length header ≡ 8 → overwritten (blank_file header 1) 16 (1 ∷ []) ≡ fresh_file header

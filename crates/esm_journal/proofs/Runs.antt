@@ -1,7 +1,6 @@
 -- How runs of device calls go on.
-use Rattle.std.proofs.Common.{◌≡◌, ℕ, true, List, inl, inr, ⊎_elim, arith, refl, ◌∙◌}
+use Rattle.std.proofs.Common.{◌≡◌, ℕ, true, List, arith, refl, ◌∙◌}
 use Rattle.esm_io.specs.Meanings.{DiskMeaning}
-use Rattle.esm_io.specs.Images.{LeavesOnly, Elapses}
 use Rattle.esm_io.proofs.Leaving.{started, goes_on}
 use Rattle.esm_journal.specs.Reads.{IsOnlyRead, RefusedFor}
 use Rattle.esm_journal.specs.declared.error.OpenError.{OpenError}

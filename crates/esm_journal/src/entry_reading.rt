@@ -9,6 +9,7 @@ ghost use Rattle.esm_journal.specs.File.{number_in, entry, entries, end_of, AreS
 ghost use Rattle.esm_journal.specs.Reads.{IsOnlyRead, RefusedFor};
 
 use crate::error::OpenError;
+use crate::format::FIRST_GATE;
 use crate::through::{read_at, settle, size_of};
 use esm_io::{Disk, Failed};
 use esm_model::{Bytes, MAX_PAYLOAD};
@@ -123,7 +124,7 @@ pub(crate) fn read_entries<D: Disk>(
         (Rose (D.faults disk.old) (D.faults disk.new)) e) }
 {
     let mut payloads = Vec::new(alloc);
-    let mut place = 17;
+    let mut place = FIRST_GATE;
     while let Some(payload) = read_entry(alloc, disk, place, size)? {
         place += 5 + payload.as_slice().len() as u64;
         payloads.push(payload)?;

@@ -9,6 +9,7 @@ ghost use Rattle.esm_journal.specs.Head.{IsHead};
 
 use crate::entry_reading::read_entries;
 use crate::error::OpenError;
+use crate::format::{LEAST_SIZE, SEAL};
 use crate::head::{Head, read_head};
 use crate::through::settle;
 use esm_io::Disk;
@@ -39,11 +40,11 @@ pub(crate) fn read_rest<D: Disk>(
         (λ damage. D.honest disk.old ≡ true → opened_rest (D.content disk.old) ≡ Damaged damage)
         (Rose (D.faults disk.old) (D.faults disk.new)) e) }
 {
-    if head.size < 18 {
+    if head.size < LEAST_SIZE {
         return Err(OpenError::Damaged(head.size));
     }
     if head.seal != 1 {
-        return Err(OpenError::Damaged(16));
+        return Err(OpenError::Damaged(SEAL));
     }
     let (payloads, end) = read_entries(alloc, disk, head.size)?;
     Ok(Found {

@@ -9,6 +9,8 @@ ghost use Rattle.esm_journal.specs.Fresh.{WasOrHoldsNone};
 ghost use Rattle.esm_journal.specs.Reads.{IsOnlyRead, NotMadeFor};
 
 use crate::error::InitError;
+use crate::format::SEAL;
+use crate::head::head_bytes;
 use crate::through::{settle, size_of, write_through};
 use esm_io::Disk;
 
@@ -18,8 +20,7 @@ fn blank_bytes(header: [u8; 8], epoch: u64) -> [u8; 18]
     ensures { result ≡ blank_file header epoch }
 {
     let mut bytes = [0; 18];
-    bytes[..8].copy_from_slice(&header);
-    bytes[8..16].copy_from_slice(&epoch.to_be_bytes());
+    bytes[..16].copy_from_slice(&head_bytes(header, epoch));
     bytes
 }
 
@@ -67,6 +68,6 @@ pub(crate) fn write_fresh<D: Disk>(disk: &mut D, header: [u8; 8]) -> Result<(), 
     ensures count { IsCount (D.faults disk.old) (D.faults disk.new) }
 {
     write_blank(disk, header, 1)?;
-    write_through(disk, 16, &[1])?;
+    write_through(disk, SEAL, &[1])?;
     Ok(())
 }

@@ -1,5 +1,5 @@
 // The first bytes of a file.
-ghost use Rattle.std.specs.Prelude.{◌≡◌, ◌+◌, ◌<◌, ◌≤◌, true, ℕ, length, slice_index, IfOk, OnErr};
+ghost use Rattle.std.specs.Prelude.{◌≡◌, ◌+◌, ◌++◌, ◌<◌, ◌≤◌, true, ℕ, length, slice_index, IfOk, OnErr};
 ghost use Rattle.std.specs.Int.{w64, to_be_bytes, from_be_bytes};
 ghost use Rattle.esm_io.specs.Faults.{Rose};
 ghost use Rattle.esm_io.specs.Meanings.{disk as meaning};
@@ -45,6 +45,17 @@ fn epoch_of(bytes: &[u8]) -> u64
     u64::from_be_bytes([
         bytes[8], bytes[9], bytes[10], bytes[11], bytes[12], bytes[13], bytes[14], bytes[15],
     ])
+}
+
+/// The 16 bytes before the seal.
+pub(crate) fn head_bytes(header: [u8; 8], epoch: u64) -> [u8; 16]
+    requires { length header ≡ 8 }
+    ensures { result ≡ header ++ to_be_bytes w64 epoch }
+{
+    let mut bytes = [0; 16];
+    bytes[..8].copy_from_slice(&header);
+    bytes[8..16].copy_from_slice(&epoch.to_be_bytes());
+    bytes
 }
 
 /// The first 17 bytes, with 0 for each that is missing.

@@ -11,7 +11,7 @@ ghost use Rattle.esm_journal.specs.Room.{HasRoom, room_after};
 ghost use Rattle.esm_journal.specs.State.{OpensTo, OpensToEither, Keeps, KeepsWhileUp, KeepsWhileDown};
 
 use crate::error::{AppendError, InitError, OpenError};
-use crate::format::{PAIR, SINGLE};
+use crate::format::{FIRST_GATE, PAIR, SINGLE};
 use crate::found::read_file;
 use crate::fresh::{write_blank, write_fresh};
 use crate::log::Log;
@@ -79,7 +79,7 @@ impl<D: Disk> Journal<D> {
                     header: SINGLE,
                     epoch: 1,
                     payloads: Vec::new(alloc),
-                    end: 17,
+                    end: FIRST_GATE,
                     spares: VecDeque::new(alloc),
                     down: false,
                 },

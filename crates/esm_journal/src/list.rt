@@ -4,6 +4,7 @@ ghost use Rattle.esm_journal.specs.File.{entries, AreShort};
 ghost use Rattle.esm_journal.specs.Room.{total_room};
 ghost use Rattle.esm_journal.specs.Replace.{first_too_long};
 
+use crate::format::FIRST_GATE;
 use esm_model::{Bytes, MAX_PAYLOAD};
 use std::alloc::{AllocError, Global};
 use std::collections::VecDeque;
@@ -77,7 +78,7 @@ pub(crate) fn prepare(
 {
     let bytes = list_bytes(alloc, payloads)?;
     let payloads = copies(alloc, payloads, spares.len())?;
-    let end = 17 + bytes.len() as u64;
+    let end = FIRST_GATE + bytes.len() as u64;
     if u64::MAX - end < room_bytes(spares) {
         return Err(AllocError);
     }

@@ -14,7 +14,7 @@ ghost use Rattle.esm_journal.specs.Replace.{first_too_long, IsSpareOrNew, PairOp
 ghost use Rattle.esm_journal.specs.Stopped.{PairKeepsWhileDown};
 
 use crate::error::{AppendError, InitError, OpenError};
-use crate::format::PAIR;
+use crate::format::{FIRST_GATE, PAIR};
 use crate::found::Found;
 use crate::fresh::write_fresh;
 use crate::list::{Prepared, first_too_long, prepare};
@@ -290,7 +290,7 @@ impl<D: Disk> Pair<D> {
             self.log.down = true;
             return Err(AppendError::DiskFault);
         }
-        let end = 16 + bytes.len() as u64;
+        let end = FIRST_GATE - 1 + bytes.len() as u64;
         self.log.move_over(&mut self.spare, payloads, end);
         self.spare_sealed = true;
         self.swapped = !self.swapped;

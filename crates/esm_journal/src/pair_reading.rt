@@ -11,6 +11,7 @@ ghost use Rattle.esm_journal.specs.Reads.{IsOnlyRead, RefusedFor};
 ghost use Rattle.esm_journal.specs.Taken.{IsTaken};
 
 use crate::error::OpenError;
+use crate::format::LEAST_SIZE;
 use crate::found::{Found, read_rest};
 use crate::head::{Head, read_head};
 use crate::through::settle;
@@ -67,7 +68,7 @@ fn read_taken<D: Disk>(
         (Rose (D.faults disk.old) (D.faults disk.new)) e) }
 {
     let found = read_rest(alloc, disk, head)?;
-    if size < 18 {
+    if size < LEAST_SIZE {
         return Err(OpenError::Damaged(size));
     }
     Ok(found)

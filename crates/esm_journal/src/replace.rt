@@ -8,6 +8,8 @@ ghost use Rattle.esm_journal.specs.Bytes.{rewritten};
 ghost use Rattle.esm_journal.specs.Pair.{IsSpare};
 ghost use Rattle.esm_journal.specs.Replace.{IsClosed, IsUnsealed, IsSpareOrNew};
 
+use crate::format::{FIRST_GATE, SEAL};
+use crate::head::head_bytes;
 use crate::through::write_through;
 use esm_io::{Disk, Failed};
 
@@ -29,7 +31,7 @@ fn close_seal<D: Disk>(disk: &mut D, sealed: bool) -> Result<(), Failed>
     if !sealed {
         return Ok(());
     }
-    write_through(disk, 16, &[0])
+    write_through(disk, SEAL, &[0])
 }
 
 /// Writes on one side of the seal, which is closed in every image before and after.
@@ -45,17 +47,6 @@ fn write_apart<D: Disk>(disk: &mut D, at: u64, from: &[u8]) -> Result<(), Failed
     ensures cause { OnErr result (Rose (D.faults disk.old) (D.faults disk.new)) }
 {
     disk.write_at(at, from)
-}
-
-/// The 16 bytes before the seal.
-fn head_bytes(header: [u8; 8], epoch: u64) -> [u8; 16]
-    requires { length header ≡ 8 }
-    ensures { result ≡ header ++ to_be_bytes w64 epoch }
-{
-    let mut bytes = [0; 16];
-    bytes[..8].copy_from_slice(&header);
-    bytes[8..16].copy_from_slice(&epoch.to_be_bytes());
-    bytes
 }
 
 /// Writes the header, the epoch and a list, and syncs. The seal is not touched and stays closed.
@@ -74,7 +65,7 @@ fn write_list<D: Disk>(disk: &mut D, header: [u8; 8], epoch: u64, list: &[u8]) -
     ensures cause { OnErr result (Rose (D.faults disk.old) (D.faults disk.new)) }
 {
     write_apart(disk, 0, &head_bytes(header, epoch))?;
-    write_apart(disk, 17, list)?;
+    write_apart(disk, FIRST_GATE, list)?;
     disk.sync()?;
     Ok(())
 }
@@ -105,6 +96,6 @@ pub(crate) fn replace_file<D: Disk>(
 {
     close_seal(disk, sealed)?;
     write_list(disk, header, epoch, list)?;
-    write_through(disk, 16, &[1])?;
+    write_through(disk, SEAL, &[1])?;
     Ok(())
 }

@@ -1,6 +1,0 @@
-use Rattle.std.proofs.Common.{ap, ◌∙◌, ◌++◌, ◌∷◌, []}
-use Rattle.esm_journal.proofs.FreshFiles.{blank_parts}
-use Rattle.esm_journal.proofs.fresh.blank_bytes.Goals as goal
-
-pub returns : goal.returns
-returns c = blank_parts c.args.header c.to_be_bytes.result _ _ c.copy_from_slice.ensures.after c.copy_from_slice-2.ensures.after c.requires ∙ ap (λ l. c.args.header ++ l ++ 0 ∷ 0 ∷ []) c.to_be_bytes.ensures
