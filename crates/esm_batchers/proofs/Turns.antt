@@ -1,5 +1,5 @@
 -- What a seat knows when it has taken the turn, and when it has given it back.
-use Rattle.std.proofs.Common.{◌≡◌, ℕ, Bool, true, false, cond, eqb, List, [], ◌∷◌, ◌++◌, refl, sym, ap, ◌∙◌, subst, append_assoc, eq-eqb}
+use Rattle.std.proofs.Common.{◌≡◌, ℕ, Bool, true, false, cond, eqb, Result, Ok, Err, OnOk, OnErr, List, [], ◌∷◌, ◌++◌, refl, sym, ap, ◌∙◌, subst, append_assoc, eq-eqb}
 use Rattle.std.proofs.lemmas.List.{append-nil, append_cancel_left}
 use Rattle.std.proofs.Math.Seq.{drop-length}
 use mathlib.Core.List.{IsPrefix}
@@ -10,6 +10,14 @@ use Rattle.esm_model.proofs.Growing.{entries-append, own_after, may_append}
 use Rattle.esm_pooled.specs.GoingOn.{GoesOn, OthersFollow, AllAt, OwnGiven}
 use Rattle.esm_turn.specs.Seats.{TurnView, SeatView}
 use Rattle.esm_batchers.specs.Seated.{IsSeated}
+
+pub on_ok : {A E : Type 0} (r : Result A E) (P Q : Type 0) → (P → Q) → OnOk r P → OnOk r Q
+on_ok (Ok a) P Q step holds = step holds
+on_ok (Err e) P Q step holds = tt
+
+pub on_err : {A E : Type 0} (r : Result A E) (P Q : Type 0) → (P → Q) → OnErr r P → OnErr r Q
+on_err (Ok a) P Q step holds = tt
+on_err (Err e) P Q step holds = step holds
 
 pub not_picked : (b : Bool) (e : Told) (rest : List Told) → cond b (e ∷ rest) rest ≡ [] → (b ≡ false) × (rest ≡ [])
 not_picked true e rest is = absurd (cc)

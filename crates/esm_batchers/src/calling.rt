@@ -1,14 +1,15 @@
 // A batcher's work, from its first question to its end.
-ghost use Rattle.std.specs.Prelude.{◌≡◌, ◌⊎◌, ◌<◌, ◌+◌, ◌++◌, ◌∷◌, [], ℕ, List, IfOk, IfErr, OnOk, OnErr, IsErrOf, true, false};
+ghost use Rattle.std.specs.Prelude.{◌≡◌, ◌<◌, ◌+◌, ◌++◌, ◌∷◌, [], ℕ, List, Ok, IfOk, IfSome, IfNone, OnOk, OnErr, IsErrOf, true, false};
 ghost use mathlib.Core.List.{IsPrefix};
 ghost use Rattle.esm_io.specs.Told.{Grows};
 ghost use Rattle.esm_model.specs.declared.book.BookError.TheVariants as why;
 ghost use Rattle.esm_model.specs.declared.limits.TheConstants.{MAX_LANES};
 ghost use Rattle.esm_model.specs.Books.{entries_told};
 ghost use Rattle.esm_model.specs.Entries.{is_shut};
-ghost use Rattle.esm_pooled.specs.Batching.{Answers, EndsWork, call_of};
-ghost use Rattle.esm_pooled.specs.GoingOn.{OwnFollowShut};
-ghost use Rattle.esm_batchers.specs.Rounds.{GoesOnFrom};
+ghost use Rattle.esm_model.specs.Kept.{meaning, added};
+ghost use Rattle.esm_pooled.specs.Batching.{Answers, call_of};
+ghost use Rattle.esm_pooled.specs.GoingOn.{AllAt, GoesOn, OwnFollowShut};
+ghost use Rattle.esm_batchers.specs.Rounds.{GoesOnFrom, IsAnswer, StopsWork};
 ghost use Rattle.esm_batchers.specs.Seated.{IsSeated};
 ghost use Rattle.esm_batchers.specs.Working.{HasLogged, HasEnded};
 
@@ -37,10 +38,7 @@ fn ask<R: Wait, T: Pooled, C: Clock>(
     ensures seated { IsSeated T.author T.may_follow C.gave turn.now (batcher + 1) seat.new }
     ensures grows { IsPrefix seat.old.seen seat.new.seen }
     ensures no_end { (sends : List ℕ → List ℕ) → T.calls turn.now.setup sends seat.new.seen batcher ≡ T.calls turn.now.setup sends seat.old.seen batcher }
-    ensures answer { IfOk result (Answers T.rests T.runs turn.now.setup seat.new.seen batcher) }
-    ensures ended { IfOk result (λ next. EndsWork next → T.ended turn.now.setup seat.new.seen batcher) }
-    ensures rests { OnErr result (T.rests turn.now.setup seat.new.seen batcher) }
-    ensures down { IfErr result (λ e. (e ≡ why.OutOfMemory) ⊎ (seat.new.mark ≡ true)) }
+    ensures answer { IsAnswer T.rests T.runs T.ended turn.now.setup batcher seat.new.seen seat.new.mark result }
 {
     T::stays();
     let moment = clock.now();
@@ -50,7 +48,33 @@ fn ask<R: Wait, T: Pooled, C: Clock>(
     next
 }
 
-// The batcher's call came to this reply. The moment is read before the turn is taken.
+// Ends the batcher's call with this reply, and asks what the batcher does next. Without the memory to note the end nothing is
+// noted or asked.
+fn end_and_ask<T: Pooled>(
+    book: &mut T,
+    alloc: Global,
+    batcher: u32,
+    job: Job,
+    reply: Reply,
+    moment: u64,
+) -> Result<Result<Next, BookError>, OutOfMemory>
+    requires number { batcher < MAX_LANES }
+    requires runs { T.runs (T.setup book.old) (T.history book.old) batcher job }
+    ensures goes_on { GoesOn (meaning T.setup T.history T.mark T.author T.may_follow) (batcher + 1) book.old book.new }
+    ensures moments { AllAt moment (T.history book.old) (added (T.history book.old) (T.history book.new)) }
+    ensures answer { IfOk result (IsAnswer T.rests T.runs T.ended (T.setup book.old) batcher (T.history book.new) (T.mark book.new)) }
+    ensures called { OnOk result ((sends : List ℕ → List ℕ) →
+        T.calls (T.setup book.old) sends (T.history book.new) batcher ≡ T.calls (T.setup book.old) sends (T.history book.old) batcher ++ call_of (T.setup book.old) sends job.event reply ∷ []) }
+    ensures unchanged { OnErr result (T.history book.new ≡ T.history book.old) }
+{
+    match book.end_call(alloc, batcher, job, reply, moment) {
+        Ok(_) => Ok(book.ask(alloc, batcher, moment)),
+        Err(BookError::OutOfMemory) => Err(OutOfMemory),
+        Err(why) => Ok(Err(why)),
+    }
+}
+
+// The batcher's call came to this reply; answers what the batcher does next. The moment is read before the turn is taken.
 fn tell<R: Wait, T: Pooled, C: Clock>(
     rt: &R,
     alloc: Global,
@@ -60,31 +84,30 @@ fn tell<R: Wait, T: Pooled, C: Clock>(
     batcher: u32,
     job: Job,
     reply: Reply,
-) -> Result<u32, BookError>
+) -> Result<Result<Next, BookError>, OutOfMemory>
     requires number { batcher < MAX_LANES }
     requires seated { IsSeated T.author T.may_follow C.gave turn.now (batcher + 1) seat.old }
     requires runs { T.runs turn.now.setup seat.old.seen batcher job }
     ensures seated { IsSeated T.author T.may_follow C.gave turn.now (batcher + 1) seat.new }
     ensures grows { IsPrefix seat.old.seen seat.new.seen }
-    ensures down { IfErr result (λ e. (e ≡ why.OutOfMemory) ⊎ (seat.new.mark ≡ true)) }
     // Where the end is noted.
-    ensures called { (IsErrOf result why.OutOfMemory → ⊥) → (sends : List ℕ → List ℕ) →
-        T.calls turn.now.setup sends seat.new.seen batcher ≡ T.calls turn.now.setup sends seat.old.seen batcher ++ call_of turn.now.setup sends job.event reply ∷ [] }
-    ensures rests { (IsErrOf result why.OutOfMemory → ⊥) → T.rests turn.now.setup seat.new.seen batcher }
+    ensures called { OnOk result ((sends : List ℕ → List ℕ) →
+        T.calls turn.now.setup sends seat.new.seen batcher ≡ T.calls turn.now.setup sends seat.old.seen batcher ++ call_of turn.now.setup sends job.event reply ∷ []) }
+    ensures answer { IfOk result (IsAnswer T.rests T.runs T.ended turn.now.setup batcher seat.new.seen seat.new.mark) }
     // Where it is not.
-    ensures no_end { IsErrOf result why.OutOfMemory → (sends : List ℕ → List ℕ) →
-        T.calls turn.now.setup sends seat.new.seen batcher ≡ T.calls turn.now.setup sends seat.old.seen batcher }
-    ensures runs { IsErrOf result why.OutOfMemory → T.runs turn.now.setup seat.new.seen batcher job }
+    ensures no_end { OnErr result ((sends : List ℕ → List ℕ) →
+        T.calls turn.now.setup sends seat.new.seen batcher ≡ T.calls turn.now.setup sends seat.old.seen batcher) }
+    ensures runs { OnErr result (T.runs turn.now.setup seat.new.seen batcher job) }
 {
     T::stays();
     let moment = clock.now();
     let Held { mut value } = turn.take(rt, seat);
-    let told = value.end_call(alloc, batcher, job, reply, moment);
+    let next = end_and_ask(&mut value, alloc, batcher, job, reply, moment);
     turn.give(seat, Held { value });
-    told
+    next
 }
 
-// Makes the call that began, and tells its end. False where the book is down.
+// Makes the call that began, tells its end, and answers what the batcher does next.
 fn make_call<R: Wait, T: Pooled, C: Clock, F: Caller>(
     rt: &R,
     alloc: Global,
@@ -95,26 +118,21 @@ fn make_call<R: Wait, T: Pooled, C: Clock, F: Caller>(
     name: &str,
     batcher: u32,
     job: Job,
-) -> Result<bool, OutOfMemory>
+) -> Result<Result<Next, BookError>, OutOfMemory>
     requires number { batcher < MAX_LANES }
     requires name { name.now ≡ turn.now.setup.config.function }
     requires seated { IsSeated T.author T.may_follow C.gave turn.now (batcher + 1) seat.old }
     requires runs { T.runs turn.now.setup seat.old.seen batcher job }
     ensures seated { IsSeated T.author T.may_follow C.gave turn.now (batcher + 1) seat.new }
     ensures grows { IsPrefix seat.old.seen seat.new.seen }
-    ensures down { IfOk result (λ goes. goes ≡ false → seat.new.mark ≡ true) }
-    ensures rests { OnOk result (T.rests turn.now.setup seat.new.seen batcher) }
+    ensures answer { IfOk result (IsAnswer T.rests T.runs T.ended turn.now.setup batcher seat.new.seen seat.new.mark) }
     ensures called { OnOk result (GoesOnFrom (T.calls turn.now.setup F.sends seat.old.seen batcher) (F.log caller.old)
         (λ first. Grows first (F.log caller.new) (T.calls turn.now.setup F.sends seat.new.seen batcher))) }
     ensures stopped { OnErr result (GoesOnFrom (T.calls turn.now.setup F.sends seat.old.seen batcher) (F.log caller.old)
         (λ first. HasLogged (T.runs turn.now.setup seat.new.seen batcher) turn.now.setup F.sends (T.calls turn.now.setup F.sends seat.new.seen batcher) first (F.log caller.new))) }
 {
     let reply = caller.call(alloc, name, job.event.as_slice())?;
-    match tell(rt, alloc, turn, seat, clock, batcher, job, reply) {
-        Ok(_) => Ok(true),
-        Err(BookError::OutOfMemory) => Err(OutOfMemory),
-        Err(_) => Ok(false),
-    }
+    tell(rt, alloc, turn, seat, clock, batcher, job, reply)
 }
 
 // Pauses until the moment, in milliseconds, but for `MAX_PAUSE` at most.
@@ -123,7 +141,21 @@ fn pause<C: Clock>(clock: &C, until: u64) {
     clock.pause(until.min(latest));
 }
 
-// Asks once, and calls or pauses as it is answered. False where the batcher has ended.
+// What is left to do after the answer; nothing where it ends the batcher's work or the book is down.
+fn left(answer: Result<Next, BookError>) -> Result<Option<Next>, OutOfMemory>
+    ensures goes { IfOk result (λ next. IfSome next (λ n. answer ≡ Ok n)) }
+    ensures stops { IfOk result (λ next. IfNone next (StopsWork answer)) }
+    ensures memory { OnErr result (IsErrOf answer why.OutOfMemory) }
+{
+    match answer {
+        Ok(Next::Spent | Next::Finished) => Ok(None),
+        Ok(next) => Ok(Some(next)),
+        Err(BookError::OutOfMemory) => Err(OutOfMemory),
+        Err(_) => Ok(None),
+    }
+}
+
+// Calls or pauses as the batcher was answered, and answers what it does next.
 fn round<R: Wait, T: Pooled, C: Clock, F: Caller>(
     rt: &R,
     alloc: Global,
@@ -133,31 +165,30 @@ fn round<R: Wait, T: Pooled, C: Clock, F: Caller>(
     clock: &C,
     name: &str,
     batcher: u32,
-) -> Result<bool, OutOfMemory>
+    next: Next,
+) -> Result<Result<Next, BookError>, OutOfMemory>
     requires number { batcher < MAX_LANES }
     requires name { name.now ≡ turn.now.setup.config.function }
     requires seated { IsSeated T.author T.may_follow C.gave turn.now (batcher + 1) seat.old }
-    requires rests { T.rests turn.now.setup seat.old.seen batcher }
+    requires answer { Answers T.rests T.runs turn.now.setup seat.old.seen batcher next }
     ensures seated { IsSeated T.author T.may_follow C.gave turn.now (batcher + 1) seat.new }
     ensures grows { IsPrefix seat.old.seen seat.new.seen }
-    ensures ended { IfOk result (λ goes. goes ≡ false → T.ended turn.now.setup seat.new.seen batcher ⊎ (seat.new.mark ≡ true)) }
-    ensures rests { OnOk result (T.rests turn.now.setup seat.new.seen batcher) }
+    ensures answer { IfOk result (IsAnswer T.rests T.runs T.ended turn.now.setup batcher seat.new.seen seat.new.mark) }
     ensures called { OnOk result (GoesOnFrom (T.calls turn.now.setup F.sends seat.old.seen batcher) (F.log caller.old)
         (λ first. Grows first (F.log caller.new) (T.calls turn.now.setup F.sends seat.new.seen batcher))) }
     ensures stopped { OnErr result (GoesOnFrom (T.calls turn.now.setup F.sends seat.old.seen batcher) (F.log caller.old)
         (λ first. HasLogged (T.runs turn.now.setup seat.new.seen batcher) turn.now.setup F.sends (T.calls turn.now.setup F.sends seat.new.seen batcher) first (F.log caller.new))) }
 {
-    match ask(rt, alloc, turn, seat, clock, batcher) {
-        Ok(Next::Call(job)) => make_call(rt, alloc, turn, seat, caller, clock, name, batcher, job),
-        Ok(Next::Gave(_)) => Ok(true),
-        Ok(Next::Idle { until }) => {
+    match next {
+        Next::Call(job) => make_call(rt, alloc, turn, seat, caller, clock, name, batcher, job),
+        Next::Idle { until } => {
             pause(clock, until);
-            Ok(true)
+            let answer = ask(rt, alloc, turn, seat, clock, batcher);
+            Ok(answer)
         }
-        Ok(Next::Spent) => Ok(false),
-        Ok(Next::Finished) => Ok(false),
-        Err(BookError::OutOfMemory) => Err(OutOfMemory),
-        Err(_) => Ok(false),
+        Next::Gave(_) | Next::Spent | Next::Finished => {
+            Ok(ask(rt, alloc, turn, seat, clock, batcher))
+        }
     }
 }
 
@@ -228,10 +259,12 @@ pub fn call_all<R: Wait, T: Pooled, C: Clock, F: Caller>(
     if !may {
         return Ok(());
     }
+    let mut answer = ask(rt, alloc, turn, seat, clock, batcher);
     for _ in rt.forever() {
-        if !round(rt, alloc, turn, seat, caller, clock, name, batcher)? {
+        let Some(next) = left(answer)? else {
             return Ok(());
-        }
+        };
+        answer = round(rt, alloc, turn, seat, caller, clock, name, batcher, next)?;
     }
     unreachable!()
 }
