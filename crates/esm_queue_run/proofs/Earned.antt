@@ -114,7 +114,7 @@ only_earned s h legal i low is = deleted_earned s h legal i is
 -- all that is earned is deleted, where nothing is called for
 
 -- what was found deleted is deleted once it came
-found_deleted : (s : QueueSetting) (h : List Entry) → LegalQueue s h → (i : ℕ) → i < queue_count h → is_found s i ≡ true → is_deleted s h i ≡ true
+pub found_deleted : (s : QueueSetting) (h : List Entry) → LegalQueue s h → (i : ℕ) → i < queue_count h → is_found s i ≡ true → is_deleted s h i ≡ true
 found_deleted s [] legal i low found = absurd (omega arith)
 found_deleted s (Came shard first count m ∷ h) legal i low found = come_found s h shard first count m legal.0 legal.1.1 i low found (λ before. found_deleted s h legal.0 i before found)
 found_deleted s (Began lane places closing m ∷ h) legal i low found = stays_deleted s h (Began lane places closing m) i (found_deleted s h legal.0 i low found)

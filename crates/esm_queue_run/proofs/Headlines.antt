@@ -31,6 +31,7 @@ use Rattle.esm_queue_run.specs.Headline.{CrashKept, Headline, IsInHand, JournalK
 use Rattle.esm_queue_run.specs.Laws.{AreLaws}
 use Rattle.esm_queue_run.specs.Runs.{IsLeft}
 use Rattle.esm_queue_run.proofs.Earned.{only_earned}
+use Rattle.esm_queue_run.proofs.Recorded.{recorded}
 
 -- the devices are those of the book, and the failure file is as it was opened
 pub record AreOf {D F : Type 0} (f : FilesState D) (b : BookState D) (new : Devices D F) : Type 0 where
@@ -172,6 +173,7 @@ headline {D} t f b new laws left of given = record {
   failures_read = subst (λ (d : D). IsOnlyRead t.disk f.failures d) (sym of.failures) left.files.lines_read;
   only_earned = only_earned b.core.setting b.core.past left.legal;
   replies_are_logged = replies_logged t b.core.setting b.core.past laws;
+  deletions_are_recorded = recorded f b.core.setting b.core.past laws left.legal left.valid left.few left.files.tells left.deletions;
   deleted_once = laws.once b.core.setting b.core.past left.legal;
   order_per_group = laws.order b.core.setting b.core.past left.legal;
   every_message_counted = laws.counted b.core.setting b.core.past left.legal;

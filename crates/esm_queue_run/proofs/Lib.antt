@@ -3,5 +3,7 @@ pub mod Deletions
 pub mod Earned
 pub mod Headlines
 pub mod Messages
+pub mod Recorded
+pub mod Saying
 pub mod Unbegun
 pub mod Ways

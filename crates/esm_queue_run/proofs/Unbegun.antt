@@ -1,12 +1,14 @@
 -- A run that want of memory stopped before it began.
-use Rattle.std.proofs.Common.{◌≡◌, ℕ, false, List, [], Option, None, inl, refl, subst, sym}
+use Rattle.std.proofs.Common.{◌≡◌, ℕ, false, List, [], Option, None, arith, inl, refl, subst, sym}
 use Rattle.std.specs.Prelude.{slice_index_or}
 use Rattle.std.proofs.lemmas.List.{append-nil}
+use Rattle.std.proofs.lemmas.List.Elements.{All-nil}
 use Rattle.esm_io.specs.Meanings.{DiskMeaning}
 use Rattle.esm_io.specs.Told.{Grows}
 use Rattle.esm_journal.specs.File.{header_of}
 use Rattle.esm_journal.specs.Pair.{PairOpensTo, first_disk, second_disk}
 use Rattle.esm_model.specs.declared.config.Config.{Config}
+use Rattle.esm_model.specs.ValidMessage.{IsValidMessage}
 use Rattle.esm_queue_core.specs.CoreView.{new_setting, new_view}
 use Rattle.esm_input.specs.Positions.{from_start}
 use Rattle.esm_input.specs.Reading.{items_read}
@@ -42,6 +44,9 @@ left_new m config calls visibility f none files = record {
   legal = tt;
   settled = λ up. record { sorted = refl; paid = λ lane. refl };
   came = refl;
+  deletions = refl;
+  valid = All-nil (IsValidMessage config.kind);
+  few = omega arith;
   journal = record { payloads = sym (append-nil f.pair.payloads); down = files.up; found_up = files.up; epoch = refl; swapped = refl; spare = refl; honesty = refl };
   since = leaves_all m config calls visibility f none files;
   pair_kept = files.kept;

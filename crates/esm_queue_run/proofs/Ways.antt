@@ -1,5 +1,5 @@
 -- How a run ended, from how its batchers did.
-use Rattle.std.proofs.Common.{◌≡◌, ◌∙◌, ℕ, Bool, false, List, [], ◌++◌, length, Result, Ok, Err, Option, Some, None, ap, inl, refl, subst, sym}
+use Rattle.std.proofs.Common.{◌≡◌, ◌∙◌, ◌<◌, ◌^◌, ℕ, Bool, false, List, [], ◌++◌, length, Result, Ok, Err, Option, Some, None, ap, inl, refl, subst, sym}
 use Rattle.std.specs.Prelude.{IfOk, OnErr, OnOk}
 use Rattle.std.proofs.lemmas.List.{append-nil}
 use Rattle.esm_io.specs.Faults.{Rose}
@@ -37,6 +37,7 @@ use Rattle.esm_queue_run.specs.declared.run.QueueEnd.TheVariants as end
 use Rattle.esm_queue_run.proofs.Earned.{all_earned}
 use Rattle.esm_queue_run.specs.Laws.{AreLaws}
 use Rattle.esm_queue_run.proofs.Headlines.{AreOf, disk_rose, headline}
+use Rattle.esm_queue_run.proofs.Messages.{some_few}
 
 -- what the book had at its opening
 pub record StoodSo {D : Type 0} (config : Config) (calls visibility : ℕ) (f : FilesState D) (before : BookState D) : Type 0 where
@@ -221,6 +222,28 @@ stopped_by t faults left_in config calls visibility f old i callers before b new
     let stop = come.stopped in
     stopped t left_in config calls visibility f old i callers before b new laws stood left of cause made stop.opened (headline t f b new laws left of stop.moments) come.cut stop.calls_made
     (record { untouched = stop.untouched; no_calls = stop.no_calls })
+
+-- what came
+
+-- the found deletions are those that the journal told of
+pub deletions_found : {S D F : Type 0} (t : Telling D F) (faults : S → ℕ) (left_in : S → Option (List ℕ)) (config : Config) (calls visibility : ℕ) (f : FilesState D) (before b : BookState D) (i : InputState S) (callers new_callers : List F)
+    → (r : Result RunEnd OutOfMemory) → StoodSo config calls visibility f before → HasCome t faults left_in before b i callers new_callers r → b.core.setting.deletions ≡ f.said.deletions
+deletions_found t faults left_in config calls visibility f before b i callers new_callers (Ok r) stood come =
+    ap (λ (s : QueueSetting). s.deletions) (opened_so config calls visibility f before b stood come.run.opened)
+deletions_found t faults left_in config calls visibility f before b i callers new_callers (Err none) stood come =
+    ap (λ (s : QueueSetting). s.deletions) (opened_so config calls visibility f before b stood come.stopped.opened)
+
+-- the messages are as few as an input hands out
+few_within : {S D : Type 0} (i : InputState S) (b : BookState D) (whole : Bool) (bytes : List ℕ) → AreLaws → SomeCame b (messages_in_items (from_start i.start (items_read i.kind i.factor whole bytes).items))
+    → length b.core.setting.messages < 2 ^ 32
+few_within i b whole bytes laws came =
+    let items = from_start i.start (items_read i.kind i.factor whole bytes).items in
+    some_few b items came (laws.within i.kind i.factor i.start whole bytes items [] (sym (append-nil items))).few
+
+pub few_so : {S D F : Type 0} (t : Telling D F) (faults : S → ℕ) (left_in : S → Option (List ℕ)) (before b : BookState D) (i : InputState S) (callers new_callers : List F) (r : Result RunEnd OutOfMemory)
+    → AreLaws → HasCome t faults left_in before b i callers new_callers r → length b.core.setting.messages < 2 ^ 32
+few_so t faults left_in before b i callers new_callers (Ok r) laws come = few_within i b i.whole i.bytes laws (some_came i b r come.came)
+few_so t faults left_in before b i callers new_callers (Err none) laws come = few_within i b come.cut.whole come.cut.bytes laws come.cut.came
 
 -- what a run leaves as it was
 

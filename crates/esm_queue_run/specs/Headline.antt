@@ -1,5 +1,5 @@
 -- The headline of a queue: what a run of its mapping leaves. This product's own.
-use Rattle.std.specs.Prelude.{◌≡◌, ◌<◌, ◌≤◌, ◌∷◌, ◌++◌, ℕ, List, [], length, slice_index_or, Option, Some, reverse}
+use Rattle.std.specs.Prelude.{◌≡◌, ◌<◌, ◌≤◌, ◌∷◌, ◌++◌, ℕ, List, [], length, slice_index_or, Option, Some, is_some, option_map, reverse}
 use Rattle.esm_io.specs.Told.{Grows}
 use Rattle.esm_journal.specs.Reads.{IsOnlyRead}
 use Rattle.esm_model.specs.declared.config.Config.{Config}
@@ -12,11 +12,14 @@ use Rattle.esm_model.specs.declared.called.Called.{Called}
 use Rattle.esm_model.specs.declared.book.Trouble.{Trouble}
 use Rattle.esm_model.specs.declared.book.Trouble.TheVariants.{Disk}
 use Rattle.esm_queue_model.specs.QueueSetting.{QueueSetting, ExtendsMessages, over_messages}
-use Rattle.esm_queue_model.specs.QueueEntries.{queue_count}
+use Rattle.esm_queue_model.specs.QueueEntries.{queue_count, is_deleted, deletion_fate}
 use Rattle.esm_queue_model.specs.QueueBatch.{queue_calls, last_queue_event}
 use Rattle.esm_queue_model.specs.QueueStep.{LegalQueue}
 use Rattle.esm_queue_model.specs.HistoryLaws.{DeletedOnce, OrderPerGroup, EveryMessageCounted}
 use Rattle.esm_queue_core.specs.CoreView.{new_setting}
+use Rattle.esm_payload.specs.declared.said.Said.{Said}
+use Rattle.esm_said.specs.declared.kept.KeptFate.{KeptFate}
+use Rattle.esm_said.specs.Meaning.{deletion_said, history}
 use Rattle.esm_said.specs.SaidLists.{SaidLists}
 use Rattle.esm_upkeep.specs.Upkeep.{AreHonest, AreSettled, PairHolds}
 use Rattle.esm_qbook.specs.Books.{payloads_in, OpensToFirst}
@@ -67,6 +70,16 @@ CrashKept t f s h hand new =
     t.disk.since new.journal (t.disk.moment f.journal) one → t.disk.since new.spare (t.disk.moment f.spare) other →
     OpensToFirst f.pair.epoch f.pair.payloads (payloads_in s.messages (reverse h ++ hand)) one other
 
+-- what the journal's content says after the history: the old payloads followed by those of the history, the newest first
+abbrev pub said_after : {D : Type 0} → FilesState D → QueueSetting → List Entry → List Said
+said_after f s h = history (reverse (f.pair.payloads ++ payloads_in s.messages (reverse h)))
+
+-- By the journal's content each place has the fate of its deletion after the history, found or given, and none where it has
+-- none; and a message that came is deleted exactly where the content says so.
+pub record DeletionsAreRecorded {D : Type 0} (f : FilesState D) (s : QueueSetting) (h : List Entry) : Type 0 where
+  pub fates : (i : ℕ) → option_map (λ (k : KeptFate). k.fate) (deletion_said (said_after f s h) i) ≡ deletion_fate s h i
+  pub deleted : (i : ℕ) → i < queue_count h → is_some (deletion_said (said_after f s h) i) ≡ is_deleted s h i
+
 -- each reply is the one that stands with its event among the calls of its batcher, by which the log of that caller grew
 abbrev pub RepliesAreLogged : {D F : Type 0} → Telling D F → QueueSetting → List Entry → Type 0
 RepliesAreLogged t s h =
@@ -98,6 +111,8 @@ pub record Headline {D F : Type 0} (t : Telling D F) (f : FilesState D) (s : Que
   pub only_earned : DeletedOnlyEarned s h
   -- and the reply that counts it stands in the log of its batcher's caller
   pub replies_are_logged : RepliesAreLogged t s h
+  -- each deletion is recorded: it stands in the journal's content with its fate, and no other does
+  pub deletions_are_recorded : DeletionsAreRecorded f s h
   -- no message is deleted twice, and none that was found deleted
   pub deleted_once : DeletedOnce s h
   -- of a FIFO queue no batch overtakes an earlier message of one of its groups

@@ -1,5 +1,6 @@
 -- A run that is to begin, how it came to its end, and what it leaves. Only this crate's proofs cite this.
-use Rattle.std.specs.Prelude.{◌≡◌, ℕ, true, false, List, [], Result, Ok, Err, Option, Some, None, IsSome, length, reverse}
+use Rattle.std.specs.Prelude.{◌≡◌, ◌<◌, ◌^◌, ℕ, true, false, List, [], Result, Ok, Err, Option, Some, None, IsSome, length, reverse}
+use Rattle.std.specs.List.{All}
 use Rattle.esm_io.specs.Images.{Only}
 use Rattle.esm_io.specs.Meanings.{DiskMeaning}
 use Rattle.esm_journal.specs.Pair.{PairState, PairKeepsWhileUp, first_disk, second_disk}
@@ -10,6 +11,7 @@ use Rattle.esm_model.specs.declared.book.Trouble.TheVariants as trouble
 use Rattle.esm_model.specs.declared.book.Change.{Change}
 use Rattle.esm_model.specs.declared.config.Config.{Config}
 use Rattle.esm_model.specs.declared.memory.OutOfMemory.{OutOfMemory}
+use Rattle.esm_model.specs.ValidMessage.{IsValidMessage}
 use Rattle.esm_book.specs.State.{in_hand}
 use Rattle.esm_queue_model.specs.QueueStep.{LegalQueue, SettledQueue}
 use Rattle.esm_queue_model.specs.QueueEntries.{queue_count}
@@ -93,6 +95,10 @@ pub record IsLeft {D : Type 0} (m : DiskMeaning D) (f : FilesState D) (b : BookS
   pub legal : LegalQueue b.core.setting b.core.past
   pub settled : b.trouble ≡ None → SettledQueue b.core.setting b.core.past
   pub came : queue_count b.core.past ≡ length b.core.setting.messages
+  -- the found deletions are those that the journal told of; the messages that came are valid, and their places have four bytes
+  pub deletions : b.core.setting.deletions ≡ f.said.deletions
+  pub valid : All (IsValidMessage b.core.setting.config.kind) b.core.setting.messages
+  pub few : length b.core.setting.messages < 2 ^ 32
   pub journal : HasJournal m b
   pub since : LeavesSince m f b
   pub pair_kept : PairKeepsWhileUp m b.pair

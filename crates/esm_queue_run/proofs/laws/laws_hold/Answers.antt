@@ -7,4 +7,6 @@ returns c = record {
   counted = c.every_message_counted.ensures;
   more = c.legal_over_more.ensures;
   calls = c.queue_calls_kept.ensures;
+  again = c.read_again.ensures;
+  within = c.handed_is_within.ensures;
 }

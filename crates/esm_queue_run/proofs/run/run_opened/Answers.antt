@@ -1,5 +1,6 @@
 use Rattle.std.proofs.Common.{◌≡◌, ◌∙◌, List, Option, subst, sym}
 use Rattle.std.specs.Prelude.{IfOk, OnErr, reverse}
+use Rattle.std.specs.List.{All}
 use Rattle.std.specs.Option.{option_copied}
 use Rattle.std.proofs.lemmas.List.{reverse-reverse}
 use Rattle.std.proofs.lemmas.Result.{IfOk-weaker, on_err_weaker}
@@ -9,10 +10,12 @@ use Rattle.esm_journal.specs.Reads.{IsOnlyRead}
 use Rattle.esm_model.specs.declared.entry.Entry.{Entry}
 use Rattle.esm_model.specs.declared.book.Trouble.{Trouble}
 use Rattle.esm_model.specs.Entries.{CallsFollowShut}
+use Rattle.esm_model.specs.ValidMessage.{IsValidMessage}
 use Rattle.esm_input.specs.declared.ending.InputEnd.{InputEnd}
 use Rattle.esm_input.specs.Reading.{InputState}
 use Rattle.esm_qbook.specs.Books.{BookState}
 use Rattle.esm_queue_core.specs.CoreView.{all_messages}
+use Rattle.esm_queue_core.specs.Told.{told_of}
 use Rattle.esm_batchers.specs.Working.{outside}
 use Rattle.esm_stream.specs.Files.{FilesState}
 use Rattle.esm_stream.specs.Headline.{Devices, Telling, telling}
@@ -21,8 +24,8 @@ use Rattle.esm_queue_run.specs.Runs.{EndsBy, IsLeft, files_of, HasReason, IsOfQu
 use Rattle.esm_queue_run.specs.declared.run.QueueEnd.{QueueEnd}
 use Rattle.esm_queue_run.specs.Laws.{AreLaws}
 use Rattle.esm_queue_run.proofs.Headlines.{AreOf}
-use Rattle.esm_queue_run.proofs.Messages.{came_all}
-use Rattle.esm_queue_run.proofs.Ways.{HasCome, IsMadeFor, StoodSo, ended_by, found_ran, found_stays, made_for, of_queue, reason_of, stopped_by}
+use Rattle.esm_queue_run.proofs.Messages.{came_all, valid_told}
+use Rattle.esm_queue_run.proofs.Ways.{HasCome, IsMadeFor, StoodSo, deletions_found, ended_by, few_so, found_ran, found_stays, made_for, of_queue, reason_of, stopped_by}
 use Rattle.esm_queue_run.proofs.run.run_opened.Goals as goal
 
 pub returns : goal.returns
@@ -52,12 +55,16 @@ returns g c =
       cut = c.run_queue-ran.ensures.cut;
     } in
     let stays = found_stays t g.S.Source.faults g.S.Source.left before b i callers new.callers ran come in
+    let stood : StoodSo config calls visibility files before = record { core = c.requires.begun.core } in
     let left : IsLeft m files b = record {
       files = c.requires.files;
       found = stays.0 ∙ c.requires.begun.found;
       legal = sound.legal;
       settled = sound.settled;
       came = came_all b.core.setting (all_messages b.core) b.core.past sound.legal sound.messages;
+      deletions = deletions_found t g.S.Source.faults g.S.Source.left config calls visibility files before b i callers new.callers ran stood come;
+      valid = subst (All (IsValidMessage b.core.setting.config.kind)) (sym sound.messages) (valid_told b.core.setting.config.kind (told_of b.core) sound.of_queue);
+      few = few_so t g.S.Source.faults g.S.Source.left before b i callers new.callers ran laws come;
       journal = c.trouble.ensures.journal;
       since = c.since_before.ensures;
       pair_kept = c.trouble.ensures.kept;
@@ -72,7 +79,6 @@ returns g c =
       failures = c.closed.ensures.failures;
     } in
     let made : IsMadeFor config c.args.run.input.source i = made_for config c.args.run.input.source c.args.run.input i c.requires.begun.input c.run_queue-ran.ensures.input in
-    let stood : StoodSo config calls visibility files before = record { core = c.requires.begun.core } in
     let trace : reverse out.trace.items ≡ b.core.past = rw (c.closed.ensures.trace, c.into_parts-history.ensures.history) (reverse-reverse b.core.past) in
     let source : out.input ≡ i.source = c.closed.ensures.input ∙ c.into_parts-source.ensures.source in
     let P : QueueEnd → Type 0 = HasEnded t g.S.Source.faults g.S.Source.left config calls visibility files c.args.run.input.source out.input callers (reverse out.trace.items) new in
