@@ -36,7 +36,7 @@ use Rattle.esm_sbook.specs.Books.{BookState, is_down}
 use Rattle.esm_sbook.specs.Calls.{Added, AddedAll, AddedSome, AddedOne, IsSame}
 use Rattle.esm_sbook.specs.Keeping.{IsSound}
 use Rattle.esm_pooled.specs.GoingOn.{AllAt}
-use Rattle.esm_pool.specs.declared.coming.Stop.TheVariants.{Down}
+use Rattle.esm_pool.specs.declared.rounds.Stop.TheVariants.{Down}
 use Rattle.esm_pool.specs.Taking.{AreReaders, IsBrought, come_by, AreAdded, SomeAdded, IsOfNext, IsStopFor}
 use Rattle.esm_pool.proofs.Moments.{again}
 use Rattle.esm_pool.proofs.Quiet.{one_more}

@@ -12,8 +12,8 @@ use Rattle.esm_record.specs.Input.{IsValidItem}
 use Rattle.esm_record.specs.declared.item.LineKind.TheVariants as kinds
 use Rattle.esm_arrival.specs.Coming.{of_shard}
 use Rattle.esm_pool.specs.Coming.{records_in_items}
-use Rattle.esm_pool.specs.declared.coming.Stop.{Stop}
-use Rattle.esm_pool.specs.declared.coming.Stop.TheVariants.{Down, OutOfMemory}
+use Rattle.esm_pool.specs.declared.rounds.Stop.{Stop}
+use Rattle.esm_pool.specs.declared.rounds.Stop.TheVariants.{Down, OutOfMemory}
 use Rattle.esm_pool.specs.Taking.{AreAdded, SomeAdded, IsStopFor}
 
 pub items_both : (xs ys : List Item) → records_in_items (xs ++ ys) ≡ records_in_items xs ++ records_in_items ys

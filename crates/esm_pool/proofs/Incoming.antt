@@ -12,8 +12,8 @@ use Rattle.esm_record.specs.declared.item.LineKind.{LineKind}
 use Rattle.esm_arrival.specs.Coming.{of_shard}
 use Rattle.esm_input.specs.Positions.{from_start}
 use Rattle.esm_input.specs.Reading.{InputState, IsInput, items_read, handed}
-use Rattle.esm_pool.specs.declared.coming.Stop.{Stop}
-use Rattle.esm_pool.specs.declared.coming.Stop.TheVariants.{Down, OutOfMemory}
+use Rattle.esm_pool.specs.declared.rounds.Stop.{Stop}
+use Rattle.esm_pool.specs.declared.rounds.Stop.TheVariants.{Down, OutOfMemory}
 use Rattle.esm_pool.specs.Coming.{records_in_items}
 use Rattle.esm_pool.specs.Taking.{come_by, AreAdded, SomeAdded, IsStopFor}
 use Rattle.esm_pool.specs.Readings.{AreTold, SomeTold, IsReadShort, IsStopOf}

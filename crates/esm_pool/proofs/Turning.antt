@@ -14,8 +14,8 @@ use Rattle.esm_batchers.specs.Seated.{IsSeated}
 use Rattle.esm_core.specs.Told.{told_of}
 use Rattle.esm_sbook.specs.Books.{BookState, setup_of, is_down}
 use Rattle.esm_sbook.specs.Keeping.{IsSetupOf}
-use Rattle.esm_pool.specs.declared.coming.Stop.{Stop}
-use Rattle.esm_pool.specs.declared.coming.Stop.TheVariants.{Down, OutOfMemory}
+use Rattle.esm_pool.specs.declared.rounds.Stop.{Stop}
+use Rattle.esm_pool.specs.declared.rounds.Stop.TheVariants.{Down, OutOfMemory}
 use Rattle.esm_pool.specs.Taking.{IsBrought, come_by, AreAdded, SomeAdded, IsStopFor}
 use Rattle.esm_pool.proofs.Seats.{added_is, may_rest, others_since, IsAfter, seated_after}
 use Rattle.esm_pool.proofs.Owners.{same_records, still_open, none_came, none_shut, readers_own}

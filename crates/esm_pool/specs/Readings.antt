@@ -13,8 +13,8 @@ use Rattle.esm_input.specs.Positions.{from_start}
 use Rattle.esm_input.specs.Reading.{InputState, IsInput, items_read, handed}
 use Rattle.esm_pool.specs.Coming.{records_in_items}
 use Rattle.esm_pool.specs.Ran.{IsOfRecord}
-use Rattle.esm_pool.specs.declared.coming.Stop.{Stop}
-use Rattle.esm_pool.specs.declared.coming.Stop.TheVariants.{Down, OutOfMemory}
+use Rattle.esm_pool.specs.declared.rounds.Stop.{Stop}
+use Rattle.esm_pool.specs.declared.rounds.Stop.TheVariants.{Down, OutOfMemory}
 
 -- a stream's input of which nothing was read, and no change is kept
 pub record IsUnread {S : Type 0} (i : InputState S) (changed : Option Change) : Type 0 where

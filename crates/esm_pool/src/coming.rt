@@ -16,32 +16,14 @@ ghost use Rattle.esm_pool.specs.Coming.{records_in_items};
 ghost use Rattle.esm_pool.specs.Taking.{IsBrought, come_by, AreAdded, SomeAdded, IsStopFor};
 
 use crate::batchers::know;
+use crate::rounds::Stop;
 use esm_io::{Clock, Dest, Disk};
-use esm_model::{CameError, Change, MAX_BATCH, OutOfMemory, Record};
+use esm_model::{CameError, MAX_BATCH, Record};
 use esm_record::Item;
 use esm_sbook::Book;
 use esm_turn::{Held, Seat, Turn};
 use std::alloc::Global;
 use std::sync::Wait;
-
-/// Why the reader hands on no more, though there is more to read.
-#[derive(Drop, Debug)]
-pub(crate) enum Stop {
-    /// The book is down; where the reader's own list brought a change, this is it.
-    Down(Option<Change>),
-    OutOfMemory,
-}
-
-impl From<OutOfMemory> for Stop {
-    ghost use Rattle.std.specs.Prelude.{◌≡◌};
-    ghost use Rattle.esm_pool.specs.declared.coming.Stop.{Stop};
-
-    ghost from_gives = { λ _ e. e ≡ Stop.OutOfMemory };
-
-    fn from(_: OutOfMemory) -> Stop {
-        Stop::OutOfMemory
-    }
-}
 
 /// The record of a stream's item.
 fn record_of(item: Item) -> Record

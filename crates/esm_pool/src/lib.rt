@@ -5,6 +5,7 @@
 mod batchers;
 mod coming;
 mod reader;
+pub mod rounds;
 mod running;
 
 pub use running::{Ran, RunEnd, run_lanes};

@@ -8,7 +8,8 @@ ghost use Rattle.esm_batchers.specs.Seated.{IsSeated};
 ghost use Rattle.esm_pool.specs.Coming.{records_in_items};
 ghost use Rattle.esm_pool.specs.Readings.{IsSameInput, AreTold, SomeTold, IsStopOf};
 
-use crate::coming::{Stop, hand_on, note_end};
+use crate::coming::{hand_on, note_end};
+use crate::rounds::Stop;
 use esm_hands::Reading;
 use esm_input::Input;
 use esm_io::{Clock, Dest, Disk, Source};

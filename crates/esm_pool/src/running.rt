@@ -12,8 +12,9 @@ ghost use Rattle.esm_pool.specs.Readings.{IsUnread};
 ghost use Rattle.esm_pool.specs.Ran.{HasRun, HasStopped, EndsSo, CameSo, IsCutInput};
 ghost use Rattle.esm_pool.specs.Left.{IsLeft, IsKnown, EndsWith};
 
-use crate::batchers::{Halt, know, run_rounds};
+use crate::batchers::{know, run_rounds};
 use crate::reader::Reader;
+use crate::rounds::Halt;
 use esm_hands::run_hands;
 use esm_input::Input;
 use esm_input::laws::handed_is_within;

@@ -1,5 +1,5 @@
 use Rattle.std.proofs.Common.{◌≡◌, ap, rules, subst, length, arith}
-use Rattle.esm_pool.specs.declared.batchers.Round.{Round}
+use Rattle.esm_pool.specs.declared.rounds.Round.{Round}
 use Rattle.esm_batchers.specs.Working.{outside}
 use Rattle.esm_pool.specs.Running.{AreQuiet}
 use Rattle.esm_pool.proofs.Asking.{have_none, have_one, have_then, quiet_none, quiet_more}

@@ -1,7 +1,7 @@
 use Rattle.std.proofs.Common.{◌∙◌, ap, refl}
 use Rattle.esm_input.specs.Reading.{handed, InputState}
 use Rattle.esm_pool.proofs.Incoming.{come_none, come_more, come_some, come_stop, cut_coming, cut_reading}
-use Rattle.esm_pool.specs.declared.coming.Stop.TheVariants as stop
+use Rattle.esm_pool.specs.declared.rounds.Stop.TheVariants as stop
 use Rattle.esm_pool.specs.Readings.{IsStopOf}
 use Rattle.esm_pool.proofs.Turning.{unused_none, unused_open, err_as}
 use Rattle.esm_pool.proofs.reader.read_on.Goals as goal
