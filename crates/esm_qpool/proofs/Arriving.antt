@@ -29,7 +29,7 @@ use Rattle.esm_qbook.specs.Calls.{Added, AddedAll, AddedSome, AddedOne, IsSame}
 use Rattle.esm_qbook.specs.Keeping.{IsSound}
 use Rattle.esm_pool.proofs.Moments.{again}
 use Rattle.esm_pool.proofs.Quiet.{one_more}
-use Rattle.esm_qpool.specs.declared.coming.Stop.TheVariants.{Down}
+use Rattle.esm_pool.specs.declared.rounds.Stop.TheVariants.{Down}
 use Rattle.esm_qpool.specs.Taking.{AreReaders, IsBrought, AreAdded, SomeAdded, IsOfNext, IsStopFor}
 use Rattle.esm_qpool.proofs.Kept.{others_gave, told_none}
 

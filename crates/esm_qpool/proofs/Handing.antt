@@ -14,8 +14,8 @@ use Rattle.esm_record.specs.declared.item.Item.{Item}
 use Rattle.esm_record.specs.declared.item.Item.TheVariants.{Stream, Queue}
 use Rattle.esm_record.specs.Input.{IsValidItem, queue_kind}
 use Rattle.esm_record.specs.declared.item.LineKind.TheVariants as kinds
-use Rattle.esm_qpool.specs.declared.coming.Stop.{Stop}
-use Rattle.esm_qpool.specs.declared.coming.Stop.TheVariants.{Down, OutOfMemory}
+use Rattle.esm_pool.specs.declared.rounds.Stop.{Stop}
+use Rattle.esm_pool.specs.declared.rounds.Stop.TheVariants.{Down, OutOfMemory}
 use Rattle.esm_qpool.specs.Coming.{IsMessage, messages_in_items}
 use Rattle.esm_qpool.specs.Taking.{AreAdded, SomeAdded, IsStopFor}
 

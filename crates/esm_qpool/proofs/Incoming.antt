@@ -12,8 +12,8 @@ use Rattle.esm_queue_model.specs.QueueBooks.{messages_told}
 use Rattle.esm_input.specs.Positions.{from_start}
 use Rattle.esm_input.specs.Reading.{InputState, IsInput, items_read, handed}
 use Rattle.esm_input.specs.Within.{HandedWithin}
-use Rattle.esm_qpool.specs.declared.coming.Stop.{Stop}
-use Rattle.esm_qpool.specs.declared.coming.Stop.TheVariants.{Down, OutOfMemory}
+use Rattle.esm_pool.specs.declared.rounds.Stop.{Stop}
+use Rattle.esm_pool.specs.declared.rounds.Stop.TheVariants.{Down, OutOfMemory}
 use Rattle.esm_qpool.specs.Coming.{messages_in_items}
 use Rattle.esm_qpool.specs.Taking.{AreAdded, SomeAdded, IsStopFor}
 use Rattle.esm_qpool.specs.Readings.{AreTold, SomeTold, IsReadShort, IsStopOf}

@@ -16,8 +16,8 @@ use Rattle.esm_queue_model.specs.QueueBooks.{messages_told, queue_author, queue_
 use Rattle.esm_queue_core.specs.Told.{told_of}
 use Rattle.esm_qbook.specs.Books.{BookState, setup_of, is_down}
 use Rattle.esm_qbook.specs.Keeping.{IsSetupOf}
-use Rattle.esm_qpool.specs.declared.coming.Stop.{Stop}
-use Rattle.esm_qpool.specs.declared.coming.Stop.TheVariants.{Down, OutOfMemory}
+use Rattle.esm_pool.specs.declared.rounds.Stop.{Stop}
+use Rattle.esm_pool.specs.declared.rounds.Stop.TheVariants.{Down, OutOfMemory}
 use Rattle.esm_qpool.specs.Taking.{IsBrought, AreAdded, SomeAdded, IsStopFor}
 use Rattle.esm_pool.proofs.Seats.{added_is, may_rest, others_since, IsAfter, seated_after}
 use Rattle.esm_qpool.proofs.Owners.{same_messages, still_open, none_came, none_shut, readers_own}

@@ -16,8 +16,8 @@ use Rattle.esm_input.specs.Positions.{from_start}
 use Rattle.esm_input.specs.Reading.{InputState, IsInput, items_read, handed}
 use Rattle.esm_qpool.specs.Coming.{messages_in_items}
 use Rattle.esm_qpool.specs.Ran.{IsOfMessage}
-use Rattle.esm_qpool.specs.declared.coming.Stop.{Stop}
-use Rattle.esm_qpool.specs.declared.coming.Stop.TheVariants.{Down, OutOfMemory}
+use Rattle.esm_pool.specs.declared.rounds.Stop.{Stop}
+use Rattle.esm_pool.specs.declared.rounds.Stop.TheVariants.{Down, OutOfMemory}
 
 -- the input of a queue of the kind, of which nothing was read, and no change is kept
 pub record IsUnread {S : Type 0} (kind : Kind) (i : InputState S) (changed : Option Change) : Type 0 where

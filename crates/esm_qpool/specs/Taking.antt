@@ -9,8 +9,8 @@ use Rattle.esm_pooled.specs.GoingOn.{AllAt}
 use Rattle.esm_queue_model.specs.QueueSetting.{over_messages}
 use Rattle.esm_queue_core.specs.Told.{told_of}
 use Rattle.esm_qbook.specs.Books.{BookState, is_down}
-use Rattle.esm_qpool.specs.declared.coming.Stop.{Stop}
-use Rattle.esm_qpool.specs.declared.coming.Stop.TheVariants.{Down, OutOfMemory}
+use Rattle.esm_pool.specs.declared.rounds.Stop.{Stop}
+use Rattle.esm_pool.specs.declared.rounds.Stop.TheVariants.{Down, OutOfMemory}
 
 -- none of them is a batcher's
 abbrev pub AreReaders : List Told → Type 0

@@ -1,86 +1,19 @@
 // Asking the batchers of a queue's book, in turn.
-ghost use Rattle.std.specs.Prelude.{◌≡◌, ◌<◌, ◌≤◌, ◌⊎◌, ℕ, length, IfOk, IsErrOf, None, true, false, IsSome};
+ghost use Rattle.std.specs.Prelude.{◌≡◌, ◌<◌, ◌≤◌, ℕ, length, IfOk, IsErrOf, None, true, false, IsSome};
 ghost use Rattle.esm_queue_core.specs.CoreView.{IsRunningJob};
 ghost use Rattle.esm_qbook.specs.Keeping.{IsSound};
 ghost use Rattle.esm_batchers.specs.Working.{outside};
 ghost use Rattle.esm_pool.specs.Running.{NoneRuns, IsFault};
 ghost use Rattle.esm_pool.specs.Stopping.{MayHaveCalled};
-ghost use Rattle.esm_qpool.specs.declared.batchers.Halt.TheVariants as halt;
 ghost use Rattle.esm_qpool.specs.Running.{HasCalled, IsStill, HasAsked, HaveAsked, HasFinished, IsSpent, IsQuiet, AreQuiet};
 ghost use Rattle.esm_qpool.specs.Stopping.{IsStoppedAt, AreStopped};
 
 use esm_io::{Caller, Clock, Disk};
-use esm_model::{BookError, Job, Next, OutOfMemory};
+use esm_model::{BookError, Job, Next};
+use esm_pool::rounds::{Halt, Round, refreshed};
 use esm_qbook::QueueBook;
 use std::alloc::Global;
 use std::sync::Wait;
-
-/// Why batchers are asked no more, though there is more to do.
-#[derive(Clone, Copy, Debug, PartialEq, Eq)]
-pub(crate) enum Halt {
-    /// The book is down.
-    Down,
-    OutOfMemory,
-}
-
-impl From<OutOfMemory> for Halt {
-    ghost from_gives = { λ _ e. e ≡ halt.OutOfMemory };
-
-    fn from(_: OutOfMemory) -> Halt
-        ensures { result ≡ Halt.OutOfMemory }
-    {
-        Halt::OutOfMemory
-    }
-}
-
-/// What came of asking batchers.
-#[derive(Clone, Copy, Debug, PartialEq, Eq)]
-pub(crate) struct Round {
-    /// A call was made.
-    pub(crate) worked: bool,
-    /// The least moment until which a batcher pauses.
-    pub(crate) until: Option<u64>,
-    /// A batcher wants a call, and all calls allowed were made.
-    pub(crate) spent: bool,
-}
-
-impl Round {
-    /// Nothing was done, and nothing is left to do.
-    fn quiet() -> Round
-        ensures { result ≡ record { worked = false; until = None; spent = false } }
-    {
-        Round {
-            worked: false,
-            until: None,
-            spent: false,
-        }
-    }
-
-    /// With what came of asking one more batcher.
-    fn with(self, one: Round) -> Round
-        ensures worked { result.worked ≡ false → (self.worked ≡ false) × (one.worked ≡ false) }
-        ensures until { result.until ≡ None → (self.until ≡ None) × (one.until ≡ None) }
-        ensures unspent { result.spent ≡ false → (self.spent ≡ false) × (one.spent ≡ false) }
-        ensures spent { result.spent ≡ true → (self.spent ≡ true) ⊎ (one.spent ≡ true) }
-    {
-        Round {
-            worked: self.worked || one.worked,
-            until: earlier(self.until, one.until),
-            spent: self.spent || one.spent,
-        }
-    }
-}
-
-/// The lesser of two moments, where there are any.
-fn earlier(a: Option<u64>, b: Option<u64>) -> Option<u64>
-    ensures { result ≡ None → (a ≡ None) × (b ≡ None) }
-{
-    match (a, b) {
-        (Some(x), Some(y)) => Some(x.min(y)),
-        (Some(x), None) => Some(x),
-        (None, y) => y,
-    }
-}
 
 /// Tells what holds of every book.
 pub(crate) fn know<D: Disk>(book: &QueueBook<D>)
@@ -175,14 +108,6 @@ fn ask<C: Clock, F: Caller, D: Disk>(
         Err(BookError::Down) => unreachable!(),
         Err(BookError::OutOfMemory) => Err(Halt::OutOfMemory),
     }
-}
-
-/// The moment, read anew where a batcher worked since.
-fn refreshed<C: Clock>(clock: &C, moment: u64, worked: bool) -> u64
-    requires { C.gave moment ≡ true }
-    ensures { C.gave result ≡ true }
-{
-    if worked { clock.now() } else { moment }
 }
 
 /// Asks each of so many batchers once, in rising order. The clock is read at the start and again after a batcher that

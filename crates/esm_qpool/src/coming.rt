@@ -20,31 +20,13 @@ ghost use Rattle.esm_qpool.specs.Taking.{IsBrought, AreAdded, SomeAdded, IsStopF
 
 use crate::batchers::know;
 use esm_io::{Clock, Disk};
-use esm_model::{CameError, Change, MAX_BATCH, Message, OutOfMemory};
+use esm_model::{CameError, MAX_BATCH, Message};
+use esm_pool::rounds::Stop;
 use esm_qbook::QueueBook;
 use esm_record::Item;
 use esm_turn::{Held, Seat, Turn};
 use std::alloc::Global;
 use std::sync::Wait;
-
-/// Why the reader hands on no more, though there is more to read.
-#[derive(Drop, Debug)]
-pub(crate) enum Stop {
-    /// The book is down; where the reader's own list brought a change, this is it.
-    Down(Option<Change>),
-    OutOfMemory,
-}
-
-impl From<OutOfMemory> for Stop {
-    ghost use Rattle.std.specs.Prelude.{◌≡◌};
-    ghost use Rattle.esm_qpool.specs.declared.coming.Stop.{Stop};
-
-    ghost from_gives = { λ _ e. e ≡ Stop.OutOfMemory };
-
-    fn from(_: OutOfMemory) -> Stop {
-        Stop::OutOfMemory
-    }
-}
 
 /// The message of a queue's item.
 fn message_of(item: Item) -> Message

@@ -11,12 +11,13 @@ ghost use Rattle.esm_queue_model.specs.QueueSetting.{is_fifo};
 ghost use Rattle.esm_qpool.specs.Coming.{messages_in_items};
 ghost use Rattle.esm_qpool.specs.Readings.{IsSameInput, AreTold, SomeTold, IsStopOf};
 
-use crate::coming::{Stop, hand_on, note_end};
+use crate::coming::{hand_on, note_end};
 use esm_hands::Reading;
 use esm_input::Input;
 use esm_input::laws::handed_is_within;
 use esm_io::{Clock, Disk, Source};
 use esm_model::{Change, OutOfMemory};
+use esm_pool::rounds::Stop;
 use esm_qbook::QueueBook;
 use esm_turn::{Seat, Turn};
 use std::alloc::Global;

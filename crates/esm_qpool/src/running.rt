@@ -15,12 +15,13 @@ ghost use Rattle.esm_qpool.specs.Readings.{IsUnread};
 ghost use Rattle.esm_qpool.specs.Ran.{HasRun, HasStopped, EndsSo, CameSo, IsCutInput};
 ghost use Rattle.esm_qpool.specs.Left.{IsLeft, IsKnown, EndsWith};
 
-use crate::batchers::{Halt, know, run_rounds};
+use crate::batchers::{know, run_rounds};
 use crate::reader::Reader;
 use esm_hands::run_hands;
 use esm_input::Input;
 use esm_io::{Caller, Clock, Disk, Source};
 use esm_model::{Change, OutOfMemory, Refused, Trouble};
+use esm_pool::rounds::Halt;
 use esm_qbook::QueueBook;
 use std::alloc::Global;
 use std::sync::Wait;

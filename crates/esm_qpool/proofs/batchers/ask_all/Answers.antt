@@ -1,6 +1,6 @@
 use Rattle.std.proofs.Common.{◌≡◌, ap, rules, subst, arith}
 use Rattle.esm_batchers.specs.Working.{outside}
-use Rattle.esm_qpool.specs.declared.batchers.Round.{Round}
+use Rattle.esm_pool.specs.declared.rounds.Round.{Round}
 use Rattle.esm_qpool.specs.Running.{AreQuiet}
 use Rattle.esm_qpool.proofs.Asking.{have_none, have_one, have_then, quiet_none, quiet_more}
 use Rattle.esm_qpool.proofs.Stops.{stopped_after, stopped_one}

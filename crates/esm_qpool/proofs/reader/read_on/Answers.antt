@@ -4,7 +4,7 @@ use Rattle.esm_record.specs.declared.item.LineKind.{LineKind}
 use Rattle.esm_record.specs.Input.{IsValidItem}
 use Rattle.esm_input.specs.Reading.{handed, InputState}
 use Rattle.esm_qpool.proofs.Incoming.{come_none, come_more, come_some, come_stop, few_come, cut_coming, cut_reading}
-use Rattle.esm_qpool.specs.declared.coming.Stop.TheVariants as stop
+use Rattle.esm_pool.specs.declared.rounds.Stop.TheVariants as stop
 use Rattle.esm_qpool.specs.Readings.{IsStopOf}
 use Rattle.esm_pool.proofs.Turning.{err_as}
 use Rattle.esm_qpool.proofs.Turning.{unused_none, unused_open}
