@@ -1,5 +1,6 @@
 -- The line of a history's messages is that of its report.
 use Rattle.std.proofs.Common.{◌≡◌, ℕ, List, ◌++◌, refl, sym, ap, ◌∙◌, append_assoc, get_or, Option, None}
+use Rattle.std.proofs.Math.Path.{fun_ext}
 use Rattle.std.specs.Prelude.{codes}
 use Rattle.std.specs.Option.{option_or}
 use Rattle.esm_model.specs.declared.entry.Fate.{Fate}
@@ -16,10 +17,6 @@ use Rattle.esm_queue_model.specs.QueueReport.{queue_text}
 use Rattle.esm_queue_report.specs.Counts.{AreGiven, told_fate, number_part, counts_text}
 use Rattle.esm_queue_report.proofs.Deleted.{deleted_are_fated}
 
--- functions that agree everywhere are equal
-agree : {A B : Type 0} (f g : A → B) → ((x : A) → f x ≡ g x) → f ≡ g
-agree f g same = λ i x. same x i
-
 -- a setting with the deletions that the journal told finds them
 fate_is : (said : SaidLists) (s : QueueSetting) (h : List Entry) (i : ℕ) → s.deletions ≡ said.deletions → deletion_fate s h i ≡ option_or (told_fate said i) (given h 0 i)
 fate_is said s h i same = rw same refl
@@ -30,8 +27,7 @@ fate_by said fates i = option_or (told_fate said i) (get_or fates i None)
 
 fates_agree : (said : SaidLists) (fates : List (Option Fate)) (s : QueueSetting) (h : List Entry) → s.deletions ≡ said.deletions → AreGiven fates h → fate_by said fates ≡ deletion_fate s h
 fates_agree said fates s h same are =
-    agree (fate_by said fates) (deletion_fate s h)
-    (λ i. ap (option_or (told_fate said i)) (are.at_each i) ∙ sym (fate_is said s h i same))
+    fun_ext (λ i. ap (option_or (told_fate said i)) (are.at_each i) ∙ sym (fate_is said s h i same))
 
 joined : (a b c d e f g : List ℕ) → a ++ (b ++ c) ++ (d ++ e) ++ (f ++ g) ≡ a ++ b ++ c ++ d ++ e ++ f ++ g
 joined a b c d e f g = simp append_assoc refl

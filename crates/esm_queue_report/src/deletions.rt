@@ -3,8 +3,8 @@ ghost use Rattle.std.specs.Prelude.{◌≡◌, length, filter, is_some};
 ghost use Rattle.esm_model.specs.Fates.{below, is_fate};
 ghost use Rattle.esm_queue_report.specs.Counts.{told_fate, message_fate};
 
-use crate::fates::Fates;
 use esm_model::Fate;
+use esm_report::fates::{Fates, is_fate};
 use esm_said::Says;
 
 /// The fates of a queue's messages: the found deletion's, else that which the history gave.
@@ -57,17 +57,5 @@ fn found_at(found: &Says, place: u32) -> Option<Fate>
     match found.deleted(place) {
         None => None,
         Some(told) => Some(told.fate),
-    }
-}
-
-fn is_fate(fate: Fate, given: Option<Fate>) -> bool
-    ensures { result ≡ is_fate fate given }
-{
-    match (fate, given) {
-        (Fate::Succeeded, Some(Fate::Succeeded)) => true,
-        (Fate::Filtered, Some(Fate::Filtered)) => true,
-        (Fate::Expired, Some(Fate::Expired)) => true,
-        (Fate::Exhausted, Some(Fate::Exhausted)) => true,
-        _ => false,
     }
 }

@@ -10,7 +10,7 @@ ghost use Rattle.esm_queue_report.specs.Queue.{change_text, last_line, queue_rep
 ghost use Rattle.esm_queue_report.specs.Counts.{message_fate, number_part, counts_text};
 
 use crate::deletions::Deletions;
-use crate::fates::Fates;
+use crate::fates::fates_of;
 use esm_event::bytes::push_bytes;
 use esm_event::digits::push_decimal;
 use esm_model::{Change, Entry, Fate, OutOfMemory};
@@ -50,7 +50,7 @@ fn push_history(
         → out.new.items ≡ out.old.items ++ line (queue_text s (reverse trace.now)) ++ line (calls_text (reverse trace.now))) }
 {
     let messages = messages_in(trace)?;
-    let given = Fates::of(alloc, trace)?;
+    let given = fates_of(alloc, trace)?;
     let deletions = Deletions {
         found: said,
         given: &given,

@@ -1,5 +1,6 @@
 -- The lines of a history's totals are those of its report.
 use Rattle.std.proofs.Common.{◌≡◌, ℕ, List, refl, sym, ap, ◌∙◌, Option}
+use Rattle.std.proofs.Math.Path.{fun_ext}
 use Rattle.std.specs.List.{flat_map}
 use Rattle.std.specs.Option.{option_or}
 use Rattle.std.specs.Ordering.{nat_cmp}
@@ -14,10 +15,6 @@ use Rattle.esm_report.specs.Report.{line, shard_text, shard_lines}
 use Rattle.esm_report.specs.Totals.{IsTotal, fate_of, fate_found, count_text, front_count, total_line, total_lines}
 use Rattle.esm_report.specs.declared.totals.Totals.{Totals}
 
--- functions that agree everywhere are equal
-agree : {A B : Type 0} (f g : A → B) → ((x : A) → f x ≡ g x) → f ≡ g
-agree f g same = λ i x. same x i
-
 -- a setting with the fates that the journal told finds them
 fate_is : (said : SaidLists) (s : Setting) (h : List Entry) (n i : ℕ) → s.fates ≡ said.fates → fate s h n i ≡ option_or (fate_found said n i) (given h n i)
 fate_is said s h n i same = rw same refl
@@ -25,8 +22,7 @@ fate_is said s h n i same = rw same refl
 fates_agree : (said : SaidLists) (t : Totals) (s : Setting) (h : List Entry) → s.fates ≡ said.fates → IsTotal t h → (n : ℕ)
     → fate_of said (map.get nat_cmp t.fates n) n ≡ fate s h n
 fates_agree said t s h same total n =
-    agree (fate_of said (map.get nat_cmp t.fates n) n) (fate s h n)
-    (λ i. ap (option_or (fate_found said n i)) (total.fates n i) ∙ sym (fate_is said s h n i same))
+    fun_ext (λ i. ap (option_or (fate_found said n i)) (total.fates n i) ∙ sym (fate_is said s h n i same))
 
 text_is : (s : Setting) (h : List Entry) (n : ℕ) → count_text n (came_count h n) (fate s h n) ≡ shard_text s h n
 unfolding count_text front_count
@@ -43,5 +39,5 @@ line_is said t s h same total n =
 pub lines_are : (said : SaidLists) (t : Totals) (s : Setting) (h : List Entry) → s.fates ≡ said.fates → IsTotal t h
     → total_lines said t ≡ shard_lines s h
 lines_are said t s h same total =
-    ap (λ (f : ℕ → List ℕ). flat_map f t.shards.keys) (agree (total_line said t) (λ n. line (shard_text s h n)) (line_is said t s h same total))
+    ap (λ (f : ℕ → List ℕ). flat_map f t.shards.keys) (fun_ext (line_is said t s h same total))
     ∙ ap (flat_map (λ n. line (shard_text s h n))) total.shards

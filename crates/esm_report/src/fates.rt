@@ -1,15 +1,16 @@
-// The fates that a history gave to the places of one shard.
+//! The fates that a history gave to the places of one shard, or to the messages of a queue.
 ghost use Rattle.std.specs.Prelude.{◌≡◌, ℕ, ◌<◌, ◌^◌, ◌==◌, [], Some, None, length, get_or, OnOk, if◌then◌else◌};
 ghost use Rattle.std.specs.Option.{option_or};
 ghost use Rattle.esm_model.specs.Entries.{holds};
+ghost use Rattle.esm_model.specs.Fates.{is_fate};
 
 use esm_model::{Fate, OutOfMemory, Places};
 use std::alloc::Global;
 use std::marker::Model;
 
-/// The fates of a shard's places, seen as a list by place; a place past its end has none.
+/// Fates by place, seen as a list; a place past its end has none.
 #[derive(Drop)]
-pub(crate) struct Fates {
+pub struct Fates {
     fates: Vec<Option<Fate>>,
 }
 
@@ -23,7 +24,8 @@ impl Model for Fates {
 }
 
 impl Fates {
-    pub(crate) fn new(alloc: Global) -> Self
+    /// No place has a fate.
+    pub fn new(alloc: Global) -> Self
         ensures { result ≡ [] }
     {
         Fates {
@@ -32,7 +34,7 @@ impl Fates {
     }
 
     /// Gives the places this fate, but where they have one. After an `Err` some have it.
-    pub(crate) fn give_all(&mut self, places: &Places, fate: Fate) -> Result<(), OutOfMemory>
+    pub fn give_all(&mut self, places: &Places, fate: Fate) -> Result<(), OutOfMemory>
         ensures { OnOk result ((i : ℕ) → get_or self.new i None
             ≡ option_or (get_or self.old i None) (if holds places.now i then Some fate else None)) }
     {
@@ -65,13 +67,26 @@ impl Fates {
         Ok(())
     }
 
-    /// The fate of the place.
-    pub(crate) fn get(&self, place: u32) -> Option<Fate>
+    /// The fate of the place, where it has one.
+    pub fn get(&self, place: u32) -> Option<Fate>
         ensures { result ≡ get_or self.now place None }
     {
         match self.fates.get(place as usize) {
             None => None,
             Some(fate) => *fate,
         }
+    }
+}
+
+/// Whether a place that was given this, where it was given any, has the fate.
+pub fn is_fate(fate: Fate, given: Option<Fate>) -> bool
+    ensures { result ≡ is_fate fate given }
+{
+    match (fate, given) {
+        (Fate::Succeeded, Some(Fate::Succeeded)) => true,
+        (Fate::Filtered, Some(Fate::Filtered)) => true,
+        (Fate::Expired, Some(Fate::Expired)) => true,
+        (Fate::Exhausted, Some(Fate::Exhausted)) => true,
+        _ => false,
     }
 }

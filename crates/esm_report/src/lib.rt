@@ -4,7 +4,7 @@
 #![tactic(auto)]
 
 pub mod ending;
-mod fates;
+pub mod fates;
 mod output;
 mod shard;
 mod totals;

@@ -4,7 +4,7 @@ ghost use Rattle.std.specs.Option.{option_copied};
 ghost use Rattle.esm_model.specs.Fates.{below, is_fate};
 ghost use Rattle.esm_report.specs.Totals.{fate_at, place_fate, fate_found, front_count};
 
-use crate::fates::Fates;
+use crate::fates::{Fates, is_fate};
 use esm_model::Fate;
 use esm_said::Says;
 
@@ -67,17 +67,5 @@ fn given_at(fates: Option<&Fates>, place: u32) -> Option<Fate>
     match fates {
         None => None,
         Some(fates) => fates.get(place),
-    }
-}
-
-fn is_fate(fate: Fate, given: Option<Fate>) -> bool
-    ensures { result ≡ is_fate fate given }
-{
-    match (fate, given) {
-        (Fate::Succeeded, Some(Fate::Succeeded)) => true,
-        (Fate::Filtered, Some(Fate::Filtered)) => true,
-        (Fate::Expired, Some(Fate::Expired)) => true,
-        (Fate::Exhausted, Some(Fate::Exhausted)) => true,
-        _ => false,
     }
 }
