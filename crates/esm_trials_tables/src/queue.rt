@@ -1,6 +1,7 @@
 // Tests: what a FIFO queue and a standard queue hand out, by calls.
-use esm_model::{Message, OutOfMemory, Text};
+use esm_model::{Message, OutOfMemory};
 use esm_queue::Queue;
+use esm_samples::{message_of, text};
 use std::alloc::{AllocError, Global};
 use std::test::Fail;
 
@@ -19,24 +20,14 @@ enum Call {
 
 use Call::{Count, Delete, First, Id, Next, Peek, Receive};
 
-fn text(alloc: Global, chars: &str) -> Result<Text, AllocError> {
-    Ok(Text::from_vec(String::from_str(alloc, chars)?))
-}
-
 /// A message with this number as its id.
 fn message(alloc: Global, number: u32, group: Option<&str>) -> Result<Message, AllocError> {
-    let group = match group {
-        None => None,
-        Some(name) => Some(text(alloc, name)?),
-    };
-    let id = Text::from_vec(number.to_string(alloc)?);
-    let body = text(alloc, "x")?;
-    Ok(Message {
-        id,
-        group,
-        body,
-        sent: 0,
-    })
+    let id = number.to_string(alloc)?;
+    let mut message = message_of(alloc, id.as_str(), "x")?;
+    if let Some(name) = group {
+        message.group = Some(text(alloc, name)?);
+    }
+    Ok(message)
 }
 
 /// Messages of these groups come at 0, with the ids `0`, `1` and so on.

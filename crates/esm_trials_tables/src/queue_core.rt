@@ -1,59 +1,20 @@
 // Tests: what the core of a queue's book decides where no message came.
 ghost use Rattle.std.specs.Prelude.{◌≡◌, [], IfOk, OnOk};
-ghost use Rattle.esm_model.specs.declared.config.Kind.TheVariants.{Standard};
-ghost use Rattle.esm_queue_model.specs.WorkedHistories.{queue_mapping};
 
 use esm_filter::Criteria;
-use esm_model::{Config, Kind, Next, Start, Text, Texts};
+use esm_model::{Kind, Next};
 use esm_queue_core::QueueCore;
 use esm_said::says;
-use std::alloc::{AllocError, Global};
+use esm_samples::queue_mapping;
+use std::alloc::Global;
 use std::test::Fail;
-
-fn text(alloc: Global, chars: &str) -> Result<Text, AllocError>
-    ensures { IfOk result (λ t. t ≡ chars.now) }
-{
-    Ok(Text::from_vec(String::from_str(alloc, chars)?))
-}
-
-/// The mapping of the queue `q` to the function `f`.
-fn mapping(alloc: Global) -> Result<Config, AllocError>
-    ensures { IfOk result (λ c. c ≡ queue_mapping Standard) }
-{
-    let source_arn = text(alloc, "arn:aws:sqs:us-east-1:123456789012:q")?;
-    let function = text(alloc, "f")?;
-    let function_arn = text(alloc, "arn:aws:lambda:us-east-1:123456789012:function:f")?;
-    let region = text(alloc, "us-east-1")?;
-    let account = text(alloc, "123456789012")?;
-    Ok(Config {
-        source_arn,
-        function,
-        function_arn,
-        region,
-        account,
-        kind: Kind::Standard,
-        batch_size: 10,
-        window_ms: 0,
-        factor: 1,
-        retries: None,
-        age_ms: None,
-        bisect: false,
-        item_failures: false,
-        tumbling_ms: 0,
-        start: Start::TrimHorizon,
-        destination: None,
-        filters: Texts::from_vec(Vec::new(alloc)),
-        concurrency: None,
-        enabled: true,
-    })
-}
 
 /// A core in which no message came, with no found deletion.
 fn core(alloc: Global) -> Result<QueueCore, Fail>
     ensures settled { IfOk result (λ core. core.owed ≡ []) }
     ensures past { IfOk result (λ core. core.past ≡ []) }
 {
-    let config = mapping(alloc)?;
+    let config = queue_mapping(alloc)?;
     let Ok(said) = says(alloc, &[]) else {
         return Err("no payload is bad".into());
     };

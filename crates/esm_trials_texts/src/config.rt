@@ -1,13 +1,13 @@
 // Tests: mappings of streams and queues, their updates, and the field that each refusal names.
 use esm_config::{ConfigError, Param, merge, read, text};
 use esm_model::{Config, Kind};
+use esm_samples::STREAM_MAPPING;
 use serde_json::Value;
 use std::alloc::Global;
 use std::test::Fail;
 
 /// The mapping of a stream, of a queue and of a FIFO queue, each without its closing brace.
-const STREAM: &str =
-    "{\"EventSourceArn\":\"arn:aws:kinesis:us-east-1:123456789012:stream/s\",\"FunctionName\":\"f\",\"StartingPosition\":\"TRIM_HORIZON\"";
+const STREAM: &str = STREAM_MAPPING;
 
 const QUEUE: &str =
     "{\"EventSourceArn\":\"arn:aws:sqs:us-east-1:123456789012:q\",\"FunctionName\":\"f\"";

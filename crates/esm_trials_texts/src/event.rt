@@ -2,13 +2,13 @@
 ghost use Rattle.std.specs.Prelude.{◌≡◌, ◌≤◌, true, length, IfOk};
 ghost use Rattle.esm_model.specs.declared.limits.TheConstants.{MAX_DATA, MAX_KEY};
 ghost use Rattle.esm_model.specs.QueueEvent.{IsQueueConfig};
-ghost use Rattle.esm_model.specs.Valid.{IsStreamConfig, IsValidRecord, is_between, char_count};
+ghost use Rattle.esm_model.specs.Valid.{IsStreamConfig, is_between, char_count};
 ghost use Rattle.esm_model.specs.ValidCall.{IsValidFailure};
 ghost use Rattle.esm_event.specs.QueueExample.{queue_mapping, test_message};
 
-use crate::mappings::{stream_mapping, text};
 use esm_event::{failure_text, frame_bytes, queue_bytes, queue_event, stream_bytes, stream_event};
-use esm_model::{Bytes, Config, Failure, Kind, Message, Received, Record, Seq, Text};
+use esm_model::{Config, Failure, Received, Seq, Text};
+use esm_samples::{message_of, queue_mapping, record_of, stream_mapping};
 use memchr::memmem::find;
 use std::alloc::{AllocError, Global};
 use std::test::Fail;
@@ -21,27 +21,12 @@ fn config(alloc: Global) -> Result<Config, AllocError>
     Ok(plain)
 }
 
-/// A record of shard 0 that arrived at moment 0.
-fn record_of(alloc: Global, key: &str, sequence: &str, payload: &[u8]) -> Result<Record, Fail>
-    requires key { is_between 1 MAX_KEY (char_count key.now) ≡ true }
-    requires payload { length payload.now ≤ MAX_DATA }
-    ensures { IfOk result IsValidRecord }
-{
-    Ok(Record {
-        shard: 0,
-        seq: Seq::read(alloc, sequence)?,
-        key: text(alloc, key)?,
-        payload: Bytes::from_vec(Vec::from_slice(alloc, payload)?),
-        arrival: 0,
-    })
-}
-
 /// The bytes of the element of a record with the key `1`.
 fn element(alloc: Global, sequence: &str, payload: &[u8]) -> Result<u32, Fail>
     requires { length payload.now ≤ MAX_DATA }
 {
     let config = config(alloc)?;
-    let item = record_of(alloc, "1", sequence, payload)?;
+    let item = record_of(alloc, sequence, "1", payload)?;
     Ok(stream_bytes(&config, &item))
 }
 
@@ -56,7 +41,7 @@ fn hello(alloc: Global, key: &str) -> Result<Vec<u8>, Fail>
     requires { is_between 1 MAX_KEY (char_count key.now) ≡ true }
 {
     let config = config(alloc)?;
-    let batch = [record_of(alloc, key, "1", b"Hello")?];
+    let batch = [record_of(alloc, "1", key, b"Hello")?];
     Ok(stream_event(alloc, &config, &batch, None)?)
 }
 
@@ -77,40 +62,20 @@ fn payload_limit(rt: HostRuntime) -> Result<(), Fail> {
     Ok(())
 }
 
-/// The mapping of a queue `q` that is read by the function `f`.
-fn queue(alloc: Global) -> Result<Config, AllocError>
-    ensures { IfOk result (λ c. c ≡ queue_mapping) }
-{
-    let source_arn = text(alloc, "arn:aws:sqs:us-east-1:123456789012:q")?;
-    let mut config = stream_mapping(alloc)?;
-    config.source_arn = source_arn;
-    config.kind = Kind::Standard;
-    config.batch_size = 10;
-    Ok(config)
-}
-
-/// The same mapping, known to be valid.
+/// The mapping of the queue, known to be valid.
 fn queue_config(alloc: Global) -> Result<Config, AllocError>
     ensures standard { IfOk result (λ c. c ≡ queue_mapping) }
     ensures valid { IfOk result IsQueueConfig }
 {
-    let plain = queue(alloc)?;
+    let plain = queue_mapping(alloc)?;
     Ok(plain)
 }
 
 fn first_message(alloc: Global) -> Result<Received, AllocError>
     ensures { IfOk result (λ r. r ≡ test_message) }
 {
-    let id = text(alloc, "m1")?;
-    let body = text(alloc, "Test message.")?;
-    let message = Message {
-        id,
-        group: None,
-        body,
-        sent: 0,
-    };
     Ok(Received {
-        message,
+        message: message_of(alloc, "m1", "Test message.")?,
         place: 0,
         count: 1,
         first: 0,

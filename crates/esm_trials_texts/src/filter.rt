@@ -1,7 +1,7 @@
 // The worked examples of filter patterns, and rows for each operator.
-use crate::mappings::text;
 use esm_filter::{Criteria, FilterError, PatternError};
-use esm_model::{Bytes, Kind, Message, Record, Seq};
+use esm_model::Kind;
+use esm_samples::{message_of, record_of, text};
 use std::alloc::Global;
 use std::test::Fail;
 
@@ -152,42 +152,18 @@ const BAD_TEST: &str = r#"{"a":1}
 {"a":[1.5],"b":[]}
 {"b":[],"a":[1.5]}"#;
 
-fn one_record(alloc: Global, data: &str) -> Result<Record, Fail> {
-    let seq = Seq::read(alloc, "1")?;
-    let key = text(alloc, "1")?;
-    let payload = Vec::from_slice(alloc, data.as_bytes())?;
-    Ok(Record {
-        shard: 0,
-        seq,
-        key,
-        payload: Bytes::from_vec(payload),
-        arrival: 0,
-    })
-}
-
-fn one_message(alloc: Global, body: &str) -> Result<Message, Fail> {
-    let id = text(alloc, "m-1")?;
-    let body = text(alloc, body)?;
-    Ok(Message {
-        id,
-        group: None,
-        body,
-        sent: 0,
-    })
-}
-
 fn criteria(alloc: Global, kind: Kind, pattern: &str) -> Result<Criteria, Fail> {
     let texts = [text(alloc, pattern)?];
     Ok(Criteria::read(alloc, kind, &texts).ok().ok_or("a pattern")?)
 }
 
 fn passes_record(alloc: Global, criteria: &Criteria, data: &str) -> Result<bool, Fail> {
-    let item = one_record(alloc, data)?;
+    let item = record_of(alloc, "1", "1", data.as_bytes())?;
     Ok(criteria.passes_record(alloc, &item)?)
 }
 
 fn passes_message(alloc: Global, criteria: &Criteria, body: &str) -> Result<bool, Fail> {
-    let item = one_message(alloc, body)?;
+    let item = message_of(alloc, "m-1", body)?;
     Ok(criteria.passes_message(alloc, &item)?)
 }
 

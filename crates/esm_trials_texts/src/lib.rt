@@ -11,8 +11,6 @@ mod event;
 #[cfg(test)]
 mod filter;
 #[cfg(test)]
-mod mappings;
-#[cfg(test)]
 mod payload;
 #[cfg(test)]
 mod record;

@@ -2,23 +2,20 @@
 ghost use Rattle.std.specs.Prelude.{IfOk};
 ghost use Rattle.esm_payload.specs.Payload.{IsSaid};
 
-use esm_model::{Fate, OutOfMemory, Places, Text, Texts};
+use esm_model::{Fate, OutOfMemory, Places, Texts};
 use esm_payload::{Said, read_said, said_bytes};
+use esm_samples::{ONE_SUCCESS, text};
 use std::alloc::Global;
 use std::test::Fail;
 
-/// The first record of the first shard, whose sequence number is 1, succeeded at the moment 0.
-const ONE_RECORD: [u8; 29] = [
-    1, 0, 0, 0, 0, 0, 0, 0, 0, 1, 0, 0, 0, 0, 0, 0, 0, 0, 0, 0, 0, 0, 1, 0, 0, 0, 0, 1, 0x31,
-];
-
+/// What `ONE_SUCCESS` says.
 fn one_record(alloc: Global) -> Result<Said, OutOfMemory>
     ensures { IfOk result (λ s. IsSaid s) }
 {
     let mut places = Vec::new(alloc);
     places.push(0)?;
     let mut texts = Vec::new(alloc);
-    texts.push(Text::from_vec(String::from_str(alloc, "1")?))?;
+    texts.push(text(alloc, "1")?)?;
     Ok(Said::Fates {
         shard: 0,
         fate: Fate::Succeeded,
@@ -58,14 +55,14 @@ fn read_back(alloc: Global, bytes: &[u8]) -> Result<Option<bool>, OutOfMemory> {
 
 #[test]
 fn payload_bytes(rt: HostRuntime) -> Result<(), Fail> {
-    assert!(rt; written(rt.alloc())?.as_slice() == ONE_RECORD.as_slice());
-    assert_eq!(rt; read_back(rt.alloc(), &ONE_RECORD)?, Some(true));
+    assert!(rt; written(rt.alloc())?.as_slice() == ONE_SUCCESS.as_slice());
+    assert_eq!(rt; read_back(rt.alloc(), &ONE_SUCCESS)?, Some(true));
     Ok(())
 }
 
 #[test]
 fn no_payload(rt: HostRuntime) -> Result<(), Fail> {
-    for bytes in [&ONE_RECORD[..28], &[9]] {
+    for bytes in [&ONE_SUCCESS[..28], &[9]] {
         assert_eq!(rt; read_back(rt.alloc(), bytes)?, None, "{bytes:?}");
     }
     Ok(())

@@ -1,10 +1,10 @@
 // Tests: the texts of a run's report, with its shards, fates and endings.
-use crate::mappings::text;
 use crate::said::{FIRST, payloads};
 use esm_init::FileName;
-use esm_model::{Bytes, Change, Entry, Fate, LaneId, OutOfMemory, Places, Reply};
+use esm_model::{Change, Entry, Fate, LaneId, OutOfMemory, Places};
 use esm_report::{Ending, last_line, report};
 use esm_said::says;
+use esm_samples::{answered, text};
 use std::alloc::Global;
 use std::test::Fail;
 
@@ -37,11 +37,7 @@ fn entry(alloc: Global, step: Step) -> Result<Entry, OutOfMemory> {
         }),
         Answered(error) => Ok(Entry::Ended {
             lane: LANE,
-            reply: Reply::Answered {
-                status: 200,
-                error,
-                body: Bytes::from_vec(Vec::new(alloc)),
-            },
+            reply: answered(alloc, error, b"")?,
             moment: 0,
         }),
         Fated(place, fate) => Ok(Entry::Gave {

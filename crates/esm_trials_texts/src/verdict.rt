@@ -1,6 +1,6 @@
 //! The worked examples of answers and rulings, by their names.
-use crate::mappings::{stream_mapping, text};
-use esm_model::{Bytes, Config, MAX_BATCH, Places, Reply, Seq, Text};
+use esm_model::{Config, MAX_BATCH, Places, Seq, Text};
+use esm_samples::{answered, stream_mapping, text};
 use esm_verdict::{
     Answer, Call, QueueReading, Reading, Rest, StateRead, Verdict, judge, read_queue, read_stream,
 };
@@ -14,14 +14,6 @@ fn reporting(alloc: Global, tumbling_ms: u64) -> Result<Config, AllocError> {
     config.item_failures = true;
     config.tumbling_ms = tumbling_ms;
     Ok(config)
-}
-
-fn answered(alloc: Global, body: &str) -> Result<Reply, AllocError> {
-    Ok(Reply::Answered {
-        status: 200,
-        error: false,
-        body: Bytes::from_vec(Vec::from_slice(alloc, body.as_bytes())?),
-    })
 }
 
 fn sequences(alloc: Global, numbers: &str) -> Result<Vec<Seq>, Fail> {
@@ -41,7 +33,7 @@ fn read(
     body: &str,
 ) -> Result<Answer, Fail> {
     let batch = batch.get(..batch.len().min(MAX_BATCH)).ok_or("a batch")?;
-    let reply = answered(alloc, body)?;
+    let reply = answered(alloc, false, body.as_bytes())?;
     let config = reporting(alloc, tumbling_ms)?;
     Ok(read_stream(alloc, &config, batch, call, &reply)?)
 }
@@ -143,7 +135,7 @@ fn three_ids(alloc: Global) -> Result<[Text; 3], AllocError> {
 /// The positions of the messages that failed, by an answer with this body.
 fn failed(alloc: Global, body: &str) -> Result<Option<Places>, Fail> {
     let ids = three_ids(alloc)?;
-    let reply = answered(alloc, body)?;
+    let reply = answered(alloc, false, body.as_bytes())?;
     let config = reporting(alloc, 0)?;
     match read_queue(alloc, &config, &ids, &reply)? {
         QueueReading::Done { failed } => Ok(Some(failed)),

@@ -1,18 +1,25 @@
-// What tests of several modules build: texts, and the mapping of the worked examples.
+// Texts, and the mappings of the worked examples.
 ghost use Rattle.std.specs.Prelude.{◌≡◌, IfOk};
+ghost use Rattle.esm_model.specs.declared.config.Kind.TheVariants.{Standard};
 ghost use Rattle.esm_model.specs.Worked.{plain_mapping};
+ghost use Rattle.esm_queue_model.specs.WorkedHistories.{queue_mapping};
 
 use esm_model::{Config, Kind, Start, Text, Texts};
 use std::alloc::{AllocError, Global};
 
-pub(crate) fn text(alloc: Global, chars: &str) -> Result<Text, AllocError>
+/// The JSON text of the stream's mapping, without its closing brace.
+pub const STREAM_MAPPING: &str =
+    "{\"EventSourceArn\":\"arn:aws:kinesis:us-east-1:123456789012:stream/s\",\"FunctionName\":\"f\",\"StartingPosition\":\"TRIM_HORIZON\"";
+
+/// A text of these characters.
+pub fn text(alloc: Global, chars: &str) -> Result<Text, AllocError>
     ensures { IfOk result (λ t. t ≡ chars.now) }
 {
     Ok(Text::from_vec(String::from_str(alloc, chars)?))
 }
 
-/// The mapping of the examples: a stream `s` read by a function `f`.
-pub(crate) fn stream_mapping(alloc: Global) -> Result<Config, AllocError>
+/// The mapping of the stream `s` to the function `f`, each field at its default.
+pub fn stream_mapping(alloc: Global) -> Result<Config, AllocError>
     ensures { IfOk result (λ c. c ≡ plain_mapping) }
 {
     let source_arn = text(alloc, "arn:aws:kinesis:us-east-1:123456789012:stream/s")?;
@@ -41,4 +48,16 @@ pub(crate) fn stream_mapping(alloc: Global) -> Result<Config, AllocError>
         concurrency: None,
         enabled: true,
     })
+}
+
+/// The mapping of the standard queue `q` to the function `f`, each field at its default.
+pub fn queue_mapping(alloc: Global) -> Result<Config, AllocError>
+    ensures { IfOk result (λ c. c ≡ queue_mapping Standard) }
+{
+    let source_arn = text(alloc, "arn:aws:sqs:us-east-1:123456789012:q")?;
+    let mut config = stream_mapping(alloc)?;
+    config.source_arn = source_arn;
+    config.kind = Kind::Standard;
+    config.batch_size = 10;
+    Ok(config)
 }

@@ -1,0 +1,61 @@
+// Records, messages and replies of the worked examples.
+ghost use Rattle.std.specs.Prelude.{◌≡◌, ◌≤◌, true, false, length, None, IfOk};
+ghost use Rattle.esm_model.specs.declared.limits.TheConstants.{MAX_DATA, MAX_KEY};
+ghost use Rattle.esm_model.specs.Sequence.{is_sequence};
+ghost use Rattle.esm_model.specs.Valid.{IsValidRecord, is_between, char_count};
+ghost use Rattle.esm_queue_model.specs.WorkedHistories.{message};
+
+use crate::mappings::text;
+use esm_model::{Bytes, Message, Record, Reply, Seq, SeqError};
+use std::alloc::{AllocError, Global};
+
+/// The record of shard 0 with this sequence number, partition key and data, which arrived at moment 0.
+/// `BadSeq` exactly where the text is not that of a sequence number.
+pub fn record_of(
+    alloc: Global,
+    sequence: &str,
+    key: &str,
+    payload: &[u8],
+) -> Result<Record, SeqError>
+    ensures made { IfOk result (λ r. r ≡ record { shard = 0; seq = sequence.now; key = key.now; payload = payload.now; arrival = 0 }) }
+    ensures valid { is_between 1 MAX_KEY (char_count key.now) ≡ true → length payload.now ≤ MAX_DATA → IfOk result IsValidRecord }
+    ensures bad { result ≡ Err SeqError.BadSeq → is_sequence sequence.now ≡ false }
+    ensures good { IfOk result (λ r. is_sequence sequence.now ≡ true) }
+{
+    let seq = Seq::read(alloc, sequence)?;
+    let key = text(alloc, key)?;
+    let payload = Vec::from_slice(alloc, payload)?;
+    Ok(Record {
+        shard: 0,
+        seq,
+        key,
+        payload: Bytes::from_vec(payload),
+        arrival: 0,
+    })
+}
+
+/// The message of a standard queue with this id and body, which was sent at moment 0.
+pub fn message_of(alloc: Global, id: &str, body: &str) -> Result<Message, AllocError>
+    ensures { IfOk result (λ m. m ≡ message id.now None body.now) }
+{
+    let id = text(alloc, id)?;
+    let body = text(alloc, body)?;
+    Ok(Message {
+        id,
+        group: None,
+        body,
+        sent: 0,
+    })
+}
+
+/// The answer of status 200 with this body, as a function error or not.
+pub fn answered(alloc: Global, error: bool, body: &[u8]) -> Result<Reply, AllocError>
+    ensures { IfOk result (λ r. r ≡ Reply.Answered 200 error body.now) }
+{
+    let body = Vec::from_slice(alloc, body)?;
+    Ok(Reply::Answered {
+        status: 200,
+        error,
+        body: Bytes::from_vec(body),
+    })
+}
