@@ -1,0 +1,282 @@
+// The tables: a command with each call of a device failing in turn, with a crash after it, and over each front of a file.
+use crate::looks::{add, add_told};
+use crate::script::{Device, Fault};
+use crate::settings::{Files, Setting};
+use crate::worlds::{MemEnded, enacted};
+use esm_io::MemDisk;
+use esm_model::OutOfMemory;
+use std::alloc::Global;
+use std::str::from_utf8;
+use std::sync::Wait;
+use std::thread::Threads;
+
+/// More calls than a device has in a command.
+const MANY: u64 = 10_000;
+
+/// What crashes leave of the bytes written since the last sync: none, all, and those at some of the places.
+const CHOICES: [u64; 3] = [0, 1, 165];
+
+/// The statuses that tell of an input and of an output that failed.
+const INPUT_FAULT: u8 = 4;
+
+const OUTPUT_FAULT: u8 = 5;
+
+/// Whether the command made the call that was to fail.
+fn is_met(ended: &MemEnded, fault: Fault) -> bool {
+    let Fault { device, call } = fault;
+    match device {
+        Device::Input => ended.status == INPUT_FAULT,
+        Device::Output => ended.status == OUTPUT_FAULT,
+        Device::Journal => call < ended.world.journal.calls(),
+        Device::Spare => call < ended.world.spare.calls(),
+        Device::Failures => call < ended.world.failures.calls(),
+        Device::Registry => call < ended.world.registry.calls(),
+        Device::Caller => match ended.world.callers.first() {
+            Some(caller) => call < caller.log().unwrap_or(&[]).len() as u64,
+            None => false,
+        },
+    }
+}
+
+/// The statuses of the command, where the first, the second and so on call of the device fails.
+fn statuses<R: Threads + Wait + Sync>(
+    rt: &R,
+    alloc: Global,
+    setting: &Setting,
+    device: Device,
+    words: &[String],
+) -> Result<Vec<u8>, OutOfMemory> {
+    let mut statuses = Vec::new(alloc);
+    for call in 0..MANY {
+        let fault = Fault { device, call };
+        let ended = enacted(rt, alloc, setting, &setting.files, Some(fault), words)?;
+        if !is_met(&ended, fault) {
+            break;
+        }
+        statuses.push(ended.status)?;
+    }
+    Ok(statuses)
+}
+
+/// Commands that ended alike, and how many they are.
+#[derive(Drop)]
+struct Outcome {
+    status: u8,
+    told: Vec<u8>,
+    times: u64,
+}
+
+/// Adds what these commands told, and how many there were.
+fn add_outcome(alloc: Global, page: &mut Vec<u8>, outcome: &Outcome) -> Result<(), OutOfMemory> {
+    add_told(page, outcome.told.as_slice())?;
+    let (status, times) = (outcome.status, outcome.times);
+    let line = format!(in alloc; "status {status}: {times} times\n")?;
+    add(page, line.as_str())
+}
+
+fn add_outcomes(
+    alloc: Global,
+    page: &mut Vec<u8>,
+    outcomes: &[Outcome],
+) -> Result<(), OutOfMemory> {
+    for outcome in outcomes {
+        add_outcome(alloc, page, outcome)?;
+    }
+    Ok(())
+}
+
+/// Counts one more command, among the outcomes from the place on.
+fn count(
+    outcomes: &mut Vec<Outcome>,
+    from: usize,
+    status: u8,
+    told: Vec<u8>,
+) -> Result<(), OutOfMemory> {
+    for outcome in outcomes.iter_mut().skip(from) {
+        if outcome.status == status && outcome.told.as_slice() == told.as_slice() {
+            outcome.times = outcome.times.saturating_add(1);
+            return Ok(());
+        }
+    }
+    outcomes.push(Outcome {
+        status,
+        told,
+        times: 1,
+    })?;
+    Ok(())
+}
+
+/// The statuses in order, equal ones in a row together.
+fn rows(alloc: Global, statuses: &[u8]) -> Result<Vec<Outcome>, OutOfMemory> {
+    let mut rows = Vec::new(alloc);
+    for status in statuses {
+        let last = rows.len().saturating_sub(1);
+        count(&mut rows, last, *status, Vec::new(alloc))?;
+    }
+    Ok(rows)
+}
+
+/// The command over and over, each time with the next call of the device failing: how many calls there were, and the
+/// statuses.
+pub fn add_each<R: Threads + Wait + Sync>(
+    rt: &R,
+    alloc: Global,
+    page: &mut Vec<u8>,
+    setting: &Setting,
+    device: Device,
+    words: &[String],
+) -> Result<(), OutOfMemory> {
+    let statuses = statuses(rt, alloc, setting, device, words)?;
+    let faults = statuses.len();
+    let line = format!(in alloc; "{faults} faults\n")?;
+    add(page, line.as_str())?;
+    let rows = rows(alloc, statuses.as_slice())?;
+    add_outcomes(alloc, page, rows.as_slice())
+}
+
+/// The bytes of a disk after a crash.
+fn crashed(alloc: Global, disk: MemDisk, choice: u64) -> Result<Vec<u8>, OutOfMemory> {
+    match disk.crash(alloc, choice) {
+        Ok(disk) => Ok(Vec::from_slice(alloc, disk.bytes())?),
+        Err(_) => Err(OutOfMemory),
+    }
+}
+
+/// What a crash after a command leaves of the files.
+fn crashed_files(alloc: Global, ended: MemEnded, choice: u64) -> Result<Files, OutOfMemory> {
+    let world = ended.world;
+    Ok(Files {
+        journal: crashed(alloc, world.journal, choice)?,
+        spare: crashed(alloc, world.spare, choice)?,
+        failures: crashed(alloc, world.failures, choice)?,
+        registry: crashed(alloc, world.registry, choice)?,
+    })
+}
+
+/// What a command told, without the line of its calls.
+fn told_of(alloc: Global, ended: &MemEnded) -> Result<Vec<u8>, OutOfMemory> {
+    let mut told = Vec::new(alloc);
+    for line in from_utf8(ended.world.out.written()).unwrap_or("").lines() {
+        if !line.starts_with("calls ") {
+            add(&mut told, line)?;
+            add(&mut told, "\n")?;
+        }
+    }
+    Ok(told)
+}
+
+/// A command that is stopped at the calls of a device, and the command after each stop.
+#[derive(Clone, Copy)]
+pub struct Stops<'a> {
+    pub device: Device,
+    pub words: &'a [String],
+    pub then: &'a [String],
+}
+
+/// The first command with the call of the device failing, a crash of the choice, and what the second command leaves over
+/// the files then. `None` where there was no such call.
+fn stopped<R: Threads + Wait + Sync>(
+    rt: &R,
+    alloc: Global,
+    setting: &Setting,
+    stops: Stops<'_>,
+    call: u64,
+    choice: u64,
+) -> Result<Option<MemEnded>, OutOfMemory> {
+    let Stops {
+        device,
+        words,
+        then,
+    } = stops;
+    let fault = Fault { device, call };
+    let ended = enacted(rt, alloc, setting, &setting.files, Some(fault), words)?;
+    if !is_met(&ended, fault) {
+        return Ok(None);
+    }
+    let files = crashed_files(alloc, ended, choice)?;
+    let ended = enacted(rt, alloc, setting, &files, None, then)?;
+    Ok(Some(ended))
+}
+
+/// Counts how the second command ends after each stop of the first, with crashes of the choice.
+fn count_stops<R: Threads + Wait + Sync>(
+    rt: &R,
+    alloc: Global,
+    setting: &Setting,
+    stops: Stops<'_>,
+    choice: u64,
+    outcomes: &mut Vec<Outcome>,
+) -> Result<(), OutOfMemory> {
+    for call in 0..MANY {
+        let Some(ended) = stopped(rt, alloc, setting, stops, call, choice)? else {
+            break;
+        };
+        count(outcomes, 0, ended.status, told_of(alloc, &ended)?)?;
+    }
+    Ok(())
+}
+
+/// The command over and over, each time with the next call of the device failing, and after each a crash and the second
+/// command: what that told but for its calls, and how often.
+pub fn add_stops<R: Threads + Wait + Sync>(
+    rt: &R,
+    alloc: Global,
+    page: &mut Vec<u8>,
+    setting: &Setting,
+    stops: Stops<'_>,
+) -> Result<(), OutOfMemory> {
+    let mut outcomes = Vec::new(alloc);
+    for choice in CHOICES {
+        count_stops(rt, alloc, setting, stops, choice, &mut outcomes)?;
+    }
+    add_outcomes(alloc, page, outcomes.as_slice())
+}
+
+/// The files, with this one cut to its first bytes.
+fn cut_files(
+    alloc: Global,
+    files: &Files,
+    device: Device,
+    count: usize,
+) -> Result<Files, OutOfMemory> {
+    let front = match files.get(device) {
+        Some(bytes) => bytes.get(..count).unwrap_or(bytes),
+        None => &[],
+    };
+    let front = Vec::from_slice(alloc, front)?;
+    let mut cut = files.copy(alloc)?;
+    cut.set(device, front);
+    Ok(cut)
+}
+
+/// Adds the number of bytes that are left of a file, and the status and the last line of the command over it.
+fn add_cut(
+    alloc: Global,
+    page: &mut Vec<u8>,
+    count: usize,
+    ended: &MemEnded,
+) -> Result<(), OutOfMemory> {
+    let told = from_utf8(ended.world.out.written()).unwrap_or("");
+    let last = told.lines().last().unwrap_or("");
+    let status = ended.status;
+    let line = format!(in alloc; "{count} bytes: status {status}, {last}\n")?;
+    add(page, line.as_str())
+}
+
+/// The command over each front of the file's bytes: its status and its last line.
+pub fn add_cuts<R: Threads + Wait + Sync>(
+    rt: &R,
+    alloc: Global,
+    page: &mut Vec<u8>,
+    setting: &Setting,
+    device: Device,
+    words: &[String],
+) -> Result<(), OutOfMemory> {
+    let bytes = setting.files.get(device).unwrap_or(&[]);
+    for count in 0..=bytes.len() {
+        let files = cut_files(alloc, &setting.files, device, count)?;
+        let ended = enacted(rt, alloc, setting, &files, None, words)?;
+        add_cut(alloc, page, count, &ended)?;
+    }
+    Ok(())
+}
