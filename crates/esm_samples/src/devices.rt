@@ -1,8 +1,7 @@
-// Disks, pairs of journals and links in memory, and the bytes of files.
-ghost use Rattle.std.specs.Prelude.{◌≡◌, ◌<◌, [], false, IfOk};
-ghost use Rattle.esm_io.specs.Forms.{IsUnused};
+// Disks and pairs of journals in memory, and the bytes of files.
+ghost use Rattle.std.specs.Prelude.{◌≡◌, [], false, IfOk};
 
-use esm_io::{MemDisk, MemLink};
+use esm_io::MemDisk;
 use esm_journal::{Journal, Pair};
 use std::alloc::{AllocError, Global};
 use std::test::Fail;
@@ -11,9 +10,6 @@ use std::test::Fail;
 pub const FRESH: [u8; 18] = *b"ESMJ0002\0\0\0\0\0\0\0\x01\x01\0";
 
 pub const SPARE: [u8; 18] = *b"ESMJ0002\0\0\0\0\0\0\0\0\0\0";
-
-/// A failure file without lines.
-pub const NO_LINES: [u8; 18] = *b"ESMJ0001\0\0\0\0\0\0\0\x01\x01\0";
 
 /// The payload that the first record of shard 0, whose sequence number is 1, succeeded at moment 0.
 pub const ONE_SUCCESS: [u8; 29] =
@@ -55,27 +51,4 @@ pub fn fresh_pair(alloc: Global, fails: &[u64]) -> Result<Pair<MemDisk>, Fail>
     let journal = first(alloc, fails)?;
     let spare = blank(alloc)?;
     Ok(Pair::open(alloc, journal, spare)?)
-}
-
-/// The pair after a crash of both disks by this choice, opened anew.
-pub fn crashed_pair(alloc: Global, pair: Pair<MemDisk>, choice: u64) -> Result<Pair<MemDisk>, Fail>
-    ensures { IfOk result (λ pair. pair.down ≡ false) }
-{
-    let (journal, spare) = pair.into_disks();
-    let journal = journal.crash(alloc, choice)?;
-    let spare = spare.crash(alloc, choice)?;
-    Ok(Pair::open(alloc, journal, spare)?)
-}
-
-/// A link that gives these bytes in pieces of so many, and whose calls with these numbers fail.
-pub fn link(alloc: Global, bytes: &[u8], piece: usize, fails: &[u64]) -> Result<MemLink, AllocError>
-    requires { 0 < piece }
-    ensures unused { IfOk result IsUnused }
-    ensures left { IfOk result (λ link. link.talk.left ≡ bytes.now) }
-    ensures piece { IfOk result (λ link. link.piece ≡ piece) }
-    ensures fails { IfOk result (λ link. link.schedule.fails ≡ fails.now) }
-{
-    let bytes = Vec::from_slice(alloc, bytes)?;
-    let fails = Vec::from_slice(alloc, fails)?;
-    Ok(MemLink::new(alloc, bytes, piece, fails))
 }

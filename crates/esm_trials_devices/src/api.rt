@@ -1,12 +1,12 @@
 // The worked examples of requests, over a link and a disk in memory.
 ghost use Rattle.std.specs.Prelude.{◌<◌};
 
-use crate::disks::disk;
 use esm_api::{Served, serve_one};
 use esm_io::{MemDisk, MemLink};
 use esm_journal::Journal;
 use esm_model::OutOfMemory;
 use esm_registry::Registry;
+use esm_samples::disk;
 use memchr::memmem::find;
 use std::alloc::{AllocError, Global};
 use std::test::Fail;

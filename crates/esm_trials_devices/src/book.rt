@@ -2,12 +2,12 @@
 ghost use Rattle.std.specs.Prelude.{IfOk};
 ghost use Rattle.esm_trials_devices.specs.Toy.{MayAsk};
 
-use crate::disks::fresh_pair;
 use crate::toy::Names;
 use esm_book::{CallError, Durable};
 use esm_io::{MemDest, MemDisk};
 use esm_journal::Pair;
 use esm_model::{Bytes, OutOfMemory, Trouble};
+use esm_samples::fresh_pair;
 use std::alloc::Global;
 use std::test::Fail;
 

@@ -1,10 +1,10 @@
 // Tests: a journal's bytes, and what is left of it after a disk failed while it was written, and a crash.
 ghost use Rattle.std.specs.Prelude.{◌≡◌, false, IfOk};
 
-use crate::disks::{blank, disk, fresh_pair};
 use esm_io::{Dest, MemDisk};
 use esm_journal::*;
 use esm_model::{Bytes, OutOfMemory};
+use esm_samples::{blank, disk, fresh_pair};
 use std::alloc::Global;
 use std::test::Fail;
 

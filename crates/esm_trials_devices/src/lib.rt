@@ -1,6 +1,6 @@
-//! Worked examples over devices: the forms in memory and the real ones, journals, books, calls of functions and the
-//! commands on a folder's journals. The crate has nothing but these tests, so that each crate that they call is proved
-//! once.
+//! Worked examples over devices: the forms in memory and the real ones, journals, books, calls of functions, the mapping
+//! of a run and the commands on a folder's journals. The crate has nothing but these tests, so that each crate that they
+//! call is proved once.
 #![tactic(auto)]
 
 #[cfg(test)]
@@ -10,11 +10,11 @@ mod book;
 #[cfg(test)]
 mod crossing;
 #[cfg(test)]
-mod disks;
-#[cfg(test)]
 mod invoke;
 #[cfg(test)]
 mod journal;
+#[cfg(test)]
+mod mappings;
 #[cfg(test)]
 mod memory;
 #[cfg(test)]

@@ -1,21 +1,10 @@
 // Tests: what `show`, `compact`, `migrate` and `failures` print, and the bytes that they leave on the disks.
-use crate::disks::disk;
 use esm_io::MemDisk;
 use esm_model::OutOfMemory;
+use esm_samples::{FRESH, OLD, OLD_SPARE, SPARE, disk};
 use esm_upkeep::{PairEnded, UpkeepEnd, compact, failures, migrate, show, upkeep_text};
 use std::alloc::Global;
 use std::test::Fail;
-
-/// A journal in use and a spare, each without payloads.
-const FRESH: [u8; 18] = *b"ESMJ0002\0\0\0\0\0\0\0\x01\x01\0";
-
-const SPARE: [u8; 18] = *b"ESMJ0002\0\0\0\0\0\0\0\0\0\0";
-
-/// A pair of version 1; the journal has the payload of one record that succeeded.
-const OLD: [u8; 52] =
-    *b"ESMJ0001\0\0\0\0\0\0\0\x01\x01\x01\0\0\0\x1d\x01\0\0\0\0\0\0\0\0\x01\0\0\0\0\0\0\0\0\0\0\0\0\x01\0\0\0\0\x011\0";
-
-const OLD_SPARE: [u8; 18] = *b"ESMJ0001\0\0\0\0\0\0\0\0\0\0";
 
 /// A failure file with one line.
 const LINES: [u8; 25] = *b"ESMJ0001\0\0\0\0\0\0\0\x01\x01\x01\0\0\0\x02{}\0";
