@@ -8,51 +8,20 @@ ghost use Rattle.esm_queue_model.specs.WorkedHistories.{queue_mapping};
 ghost use Rattle.esm_trials_books.specs.Queues.{Rests, IsReady, IsQueue, Calls};
 
 use esm_io::MemDisk;
-use esm_journal::{Journal, Pair};
-use esm_model::{
-    BookError, Bytes, CameError, Config, Job, Kind, Message, Next, Reply, Start, Text, Texts,
-};
+use esm_journal::Pair;
+use esm_model::{BookError, Bytes, CameError, Config, Job, Message, Next, Reply};
 use esm_qbook::QueueBook;
+use esm_samples::{fresh_pair, queue_mapping, text};
 use std::alloc::{AllocError, Global};
 use std::test::Fail;
-
-fn text(alloc: Global, chars: &str) -> Result<Text, AllocError>
-    ensures { IfOk result (λ t. t ≡ chars.now) }
-{
-    Ok(Text::from_vec(String::from_str(alloc, chars)?))
-}
 
 /// The mapping of the queue `q` to the function `f`.
 fn mapping(alloc: Global) -> Result<Config, AllocError>
     ensures plain { IfOk result (λ c. c ≡ queue_mapping Standard) }
     ensures is_queue { IfOk result IsQueue }
 {
-    let source_arn = text(alloc, "arn:aws:sqs:us-east-1:123456789012:q")?;
-    let function = text(alloc, "f")?;
-    let function_arn = text(alloc, "arn:aws:lambda:us-east-1:123456789012:function:f")?;
-    let region = text(alloc, "us-east-1")?;
-    let account = text(alloc, "123456789012")?;
-    Ok(Config {
-        source_arn,
-        function,
-        function_arn,
-        region,
-        account,
-        kind: Kind::Standard,
-        batch_size: 10,
-        window_ms: 0,
-        factor: 1,
-        retries: None,
-        age_ms: None,
-        bisect: false,
-        item_failures: false,
-        tumbling_ms: 0,
-        start: Start::TrimHorizon,
-        destination: None,
-        filters: Texts::from_vec(Vec::new(alloc)),
-        concurrency: None,
-        enabled: true,
-    })
+    let config = queue_mapping(alloc)?;
+    Ok(config)
 }
 
 /// The same, whose function reports the messages that failed.
@@ -62,15 +31,6 @@ fn reporting_mapping(alloc: Global) -> Result<Config, AllocError>
     let mut config = mapping(alloc)?;
     config.item_failures = true;
     Ok(config)
-}
-
-/// Two new disks, as a pair.
-fn fresh(alloc: Global) -> Result<Pair<MemDisk>, Fail>
-    ensures { IfOk result (λ pair. pair.down ≡ false) }
-{
-    let journal = Pair::first(MemDisk::new(alloc, Vec::new(alloc), Vec::new(alloc)))?;
-    let spare = Journal::blank(MemDisk::new(alloc, Vec::new(alloc), Vec::new(alloc)))?;
-    Ok(Pair::open(alloc, journal, spare)?)
 }
 
 /// A book of this mapping over a pair that is not down.
@@ -190,7 +150,7 @@ fn finishes(alloc: Global, book: &mut QueueBook<MemDisk>, moment: u64) -> Result
 #[test]
 fn a_queue_runs(rt: HostRuntime) -> Result<(), Fail> {
     let alloc = rt.alloc();
-    let mut book = opened(alloc, mapping(alloc)?, fresh(alloc)?)?;
+    let mut book = opened(alloc, mapping(alloc)?, fresh_pair(alloc, &[])?)?;
     bring(alloc, &mut book, 0, "a", 0)?;
     bring(alloc, &mut book, 1, "b", 0)?;
     let job = begin(alloc, &mut book, 5)?;
@@ -222,7 +182,7 @@ const SHOWN_AGAIN: &str =
 fn queue_item_failures(rt: HostRuntime) -> Result<(), Fail> {
     let alloc = rt.alloc();
     let config = reporting_mapping(alloc)?;
-    let mut book = opened(alloc, config, fresh(alloc)?)?;
+    let mut book = opened(alloc, config, fresh_pair(alloc, &[])?)?;
     bring(alloc, &mut book, 0, "a", 0)?;
     bring(alloc, &mut book, 1, "b", 0)?;
     bring(alloc, &mut book, 2, "c", 0)?;

@@ -9,52 +9,22 @@ ghost use Rattle.esm_trials_books.specs.Streams.{lanes_mapping, IsOpen, Runs, Ke
 
 use esm_book::Nowhere;
 use esm_io::MemDisk;
-use esm_journal::{Journal, Pair};
-use esm_model::{
-    BookError, Bytes, Config, Entry, Job, Kind, Next, Record, Reply, Seq, Start, Text, Texts,
-};
+use esm_model::{BookError, Bytes, Config, Entry, Job, Next, Record, Reply, Seq};
+use esm_samples::{fresh_pair, stream_mapping, text};
 use esm_sbook::Book;
 use std::alloc::{AllocError, Global};
 use std::test::Fail;
 
 type Lanes = Book<MemDisk, Nowhere>;
 
-fn text(alloc: Global, chars: &str) -> Result<Text, AllocError>
-    ensures { IfOk result (λ t. t ≡ chars.now) }
-{
-    Ok(Text::from_vec(String::from_str(alloc, chars)?))
-}
-
-/// The mapping of the stream `s` to the function `f`, with two lanes a shard and one retry.
+/// The stream's mapping with two lanes a shard and one retry.
 fn mapping(alloc: Global) -> Result<Config, AllocError>
     ensures { IfOk result (λ c. c ≡ lanes_mapping) }
 {
-    let source_arn = text(alloc, "arn:aws:kinesis:us-east-1:123456789012:stream/s")?;
-    let function = text(alloc, "f")?;
-    let function_arn = text(alloc, "arn:aws:lambda:us-east-1:123456789012:function:f")?;
-    let region = text(alloc, "us-east-1")?;
-    let account = text(alloc, "123456789012")?;
-    Ok(Config {
-        source_arn,
-        function,
-        function_arn,
-        region,
-        account,
-        kind: Kind::Stream,
-        batch_size: 100,
-        window_ms: 0,
-        factor: 2,
-        retries: Some(1),
-        age_ms: None,
-        bisect: false,
-        item_failures: false,
-        tumbling_ms: 0,
-        start: Start::TrimHorizon,
-        destination: None,
-        filters: Texts::from_vec(Vec::new(alloc)),
-        concurrency: None,
-        enabled: true,
-    })
+    let mut config = stream_mapping(alloc)?;
+    config.factor = 2;
+    config.retries = Some(1);
+    Ok(config)
 }
 
 /// A book over new disks, without a destination.
@@ -62,9 +32,7 @@ fn opened(alloc: Global) -> Result<Lanes, Fail>
     ensures { IfOk result (λ book. IsOpen book.core.past) }
 {
     let config = mapping(alloc)?;
-    let journal = Pair::first(MemDisk::new(alloc, Vec::new(alloc), Vec::new(alloc)))?;
-    let spare = Journal::blank(MemDisk::new(alloc, Vec::new(alloc), Vec::new(alloc)))?;
-    let pair = Pair::open(alloc, journal, spare)?;
+    let pair = fresh_pair(alloc, &[])?;
     match Book::open(alloc, config, 100, pair, Nowhere {}) {
         Ok(book) => Ok(book),
         Err(_) => Err("no book".into()),
