@@ -362,7 +362,8 @@ def filters(t):
 def payload_limit(t):
     f = t.function(always(OK))
     lines = [record(n, data=bytes(300)) for n in range(10000, 20000)]
-    t.run(STREAM | {"BatchSize": 10000}, 0, [shard_line(10000, 10000, succeeded=10000), "calls 2", "done"], f.port, lines)
+    t.run(STREAM | {"BatchSize": 10000}, 0, [shard_line(10000, 10000, succeeded=10000), "calls 2", "done"], f.port, lines,
+          options=["--read-first"])
     t.same("batches", [7844, 2156], [len(event["Records"]) for event in f.events])
 
 
