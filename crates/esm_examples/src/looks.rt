@@ -4,9 +4,7 @@ use crate::worlds::MemEnded;
 use esm_io::{MemDoor, ScriptCaller};
 use esm_model::{Entry, OutOfMemory};
 use std::alloc::Global;
-
-/// Bytes of the front of an answer, up to its status code.
-const ANSWER_FRONT: usize = 12;
+use std::str::from_utf8;
 
 /// Adds a text.
 pub fn add(page: &mut Vec<u8>, text: &str) -> Result<(), OutOfMemory> {
@@ -99,12 +97,15 @@ fn add_sizes(
     Ok(())
 }
 
-/// Adds the front of the answer to each connection, up to its status code.
-fn add_answers(page: &mut Vec<u8>, door: &MemDoor) -> Result<(), OutOfMemory> {
+/// Adds the answer to each connection, without its carriage returns.
+fn add_answers(alloc: Global, page: &mut Vec<u8>, door: &MemDoor) -> Result<(), OutOfMemory> {
     for link in door.closed() {
-        match link.written().get(..ANSWER_FRONT) {
-            Some(front) => add_told(page, front)?,
-            None => add(page, "no answer\n")?,
+        let text = from_utf8(link.written()).unwrap_or("");
+        let text = text.replace(alloc, "\r", "")?;
+        if text.is_empty() {
+            add(page, "no answer\n")?;
+        } else {
+            add_told(page, text.as_bytes())?;
         }
     }
     Ok(())
@@ -150,6 +151,6 @@ pub fn add_look(
             add(page, line.as_str())
         }
         Look::Bytes(device) => add_bytes(alloc, page, ended, device),
-        Look::Answered => add_answers(page, &ended.world.door),
+        Look::Answered => add_answers(alloc, page, &ended.world.door),
     }
 }

@@ -4,6 +4,7 @@
 #![tactic(auto)]
 
 mod commands;
+mod kept;
 mod looks;
 mod script;
 mod settings;

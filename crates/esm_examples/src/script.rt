@@ -57,6 +57,8 @@ pub enum Given<'a> {
         digits: usize,
         text: &'a str,
     },
+    /// `spaces N`: so many spaces in the input.
+    Spaces(usize),
     /// `succeeds`: the function answers status 200 with no body.
     Succeeds,
     /// `answers STATUS BODY`: one more answer of the function, after which it succeeds.
@@ -110,7 +112,7 @@ pub enum Look {
     Entries,
     /// `bytes DEVICE`: the file's bytes.
     Bytes(Device),
-    /// `answered`: how the answer to each connection begins.
+    /// `answered`: the answer to each connection.
     Answered,
 }
 
@@ -174,6 +176,7 @@ fn given_of<'a>(word: &str, rest: &'a str) -> Option<Given<'a>> {
         "<<" => Some(Given::InputPart(rest)),
         "no" if rest == "input" => Some(Given::NoInput),
         "many" => many(rest),
+        "spaces" => Some(Given::Spaces(rest.parse::<usize>().ok()?)),
         "succeeds" if rest.is_empty() => Some(Given::Succeeds),
         "answers" => answers(rest),
         "fails" => Some(Given::Fails(rest)),

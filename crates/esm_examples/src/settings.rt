@@ -2,15 +2,8 @@
 use crate::script::{Device, Fault, Given};
 use crate::texts::padded;
 use esm_model::OutOfMemory;
+use esm_samples::{FRESH, NO_LINES, SPARE};
 use std::alloc::Global;
-
-/// A journal in use and a spare, as `init` makes them.
-const FRESH: &[u8] = b"ESMJ0002\0\0\0\0\0\0\0\x01\x01\0";
-
-const SPARE: &[u8] = b"ESMJ0002\0\0\0\0\0\0\0\0\0\0";
-
-/// A failure file without lines; so is a registry without mappings.
-const NO_LINES: &[u8] = b"ESMJ0001\0\0\0\0\0\0\0\x01\x01\0";
 
 /// The bytes of the four files.
 #[derive(Drop)]
@@ -34,10 +27,10 @@ impl Files {
     /// The files as `init` makes them.
     fn fresh(alloc: Global) -> Result<Files, OutOfMemory> {
         Ok(Files {
-            journal: Vec::from_slice(alloc, FRESH)?,
-            spare: Vec::from_slice(alloc, SPARE)?,
-            failures: Vec::from_slice(alloc, NO_LINES)?,
-            registry: Vec::from_slice(alloc, NO_LINES)?,
+            journal: Vec::from_slice(alloc, &FRESH)?,
+            spare: Vec::from_slice(alloc, &SPARE)?,
+            failures: Vec::from_slice(alloc, &NO_LINES)?,
+            registry: Vec::from_slice(alloc, &NO_LINES)?,
         })
     }
 
@@ -176,6 +169,7 @@ fn set_input(alloc: Global, input: &mut Vec<u8>, given: Given<'_>) -> Result<(),
             digits,
             text,
         } => add_many(alloc, input, (first, last), digits, text)?,
+        Given::Spaces(count) => input.resize(input.len().saturating_add(count), b' ')?,
         _ => input.clear(),
     }
     Ok(())

@@ -1,4 +1,5 @@
 // The tables: a command with each call of a device failing in turn, with a crash after it, and over each front of a file.
+use crate::kept::{called_again, failure_lines, said_in};
 use crate::looks::{add, add_told};
 use crate::script::{Device, Fault};
 use crate::settings::{Files, Setting};
@@ -153,7 +154,7 @@ fn crashed_files(alloc: Global, ended: MemEnded, choice: u64) -> Result<Files, O
     })
 }
 
-/// What a command told, without the line of its calls.
+/// What a command told, without the line of its calls, and how many failure lines there are then.
 fn told_of(alloc: Global, ended: &MemEnded) -> Result<Vec<u8>, OutOfMemory> {
     let mut told = Vec::new(alloc);
     for line in from_utf8(ended.world.out.written()).unwrap_or("").lines() {
@@ -162,6 +163,9 @@ fn told_of(alloc: Global, ended: &MemEnded) -> Result<Vec<u8>, OutOfMemory> {
             add(&mut told, "\n")?;
         }
     }
+    let lines = failure_lines(alloc, ended.world.failures.bytes())?;
+    let line = format!(in alloc; "failure lines {lines}\n")?;
+    add(&mut told, line.as_str())?;
     Ok(told)
 }
 
@@ -173,8 +177,32 @@ pub struct Stops<'a> {
     pub then: &'a [String],
 }
 
-/// The first command with the call of the device failing, a crash of the choice, and what the second command leaves over
-/// the files then. `None` where there was no such call.
+/// What the second command left, and how many records it called that had a fate before it.
+#[derive(Drop)]
+struct Resumed {
+    ended: MemEnded,
+    again: usize,
+}
+
+/// The second command, over the files that a crash left of the first one.
+fn go_on<R: Threads + Wait + Sync>(
+    rt: &R,
+    alloc: Global,
+    setting: &Setting,
+    files: &Files,
+    then: &[String],
+) -> Result<Resumed, OutOfMemory> {
+    let said = said_in(alloc, files)?;
+    let ended = enacted(rt, alloc, setting, files, None, then)?;
+    let again = match &said {
+        Some(said) => called_again(said, ended.world.trace.as_slice()),
+        None => 0,
+    };
+    Ok(Resumed { ended, again })
+}
+
+/// The first command with the call of the device failing, a crash of the choice, and the second command over the files
+/// then. `None` where there was no such call.
 fn stopped<R: Threads + Wait + Sync>(
     rt: &R,
     alloc: Global,
@@ -182,7 +210,7 @@ fn stopped<R: Threads + Wait + Sync>(
     stops: Stops<'_>,
     call: u64,
     choice: u64,
-) -> Result<Option<MemEnded>, OutOfMemory> {
+) -> Result<Option<Resumed>, OutOfMemory> {
     let Stops {
         device,
         words,
@@ -194,11 +222,11 @@ fn stopped<R: Threads + Wait + Sync>(
         return Ok(None);
     }
     let files = crashed_files(alloc, ended, choice)?;
-    let ended = enacted(rt, alloc, setting, &files, None, then)?;
-    Ok(Some(ended))
+    Ok(Some(go_on(rt, alloc, setting, &files, then)?))
 }
 
-/// Counts how the second command ends after each stop of the first, with crashes of the choice.
+/// Counts how the second command ends after each stop of the first, with crashes of the choice; how many records it called
+/// that had a fate.
 fn count_stops<R: Threads + Wait + Sync>(
     rt: &R,
     alloc: Global,
@@ -206,18 +234,22 @@ fn count_stops<R: Threads + Wait + Sync>(
     stops: Stops<'_>,
     choice: u64,
     outcomes: &mut Vec<Outcome>,
-) -> Result<(), OutOfMemory> {
+) -> Result<usize, OutOfMemory> {
+    let mut again = 0usize;
     for call in 0..MANY {
-        let Some(ended) = stopped(rt, alloc, setting, stops, call, choice)? else {
+        let Some(resumed) = stopped(rt, alloc, setting, stops, call, choice)? else {
             break;
         };
+        let Resumed { ended, again: more } = resumed;
         count(outcomes, 0, ended.status, told_of(alloc, &ended)?)?;
+        again = again.saturating_add(more);
     }
-    Ok(())
+    Ok(again)
 }
 
 /// The command over and over, each time with the next call of the device failing, and after each a crash and the second
-/// command: what that told but for its calls, and how often.
+/// command: what that told but for its calls, the failure lines that there are then, and how often; and how many records
+/// it called in all that had a fate.
 pub fn add_stops<R: Threads + Wait + Sync>(
     rt: &R,
     alloc: Global,
@@ -226,10 +258,14 @@ pub fn add_stops<R: Threads + Wait + Sync>(
     stops: Stops<'_>,
 ) -> Result<(), OutOfMemory> {
     let mut outcomes = Vec::new(alloc);
+    let mut again = 0usize;
     for choice in CHOICES {
-        count_stops(rt, alloc, setting, stops, choice, &mut outcomes)?;
+        let more = count_stops(rt, alloc, setting, stops, choice, &mut outcomes)?;
+        again = again.saturating_add(more);
     }
-    add_outcomes(alloc, page, outcomes.as_slice())
+    add_outcomes(alloc, page, outcomes.as_slice())?;
+    let line = format!(in alloc; "called again {again}\n")?;
+    add(page, line.as_str())
 }
 
 /// The files, with this one cut to its first bytes.

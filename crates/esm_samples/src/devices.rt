@@ -11,15 +11,8 @@ pub const FRESH: [u8; 18] = *b"ESMJ0002\0\0\0\0\0\0\0\x01\x01\0";
 
 pub const SPARE: [u8; 18] = *b"ESMJ0002\0\0\0\0\0\0\0\0\0\0";
 
-/// The payload that the first record of shard 0, whose sequence number is 1, succeeded at moment 0.
-pub const ONE_SUCCESS: [u8; 29] =
-    *b"\x01\0\0\0\0\0\0\0\0\x01\0\0\0\0\0\0\0\0\0\0\0\0\x01\0\0\0\0\x011";
-
-/// A journal of version 1 with this payload, and a blank spare of version 1.
-pub const OLD: [u8; 52] =
-    *b"ESMJ0001\0\0\0\0\0\0\0\x01\x01\x01\0\0\0\x1d\x01\0\0\0\0\0\0\0\0\x01\0\0\0\0\0\0\0\0\0\0\0\0\x01\0\0\0\0\x011\0";
-
-pub const OLD_SPARE: [u8; 18] = *b"ESMJ0001\0\0\0\0\0\0\0\0\0\0";
+/// A failure file without lines; so is a registry without mappings.
+pub const NO_LINES: [u8; 18] = *b"ESMJ0001\0\0\0\0\0\0\0\x01\x01\0";
 
 /// A disk with these bytes, all of them synced, whose calls with these numbers fail.
 pub fn disk(alloc: Global, bytes: &[u8], fails: &[u64]) -> Result<MemDisk, AllocError>

@@ -1,4 +1,4 @@
-// Records, messages and replies of the worked examples.
+// Records and messages of the worked examples.
 ghost use Rattle.std.specs.Prelude.{◌≡◌, ◌≤◌, true, false, length, None, IfOk};
 ghost use Rattle.esm_model.specs.declared.limits.TheConstants.{MAX_DATA, MAX_KEY};
 ghost use Rattle.esm_model.specs.Sequence.{is_sequence};
@@ -6,7 +6,7 @@ ghost use Rattle.esm_model.specs.Valid.{IsValidRecord, is_between, char_count};
 ghost use Rattle.esm_queue_model.specs.WorkedHistories.{message};
 
 use crate::mappings::text;
-use esm_model::{Bytes, Message, Record, Reply, Seq, SeqError};
+use esm_model::{Bytes, Message, Record, Seq, SeqError};
 use std::alloc::{AllocError, Global};
 
 /// The record of shard 0 with this sequence number, partition key and data, which arrived at moment 0.
@@ -45,17 +45,5 @@ pub fn message_of(alloc: Global, id: &str, body: &str) -> Result<Message, AllocE
         group: None,
         body,
         sent: 0,
-    })
-}
-
-/// The answer of status 200 with this body, as a function error or not.
-pub fn answered(alloc: Global, error: bool, body: &[u8]) -> Result<Reply, AllocError>
-    ensures { IfOk result (λ r. r ≡ Reply.Answered 200 error body.now) }
-{
-    let body = Vec::from_slice(alloc, body)?;
-    Ok(Reply::Answered {
-        status: 200,
-        error,
-        body: Bytes::from_vec(body),
     })
 }

@@ -145,34 +145,6 @@ fn finishes(alloc: Global, book: &mut QueueBook<MemDisk>, moment: u64) -> Result
     }
 }
 
-/// Two messages come and are called at once, and one payload deletes them. After a restart they are deleted, and a message
-/// that comes with another id than the payload has stops the book.
-#[test]
-fn a_queue_runs(rt: HostRuntime) -> Result<(), Fail> {
-    let alloc = rt.alloc();
-    let mut book = opened(alloc, mapping(alloc)?, fresh_pair(alloc, &[])?)?;
-    bring(alloc, &mut book, 0, "a", 0)?;
-    bring(alloc, &mut book, 1, "b", 0)?;
-    let job = begin(alloc, &mut book, 5)?;
-    assert_eq!(rt; end(alloc, &mut book, job, "", 5)?, 2);
-    shut(&mut book, 5)?;
-    assert!(rt; finishes(alloc, &mut book, 5)?);
-    let parts = book.into_parts();
-    assert_eq!(rt; parts.history.len(), 6);
-    assert_eq!(rt; parts.pair.payloads().len(), 1);
-    let (journal, spare) = parts.pair.into_disks();
-    let pair = Pair::open(alloc, journal.crash(alloc, 0)?, spare.crash(alloc, 0)?)?;
-    let mut book = opened(alloc, mapping(alloc)?, pair)?;
-    bring(alloc, &mut book, 0, "a", 9)?;
-    let Err(CameError::StreamChanged(change)) = bring(alloc, &mut book, 1, "c", 9) else {
-        return Err("no change".into());
-    };
-    assert_eq!(rt; change.kept.as_slice(), b"b".as_slice());
-    assert_eq!(rt; change.given.as_slice(), b"c".as_slice());
-    assert!(rt; book.trouble().is_some());
-    Ok(())
-}
-
 /// The event of the message `b` when it is called for the second time.
 const SHOWN_AGAIN: &str =
     r#"{"Records":[{"messageId":"b","receiptHandle":"RH-1-2","body":"x","attributes":{"ApproximateReceiveCount":"2","SentTimestamp":"0","ApproximateFirstReceiveTimestamp":"0"},"messageAttributes":{},"md5OfBody":"9dd4e461268c8034f5c8564e155c67a6","eventSource":"aws:sqs","eventSourceARN":"arn:aws:sqs:us-east-1:123456789012:q","awsRegion":"us-east-1"}]}"#;

@@ -1,17 +1,14 @@
-// Tests: a journal's bytes, and what is left of it after a disk failed while it was written, and a crash.
+// Tests: what is left of a journal after a disk failed while it was written and a crash, and payloads that are refused.
 ghost use Rattle.std.specs.Prelude.{◌≡◌, false, IfOk};
 
-use esm_io::{Dest, MemDisk};
+use esm_io::MemDisk;
 use esm_journal::*;
 use esm_model::{Bytes, OutOfMemory};
-use esm_samples::{blank, disk, fresh_pair};
+use esm_samples::{NO_LINES, blank, disk};
 use std::alloc::Global;
 use std::test::Fail;
 
-/// A journal's file with the payload of one record that succeeded.
-const FILE: [u8; 52] =
-    *b"ESMJ0001\0\0\0\0\0\0\0\x01\x01\x01\0\0\0\x1d\x01\0\0\0\0\0\0\0\0\x01\0\0\0\0\0\0\0\0\0\0\0\0\x01\0\0\0\0\x011\0";
-
+/// A journal's payload.
 const PAYLOAD: [u8; 29] = *b"\x01\0\0\0\0\0\0\0\0\x01\0\0\0\0\0\0\0\0\0\0\0\0\x01\0\0\0\0\x011";
 
 /// A fresh journal; the calls of its disk with these numbers fail.
@@ -20,11 +17,11 @@ fn fresh(alloc: Global, fails: &[u64]) -> Result<Journal<MemDisk>, Fail> {
     Ok(Journal::init(alloc, empty)?)
 }
 
-/// The journal of `FILE`.
+/// A journal without payloads.
 fn opened(alloc: Global) -> Result<Journal<MemDisk>, Fail>
     ensures up { IfOk result (λ journal. journal.down ≡ false) }
 {
-    let file = disk(alloc, &FILE, &[])?;
+    let file = disk(alloc, &NO_LINES, &[])?;
     Ok(Journal::open(alloc, file)?)
 }
 
@@ -62,20 +59,6 @@ fn append_stopped(rt: HostRuntime) -> Result<(), Fail> {
     Ok(())
 }
 
-/// The disk of a journal to which the payload was added.
-fn written(alloc: Global) -> Result<MemDisk, Fail> {
-    let mut journal = fresh(alloc, &[])?;
-    journal.reserve(alloc, &[29])?;
-    journal.append(alloc, &PAYLOAD)?;
-    Ok(journal.into_disk())
-}
-
-#[test]
-fn journal_has_the_bytes(rt: HostRuntime) -> Result<(), Fail> {
-    assert!(rt; written(rt.alloc())?.bytes() == FILE.as_slice());
-    Ok(())
-}
-
 /// The answer to a payload that is one byte too long.
 fn long_added(alloc: Global) -> Result<Option<AppendError>, Fail> {
     let long = vec![in alloc; 0; 16_777_217]?;
@@ -98,63 +81,6 @@ fn payload_bytes(rt: HostRuntime) -> Result<(), Fail> {
         Some(AppendError::TooLong(16_777_217))
     );
     assert_eq!(rt; blank_again(rt.alloc())?, Some(InitError::NotEmpty(18)));
-    Ok(())
-}
-
-/// How many lines a destination over `FILE` has after a delivery.
-fn delivered(alloc: Global) -> Result<usize, Fail> {
-    let mut dest = FileDest::new(opened(alloc)?);
-    dest.reserve(alloc, 2)?;
-    dest.deliver(alloc, b"{}")?;
-    Ok(dest.into_journal().payloads().len())
-}
-
-#[test]
-fn lines_are_delivered(rt: HostRuntime) -> Result<(), Fail> {
-    assert_eq!(rt; delivered(rt.alloc())?, 2);
-    Ok(())
-}
-
-/// The disks of a pair to which the payload was added.
-fn added(alloc: Global) -> Result<(MemDisk, MemDisk), Fail> {
-    let mut pair = fresh_pair(alloc, &[])?;
-    pair.reserve(alloc, &[29])?;
-    pair.append(alloc, &PAYLOAD)?;
-    Ok(pair.into_disks())
-}
-
-/// The bytes of the first of these disks, and the payloads and the epoch of the pair opened anew.
-fn reopened(alloc: Global) -> Result<(usize, usize, u64), Fail> {
-    let (journal, spare) = added(alloc)?;
-    let bytes = journal.bytes().len();
-    let pair = Pair::open(alloc, journal, spare)?;
-    Ok((bytes, pair.payloads().len(), pair.epoch()))
-}
-
-#[test]
-fn pair_opens_to_what_was_added(rt: HostRuntime) -> Result<(), Fail> {
-    assert_eq!(rt; reopened(rt.alloc())?, (52, 1, 1));
-    Ok(())
-}
-
-/// The disk that was a fresh pair's spare one, after a list without payloads was written.
-fn compacted(alloc: Global) -> Result<MemDisk, Fail> {
-    let mut pair = fresh_pair(alloc, &[])?;
-    if pair.epoch() != 1 {
-        return Err(Fail::from("not the first epoch"));
-    }
-    pair.rewrite(alloc, &[])?;
-    let (_, spare) = pair.into_disks();
-    Ok(spare)
-}
-
-#[test]
-fn compact_fresh(rt: HostRuntime) -> Result<(), Fail> {
-    let spare = compacted(rt.alloc())?;
-    assert_eq!(rt;
-        spare.bytes(),
-        b"ESMJ0002\0\0\0\0\0\0\0\x02\x01\0".as_slice()
-    );
     Ok(())
 }
 
@@ -214,36 +140,5 @@ fn rewrite_stopped(rt: HostRuntime) -> Result<(), Fail> {
         assert_eq!(rt; all_left_of_list(rt.alloc(), k)?, [1, 1, 1], "{k}");
     }
     assert_eq!(rt; all_left_of_list(rt.alloc(), 9)?, [1, 2, 2]);
-    Ok(())
-}
-
-/// The pair of `FILE` and a blank spare disk of version 1, migrated.
-fn migrated(alloc: Global) -> Result<Migrated<MemDisk>, Fail> {
-    let journal = disk(alloc, &FILE, &[])?;
-    let spare = disk(alloc, b"ESMJ0001\0\0\0\0\0\0\0\0\0\0", &[])?;
-    Ok(Pair::migrate(alloc, journal, spare)?)
-}
-
-/// The version in which it was found, the number of payloads, the bytes of its spare disk, and its head.
-fn migrated_once(alloc: Global) -> Result<(u8, u32, usize, Option<[u8; 17]>), Fail> {
-    let once = migrated(alloc)?;
-    let (was, count) = (once.was, once.count);
-    let (_, spare) = once.pair.into_disks();
-    let bytes = spare.bytes();
-    Ok((was, count, bytes.len(), bytes.first_chunk::<17>().copied()))
-}
-
-/// The version in which it was found when it was migrated again, and its payloads.
-fn migrated_again(alloc: Global) -> Result<(u8, usize), Fail> {
-    let (journal, spare) = migrated(alloc)?.pair.into_disks();
-    let again = Pair::migrate(alloc, journal, spare)?;
-    Ok((again.was, again.pair.payloads().len()))
-}
-
-#[test]
-fn migrate_once(rt: HostRuntime) -> Result<(), Fail> {
-    let head = *b"ESMJ0002\0\0\0\0\0\0\0\x02\x01";
-    assert_eq!(rt; migrated_once(rt.alloc())?, (1, 1, 52, Some(head)));
-    assert_eq!(rt; migrated_again(rt.alloc())?, (2, 1));
     Ok(())
 }

@@ -4,16 +4,10 @@ ghost use Rattle.std.specs.Prelude.{◌≡◌, [], length, IfOk};
 use esm_io::{Caller, Clock, MemDisk, MemDoor, MemSink, MemSource};
 use esm_model::{Entry, OutOfMemory};
 use esm_run::{Ended, World, esm};
+use esm_samples::{FRESH, NO_LINES, SPARE, disk};
 use std::alloc::Global;
 use std::sync::Wait;
 use std::thread::Threads;
-
-/// A journal in use and a spare, each without payloads, and a failure file or a registry without any.
-const FRESH: &[u8] = b"ESMJ0002\0\0\0\0\0\0\0\x01\x01\0";
-
-const SPARE: &[u8] = b"ESMJ0002\0\0\0\0\0\0\0\0\0\0";
-
-const SINGLE: &[u8] = b"ESMJ0001\0\0\0\0\0\0\0\x01\x01\0";
 
 /// How a command ended: its status, what it told, and the history that it left.
 #[derive(Drop)]
@@ -21,10 +15,6 @@ pub struct Told {
     pub status: u8,
     pub out: Vec<u8>,
     pub trace: Vec<Entry>,
-}
-
-fn disk(alloc: Global, bytes: &[u8]) -> Result<MemDisk, OutOfMemory> {
-    Ok(MemDisk::new(alloc, Vec::from_slice(alloc, bytes)?, Vec::new(alloc)))
 }
 
 fn words(alloc: Global, texts: &[&str]) -> Result<Vec<String>, OutOfMemory> {
@@ -49,10 +39,10 @@ fn world<C: Clock + Drop, F: Caller + Drop>(
     Ok(World {
         input: MemSource::new(input, 65536, Vec::new(alloc)),
         out: MemSink::new(alloc, 65536, Vec::new(alloc)),
-        journal: disk(alloc, FRESH)?,
-        spare: disk(alloc, SPARE)?,
-        failures: disk(alloc, SINGLE)?,
-        registry: disk(alloc, SINGLE)?,
+        journal: disk(alloc, &FRESH, &[])?,
+        spare: disk(alloc, &SPARE, &[])?,
+        failures: disk(alloc, &NO_LINES, &[])?,
+        registry: disk(alloc, &NO_LINES, &[])?,
         clock,
         callers,
         door: MemDoor::new(alloc, Vec::new(alloc), Vec::new(alloc)),

@@ -1,0 +1,14 @@
+//! Worked examples of calls that need no device: mappings, filter patterns, window states, batches and queues. The crate
+//! has nothing but these tests, so that each crate that they call is proved once.
+#![tactic(auto)]
+
+#[cfg(test)]
+mod batch;
+#[cfg(test)]
+mod config;
+#[cfg(test)]
+mod filter;
+#[cfg(test)]
+mod queue;
+#[cfg(test)]
+mod window;
