@@ -548,13 +548,10 @@ def fifo(t):
 def killed(t, kills):
     """A run over a folder is killed at random moments, and begun again."""
     random.seed(1)
-    count = 3000
+    count = 60 * kills  # more than are called between two kills
     lines = [record(n, key=f"k{n % 50}", shard=n % 3) for n in range(1, count + 1)]
     t.in_folder(lines)
-    numbers = {}
-    for n in range(1, count + 1):
-        shard = n % 3
-        numbers[(shard, sum(1 for key in numbers if key[0] == shard))] = str(n)
+    numbers = {(n % 3, (n - 1) // 3): str(n) for n in range(1, count + 1)}
     journal = t.folder / "journal.esm"
     had, again = set(), []
 
