@@ -18,3 +18,4 @@ pub mod Closed
 pub mod Following
 pub mod Sent
 pub mod Runs
+pub mod Together

@@ -6,3 +6,4 @@ pub mod Stopping
 pub mod Ran
 pub mod Readings
 pub mod Left
+pub mod Pauses

@@ -1,6 +1,7 @@
 //! What runs of a stream's and of a queue's book have in common: what came of asking batchers, and why batchers or the
 //! reader stop before the end.
-ghost use Rattle.std.specs.Prelude.{◌≡◌, ◌⊎◌, None, true, false};
+ghost use Rattle.std.specs.Prelude.{◌≡◌, ◌||◌, None, true, false};
+ghost use Rattle.esm_pool.specs.Pauses.{earlier_of};
 ghost use Rattle.esm_pool.specs.declared.rounds.Halt.TheVariants as halt;
 
 use esm_io::Clock;
@@ -68,10 +69,9 @@ impl Round {
 
     /// With what came of asking one more batcher.
     pub fn with(self, one: Round) -> Round
-        ensures worked { result.worked ≡ false → (self.worked ≡ false) × (one.worked ≡ false) }
-        ensures until { result.until ≡ None → (self.until ≡ None) × (one.until ≡ None) }
-        ensures unspent { result.spent ≡ false → (self.spent ≡ false) × (one.spent ≡ false) }
-        ensures spent { result.spent ≡ true → (self.spent ≡ true) ⊎ (one.spent ≡ true) }
+        ensures worked { result.worked ≡ (self.worked || one.worked) }
+        ensures until { result.until ≡ earlier_of self.until one.until }
+        ensures spent { result.spent ≡ (self.spent || one.spent) }
     {
         Round {
             worked: self.worked || one.worked,
@@ -83,7 +83,7 @@ impl Round {
 
 /// The lesser of two moments, where there are any.
 fn earlier(a: Option<u64>, b: Option<u64>) -> Option<u64>
-    ensures { result ≡ None → (a ≡ None) × (b ≡ None) }
+    ensures { result ≡ earlier_of a b }
 {
     match (a, b) {
         (Some(x), Some(y)) => Some(x.min(y)),
@@ -95,7 +95,8 @@ fn earlier(a: Option<u64>, b: Option<u64>) -> Option<u64>
 /// The moment, read anew where a batcher worked since.
 pub fn refreshed<C: Clock>(clock: &C, moment: u64, worked: bool) -> u64
     requires { C.gave moment ≡ true }
-    ensures { C.gave result ≡ true }
+    ensures given { C.gave result ≡ true }
+    ensures kept { worked ≡ false → result ≡ moment }
 {
     if worked { clock.now() } else { moment }
 }

@@ -1,8 +1,9 @@
-use Rattle.std.proofs.Common.{◌≡◌, ap, rules, subst, arith}
+use Rattle.std.proofs.Common.{◌≡◌, ap, rules, subst, sym, ◌∙◌, arith}
 use Rattle.esm_batchers.specs.Working.{outside}
 use Rattle.esm_pool.specs.declared.rounds.Round.{Round}
 use Rattle.esm_qpool.specs.Running.{AreQuiet}
 use Rattle.esm_qpool.proofs.Asking.{have_none, have_one, have_then, quiet_none, quiet_more}
+use Rattle.esm_pool.proofs.Together.{neither, either, no_pause}
 use Rattle.esm_qpool.proofs.Stops.{stopped_after, stopped_one}
 use Rattle.esm_qpool.proofs.batchers.ask_all.Goals as goal
 
@@ -16,10 +17,12 @@ loop-batcher-preserved g c = (
       (have_one (outside g.C.Clock.gave g.F.Caller.sends g.F.Caller.log) c.args.batchers c.loop-batcher.book c.ask.new.book c.loop-batcher.callers.items c.loop-batcher.batcher _ c.ask.new.caller (omega arith) (search rules) (search rules) (c.in_ok-one.ensures.asked (λ is. absurd (cc)))),
   c.in_ok-one.ensures.up (λ is. absurd (cc)),
   (λ still.
-      let parts = c.with-all.ensures.worked still in
+      let parts = neither c.loop-batcher.all.worked c.in_ok-one.one.worked (sym c.with-all.ensures.worked ∙ still) in
       quiet_more c.args.book.now c.loop-batcher.book c.ask.new.book c.loop-batcher.batcher c.loop-batcher.all.until c.in_ok-one.one.until c.with-all.result.until c.loop-batcher.all.spent c.in_ok-one.one.spent c.with-all.result.spent
-      c.with-all.ensures.until c.with-all.ensures.unspent c.with-all.ensures.spent (c.loop-batcher.invariant.2 parts.0) (c.in_ok-one.ensures.quiet parts.1)),
-  c.refreshed-moment.ensures,
+      (λ none. no_pause c.loop-batcher.all.until c.in_ok-one.one.until (sym c.with-all.ensures.until ∙ none))
+      (λ none. neither c.loop-batcher.all.spent c.in_ok-one.one.spent (sym c.with-all.ensures.spent ∙ none))
+      (λ one. either c.loop-batcher.all.spent c.in_ok-one.one.spent (sym c.with-all.ensures.spent ∙ one)) (c.loop-batcher.invariant.2 parts.0) (c.in_ok-one.ensures.quiet parts.1)),
+  c.refreshed-moment.ensures.given,
 )
 
 pub returns-clause-quiet : goal.returns-clause-quiet
