@@ -1,6 +1,7 @@
 // The disks and the input of a run, in memory or in a folder.
+use esm_host::{FileDisk, FileSource};
 use esm_init::{Disks, FileName, InitEnd, Initialized, init};
-use esm_io::{FileDisk, FileSource, MemDisk};
+use esm_io::MemDisk;
 use esm_model::{OutOfMemory, Text};
 use std::alloc::Global;
 use std::fs::File;

@@ -4,11 +4,10 @@ ghost use Rattle.std.specs.Prelude.{◌≡◌, [], length, IfOk};
 use crate::callers::callers;
 use crate::disks::{disks_in, fresh_disks, input_in};
 use crate::opening::Opening;
+use esm_host::{FileDisk, FileSource, HostClock, StdinSource, StdoutSink, TcpDoor};
 use esm_init::Disks;
 use esm_invoke::ProgramCaller;
-use esm_io::{
-    Disk, FileDisk, FileSource, HostClock, MemDisk, Source, StdinSource, StdoutSink, TcpDoor,
-};
+use esm_io::{Disk, MemDisk, Source};
 use esm_model::{MAX_LANES, OutOfMemory};
 use esm_run::World;
 use std::alloc::Global;

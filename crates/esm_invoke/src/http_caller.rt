@@ -2,7 +2,8 @@
 ghost use Rattle.std.specs.Prelude.{◌≡◌, None, IfOk};
 
 use crate::call::call_over;
-use esm_io::{Caller, TcpLink};
+use esm_host::TcpLink;
+use esm_io::Caller;
 use esm_model::{OutOfMemory, Reply};
 use std::alloc::Global;
 use std::marker::Model;

@@ -1,4 +1,4 @@
--- What the forms hold, in memory and real. This product's own.
+-- What the forms in memory hold. This product's own.
 use Rattle.std.specs.Prelude.{◌≡◌, ℕ, Bool, List, Some}
 use Rattle.esm_io.specs.Schedule.{ScheduleState}
 use Rattle.esm_io.specs.Talks.{Talk, Closed, IsFresh}
@@ -43,12 +43,3 @@ pub record DoorState : Type 0 where
   pub links : List LinkState
   pub closed : List LinkState
   pub schedule : ScheduleState
-
--- a real form: its count of faults
-pub record RealState : Type 0 where
-  pub faults : ℕ
-
--- a file as a disk: whether it is down for good, and its count of faults
-pub record FileDiskState : Type 0 where
-  pub down : Bool
-  pub faults : ℕ

@@ -1,8 +1,6 @@
 // Tests: the forms of the devices may move between threads, and their clocks may be shared.
-use esm_io::{
-    FileDisk, FileSource, HostClock, MemDest, MemDisk, MemDoor, MemLink, MemSink, MemSource,
-    ScriptCaller, StdinSource, StdoutSink, StepClock, TcpDoor, TcpLink,
-};
+use esm_host::{FileDisk, FileSource, HostClock, StdinSource, StdoutSink, TcpDoor, TcpLink};
+use esm_io::{MemDest, MemDisk, MemDoor, MemLink, MemSink, MemSource, ScriptCaller, StepClock};
 
 fn crosses<T: Send>() {}
 

@@ -1,6 +1,7 @@
 // The real forms over a real file and a real connection. Standard input and output have none: a test's are not its own.
 
-use esm_io::{Disk, Door, Failed, FileDisk, FileSource, Link, Source, TcpDoor, TcpLink};
+use esm_host::{FileDisk, FileSource, TcpDoor, TcpLink};
+use esm_io::{Disk, Door, Failed, Link, Source};
 use esm_model::Text;
 use std::fs::File;
 use std::net::{Ipv4Addr, Net, OpenListener, TcpListener, TcpStream};

@@ -3,7 +3,8 @@ ghost use Rattle.std.specs.Prelude.{◌≡◌, length, IfOk};
 
 use crate::functions::{Gate, GateCaller};
 use crate::worlds::told_over;
-use esm_io::{HostClock, StepClock};
+use esm_host::HostClock;
+use esm_io::StepClock;
 use esm_model::OutOfMemory;
 use std::alloc::Global;
 use std::sync::atomic::Ordering;

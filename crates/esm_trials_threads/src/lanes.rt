@@ -3,7 +3,7 @@ ghost use Rattle.std.specs.Prelude.{◌≡◌, length, IfOk};
 
 use crate::functions::{Running, SlowCaller};
 use crate::worlds::told_over;
-use esm_io::HostClock;
+use esm_host::HostClock;
 use esm_model::OutOfMemory;
 use std::alloc::Global;
 use std::sync::atomic::{AtomicU32, Ordering};

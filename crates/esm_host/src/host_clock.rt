@@ -1,7 +1,7 @@
 // The clock of the host, which tells the moment and pauses.
 ghost use Rattle.std.specs.Prelude.{true};
 
-use crate::clock::Clock;
+use esm_io::Clock;
 use esm_model::OutOfMemory;
 use std::time::Duration;
 

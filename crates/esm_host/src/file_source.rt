@@ -1,9 +1,8 @@
 // A file of the host as a source, read from its front.
 ghost use Rattle.std.specs.Prelude.{◌≡◌, None, IfOk};
 
-use crate::failed::Failed;
 use crate::real::counted;
-use crate::source::Source;
+use esm_io::{Failed, Source};
 use esm_model::{OutOfMemory, Text};
 use std::fs;
 use std::io::Read;
@@ -20,7 +19,7 @@ pub struct FileSource<R: Files + Clone> {
 }
 
 impl<R: Files + Clone> Model for FileSource<R> {
-    ghost use Rattle.esm_io.specs.Forms.{RealState};
+    ghost use Rattle.esm_host.specs.Forms.{RealState};
 
     ghost Value = { RealState };
 

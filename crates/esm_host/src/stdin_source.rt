@@ -1,9 +1,8 @@
 // Standard input as a source.
 ghost use Rattle.std.specs.Prelude.{◌≡◌, None, IfOk};
 
-use crate::failed::Failed;
 use crate::real::counted;
-use crate::source::Source;
+use esm_io::{Failed, Source};
 use esm_model::OutOfMemory;
 use std::io::Read;
 use std::marker::Model;
@@ -17,7 +16,7 @@ pub struct StdinSource<R: Input + Clone> {
 }
 
 impl<R: Input + Clone> Model for StdinSource<R> {
-    ghost use Rattle.esm_io.specs.Forms.{RealState};
+    ghost use Rattle.esm_host.specs.Forms.{RealState};
 
     ghost Value = { RealState };
 

@@ -2,9 +2,8 @@
 ghost use Rattle.std.specs.Prelude.{◌≡◌, [], true, false, IfOk, IsErr, OnOk, OnErr};
 ghost use Rattle.esm_io.specs.Faults.{IsCount, Rose};
 
-use crate::disk::Disk;
-use crate::failed::Failed;
 use crate::real::counted;
+use esm_io::{Disk, Failed};
 use esm_model::{OutOfMemory, Text};
 use std::fs::{File, OpenOptions};
 use std::io::{Read, Seek, SeekFrom, Write};
@@ -33,7 +32,7 @@ pub struct FileDisk<R: Files<File = File> + Clone> {
 }
 
 impl<R: Files<File = File> + Clone> Model for FileDisk<R> {
-    ghost use Rattle.esm_io.specs.Forms.{FileDiskState};
+    ghost use Rattle.esm_host.specs.Forms.{FileDiskState};
 
     ghost Value = { FileDiskState };
 

@@ -1,9 +1,8 @@
 // Standard output as a sink.
 ghost use Rattle.std.specs.Prelude.{◌≡◌, ◌<◌, ◌≤◌, None, IfOk, length};
 
-use crate::failed::Failed;
 use crate::real::counted;
-use crate::sink::Sink;
+use esm_io::{Failed, Sink};
 use esm_model::OutOfMemory;
 use std::io;
 use std::marker::Model;
@@ -16,7 +15,7 @@ pub struct StdoutSink<R: Print + Clone> {
 }
 
 impl<R: Print + Clone> Model for StdoutSink<R> {
-    ghost use Rattle.esm_io.specs.Forms.{RealState};
+    ghost use Rattle.esm_host.specs.Forms.{RealState};
 
     ghost Value = { RealState };
 

@@ -1,10 +1,9 @@
 // A port of 127.0.0.1 as a door, where connections over TCP come in.
 ghost use Rattle.std.specs.Prelude.{◌≡◌, None, IfOk};
 
-use crate::door::Door;
-use crate::failed::Failed;
 use crate::real::counted;
 use crate::tcp_link::TcpLink;
+use esm_io::{Door, Failed};
 use esm_model::OutOfMemory;
 use std::alloc::Global;
 use std::io;
@@ -27,7 +26,7 @@ pub struct TcpDoor<R: Net + Clone> {
 }
 
 impl<R: Net + Clone> Model for TcpDoor<R> {
-    ghost use Rattle.esm_io.specs.Forms.{RealState};
+    ghost use Rattle.esm_host.specs.Forms.{RealState};
 
     ghost Value = { RealState };
 

@@ -3,7 +3,7 @@ ghost use Rattle.std.specs.Prelude.{◌≡◌, IfOk, Ok, OnOk, OnErr, IsErr};
 ghost use Rattle.esm_io.specs.Faults.{IsCount, Rose};
 ghost use Rattle.esm_io.specs.Schedule.{one_more};
 
-use crate::failed::Failed;
+use esm_io::Failed;
 use std::io;
 
 /// The result of a call of the system; a failure is counted.

@@ -1,9 +1,8 @@
 // A connection over TCP as a link, made to a local port or accepted by a door.
 ghost use Rattle.std.specs.Prelude.{◌≡◌, ◌<◌, ◌≤◌, None, IfOk, length};
 
-use crate::failed::Failed;
-use crate::link::Link;
 use crate::real::counted;
+use esm_io::{Failed, Link};
 use esm_model::OutOfMemory;
 use std::io;
 use std::io::{Read, Write};
@@ -29,7 +28,7 @@ struct Peer<R: Net + Clone> {
 }
 
 impl<R: Net + Clone> Model for TcpLink<R> {
-    ghost use Rattle.esm_io.specs.Forms.{RealState};
+    ghost use Rattle.esm_host.specs.Forms.{RealState};
 
     ghost Value = { RealState };
 

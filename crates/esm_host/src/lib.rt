@@ -1,0 +1,20 @@
+//! The devices of the host behind the traits of `esm_io`: files, the standard streams, the clock and connections over
+//! TCP, a few lines each. They count their faults and tell nothing of content.
+#![tactic(auto)]
+
+mod file_disk;
+mod file_source;
+mod host_clock;
+mod real;
+mod stdin_source;
+mod stdout_sink;
+mod tcp_door;
+mod tcp_link;
+
+pub use file_disk::FileDisk;
+pub use file_source::FileSource;
+pub use host_clock::HostClock;
+pub use stdin_source::StdinSource;
+pub use stdout_sink::StdoutSink;
+pub use tcp_door::TcpDoor;
+pub use tcp_link::TcpLink;
