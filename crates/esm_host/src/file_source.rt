@@ -45,6 +45,10 @@ impl<R: Files + Clone> Source for FileSource<R> {
 
     ghost left = { λ s. None };
 
+    fn is_ready(&self, _patience: u64) -> bool {
+        true
+    }
+
     fn read(&mut self, into: &mut [u8]) -> Result<usize, Failed> {
         let mut file = match self.file.take() {
             Some(file) => file,

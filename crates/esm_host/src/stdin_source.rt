@@ -41,6 +41,10 @@ impl<R: Input + Clone> Source for StdinSource<R> {
 
     ghost left = { λ s. None };
 
+    fn is_ready(&self, _patience: u64) -> bool {
+        true
+    }
+
     fn read(&mut self, into: &mut [u8]) -> Result<usize, Failed> {
         let mut reader = match self.reader.take() {
             Some(reader) => reader,

@@ -52,6 +52,10 @@ impl Source for MemSource {
 
     ghost left = { λ s. Some s.left };
 
+    fn is_ready(&self, _patience: u64) -> bool {
+        true
+    }
+
     fn read(&mut self, into: &mut [u8]) -> Result<usize, Failed>
         ensures within { IfOk result (λ n. n ≤ length into.old) }
         ensures taken { IfOk result (λ n. TakesFront (Some self.old.left) (Some self.new.left) (take n into.new)) }

@@ -13,6 +13,10 @@ pub trait Source {
     /// The bytes that are left to read, where it tells them.
     ghost left: { Self → Option (List ℕ) };
 
+    /// Whether a read would not wait. It waits for that itself, for `patience` milliseconds at most. True also where
+    /// that cannot be told.
+    fn is_ready(&self, patience: u64) -> bool;
+
     /// Puts bytes at the front of `into` and answers how many. For an `into` that is not empty 0 is the end.
     /// `Failed` only where the count of faults rose; it has taken nothing then.
     fn read(&mut self, into: &mut [u8]) -> Result<usize, Failed>
