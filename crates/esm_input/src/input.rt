@@ -143,6 +143,11 @@ impl<S: Source> Input<S> {
         self.end.as_ref()
     }
 
+    /// Whether a read would not wait. It waits for that itself, for `patience` milliseconds at most. Takes no memory.
+    pub fn is_ready(&self, patience: u64) -> bool {
+        self.source.is_ready(patience)
+    }
+
     /// The number of lanes of a shard. Takes no memory.
     pub fn factor(&self) -> u32
         ensures { result ≡ self.now.factor }
