@@ -1,1 +1,4 @@
+pub mod Errors
 pub mod Forms
+pub mod Limits
+pub mod Streams

@@ -1,8 +1,10 @@
 // A file of the host as a disk: opened and locked by its first call, and synced with its folder.
 ghost use Rattle.std.specs.Prelude.{◌≡◌, [], true, false, IfOk, IsErr, OnOk, OnErr};
 ghost use Rattle.esm_io.specs.Faults.{IsCount, Rose};
+ghost use Rattle.esm_host.specs.Streams.{IsAboveStreams};
 
 use crate::real::counted;
+use crate::streams::above_streams;
 use esm_io::{Disk, Failed};
 use esm_model::{OutOfMemory, Text};
 use std::fs::{File, OpenOptions};
@@ -16,7 +18,8 @@ use std::{fs, io};
 ///
 /// The first call opens the file, makes a missing one with length 0, and takes an exclusive advisory lock (`flock`)
 /// that stands until this value is dropped. Where that fails, as in a missing folder or at a file that another open
-/// has locked, the call is a fault and the next one tries again.
+/// has locked, the call is a fault and the next one tries again. It works on none of the descriptors of the standard
+/// streams: an open that gave one is a fault too.
 ///
 /// The first `sync` syncs the file's folder too, so that a file that was made is still found there after a crash.
 /// After a `write_at` or a `sync` that failed every later call is a fault: what the system still holds of the bytes
@@ -32,20 +35,27 @@ pub struct FileDisk<R: Files<File = File> + Clone> {
 }
 
 impl<R: Files<File = File> + Clone> Model for FileDisk<R> {
+    ghost use Rattle.std.specs.Prelude.{IfSome};
     ghost use Rattle.esm_host.specs.Forms.{FileDiskState};
+    ghost use Rattle.esm_host.specs.Streams.{IsAboveStreams};
 
     ghost Value = { FileDiskState };
 
     ghost view = { λ s. record { down = s.down; faults = s.faults } };
+
+    ghost invariant = { λ s. IfSome s.file IsAboveStreams };
 }
 
 /// Opens and locks the file; makes a missing one.
-fn open_locked<R: Files<File = File>>(rt: &R, path: &str) -> io::Result<File> {
-    let file = OpenOptions::new()
+fn open_locked<R: Files<File = File>>(rt: &R, path: &str) -> io::Result<File>
+    ensures above { IfOk result IsAboveStreams }
+{
+    let opened = OpenOptions::new()
         .read(true)
         .write(true)
         .create(true)
         .open(rt, path)?;
+    let file = above_streams(opened)?;
     file.try_lock()?;
     Ok(file)
 }
@@ -59,15 +69,15 @@ fn folder_of(path: &str) -> &str {
 }
 
 fn sync_folder<R: Files<File = File>>(rt: &R, path: &str) -> io::Result<()> {
-    fs::open(rt, folder_of(path))?.sync_all()
+    above_streams(fs::open(rt, folder_of(path))?)?.sync_all()
 }
 
-fn read_at(file: &mut File, at: u64, into: &mut [u8]) -> io::Result<()> {
+fn read_at(mut file: &File, at: u64, into: &mut [u8]) -> io::Result<()> {
     file.seek(SeekFrom::Start(at))?;
     file.read_exact(into)
 }
 
-fn write_at(file: &mut File, at: u64, from: &[u8]) -> io::Result<()> {
+fn write_at(mut file: &File, at: u64, from: &[u8]) -> io::Result<()> {
     file.seek(SeekFrom::Start(at))?;
     file.write_all(from)
 }
@@ -90,6 +100,7 @@ impl<R: Files<File = File> + Clone> FileDisk<R> {
 
     /// The open file, taken out for one call; `file` is to be set again.
     fn take_file(&mut self) -> io::Result<File>
+        ensures above { IfOk result IsAboveStreams }
         ensures same { self.new ≡ self.old }
         ensures down { self.old.down ≡ true → IsErr result }
     {
@@ -116,8 +127,8 @@ impl<R: Files<File = File> + Clone> FileDisk<R> {
         ensures same { self.new ≡ self.old }
         ensures down { self.old.down ≡ true → IsErr result }
     {
-        let mut file = self.take_file()?;
-        let done = read_at(&mut file, at, into);
+        let file = self.take_file()?;
+        let done = read_at(&file, at, into);
         self.file = Some(file);
         done
     }
@@ -126,8 +137,8 @@ impl<R: Files<File = File> + Clone> FileDisk<R> {
         ensures same { self.new ≡ self.old }
         ensures down { self.old.down ≡ true → IsErr result }
     {
-        let mut file = self.take_file()?;
-        let done = write_at(&mut file, at, from);
+        let file = self.take_file()?;
+        let done = write_at(&file, at, from);
         self.file = Some(file);
         done
     }

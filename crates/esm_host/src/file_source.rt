@@ -1,32 +1,47 @@
 // A file of the host as a source, read from its front.
 ghost use Rattle.std.specs.Prelude.{◌≡◌, None, IfOk};
+ghost use Rattle.esm_host.specs.Streams.{IsAboveStreams};
 
+use crate::again::read_again;
 use crate::real::counted;
+use crate::streams::above_streams;
 use esm_io::{Failed, Source};
 use esm_model::{OutOfMemory, Text};
-use std::fs;
-use std::io::Read;
+use std::fs::File;
 use std::marker::Model;
 use std::rt::Files;
+use std::{fs, io};
 
-/// A file that is read from its front. A missing one is a fault of the first read.
+/// A file that is read from its front. A missing one is a fault of the first read. It reads from none of the descriptors
+/// of the standard streams: an open that gave one is a fault.
 #[derive(Drop)]
-pub struct FileSource<R: Files + Clone> {
+pub struct FileSource<R: Files<File = File> + Clone> {
     rt: R,
     path: Text,
-    file: Option<R::File>,
+    file: Option<File>,
     faults: u64,
 }
 
-impl<R: Files + Clone> Model for FileSource<R> {
+impl<R: Files<File = File> + Clone> Model for FileSource<R> {
+    ghost use Rattle.std.specs.Prelude.{IfSome};
     ghost use Rattle.esm_host.specs.Forms.{RealState};
+    ghost use Rattle.esm_host.specs.Streams.{IsAboveStreams};
 
     ghost Value = { RealState };
 
     ghost view = { λ s. record { faults = s.faults } };
+
+    ghost invariant = { λ s. IfSome s.file IsAboveStreams };
 }
 
-impl<R: Files + Clone> FileSource<R> {
+/// Opens the file.
+fn open_above<R: Files<File = File>>(rt: &R, path: &str) -> io::Result<File>
+    ensures above { IfOk result IsAboveStreams }
+{
+    above_streams(fs::open(rt, path)?)
+}
+
+impl<R: Files<File = File> + Clone> FileSource<R> {
     /// The bytes of the file at this path. It opens nothing. `OutOfMemory` where the runtime's handle cannot be copied.
     pub fn new(rt: &R, path: Text) -> Result<Self, OutOfMemory>
         ensures faultless { IfOk result (λ source. source.faults ≡ 0) }
@@ -40,21 +55,22 @@ impl<R: Files + Clone> FileSource<R> {
     }
 }
 
-impl<R: Files + Clone> Source for FileSource<R> {
+impl<R: Files<File = File> + Clone> Source for FileSource<R> {
     ghost faults = { λ s. s.faults };
 
     ghost left = { λ s. None };
 
+    /// A file is always ready.
     fn is_ready(&self, _patience: u64) -> bool {
         true
     }
 
     fn read(&mut self, into: &mut [u8]) -> Result<usize, Failed> {
-        let mut file = match self.file.take() {
+        let file = match self.file.take() {
             Some(file) => file,
-            None => counted(&mut self.faults, fs::open(&self.rt, self.path.as_str()))?,
+            None => counted(&mut self.faults, open_above(&self.rt, self.path.as_str()))?,
         };
-        let count = counted(&mut self.faults, file.read(into));
+        let count = counted(&mut self.faults, read_again(&mut &file, into));
         self.file = Some(file);
         count
     }

@@ -2,19 +2,26 @@
 //! TCP, a few lines each. They count their faults and tell nothing of content.
 #![tactic(auto)]
 
+mod again;
+mod deadline;
 mod file_disk;
 mod file_source;
 mod host_clock;
+mod no_connection;
 mod real;
 mod stdin_source;
 mod stdout_sink;
+mod streams;
 mod tcp_door;
 mod tcp_link;
+mod timed;
 
 pub use file_disk::FileDisk;
 pub use file_source::FileSource;
 pub use host_clock::HostClock;
+pub use no_connection::NoConnection;
 pub use stdin_source::StdinSource;
 pub use stdout_sink::StdoutSink;
+pub use streams::fill_streams;
 pub use tcp_door::TcpDoor;
 pub use tcp_link::TcpLink;

@@ -4,10 +4,22 @@ ghost use Rattle.esm_io.specs.Faults.{IsCount, Rose};
 ghost use Rattle.esm_io.specs.Schedule.{one_more};
 
 use esm_io::Failed;
-use std::io;
 
-/// The result of a call of the system; a failure is counted.
-pub fn counted<T>(faults: &mut u64, outcome: io::Result<T>) -> Result<T, Failed>
+/// Counts a call that failed.
+pub fn count_failure<T, E>(faults: &mut u64, outcome: &Result<T, E>)
+    ensures uncounted { OnOk outcome.now (faults.new ≡ faults.old) }
+    ensures counted { OnErr outcome.now (faults.new ≡ one_more faults.old) }
+    ensures count { IsCount faults.old faults.new }
+    ensures cause { OnErr outcome.now (Rose faults.old faults.new) }
+{
+    let before = *faults;
+    if outcome.is_err() {
+        *faults = before.saturating_add(1);
+    }
+}
+
+/// The result of a call; a failure is counted.
+pub fn counted<T, E: Drop>(faults: &mut u64, outcome: Result<T, E>) -> Result<T, Failed>
     ensures value { IfOk result (λ value. outcome ≡ Ok value) }
     ensures uncounted { OnOk result (faults.new ≡ faults.old) }
     ensures failed { OnErr result (IsErr outcome) }
@@ -15,12 +27,9 @@ pub fn counted<T>(faults: &mut u64, outcome: io::Result<T>) -> Result<T, Failed>
     ensures count { IsCount faults.old faults.new }
     ensures cause { OnErr result (Rose faults.old faults.new) }
 {
-    let before = *faults;
+    count_failure(faults, &outcome);
     match outcome {
         Ok(value) => Ok(value),
-        Err(_) => {
-            *faults = before.saturating_add(1);
-            Err(Failed)
-        }
+        Err(_cause) => Err(Failed),
     }
 }

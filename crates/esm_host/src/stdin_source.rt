@@ -1,10 +1,11 @@
 // Standard input as a source.
 ghost use Rattle.std.specs.Prelude.{◌≡◌, None, IfOk};
 
+use crate::again::read_again;
 use crate::real::counted;
 use esm_io::{Failed, Source};
 use esm_model::OutOfMemory;
-use std::io::Read;
+use libc::types::pollfd;
 use std::marker::Model;
 
 /// Standard input.
@@ -41,8 +42,19 @@ impl<R: Input + Clone> Source for StdinSource<R> {
 
     ghost left = { λ s. None };
 
-    fn is_ready(&self, _patience: u64) -> bool {
-        true
+    /// Asks of the host's descriptor 0. True also at its end and where it cannot be polled; false where the time passed or a
+    /// signal interrupted it.
+    fn is_ready(&self, patience: u64) -> bool {
+        let mut asked = [pollfd {
+            fd: libc::STDIN_FILENO,
+            events: libc::net::POLLIN,
+            revents: 0,
+        }];
+        match libc::net::poll(&mut asked, i32::try_from(patience).unwrap_or(i32::MAX)) {
+            0 => false,
+            -1 => os::errno() != libc::EINTR,
+            _ => true,
+        }
     }
 
     fn read(&mut self, into: &mut [u8]) -> Result<usize, Failed> {
@@ -50,7 +62,7 @@ impl<R: Input + Clone> Source for StdinSource<R> {
             Some(reader) => reader,
             None => self.rt.reader(),
         };
-        let count = counted(&mut self.faults, reader.read(into));
+        let count = counted(&mut self.faults, read_again(&mut reader, into));
         self.reader = Some(reader);
         count
     }

@@ -1,10 +1,12 @@
 // Standard output as a sink.
-ghost use Rattle.std.specs.Prelude.{◌≡◌, ◌<◌, ◌≤◌, None, IfOk, length};
+ghost use Rattle.std.specs.Prelude.{◌≡◌, None, IfOk};
 
+use crate::again::write_again;
 use crate::real::counted;
 use esm_io::{Failed, Sink};
 use esm_model::OutOfMemory;
 use std::io;
+use std::io::Write;
 use std::marker::Model;
 
 /// Standard output.
@@ -41,18 +43,23 @@ impl<R: Print + Clone> Sink for StdoutSink<R> {
 
     /// What takes nothing of bytes that are there has failed.
     fn write(&mut self, from: &[u8]) -> Result<usize, Failed> {
-        counted(&mut self.faults, write_some(&self.rt, from))
+        let count = write_again(&mut Printer { rt: &self.rt }, from);
+        counted(&mut self.faults, count)
     }
 }
 
-/// Writes bytes from the front, at least one where there are any.
-fn write_some<R: Print>(rt: &R, from: &[u8]) -> io::Result<usize>
-    ensures within { IfOk result (λ n. n ≤ length from.now) }
-    ensures some { IfOk result (λ n. 0 < length from.now → 0 < n) }
-{
-    let count = rt.write_some(from)?;
-    if count == 0 && !from.is_empty() {
-        return Err(io::Error::from(io::ErrorKind::WriteZero));
+/// Standard output as a writer.
+#[derive(Drop)]
+struct Printer<'a, R: Print> {
+    rt: &'a R,
+}
+
+impl<'a, R: Print> Write for Printer<'a, R> {
+    fn write(&mut self, from: &[u8]) -> io::Result<usize> {
+        self.rt.write_some(from)
     }
-    Ok(count)
+
+    fn flush(&mut self) -> io::Result<()> {
+        Ok(())
+    }
 }

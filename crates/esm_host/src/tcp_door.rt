@@ -1,6 +1,8 @@
 // A port of 127.0.0.1 as a door, where connections over TCP come in.
-ghost use Rattle.std.specs.Prelude.{◌≡◌, None, IfOk};
+ghost use Rattle.std.specs.Prelude.{◌≡◌, ◌*◌, true, None, IfOk, OnErr};
+ghost use Rattle.esm_io.specs.Faults.{IsCount, Rose};
 
+use crate::no_connection::is_passing;
 use crate::real::counted;
 use crate::tcp_link::TcpLink;
 use esm_io::{Door, Failed};
@@ -9,23 +11,31 @@ use std::alloc::Global;
 use std::io;
 use std::marker::Model;
 use std::net::{Ipv4Addr, Net, OpenListener, TcpListener};
+use std::rt::Clock;
 use std::time::Duration;
 
-/// How many seconds a read or a write of an accepted connection waits for its peer.
-const PATIENCE: u64 = 10;
+/// A request has 30 seconds from the connection's start to its last byte.
+const LIMIT: u64 = 30;
+
+/// How many milliseconds an `accept` that could not take a connection waits at first; each further time twice as long.
+const FIRST_PAUSE: u64 = 10;
+
+/// The longest that it waits before it tries again, in milliseconds.
+const LONGEST_PAUSE: u64 = 1000;
 
 /// A port of 127.0.0.1 where connections over TCP come in. The first `accept` listens there; where that fails, as at
-/// a port that another process has, the next one tries again. A read or a write of an accepted connection fails once it has waited
-/// ten seconds for its peer. `close` drops the connection, which ends it, and keeps no list.
+/// a port that another process has, the next one tries again. All reads of an accepted connection have 30 seconds, and
+/// are faults afterwards; a write waits for its peer for ten seconds at least. `close` drops the connection, which ends
+/// it, and keeps no list.
 #[derive(Drop)]
-pub struct TcpDoor<R: Net + Clone> {
+pub struct TcpDoor<R: Net + Clock + Clone> {
     rt: R,
     port: u16,
     listener: Option<R::Listener>,
     faults: u64,
 }
 
-impl<R: Net + Clone> Model for TcpDoor<R> {
+impl<R: Net + Clock + Clone> Model for TcpDoor<R> {
     ghost use Rattle.esm_host.specs.Forms.{RealState};
 
     ghost Value = { RealState };
@@ -33,7 +43,7 @@ impl<R: Net + Clone> Model for TcpDoor<R> {
     ghost view = { λ s. record { faults = s.faults } };
 }
 
-impl<R: Net + Clone> TcpDoor<R> {
+impl<R: Net + Clock + Clone> TcpDoor<R> {
     /// A door at this port. It opens nothing. `OutOfMemory` where the runtime's handle cannot be copied.
     pub fn new(rt: &R, port: u16) -> Result<Self, OutOfMemory>
         ensures faultless { IfOk result (λ door. door.faults ≡ 0) }
@@ -55,21 +65,43 @@ fn listening<R: Net>(rt: &R, port: u16, listener: Option<R::Listener>) -> io::Re
     }
 }
 
-impl<R: Net + Clone> Door for TcpDoor<R> {
+/// Waits for a connection, for ever if none comes. Where one cannot be taken for want of a descriptor or a buffer, or was
+/// gone before it was taken, it waits a little and goes on.
+fn accept_patiently<R: Net + Clock>(rt: &R, listener: &R::Listener) -> io::Result<R::Stream> {
+    let mut pause = FIRST_PAUSE;
+    for _ in 0..u64::MAX {
+        match listener.accept() {
+            Ok((stream, _)) => return Ok(stream),
+            Err(error) if !is_passing(&error) => return Err(error),
+            Err(_) => rt.sleep(Duration::from_millis(pause)),
+        }
+        pause = pause.saturating_mul(2).min(LONGEST_PAUSE);
+    }
+    Err(io::Error::from(io::ErrorKind::TimedOut))
+}
+
+impl<R: Net + Clock + Clone> Door for TcpDoor<R> {
     type Conn = TcpLink<R>;
 
     ghost faults = { λ s. s.faults };
 
     ghost closed = { λ s. None };
 
-    /// Waits for a connection, for ever if none comes.
-    fn accept(&mut self) -> Result<TcpLink<R>, Failed> {
+    /// Waits for a connection, for ever if none comes. Where one cannot be taken for want of a descriptor or a buffer, it
+    /// waits and goes on.
+    fn accept(&mut self) -> Result<TcpLink<R>, Failed>
+        ensures connected { IfOk result (λ link. link.connected ≡ true) }
+        ensures limit { IfOk result (λ link. link.limit ≡ LIMIT * 1_000_000_000) }
+        ensures faultless { IfOk result (λ link. link.faults ≡ 0) }
+        ensures count { IsCount self.old.faults self.new.faults }
+        ensures cause { OnErr result (Rose self.old.faults self.new.faults) }
+    {
         let listener = listening(&self.rt, self.port, self.listener.take());
         let listener = counted(&mut self.faults, listener)?;
-        let accepted = counted(&mut self.faults, listener.accept());
+        let accepted = counted(&mut self.faults, accept_patiently(&self.rt, &listener));
         self.listener = Some(listener);
-        let (stream, _) = accepted?;
-        Ok(TcpLink::accepted(stream, Duration::from_secs(PATIENCE)))
+        let link = TcpLink::accepted(&self.rt, accepted?, Duration::from_secs(LIMIT));
+        counted(&mut self.faults, link)
     }
 
     fn close(&mut self, _alloc: Global, _conn: TcpLink<R>) -> Result<(), OutOfMemory> {

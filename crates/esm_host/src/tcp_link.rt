@@ -1,119 +1,219 @@
 // A connection over TCP as a link, made to a local port or accepted by a door.
-ghost use Rattle.std.specs.Prelude.{◌≡◌, ◌<◌, ◌≤◌, None, IfOk, length};
+ghost use Rattle.std.specs.Prelude.{◌≡◌, ◌<◌, ◌≤◌, true, false, length, None, IfOk, IfErr, IsOk, OnOk, OnErr};
+ghost use Rattle.std.specs.Duration.{as_nanos};
+ghost use Rattle.esm_io.specs.Faults.{IsCount, Rose};
+ghost use Rattle.esm_host.specs.Limits.{GoesOn};
 
-use crate::real::counted;
+use crate::again::{is_interrupted, read_again, write_again};
+use crate::deadline::Deadline;
+use crate::no_connection::{NoConnection, no_connection};
+use crate::real::{count_failure, counted};
+use crate::timed::Timed;
 use esm_io::{Failed, Link};
 use esm_model::OutOfMemory;
 use std::io;
-use std::io::{Read, Write};
+use std::io::ErrorKind;
 use std::marker::Model;
-use std::net::{Ipv4Addr, Net, OpenStream, TcpStream};
+use std::net::{Ipv4Addr, Net, SocketAddr, TcpStream};
+use std::rt::Clock;
 use std::time::Duration;
 
-/// A connection over TCP. One to a port of 127.0.0.1 is made by its first call; where that fails, the next call tries
-/// again. One that a door accepted is there from the start.
+/// How many seconds a write of an accepted connection may wait for its peer in any case.
+const GRACE: u64 = 10;
+
+/// A connection over TCP, with a limit of time for all of it by the steady clock: once nothing is left of it, each call is
+/// a fault, and so it is where that clock cannot be read. A call that a signal interrupted is made again.
+///
+/// One to a port of 127.0.0.1 is made by its first `connect`, read or write, which begins the limit. Where that fails, the
+/// next call tries again, within the same limit; after `NoConnection::Wanting` it begins the limit anew. One that a door
+/// accepted is there from the start.
 #[derive(Drop)]
-pub struct TcpLink<R: Net + Clone> {
-    /// Where to connect to; none for a connection that was accepted.
-    peer: Option<Peer<R>>,
+pub struct TcpLink<R: Net + Clock + Clone> {
+    rt: R,
+    /// The port of 127.0.0.1 to connect to; none for a connection that was accepted.
+    port: Option<u16>,
     stream: Option<R::Stream>,
+    deadline: Deadline,
+    grace: Duration,
     faults: u64,
 }
 
-/// A port of 127.0.0.1.
-#[derive(Drop)]
-struct Peer<R: Net + Clone> {
-    rt: R,
-    port: u16,
+impl<R: Net + Clock + Clone> Model for TcpLink<R> {
+    ghost use Rattle.std.specs.Prelude.{is_some};
+    ghost use Rattle.std.specs.Duration.{as_nanos};
+    ghost use Rattle.esm_host.specs.Forms.{TcpLinkState};
+
+    ghost Value = { TcpLinkState };
+
+    ghost view = { λ s. record { connected = is_some s.stream; limit = as_nanos s.deadline.limit; begun = s.deadline.begun; faults = s.faults } };
 }
 
-impl<R: Net + Clone> Model for TcpLink<R> {
-    ghost use Rattle.esm_host.specs.Forms.{RealState};
-
-    ghost Value = { RealState };
-
-    ghost view = { λ s. record { faults = s.faults } };
-}
-
-impl<R: Net + Clone> TcpLink<R> {
-    /// A connection to this port. It opens nothing. `OutOfMemory` where the runtime's handle cannot be copied.
-    pub fn new(rt: &R, port: u16) -> Result<Self, OutOfMemory>
+impl<R: Net + Clock + Clone> TcpLink<R> {
+    /// A connection to this port, with this limit of time from the start of connecting to the last byte. It opens nothing.
+    /// `OutOfMemory` where the runtime's handle cannot be copied.
+    pub fn new(rt: &R, port: u16, limit: Duration) -> Result<Self, OutOfMemory>
+        ensures unconnected { IfOk result (λ link. link.connected ≡ false) }
+        ensures limit { IfOk result (λ link. link.limit ≡ as_nanos limit) }
+        ensures unbegun { IfOk result (λ link. link.begun ≡ None) }
         ensures faultless { IfOk result (λ link. link.faults ≡ 0) }
     {
-        let peer = Peer {
-            rt: rt.clone()?,
-            port,
-        };
         Ok(TcpLink {
-            peer: Some(peer),
+            rt: rt.clone()?,
+            port: Some(port),
             stream: None,
+            deadline: Deadline::new(limit),
+            grace: Duration::ZERO,
             faults: 0,
         })
     }
 
-    /// A connection that a listener has accepted. A read or a write that would wait for its peer longer than `patience`
-    /// fails, and so does each where the system takes no such limit.
-    pub fn accepted(stream: R::Stream, patience: Duration) -> Self
-        ensures faultless { result.faults ≡ 0 }
+    /// A connection that a listener has accepted, whose reads have this limit of time from now on. A write waits for its
+    /// peer for what is left of it, but for ten seconds at least. `OutOfMemory` where the runtime's handle cannot be
+    /// copied.
+    pub fn accepted(rt: &R, stream: R::Stream, limit: Duration) -> Result<Self, OutOfMemory>
+        ensures connected { IfOk result (λ link. link.connected ≡ true) }
+        ensures limit { IfOk result (λ link. link.limit ≡ as_nanos limit) }
+        ensures faultless { IfOk result (λ link. link.faults ≡ 0) }
     {
-        TcpLink {
-            peer: None,
-            stream: limited(stream, patience),
+        let mut deadline = Deadline::new(limit);
+        let _ = deadline.begin(rt);
+        Ok(TcpLink {
+            rt: rt.clone()?,
+            port: None,
+            stream: Some(stream),
+            deadline,
+            grace: Duration::from_secs(GRACE),
             faults: 0,
+        })
+    }
+
+    /// Makes the connection now, where it is not there.
+    pub fn connect(&mut self) -> Result<(), NoConnection>
+        ensures connected { OnOk result (self.new.connected ≡ true) }
+        ensures ready { self.old.connected ≡ true → IsOk result }
+        ensures kept { self.old.connected ≡ true → self.new ≡ self.old }
+        ensures limit { self.new.limit ≡ self.old.limit }
+        ensures begun { OnOk result (GoesOn self.old.begun self.new.begun) }
+        ensures refused { IfErr result (λ cause. cause ≡ NoConnection.Refused → GoesOn self.old.begun self.new.begun) }
+        ensures wanting { IfErr result (λ cause. cause ≡ NoConnection.Wanting → self.new.begun ≡ None) }
+        ensures count { IsCount self.old.faults self.new.faults }
+        ensures uncounted { OnOk result (self.new.faults ≡ self.old.faults) }
+        ensures cause { OnErr result (Rose self.old.faults self.new.faults) }
+    {
+        let stream = self.connected();
+        count_failure(&mut self.faults, &stream);
+        self.stream = Some(stream?);
+        Ok(())
+    }
+
+    /// The connection, made where it is not there. It is taken out for one call: `stream` is to be set again.
+    fn connected(&mut self) -> Result<R::Stream, NoConnection>
+        ensures faults { self.new.faults ≡ self.old.faults }
+        ensures there { self.old.connected ≡ true → IsOk result }
+        ensures untouched { self.old.connected ≡ true → self.new.begun ≡ self.old.begun }
+        ensures limit { self.new.limit ≡ self.old.limit }
+        ensures begun { OnOk result (GoesOn self.old.begun self.new.begun) }
+        ensures refused { IfErr result (λ cause. cause ≡ NoConnection.Refused → GoesOn self.old.begun self.new.begun) }
+        ensures wanting { IfErr result (λ cause. cause ≡ NoConnection.Wanting → self.new.begun ≡ None) }
+    {
+        if let Some(stream) = self.stream.take() {
+            return Ok(stream);
+        }
+        match connect_in_time(&self.rt, self.port, &mut self.deadline) {
+            Ok(stream) => Ok(stream),
+            Err(error) => Err(self.unconnected(&error)),
         }
     }
-}
 
-/// The connection with a limit of time for each read and each write.
-fn limited<S: OpenStream + Drop>(stream: S, patience: Duration) -> Option<S> {
-    stream.set_read_timeout(Some(patience)).ok()?;
-    stream.set_write_timeout(Some(patience)).ok()?;
-    Some(stream)
-}
-
-/// The connection, made by the first call.
-fn connected<R: Net + Clone>(
-    peer: &Option<Peer<R>>,
-    stream: Option<R::Stream>,
-) -> io::Result<R::Stream> {
-    match (stream, peer) {
-        (Some(stream), _) => Ok(stream),
-        (None, Some(peer)) => TcpStream::connect(&peer.rt, (Ipv4Addr::LOCALHOST, peer.port)),
-        (None, None) => Err(io::Error::from(io::ErrorKind::NotConnected)),
+    /// Why there is no connection. A want ends the limit of time, so that the next try begins it anew.
+    fn unconnected(&mut self, error: &io::Error) -> NoConnection
+        ensures faults { self.new.faults ≡ self.old.faults }
+        ensures limit { self.new.limit ≡ self.old.limit }
+        ensures refused { result ≡ NoConnection.Refused → self.new.begun ≡ self.old.begun }
+        ensures wanting { result ≡ NoConnection.Wanting → self.new.begun ≡ None }
+    {
+        let cause = no_connection(error);
+        match cause {
+            NoConnection::Wanting => self.deadline.end(),
+            NoConnection::Refused => {}
+        }
+        cause
     }
 }
 
-/// Writes bytes from the front, at least one where there are any.
-fn write_front<W: Write>(stream: &mut W, from: &[u8]) -> io::Result<usize>
-    ensures within { IfOk result (λ n. n ≤ length from.now) }
-    ensures some { IfOk result (λ n. 0 < length from.now → 0 < n) }
+/// A connection to this port of 127.0.0.1, within the limit of time, which begins where it has not begun. A call that was
+/// interrupted is made again.
+fn connect_in_time<R: Net + Clock>(
+    rt: &R,
+    port: Option<u16>,
+    deadline: &mut Deadline,
+) -> io::Result<R::Stream>
+    ensures limit { deadline.new.limit ≡ deadline.old.limit }
+    ensures once { GoesOn deadline.old.begun deadline.new.begun }
 {
-    let count = stream.write(from)?;
-    if count == 0 && !from.is_empty() {
-        return Err(io::Error::from(io::ErrorKind::WriteZero));
+    let Some(port) = port else {
+        return Err(io::Error::from(ErrorKind::NotConnected));
+    };
+    deadline.begin(rt)?;
+    let peer = SocketAddr::from((Ipv4Addr::LOCALHOST, port));
+    for _ in 0..u64::MAX {
+        let left = deadline.left(rt, Duration::ZERO)?;
+        let stream = TcpStream::connect_timeout(rt, &peer, left);
+        if !is_interrupted(&stream) {
+            return stream;
+        }
     }
-    Ok(count)
+    Err(io::Error::from(ErrorKind::Interrupted))
 }
 
-impl<R: Net + Clone> Link for TcpLink<R> {
+impl<R: Net + Clock + Clone> Link for TcpLink<R> {
     ghost faults = { λ s. s.faults };
 
     ghost told = { λ s. None };
 
-    fn read(&mut self, into: &mut [u8]) -> Result<usize, Failed> {
-        let stream = connected(&self.peer, self.stream.take());
-        let mut stream = counted(&mut self.faults, stream)?;
-        let count = counted(&mut self.faults, stream.read(into));
-        self.stream = Some(stream);
+    fn read(&mut self, into: &mut [u8]) -> Result<usize, Failed>
+        ensures within { IfOk result (λ n. n ≤ length into.old) }
+        ensures connected { OnOk result (self.new.connected ≡ true) }
+        ensures stays { self.old.connected ≡ true → self.new.connected ≡ true }
+        ensures limit { self.new.limit ≡ self.old.limit }
+        ensures begun { self.old.connected ≡ true → self.new.begun ≡ self.old.begun }
+        ensures count { IsCount self.old.faults self.new.faults }
+        ensures cause { OnErr result (Rose self.old.faults self.new.faults) }
+    {
+        let stream = self.connected();
+        let stream = counted(&mut self.faults, stream)?;
+        let mut timed = Timed {
+            rt: &self.rt,
+            stream,
+            deadline: self.deadline,
+            grace: self.grace,
+        };
+        let count = counted(&mut self.faults, read_again(&mut timed, into));
+        self.stream = Some(timed.stream);
         count
     }
 
     /// What takes nothing of bytes that are there has failed.
-    fn write(&mut self, from: &[u8]) -> Result<usize, Failed> {
-        let stream = connected(&self.peer, self.stream.take());
-        let mut stream = counted(&mut self.faults, stream)?;
-        let count = counted(&mut self.faults, write_front(&mut stream, from));
-        self.stream = Some(stream);
+    fn write(&mut self, from: &[u8]) -> Result<usize, Failed>
+        ensures within { IfOk result (λ n. n ≤ length from.now) }
+        ensures some { IfOk result (λ n. 0 < length from.now → 0 < n) }
+        ensures connected { OnOk result (self.new.connected ≡ true) }
+        ensures stays { self.old.connected ≡ true → self.new.connected ≡ true }
+        ensures limit { self.new.limit ≡ self.old.limit }
+        ensures begun { self.old.connected ≡ true → self.new.begun ≡ self.old.begun }
+        ensures count { IsCount self.old.faults self.new.faults }
+        ensures cause { OnErr result (Rose self.old.faults self.new.faults) }
+    {
+        let stream = self.connected();
+        let stream = counted(&mut self.faults, stream)?;
+        let mut timed = Timed {
+            rt: &self.rt,
+            stream,
+            deadline: self.deadline,
+            grace: self.grace,
+        };
+        let count = counted(&mut self.faults, write_again(&mut timed, from));
+        self.stream = Some(timed.stream);
         count
     }
 }

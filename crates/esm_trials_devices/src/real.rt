@@ -1,9 +1,10 @@
 // The real forms over a real file and a real connection. Standard input and output have none: a test's are not its own.
 
-use esm_host::{FileDisk, FileSource, TcpDoor, TcpLink};
+use esm_host::{FileDisk, FileSource, NoConnection, TcpDoor, TcpLink};
 use esm_io::{Disk, Door, Failed, Link, Source};
 use esm_model::Text;
 use std::fs::File;
+use std::io::Write;
 use std::net::{Ipv4Addr, Net, OpenListener, TcpListener, TcpStream};
 use std::process::{Abort, Process};
 use std::rt::{Clock, Env, Files};
@@ -49,7 +50,7 @@ fn file_disk_wants_its_folder(rt: HostRuntime) {
 }
 
 /// Whether the file's bytes are `ab`.
-fn is_ab<R: Files + Clone>(source: &mut FileSource<R>) -> bool {
+fn is_ab<R: Files<File = File> + Clone>(source: &mut FileSource<R>) -> bool {
     let mut into = [0; 4];
     source.read(&mut into) == Ok(2) && into == [97, 98, 0, 0] && source.read(&mut into) == Ok(0)
 }
@@ -69,7 +70,7 @@ fn free_port<R: Net + Abort>(rt: &R) -> u16 {
 }
 
 /// Reads a byte on the next connection, and sends it back.
-fn echo<R: Net + Clone + AllocGlobal>(rt: &R, port: u16) -> Option<u8> {
+fn echo<R: Net + Clock + Clone + AllocGlobal>(rt: &R, port: u16) -> Option<u8> {
     let mut door = TcpDoor::new(rt, port).ok()?;
     let mut link = door.accept().ok()?;
     let mut into = [0];
@@ -80,14 +81,15 @@ fn echo<R: Net + Clone + AllocGlobal>(rt: &R, port: u16) -> Option<u8> {
 }
 
 /// Sends a byte as soon as the door is open, and reads one.
-fn ask<R: Net + Clone + Clock>(rt: &R, port: u16) -> Option<u8> {
-    let mut link = TcpLink::new(rt, port).ok()?;
+fn ask<R: Net + Clock + Clone>(rt: &R, port: u16) -> Option<u8> {
+    let mut link = TcpLink::new(rt, port, Duration::from_secs(10)).ok()?;
     for _ in 0..1000 {
-        if link.write(&[7]).is_ok() {
+        if link.connect().is_ok() {
             break;
         }
         rt.sleep(Duration::from_millis(5));
     }
+    link.write(&[7]).ok()?;
     let mut into = [0];
     link.read(&mut into).ok()?;
     Some(into[0])
@@ -101,18 +103,28 @@ fn bytes_go_over_a_door_and_back(rt: HostRuntime) {
     assert_eq!(rt; answered, Some(7));
 }
 
-/// Whether a read of the next connection fails, where it waits a hundredth of a second for its peer.
-fn hear_silence<R: Net + Clone>(rt: &R, listener: &R::Listener) -> Option<bool> {
+#[test]
+fn a_port_where_nobody_listens_is_refused(rt: HostRuntime) {
+    let port = free_port(&rt);
+    let mut link = TcpLink::new(&rt, port, Duration::from_secs(10)).expect(&rt, "memory");
+    assert!(rt; link.connect() == Err(NoConnection::Refused));
+    assert!(rt; link.read(&mut [0]) == Err(Failed));
+}
+
+/// Whether the next connection gives a byte and is then a fault, where all its reads have a twentieth of a second.
+fn hear_one<R: Net + Clock + Clone>(rt: &R, listener: &R::Listener) -> Option<bool> {
     let (stream, _) = listener.accept().ok()?;
-    let mut link = TcpLink::<R>::accepted(stream, Duration::from_millis(10));
-    Some(link.read(&mut [0]) == Err(Failed))
+    let mut link = TcpLink::accepted(rt, stream, Duration::from_millis(50)).ok()?;
+    let heard = link.read(&mut [0; 4]) == Ok(1) && link.read(&mut [0]) == Err(Failed);
+    Some(heard && link.read(&mut [0]) == Err(Failed))
 }
 
 #[test]
-fn a_silent_peer_is_a_fault(rt: HostRuntime) {
+fn a_silent_peer_is_a_fault_after_the_limit(rt: HostRuntime) {
     let listener = TcpListener::bind(&rt, (Ipv4Addr::LOCALHOST, 0)).expect(&rt, "a free port");
     let at = listener.local_addr().expect(&rt, "its address");
-    let silent = TcpStream::connect(&rt, at).expect(&rt, "a connection");
-    assert_eq!(rt; hear_silence(&rt, &listener), Some(true));
+    let mut silent = TcpStream::connect(&rt, at).expect(&rt, "a connection");
+    assert!(rt; silent.write(&[7]).is_ok());
+    assert_eq!(rt; hear_one(&rt, &listener), Some(true));
     drop(silent);
 }

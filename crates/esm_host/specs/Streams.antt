@@ -1,0 +1,8 @@
+-- The descriptors of the standard streams are 0, 1 and 2, as POSIX has them.
+use Rattle.std.specs.Prelude.{◌≤ℤ◌, pos}
+use Rattle.std.specs.Fd.{file_raw_fd}
+use Rattle.std.specs.declared.fs.File.{File}
+
+-- an open file has none of them
+abbrev pub IsAboveStreams : File → Type 0
+IsAboveStreams file = pos 3 ≤ℤ file_raw_fd file

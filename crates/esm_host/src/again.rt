@@ -1,0 +1,59 @@
+// Reads and writes that are made again where a signal interrupted them, as when the process is stopped and continued.
+ghost use Rattle.std.specs.Prelude.{◌≡◌, ◌<◌, ◌≤◌, length, IfOk, OnErr, IsErrAnd, IsTrue, ◌↔◌};
+ghost use Rattle.std.specs.Io.{ReadsAtMost};
+ghost use Rattle.std.specs.Io.KnownBytes.{ReadConsumes, WriteAppends};
+ghost use Rattle.std.specs.IoError.{error_kind};
+
+use std::io;
+use std::io::{ErrorKind, Read, Write};
+
+/// Whether a call of the system was interrupted: it did nothing, and is to be made again.
+pub fn is_interrupted<T>(outcome: &io::Result<T>) -> bool
+    ensures { IsTrue result ↔ IsErrAnd outcome.now (λ e. error_kind e ≡ ErrorKind.Interrupted) }
+{
+    match outcome {
+        Ok(_) => false,
+        Err(error) => error.kind() == ErrorKind::Interrupted,
+    }
+}
+
+/// A read; one that was interrupted is made again.
+pub fn read_again<S: Read>(source: &mut S, into: &mut [u8]) -> io::Result<usize>
+    ensures within { ReadsAtMost result into.new }
+    ensures bytes { ReadConsumes (S.remaining source.old) (S.remaining source.new) result into.new }
+{
+    for _ in 0..u64::MAX {
+        let count = source.read(into);
+        if !is_interrupted(&count) {
+            return count;
+        }
+    }
+    Err(io::Error::from(ErrorKind::Interrupted))
+}
+
+/// A write; one that was interrupted is made again, and one that takes nothing of bytes that are there has failed.
+pub fn write_again<S: Write>(sink: &mut S, from: &[u8]) -> io::Result<usize>
+    ensures within { IfOk result (λ n. n ≤ length from.now) }
+    ensures some { IfOk result (λ n. 0 < length from.now → 0 < n) }
+    ensures bytes { WriteAppends (S.contents sink.old) (S.contents sink.new) result from.now }
+{
+    for _ in 0..u64::MAX {
+        let count = sink.write(from);
+        if !is_interrupted(&count) {
+            return some_taken(count, from);
+        }
+    }
+    Err(io::Error::from(ErrorKind::Interrupted))
+}
+
+/// What takes nothing of bytes that are there has failed.
+fn some_taken(count: io::Result<usize>, from: &[u8]) -> io::Result<usize>
+    ensures some { IfOk result (λ n. 0 < length from.now → 0 < n) }
+    ensures same { IfOk result (λ n. count ≡ Ok n) }
+    ensures failed { OnErr result (IfOk count (λ n. n ≡ 0)) }
+{
+    match count {
+        Ok(0) if !from.is_empty() => Err(io::Error::from(ErrorKind::WriteZero)),
+        _ => count,
+    }
+}

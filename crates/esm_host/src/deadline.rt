@@ -1,0 +1,85 @@
+// A limit of time by the steady clock.
+ghost use Rattle.std.specs.Prelude.{◌≡◌, ◌-◌, ◌<◌, ◌↔◌, max, None, IfOk, OnOk, IfSome, IsSome, IsNone};
+ghost use Rattle.std.specs.Duration.{as_nanos};
+ghost use Rattle.esm_host.specs.Limits.{GoesOn};
+
+use std::io;
+use std::io::ErrorKind;
+use std::rt::Clock;
+use std::time::Duration;
+
+/// The shortest time that a call of the system is given, in milliseconds.
+const LEAST: u64 = 1;
+
+/// A limit of time, by the steady clock, from when it began.
+#[derive(Clone, Copy)]
+pub struct Deadline {
+    pub limit: Duration,
+    /// What the steady clock read when it began; none before.
+    pub begun: Option<Duration>,
+}
+
+impl Deadline {
+    /// A limit of time that has not begun.
+    pub fn new(limit: Duration) -> Self
+        ensures limit { result.limit ≡ limit }
+        ensures unbegun { result.begun ≡ None }
+    {
+        Deadline { limit, begun: None }
+    }
+
+    /// Begins it, where it has not begun.
+    pub fn begin<R: Clock>(&mut self, rt: &R) -> io::Result<()>
+        ensures limit { self.new.limit ≡ self.old.limit }
+        ensures begun { OnOk result (IsSome self.new.begun) }
+        ensures once { GoesOn self.old.begun self.new.begun }
+    {
+        if self.begun.is_none() {
+            self.begun = Some(rt.monotonic()?);
+        }
+        Ok(())
+    }
+
+    /// Ends it, so that it can begin anew.
+    pub fn end(&mut self)
+        ensures limit { self.new.limit ≡ self.old.limit }
+        ensures unbegun { self.new.begun ≡ None }
+    {
+        self.begun = None;
+    }
+
+    /// What is left of it, but `grace` at least, and a millisecond at least. An error where nothing is left, and where the
+    /// steady clock cannot be read.
+    pub fn left<R: Clock>(&self, rt: &R, grace: Duration) -> io::Result<Duration>
+        ensures some { IfOk result (λ left. 0 < as_nanos left) }
+    {
+        let now = rt.monotonic()?;
+        let gone = now.saturating_sub(self.begun.unwrap_or(now));
+        match time_left(self.limit, gone, grace) {
+            Some(left) => Ok(left),
+            None => Err(io::Error::from(ErrorKind::TimedOut)),
+        }
+    }
+}
+
+/// What is left of a limit, but `grace` at least; a millisecond at least where anything is left.
+fn time_left(limit: Duration, gone: Duration, grace: Duration) -> Option<Duration>
+    ensures none { IsNone result ↔ (max (as_nanos limit - as_nanos gone) (as_nanos grace) ≡ 0) }
+    ensures some { IfSome result (λ left. as_nanos left ≡ max (max (as_nanos limit - as_nanos gone) (as_nanos grace)) 1_000_000) }
+{
+    let left = longer(limit.saturating_sub(gone), grace);
+    if left.is_zero() {
+        return None;
+    }
+    Some(longer(left, Duration::from_millis(LEAST)))
+}
+
+/// The longer of two times.
+fn longer(one: Duration, other: Duration) -> Duration
+    ensures { as_nanos result ≡ max (as_nanos one) (as_nanos other) }
+{
+    match one.checked_sub(other) {
+        Some(_) => one,
+        None => other,
+    }
+}

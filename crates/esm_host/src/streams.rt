@@ -1,0 +1,48 @@
+// The descriptors of the standard streams, which no file of this program works on.
+ghost use Rattle.std.specs.Prelude.{◌≡◌, IfOk, OnErr};
+ghost use Rattle.esm_host.specs.Streams.{IsAboveStreams};
+
+use std::fs::{File, OpenOptions};
+use std::os::fd::{AsRawFd, IntoRawFd, RawFd};
+use std::rt::Files;
+use std::{fs, io};
+
+/// The first descriptor that is none of the standard streams'.
+const FIRST_OTHER: RawFd = 3;
+
+/// The file that is opened in place of a stream.
+const NULL: &str = "/dev/null";
+
+/// Fills each of the descriptors 0, 1 and 2 that is closed, so that no file that is opened later gets one of them: 0 so
+/// that a read of it fails, 1 and 2 so that a write fails. They stay open for ever. Where `/dev/null` cannot be opened,
+/// it fills no more of them and tells nobody. It is to be called before any file is opened.
+pub fn fill_streams<R: Files<File = File>>(rt: &R) {
+    let _ = fill(rt);
+}
+
+/// An open gets the lowest descriptor that is free: 0 is filled by the first if by any, 1 and 2 by the others.
+fn fill<R: Files<File = File>>(rt: &R) -> io::Result<()> {
+    keep_below(1, OpenOptions::new().write(true).open(rt, NULL)?);
+    keep_below(FIRST_OTHER, fs::open(rt, NULL)?);
+    keep_below(FIRST_OTHER, fs::open(rt, NULL)?);
+    Ok(())
+}
+
+/// Keeps a file open for ever where its descriptor is below a limit, and closes it otherwise.
+fn keep_below(limit: RawFd, file: File) {
+    if file.as_raw_fd() < limit {
+        file.into_raw_fd();
+    }
+}
+
+/// The file, where its descriptor is none of the standard streams'. It is closed otherwise.
+pub fn above_streams(file: File) -> io::Result<File>
+    ensures same { IfOk result (λ kept. kept ≡ file) }
+    ensures above { IfOk result IsAboveStreams }
+    ensures refused { OnErr result (¬ IsAboveStreams file) }
+{
+    if file.as_raw_fd() < FIRST_OTHER {
+        return Err(io::Error::from(io::ErrorKind::Other));
+    }
+    Ok(file)
+}
