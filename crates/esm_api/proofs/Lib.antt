@@ -3,6 +3,7 @@ mod HeadLemmas
 mod FieldLemmas
 mod RouteLemmas
 mod PlanLemmas
+mod HostFacts
 mod RequestLemmas
 mod TalkLemmas
 mod ServeLemmas

@@ -19,7 +19,8 @@ use Rattle.esm_api.specs.declared.refusal.Refusal.TheVariants as row
 use Rattle.esm_model.specs.declared.limits.TheConstants.{MAX_HEAD}
 use Rattle.esm_api.specs.declared.head.Head.{Head}
 use Rattle.esm_api.specs.HeadRead.{IsPlanned}
-use Rattle.esm_api.specs.Plan.{is_digits, length_of, length_by_values, body_length, reading, getting, deleting, plan_at, plan_of, id_in, has_query, route_of, body_bytes}
+use Rattle.esm_api.specs.Host.{is_foreign}
+use Rattle.esm_api.specs.Plan.{is_digits, length_of, length_by_values, body_length, reading, getting, deleting, plan_at, plan_of, id_in, has_query, route_of, plan_by, body_bytes}
 
 abbrev IsShort : Plan → Type 0
 IsShort p = body_bytes p ≤ MAX_REQUEST_BODY
@@ -64,12 +65,17 @@ at_short (Some route.Mapping) path method length short =
     (λ _. cond_both (bytes_eq method (codes "PUT")) _ _ IsShort (λ _. reading_short (change.Update (id_in path)) length short)
     (λ _. cond_both (bytes_eq method (codes "DELETE")) _ _ IsShort (λ _. deleting_short (id_in path)) (λ _. omega arith)))
 
+by_short : (target method : List ℕ) (length : BodyLength) → IsShortLength length → IsShort (plan_by target method length)
+by_short target method length short =
+    cond_both (has_query target) (plan.Refuse row.Query) (plan_at (route_of target) target method length) IsShort
+    (λ _. omega arith) (λ _. at_short (route_of target) target method length short)
+
 -- no plan awaits more than the bound
 pub plan_short : (tree : RequestHead) → body_bytes (plan_of tree) ≤ MAX_REQUEST_BODY
 plan_short tree =
-    let length = body_length (map name_and_value tree.fields) in
-    cond_both (has_query tree.target) (plan.Refuse row.Query) (plan_at (route_of tree.target) tree.target tree.method length) IsShort
-    (λ _. omega arith) (λ _. at_short (route_of tree.target) tree.target tree.method length (values_short (values_named (codes "content-length") (map name_and_value tree.fields)) (values_named (codes "transfer-encoding") (map name_and_value tree.fields))))
+    let fields = map name_and_value tree.fields in
+    cond_both (is_foreign fields) (plan.Refuse row.Host) (plan_by tree.target tree.method (body_length fields)) IsShort
+    (λ _. omega arith) (λ _. by_short tree.target tree.method (body_length fields) (values_short (values_named (codes "content-length") fields) (values_named (codes "transfer-encoding") fields)))
 
 -- nor does what was found in bytes
 pub planned_short : (bytes : List ℕ) (head : Head) → IsPlanned bytes head → head.len ≤ length bytes → length bytes ≤ MAX_HEAD → head.len + body_bytes head.plan ≤ MAX_HEAD + MAX_REQUEST_BODY

@@ -61,6 +61,7 @@ step_below s (Delete id) moment = deleted_below s id moment (mapping_at id s.lis
 
 row_below : (r : Refusal) → status_of r < 500
 row_below row.Head = omega arith
+row_below row.Host = omega arith
 row_below row.Query = omega arith
 row_below row.Path = omega arith
 row_below row.Method = omega arith

@@ -5,7 +5,6 @@ use Rattle.std.specs.Prelude.{ℕ, nat_le, nat_lt, ◌&&◌, List, [], ◌++◌,
 use Rattle.http.specs.StatusCode.{reason_phrase}
 use Rattle.httparse.specs.Ascii.{crlf_bytes}
 use Rattle.esm_model.specs.Numbers.{decimal}
-use Rattle.esm_registry.specs.declared.command.ErrorName.{ErrorName}
 use Rattle.esm_registry.specs.declared.command.ErrorName.TheVariants as error
 use Rattle.esm_registry.specs.Names.{error_text}
 use Rattle.esm_api.specs.declared.refusal.Refusal.{Refusal}
@@ -37,14 +36,15 @@ refusal_body message = codes "{\"Type\":\"User\",\"Message\":\"" ++ message ++ c
 abbrev pub answer_text : ℕ → List ℕ → List ℕ
 answer_text status content = status_lines status ++ last_lines (length content) ++ content
 
-abbrev pub refusal_text : ℕ → ErrorName → List ℕ → List ℕ
+abbrev pub refusal_text : ℕ → List ℕ → List ℕ → List ℕ
 refusal_text status error message =
-    status_lines status ++ error_line (error_text error) ++ last_lines (length (refusal_body message)) ++ refusal_body message
+    status_lines status ++ error_line error ++ last_lines (length (refusal_body message)) ++ refusal_body message
 
 -- ---- the rows that come before a command
 
 abbrev pub status_of : Refusal → ℕ
 status_of row.Head = 400
+status_of row.Host = 403
 status_of row.Query = 400
 status_of row.Path = 404
 status_of row.Method = 405
@@ -53,18 +53,21 @@ status_of row.Body = 413
 status_of row.Json = 400
 status_of row.Mapping = 404
 
-abbrev pub error_of : Refusal → ErrorName
-error_of row.Head = error.InvalidRequestContentException
-error_of row.Query = error.InvalidParameterValueException
-error_of row.Path = error.ResourceNotFoundException
-error_of row.Method = error.MethodNotAllowed
-error_of row.Length = error.InvalidRequestContentException
-error_of row.Body = error.RequestTooLargeException
-error_of row.Json = error.InvalidRequestContentException
-error_of row.Mapping = error.ResourceNotFoundException
+-- the names are those that the registry answers with, but that of the row `host`
+abbrev pub error_of : Refusal → List ℕ
+error_of row.Head = error_text error.InvalidRequestContentException
+error_of row.Host = codes "AccessDeniedException"
+error_of row.Query = error_text error.InvalidParameterValueException
+error_of row.Path = error_text error.ResourceNotFoundException
+error_of row.Method = error_text error.MethodNotAllowed
+error_of row.Length = error_text error.InvalidRequestContentException
+error_of row.Body = error_text error.RequestTooLargeException
+error_of row.Json = error_text error.InvalidRequestContentException
+error_of row.Mapping = error_text error.ResourceNotFoundException
 
 abbrev pub message_of : Refusal → List ℕ
 message_of row.Head = codes "head"
+message_of row.Host = codes "host"
 message_of row.Query = codes "query"
 message_of row.Path = codes "path"
 message_of row.Method = codes "method"

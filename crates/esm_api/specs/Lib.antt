@@ -1,4 +1,5 @@
 pub mod Head
+pub mod Host
 pub mod Plan
 pub mod Routes
 pub mod Request

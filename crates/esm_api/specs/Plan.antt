@@ -1,4 +1,4 @@
--- What a head alone decides: the rows from `query` to `body`, which command it names, and how long its body is. The forms of
+-- What a head alone decides: the rows from `host` to `body`, which command it names, and how long its body is. The forms of
 -- paths and methods are those of the Lambda API Reference of 2015-03-31 (event source mappings); the rows' order, the bound
 -- on the body and the rule on its length are this product's own.
 use Rattle.std.specs.Prelude.{ℕ, ◌+◌, not, nat_lt, nat_eq, ◌&&◌, ◌||◌, ◌==◌, bytes_eq, Bool, List, [], ◌∷◌, ◌++◌, length, drop, map, codes, Option, Some, None, if◌then◌else◌}
@@ -19,6 +19,7 @@ use Rattle.esm_api.specs.declared.plan.Change.{Change}
 use Rattle.esm_api.specs.declared.plan.Change.TheVariants as change
 use Rattle.esm_api.specs.declared.plan.Plan.{Plan}
 use Rattle.esm_api.specs.declared.plan.Plan.TheVariants as plan
+use Rattle.esm_api.specs.Host.{is_foreign}
 
 -- ---- the path
 
@@ -114,8 +115,13 @@ abbrev pub plan_by : List ℕ → List ℕ → BodyLength → Plan
 plan_by target method length =
     if has_query target then plan.Refuse row.Query else plan_at (route_of target) target method length
 
+-- a request from elsewhere is refused before its target is looked at
+abbrev pub plan_with : List Header → List ℕ → List ℕ → Plan
+plan_with fields target method =
+    if is_foreign fields then plan.Refuse row.Host else plan_by target method (body_length fields)
+
 abbrev pub plan_of : RequestHead → Plan
-plan_of tree = plan_by tree.target tree.method (body_length (map name_and_value tree.fields))
+plan_of tree = plan_with (map name_and_value tree.fields) tree.target tree.method
 
 -- how many bytes of a body are awaited
 abbrev pub body_bytes : Plan → ℕ

@@ -6,6 +6,7 @@ use Rattle.esm_registry.specs.declared.command.Applied.TheVariants as applied
 use Rattle.esm_registry.specs.declared.command.ErrorName.TheVariants.{ServiceException}
 use Rattle.esm_registry.specs.Lists.{Mappings}
 use Rattle.esm_registry.specs.Machine.{Asked, Stepped, step}
+use Rattle.esm_registry.specs.Names.{error_text}
 use Rattle.esm_api.specs.Answer.{answer_text, refusal_text, status_of, row_text}
 use Rattle.esm_api.specs.Request.{Judgement, Unfinished, Refused, Asks}
 
@@ -24,7 +25,7 @@ applied_status (applied.Refused status error message) = status
 abbrev pub applied_text : Applied → List ℕ
 applied_text (applied.One status mapping) = answer_text status mapping
 applied_text (applied.Many mappings) = answer_text 200 mappings
-applied_text (applied.Refused status error message) = refusal_text status error message
+applied_text (applied.Refused status error message) = refusal_text status (error_text error) message
 
 abbrev pub response_of : Stepped → Response
 response_of stepped = record {
@@ -35,7 +36,7 @@ response_of stepped = record {
 }
 
 abbrev pub failed_text : List ℕ
-failed_text = refusal_text 500 ServiceException (codes "disk")
+failed_text = refusal_text 500 (error_text ServiceException) (codes "disk")
 
 -- the row `disk`: the registry's disk failed, and the mappings are as before
 abbrev pub failed_response : Mappings → Response

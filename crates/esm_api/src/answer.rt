@@ -3,7 +3,6 @@ ghost use Rattle.std.specs.Prelude.{◌≡◌, ◌++◌, IfOk, OnOk, Some, lengt
 ghost use Rattle.esm_api.specs.Answer.{answer_text, refusal_text, status_lines, error_line, last_lines, refusal_body, phrase_of};
 
 use esm_model::OutOfMemory;
-use esm_registry::ErrorName;
 use http::StatusCode;
 use itoa::Buffer;
 use std::alloc::Global;
@@ -23,15 +22,15 @@ pub fn answer(alloc: Global, status: u16, body: &[u8]) -> Result<Vec<u8>, OutOfM
 pub fn refusal(
     alloc: Global,
     status: u16,
-    error: ErrorName,
+    error: &str,
     message: &str,
 ) -> Result<Vec<u8>, OutOfMemory>
-    ensures { IfOk result (λ text. text.items ≡ refusal_text status error message.now) }
+    ensures { IfOk result (λ text. text.items ≡ refusal_text status error.now message.now) }
 {
     let mut text = Vec::new(alloc);
     let body = refusal_body(alloc, message)?;
     push_status(&mut text, status)?;
-    push_error(&mut text, error.name())?;
+    push_error(&mut text, error)?;
     push_last(&mut text, body.len())?;
     text.extend_from_slice(&body)?;
     Ok(text)

@@ -5,8 +5,7 @@ ghost use Rattle.httparse.specs.Spans.{IsRequestWithin, IsRequestOf};
 ghost use Rattle.esm_api.specs.Head.{from_request_line, line_count};
 ghost use Rattle.esm_api.specs.HeadRead.{EndsLine, HasNoneYet, FindsHead, LooksForHead, SaysAt};
 
-use crate::length::body_length;
-use crate::plan::{Plan, plan_by};
+use crate::plan::{Plan, plan_with};
 use crate::refusal::Refusal;
 use esm_model::{MAX_HEAD, MAX_HEADER_LINES, OutOfMemory};
 use httparse::spans::{EMPTY_HEADER_SPAN, HeaderSpan, RequestSpans, parse_request};
@@ -112,8 +111,8 @@ fn said(
     ensures { IfOk result (SaysAt bytes.now lines.now spans.now) }
 {
     let (fields, _) = lines.split_at(spans.headers);
-    let length = body_length(bytes, fields);
-    let plan = plan_by(alloc, spans.path.of(bytes), spans.method.of(bytes), length)?;
+    let target = spans.path.of(bytes);
+    let plan = plan_with(alloc, bytes, fields, target, spans.method.of(bytes))?;
     Ok(Head {
         len: spans.len,
         plan,

@@ -5,6 +5,7 @@
 
 mod answer;
 mod head;
+mod host;
 mod judge;
 pub mod laws;
 mod length;

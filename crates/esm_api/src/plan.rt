@@ -1,13 +1,16 @@
 // What a head alone decides.
-ghost use Rattle.std.specs.Prelude.{◌≡◌, IfOk, Some, nat_eq, bytes_eq, is_some, IsUtf8};
+ghost use Rattle.std.specs.Prelude.{◌≡◌, length, map, All, IfOk, Some, nat_eq, bytes_eq, is_some, IsUtf8};
+ghost use Rattle.httparse.specs.Spans.{IsHeaderWithin, header_bytes};
 ghost use Rattle.uuid.specs.Text.{parsed_hyphenated};
-ghost use Rattle.esm_api.specs.Plan.{plan_by, plan_for_mappings, plan_for_mapping, reading, getting, deleting, is_mapping_path, id_in, has_query, body_bytes, route_of};
+ghost use Rattle.esm_api.specs.Plan.{plan_with, plan_by, plan_for_mappings, plan_for_mapping, reading, getting, deleting, is_mapping_path, id_in, has_query, body_bytes, route_of};
 
-use crate::length::BodyLength;
+use crate::host::is_foreign;
+use crate::length::{BodyLength, body_length};
 use crate::refusal::Refusal;
 use crate::route::{Route, route_of};
 use esm_model::OutOfMemory;
 use http::Method;
+use httparse::spans::HeaderSpan;
 use std::alloc::Global;
 use std::str::from_utf8;
 use uuid::Uuid;
@@ -50,8 +53,26 @@ impl Plan {
     }
 }
 
-/// The plan of a head with this target, method and length of the body.
-pub fn plan_by(
+/// The plan of a head with these fields, this target and this method.
+pub fn plan_with(
+    alloc: Global,
+    bytes: &[u8],
+    fields: &[HeaderSpan],
+    target: &[u8],
+    method: &[u8],
+) -> Result<Plan, OutOfMemory>
+    requires fields { All (IsHeaderWithin (length bytes.now)) fields.now }
+    requires target { IsUtf8 target.now }
+    ensures { IfOk result (λ plan. plan ≡ plan_with (map (header_bytes bytes.now) fields.now) target.now method.now) }
+{
+    if is_foreign(bytes, fields) {
+        return Ok(Plan::Refuse(Refusal::Host));
+    }
+    plan_by(alloc, target, method, body_length(bytes, fields))
+}
+
+/// The plan of a head with this target, method and length of the body, which comes from here.
+fn plan_by(
     alloc: Global,
     target: &[u8],
     method: &[u8],

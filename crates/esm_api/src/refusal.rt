@@ -10,6 +10,8 @@ use esm_registry::ErrorName;
 pub enum Refusal {
     /// The head can't be one within the limits.
     Head,
+    /// The head has an `Origin`, or a `Host` that names another machine.
+    Host,
     /// The target has a `?`.
     Query,
     /// The path is none of the forms.
@@ -33,6 +35,7 @@ impl Refusal {
     {
         match self {
             Refusal::Head | Refusal::Query | Refusal::Json => 400,
+            Refusal::Host => 403,
             Refusal::Path | Refusal::Mapping => 404,
             Refusal::Method => 405,
             Refusal::Length => 411,
@@ -40,18 +43,19 @@ impl Refusal {
         }
     }
 
-    /// The error.
-    pub fn error(self) -> ErrorName
-        ensures { result ≡ error_of self }
+    /// The error's name.
+    pub fn error(self) -> &'static str
+        ensures { result.now ≡ error_of self }
     {
         match self {
             Refusal::Head | Refusal::Length | Refusal::Json => {
-                ErrorName::InvalidRequestContentException
+                ErrorName::InvalidRequestContentException.name()
             }
-            Refusal::Query => ErrorName::InvalidParameterValueException,
-            Refusal::Path | Refusal::Mapping => ErrorName::ResourceNotFoundException,
-            Refusal::Method => ErrorName::MethodNotAllowed,
-            Refusal::Body => ErrorName::RequestTooLargeException,
+            Refusal::Host => "AccessDeniedException",
+            Refusal::Query => ErrorName::InvalidParameterValueException.name(),
+            Refusal::Path | Refusal::Mapping => ErrorName::ResourceNotFoundException.name(),
+            Refusal::Method => ErrorName::MethodNotAllowed.name(),
+            Refusal::Body => ErrorName::RequestTooLargeException.name(),
         }
     }
 
@@ -61,6 +65,7 @@ impl Refusal {
     {
         match self {
             Refusal::Head => "head",
+            Refusal::Host => "host",
             Refusal::Query => "query",
             Refusal::Path => "path",
             Refusal::Method => "method",

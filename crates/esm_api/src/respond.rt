@@ -66,7 +66,7 @@ fn answer_to(alloc: Global, applied: &Applied) -> Result<Response, OutOfMemory>
             message,
         } => Ok(Response {
             status: *status,
-            text: refusal(alloc, *status, *error, message.as_str())?,
+            text: refusal(alloc, *status, error.name(), message.as_str())?,
         }),
     }
 }
@@ -78,6 +78,6 @@ fn disk_failed(alloc: Global) -> Result<Response, OutOfMemory>
 {
     Ok(Response {
         status: 500,
-        text: refusal(alloc, 500, ErrorName::ServiceException, "disk")?,
+        text: refusal(alloc, 500, ErrorName::ServiceException.name(), "disk")?,
     })
 }

@@ -14,6 +14,18 @@ use std::test::Fail;
 const QUERY: &[u8] =
     b"HTTP/1.1 400 Bad Request\r\nContent-Type: application/json\r\nx-amzn-ErrorType: InvalidParameterValueException\r\nContent-Length: 33\r\nConnection: close\r\n\r\n{\"Type\":\"User\",\"Message\":\"query\"}";
 
+/// The answer to a request from elsewhere.
+const ELSEWHERE: &[u8] =
+    b"HTTP/1.1 403 Forbidden\r\nContent-Type: application/json\r\nx-amzn-ErrorType: AccessDeniedException\r\nContent-Length: 32\r\nConnection: close\r\n\r\n{\"Type\":\"User\",\"Message\":\"host\"}";
+
+/// A request by a name that was made to lead here. Its target has a query too.
+const BY_NAME: &[u8] =
+    b"GET /2015-03-31/event-source-mappings?x=1 HTTP/1.1\r\nHost: evil.example\r\n\r\n";
+
+/// A request of a web page.
+const BY_PAGE: &[u8] =
+    b"GET /2015-03-31/event-source-mappings HTTP/1.1\r\nHost: localhost:9002\r\norigin: null\r\n\r\n";
+
 /// The answer of an empty list.
 const NONE: &[u8] =
     b"HTTP/1.1 200 OK\r\nContent-Type: application/json\r\nContent-Length: 26\r\nConnection: close\r\n\r\n{\"EventSourceMappings\":[]}";
@@ -70,7 +82,8 @@ fn first_other_piece(
     alloc: Global,
     registry: &mut Registry<MemDisk>,
 ) -> Result<Option<usize>, OutOfMemory> {
-    let request = b"GET /2015-03-31/event-source-mappings?x=1 HTTP/1.1\r\nHost: a\r\n\r\n";
+    let request =
+        b"GET /2015-03-31/event-source-mappings?x=1 HTTP/1.1\r\nHost: LocalHost:9002\r\n\r\n";
     for piece in 1..200 {
         let expected = (Served::Answered(400), QUERY);
         if !is_served(alloc, registry, request, piece, expected)? {
@@ -84,6 +97,24 @@ fn first_other_piece(
 fn a_request_in_pieces_of_any_size(rt: HostRuntime) -> Result<(), Fail> {
     let mut registry = fresh(rt.alloc())?;
     assert_eq!(rt; first_other_piece(rt.alloc(), &mut registry)?, None);
+    Ok(())
+}
+
+/// Whether requests from elsewhere are refused.
+fn is_elsewhere_refused(
+    alloc: Global,
+    registry: &mut Registry<MemDisk>,
+) -> Result<bool, OutOfMemory> {
+    let expected = (Served::Answered(403), ELSEWHERE);
+    let by_name = is_served(alloc, registry, BY_NAME, 4_096, expected)?;
+    let by_page = is_served(alloc, registry, BY_PAGE, 4_096, expected)?;
+    Ok(by_name && by_page)
+}
+
+#[test]
+fn a_request_from_elsewhere(rt: HostRuntime) -> Result<(), Fail> {
+    let mut registry = fresh(rt.alloc())?;
+    assert!(rt; is_elsewhere_refused(rt.alloc(), &mut registry)?);
     Ok(())
 }
 
