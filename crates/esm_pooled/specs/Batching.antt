@@ -2,7 +2,7 @@
 use Rattle.std.specs.Prelude.{ℕ, List}
 use Rattle.esm_model.specs.declared.book.Job.{Job}
 use Rattle.esm_model.specs.declared.book.Next.{Next}
-use Rattle.esm_model.specs.declared.book.Next.TheVariants.{Call, Spent, Finished}
+use Rattle.esm_model.specs.declared.book.Next.TheVariants.{Call}
 use Rattle.esm_model.specs.declared.called.Called.{Called}
 use Rattle.esm_model.specs.declared.entry.Reply.{Reply}
 use Rattle.esm_model.specs.declared.setup.Setup.{Setup}
@@ -16,9 +16,3 @@ call_of setup sends event reply = record { name = setup.config.function; event =
 abbrev pub Answers : (rests : Setup → List Told → ℕ → Type 0) (runs : Setup → List Told → ℕ → Job → Type 0) → Setup → List Told → ℕ → Next → Type 0
 Answers rests runs setup h k (Call job) = runs setup h k job
 Answers rests runs setup h k _ = rests setup h k
-
--- the answer ends the batcher's work: nothing is left, or all calls allowed were made
-abbrev pub EndsWork : Next → Type 0
-EndsWork Spent = Unit {0}
-EndsWork Finished = Unit {0}
-EndsWork _ = ⊥

@@ -1,4 +1,4 @@
-//! What the batchers of any book ask of it, while they share it at a turn: what one call adds, what a batcher knows
+//! What a reader and batchers ask of any book that they share at a turn: what one call adds, what each of them knows
 //! afterwards, and that it stays whatever the other seats add.
 #![tactic(auto)]
 

@@ -1,35 +1,89 @@
-// The trait of a book that batchers share: asking what a batcher does next, and ending its call.
-ghost use Rattle.std.specs.Prelude.{◌≡◌, ◌⊎◌, ◌<◌, ◌+◌, ◌++◌, ◌∷◌, [], ℕ, List, true, IfOk, IfErr, OnErr, IsErrOf};
+// The trait of a book that a reader and batchers share: items come and their input ends, a batcher asks what is next and ends
+// its call, and what is left is told when all have come to their end.
+ghost use Rattle.std.specs.Prelude.{◌≡◌, ◌⊎◌, ◌<◌, ◌≤◌, ◌+◌, ◌++◌, ◌∷◌, [], ℕ, List, Some, true, false, length, All, IfOk, IfErr, OnOk, OnErr, IsErrOf};
 ghost use Rattle.esm_model.specs.declared.book.BookError.TheVariants as why;
+ghost use Rattle.esm_model.specs.declared.book.CameError.TheVariants as refusal;
+ghost use Rattle.esm_model.specs.declared.book.Change.{Change};
 ghost use Rattle.esm_model.specs.declared.book.Job.{Job};
+ghost use Rattle.esm_model.specs.declared.book.Next.TheVariants as next;
 ghost use Rattle.esm_model.specs.declared.called.Called.{Called};
-ghost use Rattle.esm_model.specs.declared.limits.TheConstants.{MAX_LANES};
+ghost use Rattle.esm_model.specs.declared.limits.TheConstants.{MAX_BATCH, MAX_LANES};
 ghost use Rattle.esm_model.specs.declared.setup.Setup.{Setup};
 ghost use Rattle.esm_model.specs.declared.setup.Told.{Told};
 ghost use Rattle.esm_model.specs.Books.{entries_told};
 ghost use Rattle.esm_model.specs.Entries.{is_shut};
 ghost use Rattle.esm_model.specs.Kept.{meaning, added};
-ghost use Rattle.esm_pooled.specs.Batching.{Answers, EndsWork, call_of};
+ghost use Rattle.esm_record.specs.declared.item.Item.{Item};
+ghost use Rattle.esm_record.specs.declared.item.LineKind.{LineKind};
+ghost use Rattle.esm_record.specs.Input.{IsValidItem};
+ghost use Rattle.esm_pooled.specs.Batching.{Answers, call_of};
+ghost use Rattle.esm_pooled.specs.Coming.{Come, SomeCome, StayAsTheyAre, FitBehind};
 ghost use Rattle.esm_pooled.specs.GoingOn.{GoesOn, AllAt, OthersFollow};
 
-use esm_model::{BookError, Job, Kept, Next, Reply};
+use esm_model::{BookError, CameError, Job, Kept, Next, OutOfMemory, Reply};
+use esm_record::Item;
 use std::alloc::Global;
 
-/// A book that batchers share, each with a seat at a turn: batcher `k` has the seat `k + 1`.
+/// A book that a reader and batchers share, each with a seat at a turn: the reader has the seat 0, and batcher `k` the seat
+/// `k + 1`.
 ///
-/// A batcher's facts are told of a setup, a history and the batcher's number.
+/// What is known of it is told of its setup and its history, and of a batcher by its number.
 pub trait Pooled: Kept {
-    // the calls of the batcher that ended, oldest first, as its caller logs them; it sends these bytes for an event
+    // Of a batcher.
+
+    // its calls that ended, oldest first, as its caller logs them; it sends these bytes for an event
     ghost calls: { Setup → (List ℕ → List ℕ) → List Told → ℕ → List Called };
 
-    // no call of the batcher runs
+    // no call of it runs
     ghost rests: { Setup → List Told → ℕ → Type 0 };
 
-    // the job is of the batcher's call that runs
+    // the job is of its call that runs
     ghost runs: { Setup → List Told → ℕ → Job → Type 0 };
 
-    // nothing is left for the batcher, or all calls allowed were made
-    ghost ended: { Setup → List Told → ℕ → Type 0 };
+    // the input has ended, and nothing is left for it
+    ghost finished: { Setup → List Told → ℕ → Type 0 };
+
+    // something is left for it
+    ghost left: { Setup → List Told → ℕ → Type 0 };
+
+    // Of the whole.
+
+    // all calls allowed were made
+    ghost spent: { Setup → List Told → Type 0 };
+
+    // what the lines of its input are
+    ghost kind: { Setup → LineKind };
+
+    // the items of the shard that came, in their order; a queue is shard 0
+    ghost items: { List Told → ℕ → List Item };
+
+    // an item of a list that is to come differs from what the journal kept of it, and the first of them differs so
+    ghost differs: { Setup → List Told → List Item → Change → Type 0 };
+
+    /// Items come, at the moment, in milliseconds. A list of which an item differs from what was kept of it is refused whole.
+    /// After an error other than want of memory the book is down, and the first of the items may have come.
+    fn bring(&mut self, alloc: Global, list: Vec<Item>, moment: u64) -> Result<(), CameError>
+        requires going { is_shut (entries_told (Self.history self.old)) ≡ false }
+        requires few { length list.items ≤ MAX_BATCH }
+        requires valid { All (IsValidItem (kind (Self.setup self.old))) list.items }
+        requires within { FitBehind (items (Self.history self.old)) list.items }
+        // What is added.
+        ensures goes_on { GoesOn (meaning Self.setup Self.history Self.mark Self.author Self.may_follow) 0 self.old self.new }
+        ensures moments { AllAt moment (Self.history self.old) (added (Self.history self.old) (Self.history self.new)) }
+        ensures going { is_shut (entries_told (Self.history self.new)) ≡ false }
+        ensures came { OnOk result (Come (items (Self.history self.old)) (items (Self.history self.new)) list.items) }
+        ensures some { SomeCome (items (Self.history self.old)) (items (Self.history self.new)) list.items }
+        // When an error comes, and what it tells.
+        ensures down { IfErr result (λ e. (e ≡ refusal.OutOfMemory) ⊎ (Self.mark self.new ≡ true)) }
+        ensures changed { (change : Change) → IsErrOf result (refusal.StreamChanged change) → differs (Self.setup self.old) (Self.history self.old) list.items change };
+
+    /// The input ended, at the moment, in milliseconds; that is noted where the book is not down. Takes no memory.
+    fn end_input(&mut self, moment: u64)
+        requires going { is_shut (entries_told (Self.history self.old)) ≡ false }
+        ensures goes_on { GoesOn (meaning Self.setup Self.history Self.mark Self.author Self.may_follow) 0 self.old self.new }
+        ensures moments { AllAt moment (Self.history self.old) (added (Self.history self.old) (Self.history self.new)) }
+        ensures same { StayAsTheyAre (items (Self.history self.old)) (items (Self.history self.new)) }
+        ensures shut { Self.mark self.new ≡ false → is_shut (entries_told (Self.history self.new)) ≡ true };
 
     /// What the batcher does next at the moment, in milliseconds; a call that is answered has begun. After an error other
     /// than want of memory the book is down.
@@ -42,7 +96,8 @@ pub trait Pooled: Kept {
         ensures no_end { (sends : List ℕ → List ℕ) → calls (Self.setup self.old) sends (Self.history self.new) batcher ≡ calls (Self.setup self.old) sends (Self.history self.old) batcher }
         // What is answered.
         ensures answer { IfOk result (Answers Self.rests Self.runs (Self.setup self.old) (Self.history self.new) batcher) }
-        ensures ended { IfOk result (λ next. EndsWork next → ended (Self.setup self.old) (Self.history self.new) batcher) }
+        ensures finished { IfOk result (λ answer. answer ≡ next.Finished → finished (Self.setup self.old) (Self.history self.new) batcher) }
+        ensures spent { IfOk result (λ answer. answer ≡ next.Spent → spent (Self.setup self.old) (Self.history self.new)) }
         ensures rests { OnErr result (rests (Self.setup self.old) (Self.history self.new) batcher) }
         ensures down { IfErr result (λ e. (e ≡ why.OutOfMemory) ⊎ (Self.mark self.new ≡ true)) };
 
@@ -68,19 +123,34 @@ pub trait Pooled: Kept {
         ensures unchanged { IsErrOf result why.OutOfMemory → Self.history self.new ≡ Self.history self.old }
         ensures down { IfErr result (λ e. (e ≡ why.OutOfMemory) ⊎ (Self.mark self.new ≡ true)) };
 
-    /// Whether the input has ended. Takes no memory.
-    fn is_shut(&self) -> bool
-        ensures { result ≡ is_shut (entries_told (Self.history self.now)) };
+    /// Whether nothing is left for the batchers below the number, once the input has ended and none runs a call. `None` for want
+    /// of memory alone.
+    fn is_over(&self, batchers: u32) -> Option<bool>
+        requires number { (0 < batchers) × (batchers ≤ MAX_LANES) }
+        requires up { Self.mark self.now ≡ false }
+        requires shut { is_shut (entries_told (Self.history self.now)) ≡ true }
+        requires rests { (k : ℕ) → rests (Self.setup self.now) (Self.history self.now) k }
+        ensures over { result ≡ Some true → (k : ℕ) → k < batchers → finished (Self.setup self.now) (Self.history self.now) k }
+        ensures left { result ≡ Some false → (k : ℕ) × (k < batchers) × left (Self.setup self.now) (Self.history self.now) k };
 
-    /// Before the first entry no batcher has called. Does nothing.
+    /// Before the first entry no item came and no batcher has called. Does nothing.
     fn begins()
         ensures calls { (s : Setup) (sends : List ℕ → List ℕ) (k : ℕ) → calls s sends [] k ≡ [] }
-        ensures rests { (s : Setup) (k : ℕ) → rests s [] k };
+        ensures rests { (s : Setup) (k : ℕ) → rests s [] k }
+        ensures items { (n : ℕ) → items [] n ≡ [] };
 
-    /// What a batcher has done and knows stays, whatever the other seats add. Does nothing.
+    /// What the reader and a batcher have done and know stays, whatever the other seats add. Does nothing.
     fn stays()
         ensures calls { (s : Setup) (sends : List ℕ → List ℕ) (h es : List Told) (k : ℕ) → OthersFollow Self.author Self.may_follow s (k + 1) h es →
             calls s sends (h ++ es) k ≡ calls s sends h k }
         ensures rests { (s : Setup) (h es : List Told) (k : ℕ) → OthersFollow Self.author Self.may_follow s (k + 1) h es → rests s h k → rests s (h ++ es) k }
-        ensures runs { (s : Setup) (h es : List Told) (k : ℕ) (job : Job) → OthersFollow Self.author Self.may_follow s (k + 1) h es → runs s h k job → runs s (h ++ es) k job };
+        ensures runs { (s : Setup) (h es : List Told) (k : ℕ) (job : Job) → OthersFollow Self.author Self.may_follow s (k + 1) h es → runs s h k job → runs s (h ++ es) k job }
+        ensures finished { (s : Setup) (h es : List Told) (k : ℕ) → OthersFollow Self.author Self.may_follow s (k + 1) h es → finished s h k → finished s (h ++ es) k }
+        ensures spent { (s : Setup) (h es : List Told) (k : ℕ) → OthersFollow Self.author Self.may_follow s (k + 1) h es → spent s h → spent s (h ++ es) }
+        ensures items { (s : Setup) (h es : List Told) → OthersFollow Self.author Self.may_follow s 0 h es → StayAsTheyAre (items h) (items (h ++ es)) }
+        ensures shut { (s : Setup) (h es : List Told) → OthersFollow Self.author Self.may_follow s 0 h es → is_shut (entries_told (h ++ es)) ≡ is_shut (entries_told h) };
+
+    /// Where a batcher has finished, nothing is left for it. Does nothing.
+    fn excludes()
+        ensures { (s : Setup) (h : List Told) (k : ℕ) → finished s h k → left s h k → ⊥ };
 }
