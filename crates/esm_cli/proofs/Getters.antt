@@ -13,7 +13,7 @@ use Rattle.esm_cli.specs.Spelling.{Given, Options, AreOptions, is_listed, listed
 use Rattle.esm_cli.specs.Tables.{has_value, listing, option_name, options_of}
 use Rattle.esm_cli.specs.Words.{reads_first, values_in}
 use Rattle.esm_cli.specs.declared.table.OptionName.{OptionName}
-use Rattle.esm_cli.specs.declared.table.OptionName.TheVariants.{Config, Mapping, Calls, Visibility, ReadFirst, Records, Requests, MaxReceives}
+use Rattle.esm_cli.specs.declared.table.OptionName.TheVariants.{Config, Mapping, Calls, Visibility, Timeout, ReadFirst, Records, Requests, MaxReceives}
 use Rattle.esm_cli.specs.declared.table.Verb.{Verb}
 use Rattle.esm_cli.specs.declared.table.Verb.TheVariants as verb
 use Rattle.esm_cli.proofs.Rules.{second_of}
@@ -49,6 +49,7 @@ never_flag ReadFirst Config h = refl
 never_flag ReadFirst Mapping h = refl
 never_flag ReadFirst Calls h = refl
 never_flag ReadFirst Visibility h = refl
+never_flag ReadFirst Timeout h = refl
 never_flag ReadFirst ReadFirst h = absurd (true≢false (sym h))
 never_flag ReadFirst Records h = refl
 never_flag ReadFirst Requests h = refl
@@ -89,6 +90,7 @@ each_value v gs m Config all rows = value_is v gs m Config all rows refl
 each_value v gs m Mapping all rows = value_is v gs m Mapping all rows refl
 each_value v gs m Calls all rows = value_is v gs m Calls all rows refl
 each_value v gs m Visibility all rows = value_is v gs m Visibility all rows refl
+each_value v gs m Timeout all rows = value_is v gs m Timeout all rows refl
 each_value v gs m Records all rows = value_is v gs m Records all rows refl
 each_value v gs m Requests all rows = value_is v gs m Requests all rows refl
 each_value v gs m MaxReceives all rows = value_is v gs m MaxReceives all rows refl
@@ -103,10 +105,11 @@ skip o rs names has = ap (λ all. with_defaults all (listing names)) (default_is
 
 run_defaults : (rs : List Row) → with_defaults rs (listing (options_of verb.Run)) ≡ plus (option_name ReadFirst) false rs
 run_defaults rs =
-    skip Config rs (Mapping ∷ Calls ∷ Visibility ∷ ReadFirst ∷ []) refl
-    ∙ skip Mapping rs (Calls ∷ Visibility ∷ ReadFirst ∷ []) refl
-    ∙ skip Calls rs (Visibility ∷ ReadFirst ∷ []) refl
-    ∙ skip Visibility rs (ReadFirst ∷ []) refl
+    skip Config rs (Mapping ∷ Calls ∷ Visibility ∷ Timeout ∷ ReadFirst ∷ []) refl
+    ∙ skip Mapping rs (Calls ∷ Visibility ∷ Timeout ∷ ReadFirst ∷ []) refl
+    ∙ skip Calls rs (Visibility ∷ Timeout ∷ ReadFirst ∷ []) refl
+    ∙ skip Visibility rs (Timeout ∷ ReadFirst ∷ []) refl
+    ∙ skip Timeout rs (ReadFirst ∷ []) refl
     ∙ default_is (option_name ReadFirst) false rs
 
 flag_is : (v : Verb) (gs : List Given) (answer : Bool) → all_listed v gs → FlagReads (one_of (option_name ReadFirst) (found_rows v gs)) answer → reads_first gs ≡ answer

@@ -11,7 +11,7 @@ use Rattle.esm_cli.specs.declared.command.RunWords.{RunWords}
 use Rattle.esm_cli.specs.declared.command.Which.{Which}
 use Rattle.esm_cli.specs.declared.command.Which.TheVariants.{Config, Mapping}
 use Rattle.esm_cli.specs.declared.table.NumberRule.{NumberRule}
-use Rattle.esm_cli.specs.declared.table.TheConstants.{CALLS, VISIBILITY, RECORDS, REQUESTS, MAX_RECEIVES}
+use Rattle.esm_cli.specs.declared.table.TheConstants.{CALLS, VISIBILITY, TIMEOUT, RECORDS, REQUESTS, MAX_RECEIVES}
 use Rattle.esm_cli.specs.declared.table.Verb.{Verb}
 use Rattle.esm_cli.specs.declared.table.Verb.TheVariants as verb
 use Rattle.esm_cli.proofs.Spelled.{same_options}
@@ -86,15 +86,17 @@ one_which value (Config a) (Mapping id) p q = absurd (let both : Some a ≡ None
 one_which value (Mapping id) (Config b) p q = absurd (let both : Some b ≡ None = sym q.0 ∙ p.0 in cc)
 one_which value (Mapping a) (Mapping b) p q = ap Mapping (one_text _ a b p.1 q.1)
 
-abbrev words_of : Which → ℕ → ℕ → Bool → RunWords
-words_of which calls visibility read_first = record { which = which; calls = calls; visibility = visibility; read_first = read_first }
+abbrev words_of : Which → ℕ → ℕ → ℕ → Bool → RunWords
+words_of which calls visibility timeout read_first =
+    record { which = which; calls = calls; visibility = visibility; timeout = timeout; read_first = read_first }
 
 one_run : (value : Values) (first : Bool) (r q : RunWords) → IsRun value first r → IsRun value first q → r ≡ q
 one_run value first r q a b =
-    ap (λ w. words_of w r.calls r.visibility r.read_first) (one_which value r.which q.which a.which b.which)
-    ∙ ap (λ n. words_of q.which n r.visibility r.read_first) (one_number CALLS value r.calls q.calls (omega arith) a.calls b.calls)
-    ∙ ap (λ n. words_of q.which q.calls n r.read_first) (one_number VISIBILITY value r.visibility q.visibility (omega arith) a.visibility b.visibility)
-    ∙ ap (words_of q.which q.calls q.visibility) (a.read_first ∙ sym b.read_first)
+    ap (λ w. words_of w r.calls r.visibility r.timeout r.read_first) (one_which value r.which q.which a.which b.which)
+    ∙ ap (λ n. words_of q.which n r.visibility r.timeout r.read_first) (one_number CALLS value r.calls q.calls (omega arith) a.calls b.calls)
+    ∙ ap (λ n. words_of q.which q.calls n r.timeout r.read_first) (one_number VISIBILITY value r.visibility q.visibility (omega arith) a.visibility b.visibility)
+    ∙ ap (λ n. words_of q.which q.calls q.visibility n r.read_first) (one_number TIMEOUT value r.timeout q.timeout (omega arith) a.timeout b.timeout)
+    ∙ ap (words_of q.which q.calls q.visibility q.timeout) (a.read_first ∙ sym b.read_first)
 
 pub one_said : (value : Values) (first : Bool) (c d : Command) → verb_of c ≡ verb_of d → IsSaid value first c → IsSaid value first d → c ≡ d
 one_said value first Init Init e a b = refl
@@ -105,11 +107,16 @@ one_said value first (Gen n) (Gen m) e a b = ap Gen (one_number RECORDS value n 
 one_said value first Compact Compact e a b = refl
 one_said value first (Serve n) (Serve m) e a b = ap Serve (one_number REQUESTS value n m (omega arith) a b)
 one_said value first Migrate Migrate e a b = refl
-one_said value first (Ddb s n) (Ddb t m) e a b = ap₂ Ddb (one_text _ s t a.0 b.0) (one_number CALLS value n m (omega arith) a.1 b.1)
-one_said value first (Redrive s r n v) (Redrive t q m w) e a b =
-    ap₂ (λ x y. Redrive x y n v) (one_text _ s t a.0 b.0) (one_number MAX_RECEIVES value r q (omega arith) a.1 b.1)
-    ∙ ap₂ (λ x y. Redrive t q x y) (one_number CALLS value n m (omega arith) a.2 b.2) (one_number VISIBILITY value v w (omega arith) a.3 b.3)
-one_said value first (Replay s n) (Replay t m) e a b = ap₂ Replay (one_text _ s t a.0 b.0) (one_number CALLS value n m (omega arith) a.1 b.1)
+one_said value first (Ddb s n p) (Ddb t m q) e a b =
+    ap₂ (λ x y. Ddb x y p) (one_text _ s t a.0 b.0) (one_number CALLS value n m (omega arith) a.1 b.1)
+    ∙ ap (Ddb t m) (one_number TIMEOUT value p q (omega arith) a.2 b.2)
+one_said value first (Redrive s r n v p) (Redrive t k m w q) e a b =
+    ap₂ (λ x y. Redrive x y n v p) (one_text _ s t a.0 b.0) (one_number MAX_RECEIVES value r k (omega arith) a.1 b.1)
+    ∙ ap₂ (λ x y. Redrive t k x y p) (one_number CALLS value n m (omega arith) a.2 b.2) (one_number VISIBILITY value v w (omega arith) a.3 b.3)
+    ∙ ap (Redrive t k m w) (one_number TIMEOUT value p q (omega arith) a.4 b.4)
+one_said value first (Replay s n p) (Replay t m q) e a b =
+    ap₂ (λ x y. Replay x y p) (one_text _ s t a.0 b.0) (one_number CALLS value n m (omega arith) a.1 b.1)
+    ∙ ap (Replay t m) (one_number TIMEOUT value p q (omega arith) a.2 b.2)
 one_said value first c d e a b = absurd (cc)
 
 pub one_command : (words : List Text) (c d : Command) → spells words c → spells words d → c ≡ d

@@ -12,7 +12,7 @@ use Rattle.esm_cli.specs.declared.command.Which.TheVariants.{Config, Mapping}
 use Rattle.esm_cli.specs.declared.table.NumberRule.{NumberRule}
 use Rattle.esm_cli.specs.declared.table.OptionName.{OptionName}
 use Rattle.esm_cli.specs.declared.table.OptionName.TheVariants as option
-use Rattle.esm_cli.specs.declared.table.TheConstants.{CALLS, VISIBILITY, RECORDS, REQUESTS, MAX_RECEIVES}
+use Rattle.esm_cli.specs.declared.table.TheConstants.{CALLS, VISIBILITY, TIMEOUT, RECORDS, REQUESTS, MAX_RECEIVES}
 use Rattle.esm_cli.specs.declared.table.Verb.{Verb}
 use Rattle.esm_cli.specs.declared.table.Verb.TheVariants as verb
 
@@ -42,6 +42,7 @@ pub record IsRun (value : Values) (first : Bool) (r : RunWords) : Type 0 where
   pub which : IsWhich value r.which
   pub calls : IsNumber CALLS value r.calls
   pub visibility : IsNumber VISIBILITY value r.visibility
+  pub timeout : IsNumber TIMEOUT value r.timeout
   pub read_first : r.read_first ≡ first
 
 -- the values, and whether `--read-first` is given, are those of the command
@@ -54,10 +55,13 @@ IsSaid value first (Gen records) = IsNumber RECORDS value records
 IsSaid value first Compact = ⊤
 IsSaid value first (Serve requests) = IsNumber REQUESTS value requests
 IsSaid value first Migrate = ⊤
-IsSaid value first (Ddb config calls) = IsText option.Config value config × IsNumber CALLS value calls
-IsSaid value first (Redrive config max_receives calls visibility) = IsText option.Config value config
+IsSaid value first (Ddb config calls timeout) = IsText option.Config value config × IsNumber CALLS value calls
+    × IsNumber TIMEOUT value timeout
+IsSaid value first (Redrive config max_receives calls visibility timeout) = IsText option.Config value config
     × IsNumber MAX_RECEIVES value max_receives × IsNumber CALLS value calls × IsNumber VISIBILITY value visibility
-IsSaid value first (Replay config calls) = IsText option.Config value config × IsNumber CALLS value calls
+    × IsNumber TIMEOUT value timeout
+IsSaid value first (Replay config calls timeout) = IsText option.Config value config × IsNumber CALLS value calls
+    × IsNumber TIMEOUT value timeout
 
 abbrev pub verb_of : Command → Verb
 verb_of Init = verb.Init
@@ -68,9 +72,9 @@ verb_of (Gen records) = verb.Gen
 verb_of Compact = verb.Compact
 verb_of (Serve requests) = verb.Serve
 verb_of Migrate = verb.Migrate
-verb_of (Ddb config calls) = verb.Ddb
-verb_of (Redrive config max_receives calls visibility) = verb.Redrive
-verb_of (Replay config calls) = verb.Replay
+verb_of (Ddb config calls timeout) = verb.Ddb
+verb_of (Redrive config max_receives calls visibility timeout) = verb.Redrive
+verb_of (Replay config calls timeout) = verb.Replay
 
 -- the first word is the command's name, and the others are spellings of its options, each at most once
 pub record IsCommand (verb : Verb) (gs : List Given) (words : List (List ℕ)) : Type 0 where

@@ -29,22 +29,26 @@ pub enum Command {
     },
     /// Brings a journal of version 1 to version 2.
     Migrate,
-    /// Runs the mapping over a DynamoDB stream.
+    /// Runs the mapping over a DynamoDB stream. `timeout` is in seconds.
     Ddb {
         config: Text,
         calls: u32,
+        timeout: u32,
     },
-    /// Runs a queue's mapping, and moves what was received too often to the dead letters. `visibility` is in seconds.
+    /// Runs a queue's mapping, and moves what was received too often to the dead letters. `visibility` and `timeout` are in
+    /// seconds.
     Redrive {
         config: Text,
         max_receives: u32,
         calls: u32,
         visibility: u32,
+        timeout: u32,
     },
-    /// Calls the records that failure lines name again.
+    /// Calls the records that failure lines name again. `timeout` is in seconds.
     Replay {
         config: Text,
         calls: u32,
+        timeout: u32,
     },
 }
 
@@ -57,6 +61,8 @@ pub struct RunWords {
     pub calls: u32,
     /// The visibility timeout of a queue's messages, in seconds.
     pub visibility: u32,
+    /// The time that one call of a function has, in seconds.
+    pub timeout: u32,
     /// Whether the input is read to its end before the first call.
     pub read_first: bool,
 }

@@ -7,7 +7,7 @@ ghost use Rattle.esm_cli.specs.declared.command.RunWords.{RunWords};
 
 use crate::command::{Command, RunWords, WordsError};
 use crate::options::Options;
-use crate::table::{CALLS, MAX_RECEIVES, OptionName, RECORDS, REQUESTS, VISIBILITY, Verb};
+use crate::table::{CALLS, MAX_RECEIVES, OptionName, RECORDS, REQUESTS, TIMEOUT, VISIBILITY, Verb};
 use std::alloc::Global;
 
 /// The command that its options say. `BadWords` exactly where they say none.
@@ -33,16 +33,19 @@ pub fn command(alloc: Global, verb: Verb, options: &Options<'_>) -> Result<Comma
         Verb::Ddb => Ok(Command::Ddb {
             config: options.text(alloc, OptionName::Config)?,
             calls: options.number(CALLS)?,
+            timeout: options.number(TIMEOUT)?,
         }),
         Verb::Redrive => Ok(Command::Redrive {
             config: options.text(alloc, OptionName::Config)?,
             max_receives: options.number(MAX_RECEIVES)?,
             calls: options.number(CALLS)?,
             visibility: options.number(VISIBILITY)?,
+            timeout: options.number(TIMEOUT)?,
         }),
         Verb::Replay => Ok(Command::Replay {
             config: options.text(alloc, OptionName::Config)?,
             calls: options.number(CALLS)?,
+            timeout: options.number(TIMEOUT)?,
         }),
     }
 }
@@ -57,6 +60,7 @@ fn run(alloc: Global, options: &Options<'_>) -> Result<RunWords, WordsError>
         which: options.which(alloc)?,
         calls: options.number(CALLS)?,
         visibility: options.number(VISIBILITY)?,
+        timeout: options.number(TIMEOUT)?,
         read_first: options.read_first,
     })
 }

@@ -26,6 +26,7 @@ pub enum OptionName {
     Mapping,
     Calls,
     Visibility,
+    Timeout,
     ReadFirst,
     Records,
     Requests,
@@ -34,11 +35,12 @@ pub enum OptionName {
 
 pub const NO_OPTIONS: [OptionName; 0] = [];
 
-pub const RUN_OPTIONS: [OptionName; 5] = [
+pub const RUN_OPTIONS: [OptionName; 6] = [
     OptionName::Config,
     OptionName::Mapping,
     OptionName::Calls,
     OptionName::Visibility,
+    OptionName::Timeout,
     OptionName::ReadFirst,
 ];
 
@@ -46,16 +48,25 @@ pub const GEN_OPTIONS: [OptionName; 1] = [OptionName::Records];
 
 pub const SERVE_OPTIONS: [OptionName; 1] = [OptionName::Requests];
 
-pub const DDB_OPTIONS: [OptionName; 2] = [OptionName::Config, OptionName::Calls];
+pub const DDB_OPTIONS: [OptionName; 3] = [
+    OptionName::Config,
+    OptionName::Calls,
+    OptionName::Timeout,
+];
 
-pub const REDRIVE_OPTIONS: [OptionName; 4] = [
+pub const REDRIVE_OPTIONS: [OptionName; 5] = [
     OptionName::Config,
     OptionName::MaxReceives,
     OptionName::Calls,
     OptionName::Visibility,
+    OptionName::Timeout,
 ];
 
-pub const REPLAY_OPTIONS: [OptionName; 2] = [OptionName::Config, OptionName::Calls];
+pub const REPLAY_OPTIONS: [OptionName; 3] = [
+    OptionName::Config,
+    OptionName::Calls,
+    OptionName::Timeout,
+];
 
 /// A number that an option gives.
 #[derive(Clone, Copy, Debug, PartialEq, Eq)]
@@ -81,6 +92,15 @@ pub const VISIBILITY: NumberRule = NumberRule {
     least: 0,
     greatest: 43_200,
     default: Some(30),
+};
+
+/// The time that one call of a function has, in seconds. The bounds are those of a function's timeout (Lambda Developer
+/// Guide, Lambda quotas), and where none is given a call has the longest.
+pub const TIMEOUT: NumberRule = NumberRule {
+    option: OptionName::Timeout,
+    least: 1,
+    greatest: 900,
+    default: Some(900),
 };
 
 /// The records of a generated stream.
@@ -154,6 +174,7 @@ impl OptionName {
             OptionName::Mapping => "mapping",
             OptionName::Calls => "calls",
             OptionName::Visibility => "visibility",
+            OptionName::Timeout => "timeout",
             OptionName::ReadFirst => "read-first",
             OptionName::Records => "records",
             OptionName::Requests => "requests",

@@ -59,9 +59,9 @@ module _ {S K D C F L N : Type 0} (t : DevicesTell S K D F L N) (old new : World
     left_alone Failures = files_same (files.Upkeep upkeep.Failures)
     left_alone Compact = files_same (files.Upkeep upkeep.Compact)
     left_alone Migrate = files_same (files.Upkeep upkeep.Migrate)
-    left_alone (Ddb config calls) = tt
-    left_alone (Redrive config receives calls visibility) = tt
-    left_alone (Replay config calls) = tt
+    left_alone (Ddb config calls timeout) = tt
+    left_alone (Redrive config receives calls visibility timeout) = tt
+    left_alone (Replay config calls timeout) = tt
 
     module _ (none : history new ≡ []) where
       cut_alone : (c : Command) → IsCut t c old new
@@ -75,9 +75,9 @@ module _ {S K D C F L N : Type 0} (t : DevicesTell S K D F L N) (old new : World
       cut_alone Show = tt
       cut_alone Failures = tt
       cut_alone Migrate = tt
-      cut_alone (Ddb config calls) = tt
-      cut_alone (Redrive config receives calls visibility) = tt
-      cut_alone (Replay config calls) = tt
+      cut_alone (Ddb config calls timeout) = tt
+      cut_alone (Redrive config receives calls visibility timeout) = tt
+      cut_alone (Replay config calls timeout) = tt
 
       pub untouched_alone : IsUntouched (history new) (seen old) (seen new)
       untouched_alone = record { no_trace = none; unread = ap (λ w. w.input) same; uncalled = ap (λ w. w.callers.items) same }

@@ -27,9 +27,9 @@ one_of t Show old new laws told sound a b one other = one_files t.disk (disks_in
 one_of t Failures old new laws told sound a b one other = one_files t.disk (disks_in old) (disks_in new) (output t old new) (files.Upkeep upkeep.Failures) told sound a b one other
 one_of t Compact old new laws told sound a b one other = one_files t.disk (disks_in old) (disks_in new) (output t old new) (files.Upkeep upkeep.Compact) told sound a b one other
 one_of t Migrate old new laws told sound a b one other = one_files t.disk (disks_in old) (disks_in new) (output t old new) (files.Upkeep upkeep.Migrate) told sound a b one other
-one_of t (Ddb config calls) old new laws told sound a b one other = absurd one
-one_of t (Redrive config receives calls visibility) old new laws told sound a b one other = absurd one
-one_of t (Replay config calls) old new laws told sound a b one other = absurd one
+one_of t (Ddb config calls timeout) old new laws told sound a b one other = absurd one
+one_of t (Redrive config receives calls visibility timeout) old new laws told sound a b one other = absurd one
+one_of t (Replay config calls timeout) old new laws told sound a b one other = absurd one
 
 pub one_outcome : {S K D C F L N : Type 0} (t : DevicesTell S K D F L N) (words : List (List ℕ)) (old new : World S K D C F L) (a b : ℕ)
     → AreLaws t.disk → NoneFailed t words old new → Outcome t words old new a → Outcome t words old new b → a ≡ b
