@@ -1,22 +1,36 @@
 -- What answers the calls, by the functions that the words name. This product's own.
-use Rattle.std.specs.Prelude.{◌≡◌, ℕ, [], false}
+use Rattle.std.specs.Prelude.{◌≡◌, ◌*◌, ℕ, List, [], false}
+use Rattle.std.specs.List.{All}
 use Rattle.esm_io.specs.Caller.{CallerState, new_caller}
 use Rattle.esm_io.specs.Script.{plain_reply}
 use Rattle.esm_io.specs.declared.script.Script.TheVariants as script
+use Rattle.esm_invoke.specs.declared.program_caller.ProgramCaller.{ProgramCaller}
+use Rattle.esm_invoke.specs.declared.program_caller.ProgramCaller.TheVariants as kind
+use Rattle.esm.specs.Timeouts.{IsTimeout}
 use Rattle.esm.specs.declared.functions.Functions.{Functions}
 use Rattle.esm.specs.declared.functions.Functions.TheVariants.{Succeed, Poison, Port}
 
--- what a caller is: one in memory, or one of a port of 127.0.0.1
+-- what a caller is: one in memory, or one of a port of 127.0.0.1 whose calls have so many nanoseconds
 pub data Answerer : Type 0 where
   InMemory : (caller : CallerState) → Answerer
-  OverHttp : (port : ℕ) → Answerer
+  OverHttp : (port limit : ℕ) → Answerer
+
+abbrev pub answerer : {R S L : Type 0} → ProgramCaller R S L → Answerer
+answerer (kind.Script caller) = InMemory caller
+answerer (kind.Http caller) = OverHttp caller.port caller.limit
 
 -- A caller in memory, which made no call so far and fails none, answers status 200 with no body, and where the functions
--- say so the function error if the event contains the text. For a port the caller calls the server there.
-abbrev pub IsCaller : Functions → Answerer → Type 0
-IsCaller Succeed (OverHttp at) = ⊥
-IsCaller Succeed (InMemory caller) = caller ≡ new_caller (script.Always plain_reply) [] false
-IsCaller (Poison text) (OverHttp at) = ⊥
-IsCaller (Poison text) (InMemory caller) = caller ≡ new_caller (script.Poison text.now) [] false
-IsCaller (Port port) (OverHttp at) = at ≡ port
-IsCaller (Port port) (InMemory caller) = ⊥
+-- say so the function error if the event contains the text. For a port the caller calls the server there, and gives each
+-- call so many seconds.
+abbrev pub IsCaller : Functions → ℕ → Answerer → Type 0
+IsCaller Succeed timeout (OverHttp at limit) = ⊥
+IsCaller Succeed timeout (InMemory caller) = caller ≡ new_caller (script.Always plain_reply) [] false
+IsCaller (Poison text) timeout (OverHttp at limit) = ⊥
+IsCaller (Poison text) timeout (InMemory caller) = caller ≡ new_caller (script.Poison text.now) [] false
+IsCaller (Port port) timeout (OverHttp at limit) = (at ≡ port) × (limit ≡ timeout * 1_000_000_000)
+IsCaller (Port port) timeout (InMemory caller) = ⊥
+
+-- the callers answer as the functions do, and give a call the time that the words of the command say
+abbrev pub AreCallers : {R S L : Type 0} → Functions → List (List ℕ) → List (ProgramCaller R S L) → Type 0
+AreCallers functions words callers =
+    (timeout : ℕ) × IsTimeout words timeout × All (λ c. IsCaller functions timeout (answerer c)) callers

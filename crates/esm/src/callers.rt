@@ -4,7 +4,7 @@ ghost use Rattle.std.specs.List.{All};
 ghost use Rattle.esm_io.specs.Script.{HasNoLost};
 ghost use Rattle.esm_io.specs.Caller.{new_caller};
 ghost use Rattle.esm_invoke.specs.declared.program_caller.ProgramCaller.TheVariants as kind;
-ghost use Rattle.esm.specs.Callers.{IsCaller, InMemory, OverHttp};
+ghost use Rattle.esm.specs.Callers.{IsCaller, answerer};
 
 use crate::functions::Functions;
 use esm_invoke::{HttpCaller, ProgramCaller};
@@ -12,22 +12,25 @@ use esm_io::{Script, ScriptCaller};
 use esm_model::{Bytes, MAX_LANES, OutOfMemory, Reply};
 use std::alloc::Global;
 use std::net::Net;
+use std::rt::Clock;
+use std::time::Duration;
 
 /// A caller in memory that answers by the script.
-fn scripted<R: Net + Clone>(alloc: Global, script: Script) -> ProgramCaller<R>
+fn scripted<R: Net + Clock + Clone>(alloc: Global, script: Script) -> ProgramCaller<R>
     requires { HasNoLost script }
     ensures { elim result [ kind.Script caller ↦ caller ≡ new_caller script [] false | kind.Http caller ↦ ⊥ ] }
 {
     ProgramCaller::Script(ScriptCaller::new(alloc, script, Vec::new(alloc)))
 }
 
-/// A caller that answers as the functions do.
-fn caller<R: Net + Clone>(
+/// A caller that answers as the functions do; over HTTP a call has so many seconds.
+fn caller<R: Net + Clock + Clone>(
     rt: &R,
     alloc: Global,
     functions: Functions<'_>,
+    timeout: u32,
 ) -> Result<ProgramCaller<R>, OutOfMemory>
-    ensures { IfOk result (λ c. IsCaller functions.entry (elim c [ kind.Script caller ↦ InMemory caller | kind.Http caller ↦ OverHttp caller.port ])) }
+    ensures { IfOk result (λ c. IsCaller functions.entry timeout (answerer c)) }
 {
     match functions {
         Functions::Succeed => Ok(scripted(
@@ -42,23 +45,26 @@ fn caller<R: Net + Clone>(
             let bytes = Vec::from_slice(alloc, text.as_bytes())?;
             Ok(scripted(alloc, Script::Poison(Bytes::from_vec(bytes))))
         }
-        Functions::Port(port) => Ok(ProgramCaller::Http(HttpCaller::new(rt, alloc, port)?)),
+        Functions::Port(port) => {
+            let limit = Duration::from_secs(u64::from(timeout));
+            Ok(ProgramCaller::Http(HttpCaller::new(rt, alloc, port, limit)?))
+        }
     }
 }
 
-/// The callers that answer as the functions do, one for each batcher.
-pub fn callers<R: Net + Clone>(
+/// The callers that answer as the functions do, one for each batcher; over HTTP a call has so many seconds.
+pub fn callers<R: Net + Clock + Clone>(
     rt: &R,
     alloc: Global,
     functions: Functions<'_>,
+    timeout: u32,
 ) -> Result<Vec<ProgramCaller<R>>, OutOfMemory>
     ensures count { IfOk result (λ callers. length callers.items ≡ MAX_LANES) }
-    ensures each { IfOk result (λ callers. All
-        (λ c. IsCaller functions.entry (elim c [ kind.Script caller ↦ InMemory caller | kind.Http caller ↦ OverHttp caller.port ])) callers.items) }
+    ensures each { IfOk result (λ callers. All (λ c. IsCaller functions.entry timeout (answerer c)) callers.items) }
 {
     let mut callers = Vec::with_capacity(alloc, MAX_LANES)?;
     for batcher in 0..MAX_LANES {
-        let caller = caller(rt, alloc, functions)?;
+        let caller = caller(rt, alloc, functions, timeout)?;
         callers.push(caller)?;
     }
     Ok(callers)

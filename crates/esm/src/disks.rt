@@ -39,7 +39,7 @@ fn path(alloc: Global, folder: &str, name: &str) -> Result<Text, OutOfMemory> {
 }
 
 /// The input of the folder. It opens nothing.
-pub fn input_in<R: Files + Clone>(
+pub fn input_in<R: Files<File = File> + Clone>(
     rt: &R,
     alloc: Global,
     folder: &str,

@@ -10,9 +10,11 @@ mod callers;
 mod disks;
 mod functions;
 mod opening;
+mod timeouts;
 mod words;
 mod worlds;
 
+use esm_host::fill_streams;
 use esm_io::{Caller, Clock, Disk, Door, Sink, Source};
 use esm_model::{MAX_LANES, OutOfMemory};
 use esm_run::{World, esm};
@@ -65,6 +67,7 @@ fn perform<
 }
 
 fn main(rt: HostRuntime) -> ExitCode {
+    fill_streams(&rt);
     let alloc = rt.alloc();
     let Ok(words) = words(&rt) else {
         return ExitCode::from(OUT_OF_MEMORY);

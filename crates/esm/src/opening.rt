@@ -2,6 +2,7 @@
 ghost use Rattle.std.specs.Prelude.{◌≡◌, ℕ, List, map, IfSome, IfNone};
 ghost use Rattle.std.specs.String.{string_bytes};
 ghost use Rattle.esm.specs.Opening.{Opens, IsRefused, IsFolder};
+ghost use Rattle.esm.specs.declared.opening.Folder.{Folder};
 
 use crate::functions::{Functions, port, read_functions};
 
@@ -24,14 +25,15 @@ pub struct Opening<'a> {
     pub command: &'a [String],
 }
 
-/// The folder that a word names.
-fn read_folder(word: &str) -> Folder<'_>
-    ensures { IsFolder word.now result }
+/// The folder that a word names: none for an empty word, which would name the root.
+fn read_folder(word: &str) -> Option<Folder<'_>>
+    ensures some { IfSome result (IsFolder word.now) }
+    ensures none { IfNone result ((folder : Folder) → ¬ IsFolder word.now folder) }
 {
-    if word == "-" {
-        Folder::Memory
-    } else {
-        Folder::Files(word)
+    match word {
+        "" => None,
+        "-" => Some(Folder::Memory),
+        path => Some(Folder::Files(path)),
     }
 }
 
@@ -45,7 +47,7 @@ pub fn read_opening(words: &[String]) -> Option<Opening<'_>>
     let (folder, words) = words.split_first()?;
     let (called, words) = words.split_first()?;
     let (door, command) = words.split_first()?;
-    let folder = read_folder(folder.as_str());
+    let folder = read_folder(folder.as_str())?;
     let door = port(door.as_str())?;
     let functions = read_functions(called.as_str())?;
     Some(Opening {

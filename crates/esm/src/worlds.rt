@@ -1,9 +1,12 @@
 // The real world of a command: the host's output, clock and door, its functions, and its input and disks.
-ghost use Rattle.std.specs.Prelude.{◌≡◌, [], length, IfOk};
+ghost use Rattle.std.specs.Prelude.{◌≡◌, [], length, map, IfOk};
+ghost use Rattle.std.specs.String.{string_bytes};
+ghost use Rattle.esm.specs.Callers.{AreCallers};
 
 use crate::callers::callers;
 use crate::disks::{disks_in, fresh_disks, input_in};
 use crate::opening::Opening;
+use crate::timeouts::read_timeout;
 use esm_host::{FileDisk, FileSource, HostClock, StdinSource, StdoutSink, TcpDoor};
 use esm_init::Disks;
 use esm_invoke::ProgramCaller;
@@ -34,8 +37,10 @@ fn world_of<H: Runtime + Net + Clone, S: Source + Drop, D: Disk + Drop>(
     disks: Disks<D>,
 ) -> Result<HostWorld<H, S, D>, OutOfMemory>
     ensures callers { IfOk result (λ world. length world.callers.items ≡ MAX_LANES) }
+    ensures answering { IfOk result (λ world. AreCallers opening.entry.functions (map string_bytes opening.entry.command.now) world.callers.items) }
     ensures trace { IfOk result (λ world. world.trace.items ≡ []) }
 {
+    let timeout = read_timeout(alloc, opening.command)?;
     Ok(World {
         input,
         out: StdoutSink::new(host)?,
@@ -44,7 +49,7 @@ fn world_of<H: Runtime + Net + Clone, S: Source + Drop, D: Disk + Drop>(
         failures: disks.failures,
         registry: disks.registry,
         clock: HostClock::new(host)?,
-        callers: callers(host, alloc, opening.functions)?,
+        callers: callers(host, alloc, opening.functions, timeout)?,
         door: TcpDoor::new(host, opening.door)?,
         trace: Vec::new(alloc),
     })
@@ -57,6 +62,7 @@ pub fn memory_world<H: Runtime + Net + Clone>(
     opening: Opening<'_>,
 ) -> Result<HostWorld<H, StdinSource<H>, MemDisk>, OutOfMemory>
     ensures callers { IfOk result (λ world. length world.callers.items ≡ MAX_LANES) }
+    ensures answering { IfOk result (λ world. AreCallers opening.entry.functions (map string_bytes opening.entry.command.now) world.callers.items) }
     ensures trace { IfOk result (λ world. world.trace.items ≡ []) }
 {
     let input = StdinSource::new(host)?;
@@ -71,6 +77,7 @@ pub fn folder_world<H: Runtime + Files<File = File> + Net + Clone>(
     folder: &str,
 ) -> Result<HostWorld<H, FileSource<H>, FileDisk<H>>, OutOfMemory>
     ensures callers { IfOk result (λ world. length world.callers.items ≡ MAX_LANES) }
+    ensures answering { IfOk result (λ world. AreCallers opening.entry.functions (map string_bytes opening.entry.command.now) world.callers.items) }
     ensures trace { IfOk result (λ world. world.trace.items ≡ []) }
 {
     let input = input_in(host, alloc, folder)?;

@@ -1,0 +1,18 @@
+-- The time that one call of a function has, by the words of the command. This product's own.
+use Rattle.std.specs.Prelude.{◌≡◌, ℕ, List}
+use Rattle.esm_cli.specs.Words.{spells}
+use Rattle.esm_cli.specs.declared.command.Command.{Command}
+use Rattle.esm_cli.specs.declared.command.Command.TheVariants.{Run, Ddb, Redrive, Replay}
+use Rattle.esm_cli.specs.declared.table.TheConstants.{TIMEOUT}
+
+-- in seconds: that of the command's options, and the longest where it takes none
+abbrev pub timeout_of : Command → ℕ
+timeout_of (Run r) = r.timeout
+timeout_of (Ddb config calls timeout) = timeout
+timeout_of (Redrive config max_receives calls visibility timeout) = timeout
+timeout_of (Replay config calls timeout) = timeout
+timeout_of _ = TIMEOUT.greatest
+
+-- so many seconds are those of the command that the words spell, where they spell one
+abbrev pub IsTimeout : List (List ℕ) → ℕ → Type 0
+IsTimeout words seconds = (c : Command) → spells words c → seconds ≡ timeout_of c
