@@ -15,13 +15,14 @@ use Rattle.http1.proofs.OneParse.{completes_from_body, body_from_completes}
 use Rattle.esm_model.specs.declared.entry.Reply.{Reply}
 use Rattle.esm_model.specs.declared.entry.Reply.TheVariants.{Answered, Garbled, Lost}
 use Rattle.esm_model.specs.declared.memory.OutOfMemory.{OutOfMemory}
+use Rattle.esm_io.specs.Faults.{Rose}
 use Rattle.esm_io.specs.Talks.{Talk, Reads, Writes, IsReadOut}
 use Rattle.esm_invoke.specs.declared.body.BodyReader.{BodyReader}
 use Rattle.esm_invoke.specs.declared.head.Head.{Head}
 use Rattle.esm_invoke.specs.Response.{limits, Says, BeginsWith, IsBodyWithin, HoldsResponse, HoldsNone, NeverHolds, StopsAt, IsReplyTo}
 use Rattle.esm_invoke.specs.ResponseRead.{HasNoHead, NeverBegins, Awaits, IsUnfinished, NeverHoldsBody}
-use Rattle.esm_invoke.specs.Receiving.{ReadsMore, ReadsInto, WritesPart, Replies, Settles, Stops}
-use Rattle.esm_invoke.specs.Exchange.{GrowsFor, SendsPart, Answers}
+use Rattle.esm_invoke.specs.Receiving.{ReadsMore, ReadsInto, WritesPart, Replies, Misses, Settles}
+use Rattle.esm_invoke.specs.Exchange.{GrowsFor, SendsPart, Answers, AnswersEarly, IsAnswer, Stops, Loses}
 use Rattle.esm_invoke.specs.Request.{request_line, request_text}
 use Rattle.esm_invoke.proofs.HeadLemmas.{print_response_ends, BeginsWith-append}
 use Rattle.esm_invoke.proofs.TalkLemmas.{Reads_none, Reads_then, Writes_none}
@@ -308,50 +309,122 @@ replies_garbled (Ok reply) old new bytes reads stops is = λ other. record {
 }
 replies_garbled (Err e) old new bytes reads stops is = tt
 
-pub answers_after : {L : Type 0} (told : L → Option Talk) (r : Result Reply OutOfMemory) (old middle new : L) (request : List ℕ) → Writes (told old) (told middle) request
-    → IfOk r (λ reply. reply ≢ Lost → Replies (told middle) (told new) [] reply) → IfOk r (λ reply. reply ≢ Lost → Answers told old new request reply)
-answers_after told (Ok reply) old middle new request writes replied = λ other.
-    let next = replied other in record {
+-- a garbled reply is no answer
+pub misses_garbled : (old new : Option Talk) (before after : ℕ) (bytes : List ℕ) → Replies old new [] (Garbled bytes) → Misses old new before after
+misses_garbled old new before after bytes replies =
+    let is = replies.is_reply in record {
+      read = replies.read;
+      reads = replies.reads;
+      cause = inr (record { ended = replies.ended; at_end = replies.at_end; none = is.1; reason = is.2 });
+    }
+
+-- a read that failed gave no answer
+pub misses_failed : (old new : Option Talk) (before after room larger : ℕ) → ReadsInto old new 0 room larger → Rose before after → Misses old new before after
+misses_failed old new before after room larger into rose = record { read = into.read; reads = into.reads; cause = inl rose }
+
+-- the reply to a request that was sent whole
+pub answers_after : {L : Type 0} (told : L → Option Talk) (faults : L → ℕ) (r : Result Reply OutOfMemory) (old middle new : L) (request : List ℕ) → Writes (told old) (told middle) request
+    → IfOk r (λ reply. reply ≢ Lost → Replies (told middle) (told new) [] reply)
+    → IfOk r (λ reply. reply ≢ Lost → Answers told old new request reply ⊎ AnswersEarly told faults old new request reply)
+answers_after told faults (Ok reply) old middle new request writes replied = λ other.
+    let next = replied other in inl (record {
       read = next.read;
       ended = next.ended;
       exchanges = record { middle = middle; writes = writes; reads = next.reads };
       at_end = next.at_end;
       is_reply = next.is_reply;
-    }
-answers_after told (Err e) old middle new request writes replied = tt
+    })
+answers_after told faults (Err e) old middle new request writes replied = tt
 
-pub sends_none : {L : Type 0} (told : L → Option Talk) (link : L) (request : List ℕ) (before after : ℕ) → after ≤ before → SendsPart told link link request before after
-sends_none told link request before after shorter = record {
-  sent = [];
-  unsent = request;
-  read = [];
-  parts = refl;
-  whole_first = λ some. absurd (some refl);
-  exchanges = record { middle = link; writes = Writes_none (told link); reads = Reads_none (told link) };
-  grows = omega (arith, shorter);
-}
+-- the answer to a request that was not
+pub answers_early : {L : Type 0} (told : L → Option Talk) (faults : L → ℕ) (r : Result Reply OutOfMemory) (old middle new : L) (request : List ℕ)
+    → WritesPart (told old) (told middle) request → Rose (faults old) (faults middle)
+    → IfOk r (λ reply. reply ≢ Lost → Replies (told middle) (told new) [] reply) → IfOk r (λ reply. reply ≢ Lost → IsAnswer reply)
+    → IfOk r (λ reply. reply ≢ Lost → Answers told old new request reply ⊎ AnswersEarly told faults old new request reply)
+answers_early told faults (Ok reply) old middle new request part failed replied answered = λ other.
+    let next = replied other in inr (record {
+      sent = part.sent;
+      unsent = part.unsent;
+      read = next.read;
+      ended = next.ended;
+      parts = part.parts;
+      cut = part.cut;
+      exchanges = record { middle = middle; writes = part.writes; reads = next.reads };
+      failed = failed;
+      at_end = next.at_end;
+      is_reply = next.is_reply;
+      is_answer = answered other;
+    })
+answers_early told faults (Err e) old middle new request part failed replied answered = tt
 
-pub sends_part : {L : Type 0} (told : L → Option Talk) (old new : L) (request : List ℕ) (before after : ℕ) → WritesPart (told old) (told new) request → after ≤ before
-    → SendsPart told old new request before after
-sends_part told old new request before after part shorter = record {
-  sent = part.sent;
-  unsent = part.unsent;
-  read = [];
-  parts = part.parts;
-  whole_first = λ some. absurd (some refl);
-  exchanges = record { middle = new; writes = part.writes; reads = Reads_none (told new) };
-  grows = omega (arith, shorter);
-}
-
-pub sends_all : {L : Type 0} (told : L → Option Talk) (old middle new : L) (request : List ℕ) (before cut after : ℕ) → Writes (told old) (told middle) request
-    → cut ≤ before → ReadsInto (told middle) (told new) 0 cut after → SendsPart told old new request before after
-sends_all told old middle new request before cut after writes shorter into = record {
+-- no answer to a request that was sent whole, since a read failed
+pub loses_after : {L : Type 0} (told : L → Option Talk) (faults : L → ℕ) (r : Result Reply OutOfMemory) (old middle new : L) (request : List ℕ) (before after : ℕ)
+    → Writes (told old) (told middle) request → ReadsInto (told middle) (told new) 0 before after
+    → IfOk r (λ reply. reply ≡ Lost → Rose (faults middle) (faults new)) → IfOk r (λ reply. reply ≡ Lost → Loses told faults old new request)
+loses_after told faults (Ok reply) old middle new request before after writes into lost = λ is. record {
   sent = request;
   unsent = [];
   read = into.read;
   parts = sym (append-nil request);
-  whole_first = λ _. refl;
   exchanges = record { middle = middle; writes = writes; reads = into.reads };
+  whole_or_failed = inl refl;
+  cause = inl (lost is);
+}
+loses_after told faults (Err e) old middle new request before after writes into lost = tt
+
+-- no answer to a request that was not
+pub loses_early : {L : Type 0} (told : L → Option Talk) (faults : L → ℕ) (r : Result Reply OutOfMemory) (old middle new : L) (request : List ℕ)
+    → WritesPart (told old) (told middle) request → Rose (faults old) (faults middle)
+    → IfOk r (λ reply. reply ≡ Lost → Misses (told middle) (told new) (faults middle) (faults new)) → IfOk r (λ reply. reply ≡ Lost → Loses told faults old new request)
+loses_early told faults (Ok reply) old middle new request part failed missed = λ is.
+    let next = missed is in record {
+      sent = part.sent;
+      unsent = part.unsent;
+      read = next.read;
+      parts = part.parts;
+      exchanges = record { middle = middle; writes = part.writes; reads = next.reads };
+      whole_or_failed = inr failed;
+      cause = elim next.cause [
+        | inl rose ↦ inl rose
+        | inr stops ↦ inr (part.cut, stops)
+      ];
+    }
+loses_early told faults (Err e) old middle new request part failed missed = tt
+
+pub sends_none : {L : Type 0} (told : L → Option Talk) (faults : L → ℕ) (link : L) (request : List ℕ) (before after : ℕ) → after ≤ before
+    → SendsPart told faults link link request before after
+sends_none told faults link request before after shorter = record {
+  sent = [];
+  unsent = request;
+  read = [];
+  parts = refl;
+  exchanges = record { middle = link; writes = Writes_none (told link); reads = Reads_none (told link) };
+  whole_or_failed = λ some. absurd (some refl);
+  grows = omega (arith, shorter);
+}
+
+pub sends_part : {L : Type 0} (told : L → Option Talk) (faults : L → ℕ) (old middle new : L) (request : List ℕ) (before cut after : ℕ)
+    → WritesPart (told old) (told middle) request → Rose (faults old) (faults middle) → cut ≤ before → ReadsInto (told middle) (told new) 0 cut after
+    → SendsPart told faults old new request before after
+sends_part told faults old middle new request before cut after part failed shorter into = record {
+  sent = part.sent;
+  unsent = part.unsent;
+  read = into.read;
+  parts = part.parts;
+  exchanges = record { middle = middle; writes = part.writes; reads = into.reads };
+  whole_or_failed = λ _. inr failed;
+  grows = omega (arith, shorter, into.grows);
+}
+
+pub sends_all : {L : Type 0} (told : L → Option Talk) (faults : L → ℕ) (old middle new : L) (request : List ℕ) (before cut after : ℕ) → Writes (told old) (told middle) request
+    → cut ≤ before → ReadsInto (told middle) (told new) 0 cut after → SendsPart told faults old new request before after
+sends_all told faults old middle new request before cut after writes shorter into = record {
+  sent = request;
+  unsent = [];
+  read = into.read;
+  parts = sym (append-nil request);
+  exchanges = record { middle = middle; writes = writes; reads = into.reads };
+  whole_or_failed = λ _. inl refl;
   grows = omega (arith, shorter, into.grows);
 }
 

@@ -1,9 +1,11 @@
 -- What goes over a link in a call, where the link tells it. This product's own.
-use Rattle.std.specs.Prelude.{◌≡◌, ◌≢◌, ◌≤◌, ◌+◌, ◌*◌, max, length, List, [], ℕ, ◌++◌, Bool, true, Option}
+use Rattle.std.specs.Prelude.{◌≡◌, ◌≢◌, ◌≤◌, ◌⊎◌, ◌+◌, ◌*◌, max, length, List, [], ℕ, ◌++◌, Bool, true, Option}
+use Rattle.esm_io.specs.Faults.{Rose}
 use Rattle.esm_io.specs.Talks.{Talk, Reads, Writes, IsReadOut}
 use Rattle.esm_model.specs.declared.entry.Reply.{Reply}
+use Rattle.esm_model.specs.declared.entry.Reply.TheVariants.{Answered, Garbled, Lost}
 use Rattle.esm_invoke.specs.declared.call.TheConstants.{FIRST_ROOM}
-use Rattle.esm_invoke.specs.Response.{IsReplyTo}
+use Rattle.esm_invoke.specs.Response.{IsReplyTo, HoldsNone, StopsAt}
 
 -- these bytes were written, and then those read. The middle is a link, and not only what one would tell: a call over
 -- any link has none to name but those that its own reads and writes left
@@ -16,15 +18,15 @@ pub record Exchanges {L : Type 0} (told : L → Option Talk) (old new : L) (writ
 abbrev pub GrowsFor : ℕ → ℕ → ℕ → Type 0
 GrowsFor before after read = after ≤ max before (FIRST_ROOM + 2 * read)
 
--- a part of the request was written, from its front on, and bytes were read only behind the whole, into a work area of
--- so many bytes that then has so many
-pub record SendsPart {L : Type 0} (told : L → Option Talk) (old new : L) (request : List ℕ) (before after : ℕ) : Type 0 where
+-- nothing was done, or the request was written, from its front on, to its end or up to a write that failed, and bytes
+-- were read only behind that, into a work area of so many bytes that then has so many
+pub record SendsPart {L : Type 0} (told : L → Option Talk) (faults : L → ℕ) (old new : L) (request : List ℕ) (before after : ℕ) : Type 0 where
   pub sent : List ℕ
   pub unsent : List ℕ
   pub read : List ℕ
   pub parts : request ≡ sent ++ unsent
-  pub whole_first : read ≢ [] → unsent ≡ []
   pub exchanges : Exchanges told old new sent read
+  pub whole_or_failed : sent ++ read ≢ [] → (unsent ≡ []) ⊎ Rose (faults old) (faults exchanges.middle)
   pub grows : GrowsFor before after (length read)
 
 -- the whole request was written, and the reply is that to the bytes that were then read
@@ -34,3 +36,40 @@ pub record Answers {L : Type 0} (told : L → Option Talk) (old new : L) (reques
   pub exchanges : Exchanges told old new request read
   pub at_end : ended ≡ true → IsReadOut (told new)
   pub is_reply : IsReplyTo ended read reply
+
+-- the reply is an answer of the function
+abbrev pub IsAnswer : Reply → Type 0
+IsAnswer (Answered status error body) = Unit {0}
+IsAnswer (Garbled bytes) = ⊥
+IsAnswer Lost = ⊥
+
+-- a write failed before the whole request was written, and the bytes that were then read hold the answer whole
+pub record AnswersEarly {L : Type 0} (told : L → Option Talk) (faults : L → ℕ) (old new : L) (request : List ℕ) (reply : Reply) : Type 0 where
+  pub sent : List ℕ
+  pub unsent : List ℕ
+  pub read : List ℕ
+  pub ended : Bool
+  pub parts : request ≡ sent ++ unsent
+  pub cut : unsent ≢ []
+  pub exchanges : Exchanges told old new sent read
+  pub failed : Rose (faults old) (faults exchanges.middle)
+  pub at_end : ended ≡ true → IsReadOut (told new)
+  pub is_reply : IsReplyTo ended read reply
+  pub is_answer : IsAnswer reply
+
+-- reading stopped at these bytes, which hold no response
+pub record Stops (new : Option Talk) (bytes : List ℕ) : Type 0 where
+  pub ended : Bool
+  pub at_end : ended ≡ true → IsReadOut new
+  pub none : HoldsNone ended bytes
+  pub reason : StopsAt ended bytes
+
+-- no answer was had: a read failed, or a write failed and the bytes that were then read hold no response
+pub record Loses {L : Type 0} (told : L → Option Talk) (faults : L → ℕ) (old new : L) (request : List ℕ) : Type 0 where
+  pub sent : List ℕ
+  pub unsent : List ℕ
+  pub read : List ℕ
+  pub parts : request ≡ sent ++ unsent
+  pub exchanges : Exchanges told old new sent read
+  pub whole_or_failed : (unsent ≡ []) ⊎ Rose (faults old) (faults exchanges.middle)
+  pub cause : Rose (faults exchanges.middle) (faults new) ⊎ ((unsent ≢ []) × Stops (told new) read)

@@ -1,12 +1,13 @@
 -- What a call knows while it sends and receives.
-use Rattle.std.specs.Prelude.{◌≡◌, ◌≤◌, ◌+◌, ℕ, List, ◌++◌, Bool, true, false, length, take, drop, Option, Some, None}
+use Rattle.std.specs.Prelude.{◌≡◌, ◌≢◌, ◌≤◌, ◌⊎◌, ◌+◌, ℕ, List, [], ◌++◌, Bool, true, false, length, take, drop, Option, Some, None}
+use Rattle.esm_io.specs.Faults.{Rose}
 use Rattle.esm_io.specs.Talks.{Talk, Reads, Writes, IsReadOut}
 use Rattle.esm_model.specs.declared.entry.Reply.{Reply}
 use Rattle.esm_invoke.specs.declared.body.BodyReader.{BodyReader}
 use Rattle.esm_invoke.specs.declared.call.HeadReceived.{HeadReceived}
 use Rattle.esm_invoke.specs.declared.call.HeadReceived.TheVariants as Received
-use Rattle.esm_invoke.specs.Exchange.{GrowsFor}
-use Rattle.esm_invoke.specs.Response.{BeginsWith, IsReplyTo, HoldsNone, StopsAt}
+use Rattle.esm_invoke.specs.Exchange.{GrowsFor, Stops}
+use Rattle.esm_invoke.specs.Response.{BeginsWith, IsReplyTo}
 use Rattle.esm_invoke.specs.ResponseRead.{Awaits, IsUnfinished}
 
 -- the bytes were read behind those that were there
@@ -21,11 +22,12 @@ pub record ReadsInto (old new : Option Talk) (filled before after : ℕ) : Type 
   pub reads : Reads old new read
   pub grows : GrowsFor before after (filled + length read)
 
--- a part of the bytes was written, from their front on
+-- only a part of the bytes was written, from their front on
 pub record WritesPart (old new : Option Talk) (bytes : List ℕ) : Type 0 where
   pub sent : List ℕ
   pub unsent : List ℕ
   pub parts : bytes ≡ sent ++ unsent
+  pub cut : unsent ≢ []
   pub writes : Writes old new sent
 
 -- bytes were read, and the reply is that to all the bytes so far
@@ -36,12 +38,11 @@ pub record Replies (old new : Option Talk) (before : List ℕ) (reply : Reply) :
   pub at_end : ended ≡ true → IsReadOut new
   pub is_reply : IsReplyTo ended (before ++ read) reply
 
--- reading stopped at these bytes, which hold no response
-pub record Stops (new : Option Talk) (bytes : List ℕ) : Type 0 where
-  pub ended : Bool
-  pub at_end : ended ≡ true → IsReadOut new
-  pub none : HoldsNone ended bytes
-  pub reason : StopsAt ended bytes
+-- no answer was read: a read failed, by the counts of faults, or reading stopped at bytes that hold no response
+pub record Misses (old new : Option Talk) (before after : ℕ) : Type 0 where
+  pub read : List ℕ
+  pub reads : Reads old new read
+  pub cause : Rose before after ⊎ Stops new read
 
 -- what a reader of a body made of the bytes: a reply, or the body goes on
 abbrev pub Settles : List ℕ → BodyReader → Option Reply → Type 0

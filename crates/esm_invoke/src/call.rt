@@ -1,10 +1,10 @@
 // A call over a link.
-ghost use Rattle.std.specs.Prelude.{◌≡◌, ◌≢◌, ◌+◌, ◌<◌, ◌≤◌, ℕ, true, [], length, take, drop, vec_len, IfOk, OnOk, OnErr};
+ghost use Rattle.std.specs.Prelude.{◌≡◌, ◌≢◌, ◌⊎◌, ◌+◌, ◌<◌, ◌≤◌, ℕ, true, [], length, take, drop, vec_len, IfOk, OnOk, OnErr};
 ghost use Rattle.esm_io.specs.Faults.{MAX_FAULTS, IsCount, Rose};
 ghost use Rattle.esm_io.specs.Talks.{Reads, Writes, IsReadOut};
 ghost use Rattle.esm_invoke.specs.Request.{request_text};
-ghost use Rattle.esm_invoke.specs.Exchange.{SendsPart, Answers, GrowsFor};
-ghost use Rattle.esm_invoke.specs.Receiving.{ReadsMore, ReadsInto, WritesPart, Replies, ReceivesHead, Settles};
+ghost use Rattle.esm_invoke.specs.Exchange.{SendsPart, Answers, AnswersEarly, Loses, IsAnswer, GrowsFor};
+ghost use Rattle.esm_invoke.specs.Receiving.{ReadsMore, ReadsInto, WritesPart, Replies, Misses, ReceivesHead, Settles};
 ghost use Rattle.esm_invoke.specs.Response.{BeginsWith, IsReplyTo};
 ghost use Rattle.esm_invoke.specs.ResponseRead.{Awaits, IsUnfinished};
 
@@ -32,10 +32,12 @@ pub enum HeadReceived {
 
 /// Calls the function `name` with the event over a link: writes the whole request, then reads until a prefix of the
 /// bytes read is a whole response, until no continuation of them is one, until they are more than `MAX_RESPONSE`, or up
-/// to the link's end. `Garbled` gives the bytes read, which hold no response. `Lost` only where the link's count of
-/// faults rose. `buffer` is a work area that grows with what is read and keeps its room for the next call; what it holds
-/// has no effect, and means nothing afterwards. After `OutOfMemory` a part of the request may have been sent, or all of
-/// it and bytes read (Lambda API Reference of 2015-03-31, `Invoke`; RFC 9112).
+/// to the link's end. `Garbled` gives the bytes read, which hold no response. Where a write fails, what came of a
+/// response is read in the same way: a function that answers before it took the whole event has answered. `Lost` only
+/// where the link's count of faults rose: where a read failed, or where no whole response came behind a write that
+/// failed. `buffer` is a work area that grows with what is read and keeps its room for the next call; what it holds has
+/// no effect, and means nothing afterwards. After `OutOfMemory` a part of the request may have been sent, or all of it,
+/// and bytes read (Lambda API Reference of 2015-03-31, `Invoke`; RFC 9112, for answers that come early section 9.5).
 pub fn invoke<L: Link>(
     alloc: Global,
     link: &mut L,
@@ -44,9 +46,11 @@ pub fn invoke<L: Link>(
     buffer: &mut Vec<u8>,
 ) -> Result<Reply, OutOfMemory>
     ensures answered { IfOk result (λ reply. reply ≢ Reply.Lost
-        → Answers L.told link.old link.new (request_text name.now event.now) reply) }
+        → Answers L.told link.old link.new (request_text name.now event.now) reply
+        ⊎ AnswersEarly L.told L.faults link.old link.new (request_text name.now event.now) reply) }
     ensures lost { IfOk result (λ reply. reply ≡ Reply.Lost → Rose (L.faults link.old) (L.faults link.new)) }
-    ensures sent { SendsPart L.told link.old link.new (request_text name.now event.now) (vec_len buffer.old) (vec_len buffer.new) }
+    ensures unanswered { IfOk result (λ reply. reply ≡ Reply.Lost → Loses L.told L.faults link.old link.new (request_text name.now event.now)) }
+    ensures sent { SendsPart L.told L.faults link.old link.new (request_text name.now event.now) (vec_len buffer.old) (vec_len buffer.new) }
     ensures count { OnOk result (IsCount (L.faults link.old) (L.faults link.new)) }
     ensures never_falls { L.faults link.old ≤ L.faults link.new }
     ensures buffer { vec_len buffer.new ≤ MAX_RESPONSE + 1 }
@@ -55,7 +59,7 @@ pub fn invoke<L: Link>(
     let request = request(alloc, name, event)?;
     match send(link, &request) {
         Ok(()) => receive(alloc, link, buffer),
-        Err(_) => Ok(Reply::Lost),
+        Err(_) => receive_early(alloc, link, buffer),
     }
 }
 
@@ -70,9 +74,11 @@ pub fn call_over<L: Link>(
 ) -> Result<Reply, OutOfMemory>
     // As of `invoke`.
     ensures answered { IfOk result (λ reply. reply ≢ Reply.Lost
-        → Answers L.told link.old link.new (request_text name.now event.now) reply) }
+        → Answers L.told link.old link.new (request_text name.now event.now) reply
+        ⊎ AnswersEarly L.told L.faults link.old link.new (request_text name.now event.now) reply) }
     ensures lost { IfOk result (λ reply. reply ≡ Reply.Lost → Rose (L.faults link.old) (L.faults link.new)) }
-    ensures sent { SendsPart L.told link.old link.new (request_text name.now event.now) (vec_len buffer.old) (vec_len buffer.new) }
+    ensures unanswered { IfOk result (λ reply. reply ≡ Reply.Lost → Loses L.told L.faults link.old link.new (request_text name.now event.now)) }
+    ensures sent { SendsPart L.told L.faults link.old link.new (request_text name.now event.now) (vec_len buffer.old) (vec_len buffer.new) }
     ensures count { OnOk result (IsCount (L.faults link.old) (L.faults link.new)) }
     ensures never_falls { L.faults link.old ≤ L.faults link.new }
     ensures buffer { vec_len buffer.new ≤ MAX_RESPONSE + 1 }
@@ -91,11 +97,11 @@ pub fn call_over<L: Link>(
     Ok(reply)
 }
 
-/// Sends the bytes. `Failed` only where the link's count of faults rose; a part may have been sent then.
+/// Sends the bytes. `Failed` only where the link's count of faults rose; a part, but not all, may have been sent then.
 fn send<L: Link>(link: &mut L, bytes: &[u8]) -> Result<(), Failed>
     requires some { 0 < length bytes.now }
     ensures sent { OnOk result (Writes (L.told link.old) (L.told link.new) bytes.now) }
-    ensures part { WritesPart (L.told link.old) (L.told link.new) bytes.now }
+    ensures part { OnErr result (WritesPart (L.told link.old) (L.told link.new) bytes.now) }
     ensures count { IsCount (L.faults link.old) (L.faults link.new) }
     ensures cause { OnErr result (Rose (L.faults link.old) (L.faults link.new)) }
 {
@@ -153,6 +159,27 @@ fn read_behind<L: Link>(link: &mut L, bytes: &mut [u8], filled: usize) -> Result
 {
     let (_, rest) = bytes.split_at_mut(filled);
     link.read(rest)
+}
+
+/// Reads behind a request that was not sent whole: an answer that comes whole, and else `Lost`.
+fn receive_early<L: Link>(
+    alloc: Global,
+    link: &mut L,
+    buffer: &mut Vec<u8>,
+) -> Result<Reply, OutOfMemory>
+    requires room { vec_len buffer.old ≤ MAX_RESPONSE + 1 }
+    requires counted { L.faults link.old ≤ MAX_FAULTS }
+    ensures read { ReadsInto (L.told link.old) (L.told link.new) 0 (vec_len buffer.old) (vec_len buffer.new) }
+    ensures replied { IfOk result (λ reply. reply ≢ Reply.Lost → Replies (L.told link.old) (L.told link.new) [] reply) }
+    ensures answered { IfOk result (λ reply. reply ≢ Reply.Lost → IsAnswer reply) }
+    ensures missed { IfOk result (λ reply. reply ≡ Reply.Lost → Misses (L.told link.old) (L.told link.new) (L.faults link.old) (L.faults link.new)) }
+    ensures count { IsCount (L.faults link.old) (L.faults link.new) }
+    ensures room { vec_len buffer.new ≤ MAX_RESPONSE + 1 }
+{
+    match receive(alloc, link, buffer)? {
+        Reply::Garbled { .. } => Ok(Reply::Lost),
+        reply => Ok(reply),
+    }
 }
 
 /// Reads until the reply is known. `Lost` only where the link's count of faults rose.

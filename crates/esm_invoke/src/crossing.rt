@@ -2,11 +2,12 @@
 
 use crate::{HttpCaller, ProgramCaller};
 use std::net::Net;
+use std::rt::Clock;
 
 fn crosses<T: Send>() {}
 
 /// A thread takes its caller with it.
-fn callers_cross<R: Net + Clone + Send>() {
+fn callers_cross<R: Net + Clock + Clone + Send>() {
     crosses::<HttpCaller<R>>();
     crosses::<ProgramCaller<R>>();
 }

@@ -1,63 +1,122 @@
 // Calls of functions that a server on this machine runs.
-ghost use Rattle.std.specs.Prelude.{◌≡◌, None, IfOk};
+ghost use Rattle.std.specs.Prelude.{◌≡◌, true, None, IfOk, OnOk, OnErr};
+ghost use Rattle.std.specs.Duration.{as_nanos};
+ghost use Rattle.esm_io.specs.Faults.{IsCount, Rose};
 
 use crate::call::call_over;
-use esm_host::TcpLink;
+use esm_host::{NoConnection, TcpLink};
 use esm_io::Caller;
 use esm_model::{OutOfMemory, Reply};
 use std::alloc::Global;
 use std::marker::Model;
 use std::net::Net;
+use std::rt::Clock;
+use std::time::Duration;
+
+/// How long a caller tries to connect where a port, a descriptor or a buffer is wanting, in milliseconds.
+const PATIENCE: u64 = 60_000;
+
+/// Its first pause before it tries again, in milliseconds. Each further one is twice as long.
+const FIRST_PAUSE: u64 = 10;
+
+/// Its longest pause, in milliseconds.
+const LONGEST_PAUSE: u64 = 1_000;
+
+/// How many pauses it makes at most: as many as `PATIENCE` has room for.
+const PAUSES: u32 = 65;
 
 /// Calls functions over HTTP on a port of 127.0.0.1, with a connection for each call. It tells no calls: over a real
 /// connection nothing can be known of what the peer took.
 #[derive(Drop)]
-pub struct HttpCaller<R: Net + Clone> {
+pub struct HttpCaller<R: Net + Clock + Clone> {
     rt: R,
     port: u16,
+    /// From the start of a call's connection to the last byte of its answer.
+    limit: Duration,
     /// The work area of the calls.
     buffer: Vec<u8>,
     faults: u64,
 }
 
-impl<R: Net + Clone> Model for HttpCaller<R> {
+impl<R: Net + Clock + Clone> Model for HttpCaller<R> {
     ghost use Rattle.std.specs.Prelude.{◌≤◌, vec_capacity};
+    ghost use Rattle.std.specs.Duration.{as_nanos};
     ghost use Rattle.esm_io.specs.Faults.{MAX_FAULTS};
     ghost use Rattle.esm_invoke.specs.Callers.{HttpState};
 
     ghost Value = { HttpState };
 
-    ghost view = { λ s. record { port = s.port; faults = s.faults; room = vec_capacity s.buffer } };
+    ghost view = { λ s. record { port = s.port; limit = as_nanos s.limit; faults = s.faults; room = vec_capacity s.buffer } };
 
     ghost invariant = { λ s. s.faults ≤ MAX_FAULTS };
 }
 
-impl<R: Net + Clone> HttpCaller<R> {
-    /// A caller on this port. It opens nothing, and its work area takes no memory before the first call.
-    pub fn new(rt: &R, alloc: Global, port: u16) -> Result<Self, OutOfMemory>
+impl<R: Net + Clock + Clone> HttpCaller<R> {
+    /// A caller on this port, each of whose calls has this limit of time. It opens nothing, and its work area takes no
+    /// memory before the first call. `OutOfMemory` where the runtime's handle cannot be copied.
+    pub fn new(rt: &R, alloc: Global, port: u16, limit: Duration) -> Result<Self, OutOfMemory>
         ensures port { IfOk result (λ caller. caller.port ≡ port) }
+        ensures limit { IfOk result (λ caller. caller.limit ≡ as_nanos limit) }
         ensures faultless { IfOk result (λ caller. caller.faults ≡ 0) }
         ensures roomless { IfOk result (λ caller. caller.room ≡ 0) }
     {
         Ok(HttpCaller {
             rt: rt.clone()?,
             port,
+            limit,
             buffer: Vec::new(alloc),
             faults: 0,
         })
     }
 }
 
-impl<R: Net + Clone> Caller for HttpCaller<R> {
+/// Connects the link. For want of a local port, a descriptor or a buffer nothing was asked of the function: it pauses
+/// and tries again, for `PATIENCE` in all. `Err` only where the link's count of faults rose.
+fn connect<R: Net + Clock + Clone>(rt: &R, link: &mut TcpLink<R>) -> Result<(), NoConnection>
+    ensures connected { OnOk result (link.new.connected ≡ true) }
+    ensures count { IsCount link.old.faults link.new.faults }
+    ensures cause { OnErr result (Rose link.old.faults link.new.faults) }
+{
+    let start = rt.monotonic().ok();
+    let mut pause = FIRST_PAUSE;
+    for _ in 0..PAUSES {
+        match link.connect() {
+            Err(NoConnection::Wanting) if has_time(rt, start, pause) => {}
+            made => return made,
+        }
+        rt.sleep(Duration::from_millis(pause));
+        pause = pause.saturating_mul(2).min(LONGEST_PAUSE);
+    }
+    link.connect()
+}
+
+/// Whether a pause of so many milliseconds that begins now ends within `PATIENCE` of the start, by the steady clock.
+/// Where that clock cannot be read, only the number of pauses bounds them.
+fn has_time<R: Clock>(rt: &R, start: Option<Duration>, pause: u64) -> bool {
+    match (start, rt.monotonic().ok()) {
+        (Some(start), Some(now)) => {
+            let gone = now.saturating_sub(start);
+            gone.saturating_add(Duration::from_millis(pause)) <= Duration::from_millis(PATIENCE)
+        }
+        _ => true,
+    }
+}
+
+impl<R: Net + Clock + Clone> Caller for HttpCaller<R> {
     ghost faults = { λ s. s.faults };
 
     ghost sends = { λ event. event };
 
     ghost log = { λ s. None };
 
-    /// `Lost` where the connection cannot be made, and where a read or a write on it fails.
+    /// `Lost` where the connection cannot be made, where no answer came within the limit of time, and where a read or a
+    /// write on the connection fails and no whole answer came.
     fn call(&mut self, alloc: Global, name: &str, event: &[u8]) -> Result<Reply, OutOfMemory> {
-        let mut link = TcpLink::new(&self.rt, self.port)?;
+        let mut link = TcpLink::new(&self.rt, self.port, self.limit)?;
+        if connect(&self.rt, &mut link).is_err() {
+            self.faults = self.faults.saturating_add(1);
+            return Ok(Reply::Lost);
+        }
         call_over(
             alloc,
             &mut link,

@@ -6,17 +6,18 @@ use esm_io::{Caller, ScriptCaller};
 use esm_model::{OutOfMemory, Reply};
 use std::alloc::Global;
 use std::net::Net;
+use std::rt::Clock;
 
 /// The caller that the program's words choose.
 #[derive(Drop)]
-pub enum ProgramCaller<R: Net + Clone> {
+pub enum ProgramCaller<R: Net + Clock + Clone> {
     /// Replies in memory.
     Script(ScriptCaller),
     /// Functions that a server on this machine runs.
     Http(HttpCaller<R>),
 }
 
-impl<R: Net + Clone> Caller for ProgramCaller<R> {
+impl<R: Net + Clock + Clone> Caller for ProgramCaller<R> {
     ghost use Rattle.esm_invoke.specs.declared.program_caller.ProgramCaller.TheVariants.{Script, Http};
 
     ghost faults = { λ c. elim c [ Script caller ↦ caller.schedule.faults | Http caller ↦ caller.faults ] };

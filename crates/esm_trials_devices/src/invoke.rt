@@ -7,7 +7,9 @@ use esm_model::{OutOfMemory, Reply};
 use std::alloc::{AllocError, Global};
 use std::io::{Read, Write};
 use std::net::{Net, TcpListener};
+use std::rt::Clock;
 use std::test::Fail;
+use std::time::Duration;
 use std::{io, thread};
 
 /// What a reply comes to; an answer by its status and error, and a garbled one by the number of bytes that were read.
@@ -148,19 +150,43 @@ fn garbled_responses(rt: HostRuntime) {
     }
 }
 
-/// A link fails at its first call, or at its next call: the request is one write, the response one read.
+const UP_TO_THE_END: &[u8] = b"HTTP/1.1 200 OK\r\n\r\n{}";
+
+/// Responses of links that give and take 100 bytes a call, so that a request is two writes and a response one read, with
+/// the numbers of the calls that fail.
+const FAILING: [(&[u8], &[u64], Outcome); 12] = [
+    // The request is sent whole: a read that fails, and one that is not made.
+    (TWO_BYTES, &[2], Lost),
+    (UP_TO_THE_END, &[3], Lost),
+    (TWO_BYTES, &[3], Answered(200, false)),
+    // A write fails, and a whole response lies ready.
+    (TWO_BYTES, &[0], Answered(200, false)),
+    (TWO_BYTES, &[1], Answered(200, false)),
+    (UP_TO_THE_END, &[1], Answered(200, false)),
+    (
+        b"HTTP/1.1 429 Slow\r\nContent-Length: 0\r\n\r\n",
+        &[1],
+        Answered(429, false),
+    ),
+    // A write fails, and a read too.
+    (TWO_BYTES, &[1, 2], Lost),
+    // A write fails, and the response is cut off: `cut-reply`, and nothing at all.
+    (
+        b"HTTP/1.1 200 OK\r\nContent-Length: 3\r\n\r\n{}",
+        &[0],
+        Lost,
+    ),
+    (b"HTTP/1.1 2", &[1], Lost),
+    (b"", &[1], Lost),
+    // A write fails, and what came is no response.
+    (b"HTTP/9 what?\r\n\r\n", &[1], Lost),
+];
+
 #[test]
 fn links_that_fail(rt: HostRuntime) {
-    let unbounded = b"HTTP/1.1 200 OK\r\n\r\n{}";
-    assert_eq!(rt;
-        outcome_of(rt.alloc(), b"HTTP/1.1 200 OK\r\n\r\n", 9, &[0]),
-        Lost
-    );
-    assert_eq!(rt;
-        outcome_of(rt.alloc(), TWO_BYTES, 200, &[2]),
-        Answered(200, false)
-    );
-    assert_eq!(rt; outcome_of(rt.alloc(), unbounded, 200, &[2]), Lost);
+    for (response, fails, outcome) in FAILING {
+        assert_eq!(rt; outcome_of(rt.alloc(), response, 100, fails), outcome);
+    }
 }
 
 /// What a response comes to, and how large its work area then is.
@@ -256,10 +282,21 @@ fn serve_once(listener: &TcpListener) -> io::Result<bool> {
     Ok(request.as_slice() == REQUEST)
 }
 
-/// What a call on the port comes to.
-fn called<R: Net + Clone>(rt: &R, alloc: Global, port: u16) -> Result<Outcome, OutOfMemory> {
-    let mut caller = HttpCaller::new(rt, alloc, port)?;
-    Ok(judged(&caller.call(alloc, "f", b"{}")))
+/// Takes one connection, answers before it has read anything, and closes it.
+fn refuse_once(listener: &TcpListener) -> io::Result<()> {
+    let (mut stream, _) = listener.accept()?;
+    stream.write_all(b"HTTP/1.1 429 Slow\r\nContent-Length: 0\r\n\r\n")
+}
+
+/// What a call on the port with the event comes to.
+fn called<R: Net + Clock + Clone>(
+    rt: &R,
+    alloc: Global,
+    port: u16,
+    event: &[u8],
+) -> Result<Outcome, OutOfMemory> {
+    let mut caller = HttpCaller::new(rt, alloc, port, Duration::from_secs(10))?;
+    Ok(judged(&caller.call(alloc, "f", event)))
 }
 
 #[test]
@@ -267,7 +304,28 @@ fn http_caller_against_a_listener(rt: HostRuntime) -> Result<(), Fail> {
     let listener = TcpListener::bind(&rt, "127.0.0.1:0")?;
     let port = listener.local_addr()?.port();
     let server = thread::spawn(&rt, move || matches!(serve_once(&listener), Ok(true)))?;
-    assert_eq!(rt; called(&rt, rt.alloc(), port)?, Answered(200, false));
+    assert_eq!(rt; called(&rt, rt.alloc(), port, b"{}")?, Answered(200, false));
+    assert!(rt; server.join(&rt));
+    Ok(())
+}
+
+/// An event that does not fit into what the system holds between two ends of a connection.
+fn large_event(alloc: Global) -> Result<Vec<u8>, AllocError> {
+    let mut event = Vec::new(alloc);
+    event.resize(6_000_000, b' ')?;
+    Ok(event)
+}
+
+#[test]
+fn http_caller_answered_early(rt: HostRuntime) -> Result<(), Fail> {
+    let event = large_event(rt.alloc())?;
+    let listener = TcpListener::bind(&rt, "127.0.0.1:0")?;
+    let port = listener.local_addr()?.port();
+    let server = thread::spawn(&rt, move || refuse_once(&listener).is_ok())?;
+    assert_eq!(rt;
+        called(&rt, rt.alloc(), port, &event)?,
+        Answered(429, false)
+    );
     assert!(rt; server.join(&rt));
     Ok(())
 }

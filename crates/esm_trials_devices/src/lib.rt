@@ -14,3 +14,5 @@ mod journal;
 mod memory;
 #[cfg(test)]
 mod real;
+#[cfg(test)]
+mod scarce;
