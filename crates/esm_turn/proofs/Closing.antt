@@ -8,7 +8,7 @@ use Rattle.atomic_table.specs.Table.{Final, Seen}
 use Rattle.esm_model.specs.declared.setup.Setup.{Setup}
 use Rattle.esm_model.specs.Kept.{Meaning}
 use Rattle.esm_turn.specs.declared.part.Part.{Part}
-use Rattle.esm_turn.specs.Parts.{blank_part, Each, Within}
+use Rattle.esm_turn.specs.Parts.{no_part, Each, Within}
 use Rattle.esm_turn.specs.Rule.{IsKept}
 use Rattle.esm_turn.specs.Seats.{SeatView, TurnView, AreAllSeats, part_of, seat_view}
 use Rattle.esm_turn.proofs.PartLemmas.{within_left}
@@ -60,7 +60,7 @@ module _ {T : Type 0} (m : Meaning T) where
   closes setup seats id v ws xs t ss r final idle setup_is seats_is all within at =
       let e = ends m setup seats id v ws xs final idle (λ n lt.
       let inside : n < length ss = (let a = all.count in omega (arith, a, seats_is)) in
-      let d : SeatView = seat_view t.at (blank_part setup 0) in
+      let d : SeatView = seat_view t.at no_part in
       (part_of (get_or ss n d), within n d inside, (all.each n d inside).number_is)) in (
         e.0,
         some-injective r (Some e.0) (sym at ∙ e.1),

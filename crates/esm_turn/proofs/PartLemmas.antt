@@ -7,7 +7,7 @@ use Rattle.esm_model.specs.declared.setup.Told.{Told}
 use Rattle.esm_turn.specs.declared.part.Part.{Part}
 use Rattle.std.proofs.Math.ListN.{get_or-append}
 use Rattle.std.proofs.Math.Seq.{get_or-append_seam}
-use Rattle.esm_turn.specs.Parts.{Within, Each, blank_part, blank_parts, parts_but, but_first, first_of_parts}
+use Rattle.esm_turn.specs.Parts.{Within, Each, begun_part, begun_parts, parts_but, but_first, first_of_parts}
 use Rattle.esm_turn.specs.Rule.{word_of, out_bit}
 
 pub each_append : (P : Part → Type 0) (xs ys : List Part) → Each P xs → Each P ys → Each P (xs ++ ys)
@@ -25,13 +25,24 @@ each_but P Q n (x ∷ xs) f h = dite (ℕ_discrete x.number n)
     (λ e. subst (λ b. Each Q (cond b (parts_but n xs) (x ∷ parts_but n xs))) (sym (eq-eqb x.number n e)) (each_but P Q n xs f h.1))
     (λ ne. subst (λ b. Each Q (cond b (parts_but n xs) (x ∷ parts_but n xs))) (sym (ne_eqb x.number n ne)) (f x ne h.0, each_but P Q n xs f h.1))
 
-pub but_blank : (setup : Setup) (n k count : ℕ) → n < k → parts_but n (blank_parts setup k count) ≡ blank_parts setup k count
-but_blank setup n k zero h = refl
-but_blank setup n k (suc count) h =
-    let p : Part = record { setup = setup; number = k; seen = []; mine = []; mark = false; holds = false } in
-    let ne : k ≢ n = λ e. omega (arith, e) in
-    ap (λ b. cond b (parts_but n (blank_parts setup (suc k) count)) (p ∷ parts_but n (blank_parts setup (suc k) count))) (ne_eqb k n ne)
-    ∙ ap (λ l. p ∷ l) (but_blank setup n (suc k) count (omega arith))
+module _ (author : Setup → List Told → Told → ℕ) (setup : Setup) (seen : List Told) where
+  but_begun : (n k count : ℕ) → n < k → parts_but n (begun_parts author setup seen k count) ≡ begun_parts author setup seen k count
+  but_begun n k zero h = refl
+  but_begun n k (suc count) h =
+      let p : Part = begun_part author setup seen k in
+      let rest : List Part = begun_parts author setup seen (suc k) count in
+      let ne : k ≢ n = λ e. omega (arith, e) in
+      ap (λ b. cond b (parts_but n rest) (p ∷ parts_but n rest)) (ne_eqb k n ne) ∙ ap (λ l. p ∷ l) (but_begun n (suc k) count (omega arith))
+
+  pub cut_begun : (i n : ℕ) → i < n → but_first (begun_parts author setup seen i (n - i)) ≡ begun_parts author setup seen (i + 1) (n - (i + 1))
+  cut_begun i n h =
+      let more : n - i ≡ suc (n - (i + 1)) = omega arith in
+      let next : suc i ≡ i + 1 = omega arith in
+      ap (λ k. but_first (begun_parts author setup seen i k)) more ∙ (but_begun i (suc i) (n - (i + 1)) (omega arith) ∙ ap (λ k. begun_parts author setup seen k (n - (i + 1))) next)
+
+  pub first_begun : (i n : ℕ) → i < n → first_of_parts (begun_parts author setup seen i (n - i)) ≡ begun_part author setup seen i ∷ []
+  first_begun i n h =
+      let more : n - i ≡ suc (n - (i + 1)) = omega arith in ap (λ k. first_of_parts (begun_parts author setup seen i k)) more
 
 pub mark_even : (mark : Bool) → cond mark 2 0 % 2 ≡ 0
 mark_even true = refl
@@ -57,16 +68,6 @@ number_or d (Some n) = n
 pub number_is : (k n : ℕ) → Some k ≡ Some n → k ≡ n
 unfolding number_or
 number_is k n e = ap (number_or 0) e
-
-pub cut_blank : (setup : Setup) (i n : ℕ) → i < n → but_first (blank_parts setup i (n - i)) ≡ blank_parts setup (i + 1) (n - (i + 1))
-cut_blank setup i n h =
-    let more : n - i ≡ suc (n - (i + 1)) = omega arith in
-    let next : suc i ≡ i + 1 = omega arith in
-    ap (λ k. but_first (blank_parts setup i k)) more ∙ (but_blank setup i (suc i) (n - (i + 1)) (omega arith) ∙ ap (λ k. blank_parts setup k (n - (i + 1))) next)
-
-pub first_blank : (setup : Setup) (i n : ℕ) → i < n → first_of_parts (blank_parts setup i (n - i)) ≡ blank_part setup i ∷ []
-first_blank setup i n h =
-    let more : n - i ≡ suc (n - (i + 1)) = omega arith in ap (λ k. first_of_parts (blank_parts setup i k)) more
 
 -- what holds of each place, and of one more
 pub each_more : {A : Type 0} (f : ℕ → A) (l : List A) (a : A) (n : ℕ) → length l ≡ n → ((k : ℕ) (d : A) → k < n → get_or l k d ≡ f k) → a ≡ f n

@@ -11,7 +11,7 @@ use Rattle.esm_model.specs.declared.setup.Setup.{Setup}
 use Rattle.esm_model.specs.Kept.{Meaning, entries_of, IsLegal, MayFollowAll, AllBy, added}
 use Rattle.esm_model.proofs.Growing.{own_after, other_after, may_append}
 use Rattle.esm_turn.specs.declared.part.Part.{Part}
-use Rattle.esm_turn.specs.Parts.{Each, blank_parts, parts_but, but_first, first_of_parts, Within}
+use Rattle.esm_turn.specs.Parts.{Each, begun_parts, parts_but, but_first, first_of_parts, Within}
 use Rattle.esm_turn.specs.Rule.{word_of, out_bit, FitsPart, IsAt, IsHomeOrOut, IsKept, found_by, IsTaken, Took, given_by, Gave}
 use Rattle.esm_turn.proofs.PartLemmas.{each_append, each_map, each_but, free_word, none-ne-some, number_is}
 
@@ -67,35 +67,37 @@ module _ {T : Type 0} (m : Meaning T) (setup : Setup) (seats : ℕ) where
   abbrev Fits : List Told → Bool → Option ℕ → (ℕ → ℕ) → ℕ → Part → Type 0
   Fits = FitsPart m setup seats
 
-  blank_fits : (mark : Bool) (k n : ℕ) → k + n ≤ seats → Each (Fits [] mark None (λ _. 0) 0) (blank_parts setup k n)
-  blank_fits mark k zero h = tt
-  blank_fits mark k (suc n) h = (
+  begun_fits : (log : List Told) (mark : Bool) (k n : ℕ) → k + n ≤ seats → Each (Fits log mark None (λ _. 0) 0) (begun_parts m.author setup log k n)
+  begun_fits log mark k zero h = tt
+  begun_fits log mark k (suc n) h = (
     record {
       setup_is = refl;
       seated = omega arith;
       in_view = refl;
-      seen = ([], refl);
+      seen = prefix_self log;
       marked = λ e. absurd cc;
       mine = refl;
       holding = λ e. absurd cc;
       idle = λ _. none-ne-some k;
     },
-    blank_fits mark (suc k) n (omega arith),
+    begun_fits log mark (suc k) n (omega arith),
   )
 
-  pub starts : (x : T) (w : ℕ) → m.setup x ≡ setup → m.history x ≡ [] → w ≡ cond (m.mark x) 2 0 → Rule (opening (w ∷ []) (Some x ∷ []) (blank_parts setup 0 seats))
-  starts x w same empty is = record {
-    log = [];
+  -- a value with this history, which its seats have seen
+  pub starts : (x : T) (log : List Told) (w : ℕ) → m.setup x ≡ setup → m.history x ≡ log → IsLegal (m.may_follow setup) log → ((n : ℕ) → seats ≤ n → entries_of (m.author setup) n log ≡ [])
+      → w ≡ word_of log (m.mark x) None → Rule (opening (w ∷ []) (Some x ∷ []) (begun_parts m.author setup log 0 seats))
+  starts x log w same seen legal others is = record {
+    log = log;
     mark = m.mark x;
     holder = None;
     view_of = λ _. 0;
-    words = ap (λ (n : ℕ). n ∷ []) (is ∙ omega arith);
-    home = (x, refl, record { setup_is = same; history_is = empty; mark_is = refl });
-    legal = tt;
-    others = λ n h. refl;
+    words = ap (λ (n : ℕ). n ∷ []) is;
+    home = (x, refl, record { setup_is = same; history_is = seen; mark_is = refl });
+    legal = legal;
+    others = others;
     each = λ j v at.
-        let t = at_only (blank_parts setup 0 seats) v j at in
-        subst (λ (z : ℕ × List Part). Each (Fits [] (m.mark x) None (λ _. 0) z.0) z.1) (λ i. (sym t.0 i, t.1 i)) (blank_fits (m.mark x) 0 seats (omega arith));
+        let t = at_only (begun_parts m.author setup log 0 seats) v j at in
+        subst (λ (z : ℕ × List Part). Each (Fits log (m.mark x) None (λ _. 0) z.0) z.1) (λ i. (sym t.0 i, t.1 i)) (begun_fits log (m.mark x) 0 seats (omega arith));
   }
 
   -- the same part under another view_of
@@ -277,7 +279,7 @@ module _ {T : Type 0} (m : Meaning T) (setup : Setup) (seats : ℕ) where
       (λ miss. (p ∷ [], keeps, tt, keeps_all s id (p ∷ []) at (word_of r.log r.mark r.holder) r.words r, ((λ e. absurd (miss e)), λ _. refl)))
 
   gives_back : (s : St) (r : Rule s) (id : ℕ) (p : Part) (x : T) (new : ℕ) (homes : List (mathlib.Core.Option.Option (Option T))) → get_elem? s.views id ≡ some (p ∷ [])
-      → p.holds ≡ true → MayGive m p x → new ≡ length (m.history x) * 4 + cond (m.mark x) 2 0 → homes ≡ some (Some x) ∷ []
+      → p.holds ≡ true → MayGive m p x → new ≡ word_of (m.history x) (m.mark x) None → homes ≡ some (Some x) ∷ []
       → Rule record { words = set s.words 0 new; homes = homes; views = set s.views id (given_by p (m.history x) (m.mark x) ∷ []) }
   gives_back s r id p x new homes at holds may new_is homes_is =
       let mine = (r.each id (p ∷ []) at).0 in
@@ -293,7 +295,7 @@ module _ {T : Type 0} (m : Meaning T) (setup : Setup) (seats : ℕ) where
         mark = mark';
         holder = None;
         view_of = r.view_of;
-        words = ap (λ (ws : List ℕ). set ws 0 new) r.words ∙ ap (λ (n : ℕ). n ∷ []) (new_is ∙ omega arith);
+        words = ap (λ (ws : List ℕ). set ws 0 new) r.words ∙ ap (λ (n : ℕ). n ∷ []) new_is;
         home = (x, homes_is, record { setup_is = may.setup_is ∙ mine.setup_is; history_is = refl; mark_is = refl });
         legal = subst (IsLegal (m.may_follow setup)) (sym goes)
             (may_append (m.may_follow setup) [] r.log more r.legal (subst (λ (z : Setup × List Told). MayFollowAll (m.may_follow z.0) z.1 more) (λ i. (mine.setup_is i, held.1 i)) may.legal));
@@ -334,7 +336,7 @@ module _ {T : Type 0} (m : Meaning T) (setup : Setup) (seats : ℕ) where
   value_or d (Some x) = x
   value_or d None = d
 
-  pub gives_turn : (slots id : ℕ) (p : Part) (x : T) (new : ℕ) → p.holds ≡ true → MayGive m p x → new ≡ length (m.history x) * 4 + cond (m.mark x) 2 0
+  pub gives_turn : (slots id : ℕ) (p : Part) (x : T) (new : ℕ) → p.holds ≡ true → MayGive m p x → new ≡ word_of (m.history x) (m.mark x) None
       → Allows Rule slots id (p ∷ [], (0, Some x) ∷ []) 0 (λ _. new) (λ _ after. Gave m (p ∷ [], (0, Some x) ∷ []) after)
   gives_turn slots id p x new holds may new_is s r long at small =
       let mine = (r.each id (p ∷ []) at).0 in

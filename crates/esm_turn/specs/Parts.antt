@@ -2,17 +2,19 @@
 -- have none yet, and while they are gathered, the last has the parts of all that have come. This product's own.
 use Rattle.std.specs.Prelude.{◌≡◌, ℕ, zero, suc, ◌==◌, ◌⊎◌, if◌then◌else◌, false, List, [], ◌∷◌}
 use Rattle.esm_model.specs.declared.setup.Setup.{Setup}
+use Rattle.esm_model.specs.declared.setup.Told.{Told}
+use Rattle.esm_model.specs.Kept.{entries_of}
 use Rattle.esm_model.specs.Setup.{no_setup}
 use Rattle.esm_turn.specs.declared.part.Part.{Part}
 
--- the part of the seat n, which has seen nothing
-abbrev pub blank_part : Setup → ℕ → Part
-blank_part setup n = record { setup = setup; number = n; seen = []; mine = []; mark = false; holds = false }
+-- the part of the seat n, which has seen the history h and its own entries in it
+abbrev pub begun_part : (Setup → List Told → Told → ℕ) → Setup → List Told → ℕ → Part
+begun_part author setup h n = record { setup = setup; number = n; seen = h; mine = entries_of (author setup) n h; mark = false; holds = false }
 
 -- those of so many seats, from the seat n on
-abbrev pub blank_parts : Setup → ℕ → ℕ → List Part
-blank_parts setup n zero = []
-blank_parts setup n (suc count) = blank_part setup n ∷ blank_parts setup (suc n) count
+abbrev pub begun_parts : (Setup → List Told → Told → ℕ) → Setup → List Told → ℕ → ℕ → List Part
+begun_parts author setup h n zero = []
+begun_parts author setup h n (suc count) = begun_part author setup h n ∷ begun_parts author setup h (suc n) count
 
 -- the parts that are not of the seat n
 abbrev pub parts_but : ℕ → List Part → List Part
@@ -29,9 +31,13 @@ abbrev pub first_of_parts : List Part → List Part
 first_of_parts [] = []
 first_of_parts (p ∷ ps) = p ∷ []
 
+-- a part that stands where there is none
+abbrev pub no_part : Part
+no_part = record { setup = no_setup; number = 0; seen = []; mine = []; mark = false; holds = false }
+
 -- the part of a seat, which has one
 abbrev pub first_part : List Part → Part
-first_part [] = blank_part no_setup 0
+first_part [] = no_part
 first_part (p ∷ ps) = p
 
 -- P holds of each part

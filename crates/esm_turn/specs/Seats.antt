@@ -5,7 +5,7 @@ use Rattle.atomic_table.specs.Table.{Me}
 use Rattle.esm_model.specs.declared.setup.Setup.{Setup}
 use Rattle.esm_model.specs.declared.setup.Told.{Told}
 use Rattle.esm_turn.specs.declared.part.Part.{Part}
-use Rattle.esm_turn.specs.Parts.{blank_part}
+use Rattle.esm_turn.specs.Parts.{begun_part}
 
 -- which turn it is, the setup of the value, and the number of seats
 pub record TurnView : Type 0 where
@@ -52,11 +52,11 @@ pub record AreAllSeats (t : TurnView) (seats : List SeatView) : Type 0 where
   pub count : length seats ≡ t.seats
   pub each : (k : ℕ) (d : SeatView) → k < length seats → IsFreeSeat t k (slice_index_or seats k d)
 
--- the seat k, which has seen nothing
-abbrev pub fresh_seat : TurnView → ℕ → SeatView
-fresh_seat t k = seat_view t.at (blank_part t.setup k)
+-- the seat k, which has seen the history h and its own entries in it
+abbrev pub begun_seat : (Setup → List Told → Told → ℕ) → List Told → TurnView → ℕ → SeatView
+begun_seat author h t k = seat_view t.at (begun_part author t.setup h k)
 
--- these are all seats of the turn, as it was made
-pub record AreFresh (t : TurnView) (seats : List SeatView) : Type 0 where
+-- these are all seats of the turn, as it was made over a value with the history h
+pub record AreBegun (author : Setup → List Told → Told → ℕ) (h : List Told) (t : TurnView) (seats : List SeatView) : Type 0 where
   pub count : length seats ≡ t.seats
-  pub each : (k : ℕ) (d : SeatView) → k < length seats → slice_index_or seats k d ≡ fresh_seat t k
+  pub each : (k : ℕ) (d : SeatView) → k < length seats → slice_index_or seats k d ≡ begun_seat author h t k

@@ -14,11 +14,11 @@ pub struct Rule<T> {
 
 impl<T: Kept> TableRule<Option<T>, LinkedList<Part>, Terms<T>> for Rule<T> {
     ghost use Rattle.esm_turn.specs.Rule.{IsKept};
-    ghost use Rattle.esm_turn.specs.Parts.{blank_parts};
+    ghost use Rattle.esm_turn.specs.Parts.{begun_parts};
 
     ghost holds = { λ key. IsKept (meaning T.setup T.history T.mark T.author T.may_follow) (T.setup key.made.value) key.seats };
 
-    ghost first = { λ key. blank_parts (T.setup key.made.value) 0 key.seats };
+    ghost first = { λ key. begun_parts T.author (T.setup key.made.value) (T.history key.made.value) 0 key.seats };
 }
 
 /// Takes the value where the word is still the one that was read.

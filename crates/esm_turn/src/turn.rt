@@ -1,11 +1,11 @@
 // A value that one seat at a time has out, while the threads at the other seats wait.
-ghost use Rattle.std.specs.Prelude.{◌≡◌, ℕ, true, false, [], ◌++◌, ◌<◌, ◌≤◌, length, IfSome, IfNone, IfOk, IfErr, vec_len, vec_capacity};
+ghost use Rattle.std.specs.Prelude.{◌≡◌, ℕ, true, false, [], ◌++◌, ◌<◌, ◌≤◌, length, None, IfSome, IfNone, IfOk, IfErr, vec_len, vec_capacity};
 ghost use Rattle.std.specs.List.{All};
 ghost use mathlib.Core.List.{IsPrefix};
 ghost use Rattle.esm_model.specs.Kept.{meaning, entries_of, IsLegal, MayFollowAll, AllBy, added};
-ghost use Rattle.esm_turn.specs.Parts.{blank_parts, Each, Within};
-ghost use Rattle.esm_turn.specs.Rule.{IsTaken};
-ghost use Rattle.esm_turn.specs.Seats.{AreAllSeats, AreFresh, turn_view, part_of};
+ghost use Rattle.esm_turn.specs.Parts.{begun_parts, Each, Within};
+ghost use Rattle.esm_turn.specs.Rule.{IsTaken, word_of};
+ghost use Rattle.esm_turn.specs.Seats.{AreAllSeats, AreBegun, turn_view, part_of};
 
 use crate::part::{Part, Terms};
 use crate::rule::{Deals, Gathers, Gives, Rule, Takes};
@@ -73,10 +73,10 @@ type Place<T> = atomic_table::Seat<Option<T>, LinkedList<Part>>;
 // Deals a part to each of the seats; the one that had all parts has none in the end.
 fn seat_all<T: Kept>(shared: &Board<T>, mut first: Place<T>, all: &mut Vec<Seat<T>>, seats: u32)
     requires at { (first.table_id ≡ shared.now.table_id) × (shared.now.table_id.words ≡ 1) }
-    requires first { first.me ≡ (blank_parts (T.setup shared.now.key.made.value) 0 seats, []) }
+    requires first { first.me ≡ (begun_parts T.author (T.setup shared.now.key.made.value) (T.history shared.now.key.made.value) 0 seats, []) }
     requires key { shared.now.key.seats ≡ seats }
     requires room { (vec_len all.old ≡ 0) × (seats ≤ vec_capacity all.old) }
-    ensures { AreFresh (turn_view shared.now.table_id (T.setup shared.now.key.made.value) seats) all.new.items }
+    ensures { AreBegun T.author (T.history shared.now.key.made.value) (turn_view shared.now.table_id (T.setup shared.now.key.made.value) seats) all.new.items }
 {
     for _i in 0..seats {
         let inner = shared.split_seat::<Deals>(&mut first);
@@ -103,22 +103,30 @@ fn join_all<T: Kept>(shared: &Board<T>, mut seats: Vec<Seat<T>>) -> Place<T>
     all
 }
 
+// The word that tells of the value at home.
+fn word_at_home<T: Kept>(value: &T) -> u64
+    ensures { result ≡ word_of (T.history value.now) (T.mark value.now) None }
+{
+    value.entries() * 4 + if value.marked() { 2 } else { 0 }
+}
+
 impl<T: Kept> Turn<T> {
-    /// A turn with this value at home, and its seats: the seat at index `s` has the number `s`.
-    /// For want of memory the value comes back.
+    /// A turn with this value at home, and its seats: the seat at index `s` has the number `s`, and has seen the history that
+    /// the value has. For want of memory the value comes back.
     pub fn new(
         alloc: Global,
         value: T,
         seats: u32,
     ) -> Result<(Turn<T>, Vec<Seat<T>>), Refused<OutOfMemory, T>>
         requires seats { (0 < seats) × (seats ≤ 65) }
-        requires empty { T.history value ≡ [] }
+        requires legal { IsLegal (T.may_follow (T.setup value)) (T.history value) }
+        requires others { (n : ℕ) → seats ≤ n → entries_of (T.author (T.setup value)) n (T.history value) ≡ [] }
         ensures setup { IfOk result (λ r. r.0.setup ≡ T.setup value) }
         ensures count { IfOk result (λ r. r.0.seats ≡ seats) }
-        ensures seats { IfOk result (λ r. AreFresh r.0 r.1.items) }
+        ensures seats { IfOk result (λ r. AreBegun T.author (T.history value) r.0 r.1.items) }
         ensures refused { IfErr result (λ r. r.back ≡ value) }
     {
-        let word = if value.marked() { 2 } else { 0 };
+        let word = word_at_home(&value);
         let Ok(mut all) = Vec::with_capacity(alloc, seats as usize) else {
             return Err(Refused {
                 why: OutOfMemory,
@@ -232,7 +240,7 @@ impl<T: Kept> Turn<T> {
         ensures { seat.new ≡ record seat.old { seen = T.history held.value; mine = seat.old.mine ++ added seat.old.seen (T.history held.value); mark = T.mark held.value; holds = false } }
     {
         let Held { value } = held;
-        let word = value.entries() * 4 + if value.marked() { 2 } else { 0 };
+        let word = word_at_home(&value);
         let shared = &self.table.shared;
         let empty = shared.exchange(&mut seat.inner, 0, Some(value));
         let None = empty else { unreachable!() };

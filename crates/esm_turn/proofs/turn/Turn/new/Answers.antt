@@ -1,24 +1,24 @@
-use Rattle.std.proofs.Common.{◌≡◌, ◌++◌, List, [], ◌∷◌, Option, Some, ap, sym, ◌∙◌, subst, cond}
+use Rattle.std.proofs.Common.{◌≡◌, ◌≤◌, ◌++◌, ℕ, List, [], ◌∷◌, Option, Some, None, ap, sym, ◌∙◌, subst}
 use Rattle.atomic_table.specs.Table.{opening}
-use Rattle.esm_model.specs.Kept.{meaning}
-use Rattle.esm_turn.specs.Parts.{blank_parts}
-use Rattle.esm_turn.specs.Rule.{IsKept}
+use Rattle.esm_model.specs.Kept.{meaning, entries_of, IsLegal}
+use Rattle.esm_turn.specs.Parts.{begun_parts}
+use Rattle.esm_turn.specs.Rule.{IsKept, word_of}
 use Rattle.esm_turn.proofs.Steps.{starts}
 use Rattle.esm_turn.proofs.turn.Turn.new.Goals as goal
-use Rattle.esm_turn.proofs.turn.Turn.new.Goals.{then-marked, else-marked}
 
 pub new-made-requires : goal.new-made-requires
 new-made-requires g c =
     let T = g.row.T.Denot in
     let m = meaning g.T.Kept.setup g.T.Kept.history g.T.Kept.mark g.T.Kept.author g.T.Kept.may_follow in
     let value : T = c.args.value in
-    let setup = g.T.Kept.setup c.of.result.value in
+    let made : T = c.of.result.value in
+    let same : value ≡ made = sym c.of.ensures in
     let seats = c.args.seats in
-    let word = c.if-marked.word in
-    let word_is : word ≡ cond (m.mark value) 2 0 = elim c.if-marked.branch [
-      | then-marked w ↦ w.word-is ∙ ap (λ b. cond b 2 0) (sym w.if-marked.true ∙ c.marked.ensures)
-      | else-marked w ↦ w.word-is ∙ ap (λ b. cond b 2 0) (sym w.if-marked.false ∙ c.marked.ensures)
-    ] in
+    let word = c.word_at_home-word.result in
+    let word_is : word ≡ word_of (m.history made) (m.mark value) None = c.word_at_home-word.ensures ∙ ap (λ x. word_of (m.history x) (m.mark value) None) same in
+    let legal : IsLegal (m.may_follow (m.setup made)) (m.history made) = subst (λ x. IsLegal (m.may_follow (m.setup x)) (m.history x)) same c.requires.legal in
+    let others : (n : ℕ) → seats ≤ n → entries_of (m.author (m.setup made)) n (m.history made) ≡ []
+    = λ n h. ap (λ x. entries_of (m.author (m.setup x)) n (m.history x)) (sym same) ∙ c.requires.others n h in
     let items : c.push_reserved.new.self.items ≡ Some value ∷ [] = c.push_reserved.ensures.items ∙ ap (λ l. l ++ Some value ∷ []) c.in-Ok-with_capacity.ensures.items in
-    subst (λ (l : List (Option T)). IsKept m setup seats (opening (word ∷ []) l (blank_parts setup 0 seats))) (sym items)
-    (starts m setup seats value word (ap g.T.Kept.setup (sym c.of.ensures)) c.requires.empty word_is)
+    subst (λ (l : List (Option T)). IsKept m (m.setup made) seats (opening (word ∷ []) l (begun_parts m.author (m.setup made) (m.history made) 0 seats))) (sym items)
+    (starts m (m.setup made) seats value (m.history made) word (ap m.setup same) (ap m.history same) legal others word_is)
