@@ -1,7 +1,6 @@
 -- What a seat knows when it has taken the turn, and when it has given it back.
 use Rattle.std.proofs.Common.{◌≡◌, ℕ, Bool, true, false, cond, eqb, Result, Ok, Err, OnOk, OnErr, List, [], ◌∷◌, ◌++◌, refl, sym, ap, ◌∙◌, subst, append_assoc, eq-eqb}
 use Rattle.std.proofs.lemmas.List.{append-nil, append_cancel_left}
-use Rattle.std.proofs.Math.Seq.{drop-length}
 use mathlib.Core.List.{IsPrefix}
 use Rattle.esm_model.specs.declared.setup.Setup.{Setup}
 use Rattle.esm_model.specs.declared.setup.Told.{Told}
@@ -77,9 +76,9 @@ module _ {T : Type 0} (m : Meaning T) (gave : ℕ → Bool) (t : TurnView) (n : 
   abbrev pub after : SeatView → T → T → SeatView
   after s x y = record s { seen = m.history y; mine = s.mine ++ added (m.history x) (m.history y); mark = m.mark y; holds = false }
 
-  given_own : (s : SeatView) (x y : T) → IsSeated m.author m.may_follow gave t n s → Found s (m.history x) → m.setup x ≡ t.setup
-      → GoesOn m n x y → OwnGiven gave (m.author t.setup) n (m.history x) (added (m.history x) (m.history y)) → IsSeated m.author m.may_follow gave t n (after s x y)
-  given_own s x y seated f setup goes moments =
+  pub given : (moment : ℕ) (s : SeatView) (x y : T) → IsSeated m.author m.may_follow gave t n s → Found s (m.history x) → m.setup x ≡ t.setup
+      → GoesOn m n x y → AllAt moment (m.history x) (added (m.history x) (m.history y)) → gave moment ≡ true → IsSeated m.author m.may_follow gave t n (after s x y)
+  given moment s x y seated f setup goes at gives =
       let author : List Told → Told → ℕ = m.author t.setup in
       let h : List Told = m.history x in
       let more : List Told = added h (m.history y) in
@@ -89,34 +88,8 @@ module _ {T : Type 0} (m : Meaning T) (gave : ℕ → Bool) (t : TurnView) (n : 
         free = record { at_is = seated.free.at_is; setup_is = seated.free.setup_is; number_is = seated.free.number_is; free = refl };
         whole = ap (λ l. l ++ more) f.mine ∙ (sym (own_after author n h more own) ∙ ap (entries_of author n) (sym goes.history_is));
         legal = subst (IsLegal (m.may_follow t.setup)) (sym goes.history_is) (may_append (m.may_follow t.setup) [] h more f.legal legal);
-        moments = subst (OwnGiven gave author n []) (sym goes.history_is) (given_append gave author n [] h more f.moments moments);
+        moments = subst (OwnGiven gave author n []) (sym goes.history_is) (given_append gave author n [] h more f.moments (given_at gave author n moment gives h more at));
       }
-
-  pub given : (moment : ℕ) (s : SeatView) (x y : T) → IsSeated m.author m.may_follow gave t n s → Found s (m.history x) → m.setup x ≡ t.setup
-      → GoesOn m n x y → AllAt moment (m.history x) (added (m.history x) (m.history y)) → gave moment ≡ true → IsSeated m.author m.may_follow gave t n (after s x y)
-  given moment s x y seated f setup goes at gives =
-      given_own s x y seated f setup goes (given_at gave (m.author t.setup) n moment gives (m.history x) (added (m.history x) (m.history y)) at)
-
-  -- the value goes back as it was
-  none_added : (x : T) → added (m.history x) (m.history x) ≡ []
-  none_added x = drop-length (m.history x)
-
-  goes_on_as_it_was : (x : T) → GoesOn m n x x
-  goes_on_as_it_was x =
-      let h : List Told = m.history x in
-      let none = none_added x in
-      record {
-        setup_is = refl;
-        history_is = sym (ap (λ l. h ++ l) none ∙ append-nil h);
-        legal = subst (MayFollowAll (m.may_follow (m.setup x)) h) (sym none) tt;
-        own = subst (AllBy (m.author (m.setup x)) n h) (sym none) tt;
-        marked = λ marked. marked;
-      }
-
-  pub given_as_it_was : (s : SeatView) (x : T) → IsSeated m.author m.may_follow gave t n s → Found s (m.history x) → m.setup x ≡ t.setup
-      → IsSeated m.author m.may_follow gave t n (after s x x)
-  given_as_it_was s x seated f setup =
-      given_own s x x seated f setup (goes_on_as_it_was x) (subst (OwnGiven gave (m.author t.setup) n (m.history x)) (sym (none_added x)) tt)
 
   -- it is that seat
   pub gone_back : (s v w : SeatView) (x y : T) → v ≡ record s { seen = m.history x; mark = m.mark x; holds = true }

@@ -1,13 +1,11 @@
 -- What a batcher's thread leaves: its seat, and its caller's log. This product's own.
-use Rattle.std.specs.Prelude.{◌≡◌, ◌⊎◌, ◌++◌, ◌∷◌, [], ℕ, Bool, true, false, List, Option}
+use Rattle.std.specs.Prelude.{◌≡◌, ◌⊎◌, ◌++◌, ◌∷◌, [], ℕ, Bool, true, List, Option}
 use Rattle.esm_io.specs.Told.{Grows}
 use Rattle.esm_model.specs.declared.called.Called.{Called}
 use Rattle.esm_model.specs.declared.book.Job.{Job}
 use Rattle.esm_model.specs.declared.entry.Reply.{Reply}
 use Rattle.esm_model.specs.declared.setup.Setup.{Setup}
 use Rattle.esm_model.specs.declared.setup.Told.{Told}
-use Rattle.esm_model.specs.Books.{entries_told}
-use Rattle.esm_model.specs.Entries.{is_shut}
 use Rattle.esm_pooled.specs.Batching.{call_of}
 use Rattle.esm_turn.specs.Seats.{SeatView}
 
@@ -31,7 +29,7 @@ pub record HasOneMore (runs : Job → Type 0) (setup : Setup) (sends : List ℕ 
 abbrev pub HasLogged : (runs : Job → Type 0) → Setup → (List ℕ → List ℕ) → (ended : List Called) → (old new : Option (List Called)) → Type 0
 HasLogged runs setup sends ended old new = Grows old new ended ⊎ HasOneMore runs setup sends ended old new
 
--- Why the batcher k came to its end, told of its seat: nothing is left for it or all calls allowed were made, the book is
--- down, or it was to call after the input's end alone, and that was not noted.
-abbrev pub HasEnded : (ended : Setup → List Told → ℕ → Type 0) → Setup → ℕ → (after_shut : Bool) → SeatView → Type 0
-HasEnded ended setup k after_shut s = ended setup s.seen k ⊎ ((s.mark ≡ true) ⊎ ((after_shut ≡ true) × (is_shut (entries_told s.seen) ≡ false)))
+-- Why the batcher k came to its end, told of its seat: the input has ended and nothing is left for it, all calls allowed were
+-- made, or the book is down.
+abbrev pub HasEnded : (finished : Setup → List Told → ℕ → Type 0) (spent : Setup → List Told → Type 0) → Setup → ℕ → SeatView → Type 0
+HasEnded finished spent setup k s = finished setup s.seen k ⊎ (spent setup s.seen ⊎ (s.mark ≡ true))

@@ -1,5 +1,5 @@
 // A batcher's work, from its first question to its end.
-ghost use Rattle.std.specs.Prelude.{◌≡◌, ◌<◌, ◌+◌, ◌++◌, ◌∷◌, [], ℕ, List, Ok, IfOk, IfSome, IfNone, OnOk, OnErr, IsErrOf, true, false};
+ghost use Rattle.std.specs.Prelude.{◌≡◌, ◌<◌, ◌+◌, ◌++◌, ◌∷◌, [], ℕ, List, Ok, IfOk, IfSome, IfNone, OnOk, OnErr, IsErrOf, true};
 ghost use mathlib.Core.List.{IsPrefix};
 ghost use Rattle.esm_io.specs.Told.{Grows};
 ghost use Rattle.esm_model.specs.declared.book.BookError.TheVariants as why;
@@ -9,7 +9,7 @@ ghost use Rattle.esm_model.specs.Entries.{is_shut};
 ghost use Rattle.esm_model.specs.Kept.{meaning, added};
 ghost use Rattle.esm_pooled.specs.Batching.{Answers, call_of};
 ghost use Rattle.esm_pooled.specs.GoingOn.{AllAt, GoesOn, OwnFollowShut};
-ghost use Rattle.esm_batchers.specs.Rounds.{GoesOnFrom, IsAnswer, StopsWork};
+ghost use Rattle.esm_batchers.specs.Rounds.{GoesOnFrom, IsAnswer, StopsWork, answer_of};
 ghost use Rattle.esm_batchers.specs.Seated.{IsSeated};
 ghost use Rattle.esm_batchers.specs.Working.{HasLogged, HasEnded};
 
@@ -38,7 +38,7 @@ fn ask<R: Wait, T: Pooled, C: Clock>(
     ensures seated { IsSeated T.author T.may_follow C.gave turn.now (batcher + 1) seat.new }
     ensures grows { IsPrefix seat.old.seen seat.new.seen }
     ensures no_end { (sends : List ℕ → List ℕ) → T.calls turn.now.setup sends seat.new.seen batcher ≡ T.calls turn.now.setup sends seat.old.seen batcher }
-    ensures answer { IsAnswer T.rests T.runs T.ended turn.now.setup batcher seat.new.seen seat.new.mark result }
+    ensures answer { IsAnswer T.rests T.runs T.finished T.spent turn.now.setup batcher seat.new.seen seat.new.mark result }
 {
     T::stays();
     let moment = clock.now();
@@ -62,7 +62,7 @@ fn end_and_ask<T: Pooled>(
     requires runs { T.runs (T.setup book.old) (T.history book.old) batcher job }
     ensures goes_on { GoesOn (meaning T.setup T.history T.mark T.author T.may_follow) (batcher + 1) book.old book.new }
     ensures moments { AllAt moment (T.history book.old) (added (T.history book.old) (T.history book.new)) }
-    ensures answer { IfOk result (IsAnswer T.rests T.runs T.ended (T.setup book.old) batcher (T.history book.new) (T.mark book.new)) }
+    ensures answer { IfOk result (IsAnswer T.rests T.runs T.finished T.spent (T.setup book.old) batcher (T.history book.new) (T.mark book.new)) }
     ensures called { OnOk result ((sends : List ℕ → List ℕ) →
         T.calls (T.setup book.old) sends (T.history book.new) batcher ≡ T.calls (T.setup book.old) sends (T.history book.old) batcher ++ call_of (T.setup book.old) sends job.event reply ∷ []) }
     ensures unchanged { OnErr result (T.history book.new ≡ T.history book.old) }
@@ -93,7 +93,7 @@ fn tell<R: Wait, T: Pooled, C: Clock>(
     // Where the end is noted.
     ensures called { OnOk result ((sends : List ℕ → List ℕ) →
         T.calls turn.now.setup sends seat.new.seen batcher ≡ T.calls turn.now.setup sends seat.old.seen batcher ++ call_of turn.now.setup sends job.event reply ∷ []) }
-    ensures answer { IfOk result (IsAnswer T.rests T.runs T.ended turn.now.setup batcher seat.new.seen seat.new.mark) }
+    ensures answer { IfOk result (IsAnswer T.rests T.runs T.finished T.spent turn.now.setup batcher seat.new.seen seat.new.mark) }
     // Where it is not.
     ensures no_end { OnErr result ((sends : List ℕ → List ℕ) →
         T.calls turn.now.setup sends seat.new.seen batcher ≡ T.calls turn.now.setup sends seat.old.seen batcher) }
@@ -125,7 +125,7 @@ fn make_call<R: Wait, T: Pooled, C: Clock, F: Caller>(
     requires runs { T.runs turn.now.setup seat.old.seen batcher job }
     ensures seated { IsSeated T.author T.may_follow C.gave turn.now (batcher + 1) seat.new }
     ensures grows { IsPrefix seat.old.seen seat.new.seen }
-    ensures answer { IfOk result (IsAnswer T.rests T.runs T.ended turn.now.setup batcher seat.new.seen seat.new.mark) }
+    ensures answer { IfOk result (IsAnswer T.rests T.runs T.finished T.spent turn.now.setup batcher seat.new.seen seat.new.mark) }
     ensures called { OnOk result (GoesOnFrom (T.calls turn.now.setup F.sends seat.old.seen batcher) (F.log caller.old)
         (λ first. Grows first (F.log caller.new) (T.calls turn.now.setup F.sends seat.new.seen batcher))) }
     ensures stopped { OnErr result (GoesOnFrom (T.calls turn.now.setup F.sends seat.old.seen batcher) (F.log caller.old)
@@ -141,21 +141,33 @@ fn pause<C: Clock>(clock: &C, until: u64) {
     clock.pause(until.min(latest));
 }
 
+// What is left for a batcher to do. An answer that ends its work leaves none of these.
+enum Left {
+    // It makes this call.
+    Call(Job),
+    // It asks again: so many records got their fate.
+    Gave(u32),
+    // It pauses until this moment, in milliseconds, and asks again.
+    Idle { until: u64 },
+}
+
 // What is left to do after the answer; nothing where it ends the batcher's work or the book is down.
-fn left(answer: Result<Next, BookError>) -> Result<Option<Next>, OutOfMemory>
-    ensures goes { IfOk result (λ next. IfSome next (λ n. answer ≡ Ok n)) }
-    ensures stops { IfOk result (λ next. IfNone next (StopsWork answer)) }
+fn left_after(answer: Result<Next, BookError>) -> Result<Option<Left>, OutOfMemory>
+    ensures goes { IfOk result (λ left. IfSome left (λ l. answer ≡ Ok (answer_of l))) }
+    ensures stops { IfOk result (λ left. IfNone left (StopsWork answer)) }
     ensures memory { OnErr result (IsErrOf answer why.OutOfMemory) }
 {
     match answer {
+        Ok(Next::Call(job)) => Ok(Some(Left::Call(job))),
+        Ok(Next::Gave(count)) => Ok(Some(Left::Gave(count))),
+        Ok(Next::Idle { until }) => Ok(Some(Left::Idle { until })),
         Ok(Next::Spent | Next::Finished) => Ok(None),
-        Ok(next) => Ok(Some(next)),
         Err(BookError::OutOfMemory) => Err(OutOfMemory),
         Err(_) => Ok(None),
     }
 }
 
-// Calls or pauses as the batcher was answered, and answers what it does next.
+// Does what is left for the batcher, and answers what it does next.
 fn round<R: Wait, T: Pooled, C: Clock, F: Caller>(
     rt: &R,
     alloc: Global,
@@ -165,56 +177,29 @@ fn round<R: Wait, T: Pooled, C: Clock, F: Caller>(
     clock: &C,
     name: &str,
     batcher: u32,
-    next: Next,
+    left: Left,
 ) -> Result<Result<Next, BookError>, OutOfMemory>
     requires number { batcher < MAX_LANES }
     requires name { name.now ≡ turn.now.setup.config.function }
     requires seated { IsSeated T.author T.may_follow C.gave turn.now (batcher + 1) seat.old }
-    requires answer { Answers T.rests T.runs turn.now.setup seat.old.seen batcher next }
+    requires answer { Answers T.rests T.runs turn.now.setup seat.old.seen batcher (answer_of left) }
     ensures seated { IsSeated T.author T.may_follow C.gave turn.now (batcher + 1) seat.new }
     ensures grows { IsPrefix seat.old.seen seat.new.seen }
-    ensures answer { IfOk result (IsAnswer T.rests T.runs T.ended turn.now.setup batcher seat.new.seen seat.new.mark) }
+    ensures answer { IfOk result (IsAnswer T.rests T.runs T.finished T.spent turn.now.setup batcher seat.new.seen seat.new.mark) }
     ensures called { OnOk result (GoesOnFrom (T.calls turn.now.setup F.sends seat.old.seen batcher) (F.log caller.old)
         (λ first. Grows first (F.log caller.new) (T.calls turn.now.setup F.sends seat.new.seen batcher))) }
     ensures stopped { OnErr result (GoesOnFrom (T.calls turn.now.setup F.sends seat.old.seen batcher) (F.log caller.old)
         (λ first. HasLogged (T.runs turn.now.setup seat.new.seen batcher) turn.now.setup F.sends (T.calls turn.now.setup F.sends seat.new.seen batcher) first (F.log caller.new))) }
 {
-    match next {
-        Next::Call(job) => make_call(rt, alloc, turn, seat, caller, clock, name, batcher, job),
-        Next::Idle { until } => {
+    match left {
+        Left::Call(job) => make_call(rt, alloc, turn, seat, caller, clock, name, batcher, job),
+        Left::Gave(_) => Ok(ask(rt, alloc, turn, seat, clock, batcher)),
+        Left::Idle { until } => {
             pause(clock, until);
             let answer = ask(rt, alloc, turn, seat, clock, batcher);
             Ok(answer)
         }
-        Next::Gave(_) | Next::Spent | Next::Finished => {
-            Ok(ask(rt, alloc, turn, seat, clock, batcher))
-        }
     }
-}
-
-// Whether the batcher may ask. One that is to call only after the input's end takes the turn to see whether that was noted.
-fn may_ask<R: Wait, T: Pooled, C: Clock>(
-    rt: &R,
-    turn: &Turn<T>,
-    seat: &mut Seat<T>,
-    clock: &C,
-    batcher: u32,
-    after_shut: bool,
-) -> bool
-    requires seated { IsSeated T.author T.may_follow C.gave turn.now (batcher + 1) seat.old }
-    requires unused { seat.old.mine ≡ [] }
-    ensures seated { IsSeated T.author T.may_follow C.gave turn.now (batcher + 1) seat.new }
-    ensures unused { seat.new.mine ≡ [] }
-    ensures shut { result ≡ true → after_shut ≡ true → is_shut (entries_told seat.new.seen) ≡ true }
-    ensures open_still { result ≡ false → (after_shut ≡ true) × (is_shut (entries_told seat.new.seen) ≡ false) }
-{
-    if !after_shut {
-        return true;
-    }
-    let Held { value } = turn.take(rt, seat);
-    let shut = value.is_shut();
-    turn.give(seat, Held { value });
-    shut
 }
 
 // What holds of a batcher whose seat has added nothing. Does nothing.
@@ -229,8 +214,7 @@ fn begin<T: Pooled, C: Clock>(turn: &Turn<T>, seat: &Seat<T>, clock: &C, batcher
 }
 
 /// Asks for the batcher, calls the function `name` and pauses, for `MAX_PAUSE` at most, until it is answered that nothing is
-/// left or that all calls allowed were made, or the book is down. Want of memory ends it at any point. With `after_shut` it
-/// asks only where the input's end has been noted before it begins; where it was not, it ends at once.
+/// left or that all calls allowed were made, or the book is down. Want of memory ends it at any point.
 pub fn call_all<R: Wait, T: Pooled, C: Clock, F: Caller>(
     rt: &R,
     alloc: Global,
@@ -240,31 +224,26 @@ pub fn call_all<R: Wait, T: Pooled, C: Clock, F: Caller>(
     clock: &C,
     name: &str,
     batcher: u32,
-    after_shut: bool,
 ) -> Result<(), OutOfMemory>
     requires number { batcher < MAX_LANES }
     requires name { name.now ≡ turn.now.setup.config.function }
     requires seated { IsSeated T.author T.may_follow C.gave turn.now (batcher + 1) seat.old }
     requires unused { seat.old.mine ≡ [] }
     ensures seated { IsSeated T.author T.may_follow C.gave turn.now (batcher + 1) seat.new }
-    ensures later { after_shut ≡ true → OwnFollowShut (T.author turn.now.setup) (batcher + 1) [] seat.new.seen }
+    ensures later { is_shut (entries_told seat.old.seen) ≡ true → OwnFollowShut (T.author turn.now.setup) (batcher + 1) [] seat.new.seen }
     // How it ends.
-    ensures ended { OnOk result (HasEnded T.ended turn.now.setup batcher after_shut seat.new) }
+    ensures ended { OnOk result (HasEnded T.finished T.spent turn.now.setup batcher seat.new) }
     ensures rests { OnOk result (T.rests turn.now.setup seat.new.seen batcher) }
     ensures called { OnOk result (Grows (F.log caller.old) (F.log caller.new) (T.calls turn.now.setup F.sends seat.new.seen batcher)) }
     ensures stopped { OnErr result (HasLogged (T.runs turn.now.setup seat.new.seen batcher) turn.now.setup F.sends (T.calls turn.now.setup F.sends seat.new.seen batcher) (F.log caller.old) (F.log caller.new)) }
 {
-    let may = may_ask(rt, turn, seat, clock, batcher, after_shut);
     begin(turn, seat, clock, batcher);
-    if !may {
-        return Ok(());
-    }
     let mut answer = ask(rt, alloc, turn, seat, clock, batcher);
     for _ in rt.forever() {
-        let Some(next) = left(answer)? else {
+        let Some(left) = left_after(answer)? else {
             return Ok(());
         };
-        answer = round(rt, alloc, turn, seat, caller, clock, name, batcher, next)?;
+        answer = round(rt, alloc, turn, seat, caller, clock, name, batcher, left)?;
     }
     unreachable!()
 }

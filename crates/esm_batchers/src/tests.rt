@@ -1,8 +1,9 @@
 // What a batcher does with each answer of a book.
 use crate::calling::call_all;
 use esm_io::{Clock, Script, ScriptCaller, StepClock};
-use esm_model::{BookError, Job, Kept, Next, Reply};
+use esm_model::{BookError, CameError, Job, Kept, Next, Reply};
 use esm_pooled::Pooled;
+use esm_record::Item;
 use esm_turn::Turn;
 use std::alloc::Global;
 use std::sync::Wait;
@@ -51,6 +52,7 @@ impl Kept for Scripted {
 
 impl Pooled for Scripted {
     ghost use Rattle.std.specs.Prelude.{[]};
+    ghost use Rattle.esm_record.specs.declared.item.LineKind.TheVariants.{Stream};
 
     ghost calls = { λ _ _ _ _. [] };
 
@@ -58,7 +60,26 @@ impl Pooled for Scripted {
 
     ghost runs = { λ _ _ _ _. Unit {0} };
 
-    ghost ended = { λ _ _ _. Unit {0} };
+    ghost finished = { λ _ _ _. Unit {0} };
+
+    ghost left = { λ _ _ _. ⊥ };
+
+    ghost spent = { λ _ _. Unit {0} };
+
+    ghost kind = { λ _. Stream };
+
+    ghost items = { λ _ _. [] };
+
+    ghost differs = { λ _ _ _ _. Unit {0} };
+
+    // no item comes
+    fn bring(&mut self, _: Global, _: Vec<Item>, _: u64) -> Result<(), CameError> {
+        Err(CameError::OutOfMemory)
+    }
+
+    fn end_input(&mut self, _: u64) {
+        self.down = true;
+    }
 
     fn ask(&mut self, _: Global, _: u32, _: u64) -> Result<Next, BookError> {
         match self.answers.pop() {
@@ -80,13 +101,15 @@ impl Pooled for Scripted {
         Err(BookError::OutOfMemory)
     }
 
-    fn is_shut(&self) -> bool {
-        false
+    fn is_over(&self, _: u32) -> Option<bool> {
+        None
     }
 
     fn begins() {}
 
     fn stays() {}
+
+    fn excludes() {}
 }
 
 // Whether the batcher ended well, how many answers were left, and the moment of the clock, which began at 0.
@@ -94,7 +117,6 @@ fn batcher_over<R: Wait>(
     rt: &R,
     alloc: Global,
     answers: Vec<Answer>,
-    after_shut: bool,
 ) -> Option<(bool, usize, u64)> {
     let book = Scripted {
         answers,
@@ -106,17 +128,7 @@ fn batcher_over<R: Wait>(
     match Turn::new(alloc, book, 2) {
         Ok((turn, mut seats)) => {
             let seat = &mut seats[1];
-            let ended = call_all(
-                rt,
-                alloc,
-                &turn,
-                seat,
-                &mut caller,
-                &clock,
-                "",
-                0,
-                after_shut,
-            );
+            let ended = call_all(rt, alloc, &turn, seat, &mut caller, &clock, "", 0);
             let book = turn.close(seats);
             Some((ended.is_ok(), book.answers.len(), clock.now()))
         }
@@ -127,7 +139,7 @@ fn batcher_over<R: Wait>(
 #[test]
 fn ends_where_nothing_is_left(rt: HostRuntime) -> Result<(), Fail> {
     let answers = vec![in rt.alloc(); Answer::Gave, Answer::Finished, Answer::Gave]?;
-    let ended = batcher_over(&rt, rt.alloc(), answers, false).ok_or("no memory")?;
+    let ended = batcher_over(&rt, rt.alloc(), answers).ok_or("no memory")?;
     assert_eq!(rt; ended, (true, 1, 0));
     Ok(())
 }
@@ -135,10 +147,10 @@ fn ends_where_nothing_is_left(rt: HostRuntime) -> Result<(), Fail> {
 #[test]
 fn pauses_for_a_second_at_most(rt: HostRuntime) -> Result<(), Fail> {
     let answers = vec![in rt.alloc(); Answer::Spent, Answer::Idle(1_300), Answer::Idle(1_300)]?;
-    let ended = batcher_over(&rt, rt.alloc(), answers, false).ok_or("no memory")?;
+    let ended = batcher_over(&rt, rt.alloc(), answers).ok_or("no memory")?;
     assert_eq!(rt; ended, (true, 0, 1_300));
     let answers = vec![in rt.alloc(); Answer::Spent, Answer::Idle(u64::MAX)]?;
-    let ended = batcher_over(&rt, rt.alloc(), answers, false).ok_or("no memory")?;
+    let ended = batcher_over(&rt, rt.alloc(), answers).ok_or("no memory")?;
     assert_eq!(rt; ended, (true, 0, 1_000));
     Ok(())
 }
@@ -146,18 +158,10 @@ fn pauses_for_a_second_at_most(rt: HostRuntime) -> Result<(), Fail> {
 #[test]
 fn ends_where_the_book_is_down_or_memory_is_wanting(rt: HostRuntime) -> Result<(), Fail> {
     let answers = vec![in rt.alloc(); Answer::Gave, Answer::Down]?;
-    let ended = batcher_over(&rt, rt.alloc(), answers, false).ok_or("no memory")?;
+    let ended = batcher_over(&rt, rt.alloc(), answers).ok_or("no memory")?;
     assert_eq!(rt; ended, (true, 1, 0));
     let answers = vec![in rt.alloc(); Answer::Gave, Answer::NoMemory]?;
-    let ended = batcher_over(&rt, rt.alloc(), answers, false).ok_or("no memory")?;
+    let ended = batcher_over(&rt, rt.alloc(), answers).ok_or("no memory")?;
     assert_eq!(rt; ended, (false, 1, 0));
-    Ok(())
-}
-
-#[test]
-fn asks_nothing_before_the_input_ends(rt: HostRuntime) -> Result<(), Fail> {
-    let answers = vec![in rt.alloc(); Answer::Spent, Answer::Gave]?;
-    let ended = batcher_over(&rt, rt.alloc(), answers, true).ok_or("no memory")?;
-    assert_eq!(rt; ended, (true, 2, 0));
     Ok(())
 }
