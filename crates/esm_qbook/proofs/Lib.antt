@@ -5,7 +5,11 @@ pub mod Going
 pub mod Endings
 pub mod Noting
 pub mod Standing
+pub mod Over
+pub mod Items
 pub mod Pooling
 pub mod PoolingNext
 pub mod PoolingDone
+pub mod PoolingCame
+pub mod Bringing
 pub mod Sent

@@ -1,4 +1,4 @@
--- What a batcher's call of a queue's book added, as the seats of a turn see it.
+-- What a call of a queue's book added, as the seats of a turn see it.
 use Rattle.std.proofs.Common.{◌≡◌, ℕ, ◌+◌, true, List, [], ◌∷◌, ◌++◌, length, drop, reverse, refl, sym, ap, ap₂, ◌∙◌, subst, append_assoc, append-nil, arith}
 use Rattle.std.specs.Prelude.{max, is_some, ⊤, Result, Ok, Err, IfOk, OnErr}
 use Rattle.std.specs.Coded.{Coded}
@@ -11,33 +11,36 @@ use Rattle.esm_model.specs.declared.setup.Told.{Told}
 use Rattle.esm_model.specs.declared.setup.Setup.{Setup}
 use Rattle.esm_model.specs.Setup.{no_setup}
 use Rattle.esm_model.specs.Moment.{capped_moment}
-use Rattle.esm_model.specs.Entries.{moment_of, last_moment, last_call, batch_of, is_running}
+use Rattle.esm_model.specs.Entries.{moment_of, last_moment, last_call, batch_of, is_running, is_shut, calls_begun}
 use Rattle.esm_model.specs.Kept.{meaning, MayFollowAll, IsLegal, AllBy, added}
 use Rattle.esm_model.specs.Books.{entries_told, lane_of_entry}
 use Rattle.esm_pooled.specs.GoingOn.{GoesOn, AllAt}
-use Rattle.esm_pooled.specs.Batching.{EndsWork}
 use Rattle.esm_queue_model.specs.QueueSetting.{QueueSetting, over_messages}
 use Rattle.esm_queue_model.specs.QueueEntries.{queue_lane}
 use Rattle.esm_queue_model.specs.QueueBatch.{last_queue_event, queue_calls}
 use Rattle.esm_queue_model.specs.QueueBooks.{messages_told, queue_setting_told, queue_seat, queue_author, queue_may_follow}
 use Rattle.esm_queue_lasting.specs.Batchers.{queue_calls_told, RunsQueueJob}
+use Rattle.esm_queue_lasting.specs.Left.{AllDeleted, HasWaiting, QueueFinished, QueueLeft, QueueSpent}
 use Rattle.esm_queue_lasting.proofs.Telling.{entries_more}
 use Rattle.esm_queue_core.specs.CoreView.{CoreView, moment_for}
 use Rattle.esm_queue_core.specs.Told.{queue_entry, told_entries, told_of}
-use Rattle.esm_queue_core.specs.Next.{next_for}
 use Rattle.esm_queue_core.proofs.ToldMessages.{messages-append}
 use Rattle.esm_qbook.specs.Books.{BookState, setup_of, is_down}
 use Rattle.esm_qbook.specs.Calls.{Added}
-use Rattle.esm_qbook.specs.Ended.{HasNothingToDo}
 use Rattle.esm_qbook.specs.Keeping.{IsSound, IsSetupOf}
 use Rattle.esm_qbook.proofs.Standing.{past_told}
+use Rattle.esm_qbook.proofs.Over.{FinishedAt}
 
--- entries of one batcher at one moment
+-- entries of one seat at one moment
 
--- each of the entries is of the batcher's seat, and has the moment
+-- each of the entries is of the seat, and has the moment
+abbrev pub AreOf : ℕ → ℕ → List Entry → Type 0
+AreOf n m [] = ⊤
+AreOf n m (e ∷ es) = (queue_seat (lane_of_entry e) ≡ n) × (moment_of e ≡ m) × AreOf n m es
+
+-- of the batcher's seat
 abbrev pub AreOwn : ℕ → ℕ → List Entry → Type 0
-AreOwn k m [] = ⊤
-AreOwn k m (e ∷ es) = (queue_seat (lane_of_entry e) ≡ k + 1) × (moment_of e ≡ m) × AreOwn k m es
+AreOwn k m es = AreOf (k + 1) m es
 
 again : (m last t : ℕ) → m ≡ capped_moment (max t last) → m ≡ capped_moment (max t m)
 again m last t is = grind (arith, is)
@@ -45,16 +48,16 @@ again m last t is = grind (arith, is)
 abbrev told_as : List Message → Entry → Told
 told_as messages e = (queue_entry messages e).told
 
-all_at : (t : ℕ) (messages : List Message) (h : List Told) (es : List Entry) (k m : ℕ) → m ≡ capped_moment (max t (last_moment (entries_told h))) → AreOwn k m es → AllAt t h (told_entries messages es)
-all_at t messages h [] k m is own = tt
-all_at t messages h (e ∷ es) k m is own =
+all_at : (t : ℕ) (messages : List Message) (h : List Told) (es : List Entry) (n m : ℕ) → m ≡ capped_moment (max t (last_moment (entries_told h))) → AreOf n m es → AllAt t h (told_entries messages es)
+all_at t messages h [] n m is own = tt
+all_at t messages h (e ∷ es) n m is own =
     let last : last_moment (entries_told (h ++ told_as messages e ∷ [])) ≡ m = ap last_moment (entries_more h (told_as messages e)) ∙ own.1 in
-    let later : m ≡ capped_moment (max t (last_moment (entries_told (h ++ told_as messages e ∷ [])))) = again m (last_moment (entries_told h)) t is ∙ ap (λ n. capped_moment (max t n)) (sym last) in
-    (own.1 ∙ is, all_at t messages (h ++ told_as messages e ∷ []) es k m later own.2)
+    let later : m ≡ capped_moment (max t (last_moment (entries_told (h ++ told_as messages e ∷ [])))) = again m (last_moment (entries_told h)) t is ∙ ap (λ x. capped_moment (max t x)) (sym last) in
+    (own.1 ∙ is, all_at t messages (h ++ told_as messages e ∷ []) es n m later own.2)
 
-all_by : (setup : Setup) (messages : List Message) (h : List Told) (es : List Entry) (k m : ℕ) → AreOwn k m es → AllBy (queue_author setup) (k + 1) h (told_entries messages es)
-all_by setup messages h [] k m own = tt
-all_by setup messages h (e ∷ es) k m own = (own.0, all_by setup messages (h ++ told_as messages e ∷ []) es k m own.2)
+all_by : (setup : Setup) (messages : List Message) (h : List Told) (es : List Entry) (n m : ℕ) → AreOf n m es → AllBy (queue_author setup) n h (told_entries messages es)
+all_by setup messages h [] n m own = tt
+all_by setup messages h (e ∷ es) n m own = (own.0, all_by setup messages (h ++ told_as messages e ∷ []) es n m own.2)
 
 -- what comes after the beginning of a history that may follow, may follow that
 may_back : (may : List Told → Told → Type 0) (g h more : List Told) → MayFollowAll may g (h ++ more) → MayFollowAll may (g ++ h) more
@@ -63,7 +66,16 @@ may_back may g (t ∷ h) more all = subst (λ (l : List Told). MayFollowAll may 
 
 -- what a call added
 
--- these entries of the batcher, at the moment that it was asked, and no messages; and a book that was down still is
+-- these entries of the seat, at the moment that was handed in, over this list of all messages; and a book that was down still
+-- is
+pub record HasGone {D : Type 0} (n t : ℕ) (messages : List Message) (old new : BookState D) (es : List Entry) : Type 0 where
+  pub told : told_of new.core ≡ told_of old.core ++ told_entries messages es
+  pub opened : new.core.setting ≡ over_messages old.core.setting new.core.setting.messages
+  pub found : new.found ≡ old.found
+  pub own : AreOf n (moment_for old.core.past t) es
+  pub down : is_down old ≡ true → is_down new ≡ true
+
+-- these entries of the batcher, and no messages
 pub record HasAdded {D : Type 0} (k t : ℕ) (old new : BookState D) (es : List Entry) : Type 0 where
   pub past : new.core.past ≡ reverse es ++ old.core.past
   pub told : told_of new.core ≡ told_of old.core ++ told_entries old.core.setting.messages es
@@ -71,6 +83,12 @@ pub record HasAdded {D : Type 0} (k t : ℕ) (old new : BookState D) (es : List 
   pub found : new.found ≡ old.found
   pub own : AreOwn k (moment_for old.core.past t) es
   pub down : is_down old ≡ true → is_down new ≡ true
+
+pub opened_same : {D : Type 0} (old new : BookState D) → new.core.setting ≡ old.core.setting → new.core.setting ≡ over_messages old.core.setting new.core.setting.messages
+opened_same old new same = same ∙ ap (λ (s : QueueSetting). over_messages old.core.setting s.messages) (sym same)
+
+pub gone : {D : Type 0} (k t : ℕ) (old new : BookState D) (es : List Entry) → HasAdded k t old new es → HasGone (k + 1) t old.core.setting.messages old new es
+gone k t old new es has = record { told = has.told; opened = opened_same old new has.setting; found = has.found; own = has.own; down = has.down }
 
 -- nothing
 pub has_none : {D : Type 0} (k t : ℕ) (old new : BookState D) → new.core ≡ old.core → new.found ≡ old.found → new.trouble ≡ old.trouble → HasAdded k t old new []
@@ -95,8 +113,8 @@ setting_kept messages old new es all none before after =
 abbrev pub IsLegalTold : {D : Type 0} → BookState D → Type 0
 IsLegalTold b = (setup : Setup) → IsSetupOf setup b → IsLegal (queue_may_follow setup) (told_of b.core)
 
-module _ {D : Type 0} (code : Coded D) (k t : ℕ) (old new : BookState D) (es : List Entry) where
-  setup_same : HasAdded k t old new es → setup_of code new ≡ setup_of code old
+module _ {D : Type 0} (code : Coded D) (n t : ℕ) (messages : List Message) (old new : BookState D) (es : List Entry) where
+  setup_same : HasGone n t messages old new es → setup_of code new ≡ setup_of code old
   setup_same has =
       ap₂ (λ (s : QueueSetting) (f : PairState D). record no_setup {
         config = s.config;
@@ -105,35 +123,35 @@ module _ {D : Type 0} (code : Coded D) (k t : ℕ) (old new : BookState D) (es :
         deletions = s.deletions;
         payloads = f.payloads;
         pair = (pair_code code).code f;
-      }) has.setting has.found
+      }) has.opened has.found
 
-  is_setup : HasAdded k t old new es → IsSetupOf (setup_of code old) new
+  is_setup : HasGone n t messages old new es → IsSetupOf (setup_of code old) new
   is_setup has = record {
-    config = ap (λ (s : QueueSetting). s.config) (sym has.setting);
-    calls = ap (λ (s : QueueSetting). s.calls) (sym has.setting);
-    visibility = ap (λ (s : QueueSetting). s.visibility) (sym has.setting);
-    deletions = ap (λ (s : QueueSetting). s.deletions) (sym has.setting);
+    config = ap (λ (s : QueueSetting). s.config) (sym has.opened);
+    calls = ap (λ (s : QueueSetting). s.calls) (sym has.opened);
+    visibility = ap (λ (s : QueueSetting). s.visibility) (sym has.opened);
+    deletions = ap (λ (s : QueueSetting). s.deletions) (sym has.opened);
   }
 
-  added_is : HasAdded k t old new es → added (told_of old.core) (told_of new.core) ≡ told_entries old.core.setting.messages es
-  added_is has = ap (drop (length (told_of old.core))) has.told ∙ drop_at (told_of old.core) (told_entries old.core.setting.messages es) (length (told_of old.core)) refl
+  added_is : HasGone n t messages old new es → added (told_of old.core) (told_of new.core) ≡ told_entries messages es
+  added_is has = ap (drop (length (told_of old.core))) has.told ∙ drop_at (told_of old.core) (told_entries messages es) (length (told_of old.core)) refl
 
-  pub goes_on : HasAdded k t old new es → IsLegalTold new → GoesOn (meaning (setup_of code) (λ (b : BookState D). told_of b.core) is_down queue_author queue_may_follow) (k + 1) old new
+  pub goes_on : HasGone n t messages old new es → IsLegalTold new → GoesOn (meaning (setup_of code) (λ (b : BookState D). told_of b.core) is_down queue_author queue_may_follow) n old new
   goes_on has legal =
-      let more : List Told = told_entries old.core.setting.messages es in
+      let more : List Told = told_entries messages es in
       let whole : IsLegal (queue_may_follow (setup_of code old)) (told_of old.core ++ more) = subst (IsLegal (queue_may_follow (setup_of code old))) has.told (legal (setup_of code old) (is_setup has)) in
       record {
         setup_is = setup_same has;
         history_is = has.told ∙ ap (λ (xs : List Told). told_of old.core ++ xs) (sym (added_is has));
         legal = subst (MayFollowAll (queue_may_follow (setup_of code old)) (told_of old.core)) (sym (added_is has)) (may_back (queue_may_follow (setup_of code old)) [] (told_of old.core) more whole);
-        own = subst (AllBy (queue_author (setup_of code old)) (k + 1) (told_of old.core)) (sym (added_is has)) (all_by (setup_of code old) old.core.setting.messages (told_of old.core) es k (moment_for old.core.past t) has.own);
+        own = subst (AllBy (queue_author (setup_of code old)) n (told_of old.core)) (sym (added_is has)) (all_by (setup_of code old) messages (told_of old.core) es n (moment_for old.core.past t) has.own);
         marked = has.down;
       }
 
-  pub moments : HasAdded k t old new es → AllAt t (told_of old.core) (added (told_of old.core) (told_of new.core))
+  pub moments : HasGone n t messages old new es → AllAt t (told_of old.core) (added (told_of old.core) (told_of new.core))
   moments has =
       let is : moment_for old.core.past t ≡ capped_moment (max t (last_moment (entries_told (told_of old.core)))) = ap (λ (h : List Entry). capped_moment (max t (last_moment h))) (sym (past_told old.core)) in
-      subst (AllAt t (told_of old.core)) (sym (added_is has)) (all_at t old.core.setting.messages (told_of old.core) es k (moment_for old.core.past t) is has.own)
+      subst (AllAt t (told_of old.core)) (sym (added_is has)) (all_at t messages (told_of old.core) es n (moment_for old.core.past t) is has.own)
 
 -- a history as it is told
 
@@ -143,10 +161,6 @@ pub record RunsAt (s : QueueSetting) (h : List Entry) (k : ℕ) (job : Job) : Ty
   pub running : is_running h (queue_lane k) ≡ true
   pub places : job.places ≡ batch_of (last_call h (queue_lane k))
   pub event : job.event ≡ last_queue_event s h (queue_lane k)
-
--- at some moment the batcher's answer ends its work
-abbrev pub EndsAt : QueueSetting → List Entry → ℕ → Type 0
-EndsAt s h k = (moment : ℕ) × EndsWork (next_for s h k moment)
 
 module _ {D : Type 0} (code : Coded D) (old b : BookState D) where
   setting_at : b.core.setting ≡ old.core.setting → IsSound b → queue_setting_told (setup_of code old) (told_of b.core) ≡ old.core.setting
@@ -172,10 +186,20 @@ module _ {D : Type 0} (code : Coded D) (old b : BookState D) where
     event = runs.event ∙ sym (event_at same sound k);
   }
 
-  pub ended_told : b.core.setting ≡ old.core.setting → IsSound b → (k : ℕ) → EndsAt old.core.setting b.core.past k → HasNothingToDo (setup_of code old) (told_of b.core) k
-  ended_told same sound k ends =
-      subst (λ (s : QueueSetting). EndsAt s (entries_told (told_of b.core)) k) (sym (setting_at same sound))
-      (subst (λ (h : List Entry). EndsAt old.core.setting h k) (sym (past_told b.core)) ends)
+  pub finished_told : b.core.setting ≡ old.core.setting → IsSound b → (k : ℕ) → FinishedAt old.core.setting b.core.past → QueueFinished (setup_of code old) (told_of b.core) k
+  finished_told same sound k over = record {
+    shut = ap is_shut (past_told b.core) ∙ over.0;
+    deleted = subst (λ (s : QueueSetting). AllDeleted s (entries_told (told_of b.core))) (sym (setting_at same sound))
+        (subst (λ (h : List Entry). AllDeleted old.core.setting h) (sym (past_told b.core)) over.1);
+  }
+
+  pub left_told : b.core.setting ≡ old.core.setting → IsSound b → (k : ℕ) → HasWaiting old.core.setting b.core.past → QueueLeft (setup_of code old) (told_of b.core) k
+  left_told same sound k some =
+      subst (λ (s : QueueSetting). HasWaiting s (entries_told (told_of b.core))) (sym (setting_at same sound))
+      (subst (λ (h : List Entry). HasWaiting old.core.setting h) (sym (past_told b.core)) some)
+
+  pub spent_told : calls_begun b.core.past ≡ old.core.setting.calls → QueueSpent (setup_of code old) (told_of b.core)
+  spent_told is = ap calls_begun (past_told b.core) ∙ is
 
   pub runs_past : b.core.setting ≡ old.core.setting → IsSound b → (k : ℕ) (job : Job) → RunsQueueJob (setup_of code old) (told_of b.core) k job → RunsAt old.core.setting b.core.past k job
   runs_past same sound k job runs = record {

@@ -14,19 +14,20 @@ use Rattle.esm_model.specs.declared.entry.Entry.TheVariants.{Began}
 use Rattle.esm_model.specs.Moment.{moment_after}
 use Rattle.esm_model.specs.Entries.{last_call, batch_of, is_running, is_shut, calls_begun}
 use Rattle.esm_model.proofs.Steps.{same_lane-refl}
-use Rattle.esm_pooled.specs.Batching.{Answers, EndsWork}
+use Rattle.esm_pooled.specs.Batching.{Answers}
 use Rattle.esm_queue_model.specs.QueueSetting.{QueueSetting}
 use Rattle.esm_queue_model.specs.QueueEntries.{queue_lane, queue_of}
 use Rattle.esm_queue_model.specs.QueueBatch.{queue_event, last_queue_event, queue_batch, is_queue_ready, queue_calls}
+use Rattle.esm_queue_model.specs.QueueStep.{LegalQueue}
 use Rattle.esm_queue_lasting.specs.Batchers.{QueueRests, RunsQueueJob}
 use Rattle.esm_queue_core.specs.CoreView.{moment_for}
 use Rattle.esm_queue_core.specs.Told.{told_of}
 use Rattle.esm_queue_core.specs.Next.{job_of, is_all_deleted, pause_end, next_batch, next_allowed, next_for, next_entries}
 use Rattle.esm_qbook.specs.Books.{BookState, setup_of, is_down}
 use Rattle.esm_qbook.specs.Calls.{Added, AddedAll, AddedSome, RunsCall, IsSame}
-use Rattle.esm_qbook.specs.Ended.{HasNothingToDo}
 use Rattle.esm_qbook.specs.Keeping.{IsSound}
-use Rattle.esm_qbook.proofs.Pooling.{AreOwn, HasAdded, has_none, setting_kept, RunsAt, EndsAt, running_at, runs_told, ended_told}
+use Rattle.esm_qbook.proofs.Pooling.{AreOwn, HasAdded, has_none, setting_kept, RunsAt, running_at, runs_told}
+use Rattle.esm_qbook.proofs.Over.{FinishedAt, finished_is, spent_is}
 
 -- the event of a call that is answered
 
@@ -72,7 +73,8 @@ pub record HasAsked {D : Type 0} (k t : ℕ) (old new : BookState D) (r : Result
   pub has : HasAdded k t old new es
   pub no_end : (sends : List ℕ → List ℕ) → queue_calls old.core.setting sends new.core.past k ≡ queue_calls old.core.setting sends old.core.past k
   pub answer : IfOk r (AnswersAt old.core.setting new.core.past k)
-  pub ended : IfOk r (λ (x : Next). EndsWork x → EndsAt old.core.setting new.core.past k)
+  pub finished : IfOk r (λ (x : Next). x ≡ next.Finished → FinishedAt old.core.setting new.core.past)
+  pub spent : IfOk r (λ (x : Next). x ≡ next.Spent → calls_begun new.core.past ≡ old.core.setting.calls)
   pub rests : OnErr r (is_running new.core.past (queue_lane k) ≡ false)
   pub down : IfErr r (λ (e : BookError). (e ≡ why.OutOfMemory) ⊎ (is_down new ≡ true))
 
@@ -103,33 +105,35 @@ module _ {D : Type 0} (d : DiskMeaning D) (k t : ℕ) (old new : BookState D) wh
       }
 
   -- an answer that adds nothing
-  quiet : (x : Next) → x ≡ next_for old.core.setting old.core.past k now → AddedAll d old.core.setting.messages old new [] → (is_down old ≡ true → ⊥) → is_running old.core.past (queue_lane k) ≡ false → (is_running new.core.past (queue_lane k) ≡ false → AnswersAt old.core.setting new.core.past k x) → HasAsked k t old new (Ok x)
-  quiet x is all up rest answers = record {
+  quiet : (x : Next) → x ≡ next_for old.core.setting old.core.past k now → LegalQueue old.core.setting old.core.past → AddedAll d old.core.setting.messages old new [] → (is_down old ≡ true → ⊥) → is_running old.core.past (queue_lane k) ≡ false → (is_running new.core.past (queue_lane k) ≡ false → AnswersAt old.core.setting new.core.past k x) → HasAsked k t old new (Ok x)
+  quiet x is legal all up rest answers = record {
     es = [];
     has = has_all [] all up tt;
     no_end = λ sends. ap (λ (h : List Entry). queue_calls old.core.setting sends h k) all.added.past;
     answer = answers (ap (λ (h : List Entry). is_running h (queue_lane k)) all.added.past ∙ rest);
-    ended = λ ends. subst (λ (h : List Entry). EndsAt old.core.setting h k) (sym all.added.past) (now, subst EndsWork is ends);
+    finished = λ ends. subst (λ (h : List Entry). FinishedAt old.core.setting h) (sym all.added.past) (finished_is old.core.setting old.core.past k now (sym is ∙ ends));
+    spent = λ ends. ap calls_begun all.added.past ∙ spent_is old.core.setting old.core.past k now legal (sym is ∙ ends);
     rests = tt;
     down = tt;
   }
 
-  answered : (x : Next) → x ≡ next_for old.core.setting old.core.past k now → HasEvent old.core.setting old.core.past now x → AddedAll d old.core.setting.messages old new (next_entries x now) → RunsCall k new.core.past x → (is_down old ≡ true → ⊥) → is_running old.core.past (queue_lane k) ≡ false → HasAsked k t old new (Ok x)
-  answered (next.Call job) is event all runs up rest =
+  answered : (x : Next) → x ≡ next_for old.core.setting old.core.past k now → LegalQueue old.core.setting old.core.past → HasEvent old.core.setting old.core.past now x → AddedAll d old.core.setting.messages old new (next_entries x now) → RunsCall k new.core.past x → (is_down old ≡ true → ⊥) → is_running old.core.past (queue_lane k) ≡ false → HasAsked k t old new (Ok x)
+  answered (next.Call job) is legal event all runs up rest =
       let number : job.lane.lane ≡ k = ap (λ (l : LaneId). l.lane) runs.0 in
       record {
         es = Began job.lane job.places job.closing now ∷ [];
         has = has_all (Began job.lane job.places job.closing now ∷ []) all up (omega (arith, number), refl, tt);
         no_end = λ sends. ap (λ (h : List Entry). queue_calls old.core.setting sends h k) all.added.past;
         answer = runs_at job all.added.past event runs;
-        ended = λ ends. absurd ends;
+        finished = λ ends. absurd (cc);
+        spent = λ ends. absurd (cc);
         rests = tt;
         down = tt;
       }
-  answered (next.Gave n) is event all runs up rest = quiet (next.Gave n) is all up rest (λ rests. rests)
-  answered (next.Idle until) is event all runs up rest = quiet (next.Idle until) is all up rest (λ rests. rests)
-  answered next.Spent is event all runs up rest = quiet next.Spent is all up rest (λ rests. rests)
-  answered next.Finished is event all runs up rest = quiet next.Finished is all up rest (λ rests. rests)
+  answered (next.Gave n) is legal event all runs up rest = quiet (next.Gave n) is legal all up rest (λ rests. rests)
+  answered (next.Idle until) is legal event all runs up rest = quiet (next.Idle until) is legal all up rest (λ rests. rests)
+  answered next.Spent is legal event all runs up rest = quiet next.Spent is legal all up rest (λ rests. rests)
+  answered next.Finished is legal event all runs up rest = quiet next.Finished is legal all up rest (λ rests. rests)
 
   -- an error by which nothing was added
   refused : (e : BookError) → HasAdded k t old new [] → is_running old.core.past (queue_lane k) ≡ false → (e ≡ why.OutOfMemory) ⊎ (is_down new ≡ true) → HasAsked k t old new (Err e)
@@ -138,7 +142,8 @@ module _ {D : Type 0} (d : DiskMeaning D) (k t : ℕ) (old new : BookState D) wh
     has = has;
     no_end = λ sends. ap (λ (h : List Entry). queue_calls old.core.setting sends h k) has.past;
     answer = tt;
-    ended = tt;
+    finished = tt;
+    spent = tt;
     rests = ap (λ (h : List Entry). is_running h (queue_lane k)) has.past ∙ rest;
     down = cause;
   }
@@ -174,7 +179,7 @@ asked {D} d k t old new (Ok x) did rest before after =
     let all : AddedAll d old.core.setting.messages old new (next_entries x m) = subst (λ (y : Next). AddedAll d old.core.setting.messages old new (next_entries y m)) (sym did.answer) did.added in
     let event : HasEvent old.core.setting old.core.past m x = subst (HasEvent old.core.setting old.core.past m) (sym did.answer) (has_event old.core.setting old.core.past k m) in
     let up : is_down old ≡ true → ⊥ = λ is. (let never : Ok x ≡ Err why.Down = did.down.1 is in absurd (cc)) in
-    answered d k t old new x did.answer event all did.runs up rest
+    answered d k t old new x did.answer before.legal event all did.runs up rest
 asked {D} d k t old new (Err why.DiskFault) did rest before after =
     let m : ℕ = moment_for old.core.past t in
     let some = did.stopped refl in
@@ -198,6 +203,3 @@ answers_told code k old new same after (next.Gave n) rests = running_at code old
 answers_told code k old new same after (next.Idle until) rests = running_at code old new k ∙ rests
 answers_told code k old new same after next.Spent rests = running_at code old new k ∙ rests
 answers_told code k old new same after next.Finished rests = running_at code old new k ∙ rests
-
-pub ends_told : {D : Type 0} (code : Coded D) (k : ℕ) (old new : BookState D) → new.core.setting ≡ old.core.setting → IsSound new → (x : Next) → (EndsWork x → EndsAt old.core.setting new.core.past k) → EndsWork x → HasNothingToDo (setup_of code old) (told_of new.core) k
-ends_told code k old new same after x ended ends = ended_told code old new same after k (ended ends)

@@ -1,28 +1,61 @@
-// A queue's book as its batchers share it at a turn.
+// A queue's book as its reader and its batchers share it at a turn.
+ghost use Rattle.std.specs.Prelude.{◌≡◌, false, All, IfOk};
 ghost use Rattle.esm_model.specs.Kept.{IsLegal};
+ghost use Rattle.esm_model.specs.Valid.{is_stream};
 ghost use Rattle.esm_model.specs.declared.setup.Setup.{Setup};
+ghost use Rattle.esm_record.specs.declared.item.Item.{Item};
 ghost use Rattle.esm_queue_model.specs.QueueBooks.{queue_may_follow};
 ghost use Rattle.esm_queue_core.specs.Told.{told_of};
+ghost use Rattle.esm_qbook.specs.Coming.{IsMessage, messages_in_items};
 ghost use Rattle.esm_qbook.specs.Keeping.{IsSound, IsSetupOf};
 
 use crate::queue_book::QueueBook;
 use esm_io::Disk;
-use esm_model::{BookError, Job, Next, Reply};
+use esm_model::{BookError, CameError, Job, Message, Next, OutOfMemory, Reply};
 use esm_pooled::Pooled;
-use esm_queue_lasting::{queue_batchers_begin, queue_batchers_last};
+use esm_queue_lasting::{
+    queue_batchers_begin, queue_batchers_last, queue_items_last, queue_over_or_left,
+};
+use esm_record::Item;
 use std::alloc::Global;
 
 /// What is true of the book's history, whoever made its calls. Does nothing.
 fn know<D: Disk>(book: &QueueBook<D>)
     ensures sound { IsSound book.now }
     ensures legal { (setup : Setup) → IsSetupOf setup book.now → IsLegal (queue_may_follow setup) (told_of book.now.core) }
+    ensures queue { is_stream book.now.core.setting.config.kind ≡ false }
 {
     let _trouble = book.trouble();
+    book.durable.core().keeps();
+}
+
+/// The message of a queue's item.
+fn message_of(item: Item) -> Message
+    requires { IsMessage item }
+    ensures { item ≡ Item.Queue result }
+{
+    match item {
+        Item::Stream(_) => unreachable!(),
+        Item::Queue(found) => found,
+    }
+}
+
+/// The messages of a queue's items.
+fn messages_of(alloc: Global, list: Vec<Item>) -> Result<Vec<Message>, OutOfMemory>
+    requires { All IsMessage list.items }
+    ensures { IfOk result (λ messages. messages.items ≡ messages_in_items list.items) }
+{
+    let mut messages = Vec::new(alloc);
+    for item in list {
+        messages.push(message_of(item))?;
+    }
+    Ok(messages)
 }
 
 impl<D: Disk> Pooled for QueueBook<D> {
     ghost use Rattle.esm_queue_lasting.specs.Batchers.{queue_calls_told, QueueRests, RunsQueueJob};
-    ghost use Rattle.esm_qbook.specs.Ended.{HasNothingToDo};
+    ghost use Rattle.esm_queue_lasting.specs.Left.{QueueFinished, QueueLeft, QueueSpent, queue_lines, queue_items};
+    ghost use Rattle.esm_qbook.specs.Coming.{QueueDiffers};
 
     ghost calls = { queue_calls_told };
 
@@ -30,7 +63,33 @@ impl<D: Disk> Pooled for QueueBook<D> {
 
     ghost runs = { RunsQueueJob };
 
-    ghost ended = { HasNothingToDo };
+    ghost finished = { QueueFinished };
+
+    ghost left = { QueueLeft };
+
+    ghost spent = { QueueSpent };
+
+    ghost kind = { queue_lines };
+
+    ghost items = { queue_items };
+
+    ghost differs = { QueueDiffers };
+
+    fn bring(&mut self, alloc: Global, list: Vec<Item>, moment: u64) -> Result<(), CameError> {
+        know(self);
+        let Ok(messages) = messages_of(alloc, list) else {
+            return Err(CameError::OutOfMemory);
+        };
+        let came = self.came(alloc, messages, moment);
+        know(self);
+        came
+    }
+
+    fn end_input(&mut self, moment: u64) {
+        know(self);
+        let _ended = self.shut(moment);
+        know(self);
+    }
 
     fn ask(&mut self, alloc: Global, batcher: u32, moment: u64) -> Result<Next, BookError> {
         know(self);
@@ -53,8 +112,9 @@ impl<D: Disk> Pooled for QueueBook<D> {
         answer
     }
 
-    fn is_shut(&self) -> bool {
-        QueueBook::is_shut(self)
+    fn is_over(&self, _batchers: u32) -> Option<bool> {
+        know(self);
+        Some(QueueBook::is_over(self))
     }
 
     fn begins() {
@@ -63,5 +123,10 @@ impl<D: Disk> Pooled for QueueBook<D> {
 
     fn stays() {
         queue_batchers_last();
+        queue_items_last();
+    }
+
+    fn excludes() {
+        queue_over_or_left();
     }
 }

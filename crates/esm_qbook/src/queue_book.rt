@@ -20,7 +20,7 @@ ghost use Rattle.esm_queue_model.specs.QueueEntries.{queue_lane};
 ghost use Rattle.esm_queue_core.specs.CoreView.{all_messages, moment_for, IsRunningJob};
 ghost use Rattle.esm_queue_core.specs.Coming.{came_entries, IsFirstChange};
 ghost use Rattle.esm_queue_core.specs.Ending.{ended_places, ended_entries};
-ghost use Rattle.esm_queue_core.specs.Next.{next_for, next_entries};
+ghost use Rattle.esm_queue_core.specs.Next.{is_all_deleted, next_for, next_entries};
 ghost use Rattle.esm_queue_core.specs.Told.{opened, told_of, MayCome};
 ghost use Rattle.esm_qbook.specs.Books.{payloads_in, OpensToFirst, LeavesFirst};
 ghost use Rattle.esm_qbook.specs.Calls.{AddedAll, AddedSome, AddedOne, RunsCall, IsSame};
@@ -237,6 +237,13 @@ impl<D: Disk> QueueBook<D> {
         ensures { result ≡ is_shut self.now.core.past }
     {
         self.durable.core().is_shut()
+    }
+
+    /// Whether every message that came is deleted. Takes no memory.
+    pub fn is_over(&self) -> bool
+        ensures { result ≡ is_all_deleted self.now.core.setting self.now.core.past }
+    {
+        self.durable.core().is_over()
     }
 
     /// The first fault or change that a call answered; `None` exactly where none did. Its clauses say what the type keeps

@@ -19,6 +19,7 @@ pub mod ByPlace
 pub mod StoredMessages
 pub mod Arrivals
 pub mod Deleted
+pub mod Counted
 pub mod Cutting
 pub mod Gathered
 pub mod Choosing

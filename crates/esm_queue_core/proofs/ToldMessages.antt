@@ -1,5 +1,5 @@
 -- The messages that came to a core are those that its history tells; and what follows from what is kept of it.
-use Rattle.std.proofs.Common.{◌≡◌, ℕ, ◌≤◌, List, [], ◌∷◌, ◌++◌, map, take, drop, reverse, refl, sym, ap, ap₂, ◌∙◌, subst, append_assoc, append-nil, Option, Some, None}
+use Rattle.std.proofs.Common.{◌≡◌, ◌≤◌, List, [], ◌∷◌, ◌++◌, map, take, drop, reverse, refl, sym, ap, ◌∙◌, subst, append_assoc, append-nil, Option, Some, None}
 use Rattle.std.proofs.lemmas.List.{map-append, reverse-append}
 use Rattle.esm_model.specs.declared.moment.TheConstants.{MAX_MOMENT}
 use Rattle.esm_model.specs.declared.item.Message.{Message}
@@ -14,7 +14,6 @@ use Rattle.esm_queue_model.specs.QueueBooks.{messages_with, messages_told}
 use Rattle.esm_queue_core.specs.declared.decisions.QueueEntry.{QueueEntry}
 use Rattle.esm_queue_core.specs.declared.owed.First.{First}
 use Rattle.esm_queue_core.specs.declared.owed.Gift.{Gift}
-use Rattle.esm_queue_core.specs.CoreView.{CoreView}
 use Rattle.esm_queue_core.specs.Told.{queue_entry, queue_entries, told_entries, told_of}
 use Rattle.esm_queue_core.specs.Kept.{Parts, IsKept, CanAddFirst, full, seen_of, owed_entries, messages_stored}
 use Rattle.esm_queue_core.proofs.Added.{messages_came, messages_received, messages_deleted}

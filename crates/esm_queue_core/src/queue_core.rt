@@ -4,6 +4,7 @@ ghost use Rattle.std.specs.Vec.{vec_capacity};
 ghost use Rattle.esm_model.specs.declared.limits.TheConstants.{MAX_BATCH, MAX_PAYLOAD};
 ghost use Rattle.esm_model.specs.declared.moment.TheConstants.{MAX_MOMENT};
 ghost use Rattle.esm_model.specs.QueueEvent.{IsQueueConfig};
+ghost use Rattle.esm_model.specs.Valid.{is_stream};
 ghost use Rattle.esm_model.specs.ValidMessage.{IsValidMessage};
 ghost use Rattle.esm_model.specs.declared.entry.Entry.{Entry};
 ghost use Rattle.esm_model.specs.Entries.{is_shut, is_running, last_moment};
@@ -12,12 +13,13 @@ ghost use Rattle.esm_book.specs.Decided.{written_of, lengths_of, IsRefused};
 ghost use Rattle.esm_payload.specs.EntryPayload.{queue_payload};
 ghost use Rattle.esm_queue_model.specs.QueueSetting.{is_fifo};
 ghost use Rattle.esm_queue_model.specs.QueueEntries.{queue_lane};
+ghost use Rattle.esm_queue_model.specs.QueueStep.{LegalQueue};
 ghost use Rattle.esm_queue_model.specs.QueueBooks.{messages_told};
 ghost use Rattle.esm_queue_core.specs.declared.standing.Standing.TheVariants.{Whole};
 ghost use Rattle.esm_queue_core.specs.CoreView.{new_setting, new_view, moment_for, all_messages, LegalAhead, SettledAhead, IsRunningJob, owing, paid, forgotten, noted};
 ghost use Rattle.esm_queue_core.specs.Coming.{came_entries, IsFirstChange};
 ghost use Rattle.esm_queue_core.specs.Ending.{ended_places, ended_entries};
-ghost use Rattle.esm_queue_core.specs.Next.{next_for, next_entries};
+ghost use Rattle.esm_queue_core.specs.Next.{is_all_deleted, next_for, next_entries};
 ghost use Rattle.esm_queue_core.specs.Told.{told_of};
 ghost use Rattle.esm_queue_core.specs.Kept.{IsBegunBy};
 
@@ -423,6 +425,13 @@ impl QueueCore {
         self.shut
     }
 
+    /// Whether every message that came is deleted, by a history that is legal. Takes no memory.
+    pub fn is_over(&self) -> bool
+        ensures { LegalQueue self.now.setting self.now.past → result ≡ is_all_deleted self.now.setting self.now.past }
+    {
+        self.deleted == self.queue.len()
+    }
+
     /// How many entries are owed. Takes no memory.
     pub fn owed_count(&self) -> usize
         ensures { result ≡ length self.now.owed }
@@ -458,9 +467,10 @@ impl QueueCore {
         }
     }
 
-    /// What is true of every core, whoever made its calls: the messages that came are those that its history tells, none is
-    /// coming where nothing is owed, and no moment is past the last one. Does nothing.
+    /// What is true of every core, whoever made its calls: it is of a queue, the messages that came are those that its history
+    /// tells, none is coming where nothing is owed, and no moment is past the last one. Does nothing.
     pub fn keeps(&self)
+        ensures queue { is_stream self.now.setting.config.kind ≡ false }
         ensures messages { self.now.setting.messages ≡ messages_told (told_of self.now) }
         ensures rests { self.now.owed ≡ [] → self.now.coming ≡ [] }
         ensures in_time { last_moment self.now.past ≤ MAX_MOMENT }

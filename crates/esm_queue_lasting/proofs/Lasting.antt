@@ -35,7 +35,7 @@ pub record AreLaws : Type 0 where
 -- an entry of another seat
 
 -- the entry is not one of the batcher's
-abbrev IsOther : ℕ → Entry → Type 0
+abbrev pub IsOther : ℕ → Entry → Type 0
 IsOther k e = queue_seat (lane_of_entry e) ≢ k + 1
 
 other_number : (at : LaneId) (k : ℕ) → suc at.lane ≢ k + 1 → (at.lane == k) ≡ false
@@ -116,7 +116,7 @@ event_over laws s h k after goes legal running =
 
 -- one more entry
 
-legal_now : AreLaws → (setup : Setup) (h : List Told) → IsLegal (queue_may_follow setup) h → LegalQueue (queue_setting_told setup h) (entries_told h)
+pub legal_now : AreLaws → (setup : Setup) (h : List Told) → IsLegal (queue_may_follow setup) h → LegalQueue (queue_setting_told setup h) (entries_told h)
 legal_now laws setup h kept = laws.legal setup h (messages_told h) kept (λ i m at. at)
 
 calls_more : AreLaws → (setup : Setup) (sends : List ℕ → List ℕ) (k : ℕ) (h : List Told) (t : Told) → IsLegal (queue_may_follow setup) h → IsOther k t.entry → queue_calls_told setup sends (h ++ t ∷ []) k ≡ queue_calls_told setup sends h k
@@ -142,18 +142,19 @@ event_more laws setup k h t kept ne running =
 -- all that follow
 
 -- what one more entry of another seat keeps, all of them keep
-lasts : (P : List Told → Type 0) (setup : Setup) (k : ℕ) → ((h : List Told) (t : Told) → IsLegal (queue_may_follow setup) h → IsOther k t.entry → P h → P (h ++ t ∷ [])) → (h es : List Told) → OthersFollow queue_author queue_may_follow setup (k + 1) h es → P h → P (h ++ es)
+pub lasts : (P : List Told → Type 0) (setup : Setup) (k : ℕ) → ((h : List Told) (t : Told) → IsLegal (queue_may_follow setup) (h ++ t ∷ []) → IsOther k t.entry → P h → P (h ++ t ∷ [])) → (h es : List Told) → OthersFollow queue_author queue_may_follow setup (k + 1) h es → P h → P (h ++ es)
 lasts P setup k step h [] follow p = subst P (sym (append-nil h)) p
 lasts P setup k step h (t ∷ es) follow p =
     let regroup : (h ++ t ∷ []) ++ es ≡ h ++ t ∷ es = append_assoc h (t ∷ []) es in
     let parts = none_of_author (queue_author setup) (k + 1) h t es follow.others in
-    let now : P (h ++ t ∷ []) = step h t (may_front (queue_may_follow setup) [] h (t ∷ es) follow.legal) parts.0 p in
-    subst P regroup (lasts P setup k step (h ++ t ∷ []) es (record { legal = subst (IsLegal (queue_may_follow setup)) (sym regroup) follow.legal; others = parts.1 }) now)
+    let legal : IsLegal (queue_may_follow setup) ((h ++ t ∷ []) ++ es) = subst (IsLegal (queue_may_follow setup)) (sym regroup) follow.legal in
+    let now : P (h ++ t ∷ []) = step h t (may_front (queue_may_follow setup) [] (h ++ t ∷ []) es legal) parts.0 p in
+    subst P regroup (lasts P setup k step (h ++ t ∷ []) es (record { legal = legal; others = parts.1 }) now)
 
 pub calls_last : AreLaws → (s : Setup) (sends : List ℕ → List ℕ) (h es : List Told) (k : ℕ) → OthersFollow queue_author queue_may_follow s (k + 1) h es → queue_calls_told s sends (h ++ es) k ≡ queue_calls_told s sends h k
 calls_last laws s sends h es k follow =
     lasts (λ (g : List Told). queue_calls_told s sends g k ≡ queue_calls_told s sends h k) s k
-    (λ g t kept ne is. calls_more laws s sends k g t kept ne ∙ is) h es follow refl
+    (λ g t kept ne is. calls_more laws s sends k g t (may_front (queue_may_follow s) [] g (t ∷ []) kept) ne ∙ is) h es follow refl
 
 pub rests_last : (s : Setup) (h es : List Told) (k : ℕ) → OthersFollow queue_author queue_may_follow s (k + 1) h es → QueueRests s h k → QueueRests s (h ++ es) k
 rests_last s h es k follow rests = lasts (λ (g : List Told). QueueRests s g k) s k (λ g t kept ne is. running_more k g t ne ∙ is) h es follow rests
@@ -165,5 +166,5 @@ runs_last laws s h es k job follow runs =
       lane = is.lane;
       running = running_more k g t ne ∙ is.running;
       places = is.places ∙ sym (batch_more k g t ne);
-      event = is.event ∙ sym (event_more laws s k g t kept ne is.running);
+      event = is.event ∙ sym (event_more laws s k g t (may_front (queue_may_follow s) [] g (t ∷ []) kept) ne is.running);
     }) h es follow runs

@@ -1,2 +1,4 @@
 pub mod Telling
 pub mod Lasting
+pub mod Ending
+pub mod Items

@@ -1,1 +1,2 @@
 pub mod Batchers
+pub mod Left

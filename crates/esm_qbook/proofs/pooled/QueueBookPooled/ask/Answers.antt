@@ -1,19 +1,21 @@
-use Rattle.std.proofs.Common.{◌≡◌, ◌∙◌, ℕ, false, refl, sym}
+use Rattle.std.proofs.Common.{◌≡◌, ◌∙◌, ◌+◌, ℕ, false, refl, sym}
 use Rattle.std.specs.Prelude.{Result}
 use Rattle.std.specs.Coded.{Coded}
 use Rattle.esm_io.specs.Meanings.{DiskMeaning, disk}
 use Rattle.esm_model.specs.declared.book.BookError.{BookError}
 use Rattle.esm_model.specs.declared.book.Next.{Next}
-use Rattle.esm_model.specs.Entries.{is_running}
-use Rattle.esm_pooled.specs.Batching.{Answers, EndsWork}
+use Rattle.esm_model.specs.declared.book.Next.TheVariants as next
+use Rattle.esm_model.specs.Entries.{is_running, calls_begun}
+use Rattle.esm_pooled.specs.Batching.{Answers}
 use Rattle.esm_queue_model.specs.QueueEntries.{queue_lane}
 use Rattle.esm_queue_core.specs.Told.{told_of}
 use Rattle.esm_queue_lasting.specs.Batchers.{QueueRests, RunsQueueJob}
+use Rattle.esm_queue_lasting.specs.Left.{QueueFinished, QueueSpent}
 use Rattle.esm_qbook.specs.Books.{BookState, setup_of}
-use Rattle.esm_qbook.specs.Ended.{HasNothingToDo}
 use Rattle.esm_qbook.specs.Keeping.{IsSound}
-use Rattle.esm_qbook.proofs.Pooling.{EndsAt, goes_on, moments, calls_at, running_at, ok_then, err_then}
-use Rattle.esm_qbook.proofs.PoolingNext.{NextDid, AnswersAt, HasAsked, asked, answers_told, ends_told}
+use Rattle.esm_qbook.proofs.Over.{FinishedAt}
+use Rattle.esm_qbook.proofs.Pooling.{gone, goes_on, moments, calls_at, running_at, finished_told, spent_told, ok_then, err_then}
+use Rattle.esm_qbook.proofs.PoolingNext.{NextDid, AnswersAt, HasAsked, asked, answers_told}
 use Rattle.esm_qbook.proofs.pooled.QueueBookPooled.ask.Goals as goal
 
 pub next-answer-requires : goal.next-answer-requires
@@ -44,11 +46,12 @@ returns g c =
     let all : HasAsked k c.args.moment old new r = asked d k c.args.moment old new r did rest before after in
     let same = all.has.setting in
     record {
-      goes_on = goes_on code k c.args.moment old new all.es all.has c.know-2.ensures.legal;
-      moments = moments code k c.args.moment old new all.es all.has;
+      goes_on = goes_on code (k + 1) c.args.moment old.core.setting.messages old new all.es (gone k c.args.moment old new all.es all.has) c.know-2.ensures.legal;
+      moments = moments code (k + 1) c.args.moment old.core.setting.messages old new all.es (gone k c.args.moment old new all.es all.has);
       no_end = λ sends. calls_at code old new same after sends k ∙ (all.no_end sends ∙ sym (calls_at code old old refl before sends k));
       answer = ok_then (AnswersAt old.core.setting new.core.past k) (Answers QueueRests RunsQueueJob (setup_of code old) (told_of new.core) k) r (answers_told code k old new same after) all.answer;
-      ended = ok_then (λ (x : Next). EndsWork x → EndsAt old.core.setting new.core.past k) (λ (x : Next). EndsWork x → HasNothingToDo (setup_of code old) (told_of new.core) k) r (ends_told code k old new same after) all.ended;
+      finished = ok_then (λ (x : Next). x ≡ next.Finished → FinishedAt old.core.setting new.core.past) (λ (x : Next). x ≡ next.Finished → QueueFinished (setup_of code old) (told_of new.core) k) r (λ x over is. finished_told code old new same after k (over is)) all.finished;
+      spent = ok_then (λ (x : Next). x ≡ next.Spent → calls_begun new.core.past ≡ old.core.setting.calls) (λ (x : Next). x ≡ next.Spent → QueueSpent (setup_of code old) (told_of new.core)) r (λ x spent is. spent_told code old new (spent is)) all.spent;
       rests = err_then (is_running new.core.past (queue_lane k) ≡ false) (QueueRests (setup_of code old) (told_of new.core) k) r (λ is. running_at code old new k ∙ is) all.rests;
       down = all.down;
     }

@@ -1,4 +1,4 @@
-use Rattle.std.proofs.Common.{◌∙◌, ℕ, List, [], ◌∷◌, ◌++◌, refl, sym, ap}
+use Rattle.std.proofs.Common.{◌∙◌, ◌+◌, ℕ, List, [], ◌∷◌, ◌++◌, refl, sym, ap}
 use Rattle.std.specs.Prelude.{Result}
 use Rattle.std.specs.Coded.{Coded}
 use Rattle.esm_io.specs.Meanings.{DiskMeaning, disk}
@@ -8,7 +8,7 @@ use Rattle.esm_model.specs.declared.called.Called.{Called}
 use Rattle.esm_pooled.specs.Batching.{call_of}
 use Rattle.esm_qbook.specs.Books.{BookState, setup_of}
 use Rattle.esm_qbook.specs.Keeping.{IsSound}
-use Rattle.esm_qbook.proofs.Pooling.{RunsAt, goes_on, moments, calls_at, running_at, runs_past}
+use Rattle.esm_qbook.proofs.Pooling.{RunsAt, gone, goes_on, moments, calls_at, running_at, runs_past}
 use Rattle.esm_qbook.proofs.PoolingDone.{DoneDid, HasEnded, ended, is_running_job}
 use Rattle.esm_qbook.proofs.pooled.QueueBookPooled.end_call.Goals as goal
 
@@ -41,8 +41,8 @@ returns g c =
     let all : HasEnded k c.args.moment job c.args.reply old new r = ended d k c.args.moment job c.args.reply old new r did runs before after in
     let same = all.has.setting in
     record {
-      goes_on = goes_on code k c.args.moment old new all.es all.has c.know-2.ensures.legal;
-      moments = moments code k c.args.moment old new all.es all.has;
+      goes_on = goes_on code (k + 1) c.args.moment old.core.setting.messages old new all.es (gone k c.args.moment old new all.es all.has) c.know-2.ensures.legal;
+      moments = moments code (k + 1) c.args.moment old.core.setting.messages old new all.es (gone k c.args.moment old new all.es all.has);
       called = λ other sends. calls_at code old new same after sends k ∙ (all.calls other sends
           ∙ ap (λ (cs : List Called). cs ++ call_of (setup_of code old) sends job.event c.args.reply ∷ []) (sym (calls_at code old old refl before sends k)));
       rests = λ other. running_at code old new k ∙ all.rests other;

@@ -1,12 +1,17 @@
-use Rattle.std.proofs.Common.{◌≡◌, ◌≤◌, [], subst}
+use Rattle.std.proofs.Common.{◌≡◌, ◌≤◌, false, [], subst}
 use Rattle.esm_model.specs.declared.moment.TheConstants.{MAX_MOMENT}
 use Rattle.esm_model.specs.Entries.{last_moment}
+use Rattle.esm_model.specs.Valid.{is_stream}
 use Rattle.esm_queue_model.specs.QueueBooks.{messages_told}
 use Rattle.esm_queue_core.specs.CoreView.{CoreView}
 use Rattle.esm_queue_core.specs.Told.{told_of}
 use Rattle.esm_queue_core.specs.Inside.{parts_of}
 use Rattle.esm_queue_core.proofs.ToldMessages.{messages_kept, rests_kept, in_time_kept}
 use Rattle.esm_queue_core.proofs.queue_core.QueueCore.keeps.Goals as goal
+
+pub returns-clause-queue : goal.returns-clause-queue
+returns-clause-queue c =
+    subst (λ (v : CoreView). is_stream v.setting.config.kind ≡ false) c.self.view_is c.self.invariant.config.kind
 
 pub returns-clause-messages : goal.returns-clause-messages
 returns-clause-messages c =
