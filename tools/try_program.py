@@ -1,237 +1,34 @@
 #!/usr/bin/env python3
 """Try the built program over real folders, pipes and sockets.
 
-    tools/try_program.py PROGRAM [--only NAME] [--kills N]
+    tools/try_program.py PROGRAM [--only NAME] [--quick] [--kills N]
 
 PROGRAM is what takes the words of the command line, as `./esm`. Each case is a worked example of a run: a mapping, an
 input, the answers of a function, and the report and exit status that they must give. The functions are served here, on
-127.0.0.1, and remember which records each call held. `--kills N` runs one more case: a run over a folder that is killed
+127.0.0.1, and remember which records each call held. Further cases try what the outside can do (`try_outside.py`);
+`--quick` leaves out those that take half a minute. `--kills N` runs one more case: a run over a folder that is killed
 at N random moments and begun again each time. Then every record has one fate in the journal, and no call held a record
-that had one. Python's standard library is all that is needed. The exit status is 0 where every case came out so.
+that had one. Each case is told in a line, and the numbers of those that passed and failed in the last. Python's standard
+library is all that is needed. The exit status is 0 where no case failed.
 """
 
 import argparse
-import base64
 import json
 import random
 import shlex
-import shutil
 import signal
 import struct
 import subprocess
 import sys
-import tempfile
-import threading
 import time
-from http.server import BaseHTTPRequestHandler, ThreadingHTTPServer
-from pathlib import Path
 
-STREAM = {
-    "EventSourceArn": "arn:aws:kinesis:us-east-1:123456789012:stream/s",
-    "FunctionName": "f",
-    "StartingPosition": "TRIM_HORIZON",
-}
-QUEUE = {"EventSourceArn": "arn:aws:sqs:us-east-1:123456789012:q", "FunctionName": "f"}
-FIFO = {"EventSourceArn": "arn:aws:sqs:us-east-1:123456789012:q.fifo", "FunctionName": "f"}
-DESTINATION = {"DestinationConfig": {"OnFailure": {"Destination": "arn:aws:sqs:us-east-1:123456789012:dead"}}}
-ITEM_FAILURES = {"FunctionResponseTypes": ["ReportBatchItemFailures"]}
+sys.dont_write_bytecode = True
 
-OK = (200, False, b"")
-ERROR = (200, True, b'{"errorMessage":"no"}')
-
-
-def record(number, key="1", shard=0, data=b"Hello", arrival=0):
-    """An input line of a stream."""
-    return json.dumps({
-        "shardId": f"shardId-{shard:012}",
-        "sequenceNumber": str(number),
-        "partitionKey": key,
-        "data": base64.b64encode(data).decode(),
-        "approximateArrivalTimestamp": arrival,
-    })
-
-
-def message(name, body="x", sent=0, group=None):
-    """An input line of a queue."""
-    line = {"messageId": name, "body": body, "sentTimestamp": sent}
-    if group is not None:
-        line["messageGroupId"] = group
-    return json.dumps(line)
-
-
-def shard_line(records, checkpoint, succeeded=0, filtered=0, expired=0, exhausted=0, shard=0):
-    return (f"shard shardId-{shard:012} records {records} checkpoint {checkpoint} succeeded {succeeded} "
-            f"filtered {filtered} expired {expired} exhausted {exhausted}")
-
-
-def failed(*names):
-    """The answer that reports these records or messages."""
-    body = {"batchItemFailures": [{"itemIdentifier": name} for name in names]}
-    return (200, False, json.dumps(body).encode())
-
-
-class Quiet(ThreadingHTTPServer):
-    """A server that does not tell of callers that were killed while they waited."""
-
-    daemon_threads = True
-
-    def handle_error(self, request, address):
-        pass
-
-
-class Function:
-    """A function on a port of its own: `answer` gives the reply to an event, with the number of the call, from 0."""
-
-    def __init__(self, answer):
-        self.answer = answer
-        self.events = []
-        self.lock = threading.Lock()
-        function = self
-
-        class Host(BaseHTTPRequestHandler):
-            protocol_version = "HTTP/1.1"
-
-            def do_POST(self):
-                text = self.rfile.read(int(self.headers["Content-Length"]))
-                with function.lock:
-                    number = len(function.events)
-                    function.events.append(json.loads(text))
-                status, error, body = function.answer(function.events[number], number)
-                self.send_response(status)
-                if error:
-                    self.send_header("X-Amz-Function-Error", "Unhandled")
-                self.send_header("Content-Length", str(len(body)))
-                self.send_header("Connection", "close")
-                self.end_headers()
-                self.wfile.write(body)
-                self.close_connection = True
-
-            def log_message(self, *words):
-                pass
-
-        self.server = Quiet(("127.0.0.1", 0), Host)
-        self.port = str(self.server.server_address[1])
-        threading.Thread(target=self.server.serve_forever, daemon=True).start()
-
-    def names(self):
-        """The sequence numbers or message ids of each call's records."""
-        return [[name_of(r) for r in event["Records"]] for event in self.events]
-
-    def close(self):
-        self.server.shutdown()
-        self.server.server_close()
-
-
-def name_of(item):
-    return item["kinesis"]["sequenceNumber"] if "kinesis" in item else item["messageId"]
-
-
-def always(reply):
-    return lambda event, number: reply
-
-
-def each(*replies):
-    """These replies in order, and then success."""
-    return lambda event, number: replies[number] if number < len(replies) else OK
-
-
-def failing(*names):
-    """An error for each event with one of these records or messages."""
-    return lambda event, number: ERROR if any(name_of(r) in names for r in event["Records"]) else OK
-
-
-class Trial:
-    """One case: runs commands of the program, and notes what came out otherwise."""
-
-    def __init__(self, program, name):
-        self.program = program
-        self.name = name
-        self.wrong = []
-        self.folder = None
-        self.functions = []
-
-    def same(self, what, wanted, got):
-        if wanted != got:
-            self.wrong.append(f"{self.name}: {what}: wanted {wanted!r}, got {got!r}")
-
-    def function(self, answer):
-        made = Function(answer)
-        self.functions.append(made)
-        return made
-
-    def in_folder(self, lines):
-        """A folder with its files made, and this input."""
-        self.folder = Path(tempfile.mkdtemp(prefix="esm-try-"))
-        self.said("init", 0, ["done"])
-        self.feed(lines)
-
-    def feed(self, lines):
-        (self.folder / "input.jsonl").write_text("".join(line + "\n" for line in lines))
-
-    def words(self, functions, words, door="0"):
-        return self.program + [str(self.folder or "-"), functions, door] + words
-
-    def said(self, words, status, lines, functions="ok", lines_in=None):
-        """Runs the command and compares its output and its exit status."""
-        words = words if isinstance(words, list) else [words]
-        text = None if lines_in is None else "".join(line + "\n" for line in lines_in)
-        ran = subprocess.run(self.words(functions, words), input=text if text is not None else "", capture_output=True,
-                             text=True, timeout=120)
-        self.same(f"output of {words[0]}", "".join(line + "\n" for line in lines), ran.stdout)
-        self.same(f"status of {words[0]}", status, ran.returncode)
-
-    def run(self, mapping, status, lines, functions="ok", lines_in=None, options=()):
-        self.said(["run", "--config", json.dumps(mapping), *options], status, lines, functions, lines_in)
-
-    def close(self):
-        for made in self.functions:
-            made.close()
-        if self.folder:
-            shutil.rmtree(self.folder)
-
-
-# journals
-
-
-def payloads(path):
-    """The payloads of the entries whose gates are open."""
-    data, at, found = path.read_bytes(), 17, []
-    while at < len(data) and data[at] == 1:
-        length = struct.unpack(">I", data[at + 1:at + 5])[0]
-        found.append(data[at + 5:at + 5 + length])
-        at += 5 + length
-    return found
-
-
-def fates(path):
-    """Of each shard and place the fates that a mapping's journal names."""
-    named = {}
-    for payload in payloads(path):
-        if payload[0] == 1:
-            shard, fate = struct.unpack(">QB", payload[1:10])
-            at = 18
-            if payload[at] == 1:
-                at += 9
-                at += 4 + struct.unpack(">I", payload[at:at + 4])[0] - 1
-            at += 1
-            for place in places(payload, at):
-                named.setdefault((shard, place), []).append(fate)
-        if payload[0] == 3:
-            for place in places(payload, 10):
-                named.setdefault(("queue", place), []).append(payload[1])
-    return named
-
-
-def places(payload, at):
-    """The places that stand from this byte on, each with its text."""
-    count = struct.unpack(">I", payload[at:at + 4])[0]
-    at, named = at + 4, []
-    for _ in range(count):
-        place, length = struct.unpack(">IB", payload[at:at + 5])
-        named.append(place)
-        at += 5 + length
-    return named
-
+import try_outside
+from trial import (
+    DESTINATION, ERROR, FIFO, ITEM_FAILURES, OK, QUEUE, STREAM, Skipped, Trial, always, each, failed, failing, fates, message,
+    name_of, payloads, record, shard_line,
+)
 
 # streams
 
@@ -389,8 +186,7 @@ def throttled_call(t):
 def refused_words(t):
     for words in (["run"], ["run", "--config", "C", "--config", "C"], ["run", "--config", "C", "--"],
                   ["run", "--read-first", "--config"], ["run", "--config", "C", "--calls", "01"], [], ["walk"]):
-        ran = subprocess.run(t.words("ok", words), capture_output=True, text=True, input="")
-        t.same(f"{words}", (2, "bad words\n"), (ran.returncode, ran.stdout))
+        t.same(f"{words}", ("bad words\n", 2), t.ran(words))
     t.run(STREAM | {"BatchSize": 0}, 9, ["bad parameter BatchSize"], lines_in=[])
     t.run(STREAM | {"StartingPosition": "LATEST"}, 9, ["bad parameter StartingPosition"], lines_in=[])
     t.run(STREAM | {"Enabled": False}, 9, ["disabled mapping"], lines_in=[])
@@ -565,20 +361,21 @@ def killed(t, kills):
     f = t.function(answer)
     mapping = STREAM | DESTINATION | {"ParallelizationFactor": 3, "BatchSize": 3, "MaximumRetryAttempts": 1,
                                       "BisectBatchOnFunctionError": True}
-    words = t.words(f.port, ["run", "--config", json.dumps(mapping)])
+    words = ["run", "--config", json.dumps(mapping)]
+    begun = time.monotonic()
+    t.said("show", 0, ["done"])
+    ready = time.monotonic() - begun  # what a start takes, which may be that of a script
     amid = 0
     for _ in range(kills):
         had = {numbers[key] for key in fates(journal)}
-        started = subprocess.Popen(words, stdout=subprocess.PIPE)
-        time.sleep(random.random() * 0.2)
-        amid += started.poll() is None
-        started.send_signal(signal.SIGKILL)
-        started.wait()
-        started.stdout.close()
+        run = t.begin(words, f.port, stdout=subprocess.DEVNULL)
+        time.sleep(ready + random.random() * 0.2)
+        amid += run.poll() is None
+        run.send_signal(signal.SIGKILL)
+        run.wait()
         time.sleep(0.01)
     had = {numbers[key] for key in fates(journal)}
-    ended = subprocess.run(words, capture_output=True, text=True, timeout=300)
-    t.same("status", 0, ended.returncode)
+    t.same("status", 0, t.ran(words, f.port, timeout=300)[1])
     named = fates(journal)
     t.same("records with a fate", count, len(named))
     t.same("records with two fates", [], [key for key, many in named.items() if len(many) != 1])
@@ -602,33 +399,46 @@ CASES = [
     empty_input, one_record, poison, bisect_eight, exhaust_eight, retry_delays, partial_failure, bisect_item_failures,
     answer_bodies, two_lanes, record_age, bad_inputs, filters, payload_limit, limits, at_timestamp, throttled_call,
     refused_words, budget_and_restart, budget_then_finish, tries_outlast, changed_stream, tumbling_windows, files,
-    migrate_once, cut_journals, queues, queue_restart, fifo,
+    migrate_once, cut_journals, queues, queue_restart, fifo, *try_outside.CASES,
 ]
+
+
+def tried(program, name, case):
+    """What came of the case, in a word, and what is to be told of it."""
+    trial = Trial(program, name)
+    try:
+        try:
+            case(trial)
+        finally:
+            trial.close()
+    except Skipped as why:
+        return "skip ", [str(why)]
+    except Exception as error:  # what throws or does not end in time has failed, and the next case is tried
+        trial.wrong.append(f"{name}: {type(error).__name__}: {error}"[:400])
+    return "WRONG" if trial.wrong else "ok   ", trial.wrong
 
 
 def main():
     parser = argparse.ArgumentParser(description=__doc__.split("\n")[0])
     parser.add_argument("program", type=shlex.split)
     parser.add_argument("--only", action="append", default=[])
+    parser.add_argument("--quick", action="store_true")
     parser.add_argument("--kills", type=int, default=0)
     words = parser.parse_args()
-    cases = [(case.__name__, case) for case in CASES]
+    cases = [(case.__name__, case) for case in CASES if not (words.quick and case in try_outside.SLOW)]
     if words.kills:
         cases.append(("killed", lambda t: killed(t, words.kills)))
-    wrong = 0
+    came = []
     for name, case in cases:
         if words.only and name not in words.only:
             continue
-        trial = Trial(words.program, name)
-        try:
-            case(trial)
-        finally:
-            trial.close()
-        print("ok   " if not trial.wrong else "WRONG", name, flush=True)
-        for line in trial.wrong:
+        what, lines = tried(words.program, name, case)
+        came.append(what)
+        print(what, name, flush=True)
+        for line in lines:
             print("  ", line)
-        wrong += bool(trial.wrong)
-    return 1 if wrong else 0
+    print(f"{came.count('ok   ')} passed, {came.count('WRONG')} failed")
+    return 1 if "WRONG" in came else 0
 
 
 if __name__ == "__main__":
