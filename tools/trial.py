@@ -221,7 +221,7 @@ class Trial:
         words = self.words(functions, words, str(door))
         if shell:
             words = ["sh", "-c", f'{shell}; exec "$@"', "sh", *words]
-        self.begun.append(subprocess.Popen(words, text=True, **how))
+        self.begun.append(subprocess.Popen(words, text=True, **{"stdin": subprocess.DEVNULL, **how}))
         return self.begun[-1]
 
     def ran(self, words, functions="ok", lines_in=(), shell="", timeout=120, **how):

@@ -10,7 +10,9 @@ import socket
 import subprocess
 import time
 
-from trial import STREAM, Skipped, always, connected, free_port, read_out, read_request, record, shard_line, text_of
+from trial import (
+    OK, STREAM, Skipped, always, connected, free_port, read_out, read_request, record, shard_line, text_of,
+)
 
 PATH = "/2015-03-31/event-source-mappings/"
 SHARD = "shard shardId-000000000000"
@@ -57,7 +59,8 @@ def asked(port, request):
 
 def closed_by_run(t):
     report = [shard_line(3, 3, succeeded=3), "calls 1", "done"]
-    rows = [("exec >&-", 5, []), ("exec 2>&-", 0, report), ("exec <&-", 0, report), ("exec <&- >&- 2>&-", 5, [])]
+    rows = [("exec >&-", 5, []), ("exec 2>&-", 0, report), ("exec <&-", 0, report), ("exec <&- >&- 2>&-", 5, []),
+            ("exec > /dev/full", 5, [])]
     for shell, status, lines in rows:
         t.in_folder([record(n) for n in range(1, 4)])
         t.run(STREAM, status, lines, options=["--read-first"], shell=shell)
@@ -172,7 +175,39 @@ def large_replies(t):
           [record(n) for n in range(1, 201)])
 
 
-# output
+def few_descriptors(t):
+    """A call for which no descriptor is left waits for one."""
+    f = t.function(lambda event, number: (time.sleep(0.05), OK)[1])
+    lines = [record(n, key=f"k{n}", shard=n % 3) for n in range(1, 181)]
+    mapping = STREAM | {"BatchSize": 1, "ParallelizationFactor": 10, "MaximumRetryAttempts": 0}
+    report = [shard_line(60, 60, succeeded=60, shard=n) for n in range(3)]
+    t.run(mapping, 0, [*report, "calls 180", "done"], f.port, lines, shell="ulimit -n 16")
+
+
+# input and output
+
+
+def open_input(t):
+    """A run whose calls are spent ends, though its input does not."""
+    begun = time.monotonic()
+    run = t.begin(["run", "--config", json.dumps(STREAM | {"BatchSize": 1}), "--calls", "1"], stdin=subprocess.PIPE,
+                  stdout=subprocess.PIPE)
+    run.stdin.write(text_of([record(1), record(2)]))
+    run.stdin.flush()
+    t.same("status", 1, run.wait(timeout=20))
+    t.between("seconds", 0, 10, time.monotonic() - begun)
+    t.same("output", text_of([shard_line(2, 1, succeeded=1), "calls 1", "calls spent"]), run.stdout.read())
+
+
+def no_reader(t):
+    """The report goes into a pipe that nobody reads."""
+    t.in_folder([record(1)])
+    ours, theirs = os.pipe()
+    os.close(ours)
+    run = t.begin(["run", "--config", json.dumps(STREAM)], stdout=theirs)
+    os.close(theirs)
+    t.same("status", 5, run.wait(timeout=60))
+    t.said("show", 0, [f"{SHARD} given 1 frontier 1", "done"])
 
 
 def full_pipe(t):
@@ -330,5 +365,6 @@ def small_stack(t):
 SLOW = [slow_client]
 CASES = [
     closed_by_run, closed_by_others, closed_by_serve, closed_input, early_answers, no_answer, no_connection,
-    trickling_answer, large_replies, full_pipe, foreign_requests, stopped_serve, no_threads, small_stack, *SLOW,
+    trickling_answer, large_replies, few_descriptors, open_input, no_reader, full_pipe, foreign_requests, stopped_serve,
+    no_threads, small_stack, *SLOW,
 ]
