@@ -235,20 +235,23 @@ def full_pipe(t):
 
 
 def foreign_requests(t):
+    """A web page of elsewhere neither reads nor makes mappings."""
     first = f"GET {PATH} HTTP/1.1"
-    rows = [([first, *head], NO_MAPPINGS) for head in (
-        [], ["Host: 127.0.0.1"], ["Host: localhost"], ["host: localhost:9002"], ["Host: [::1]:65535"])]
-    rows += [([first, *head], FOREIGN) for head in (
+    rows = [(request([first, *head]), FOREIGN) for head in (
         ["Origin: null"], ["Host: 127.0.0.1", "ORIGIN: http://127.0.0.1"], ["Host: evil.example"],
         ["Host: 127.0.0.1.evil.example"], ["Host: localhost:"], ["Host: localhost:123456"], ["Host: localhost:1x"],
         ["Host: localhost", "Host: evil.example"])]
-    rows += [([f"GET {PATH}?a=b HTTP/1.1", "Origin: null"], FOREIGN),
-             (["NO HEAD", "Origin: null"], refusal("400 Bad Request", "InvalidRequestContentException", "head"))]
+    rows += [
+        (request([f"GET {PATH}?a=b HTTP/1.1", "Origin: null"]), FOREIGN),
+        (request(["NO HEAD", "Origin: null"]), refusal("400 Bad Request", "InvalidRequestContentException", "head")),
+        (CREATE.replace(b"Host: ", b"Origin: http://"), FOREIGN)]
+    rows += [(request([first, *head]), NO_MAPPINGS) for head in (
+        [], ["Host: 127.0.0.1"], ["Host: localhost"], ["host: localhost:9002"], ["Host: [::1]:65535"])]
     t.in_folder([])
     port = free_port()
     serving = t.begin(["serve", "--requests", str(len(rows))], door=port, stdout=subprocess.PIPE)
-    for head, wanted in rows:
-        t.same(f"{head}", wanted, asked(port, request(head)))
+    for text, wanted in rows:
+        t.same(f"{text}", wanted, asked(port, text))
     t.same("output", f"served {len(rows)}\ndone\n", serving.communicate(timeout=60)[0])
 
 

@@ -428,6 +428,8 @@ def main():
     cases = [(case.__name__, case) for case in CASES if not (words.quick and case in try_outside.SLOW)]
     if words.kills:
         cases.append(("killed", lambda t: killed(t, words.kills)))
+    if unknown := {*words.only} - {name for name, _ in cases}:
+        parser.error(f"no case {', '.join(sorted(unknown))}")
     came = []
     for name, case in cases:
         if words.only and name not in words.only:
