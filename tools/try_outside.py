@@ -187,18 +187,6 @@ def few_descriptors(t):
 # input and output
 
 
-def open_input(t):
-    """A run whose calls are spent ends, though its input does not."""
-    begun = time.monotonic()
-    run = t.begin(["run", "--config", json.dumps(STREAM | {"BatchSize": 1}), "--calls", "1"], stdin=subprocess.PIPE,
-                  stdout=subprocess.PIPE)
-    run.stdin.write(text_of([record(1), record(2)]))
-    run.stdin.flush()
-    t.same("status", 1, run.wait(timeout=20))
-    t.between("seconds", 0, 10, time.monotonic() - begun)
-    t.same("output", text_of([shard_line(2, 1, succeeded=1), "calls 1", "calls spent"]), run.stdout.read())
-
-
 def no_reader(t):
     """The report goes into a pipe that nobody reads."""
     t.in_folder([record(1)])
@@ -368,6 +356,6 @@ def small_stack(t):
 SLOW = [slow_client]
 CASES = [
     closed_by_run, closed_by_others, closed_by_serve, closed_input, early_answers, no_answer, no_connection,
-    trickling_answer, large_replies, few_descriptors, open_input, no_reader, full_pipe, foreign_requests, stopped_serve,
+    trickling_answer, large_replies, few_descriptors, no_reader, full_pipe, foreign_requests, stopped_serve,
     no_threads, small_stack, *SLOW,
 ]
