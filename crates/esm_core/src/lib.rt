@@ -4,6 +4,7 @@
 #![tactic(auto)]
 
 mod decisions;
+mod finishing;
 mod fitting;
 mod stream_core;
 

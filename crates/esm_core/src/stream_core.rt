@@ -1,5 +1,5 @@
 // The core of a stream's book: it decides on records that come, the input's end, batchers' asks and replies.
-ghost use Rattle.std.specs.Prelude.{◌≡◌, ℕ, ◌<◌, ◌≤◌, ◌^◌, ◌∷◌, [], true, false, min, max, All, IfOk, IfErr, IfSome, IfNone, OnOk, OnErr, length, take, reverse};
+ghost use Rattle.std.specs.Prelude.{◌≡◌, ℕ, ◌<◌, ◌≤◌, ◌^◌, ◌∷◌, [], Some, true, false, min, max, All, IfOk, IfErr, IfSome, IfNone, OnOk, OnErr, length, take, reverse};
 ghost use Rattle.std.specs.List.{filter_map};
 ghost use Rattle.esm_model.specs.declared.limits.TheConstants.{MAX_BATCH, MAX_PAYLOAD};
 ghost use Rattle.esm_model.specs.declared.entry.Entry.{Entry};
@@ -14,11 +14,13 @@ ghost use Rattle.esm_ledger.specs.Ledger.{opened_with, LegalOver};
 ghost use Rattle.esm_ledger.specs.Reading.{checkpoint_of, spread_of};
 ghost use Rattle.esm_writable.specs.Bounds.{AreStatesWithin, AreWithinBounds};
 ghost use Rattle.esm_book.specs.Decided.{IsRefused};
+ghost use Rattle.esm_lasting.specs.Finishing.{IsQuiet, IsWanting};
 ghost use Rattle.esm_owing.specs.Standing.{can_pay};
 ghost use Rattle.esm_owing.specs.OwingView.{new_view, full_setting, payloads_of, lines_of, lengths_of, IsLineWithin, LegalAhead, SettledAhead, owing, paid, forgotten, noted, noted_shut};
 ghost use Rattle.esm_core.specs.Calls.{moment_for, coming_lists, came_entries, Differs, NoneDiffers, IsResting, IsNextOver, next_adds, IsRunningJob, ended_entries, given_by_end};
 ghost use Rattle.esm_core.specs.Told.{told_of};
 
+use crate::finishing::is_over;
 use crate::fitting::fit_places;
 use esm_arrival::{by_shard, first_change};
 use esm_book::Refusal;
@@ -275,6 +277,19 @@ impl StreamCore {
         ensures { result ≡ is_shut self.now.past }
     {
         self.owing.is_shut()
+    }
+
+    /// Whether nothing is left for the batchers below the number: no record of their lanes is open, and no window of their
+    /// shards is outstanding. `None` where nothing is decided any more. Takes no memory.
+    pub fn is_over(&self, batchers: u32) -> Option<bool>
+        requires settled { self.now.owed ≡ [] }
+        ensures over { result ≡ Some true → (k : ℕ) → k < batchers → IsQuiet self.now.setting self.now.past k }
+        ensures left { result ≡ Some false → (k : ℕ) × (k < batchers) × IsWanting self.now.setting self.now.past k }
+    {
+        let Some(ledger) = self.owing.ledger() else {
+            return None;
+        };
+        Some(is_over(ledger, batchers))
     }
 
     /// How many of the shard's first records all have a fate. `None` exactly where the shard has not come. Takes no

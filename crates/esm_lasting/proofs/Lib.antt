@@ -1,2 +1,5 @@
 pub mod OneMore
+pub mod Lanes
+mod Quiet
 mod Onward
+pub mod Readers

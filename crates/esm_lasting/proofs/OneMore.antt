@@ -56,7 +56,7 @@ pub record CanRun (s : Setting) (h : List Entry) (lane : LaneId) : Type 0 where
   pub came : 1 ≤ came_count h lane.shard
   pub below_factor : lane.lane < s.config.factor
 
-can_before : (s : Setting) (e : Entry) (h : List Entry) (lane : LaneId) → CanRun s h lane → CanRun s (e ∷ h) lane
+pub can_before : (s : Setting) (e : Entry) (h : List Entry) (lane : LaneId) → CanRun s h lane → CanRun s (e ∷ h) lane
 can_before s e h lane can = record { came = came_before e h lane.shard can.came; below_factor = can.below_factor }
 
 can_begun : (s : Setting) (e : Entry) (h : List Entry) (at lane : LaneId) (m : ℕ) → MayCall s h at m → same_lane at lane ≡ true → CanRun s (e ∷ h) lane

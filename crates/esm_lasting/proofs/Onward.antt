@@ -9,7 +9,7 @@ use Rattle.esm_model.specs.declared.entry.Entry.{Entry}
 use Rattle.esm_model.specs.declared.setup.Setup.{Setup}
 use Rattle.esm_model.specs.declared.setup.Told.{Told}
 use Rattle.esm_model.specs.Setting.{Setting, Stream, Extends, over}
-use Rattle.esm_model.specs.Entries.{came_count, is_running, batcher, last_call, batch_of}
+use Rattle.esm_model.specs.Entries.{came_count, is_running, is_shut, batcher, last_call, batch_of, calls_begun}
 use Rattle.esm_model.specs.Calls.{calls, last_event, has_end_of}
 use Rattle.esm_model.specs.Step.{Legal}
 use Rattle.esm_model.specs.Kept.{MayFollowAll, IsLegal, entries_after}
@@ -19,7 +19,9 @@ use Rattle.esm_model.proofs.CallsMade.{batcher_stays}
 use Rattle.esm_model.proofs.TellingFacts.{entries_more, told_extends}
 use Rattle.esm_pooled.specs.GoingOn.{OthersFollow}
 use Rattle.esm_lasting.specs.Batchers.{calls_told, Rests, RunsJob}
+use Rattle.esm_lasting.specs.Finishing.{IsQuiet, HasFinished, AreSpent}
 use Rattle.esm_lasting.proofs.OneMore.{IsElse, AllRest, ends_none, rests_on, StaysOn, stays_on, came_before, event_over}
+use Rattle.esm_lasting.proofs.Quiet.{IsOther, not_came, streams_stay, quiet_on, shut_on, begun_on}
 
 -- one entry after the other
 
@@ -34,7 +36,7 @@ legal_first : (setup : Setup) (h : List Told) (t : Told) (es : List Told) → Is
 legal_first setup h t es legal = may_front (stream_may_follow setup) [] (h ++ t ∷ []) es (subst (IsLegal (stream_may_follow setup)) (regrouped h t es) legal)
 
 -- the first of others is another's, and so are those behind it
-first_else : (setup : Setup) (n : ℕ) (h : List Told) (t : Told) (es : List Told) → entries_after (author setup) n h (t ∷ es) ≡ [] → (author setup h t ≢ n) × (entries_after (author setup) n (h ++ t ∷ []) es ≡ [])
+pub first_else : (setup : Setup) (n : ℕ) (h : List Told) (t : Told) (es : List Told) → entries_after (author setup) n h (t ∷ es) ≡ [] → (author setup h t ≢ n) × (entries_after (author setup) n (h ++ t ∷ []) es ≡ [])
 first_else setup n h t es none = elim (cases_Bool (author setup h t == n)) [
   | inl same ↦ absurd (let clash : t ∷ entries_after (author setup) n (h ++ t ∷ []) es ≡ [] = rw same at none in cc)
   | inr apart ↦ (
@@ -104,6 +106,18 @@ module _ (kept_legal : (setup : Setup) (history : List Told) (streams : List Str
           event = runs.event ∙ sym (ap (λ es. last_event s es job.lane) more ∙ on.event ∙ event_over kept_over (setting_told setup h) (entries_told h) job.lane (streams_told (h ++ t ∷ [])) (told_extends h (t ∷ [])) legal_before runs.running);
         }
 
+    finished_one : HasFinished setup h k → HasFinished setup (h ++ t ∷ []) k
+    finished_one finished =
+        let s = setting_told setup (h ++ t ∷ []) in
+        let more = entries_more h t in
+        let legal : Legal s (t.entry ∷ entries_told h) = subst (Legal s) more (legal_now setup (h ++ t ∷ []) one.legal) in
+        let other : IsOther t.entry = not_came s (entries_told h) t.entry legal finished.shut in
+        let before : IsQuiet s (entries_told h) k = subst (λ (ts : List Stream). IsQuiet (over (setting_told setup h) ts) (entries_told h) k) (sym (streams_stay h t other)) finished.quiet in
+        record {
+          shut = subst (λ es. is_shut es ≡ true) (sym more) (shut_on t.entry (entries_told h) finished.shut);
+          quiet = subst (λ es. IsQuiet s es k) (sym more) (quiet_on s (entries_told h) k t.entry legal finished.shut else_over before);
+        }
+
   pub calls_last : (setup : Setup) (sends : List ℕ → List ℕ) (h es : List Told) (k : ℕ) → OthersFollow author stream_may_follow setup (k + 1) h es → calls_told setup sends (h ++ es) k ≡ calls_told setup sends h k
   calls_last setup sends h es k follow =
       last_all setup k (λ g. calls_told setup sends g k ≡ calls_told setup sends h k) (λ g t one same. calls_one setup k g t one sends ∙ same) h es follow refl
@@ -113,3 +127,11 @@ module _ (kept_legal : (setup : Setup) (history : List Told) (streams : List Str
 
   pub runs_last : (setup : Setup) (h es : List Told) (k : ℕ) (job : Job) → OthersFollow author stream_may_follow setup (k + 1) h es → RunsJob setup h k job → RunsJob setup (h ++ es) k job
   runs_last setup h es k job follow runs = last_all setup k (λ g. RunsJob setup g k job) (λ g t one now. runs_one setup k g t one job now) h es follow runs
+
+  pub finished_last : (setup : Setup) (h es : List Told) (k : ℕ) → OthersFollow author stream_may_follow setup (k + 1) h es → HasFinished setup h k → HasFinished setup (h ++ es) k
+  finished_last setup h es k follow finished = last_all setup k (λ g. HasFinished setup g k) (λ g t one now. finished_one setup k g t one now) h es follow finished
+
+-- the calls that began stay
+pub spent_last : (setup : Setup) (h es : List Told) (k : ℕ) → OthersFollow author stream_may_follow setup (k + 1) h es → AreSpent setup h → AreSpent setup (h ++ es)
+spent_last setup h es k follow spent =
+    last_all setup k (AreSpent setup) (λ g t one now. subst (λ hs. setup.calls ≤ calls_begun hs) (sym (entries_more g t)) (begun_on t.entry (entries_told g) setup.calls now)) h es follow spent

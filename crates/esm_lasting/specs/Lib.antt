@@ -1,1 +1,3 @@
 pub mod Batchers
+pub mod Finishing
+pub mod Items

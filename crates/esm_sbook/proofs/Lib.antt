@@ -9,6 +9,9 @@ pub mod Noting
 pub mod Standing
 pub mod Founds
 mod PoolingEntries
+mod PoolingFinished
+mod PoolingCame
+mod PoolingRead
 mod PoolingLanes
 mod PoolingSteps
 mod PoolingAsked

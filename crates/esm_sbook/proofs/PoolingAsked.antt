@@ -19,12 +19,14 @@ use Rattle.esm_model.specs.Kept.{meaning, added, IsLegal}
 use Rattle.esm_model.specs.Books.{author, stream_may_follow}
 use Rattle.esm_model.specs.Setting.{Setting}
 use Rattle.esm_model.specs.Step.{Legal}
-use Rattle.esm_model.specs.Entries.{batcher}
+use Rattle.esm_model.specs.Entries.{batcher, calls_begun}
 use Rattle.esm_model.specs.Calls.{calls}
 use Rattle.esm_model.proofs.Steps.{same_lane-refl, running_began}
 use Rattle.esm_pooled.specs.GoingOn.{GoesOn, AllAt}
-use Rattle.esm_pooled.specs.Batching.{Answers, EndsWork}
+use Rattle.esm_pooled.specs.Batching.{Answers}
 use Rattle.esm_lasting.specs.Batchers.{calls_told, Rests, RunsJob}
+use Rattle.esm_lasting.specs.Finishing.{HasFinished, AreSpent}
+use Rattle.esm_lasting.proofs.Lanes.{batcher_is}
 use Rattle.esm_lasting.proofs.OneMore.{AllRest, running_can}
 use Rattle.esm_ledger.specs.Reading.{lane_of_batcher}
 use Rattle.esm_next.specs.Following.{next_for, next_entries, expiry_entries}
@@ -32,11 +34,11 @@ use Rattle.esm_core.specs.Told.{told_of}
 use Rattle.esm_core.specs.Calls.{moment_for, IsNextOver, IsResting}
 use Rattle.esm_sbook.specs.Books.{BookState, setup_of, is_down}
 use Rattle.esm_sbook.specs.Calls.{AddedAll, AddedSome, RunsCall, IsSame, WasWriting, next_entries_now}
-use Rattle.esm_sbook.specs.Ended.{HasNothingToDo}
 use Rattle.esm_sbook.specs.Keeping.{IsSound, IsSetupOf}
 use Rattle.esm_sbook.proofs.PoolingEntries.{AreOwn}
-use Rattle.esm_sbook.proofs.PoolingLanes.{batcher_is, job_event}
-use Rattle.esm_sbook.proofs.PoolingSteps.{HasAdded, added_all, added_some, added_none, added_same, RunsOver, EndsOver, goes_on, at_moment, calls_now, rests_now, runs_now, ended_now, calls_still, rests_still}
+use Rattle.esm_sbook.proofs.PoolingFinished.{IsFinished, finished_for, spent_for}
+use Rattle.esm_sbook.proofs.PoolingLanes.{job_event}
+use Rattle.esm_sbook.proofs.PoolingSteps.{HasAdded, added_all, added_some, added_none, added_same, RunsOver, goes_on, at_moment, onto, calls_now, rests_now, runs_now, calls_still, rests_still}
 
 -- its lanes rest, so it may ask
 pub may_ask : {D T : Type 0} (v : BookState D T) (k : ℕ) → AllRest v.core.setting v.core.past k → IsResting v.core k
@@ -98,13 +100,15 @@ answered s h k m (next.Idle until) is lane legal rest = record { own = tt; no_en
 answered s h k m next.Spent is lane legal rest = record { own = tt; no_end = λ sends. refl; answer = rest }
 answered s h k m next.Finished is lane legal rest = record { own = tt; no_end = λ sends. refl; answer = rest }
 
--- an answer that ends its work adds nothing
-ends_over : (s : Setting) (h : List Entry) (k m : ℕ) (x : Next) → x ≡ next_for s h k m → EndsWork x → EndsOver s (reverse (next_entries s h k m x) ++ h) k
-ends_over s h k m (next.Call job) is ends = absurd ends
-ends_over s h k m (next.Gave count) is ends = absurd ends
-ends_over s h k m (next.Idle until) is ends = absurd ends
-ends_over s h k m next.Spent is ends = (m, subst EndsWork is ends)
-ends_over s h k m next.Finished is ends = (m, subst EndsWork is ends)
+-- an answer by which it has finished, or the calls are spent, adds nothing
+
+finished_so : (s : Setting) (h : List Entry) (k m : ℕ) (x : Next) → x ≡ next_for s h k m → x ≡ next.Finished → IsFinished s (reverse (next_entries s h k m x) ++ h) k
+finished_so s h k m x is finished =
+    subst (λ (y : Next). IsFinished s (reverse (next_entries s h k m y) ++ h) k) (sym finished) (finished_for s h k m (sym is ∙ finished))
+
+spent_so : (s : Setting) (h : List Entry) (k m : ℕ) (x : Next) → x ≡ next_for s h k m → x ≡ next.Spent → s.calls ≤ calls_begun (reverse (next_entries s h k m x) ++ h)
+spent_so s h k m x is spent =
+    subst (λ (y : Next). s.calls ≤ calls_begun (reverse (next_entries s h k m y) ++ h)) (sym spent) (spent_for s h k m (sym is ∙ spent))
 
 -- a fault
 
@@ -149,7 +153,8 @@ pub record HasAsked {D T : Type 0} (old new : BookState D T) (k t : ℕ) (r : Re
   pub added : HasAdded old new k (moment_for old.core.past t) es
   pub no_end : (sends : List ℕ → List ℕ) → calls old.core.setting sends (reverse es ++ old.core.past) k ≡ calls old.core.setting sends old.core.past k
   pub answer : IfOk r (AnswersOver old.core.setting (reverse es ++ old.core.past) k)
-  pub ended : IfOk r (λ (x : Next). EndsWork x → EndsOver old.core.setting (reverse es ++ old.core.past) k)
+  pub finished : IfOk r (λ (x : Next). x ≡ next.Finished → IsFinished old.core.setting (reverse es ++ old.core.past) k)
+  pub spent : IfOk r (λ (x : Next). x ≡ next.Spent → old.core.setting.calls ≤ calls_begun (reverse es ++ old.core.past))
   pub rests : OnErr r (AllRest old.core.setting (reverse es ++ old.core.past) k)
   pub down : IfErr r (λ e. (e ≡ why.OutOfMemory) ⊎ (is_down new ≡ true))
 
@@ -168,7 +173,8 @@ answered_all d n k t old new x says after rest =
       added = added_all d n old new k m es all (λ was. let clash : Ok x ≡ Err why.Down = says.down.1 was in absurd (cc)) so.own;
       no_end = so.no_end;
       answer = so.answer;
-      ended = ends_over s h k m x is;
+      finished = finished_so s h k m x is;
+      spent = spent_so s h k m x is;
       rests = tt;
       down = tt;
     }
@@ -180,7 +186,8 @@ asked_none k t old new e es none g rest down = record {
   added = subst (HasAdded old new k (moment_for old.core.past t)) none g;
   no_end = λ sends. refl;
   answer = tt;
-  ended = tt;
+  finished = tt;
+  spent = tt;
   rests = rest;
   down = down;
 }
@@ -239,17 +246,21 @@ module _ {D T : Type 0} (code : Coded D) (dest_code : Coded T) (lines : T → Op
   pub ask_answer : IfOk r (Answers Rests RunsJob (setup_of code dest_code lines old) (told_of new.core) k)
   ask_answer = IfOk-weaker r (AnswersOver old.core.setting (reverse so.es ++ old.core.past) k) (Answers Rests RunsJob (setup_of code dest_code lines old) (told_of new.core) k) told_answer so.answer
 
-  abbrev Ended : Next → Type 0
-  Ended x = EndsWork x → EndsOver old.core.setting (reverse so.es ++ old.core.past) k
+  told_finished : IsFinished old.core.setting (reverse so.es ++ old.core.past) k → HasFinished (setup_of code dest_code lines old) (told_of new.core) k
+  told_finished over =
+      let told = onto code dest_code lines old new k (moment_for old.core.past t) so.es so.added after (λ s h. IsFinished s h k) over in
+      record { shut = told.shut; quiet = told.quiet }
 
-  abbrev ToldEnded : Next → Type 0
-  ToldEnded x = EndsWork x → HasNothingToDo (setup_of code dest_code lines old) (told_of new.core) k
+  told_spent : old.core.setting.calls ≤ calls_begun (reverse so.es ++ old.core.past) → AreSpent (setup_of code dest_code lines old) (told_of new.core)
+  told_spent over = onto code dest_code lines old new k (moment_for old.core.past t) so.es so.added after (λ s h. s.calls ≤ calls_begun h) over
 
-  told_ended : (x : Next) → Ended x → ToldEnded x
-  told_ended x ended ends = ended_now code dest_code lines old new k (moment_for old.core.past t) so.es so.added after (ended ends)
+  pub ask_finished : IfOk r (λ (x : Next). x ≡ next.Finished → HasFinished (setup_of code dest_code lines old) (told_of new.core) k)
+  ask_finished = IfOk-weaker r (λ (x : Next). x ≡ next.Finished → IsFinished old.core.setting (reverse so.es ++ old.core.past) k)
+      (λ (x : Next). x ≡ next.Finished → HasFinished (setup_of code dest_code lines old) (told_of new.core) k) (λ x over is. told_finished (over is)) so.finished
 
-  pub ask_ended : IfOk r (λ (x : Next). EndsWork x → HasNothingToDo (setup_of code dest_code lines old) (told_of new.core) k)
-  ask_ended = IfOk-weaker r Ended ToldEnded told_ended so.ended
+  pub ask_spent : IfOk r (λ (x : Next). x ≡ next.Spent → AreSpent (setup_of code dest_code lines old) (told_of new.core))
+  ask_spent = IfOk-weaker r (λ (x : Next). x ≡ next.Spent → old.core.setting.calls ≤ calls_begun (reverse so.es ++ old.core.past))
+      (λ (x : Next). x ≡ next.Spent → AreSpent (setup_of code dest_code lines old) (told_of new.core)) (λ x over is. told_spent (over is)) so.spent
 
   pub ask_rests : OnErr r (Rests (setup_of code dest_code lines old) (told_of new.core) k)
   ask_rests = on_err_weaker r told_rests so.rests

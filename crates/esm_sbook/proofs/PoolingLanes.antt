@@ -1,10 +1,9 @@
 -- The lanes of a batcher, and the event of the call that it is told to make.
-use Rattle.std.proofs.Common.{◌≡◌, ℕ, ◌+◌, ◌*◌, ◌<◌, zero, suc, Bool, true, false, not, List, [], ◌∷◌, length, refl, sym, ap, ◌∙◌, subst, inl, inr, arith, get_or, Option, Some, None}
-use Rattle.std.specs.Prelude.{◌==◌, ◌&&◌, ◌/◌, ◌%◌, ⊤, nat_lt, nat_le, slice_get, slice_index, option_map, if◌then◌else◌}
+use Rattle.std.proofs.Common.{◌≡◌, ℕ, ◌+◌, ◌*◌, suc, Bool, true, false, not, List, [], ◌∷◌, length, refl, sym, ap, ◌∙◌, subst, inl, inr, arith, get_or, Option, Some, None}
+use Rattle.std.specs.Prelude.{◌==◌, ◌&&◌, ◌/◌, ◌%◌, ⊤, nat_lt, nat_le, slice_index, if◌then◌else◌}
 use Rattle.std.specs.List.{prefix_len}
-use Rattle.std.proofs.lemmas.Bool.{cases_Bool, eq-eqb, eqb-true}
-use Rattle.std.proofs.lemmas.Nat.{div-add-mod', div-mul-add, mod-mul-add}
-use Rattle.std.proofs.lemmas.Option.{slice_get_within, get_or_from_slice_get}
+use Rattle.std.proofs.lemmas.Bool.{cases_Bool, eqb-true}
+use Rattle.std.proofs.lemmas.Nat.{div-mul-add, mod-mul-add}
 use Rattle.esm_model.specs.declared.lane.LaneId.{LaneId}
 use Rattle.esm_model.specs.declared.book.Job.{Job}
 use Rattle.esm_model.specs.declared.book.Next.{Next}
@@ -17,39 +16,12 @@ use Rattle.esm_model.specs.Fates.{open_places}
 use Rattle.esm_model.specs.Calls.{event_of}
 use Rattle.esm_model.specs.Batches.{group, batch, is_group_ready, delay_end}
 use Rattle.esm_model.specs.Step.{Legal, is_front_expired}
-use Rattle.esm_model.proofs.Lists.{In, In-here, In-there, Distinct, apart}
+use Rattle.esm_model.proofs.Lists.{In}
 use Rattle.esm_model.proofs.Steps.{lane_from}
 use Rattle.esm_model.proofs.CallsMade.{came_shard}
 use Rattle.esm_lasting.proofs.OneMore.{CanRun, running_can}
 use Rattle.esm_ledger.specs.Reading.{lane_of_batcher}
-use Rattle.esm_ledger.proofs.Ledgers.{shards_distinct}
 use Rattle.esm_next.specs.Following.{next_for, next_in, next_quiet, next_allowed, next_call, job_of, pause, expiring, outstanding, is_nothing, least, due_windows}
-
--- the batcher of its lane
-
-in_at : (xs : List ℕ) (i n : ℕ) → i < length xs → get_or xs i 0 ≡ n → In xs n
-in_at [] i n within is = absurd (omega (arith, within))
-in_at (x ∷ xs) zero n within is = In-here x xs n is
-in_at (x ∷ xs) (suc i) n within is = In-there x xs n (in_at xs i n (omega (arith, within)) is)
-
-place_at : (xs : List ℕ) (i n : ℕ) → Distinct xs → i < length xs → get_or xs i 0 ≡ n → prefix_len (λ x. not (x == n)) xs ≡ i
-place_at [] i n d within is = absurd (omega (arith, within))
-place_at (x ∷ xs) zero n d within is = rw (eq-eqb x n is) refl
-place_at (x ∷ xs) (suc i) n d within is = elim (cases_Bool (x == n)) [
-  | inl same ↦ absurd (apart xs x d.0 (subst (In xs) (sym (eqb-true x n same)) (in_at xs i n (omega (arith, within)) is)))
-  | inr other ↦ (let more : 1 + i ≡ suc i = omega arith in rw other (ap (λ v. 1 + v) (place_at xs i n d.1 (omega (arith, within)) is) ∙ more))
-]
-
-lane_at : (s : Setting) (h : List Entry) (k : ℕ) (lane : LaneId) (o : Option ℕ) → slice_get (shards_that_came h) (k / s.config.factor) ≡ o → option_map (λ (n : ℕ). record { shard = n; lane = k % s.config.factor }) o ≡ Some lane → batcher s h lane ≡ k
-lane_at s h k lane None at is = absurd (cc)
-lane_at s h k lane (Some n) at is =
-    let lane_is : record { shard = n; lane = k % s.config.factor } ≡ lane = cc in
-    subst (λ l. batcher s h l ≡ k) lane_is
-    (ap (λ i. i * s.config.factor + k % s.config.factor) (place_at (shards_that_came h) (k / s.config.factor) n (shards_distinct h) (slice_get_within (shards_that_came h) (k / s.config.factor) n at) (get_or_from_slice_get (shards_that_came h) (k / s.config.factor) n 0 at))
-    ∙ div-add-mod' k s.config.factor)
-
-pub batcher_is : (s : Setting) (h : List Entry) (k : ℕ) (lane : LaneId) → lane_of_batcher s h k ≡ Some lane → batcher s h lane ≡ k
-batcher_is s h k lane is = lane_at s h k lane (slice_get (shards_that_came h) (k / s.config.factor)) refl is
 
 -- one lane of a batcher runs at most
 

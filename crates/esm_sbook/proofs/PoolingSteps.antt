@@ -17,16 +17,13 @@ use Rattle.esm_model.specs.Calls.{calls, last_event}
 use Rattle.esm_model.specs.Kept.{meaning, added, IsLegal, MayFollowAll, AllBy}
 use Rattle.esm_model.specs.Books.{entries_told, streams_told, setting_told, author, stream_may_follow}
 use Rattle.esm_pooled.specs.GoingOn.{GoesOn, AllAt}
-use Rattle.esm_pooled.specs.Batching.{EndsWork}
 use Rattle.esm_lasting.specs.Batchers.{calls_told, Rests, RunsJob}
 use Rattle.esm_lasting.proofs.OneMore.{AllRest}
-use Rattle.esm_next.specs.Following.{next_for}
 use Rattle.esm_owing.specs.OwingView.{full_setting}
 use Rattle.esm_core.specs.Calls.{moment_for}
 use Rattle.esm_core.specs.Told.{told_entries, told_of}
 use Rattle.esm_sbook.specs.Books.{BookState, setup_of, is_down}
 use Rattle.esm_sbook.specs.Calls.{AddedAll, AddedSome, AddedOne, IsSame}
-use Rattle.esm_sbook.specs.Ended.{HasNothingToDo}
 use Rattle.esm_sbook.specs.Keeping.{IsSound, IsSetupOf}
 use Rattle.esm_sbook.proofs.Records.{entries_same}
 use Rattle.esm_sbook.proofs.PoolingEntries.{AreOwn, all_own, all_at, streams_own}
@@ -121,11 +118,7 @@ runs_so setup history k job runs = record { served = runs.served; came = runs.ca
 so_runs : (setup : Setup) (history : List Told) (k : ℕ) (job : Job) → RunsJob setup history k job → RunsOver (setting_told setup history) (entries_told history) k job
 so_runs setup history k job runs = record { served = runs.served; came = runs.came; running = runs.running; places = runs.places; event = runs.event }
 
--- at some moment the batcher's answer ends its work
-abbrev pub EndsOver : Setting → List Entry → ℕ → Type 0
-EndsOver s h k = (moment : ℕ) × EndsWork (next_for s h k moment)
-
-may_back : (may : List Told → Told → Type 0) (h xs ys : List Told) → MayFollowAll may h (xs ++ ys) → MayFollowAll may (h ++ xs) ys
+pub may_back : (may : List Told → Told → Type 0) (h xs ys : List Told) → MayFollowAll may h (xs ++ ys) → MayFollowAll may (h ++ xs) ys
 may_back may h [] ys all = subst (λ g. MayFollowAll may g ys) (sym (append-nil h)) all
 may_back may h (x ∷ xs) ys all = subst (λ g. MayFollowAll may g ys) (append_assoc h (x ∷ []) xs) (may_back may (h ++ x ∷ []) xs ys all.1)
 
@@ -186,7 +179,7 @@ module _ {D T : Type 0} (code : Coded D) (dest_code : Coded T) (lines : T → Op
       entries_now : entries_told (told_of new.core) ≡ reverse es ++ old.core.past
       entries_now = entries_same (full_setting new.core) new.core.past ∙ g.past
 
-      onto : (P : Setting → List Entry → Type 0) → P old.core.setting (reverse es ++ old.core.past) → P (setting_told (setup_at old) (told_of new.core)) (entries_told (told_of new.core))
+      pub onto : (P : Setting → List Entry → Type 0) → P old.core.setting (reverse es ++ old.core.past) → P (setting_told (setup_at old) (told_of new.core)) (entries_told (told_of new.core))
       onto P at = subst (λ (s : Setting). P s (entries_told (told_of new.core))) (sym setting_now) (subst (P old.core.setting) (sym entries_now) at)
 
       back : (P : Setting → List Entry → Type 0) → P (setting_told (setup_at old) (told_of new.core)) (entries_told (told_of new.core)) → P old.core.setting (reverse es ++ old.core.past)
@@ -204,14 +197,17 @@ module _ {D T : Type 0} (code : Coded D) (dest_code : Coded T) (lines : T → Op
       pub runs_now : (job : Job) → RunsOver old.core.setting (reverse es ++ old.core.past) k job → RunsJob (setup_at old) (told_of new.core) k job
       runs_now job runs = runs_so (setup_at old) (told_of new.core) k job (onto (λ s h. RunsOver s h k job) runs)
 
-      pub ended_now : EndsOver old.core.setting (reverse es ++ old.core.past) k → HasNothingToDo (setup_at old) (told_of new.core) k
-      ended_now ends = onto (λ s h. EndsOver s h k) ends
-
       pub now_runs : (job : Job) → RunsJob (setup_at old) (told_of new.core) k job → RunsOver old.core.setting (reverse es ++ old.core.past) k job
       now_runs job runs = back (λ s h. RunsOver s h k job) (so_runs (setup_at old) (told_of new.core) k job runs)
 
   -- of the book as it stands
   module _ (b : BookState D T) (k : ℕ) (sound : IsSound b) where
+    pub still_told : (P : Setting → List Entry → Type 0) → P b.core.setting b.core.past → P (setting_told (setup_at b) (told_of b.core)) (entries_told (told_of b.core))
+    still_told P at = onto b b k 0 [] (added_none b k 0) sound P at
+
+    pub told_still : (P : Setting → List Entry → Type 0) → P (setting_told (setup_at b) (told_of b.core)) (entries_told (told_of b.core)) → P b.core.setting b.core.past
+    told_still P at = back b b k 0 [] (added_none b k 0) sound P at
+
     pub calls_still : (sends : List ℕ → List ℕ) → calls_told (setup_at b) sends (told_of b.core) k ≡ calls b.core.setting sends b.core.past k
     calls_still sends = calls_now b b k 0 [] (added_none b k 0) sound sends
 

@@ -3,4 +3,3 @@ pub mod Calls
 pub mod Keeping
 pub mod Opening
 pub mod Carried
-pub mod Ended

@@ -5,6 +5,7 @@
 #![tactic(auto)]
 
 mod carrying;
+mod coming;
 pub mod crossing;
 mod kept;
 mod opening;

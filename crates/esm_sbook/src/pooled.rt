@@ -1,14 +1,17 @@
-// A stream's book as its batchers share it.
+// A stream's book as its reader and its batchers share it.
+use crate::coming::records_of;
 use crate::stream_book::Book;
 use esm_io::{Dest, Disk};
-use esm_lasting::{batchers_begin, batchers_last};
-use esm_model::{BookError, Job, Next, Reply};
+use esm_lasting::{batchers_begin, batchers_last, finished_excludes, items_last};
+use esm_model::{BookError, CameError, Job, Next, Reply};
 use esm_pooled::Pooled;
+use esm_record::Item;
 use std::alloc::Global;
 
 impl<D: Disk, T: Dest> Pooled for Book<D, T> {
     ghost use Rattle.esm_lasting.specs.Batchers.{calls_told, Rests, RunsJob};
-    ghost use Rattle.esm_sbook.specs.Ended.{HasNothingToDo};
+    ghost use Rattle.esm_lasting.specs.Finishing.{HasFinished, HasLeft, AreSpent};
+    ghost use Rattle.esm_lasting.specs.Items.{kind_told, items_told, DiffersTold};
 
     ghost calls = { calls_told };
 
@@ -16,7 +19,33 @@ impl<D: Disk, T: Dest> Pooled for Book<D, T> {
 
     ghost runs = { RunsJob };
 
-    ghost ended = { HasNothingToDo };
+    ghost finished = { HasFinished };
+
+    ghost left = { HasLeft };
+
+    ghost spent = { AreSpent };
+
+    ghost kind = { kind_told };
+
+    ghost items = { items_told };
+
+    ghost differs = { DiffersTold };
+
+    fn bring(&mut self, alloc: Global, list: Vec<Item>, moment: u64) -> Result<(), CameError> {
+        let _before = self.trouble();
+        let Ok(records) = records_of(alloc, list) else {
+            return Err(CameError::OutOfMemory);
+        };
+        let answer = self.came(alloc, records, moment);
+        let _after = self.trouble();
+        answer
+    }
+
+    fn end_input(&mut self, moment: u64) {
+        let _before = self.trouble();
+        let _ended = self.shut(moment);
+        let _after = self.trouble();
+    }
 
     fn ask(&mut self, alloc: Global, batcher: u32, moment: u64) -> Result<Next, BookError> {
         let _before = self.trouble();
@@ -39,8 +68,9 @@ impl<D: Disk, T: Dest> Pooled for Book<D, T> {
         answer
     }
 
-    fn is_shut(&self) -> bool {
-        Book::is_shut(self)
+    fn is_over(&self, batchers: u32) -> Option<bool> {
+        let _trouble = self.trouble();
+        Book::is_over(self, batchers)
     }
 
     fn begins() {
@@ -49,5 +79,10 @@ impl<D: Disk, T: Dest> Pooled for Book<D, T> {
 
     fn stays() {
         batchers_last();
+        items_last();
+    }
+
+    fn excludes() {
+        finished_excludes();
     }
 }

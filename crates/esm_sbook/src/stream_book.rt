@@ -1,5 +1,5 @@
 // The book of a stream's mapping, over its journal and its failure destination.
-ghost use Rattle.std.specs.Prelude.{◌≡◌, ◌↔◌, ℕ, List, [], ◌++◌, None, Some, true, false, is_ok, reverse, IfOk, IfErr, OnOk, OnErr, IsErrOf, IsSome};
+ghost use Rattle.std.specs.Prelude.{◌≡◌, ◌↔◌, ◌<◌, ℕ, List, [], ◌++◌, None, Some, true, false, is_ok, reverse, IfOk, IfErr, OnOk, OnErr, IsErrOf, IsSome};
 ghost use Rattle.std.specs.Option.{option_copied};
 ghost use Rattle.esm_io.specs.Faults.{Rose};
 ghost use Rattle.esm_io.specs.Images.{Only};
@@ -17,6 +17,7 @@ ghost use Rattle.esm_model.specs.Kept.{IsLegal};
 ghost use Rattle.esm_model.specs.Pattern.{read_patterns};
 ghost use Rattle.esm_model.specs.Valid.{IsStreamConfig, is_stream};
 ghost use Rattle.esm_writable.specs.Bounds.{AreWithinBounds};
+ghost use Rattle.esm_lasting.specs.Finishing.{IsQuiet, IsWanting};
 ghost use Rattle.esm_owing.specs.OwingView.{full_setting, setting_with};
 ghost use Rattle.esm_core.specs.Calls.{moment_for, coming_lists, came_entries, Differs, IsResting, IsNextOver, IsRunningJob, ended_entries, given_by_end};
 ghost use Rattle.esm_core.specs.Told.{opened, told_of, MayCome};
@@ -258,6 +259,17 @@ impl<D: Disk, T: Dest> Book<D, T> {
         ensures { result ≡ is_shut self.now.core.past }
     {
         self.durable.core().is_shut()
+    }
+
+    /// Whether nothing is left for the batchers below the number, where the book is not down: no record of their lanes is
+    /// open, and no window of their shards is outstanding. `None` where nothing is decided any more. Takes no memory.
+    pub fn is_over(&self, batchers: u32) -> Option<bool>
+        requires up { self.now.trouble ≡ None }
+        ensures over { result ≡ Some true → (k : ℕ) → k < batchers → IsQuiet self.now.core.setting self.now.core.past k }
+        ensures left { result ≡ Some false → (k : ℕ) × (k < batchers) × IsWanting self.now.core.setting self.now.core.past k }
+    {
+        keeps(&self.durable);
+        self.durable.core().is_over(batchers)
     }
 
     /// How many of the shard's first records all have a fate. `None` exactly where the shard has not come. Takes no

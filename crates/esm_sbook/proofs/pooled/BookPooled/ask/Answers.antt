@@ -1,6 +1,6 @@
 use Rattle.esm_io.specs.Meanings.{disk, destination}
 use Rattle.esm_sbook.proofs.PoolingSteps.{rests_still}
-use Rattle.esm_sbook.proofs.PoolingAsked.{may_ask, ask_goes_on, ask_moments, ask_no_end, ask_answer, ask_ended, ask_rests}
+use Rattle.esm_sbook.proofs.PoolingAsked.{may_ask, ask_goes_on, ask_moments, ask_no_end, ask_answer, ask_finished, ask_spent, ask_rests}
 use Rattle.esm_sbook.proofs.pooled.BookPooled.ask.Goals as goal
 
 pub next-answer-requires : goal.next-answer-requires
@@ -40,10 +40,18 @@ returns-clause-answer g c =
     (record { answer = e.answer; added = e.added; stopped = e.stopped; undelivered = e.undelivered; runs = e.runs; down = e.down; left = e.left; no_memory = e.no_memory })
     c.trouble-before.ensures.sound c.trouble-after.ensures.sound c.requires.rests
 
-pub returns-clause-ended : goal.returns-clause-ended
-returns-clause-ended g c =
+pub returns-clause-finished : goal.returns-clause-finished
+returns-clause-finished g c =
     let e = c.next-answer.ensures in
-    ask_ended g.row.D.coded g.row.T.coded g.T.Dest.lines (disk g.D.Disk.honest g.D.Disk.content g.D.Disk.image g.D.Disk.moment g.D.Disk.image_since g.D.Disk.faults) (destination g.T.Dest.honest g.T.Dest.faults g.T.Dest.lines g.T.Dest.sends g.T.Dest.failed)
+    ask_finished g.row.D.coded g.row.T.coded g.T.Dest.lines (disk g.D.Disk.honest g.D.Disk.content g.D.Disk.image g.D.Disk.moment g.D.Disk.image_since g.D.Disk.faults) (destination g.T.Dest.honest g.T.Dest.faults g.T.Dest.lines g.T.Dest.sends g.T.Dest.failed)
+    c.args.batcher c.args.moment c.args.self.now c.next-answer.new.self c.next-answer.result
+    (record { answer = e.answer; added = e.added; stopped = e.stopped; undelivered = e.undelivered; runs = e.runs; down = e.down; left = e.left; no_memory = e.no_memory })
+    c.trouble-before.ensures.sound c.trouble-after.ensures.sound c.requires.rests
+
+pub returns-clause-spent : goal.returns-clause-spent
+returns-clause-spent g c =
+    let e = c.next-answer.ensures in
+    ask_spent g.row.D.coded g.row.T.coded g.T.Dest.lines (disk g.D.Disk.honest g.D.Disk.content g.D.Disk.image g.D.Disk.moment g.D.Disk.image_since g.D.Disk.faults) (destination g.T.Dest.honest g.T.Dest.faults g.T.Dest.lines g.T.Dest.sends g.T.Dest.failed)
     c.args.batcher c.args.moment c.args.self.now c.next-answer.new.self c.next-answer.result
     (record { answer = e.answer; added = e.added; stopped = e.stopped; undelivered = e.undelivered; runs = e.runs; down = e.down; left = e.left; no_memory = e.no_memory })
     c.trouble-before.ensures.sound c.trouble-after.ensures.sound c.requires.rests
