@@ -1,426 +1,150 @@
--- A list of records that comes to a book.
-use Rattle.std.proofs.Common.{◌≡◌, ℕ, ◌+◌, Bool, true, false, List, [], ◌∷◌, ◌++◌, length, refl, sym, ap, ◌∙◌, subst, inl, inr, append_assoc, Option, Some, None}
-use Rattle.std.specs.Prelude.{◌==◌, ◌||◌, map, max, reverse, take, drop, slice_get, ⊤, is_some, option_map, if◌then◌else◌}
-use Rattle.std.specs.Option.{option_or}
-use Rattle.std.proofs.lemmas.Bool.{cases_Bool, eq-eqb, eqb-true}
-use Rattle.std.proofs.lemmas.List.{append-nil, length-append, reverse-reverse}
+-- Items that come to a book at the reader's seat.
+use Rattle.std.proofs.Common.{◌≡◌, ℕ, ◌⊎◌, Bool, true, List, [], ◌++◌, refl, sym, ap, ◌∙◌, subst, append-nil, append_assoc, Some, None, Result, Ok, Err, OnOk, IfErr, inl, inr}
+use Rattle.std.specs.Prelude.{◌≤◌, IsErrOf, IsErrAnd, take, drop, length}
+use Rattle.std.proofs.Common.{arith}
+use Rattle.std.proofs.lemmas.List.{length-append, take-append-drop}
+use Rattle.esm_model.specs.declared.limits.TheConstants.{MAX_RECORDS}
 use Rattle.std.proofs.lemmas.List.Elements.{filter-append}
-use Rattle.std.proofs.Math.Seq.{drop-append_seam, take-length}
-use Rattle.esm_io.specs.Meanings.{DiskMeaning, DestMeaning}
-use Rattle.esm_model.specs.declared.item.Record.{Record}
+use Rattle.esm_model.specs.declared.book.CameError.{CameError}
+use Rattle.esm_model.specs.declared.book.CameError.TheVariants as refusal
 use Rattle.esm_model.specs.declared.book.Change.{Change}
-use Rattle.esm_model.specs.declared.book.Trouble.{Trouble}
-use Rattle.esm_model.specs.declared.book.Trouble.TheVariants.{Changed}
-use Rattle.esm_model.specs.declared.entry.Entry.{Entry}
-use Rattle.esm_model.specs.declared.entry.Entry.TheVariants.{Came, Began, Ended, Gave, Tried, Closed, Replayed, Shut}
+use Rattle.esm_model.specs.declared.setup.Setup.{Setup}
 use Rattle.esm_model.specs.declared.setup.Told.{Told}
-use Rattle.esm_model.specs.Moment.{capped_moment}
-use Rattle.esm_model.specs.Setting.{Setting, Stream, records_in, records_of, over}
-use Rattle.esm_model.specs.Entries.{moment_of, last_moment, holds, came_count, is_shut, is_shut_entry}
-use Rattle.esm_model.specs.Books.{entries_told, records_told, lane_of_entry}
-use Rattle.esm_model.proofs.Lists.{Distinct, apart}
-use Rattle.esm_model.proofs.TellingFacts.{entries_more, records_in_told, records-append}
-use Rattle.esm_model.proofs.BookLaws.{count_told}
-use Rattle.esm_ledger.specs.Coming.{with_list}
-use Rattle.esm_arrival.specs.Coming.{with_record, with_records, shards_of, of_shard}
-use Rattle.esm_arrival.specs.Parts.{Part, part_in, parts_of, grown_by}
-use Rattle.esm_arrival.specs.Entries.{came_part, came_parts, filtered_at, filtered_parts, part_entries}
-use Rattle.esm_arrival.specs.Changes.{first_change_from, change_at, change_of, place_after, kept_otherwise}
-use Rattle.esm_arrival.proofs.Shards.{of_none, shards_distinct}
-use Rattle.esm_arrival.proofs.Streams.{grown_parts}
-use Rattle.esm_owing.specs.Arrival.{streams_of}
-use Rattle.esm_owing.specs.OwingView.{OwingView, full_setting, with_coming, setting_with}
-use Rattle.esm_core.specs.Calls.{moment_for, coming_lists, came_entries, Differs}
-use Rattle.esm_core.specs.Told.{covered, stream_entry, told_entries, told_of}
-use Rattle.esm_sbook.specs.Books.{BookState, is_down}
-use Rattle.esm_sbook.specs.Calls.{Added, AddedAll, AddedSome, AddedOne, IsSame}
-use Rattle.esm_sbook.specs.Keeping.{IsSound}
-use Rattle.esm_pooled.specs.GoingOn.{AllAt}
-use Rattle.esm_pool.specs.declared.rounds.Stop.TheVariants.{Down}
-use Rattle.esm_pool.specs.Taking.{AreReaders, IsBrought, come_by, AreAdded, SomeAdded, IsOfNext, IsStopFor}
-use Rattle.esm_pool.proofs.Moments.{again}
-use Rattle.esm_pool.proofs.Quiet.{one_more}
-use Rattle.esm_pool.proofs.Kept.{AreOthers, told_are, records_none}
+use Rattle.esm_model.specs.Kept.{added}
+use Rattle.esm_record.specs.declared.item.Item.{Item}
+use Rattle.esm_pooled.specs.Coming.{is_of, items_of, Come, SomeCome, FitBehind}
+use Rattle.esm_pool.specs.declared.coming.Stop.{Stop}
+use Rattle.esm_pool.specs.declared.coming.Stop.TheVariants.{Down, OutOfMemory}
+use Rattle.esm_pool.specs.Readings.{IsStopFor, stop_of}
 
--- records came, or were filtered
-abbrev IsArrival : Entry → Type 0
-IsArrival (Came shard first count moment) = ⊤
-IsArrival (Gave None shard places fate line state moment) = ⊤
-IsArrival _ = ⊥
+pub same_found : (items : List Told → ℕ → List Item) (h seen others : List Told) → h ≡ seen ++ others → ((n : ℕ) → items (seen ++ others) n ≡ items seen n) → (n : ℕ) → items h n ≡ items seen n
+same_found items h seen others is same n = ap (λ l. items l n) is ∙ same n
 
--- the entries of one moment
+pub ok_stop : (r : Result (Unit {0}) CameError) (q : Result (Unit {0}) Stop) (P Q : Type 0) → (P → Q) → q ≡ stop_of r → OnOk r P → OnOk q Q
+ok_stop (Ok u) q P Q step is holds = subst (λ z. OnOk z Q) (sym is) (step holds)
+ok_stop (Err (refusal.StreamChanged change)) q P Q step is holds = subst (λ z. OnOk z Q) (sym is) tt
+ok_stop (Err refusal.DiskFault) q P Q step is holds = subst (λ z. OnOk z Q) (sym is) tt
+ok_stop (Err refusal.Down) q P Q step is holds = subst (λ z. OnOk z Q) (sym is) tt
+ok_stop (Err refusal.OutOfMemory) q P Q step is holds = subst (λ z. OnOk z Q) (sym is) tt
 
-abbrev AreAt : ℕ → List Entry → Type 0
-AreAt m [] = ⊤
-AreAt m (e ∷ es) = ((m ≡ moment_of e) × IsArrival e) × AreAt m es
+module _ (items : List Told → ℕ → List Item) (differs : Setup → List Told → List Item → Change → Type 0) (setup setup' : Setup) (x y seen now : List Told) (list : List Item) (marked mark : Bool) where
+  stop_as : (r : Result (Unit {0}) CameError) → setup ≡ setup' → y ≡ x ++ added x y → ((n : ℕ) → items x n ≡ items seen n) → now ≡ y → mark ≡ marked
+      → IfErr r (λ e. (e ≡ refusal.OutOfMemory) ⊎ (marked ≡ true)) → ((change : Change) → IsErrOf r (refusal.StreamChanged change) → differs setup x list change)
+      → IfErr (stop_of r) (IsStopFor items differs setup' seen list now mark)
+  stop_as (Ok u) same_setup goes same is is_mark down changed = tt
+  stop_as (Err (refusal.StreamChanged change)) same_setup goes same is is_mark down changed = (
+    elim down [ inl none ↦ absurd (cc) | inr down_now ↦ is_mark ∙ down_now ],
+    record {
+      before = x;
+      later = added x y;
+      history = is ∙ goes;
+      front = [];
+      next = list;
+      rest = [];
+      parts = sym (append-nil list);
+      came = λ n. same n ∙ sym (append-nil (items seen n));
+      differs_so = subst (λ u. differs u x list change) same_setup (changed change refl);
+    },
+  )
+  stop_as (Err refusal.DiskFault) same_setup goes same is is_mark down changed = elim down [ inl none ↦ absurd (cc) | inr down_now ↦ is_mark ∙ down_now ]
+  stop_as (Err refusal.Down) same_setup goes same is is_mark down changed = elim down [ inl none ↦ absurd (cc) | inr down_now ↦ is_mark ∙ down_now ]
+  stop_as (Err refusal.OutOfMemory) same_setup goes same is is_mark down changed = tt
 
-at_both : (m : ℕ) (xs ys : List Entry) → AreAt m xs → AreAt m ys → AreAt m (xs ++ ys)
-at_both m [] ys first second = second
-at_both m (e ∷ xs) ys first second = (first.0, at_both m xs ys first.1 second)
+  pub err_stop : (r : Result (Unit {0}) CameError) (q : Result (Unit {0}) Stop) → q ≡ stop_of r → setup ≡ setup' → y ≡ x ++ added x y → ((n : ℕ) → items x n ≡ items seen n) → now ≡ y → mark ≡ marked
+      → IfErr r (λ e. (e ≡ refusal.OutOfMemory) ⊎ (marked ≡ true)) → ((change : Change) → IsErrOf r (refusal.StreamChanged change) → differs setup x list change)
+      → IfErr q (IsStopFor items differs setup' seen list now mark)
+  err_stop r q is_stop same_setup goes same is is_mark down changed =
+      subst (λ z. IfErr z (IsStopFor items differs setup' seen list now mark)) (sym is_stop) (stop_as r same_setup goes same is is_mark down changed)
 
-at_front : (m : ℕ) (xs ys : List Entry) → AreAt m (xs ++ ys) → AreAt m xs
-at_front m [] ys all = tt
-at_front m (e ∷ xs) ys all = (all.0, at_front m xs ys all.1)
+-- handing items on, list by list
 
-at_came : (m : ℕ) (ps : List Part) → AreAt m (came_parts m ps)
-at_came m [] = tt
-at_came m (p ∷ ps) = ((refl, tt), at_came m ps)
+-- of all items the front has come
+pub record IsHanding (before now : ℕ → List Item) (all rest : List Item) : Type 0 where
+  pub front : List Item
+  pub parts : all ≡ front ++ rest
+  pub came : Come before now front
 
-at_filtered_one : (m n : ℕ) (places : List ℕ) → AreAt m (filtered_at m n places)
-at_filtered_one m n [] = tt
-at_filtered_one m n (i ∷ places) = ((refl, tt), tt)
+pub items_both : (n : ℕ) (xs ys : List Item) → items_of n (xs ++ ys) ≡ items_of n xs ++ items_of n ys
+items_both n xs ys = filter-append (is_of n) xs ys
 
-at_filtered : (m : ℕ) (ps : List Part) → AreAt m (filtered_parts m ps)
-at_filtered m [] = tt
-at_filtered m (p ∷ ps) = at_both m (filtered_at m p.shard p.refused) (filtered_parts m ps) (at_filtered_one m p.shard p.refused) (at_filtered m ps)
+pub handing_none : (before : ℕ → List Item) (all : List Item) → IsHanding before before all all
+handing_none before all = record { front = []; parts = refl; came = λ n. sym (append-nil (before n)) }
 
-at_parts : (m : ℕ) (ps : List Part) → AreAt m (part_entries m ps)
-at_parts m ps = at_both m (came_parts m ps) (filtered_parts m ps) (at_came m ps) (at_filtered m ps)
+module _ (before now : ℕ → List Item) (all rest : List Item) (handing : IsHanding before now all rest) where
+  pub behind : (n : ℕ) → now n ++ items_of n rest ≡ before n ++ items_of n all
+  behind n =
+      ap (λ l. l ++ items_of n rest) (handing.came n) ∙ (append_assoc (before n) (items_of n handing.front) (items_of n rest)
+      ∙ ap (λ l. before n ++ l) (sym (items_both n handing.front rest) ∙ ap (items_of n) (sym handing.parts)))
 
--- they are the reader's
+  module _ (now' : ℕ → List Item) (list rest' : List Item) (parts : rest ≡ list ++ rest') where
+    pub handing_on : Come now now' list → IsHanding before now' all rest'
+    handing_on came = record {
+      front = handing.front ++ list;
+      parts = handing.parts ∙ (ap (λ l. handing.front ++ l) parts ∙ sym (append_assoc handing.front list rest'));
+      came = λ n. came n ∙ (ap (λ l. l ++ items_of n list) (handing.came n) ∙ (append_assoc (before n) (items_of n handing.front) (items_of n list) ∙ ap (λ l. before n ++ l) (sym (items_both n handing.front list))));
+    }
 
-arrival_lane : (e : Entry) → IsArrival e → lane_of_entry e ≡ None
-arrival_lane (Came n first count m) is = refl
-arrival_lane (Gave None n places f line state m) is = refl
-arrival_lane (Gave (Some lane) n places f line state m) is = absurd is
-arrival_lane (Began lane places closing m) is = absurd is
-arrival_lane (Ended lane reply m) is = absurd is
-arrival_lane (Tried lane places closing t m) is = absurd is
-arrival_lane (Closed lane w m) is = absurd is
-arrival_lane (Replayed n places m) is = absurd is
-arrival_lane (Shut m) is = absurd is
-
-arrival_open : (e : Entry) → IsArrival e → is_shut_entry e ≡ false
-arrival_open (Came n first count m) is = refl
-arrival_open (Gave by n places f line state m) is = refl
-arrival_open (Began lane places closing m) is = absurd is
-arrival_open (Ended lane reply m) is = absurd is
-arrival_open (Tried lane places closing t m) is = absurd is
-arrival_open (Closed lane w m) is = absurd is
-arrival_open (Replayed n places m) is = absurd is
-arrival_open (Shut m) is = absurd is
-
-readers_at : (m : ℕ) (s : Setting) (es : List Entry) → AreAt m es → AreReaders (told_entries s es)
-readers_at m s [] all = tt
-readers_at m s (e ∷ es) all = (arrival_lane e all.0.1, readers_at m s es all.1)
-
-open_at : (m : ℕ) (es h : List Entry) → AreAt m es → is_shut h ≡ false → is_shut (reverse es ++ h) ≡ false
-open_at m [] h all going = going
-open_at m (e ∷ es) h all going =
-    let here : is_shut (e ∷ h) ≡ false = ap (λ b. b || is_shut h) (arrival_open e all.0.1) ∙ going in
-    ap is_shut (sym (one_more e es h)) ∙ open_at m es (e ∷ h) all.1 here
-
--- at the moment that was handed in
-moments_at : (moment m : ℕ) (s : Setting) (h : List Told) (es : List Entry) → m ≡ capped_moment (max moment (last_moment (entries_told h))) → AreAt m es → AllAt moment h (told_entries s es)
-moments_at moment m s h [] is all = tt
-moments_at moment m s h (e ∷ es) is all =
-    let t : Told = (stream_entry s e).told in
-    let last : last_moment (entries_told (h ++ t ∷ [])) ≡ m = ap last_moment (entries_more h t) ∙ sym all.0.0 in (
-      sym all.0.0 ∙ is,
-      moments_at moment m s (h ++ t ∷ []) es (again m (last_moment (entries_told h)) moment is ∙ ap (λ l. capped_moment (max moment l)) (sym last)) all.1,
+    pub handing_some : SomeCome now now' list → SomeCome before now' all
+    handing_some some n = (
+      (some n).0 ++ items_of n rest',
+      sym (behind n) ∙ (ap (λ l. now n ++ l) (ap (items_of n) parts ∙ items_both n list rest') ∙ (sym (append_assoc (now n) (items_of n list) (items_of n rest'))
+          ∙ (ap (λ l. l ++ items_of n rest') (some n).1 ∙ append_assoc (now' n) (some n).0 (items_of n rest')))),
     )
 
--- what is added
+pub handing_all : (before now : ℕ → List Item) (all : List Item) → IsHanding before now all [] → Come before now all
+handing_all before now all handing n = sym (append-nil (now n)) ∙ behind before now all [] handing n
 
-entries_are : (s : Setting) (h : List Entry) → entries_told (told_entries s (reverse h)) ≡ h
-entries_are s h = ap reverse (told_are s (reverse h)) ∙ reverse-reverse h
+-- a list is the front of the rest
+pub split_parts : (k : ℕ) (rest list later : List Item) → list ≡ take k rest → later ≡ drop k rest → rest ≡ list ++ later
+split_parts k rest list later front back = sym (take-append-drop k rest) ∙ (ap (λ l. l ++ drop k rest) (sym front) ∙ ap (λ l. list ++ l) (sym back))
 
-pub past_is : {D T : Type 0} (v : BookState D T) → entries_told (told_of v.core) ≡ v.core.past
-past_is v = entries_are (full_setting v.core) v.core.past
+-- the lists within the rest fit too
+pub fits : (before now : ℕ → List Item) (all rest list later : List Item) → IsHanding before now all rest → rest ≡ list ++ later → FitBehind before all → FitBehind now list
+fits before now all rest list later handing parts fit n =
+    let long : length (now n ++ items_of n rest) ≤ MAX_RECORDS = subst (λ l. length l ≤ MAX_RECORDS) (sym (behind before now all rest handing n)) (fit n) in
+    let is : now n ++ items_of n rest ≡ (now n ++ items_of n list) ++ items_of n later
+    = ap (λ l. now n ++ l) (ap (items_of n) parts ∙ items_both n list later) ∙ sym (append_assoc (now n) (items_of n list) (items_of n later)) in
+    let sum = length-append (now n ++ items_of n list) (items_of n later) in
+    let same = ap length is in
+    omega arith
 
-moment_now : {D T : Type 0} (v : BookState D T) (moment : ℕ) → moment_for v.core.past moment ≡ capped_moment (max moment (last_moment (entries_told (told_of v.core))))
-moment_now v moment = ap (λ h. capped_moment (max moment (last_moment h))) (sym (past_is v))
+regrouped : (a b c d e : List Item) → a ++ (((b ++ c) ++ d) ++ e) ≡ ((a ++ b) ++ c) ++ (d ++ e)
+regrouped a b c d e =
+    let one : ((b ++ c) ++ d) ++ e ≡ (b ++ c) ++ (d ++ e) = append_assoc (b ++ c) d e in
+    let two : a ++ ((b ++ c) ++ (d ++ e)) ≡ (a ++ (b ++ c)) ++ (d ++ e) = sym (append_assoc a (b ++ c) (d ++ e)) in
+    let three : a ++ (b ++ c) ≡ (a ++ b) ++ c = sym (append_assoc a b c) in
+    ap (λ l. a ++ l) one ∙ (two ∙ ap (λ l. l ++ (d ++ e)) three)
 
-brought_front : {D T : Type 0} (s : Setting) (list : List Record) (moment : ℕ) (v w : BookState D T) (front rest : List Entry)
-    → front ++ rest ≡ came_entries v.core list (moment_for v.core.past moment) → Added s v w front → (is_down v ≡ true → is_down w ≡ true) → IsBrought moment v w
-brought_front s list moment v w front rest split added down =
-    let m : ℕ = moment_for v.core.past moment in
-    let all : AreAt m front = at_front m front rest (subst (AreAt m) (sym split) (at_parts m (parts_of v.core.setting v.core.past list))) in
+module _ (items : List Told → ℕ → List Item) (differs : Setup → List Told → List Item → Change → Type 0) (setup : Setup) (seen mid now : List Told) (all rest list later : List Item) (mark : Bool)
+    (handing : IsHanding (items seen) (items mid) all rest) (parts : rest ≡ list ++ later) where
+  pub handing_stop : (t : Stop) → IsStopFor items differs setup mid list now mark t → IsStopFor items differs setup seen all now mark t
+  handing_stop (Down None) stop = stop
+  handing_stop (Down (Some change)) stop = (
+    stop.0,
     record {
-      more = told_entries s front;
-      told = added.told;
-      own = readers_at m s front all;
-      moments = moments_at moment m s (told_of v.core) front (moment_now v moment) all;
-      setting = added.opened;
-      found = added.found;
-      found_dest = added.found_dest;
-      down = down;
-    }
+      before = stop.1.before;
+      later = stop.1.later;
+      history = stop.1.history;
+      front = handing.front ++ stop.1.front;
+      next = stop.1.next;
+      rest = stop.1.rest ++ later;
+      parts = handing.parts ∙ (ap (λ l. handing.front ++ l) (parts ∙ ap (λ l. l ++ later) stop.1.parts) ∙ regrouped handing.front stop.1.front stop.1.next stop.1.rest later);
+      came = λ n. stop.1.came n ∙ (ap (λ l. l ++ items_of n stop.1.front) (handing.came n)
+          ∙ (append_assoc (items seen n) (items_of n handing.front) (items_of n stop.1.front) ∙ ap (λ l. items seen n ++ l) (sym (items_both n handing.front stop.1.front))));
+      differs_so = stop.1.differs_so;
+    },
+  )
+  handing_stop OutOfMemory stop = tt
 
-pub brought_all : {D T : Type 0} (d : DiskMeaning D) (n : DestMeaning T) (list : List Record) (moment : ℕ) (v w : BookState D T)
-    → AddedAll d n (setting_with v.core.setting (coming_lists v.core list)) v w (came_entries v.core list (moment_for v.core.past moment)) → (is_down v ≡ true → is_down w ≡ true) → IsBrought moment v w
-brought_all d n list moment v w all down = brought_front (setting_with v.core.setting (coming_lists v.core list)) list moment v w (came_entries v.core list (moment_for v.core.past moment)) [] (append-nil _) all.added down
+  pub handing_stop_if : (r : Result (Unit {0}) Stop) → IfErr r (IsStopFor items differs setup mid list now mark) → IfErr r (IsStopFor items differs setup seen all now mark)
+  handing_stop_if (Ok u) stop = tt
+  handing_stop_if (Err t) stop = handing_stop t stop
 
-pub brought_some : {D T : Type 0} (d : DiskMeaning D) (n : DestMeaning T) (list : List Record) (moment : ℕ) (trouble : Trouble) (v w : BookState D T)
-    → AddedSome d n (setting_with v.core.setting (coming_lists v.core list)) v w (came_entries v.core list (moment_for v.core.past moment)) trouble → IsBrought moment v w
-brought_some d n list moment trouble v w some = brought_front (setting_with v.core.setting (coming_lists v.core list)) list moment v w some.front some.rest some.split some.added (λ is. ap is_some some.trouble_is)
+-- an error that was passed on
+pub err_as : {E : Type 0} (r : Result (Unit {0}) E) (x : E) (P : E → Type 0) → IsErrAnd r (λ e. e ≡ x) → P x → IfErr r P
+err_as (Ok u) x P is holds = tt
+err_as (Err e) x P is holds = subst P (sym is) holds
 
-pub brought_still : {D T : Type 0} (moment : ℕ) (v w : BookState D T) → w.core ≡ v.core → w.found ≡ v.found → w.found_dest ≡ v.found_dest → (is_down v ≡ true → is_down w ≡ true) → IsBrought moment v w
-brought_still moment v w core found found_dest down = record {
-  more = [];
-  told = ap told_of core ∙ sym (append-nil (told_of v.core));
-  own = tt;
-  moments = tt;
-  setting = ap (λ (x : OwingView). x.setting) core ∙ ap (λ (x : OwingView). over v.core.setting x.setting.streams) (sym core);
-  found = found;
-  found_dest = found_dest;
-  down = down;
-}
-
-pub brought_changed : {D T : Type 0} (moment : ℕ) (v w : BookState D T) (change : Change) → w ≡ record v { trouble = Some (Changed change) } → IsBrought moment v w
-brought_changed {D} {T} moment v w change is = brought_still moment v w (ap (λ (b : BookState D T). b.core) is) (ap (λ (b : BookState D T). b.found) is) (ap (λ (b : BookState D T). b.found_dest) is)
-    (λ down. ap (λ (b : BookState D T). is_down b) is)
-
-pub brought_same : {D T : Type 0} (n : DestMeaning T) (moment : ℕ) (v w : BookState D T) → IsSame n v w → IsBrought moment v w
-brought_same {D} {T} n moment v w same = brought_still moment v w (ap (λ (b : BookState D T). b.core) same.rest) (ap (λ (b : BookState D T). b.found) same.rest) (ap (λ (b : BookState D T). b.found_dest) same.rest)
-    (λ down. ap (λ (b : BookState D T). is_down b) same.rest ∙ down)
-
-pub brought_nothing : {D T : Type 0} (moment : ℕ) (v w : BookState D T) → w ≡ v → IsBrought moment v w
-brought_nothing {D} {T} moment v w is = brought_still moment v w (ap (λ (b : BookState D T). b.core) is) (ap (λ (b : BookState D T). b.found) is) (ap (λ (b : BookState D T). b.found_dest) is)
-    (λ down. ap (λ (b : BookState D T). is_down b) is ∙ down)
-
--- the input has not ended by it
-
-pub open_all : {D T : Type 0} (d : DiskMeaning D) (n : DestMeaning T) (list : List Record) (moment : ℕ) (v w : BookState D T)
-    → AddedAll d n (setting_with v.core.setting (coming_lists v.core list)) v w (came_entries v.core list (moment_for v.core.past moment)) → is_shut v.core.past ≡ false → is_shut w.core.past ≡ false
-open_all d n list moment v w all going =
-    let m : ℕ = moment_for v.core.past moment in
-    ap is_shut all.added.past ∙ open_at m (came_entries v.core list m) v.core.past (at_parts m (parts_of v.core.setting v.core.past list)) going
-
-pub open_some : {D T : Type 0} (d : DiskMeaning D) (n : DestMeaning T) (list : List Record) (moment : ℕ) (trouble : Trouble) (v w : BookState D T)
-    → AddedSome d n (setting_with v.core.setting (coming_lists v.core list)) v w (came_entries v.core list (moment_for v.core.past moment)) trouble → is_shut v.core.past ≡ false → is_shut w.core.past ≡ false
-open_some d n list moment trouble v w some going =
-    let m : ℕ = moment_for v.core.past moment in
-    ap is_shut some.added.past ∙ open_at m some.front v.core.past (at_front m some.front some.rest (subst (AreAt m) (sym some.split) (at_parts m (parts_of v.core.setting v.core.past list)))) going
-
-pub open_still : {D T : Type 0} (v w : BookState D T) → w.core ≡ v.core → is_shut v.core.past ≡ false → is_shut w.core.past ≡ false
-open_still v w core going = ap (λ (x : OwingView). is_shut x.past) core ∙ going
-
--- the records of each shard
-
-grown_by_lists : (ps : List Part) (ts : List Stream) → with_coming ts (streams_of ps) ≡ grown_by ts ps
-grown_by_lists [] ts = refl
-grown_by_lists (p ∷ ps) ts = grown_by_lists ps (with_list ts p.shard p.records)
-
-in_record : (ts : List Stream) (r : Record) (n : ℕ) → records_in (with_record ts r) n ≡ records_in ts n ++ (if r.shard == n then r ∷ [] else [])
-in_record [] r n = elim (cases_Bool (r.shard == n)) [ inl is ↦ rw is refl | inr other ↦ rw other refl ]
-in_record (t ∷ ts) r n = elim (cases_Bool (t.shard == r.shard)) [
-  | inl same ↦ rw same (elim (cases_Bool (t.shard == n)) [
-    | inl here ↦ (let also : (r.shard == n) ≡ true = eq-eqb r.shard n (sym (eqb-true t.shard r.shard same) ∙ eqb-true t.shard n here) in rw here (rw also refl))
-    | inr off ↦ (let also : (r.shard == n) ≡ false = elim (cases_Bool (r.shard == n)) [ inl is ↦ absurd (let clash : true ≡ false = sym (eq-eqb t.shard n (eqb-true t.shard r.shard same ∙ eqb-true r.shard n is)) ∙ off in cc) | inr not ↦ not ] in rw off (rw also (sym (append-nil (records_in ts n)))))
-  ])
-  | inr apart ↦ rw apart (elim (cases_Bool (t.shard == n)) [
-    | inl here ↦ (let also : (r.shard == n) ≡ false = elim (cases_Bool (r.shard == n)) [ inl is ↦ absurd (let clash : true ≡ false = sym (eq-eqb t.shard r.shard (eqb-true t.shard n here ∙ sym (eqb-true r.shard n is))) ∙ apart in cc) | inr not ↦ not ] in rw here (rw also (sym (append-nil t.records))))
-    | inr off ↦ rw off (in_record ts r n)
-  ])
-]
-
-in_records : (ts : List Stream) (rs : List Record) (n : ℕ) → records_in (with_records ts rs) n ≡ records_in ts n ++ of_shard n rs
-in_records ts [] n = sym (append-nil (records_in ts n))
-in_records ts (r ∷ rs) n = in_records (with_record ts r) rs n ∙ ap (λ l. l ++ of_shard n rs) (in_record ts r n) ∙ append_assoc (records_in ts n) (if r.shard == n then r ∷ [] else []) (of_shard n rs)
-    ∙ ap (λ l. records_in ts n ++ l) (of_first (r.shard == n))
-  where
-    of_first : (b : Bool) → (if b then r ∷ [] else []) ++ of_shard n rs ≡ (if b then r ∷ of_shard n rs else of_shard n rs)
-    of_first true = refl
-    of_first false = refl
-
--- with the list
-in_coming : (v : OwingView) (list : List Record) (n : ℕ) → records_of (setting_with v.setting (coming_lists v list)) n ≡ records_in v.setting.streams n ++ of_shard n list
-in_coming v list n =
-    ap (λ (ts : List Stream). records_in ts n) (grown_by_lists (parts_of v.setting v.past list) v.setting.streams ∙ grown_parts v.setting v.past list v.setting.streams)
-    ∙ in_records v.setting.streams list n
-
--- a book's history counts its records
-
-pub counted : {D T : Type 0} (v : BookState D T) → IsSound v → (n : ℕ) → came_count v.core.past n ≡ length (records_in v.core.setting.streams n)
-counted v sound n =
-    ap (λ h. came_count h n) (sym (entries_are (full_setting v.core) v.core.past)) ∙ count_told (told_of v.core) n sound.of_stream
-    ∙ ap (λ (rs : List Record). length rs) (sym (ap (λ (ts : List Stream). records_in ts n) sound.records ∙ records_in_told (told_of v.core) n))
-
--- what the told entries of a list tell of each shard
-
-covered_is : (v : OwingView) (list : List Record) (k m : ℕ) → came_count v.past k ≡ length (records_in v.setting.streams k)
-    → covered (setting_with v.setting (coming_lists v list)) (came_part m (part_in v.setting v.past list k)) ≡ of_shard k list
-covered_is v list k m count =
-    ap (λ l. take (length (of_shard k list)) (drop (came_count v.past k) l)) (in_coming v list k)
-    ∙ ap (λ i. take (length (of_shard k list)) (drop i (records_in v.setting.streams k ++ of_shard k list))) count
-    ∙ ap (λ l. take (length (of_shard k list)) l) (drop-append_seam (records_in v.setting.streams k) (of_shard k list))
-    ∙ take-length (of_shard k list)
-
-came_told : (v : OwingView) (list : List Record) (n m : ℕ) (ns : List ℕ) → ((k : ℕ) → came_count v.past k ≡ length (records_in v.setting.streams k)) → Distinct ns
-    → records_told n (told_entries (setting_with v.setting (coming_lists v list)) (came_parts m (map (part_in v.setting v.past list) ns))) ≡ (if holds ns n then of_shard n list else [])
-came_told v list n m [] count d = refl
-came_told v list n m (k ∷ ns) count d =
-    let s : Setting = setting_with v.setting (coming_lists v list) in
-    let more = came_told v list n m ns count d.1 in
-    elim (cases_Bool (k == n)) [
-      | inl is ↦ (
-          let here : k ≡ n = eqb-true k n is in
-          let none : holds ns n ≡ false = subst (λ i. holds ns i ≡ false) here d.0 in
-          let rest : records_told n (told_entries s (came_parts m (map (part_in v.setting v.past list) ns))) ≡ [] = more ∙ ap (λ b. if b then of_shard n list else []) none in
-          let first : covered s (came_part m (part_in v.setting v.past list k)) ≡ of_shard n list = covered_is v list k m (count k) ∙ ap (λ i. of_shard i list) here in
-          rw is (ap (λ l. covered s (came_part m (part_in v.setting v.past list k)) ++ l) rest ∙ append-nil _ ∙ first))
-      | inr off ↦ rw off more
-    ]
-
-others_both : (xs ys : List Entry) → AreOthers xs → AreOthers ys → AreOthers (xs ++ ys)
-others_both [] ys first second = second
-others_both (e ∷ xs) ys first second = (first.0, others_both xs ys first.1 second)
-
-others_filtered_one : (m n : ℕ) (places : List ℕ) → AreOthers (filtered_at m n places)
-others_filtered_one m n [] = tt
-others_filtered_one m n (i ∷ places) = (tt, tt)
-
-others_filtered : (m : ℕ) (ps : List Part) → AreOthers (filtered_parts m ps)
-others_filtered m [] = tt
-others_filtered m (p ∷ ps) = others_both (filtered_at m p.shard p.refused) (filtered_parts m ps) (others_filtered_one m p.shard p.refused) (others_filtered m ps)
-
-told_both : (s : Setting) (xs ys : List Entry) → told_entries s (xs ++ ys) ≡ told_entries s xs ++ told_entries s ys
-told_both s [] ys = refl
-told_both s (e ∷ xs) ys = ap (λ l. (stream_entry s e).told ∷ l) (told_both s xs ys)
-
-list_told : (v : OwingView) (list : List Record) (n m : ℕ) → ((k : ℕ) → came_count v.past k ≡ length (records_in v.setting.streams k))
-    → records_told n (told_entries (setting_with v.setting (coming_lists v list)) (came_entries v list m)) ≡ of_shard n list
-list_told v list n m count =
-    let s : Setting = setting_with v.setting (coming_lists v list) in
-    let ps : List Part = parts_of v.setting v.past list in
-    ap (records_told n) (told_both s (came_parts m ps) (filtered_parts m ps))
-    ∙ records-append n (told_entries s (came_parts m ps)) (told_entries s (filtered_parts m ps))
-    ∙ ap (λ l. records_told n (told_entries s (came_parts m ps)) ++ l) (records_none n s (filtered_parts m ps) (others_filtered m ps))
-    ∙ append-nil _ ∙ came_told v list n m (shards_of list) count (shards_distinct list) ∙ at_shard (holds (shards_of list) n) refl
-  where
-    at_shard : (b : Bool) → holds (shards_of list) n ≡ b → (if b then of_shard n list else []) ≡ of_shard n list
-    at_shard true is = refl
-    at_shard false is = sym (of_none list n is)
-
-pub told_more : {D T : Type 0} (s : Setting) (v w : BookState D T) (es : List Entry) (n : ℕ) → Added s v w es → come_by (told_of w.core) n ≡ come_by (told_of v.core) n ++ records_told n (told_entries s es)
-told_more s v w es n added = ap (records_told n) added.told ∙ records-append n (told_of v.core) (told_entries s es)
-
-pub added_all : {D T : Type 0} (d : DiskMeaning D) (e : DestMeaning T) (list : List Record) (t : ℕ) (v w : BookState D T) → IsSound v
-    → AddedAll d e (setting_with v.core.setting (coming_lists v.core list)) v w (came_entries v.core list (moment_for v.core.past t)) → AreAdded (come_by (told_of v.core)) (come_by (told_of w.core)) list
-added_all d e list t v w sound all n =
-    told_more (setting_with v.core.setting (coming_lists v.core list)) v w (came_entries v.core list (moment_for v.core.past t)) n all.added
-    ∙ ap (λ l. come_by (told_of v.core) n ++ l) (list_told v.core list n (moment_for v.core.past t) (counted v sound))
-
--- a disk failed before all of it was added
-pub added_some : {D T : Type 0} (d : DiskMeaning D) (e : DestMeaning T) (list : List Record) (t : ℕ) (trouble : Trouble) (v w : BookState D T) → IsSound v
-    → AddedSome d e (setting_with v.core.setting (coming_lists v.core list)) v w (came_entries v.core list (moment_for v.core.past t)) trouble → SomeAdded (come_by (told_of v.core)) (come_by (told_of w.core)) list
-added_some d e list t trouble v w sound some n =
-    let s : Setting = setting_with v.core.setting (coming_lists v.core list) in
-    let m : ℕ = moment_for v.core.past t in
-    let old = come_by (told_of v.core) n in
-    let front = records_told n (told_entries s some.front) in
-    let rest = records_told n (told_entries s some.rest) in
-    let parts : of_shard n list ≡ front ++ rest =
-    sym (list_told v.core list n m (counted v sound)) ∙ ap (λ es. records_told n (told_entries s es)) (sym some.split)
-    ∙ ap (records_told n) (told_both s some.front some.rest) ∙ records-append n (told_entries s some.front) (told_entries s some.rest) in
-    (rest, ap (λ l. old ++ l) parts ∙ sym (append_assoc old front rest) ∙ ap (λ l. l ++ rest) (sym (told_more s v w some.front n some.added)))
-
-pub added_none : {D T : Type 0} (v w : BookState D T) (list : List Record) → w.core ≡ v.core → SomeAdded (come_by (told_of v.core)) (come_by (told_of w.core)) list
-added_none v w list core n = (of_shard n list, ap (λ (x : OwingView). come_by (told_of x) n ++ of_shard n list) (sym core))
-
-pub added_so : (v w : ℕ → List Record) (list : List Record) → AreAdded v w list → SomeAdded v w list
-added_so v w list added n = ([], sym (added n) ∙ sym (append-nil _))
-
--- a record that differs from what was kept of it
-
-record DiffersAt (h : List Entry) (before rs : List Record) (change : Change) : Type 0 where
-  front : List Record
-  item : Record
-  rest : List Record
-  split : before ++ rs ≡ front ++ item ∷ rest
-  shard : change.shard ≡ item.shard
-  place : change.place ≡ place_after h front item
-  given : change.given ≡ item.seq
-
-differs_here : (s : Setting) (h : List Entry) (before rs : List Record) (r : Record) (change : Change) (kept : Option (List ℕ)) → option_map (change_of r (place_after h before r)) kept ≡ Some change → DiffersAt h before (r ∷ rs) change
-differs_here s h before rs r change None is = absurd (cc)
-differs_here s h before rs r change (Some text) is =
-    let same : change_of r (place_after h before r) text ≡ change = cc in
-    record { front = before; item = r; rest = rs; split = refl; shard = ap (λ (c : Change). c.shard) (sym same); place = ap (λ (c : Change). c.place) (sym same); given = ap (λ (c : Change). c.given) (sym same) }
-
-differs_first : (s : Setting) (h : List Entry) (before rs : List Record) (r : Record) (change : Change) (o : Option Change) → change_at s (place_after h before r) r ≡ o
-    → (first_change_from s h (before ++ r ∷ []) rs ≡ Some change → DiffersAt h (before ++ r ∷ []) rs change) → option_or o (first_change_from s h (before ++ r ∷ []) rs) ≡ Some change → DiffersAt h before (r ∷ rs) change
-differs_first s h before rs r change None at later is =
-    let more = later is in
-    record { front = more.front; item = more.item; rest = more.rest; split = sym (append_assoc before (r ∷ []) rs) ∙ more.split; shard = more.shard; place = more.place; given = more.given }
-differs_first s h before rs r change (Some c) at later is = differs_here s h before rs r change (kept_otherwise s r.shard (place_after h before r) r.seq) (at ∙ is)
-
-differs_at : (s : Setting) (h : List Entry) (before rs : List Record) (change : Change) → first_change_from s h before rs ≡ Some change → DiffersAt h before rs change
-differs_at s h before [] change is = absurd (cc)
-differs_at s h before (r ∷ rs) change is = differs_first s h before rs r change (change_at s (place_after h before r) r) refl (differs_at s h (before ++ r ∷ []) rs change) is
-
-get_seam : (xs ys : List Record) (r : Record) → slice_get (xs ++ r ∷ ys) (length xs) ≡ Some r
-get_seam [] ys r = refl
-get_seam (x ∷ xs) ys r = get_seam xs ys r
-
-come_is : {D T : Type 0} (v : BookState D T) (n : ℕ) → IsSound v → records_in v.core.setting.streams n ≡ come_by (told_of v.core) n
-come_is v n sound = ap (λ (ts : List Stream). records_in ts n) sound.records ∙ records_in_told (told_of v.core) n
-
-pub change_is_next : {D T : Type 0} (v : BookState D T) (list : List Record) (change : Change) → IsSound v → Differs v.core list change → IsOfNext (come_by (told_of v.core)) list change
-change_is_next v list change sound differs =
-    let at = differs_at v.core.setting v.core.past [] list change differs in
-    let n : ℕ = at.item.shard in
-    let a : List Record = come_by (told_of v.core) n in
-    let b : List Record = of_shard n at.front in
-    let first : of_shard n (at.item ∷ at.rest) ≡ at.item ∷ of_shard n at.rest = ap (λ c. if c then at.item ∷ of_shard n at.rest else of_shard n at.rest) (eq-eqb n n refl) in
-    let list_is : a ++ of_shard n list ≡ (a ++ b) ++ at.item ∷ of_shard n at.rest =
-    ap (λ l. a ++ of_shard n l) at.split ∙ ap (λ l. a ++ l) (filter-append (λ (r : Record). r.shard == n) at.front (at.item ∷ at.rest)) ∙ ap (λ l. a ++ (b ++ l)) first ∙ sym (append_assoc a b _) in
-    let count : came_count v.core.past n ≡ length a = counted v sound n ∙ ap (λ (rs : List Record). length rs) (come_is v n sound) in
-    let place : change.place ≡ length (a ++ b) = at.place ∙ ap (λ i. i + length b) count ∙ sym (length-append a b) in
-    let there : slice_get (a ++ of_shard n list) change.place ≡ Some at.item =
-    ap (λ l. slice_get l change.place) list_is ∙ ap (λ i. slice_get ((a ++ b) ++ at.item ∷ of_shard n at.rest) i) place ∙ get_seam (a ++ b) (of_shard n at.rest) at.item in
-    record {
-      item = at.item;
-      at = subst (λ k. slice_get (come_by (told_of v.core) k ++ of_shard k list) change.place ≡ Some at.item) (sym at.shard) there;
-      given = sym at.given;
-    }
-
-pub stop_changed : {D T : Type 0} (v w : BookState D T) (list : List Record) (change : Change) → IsSound v → Differs v.core list change → w ≡ record v { trouble = Some (Changed change) } → IsStopFor (come_by (told_of v.core)) list (is_down w) (Down (Some change))
-stop_changed {D} {T} v w list change sound differs is = (ap (λ (b : BookState D T). is_down b) is, change_is_next v list change sound differs)
-
--- the end of the input is noted
-
-pub brought_end : {D T : Type 0} (moment : ℕ) (v w : BookState D T) → AddedOne v w (Shut (moment_for v.core.past moment)) → IsBrought moment v w
-brought_end {D} {T} moment v w one = record {
-  more = told_entries v.core.setting (Shut (moment_for v.core.past moment) ∷ []);
-  told = one.told;
-  own = (refl, tt);
-  moments = (moment_now v moment, tt);
-  setting = one.setting ∙ ap (λ (s : Setting). over v.core.setting s.streams) (sym one.setting);
-  found = ap (λ (b : BookState D T). b.found) one.rest;
-  found_dest = ap (λ (b : BookState D T). b.found_dest) one.rest;
-  down = λ is. ap (λ (b : BookState D T). is_down b) one.rest ∙ is;
-}
-
-pub same_end : {D T : Type 0} (moment n : ℕ) (v w : BookState D T) → AddedOne v w (Shut (moment_for v.core.past moment)) → records_told n (told_of w.core) ≡ records_told n (told_of v.core)
-same_end moment n v w one = ap (records_told n) one.told ∙ records-append n (told_of v.core) (told_entries v.core.setting (Shut (moment_for v.core.past moment) ∷ [])) ∙ append-nil (records_told n (told_of v.core))
-
-pub same_nothing : {D T : Type 0} (n : ℕ) (v w : BookState D T) → w ≡ v → records_told n (told_of w.core) ≡ records_told n (told_of v.core)
-same_nothing {D} {T} n v w is = ap (λ (b : BookState D T). records_told n (told_of b.core)) is
-
--- a call that found the book as it was
-
-pub open_changed : {D T : Type 0} (v w : BookState D T) (change : Change) → w ≡ record v { trouble = Some (Changed change) } → is_shut v.core.past ≡ false → is_shut w.core.past ≡ false
-open_changed {D} {T} v w change is = open_still v w (ap (λ (b : BookState D T). b.core) is)
-
-pub some_changed : {D T : Type 0} (v w : BookState D T) (list : List Record) (change : Change) → w ≡ record v { trouble = Some (Changed change) } → SomeAdded (come_by (told_of v.core)) (come_by (told_of w.core)) list
-some_changed {D} {T} v w list change is = added_none v w list (ap (λ (b : BookState D T). b.core) is)
-
-pub open_same : {D T : Type 0} (n : DestMeaning T) (v w : BookState D T) → IsSame n v w → is_shut v.core.past ≡ false → is_shut w.core.past ≡ false
-open_same {D} {T} n v w same = open_still v w (ap (λ (b : BookState D T). b.core) same.rest)
-
-pub some_same : {D T : Type 0} (n : DestMeaning T) (v w : BookState D T) (list : List Record) → IsSame n v w → SomeAdded (come_by (told_of v.core)) (come_by (told_of w.core)) list
-some_same {D} {T} n v w list same = added_none v w list (ap (λ (b : BookState D T). b.core) same.rest)
-
-pub open_nothing : {D T : Type 0} (v w : BookState D T) → w ≡ v → is_shut v.core.past ≡ false → is_shut w.core.past ≡ false
-open_nothing {D} {T} v w is = open_still v w (ap (λ (b : BookState D T). b.core) is)
-
-pub some_nothing : {D T : Type 0} (v w : BookState D T) (list : List Record) → w ≡ v → SomeAdded (come_by (told_of v.core)) (come_by (told_of w.core)) list
-some_nothing {D} {T} v w list is = added_none v w list (ap (λ (b : BookState D T). b.core) is)
-
-pub down_nothing : {D T : Type 0} (v w : BookState D T) → w ≡ v → is_down v ≡ true → is_down w ≡ true
-down_nothing {D} {T} v w is down = ap (λ (b : BookState D T). is_down b) is ∙ down
-
-pub down_some : {D T : Type 0} (d : DiskMeaning D) (n : DestMeaning T) (s : Setting) (es : List Entry) (trouble : Trouble) (v w : BookState D T) → AddedSome d n s v w es trouble → is_down w ≡ true
-down_some d n s es trouble v w some = ap is_some some.trouble_is
+-- what came where nothing more did
+pub some_none : (before now : ℕ → List Item) (all rest : List Item) → IsHanding before now all rest → SomeCome before now all
+some_none before now all rest handing n = (items_of n rest, sym (behind before now all rest handing n))

@@ -1,104 +1,62 @@
--- What a run of a book's batchers leaves. This product's own.
-use Rattle.std.specs.Prelude.{◌≡◌, ◌<◌, ◌⊎◌, ◌++◌, ℕ, Bool, true, false, List, length, slice_get, slice_index_or, Option, Some, None, IsSome}
-use Rattle.esm_io.specs.Told.{Grows, TakesFront}
-use Rattle.esm_model.specs.declared.item.Record.{Record}
+-- What a run of a book's reader and batchers leaves. This product's own.
+use Rattle.std.specs.Prelude.{◌≡◌, ◌<◌, ◌++◌, ℕ, Bool, true, false, List, Option, IsSome}
+use Rattle.esm_io.specs.Told.{TakesFront}
 use Rattle.esm_model.specs.declared.book.Change.{Change}
-use Rattle.esm_model.specs.declared.book.Trouble.{Trouble}
-use Rattle.esm_model.specs.declared.book.Trouble.TheVariants.{Changed}
-use Rattle.esm_model.specs.declared.entry.Entry.{Entry}
-use Rattle.esm_model.specs.Setting.{Setting, over}
-use Rattle.esm_model.specs.Entries.{came_count, calls_begun}
-use Rattle.esm_model.specs.Fates.{fate}
-use Rattle.esm_model.specs.Windows.{is_outstanding}
-use Rattle.esm_model.specs.Calls.{calls}
-use Rattle.esm_arrival.specs.Coming.{of_shard}
+use Rattle.esm_model.specs.declared.setup.Setup.{Setup}
+use Rattle.esm_model.specs.declared.setup.Told.{Told}
+use Rattle.esm_model.specs.Books.{entries_told}
+use Rattle.esm_model.specs.Entries.{is_shut}
+use Rattle.esm_record.specs.declared.item.Item.{Item}
 use Rattle.esm_input.specs.Positions.{from_start}
 use Rattle.esm_input.specs.Reading.{InputState, items_read, handed}
-use Rattle.esm_sbook.specs.Books.{BookState}
+use Rattle.esm_pooled.specs.Coming.{AreCome, AreSomeCome}
 use Rattle.esm_pool.specs.declared.running.RunEnd.{RunEnd}
 use Rattle.esm_pool.specs.declared.running.RunEnd.TheVariants.{Finished, Spent, Down}
-use Rattle.esm_pool.specs.Given.{AreGiven}
-use Rattle.esm_pool.specs.Coming.{records_in_items, SomeCame, AllCame}
-use Rattle.esm_batchers.specs.Working.{Outside}
-use Rattle.esm_pool.specs.Running.{NoneRuns}
-use Rattle.esm_pool.specs.Stopping.{HasLogged}
 
--- a book's history was empty, and this run left it so; its callers go from the ones to the others
-pub record HasRun {D T F : Type 0} (o : Outside F) (before after : BookState D T) (old new : List F) : Type 0 where
-  -- what the book was opened with stays
-  pub opened : after.core.setting ≡ over before.core.setting after.core.setting.streams
+-- what the input was made with stays
+pub record IsSameInput {S : Type 0} (before after : InputState S) : Type 0 where
+  pub kind : after.kind ≡ before.kind
+  pub factor : after.factor ≡ before.factor
+  pub start : after.start ≡ before.start
   pub found : after.found ≡ before.found
-  pub found_dest : after.found_dest ≡ before.found_dest
-  -- each moment is one that the clock gave, or that of the entry before it where that is later
-  pub moments : AreGiven o.gave after.core.past
-  -- no call is without its end
-  pub rests : NoneRuns after.core.past
-  -- caller k's log, where told, grew by the calls of batcher k
-  pub as_many : length new ≡ length old
-  pub calls_made : (k : ℕ) (d : F) → k < length old → Grows (o.log (slice_index_or old k d)) (o.log (slice_index_or new k d)) (calls after.core.setting o.sends after.core.past k)
 
--- and so far want of memory let it come; a device may have failed beside it
-pub record HasStopped {D T F : Type 0} (o : Outside F) (before after : BookState D T) (old new : List F) : Type 0 where
-  pub opened : after.core.setting ≡ over before.core.setting after.core.setting.streams
-  pub found : after.found ≡ before.found
-  pub found_dest : after.found_dest ≡ before.found_dest
-  pub moments : AreGiven o.gave after.core.past
-  -- caller k's log, where told, grew by the calls of batcher k, and perhaps by one further call of a lane that still runs
-  pub as_many : length new ≡ length old
-  pub calls_made : (k : ℕ) (d : F) → k < length old → HasLogged o.sends after.core.setting after.core.past k (o.log (slice_index_or old k d)) (o.log (slice_index_or new k d))
+-- all batchers below the number have finished; or all calls allowed were made, and something is left for one of them; or the
+-- book is down
+abbrev pub EndsSo : (finished left : Setup → List Told → ℕ → Type 0) (spent : Setup → List Told → Type 0) → Setup → List Told → (mark : Bool) → (batchers : ℕ) → RunEnd → Type 0
+EndsSo finished left spent setup h mark batchers Finished = (mark ≡ false) × ((k : ℕ) → k < batchers → finished setup h k)
+EndsSo finished left spent setup h mark batchers Spent = (mark ≡ false) × spent setup h × ((k : ℕ) × (k < batchers) × left setup h k)
+EndsSo finished left spent setup h mark batchers Down = mark ≡ true
 
--- how it ended
+-- all items that were handed out of an input that was read to an end came, and the end was noted
+pub record AllCame {S : Type 0} (i : InputState S) (came : ℕ → List Item) (h : List Told) : Type 0 where
+  pub items : AreCome came (handed i)
+  pub ended : IsSome i.end
+  pub shut : is_shut (entries_told h) ≡ true
 
--- every record that came has its fate
-abbrev pub AllFated : Setting → List Entry → Type 0
-AllFated s h = (n i : ℕ) → i < came_count h n → IsSome (fate s h n i)
+-- the items of the input that came: all of them, or the first of those that were handed out where the book went down
+abbrev pub CameSo : {S : Type 0} → InputState S → (came : ℕ → List Item) → List Told → RunEnd → Type 0
+CameSo i came h Finished = AllCame i came h
+CameSo i came h Spent = AllCame i came h
+CameSo i came h Down = AreSomeCome came (handed i)
 
--- no tumbling window is outstanding
-abbrev pub NoneOutstanding : Setting → List Entry → Type 0
-NoneOutstanding s h = (n w : ℕ) → is_outstanding s h n w ≡ false
+-- The change is of the first item of a list that differs: of the items that were handed out all before the list had come, the
+-- history being the first part of what it is now, and the list is next.
+pub record IsChangeOf {S : Type 0} (items : List Told → ℕ → List Item) (differs : Setup → List Told → List Item → Change → Type 0) (setup : Setup) (h : List Told) (i : InputState S) (change : Change) : Type 0 where
+  pub before : List Told
+  pub later : List Told
+  pub history : h ≡ before ++ later
+  pub front : List Item
+  pub list : List Item
+  pub rest : List Item
+  pub handed_out : handed i ≡ front ++ list ++ rest
+  pub came : AreCome (items before) front
+  pub differs_so : differs setup before list change
 
--- a record that came has no fate
-pub record HasOpen (s : Setting) (h : List Entry) : Type 0 where
-  pub shard : ℕ
-  pub place : ℕ
-  pub came : place < came_count h shard
-  pub no_fate : fate s h shard place ≡ None
-
--- a window is outstanding
-pub record HasOutstanding (s : Setting) (h : List Entry) : Type 0 where
-  pub shard : ℕ
-  pub window : ℕ
-  pub outstanding : is_outstanding s h shard window ≡ true
-
--- all records came, and each has its fate, and no window is outstanding; or all calls allowed began, and a record is open or
--- a window outstanding; or the book is down
-abbrev pub EndsSo : {D T : Type 0} → BookState D T → RunEnd → Type 0
-EndsSo b Finished = (b.trouble ≡ None) × AllFated b.core.setting b.core.past × NoneOutstanding b.core.setting b.core.past
-EndsSo b Spent = (b.trouble ≡ None) × (calls_begun b.core.past ≡ b.core.setting.calls) × (HasOpen b.core.setting b.core.past ⊎ HasOutstanding b.core.setting b.core.past)
-EndsSo b Down = IsSome b.trouble
-
--- the change is of one of these records: it stands at that place of its shard, with the number that was given
-pub record IsOfRecord (records : List Record) (change : Change) : Type 0 where
-  pub item : Record
-  pub at : slice_get (of_shard change.shard records) change.place ≡ Some item
-  pub given : item.seq ≡ change.given
-
-abbrev pub IsDownFor : List Record → Option Trouble → Type 0
-IsDownFor records (Some (Changed change)) = IsOfRecord records change
-IsDownFor records _ = Unit {0}
-
--- the records of the input that came: all that were handed out of an input that was read to an end, or the first of them
--- where the book went down
-abbrev pub CameSo : {S D T : Type 0} → InputState S → BookState D T → RunEnd → Type 0
-CameSo i b Finished = AllCame b (records_in_items (handed i)) × IsSome i.end
-CameSo i b Spent = AllCame b (records_in_items (handed i)) × IsSome i.end
-CameSo i b Down = SomeCame b (records_in_items (handed i)) × IsDownFor (records_in_items (handed i)) b.trouble
-
--- Want of memory came: these bytes were read, the records of their lines came, or the first of them, and more bytes may
--- have been read after them.
-pub record IsCutInput {S D T : Type 0} (left : S → Option (List ℕ)) (i : InputState S) (b : BookState D T) : Type 0 where
+-- Want of memory came: these bytes were read, the items of their lines came, or the first of them, and more bytes may have
+-- been read after them.
+pub record IsCut {S : Type 0} (left : S → Option (List ℕ)) (i : InputState S) (came : ℕ → List Item) : Type 0 where
   pub bytes : List ℕ
   pub more : List ℕ
   pub whole : Bool
   pub taken : TakesFront (left i.found) (left i.source) (bytes ++ more)
-  pub came : SomeCame b (records_in_items (from_start i.start (items_read i.kind i.factor whole bytes).items))
+  pub some : AreSomeCome came (from_start i.start (items_read i.kind i.factor whole bytes).items)

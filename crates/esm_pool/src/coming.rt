@@ -1,67 +1,46 @@
-// Records that come from the input to the book, at the reader's seat.
+// What the reader does at its seat between two pieces of the input.
 ghost use Rattle.std.specs.Prelude.{◌≡◌, ◌≤◌, ℕ, true, false, length, All, IfErr, OnOk};
+ghost use mathlib.Core.List.{IsPrefix};
 ghost use Rattle.esm_model.specs.declared.limits.TheConstants.{MAX_BATCH};
-ghost use Rattle.esm_model.specs.declared.setup.Setup.{Setup};
-ghost use Rattle.esm_model.specs.Books.{author, stream_may_follow, entries_told, records_told};
+ghost use Rattle.esm_model.specs.Books.{entries_told};
 ghost use Rattle.esm_model.specs.Entries.{is_shut};
-ghost use Rattle.esm_model.specs.Kept.{IsLegal};
-ghost use Rattle.esm_model.specs.Valid.{IsValidRecord};
 ghost use Rattle.esm_record.specs.Input.{IsValidItem};
-ghost use Rattle.esm_record.specs.declared.item.LineKind.{LineKind};
-ghost use Rattle.esm_core.specs.Told.{told_of};
+ghost use Rattle.esm_pooled.specs.Coming.{Come, SomeCome, StayAsTheyAre, FitBehind};
 ghost use Rattle.esm_batchers.specs.Seated.{IsSeated};
-ghost use Rattle.esm_sbook.specs.Books.{is_down as is_marked};
-ghost use Rattle.esm_sbook.specs.Keeping.{IsSetupOf};
-ghost use Rattle.esm_pool.specs.Coming.{records_in_items};
-ghost use Rattle.esm_pool.specs.Taking.{IsBrought, come_by, AreAdded, SomeAdded, IsStopFor};
+ghost use Rattle.esm_pool.specs.Readings.{IsStopFor, stop_of};
 
-use crate::batchers::know;
-use crate::rounds::Stop;
-use esm_io::{Clock, Dest, Disk};
-use esm_model::{CameError, MAX_BATCH, Record};
+use esm_io::Clock;
+use esm_model::{CameError, Change, MAX_BATCH, OutOfMemory};
+use esm_pooled::Pooled;
 use esm_record::Item;
-use esm_sbook::Book;
 use esm_turn::{Held, Seat, Turn};
 use std::alloc::Global;
 use std::sync::Wait;
 
-/// The record of a stream's item.
-fn record_of(item: Item) -> Record
-    requires { IsValidItem LineKind.Stream item }
-    ensures valid { IsValidRecord result }
-    ensures same { item ≡ Item.Stream result }
-{
-    match item {
-        Item::Stream(found) => found,
-        Item::Queue(_) => unreachable!(),
+/// Why the reader hands on no more, though there is more to read.
+#[derive(Drop, Debug)]
+pub enum Stop {
+    /// The book is down; where an item of the reader's own list brought a change, this is it.
+    Down(Option<Change>),
+    OutOfMemory,
+}
+
+impl From<OutOfMemory> for Stop {
+    ghost use Rattle.std.specs.Prelude.{◌≡◌};
+    ghost use Rattle.esm_pool.specs.declared.coming.Stop.{Stop};
+
+    ghost from_gives = { λ _ e. e ≡ Stop.OutOfMemory };
+
+    fn from(_: OutOfMemory) -> Stop {
+        Stop::OutOfMemory
     }
 }
 
-/// Tells that the history of every book is legal, as threads hand it on.
-pub(crate) fn know_legal<D: Disk, T: Dest>(book: &Book<D, T>)
-    ensures { (setup : Setup) → IsSetupOf setup book.now → IsLegal (stream_may_follow setup) (told_of book.now.core) }
+/// Why the reader stops where its list was refused so.
+fn stopped(came: Result<(), CameError>) -> Result<(), Stop>
+    ensures { result ≡ stop_of came }
 {
-    let _trouble = book.trouble();
-}
-
-/// Records come to a book that the reader has out.
-fn bring<D: Disk, T: Dest>(
-    alloc: Global,
-    book: &mut Book<D, T>,
-    list: Vec<Record>,
-    moment: u64,
-) -> Result<(), Stop>
-    requires going { is_shut book.old.core.past ≡ false }
-    requires few { length list.items ≤ MAX_BATCH }
-    requires valid { All IsValidRecord list.items }
-    ensures brought { IsBrought moment book.old book.new }
-    ensures going { is_shut book.new.core.past ≡ false }
-    ensures added { OnOk result (AreAdded (come_by (told_of book.old.core)) (come_by (told_of book.new.core)) list.items) }
-    ensures some { SomeAdded (come_by (told_of book.old.core)) (come_by (told_of book.new.core)) list.items }
-    ensures stop { IfErr result (IsStopFor (come_by (told_of book.old.core)) list.items (is_marked book.new)) }
-{
-    know(book);
-    match book.came(alloc, list, moment) {
+    match came {
         Ok(()) => Ok(()),
         Err(CameError::StreamChanged(change)) => Err(Stop::Down(Some(change))),
         Err(CameError::DiskFault) => Err(Stop::Down(None)),
@@ -70,96 +49,104 @@ fn bring<D: Disk, T: Dest>(
     }
 }
 
-/// Records come to the book of the turn.
-fn note<R: Wait, C: Clock, D: Disk, T: Dest>(
+/// Items come to the book of the turn.
+fn note<R: Wait, B: Pooled, C: Clock>(
     rt: &R,
     alloc: Global,
-    turn: &Turn<Book<D, T>>,
-    seat: &mut Seat<Book<D, T>>,
-    list: Vec<Record>,
+    turn: &Turn<B>,
+    seat: &mut Seat<B>,
+    list: Vec<Item>,
     clock: &C,
 ) -> Result<(), Stop>
-    requires seated { IsSeated author stream_may_follow C.gave turn.now 0 seat.old }
+    requires seated { IsSeated B.author B.may_follow C.gave turn.now 0 seat.old }
     requires going { is_shut (entries_told seat.old.seen) ≡ false }
     requires few { length list.items ≤ MAX_BATCH }
-    requires valid { All IsValidRecord list.items }
-    ensures seated { IsSeated author stream_may_follow C.gave turn.now 0 seat.new }
+    requires valid { All (IsValidItem (B.kind turn.now.setup)) list.items }
+    requires within { FitBehind (B.items seat.old.seen) list.items }
+    ensures seated { IsSeated B.author B.may_follow C.gave turn.now 0 seat.new }
+    ensures grows { IsPrefix seat.old.seen seat.new.seen }
     ensures going { is_shut (entries_told seat.new.seen) ≡ false }
-    ensures added { OnOk result (AreAdded (come_by seat.old.seen) (come_by seat.new.seen) list.items) }
-    ensures some { SomeAdded (come_by seat.old.seen) (come_by seat.new.seen) list.items }
-    ensures stop { IfErr result (IsStopFor (come_by seat.old.seen) list.items seat.new.mark) }
+    ensures came { OnOk result (Come (B.items seat.old.seen) (B.items seat.new.seen) list.items) }
+    ensures some { SomeCome (B.items seat.old.seen) (B.items seat.new.seen) list.items }
+    ensures stop { IfErr result (IsStopFor B.items B.differs turn.now.setup seat.old.seen list.items seat.new.seen seat.new.mark) }
 {
+    B::stays();
     let moment = clock.now();
     let Held { mut value } = turn.take(rt, seat);
-    let came = bring(alloc, &mut value, list, moment);
-    know_legal(&value);
+    let came = value.bring(alloc, list, moment);
     turn.give(seat, Held { value });
-    came
+    stopped(came)
 }
 
-/// Hands the records on, in lists of at most 10,000.
-pub(crate) fn hand_on<R: Wait, C: Clock, D: Disk, T: Dest>(
+/// Hands the items on, in lists of at most 10,000.
+pub(crate) fn hand_on<R: Wait, B: Pooled, C: Clock>(
     rt: &R,
     alloc: Global,
-    turn: &Turn<Book<D, T>>,
-    seat: &mut Seat<Book<D, T>>,
+    turn: &Turn<B>,
+    seat: &mut Seat<B>,
     items: Vec<Item>,
     clock: &C,
 ) -> Result<(), Stop>
-    requires seated { IsSeated author stream_may_follow C.gave turn.now 0 seat.old }
+    requires seated { IsSeated B.author B.may_follow C.gave turn.now 0 seat.old }
     requires going { is_shut (entries_told seat.old.seen) ≡ false }
-    requires valid { All (IsValidItem LineKind.Stream) items.items }
-    ensures seated { IsSeated author stream_may_follow C.gave turn.now 0 seat.new }
+    requires valid { All (IsValidItem (B.kind turn.now.setup)) items.items }
+    requires within { FitBehind (B.items seat.old.seen) items.items }
+    ensures seated { IsSeated B.author B.may_follow C.gave turn.now 0 seat.new }
     ensures going { is_shut (entries_told seat.new.seen) ≡ false }
-    ensures added { OnOk result (AreAdded (come_by seat.old.seen) (come_by seat.new.seen) (records_in_items items.items)) }
-    ensures some { SomeAdded (come_by seat.old.seen) (come_by seat.new.seen) (records_in_items items.items) }
-    ensures stop { IfErr result (IsStopFor (come_by seat.old.seen) (records_in_items items.items) seat.new.mark) }
+    ensures came { OnOk result (Come (B.items seat.old.seen) (B.items seat.new.seen) items.items) }
+    ensures some { SomeCome (B.items seat.old.seen) (B.items seat.new.seen) items.items }
+    ensures stop { IfErr result (IsStopFor B.items B.differs turn.now.setup seat.old.seen items.items seat.new.seen seat.new.mark) }
 {
     let mut rest = items;
-    rest.reverse();
-    let mut list = Vec::new(alloc);
-    while let Some(item) = rest.pop() {
-        let Ok(()) = list.push(record_of(item)) else {
+    while rest.len() > MAX_BATCH {
+        let Ok(later) = rest.split_off(MAX_BATCH) else {
             return Err(Stop::OutOfMemory);
         };
-        if list.len() == MAX_BATCH {
-            note(rt, alloc, turn, seat, list, clock)?;
-            list = Vec::new(alloc);
-        }
+        note(rt, alloc, turn, seat, rest, clock)?;
+        rest = later;
     }
-    note(rt, alloc, turn, seat, list, clock)
+    note(rt, alloc, turn, seat, rest, clock)
 }
 
-/// The end of the input is noted in a book that the reader has out, where it is not down.
-fn end<D: Disk, T: Dest>(book: &mut Book<D, T>, moment: u64)
-    requires going { is_shut book.old.core.past ≡ false }
-    ensures brought { IsBrought moment book.old book.new }
-    ensures same { (n : ℕ) → records_told n (told_of book.new.core) ≡ records_told n (told_of book.old.core) }
-    ensures shut { is_marked book.new ≡ false → is_shut book.new.core.past ≡ true }
+/// Whether the book of the turn is down.
+pub(crate) fn is_down<R: Wait, B: Pooled, C: Clock>(
+    rt: &R,
+    turn: &Turn<B>,
+    seat: &mut Seat<B>,
+    clock: &C,
+) -> bool
+    requires seated { IsSeated B.author B.may_follow C.gave turn.now 0 seat.old }
+    requires going { is_shut (entries_told seat.old.seen) ≡ false }
+    ensures seated { IsSeated B.author B.may_follow C.gave turn.now 0 seat.new }
+    ensures going { is_shut (entries_told seat.new.seen) ≡ false }
+    ensures same { StayAsTheyAre (B.items seat.old.seen) (B.items seat.new.seen) }
+    ensures marked { result ≡ true → seat.new.mark ≡ true }
 {
-    know(book);
-    match book.shut(moment) {
-        Ok(()) => {}
-        Err(_) => {}
-    }
+    B::stays();
+    let Held { value } = turn.take(rt, seat);
+    let down = value.marked();
+    turn.give(seat, Held { value });
+    down
 }
 
 /// The end of the input is noted in the book of the turn, where it is not down.
-pub(crate) fn note_end<R: Wait, C: Clock, D: Disk, T: Dest>(
+pub(crate) fn note_end<R: Wait, B: Pooled, C: Clock>(
     rt: &R,
-    turn: &Turn<Book<D, T>>,
-    seat: &mut Seat<Book<D, T>>,
+    turn: &Turn<B>,
+    seat: &mut Seat<B>,
     clock: &C,
 )
-    requires seated { IsSeated author stream_may_follow C.gave turn.now 0 seat.old }
+    requires seated { IsSeated B.author B.may_follow C.gave turn.now 0 seat.old }
     requires going { is_shut (entries_told seat.old.seen) ≡ false }
-    ensures seated { IsSeated author stream_may_follow C.gave turn.now 0 seat.new }
-    ensures same { (n : ℕ) → records_told n seat.new.seen ≡ records_told n seat.old.seen }
+    ensures seated { IsSeated B.author B.may_follow C.gave turn.now 0 seat.new }
+    ensures grows { IsPrefix seat.old.seen seat.new.seen }
+    ensures marked { seat.old.mark ≡ true → seat.new.mark ≡ true }
+    ensures same { StayAsTheyAre (B.items seat.old.seen) (B.items seat.new.seen) }
     ensures shut { seat.new.mark ≡ false → is_shut (entries_told seat.new.seen) ≡ true }
 {
+    B::stays();
     let moment = clock.now();
     let Held { mut value } = turn.take(rt, seat);
-    end(&mut value, moment);
-    know_legal(&value);
+    value.end_input(moment);
     turn.give(seat, Held { value });
 }

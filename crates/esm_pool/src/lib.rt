@@ -1,11 +1,9 @@
-//! The run of a stream's book: its reader hands the input to the book, and its batchers call, each with its caller and each
-//! as a thread, until nothing has anything to do or to wait for.
+//! The run of any book that a reader and batchers share: the reader hands the input's items to it, and the batchers call, each
+//! as a thread, until nothing is left, all calls allowed were made, or the book is down.
 #![tactic(auto)]
 
-mod batchers;
 mod coming;
 mod reader;
-pub mod rounds;
 mod running;
 
-pub use running::{Ran, RunEnd, run_lanes};
+pub use running::{Ran, RunEnd, run_book};

@@ -1,45 +1,43 @@
-use Rattle.std.proofs.Common.{arith}
-use Rattle.esm_pool.specs.Coming.{records_in_items}
-use Rattle.esm_pool.specs.Taking.{come_by, IsStopFor}
-use Rattle.esm_pool.proofs.Handing.{handing_push, handing_note, handing_on, handing_some, handing_so, handing_stop, handing_stop_if}
-use Rattle.esm_pool.proofs.Turning.{err_as}
+use Rattle.std.proofs.Common.{[], sym, subst, append-nil}
+use Rattle.std.specs.List.{All}
+use Rattle.std.proofs.lemmas.List.Elements.{All-take, All-drop}
+use Rattle.esm_record.specs.Input.{IsValidItem}
+use Rattle.esm_pool.specs.Readings.{IsStopFor}
+use Rattle.esm_pool.proofs.Arriving.{split_parts, fits, handing_on, handing_some, handing_stop, handing_stop_if, err_as, some_none}
 use Rattle.esm_pool.proofs.coming.hand_on.Goals as goal
 
-pub note-requires-clause-valid : goal.note-requires-clause-valid
-note-requires-clause-valid g c = (handing_push (come_by c.args.seat.now.seen) (come_by c.loop-item.seat.seen) (records_in_items c.args.items.items) c.loop-item.list.items c.push.new.self.items c.loop-item.rest.items c.pop.new.self.items c.in-Some.item c.record_of.result c.in-Some.ensures.items c.record_of.ensures.same c.in-Ok.ensures.items c.record_of.ensures.valid c.loop-item.invariant.2).list_valid
+pub returns-in_default-clause-some : goal.returns-in_default-clause-some
+returns-in_default-clause-some g c = some_none (g.B.Pooled.items c.args.seat.now.seen) (g.B.Pooled.items c.loop-rest.seat.seen) c.args.items.items c.loop-rest.rest.items c.loop-rest.invariant.3
 
-pub returns-in_default-push-clause-some : goal.returns-in_default-push-clause-some
-returns-in_default-push-clause-some g c = handing_so 9999 (come_by c.args.seat.now.seen) (come_by c.loop-item.seat.seen) (records_in_items c.args.items.items) c.loop-item.list.items c.loop-item.rest.items c.loop-item.invariant.2
+pub note-requires-clause-valid : goal.note-requires-clause-valid
+note-requires-clause-valid g c = subst (All (IsValidItem (g.B.Pooled.kind c.args.turn.now.setup))) (sym c.in-Ok.ensures.items) (All-take (IsValidItem (g.B.Pooled.kind c.args.turn.now.setup)) 10000 c.loop-rest.rest.items c.loop-rest.invariant.2)
+
+pub note-requires-clause-within : goal.note-requires-clause-within
+note-requires-clause-within g c = fits (g.B.Pooled.items c.args.seat.now.seen) (g.B.Pooled.items c.loop-rest.seat.seen) c.args.items.items c.loop-rest.rest.items c.split_off.new.self.items c.in-Ok.later.items c.loop-rest.invariant.3
+    (split_parts 10000 c.loop-rest.rest.items c.split_off.new.self.items c.in-Ok.later.items c.in-Ok.ensures.items c.in-Ok.ensures.tail) c.requires.within
 
 pub returns-in_err-note-clause-some : goal.returns-in_err-note-clause-some
-returns-in_err-note-clause-some g c = handing_some 10000 (come_by c.args.seat.now.seen) (come_by c.loop-item.seat.seen) (come_by c.note.new.seat.seen) (records_in_items c.args.items.items) c.push.new.self.items c.pop.new.self.items
-    (handing_push (come_by c.args.seat.now.seen) (come_by c.loop-item.seat.seen) (records_in_items c.args.items.items) c.loop-item.list.items c.push.new.self.items c.loop-item.rest.items c.pop.new.self.items c.in-Some.item c.record_of.result c.in-Some.ensures.items c.record_of.ensures.same c.in-Ok.ensures.items c.record_of.ensures.valid c.loop-item.invariant.2)
-    c.note.ensures.some
+returns-in_err-note-clause-some g c = handing_some (g.B.Pooled.items c.args.seat.now.seen) (g.B.Pooled.items c.loop-rest.seat.seen) c.args.items.items c.loop-rest.rest.items c.loop-rest.invariant.3 (g.B.Pooled.items c.note.new.seat.seen) c.split_off.new.self.items c.in-Ok.later.items
+    (split_parts 10000 c.loop-rest.rest.items c.split_off.new.self.items c.in-Ok.later.items c.in-Ok.ensures.items c.in-Ok.ensures.tail) c.note.ensures.some
 
 pub returns-in_err-note-clause-stop : goal.returns-in_err-note-clause-stop
-returns-in_err-note-clause-stop g c = err_as c.from_residual.result c.in_err-note.field-0.0 (IsStopFor (come_by c.args.seat.now.seen) (records_in_items c.args.items.items) c.note.new.seat.mark) c.from_residual.ensures.1
-    (handing_stop 10000 (come_by c.args.seat.now.seen) (come_by c.loop-item.seat.seen) (records_in_items c.args.items.items) c.push.new.self.items c.pop.new.self.items c.note.new.seat.mark c.in_err-note.field-0.0
-    (handing_push (come_by c.args.seat.now.seen) (come_by c.loop-item.seat.seen) (records_in_items c.args.items.items) c.loop-item.list.items c.push.new.self.items c.loop-item.rest.items c.pop.new.self.items c.in-Some.item c.record_of.result c.in-Some.ensures.items c.record_of.ensures.same c.in-Ok.ensures.items c.record_of.ensures.valid c.loop-item.invariant.2)
-    c.in_err-note.ensures.stop)
+returns-in_err-note-clause-stop g c = err_as c.from_residual.result c.in_err-note.field-0.0 (IsStopFor g.B.Pooled.items g.B.Pooled.differs c.args.turn.now.setup c.args.seat.now.seen c.args.items.items c.note.new.seat.seen c.note.new.seat.mark) c.from_residual.ensures.1
+    (handing_stop g.B.Pooled.items g.B.Pooled.differs c.args.turn.now.setup c.args.seat.now.seen c.loop-rest.seat.seen c.note.new.seat.seen c.args.items.items c.loop-rest.rest.items c.split_off.new.self.items c.in-Ok.later.items c.note.new.seat.mark c.loop-rest.invariant.3
+    (split_parts 10000 c.loop-rest.rest.items c.split_off.new.self.items c.in-Ok.later.items c.in-Ok.ensures.items c.in-Ok.ensures.tail) c.in_err-note.field-0.0 c.in_err-note.ensures.stop)
 
-pub loop-item-preserved-then-len-eq-MAX_BATCH : goal.loop-item-preserved-then-len-eq-MAX_BATCH
-loop-item-preserved-then-len-eq-MAX_BATCH g c = (
+pub loop-rest-preserved : goal.loop-rest-preserved
+loop-rest-preserved g c = (
   c.note.ensures.seated,
   c.note.ensures.going,
-  handing_note (come_by c.args.seat.now.seen) (come_by c.loop-item.seat.seen) (come_by c.note.new.seat.seen) (records_in_items c.args.items.items) c.push.new.self.items c.new-list-then-len-eq-MAX_BATCH.result.items c.pop.new.self.items c.new-list-then-len-eq-MAX_BATCH.ensures.items c.in_ok-note.ensures.added
-      (handing_push (come_by c.args.seat.now.seen) (come_by c.loop-item.seat.seen) (records_in_items c.args.items.items) c.loop-item.list.items c.push.new.self.items c.loop-item.rest.items c.pop.new.self.items c.in-Some.item c.record_of.result c.in-Some.ensures.items c.record_of.ensures.same c.in-Ok.ensures.items c.record_of.ensures.valid c.loop-item.invariant.2),
-)
-
-pub loop-item-preserved : goal.loop-item-preserved
-loop-item-preserved g c = (
-  c.loop-item.invariant.0,
-  c.loop-item.invariant.1,
-  handing_on (come_by c.args.seat.now.seen) (come_by c.loop-item.seat.seen) (records_in_items c.args.items.items) c.push.new.self.items c.pop.new.self.items (omega arith)
-      (handing_push (come_by c.args.seat.now.seen) (come_by c.loop-item.seat.seen) (records_in_items c.args.items.items) c.loop-item.list.items c.push.new.self.items c.loop-item.rest.items c.pop.new.self.items c.in-Some.item c.record_of.result c.in-Some.ensures.items c.record_of.ensures.same c.in-Ok.ensures.items c.record_of.ensures.valid c.loop-item.invariant.2),
+  subst (All (IsValidItem (g.B.Pooled.kind c.args.turn.now.setup))) (sym c.in-Ok.ensures.tail) (All-drop (IsValidItem (g.B.Pooled.kind c.args.turn.now.setup)) 10000 c.loop-rest.rest.items c.loop-rest.invariant.2),
+  handing_on (g.B.Pooled.items c.args.seat.now.seen) (g.B.Pooled.items c.loop-rest.seat.seen) c.args.items.items c.loop-rest.rest.items c.loop-rest.invariant.3 (g.B.Pooled.items c.note.new.seat.seen) c.split_off.new.self.items c.in-Ok.later.items
+      (split_parts 10000 c.loop-rest.rest.items c.split_off.new.self.items c.in-Ok.later.items c.in-Ok.ensures.items c.in-Ok.ensures.tail) c.in_ok-note.ensures.came,
 )
 
 pub returns-clause-some : goal.returns-clause-some
-returns-clause-some g c = handing_some 9999 (come_by c.args.seat.now.seen) (come_by c.loop-item.seat.seen) (come_by c.note-2.new.seat.seen) (records_in_items c.args.items.items) c.loop-item.list.items c.loop-item.rest.items c.loop-item.invariant.2 c.note-2.ensures.some
+returns-clause-some g c = handing_some (g.B.Pooled.items c.args.seat.now.seen) (g.B.Pooled.items c.loop-rest.seat.seen) c.args.items.items c.loop-rest.rest.items c.loop-rest.invariant.3 (g.B.Pooled.items c.note-2.new.seat.seen) c.loop-rest.rest.items []
+    (sym (append-nil c.loop-rest.rest.items)) c.note-2.ensures.some
 
 pub returns-clause-stop : goal.returns-clause-stop
-returns-clause-stop g c = handing_stop_if 9999 (come_by c.args.seat.now.seen) (come_by c.loop-item.seat.seen) (records_in_items c.args.items.items) c.loop-item.list.items c.loop-item.rest.items c.note-2.new.seat.mark c.note-2.result c.loop-item.invariant.2 c.note-2.ensures.stop
+returns-clause-stop g c = handing_stop_if g.B.Pooled.items g.B.Pooled.differs c.args.turn.now.setup c.args.seat.now.seen c.loop-rest.seat.seen c.note-2.new.seat.seen c.args.items.items c.loop-rest.rest.items c.loop-rest.rest.items [] c.note-2.new.seat.mark c.loop-rest.invariant.3
+    (sym (append-nil c.loop-rest.rest.items)) c.note-2.result c.note-2.ensures.stop

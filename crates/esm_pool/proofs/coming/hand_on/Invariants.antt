@@ -1,16 +1,17 @@
 use Rattle.std.proofs.Common.{◌≡◌, length, false}
-use Rattle.esm_model.specs.Books.{author, stream_may_follow, entries_told}
+use Rattle.std.specs.List.{All}
+use Rattle.esm_model.specs.Books.{entries_told}
 use Rattle.esm_model.specs.Entries.{is_shut}
+use Rattle.esm_record.specs.Input.{IsValidItem}
 use Rattle.esm_batchers.specs.Seated.{IsSeated}
-use Rattle.esm_pool.specs.Coming.{records_in_items}
-use Rattle.esm_pool.specs.Taking.{come_by}
-use Rattle.esm_pool.proofs.Handing.{IsHanding}
+use Rattle.esm_pool.proofs.Arriving.{IsHanding}
 use Rattle.esm_pool.proofs.coming.hand_on.Given as goal
 
-abbrev pub invariant-loop-item : goal.invariant-loop-item
-invariant-loop-item g l = IsSeated author stream_may_follow g.C.Clock.gave l.turn 0 l.seat
+abbrev pub invariant-loop-rest : goal.invariant-loop-rest
+invariant-loop-rest g l = IsSeated g.B.Kept.author g.B.Kept.may_follow g.C.Clock.gave l.turn 0 l.seat
     × (is_shut (entries_told l.seat.seen) ≡ false)
-    × IsHanding 9999 (come_by l.fn.seat.seen) (come_by l.seat.seen) (records_in_items l.fn.items.items) l.list.items l.rest.items
+    × All (IsValidItem (g.B.Pooled.kind l.turn.setup)) l.rest.items
+    × IsHanding (g.B.Pooled.items l.fn.seat.seen) (g.B.Pooled.items l.seat.seen) l.fn.items.items l.rest.items
 
-abbrev pub decreases-loop-item : goal.decreases-loop-item
-decreases-loop-item g l = length l.rest.items
+abbrev pub decreases-loop-rest : goal.decreases-loop-rest
+decreases-loop-rest g l = length l.rest.items
