@@ -22,7 +22,7 @@ use Rattle.esm_upkeep.specs.Upkeep.{AreHonest, OneRose, PairHolds}
 use Rattle.esm_upkeep.proofs.Disks.{are_honest, pair_holds}
 use Rattle.esm_qbook.specs.Books.{BookState, OpensToFirst, payloads_in}
 use Rattle.esm_qbook.specs.Keeping.{entries_left}
-use Rattle.esm_pool.specs.Given.{AreGiven}
+use Rattle.esm_stream.specs.Given.{AreGiven}
 use Rattle.esm_stream.specs.Files.{FilesState}
 use Rattle.esm_stream.specs.Headline.{Devices, PairStopped, Telling}
 use Rattle.esm_stream.proofs.Headlines.{in_hand_few, not_disk, used_rose}

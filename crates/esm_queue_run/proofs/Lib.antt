@@ -1,3 +1,9 @@
+pub mod Numbers
+pub mod Setups
+pub mod Bridges
+pub mod Items
+pub mod Later
+pub mod Shared
 pub mod Begins
 pub mod Deletions
 pub mod Earned

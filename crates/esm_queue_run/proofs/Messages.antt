@@ -20,7 +20,7 @@ use Rattle.esm_queue_core.proofs.ToldMessages.{messages-append, told-append}
 use Rattle.esm_record.specs.declared.item.Item.{Item}
 use Rattle.esm_record.specs.declared.item.Item.TheVariants.{Queue, Stream}
 use Rattle.esm_qbook.specs.Books.{BookState}
-use Rattle.esm_qpool.specs.Coming.{SomeCame, messages_in_items}
+use Rattle.esm_queue_run.specs.Coming.{SomeCame, messages_in_items}
 
 -- those that the entries tell, oldest entry first
 abbrev told_in : List Message → List Entry → List Message

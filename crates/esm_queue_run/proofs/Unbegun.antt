@@ -13,7 +13,7 @@ use Rattle.esm_queue_core.specs.CoreView.{new_setting, new_view}
 use Rattle.esm_input.specs.Positions.{from_start}
 use Rattle.esm_input.specs.Reading.{items_read}
 use Rattle.esm_qbook.specs.Books.{BookState}
-use Rattle.esm_qpool.specs.Coming.{messages_in_items}
+use Rattle.esm_queue_run.specs.Coming.{messages_in_items}
 use Rattle.esm_stream.specs.Files.{FilesState, IsOpenedFiles}
 use Rattle.esm_stream.specs.Headline.{Devices, Telling}
 use Rattle.esm_stream.proofs.Unbegun.{grows_by_none, opens_as_found, takes_none}

@@ -22,10 +22,10 @@ use Rattle.esm_input.specs.Positions.{from_start}
 use Rattle.esm_input.specs.Reading.{InputState, IsInput, handed, items_read}
 use Rattle.esm_qbook.specs.Books.{BookState}
 use Rattle.esm_qbook.specs.Keeping.{IsCause}
-use Rattle.esm_qpool.specs.declared.running.RunEnd.{RunEnd}
-use Rattle.esm_qpool.specs.declared.running.RunEnd.TheVariants as ran
-use Rattle.esm_qpool.specs.Coming.{AllCame, SomeCame, messages_in_items}
-use Rattle.esm_qpool.specs.Ran.{CameSo, EndsSo, HasRun, HasStopped, IsCutInput, IsDownFor, IsOfMessage}
+use Rattle.esm_pool.specs.declared.running.RunEnd.{RunEnd}
+use Rattle.esm_pool.specs.declared.running.RunEnd.TheVariants as ran
+use Rattle.esm_queue_run.specs.Coming.{AllCame, SomeCame, messages_in_items}
+use Rattle.esm_queue_run.specs.Ran.{CameSo, EndsSo, HasRun, HasStopped, IsCutInput, IsDownFor, IsOfMessage}
 use Rattle.esm_stream.specs.Files.{FilesState}
 use Rattle.esm_stream.specs.Headline.{Devices, Telling}
 use Rattle.esm_queue_run.specs.Ended.{AllCame as AllMessagesCame, HasEnded, HasStoppedRun, IsFaultOf, IsCauseOf, IsChanged, OthersRest, line_kind, trouble_of}

@@ -18,10 +18,10 @@ use Rattle.esm_input.specs.declared.ending.InputEnd.{InputEnd}
 use Rattle.esm_input.specs.Positions.{from_start}
 use Rattle.esm_input.specs.Reading.{InputState, IsInput, items_read, handed}
 use Rattle.esm_upkeep.specs.Upkeep.{OneRose}
-use Rattle.esm_pool.specs.Running.{NoneRuns}
-use Rattle.esm_qpool.specs.Coming.{messages_in_items}
-use Rattle.esm_qpool.specs.Number.{batchers_in}
-use Rattle.esm_qpool.specs.Ran.{AllDeleted, HasWaiting}
+use Rattle.esm_stream.specs.Ran.{NoneRuns}
+use Rattle.esm_queue_run.specs.Coming.{messages_in_items}
+use Rattle.esm_queue_run.specs.Number.{batchers_in}
+use Rattle.esm_queue_run.specs.Ran.{AllDeleted, HasWaiting}
 use Rattle.esm_stream.specs.Files.{FilesState}
 use Rattle.esm_stream.specs.Headline.{Telling, Devices}
 use Rattle.esm_queue_run.specs.Earned.{DeletedAllEarned}

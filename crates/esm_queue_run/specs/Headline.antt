@@ -23,8 +23,8 @@ use Rattle.esm_said.specs.Meaning.{deletion_said, history}
 use Rattle.esm_said.specs.SaidLists.{SaidLists}
 use Rattle.esm_upkeep.specs.Upkeep.{AreHonest, AreSettled, PairHolds}
 use Rattle.esm_qbook.specs.Books.{payloads_in, OpensToFirst}
-use Rattle.esm_pool.specs.Given.{AreGiven}
-use Rattle.esm_qpool.specs.Stopping.{HasLogged}
+use Rattle.esm_stream.specs.Given.{AreGiven}
+use Rattle.esm_queue_run.specs.Stopping.{HasLogged}
 use Rattle.esm_stream.specs.Files.{FilesState}
 use Rattle.esm_stream.specs.Headline.{Telling, Devices, PairStopped}
 use Rattle.esm_queue_run.specs.Earned.{DeletedOnlyEarned}

@@ -1,3 +1,8 @@
+pub mod Number
+pub mod Coming
+pub mod Stopping
+pub mod Ran
+pub mod Left
 pub mod Earned
 pub mod Headline
 pub mod Ended

@@ -21,9 +21,9 @@ use Rattle.esm_input.specs.Reading.{InputState}
 use Rattle.esm_said.specs.SaidLists.{SaidLists}
 use Rattle.esm_qbook.specs.Books.{BookState, LeavesFirst, OpensToFirst, payloads_in}
 use Rattle.esm_qbook.specs.Keeping.{HasJournal, entries_left}
-use Rattle.esm_qpool.specs.Number.{batchers_in}
-use Rattle.esm_qpool.specs.declared.running.RunEnd.{RunEnd}
-use Rattle.esm_qpool.specs.declared.running.RunEnd.TheVariants as ran
+use Rattle.esm_queue_run.specs.Number.{batchers_in}
+use Rattle.esm_pool.specs.declared.running.RunEnd.{RunEnd}
+use Rattle.esm_pool.specs.declared.running.RunEnd.TheVariants as ran
 use Rattle.esm_stream.specs.Files.{FilesState, IsOpenedFiles}
 use Rattle.esm_queue_run.specs.Ended.{line_kind}
 use Rattle.esm_queue_run.specs.declared.run.QueueEnd.{QueueEnd}

@@ -4,6 +4,9 @@
 #![tactic(auto)]
 
 mod laws;
+mod number;
 mod run;
+mod running;
 
+pub use number::{DEFAULT_BATCHERS, MAX_BATCHERS, batchers_of};
 pub use run::{QueueEnd, QueueRun, run_queue};

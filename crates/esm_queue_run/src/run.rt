@@ -22,12 +22,14 @@ ghost use Rattle.esm_queue_run.specs.Ended.{HasEnded, HasStoppedRun};
 ghost use Rattle.esm_queue_run.specs.Runs.{IsBegun, files_of, HasReason, IsOfQueue, IsEndOf, EndsBy, StopsBy};
 
 use crate::laws::laws_hold;
+use crate::number::batchers_of;
+use crate::running::{Ran, run_batchers};
 use esm_input::{Input, InputEnd};
 use esm_io::{Caller, Clock, Disk, Source};
 use esm_journal::{FileDest, Pair};
 use esm_model::{BookOpen, Change, Config, Entry, Kind, OutOfMemory, Refused, Text, Trouble};
+use esm_pool::RunEnd;
 use esm_qbook::{QueueBook, QueueParts};
-use esm_qpool::{Ran, RunEnd, batchers_of, run_queue as run_batchers};
 use esm_record::LineKind;
 use esm_said::Says;
 use esm_said::laws::same_told;

@@ -23,7 +23,7 @@ use Rattle.esm_upkeep.specs.Upkeep.{AreHonest, AreOnlyRead, OneRose, PairHolds}
 use Rattle.esm_upkeep.proofs.Disks.{are_honest, pair_holds}
 use Rattle.esm_sbook.specs.Books.{BookState, OpensToFirst, payloads_in}
 use Rattle.esm_sbook.specs.Keeping.{entries_left}
-use Rattle.esm_pool.specs.Given.{AreGiven}
+use Rattle.esm_stream.specs.Given.{AreGiven}
 use Rattle.esm_stream.specs.Files.{FilesState}
 use Rattle.esm_stream.specs.Headline.{AnswersAreLogged, CrashKept, Devices, FailureLinesKept, Headline, IsInHand, JournalKept, JournalStopped, LinesKept, LinesStopped, OpensToFrontOf, PairStopped, Telling}
 use Rattle.esm_stream.specs.Runs.{IsLeft, file_dest}

@@ -7,3 +7,10 @@ pub mod Stopped
 pub mod Unbegun
 pub mod Ways
 pub mod Begins
+mod Setups
+mod Bridges
+mod Following
+mod Lanes
+mod Items
+mod Configs
+mod Shared

@@ -22,7 +22,7 @@ use Rattle.esm_record.specs.declared.item.Item.{Item}
 use Rattle.esm_record.specs.declared.item.Item.TheVariants.{Queue, Stream as StreamItem}
 use Rattle.esm_sbook.specs.Books.{BookState}
 use Rattle.esm_sbook.specs.Keeping.{IsSound}
-use Rattle.esm_pool.specs.Coming.{SomeCame, records_in_items}
+use Rattle.esm_stream.specs.Coming.{SomeCame, records_in_items}
 use Rattle.esm_stream.specs.Laws.{AreLaws}
 use Rattle.esm_stream.proofs.Payloads.{coming_extends, own_legal}
 

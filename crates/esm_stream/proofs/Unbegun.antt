@@ -19,7 +19,7 @@ use Rattle.esm_input.specs.Positions.{from_start}
 use Rattle.esm_input.specs.Reading.{items_read}
 use Rattle.esm_upkeep.proofs.Disks.{are_honest}
 use Rattle.esm_sbook.specs.Books.{BookState}
-use Rattle.esm_pool.specs.Coming.{records_in_items}
+use Rattle.esm_stream.specs.Coming.{records_in_items}
 use Rattle.esm_stream.specs.Ended.{HasStoppedRun}
 use Rattle.esm_stream.specs.Files.{FilesState, IsOpenedFiles}
 use Rattle.esm_stream.specs.Headline.{Devices, Telling}

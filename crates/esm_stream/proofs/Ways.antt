@@ -28,8 +28,8 @@ use Rattle.esm_sbook.specs.Books.{BookState}
 use Rattle.esm_sbook.specs.Keeping.{IsCause, IsSound}
 use Rattle.esm_pool.specs.declared.running.RunEnd.{RunEnd}
 use Rattle.esm_pool.specs.declared.running.RunEnd.TheVariants as ran
-use Rattle.esm_pool.specs.Coming.{AllCame, SomeCame, records_in_items}
-use Rattle.esm_pool.specs.Ran.{CameSo, EndsSo, HasRun, HasStopped, IsCutInput, IsDownFor}
+use Rattle.esm_stream.specs.Coming.{AllCame, SomeCame, records_in_items}
+use Rattle.esm_stream.specs.Ran.{CameSo, EndsSo, HasRun, HasStopped, IsCutInput, IsDownFor}
 use Rattle.esm_stream.specs.Ended.{AllCame as AllRecordsCame, HasEnded, HasStoppedRun, IsFaultOf, IsCauseOf, trouble_of}
 use Rattle.esm_stream.specs.Files.{FilesState}
 use Rattle.esm_stream.specs.Headline.{CallsMadeOrOneMore, Devices, Headline, Telling}

@@ -17,9 +17,8 @@ use Rattle.esm_input.specs.declared.ending.InputEnd.{InputEnd}
 use Rattle.esm_input.specs.Positions.{from_start}
 use Rattle.esm_input.specs.Reading.{InputState, IsInput, items_read, handed}
 use Rattle.esm_upkeep.specs.Upkeep.{OneRose}
-use Rattle.esm_pool.specs.Coming.{records_in_items}
-use Rattle.esm_pool.specs.Ran.{AllFated, NoneOutstanding, HasOpen, HasOutstanding, IsOfRecord}
-use Rattle.esm_pool.specs.Running.{NoneRuns}
+use Rattle.esm_stream.specs.Coming.{records_in_items}
+use Rattle.esm_stream.specs.Ran.{AllFated, NoneOutstanding, HasOpen, HasOutstanding, IsOfRecord, NoneRuns}
 use Rattle.esm_stream.specs.Files.{FilesState}
 use Rattle.esm_stream.specs.Headline.{Telling, Devices, IsSettingOf, CallsMade, CallsMadeOrOneMore, Headline}
 use Rattle.esm_stream.specs.declared.run.StreamEnd.{StreamEnd}

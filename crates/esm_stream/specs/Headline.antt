@@ -28,9 +28,9 @@ use Rattle.esm_said.specs.Meaning.{fate_said, history}
 use Rattle.esm_said.specs.SaidLists.{SaidLists}
 use Rattle.esm_upkeep.specs.Upkeep.{AreHonest, AreSettled, PairHolds}
 use Rattle.esm_sbook.specs.Books.{payloads_in}
-use Rattle.esm_pool.specs.Given.{AreGiven}
+use Rattle.esm_stream.specs.Given.{AreGiven}
 use Rattle.esm_batchers.specs.Working.{Outside}
-use Rattle.esm_pool.specs.Stopping.{HasLogged}
+use Rattle.esm_stream.specs.Stopping.{HasLogged}
 use Rattle.esm_stream.specs.Files.{FilesState}
 
 -- what devices tell: of the clock and the callers, and of the disks

@@ -1,3 +1,8 @@
+pub mod Given
+pub mod Coming
+pub mod Stopping
+pub mod Ran
+pub mod Left
 pub mod Files
 pub mod Headline
 pub mod Ended

@@ -6,6 +6,7 @@
 mod files;
 mod laws;
 mod run;
+mod running;
 
 pub use files::{Files, FilesError, FilesParts, open_files};
 pub use run::{StreamEnd, StreamRun, run_stream};

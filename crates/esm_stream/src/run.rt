@@ -21,11 +21,12 @@ ghost use Rattle.esm_stream.specs.Runs.{IsBegun, files_of, HasReason, IsEndOf, E
 
 use crate::files::Files;
 use crate::laws::laws_hold;
+use crate::running::{Ran, run_lanes};
 use esm_input::{Input, InputEnd};
 use esm_io::{Caller, Clock, Disk, Source};
 use esm_journal::{FileDest, Pair};
 use esm_model::{BookOpen, Change, Config, Entry, OutOfMemory, Refused, Start, Text, Trouble};
-use esm_pool::{Ran, RunEnd, run_lanes};
+use esm_pool::RunEnd;
 use esm_record::LineKind;
 use esm_said::Says;
 use esm_said::laws::same_told;

@@ -37,22 +37,22 @@ returns g c =
     let calls = before.core.setting.calls in
     let visibility = before.core.setting.visibility in
     let files : FilesState g.row.D.Denot = files_of c.args.before.now.journal.value c.args.before.now.spare.value c.args.before.now.failures.value c.args.said before c.args.dest in
-    let b : BookState g.row.D.Denot = c.run_queue-ran.result.book in
-    let i : InputState g.row.S.Denot = c.run_queue-ran.result.input in
-    let ran = c.run_queue-ran.result.end in
+    let b : BookState g.row.D.Denot = c.run_batchers-ran.result.book in
+    let i : InputState g.row.S.Denot = c.run_batchers-ran.result.input in
+    let ran = c.run_batchers-ran.result.end in
     let out = c.closed.result in
     let callers = c.args.callers.items in
     let new : Devices g.row.D.Denot g.row.F.Denot = record { journal = out.journal; spare = out.spare; failures = out.failures; callers = out.callers.items } in
     let laws : AreLaws = c.laws_hold.ensures in
     let sound = c.trouble.ensures.sound in
     let come : HasCome t g.S.Source.faults g.S.Source.left before b i callers new.callers ran = record {
-      run = rw c.closed.ensures.callers c.run_queue-ran.ensures.run;
-      came = c.run_queue-ran.ensures.came;
-      ended = c.run_queue-ran.ensures.ended;
-      read = c.run_queue-ran.ensures.read;
-      good = c.run_queue-ran.ensures.good;
-      stopped = rw c.closed.ensures.callers c.run_queue-ran.ensures.stopped;
-      cut = c.run_queue-ran.ensures.cut;
+      run = rw c.closed.ensures.callers c.run_batchers-ran.ensures.run;
+      came = c.run_batchers-ran.ensures.came;
+      ended = c.run_batchers-ran.ensures.ended;
+      read = c.run_batchers-ran.ensures.read;
+      good = c.run_batchers-ran.ensures.good;
+      stopped = rw c.closed.ensures.callers c.run_batchers-ran.ensures.stopped;
+      cut = c.run_batchers-ran.ensures.cut;
     } in
     let stays = found_stays t g.S.Source.faults g.S.Source.left before b i callers new.callers ran come in
     let stood : StoodSo config calls visibility files before = record { core = c.requires.begun.core } in
@@ -78,7 +78,7 @@ returns g c =
       spare = rw (← c.into_parts-history.ensures.pair) c.closed.ensures.spare;
       failures = c.closed.ensures.failures;
     } in
-    let made : IsMadeFor config c.args.run.input.source i = made_for config c.args.run.input.source c.args.run.input i c.requires.begun.input c.run_queue-ran.ensures.input in
+    let made : IsMadeFor config c.args.run.input.source i = made_for config c.args.run.input.source c.args.run.input i c.requires.begun.input c.run_batchers-ran.ensures.input in
     let trace : reverse out.trace.items ≡ b.core.past = rw (c.closed.ensures.trace, c.into_parts-history.ensures.history) (reverse-reverse b.core.past) in
     let source : out.input ≡ i.source = c.closed.ensures.input ∙ c.into_parts-source.ensures.source in
     let P : QueueEnd → Type 0 = HasEnded t g.S.Source.faults g.S.Source.left config calls visibility files c.args.run.input.source out.input callers (reverse out.trace.items) new in
@@ -101,7 +101,7 @@ returns g c =
           (subst (λ (h : List Entry). HasStoppedRun t g.S.Source.left config calls visibility files c.args.run.input.source i.source callers h new) (sym trace)
           (stopped_by t g.S.Source.faults g.S.Source.left config calls visibility files c.args.run.input.source i callers before b new ran laws stood left of c.trouble.ensures.cause made come)))
           c.end_of-end.ensures.stopped);
-      read_first = λ first. subst CallsFollowShut (sym trace) (c.run_queue-ran.ensures.later first);
+      read_first = λ first. subst CallsFollowShut (sym trace) (c.run_batchers-ran.ensures.later first);
       said = c.closed.ensures.said;
       as_many = stays.1 ∙ c.requires.callers;
     }
@@ -110,7 +110,7 @@ pub since_before-requires-clause-first : goal.since_before-requires-clause-first
 since_before-requires-clause-first g c =
     let m : DiskMeaning g.row.D.Denot = meaning g.D.Disk.honest g.D.Disk.content g.D.Disk.image g.D.Disk.moment g.D.Disk.image_since g.D.Disk.faults in
     let t : Telling g.row.D.Denot g.row.F.Denot = telling (outside g.C.Clock.gave g.F.Caller.sends g.F.Caller.log) m in
-    let ran = c.run_queue-ran in
+    let ran = c.run_batchers-ran in
     let found : ran.result.book.found ≡ c.args.run.book.pair = found_ran t c.args.run.book ran.result.book c.args.callers.items ran.result.callers.items ran.result.end ran.ensures.run ran.ensures.stopped ∙ c.requires.begun.found in
     subst (λ (p : PairState g.row.D.Denot). IsOnlyRead m c.args.before.now.journal.value (first_disk p)) (sym found) c.requires.files.read.0
 
@@ -118,13 +118,13 @@ pub since_before-requires-clause-second : goal.since_before-requires-clause-seco
 since_before-requires-clause-second g c =
     let m : DiskMeaning g.row.D.Denot = meaning g.D.Disk.honest g.D.Disk.content g.D.Disk.image g.D.Disk.moment g.D.Disk.image_since g.D.Disk.faults in
     let t : Telling g.row.D.Denot g.row.F.Denot = telling (outside g.C.Clock.gave g.F.Caller.sends g.F.Caller.log) m in
-    let ran = c.run_queue-ran in
+    let ran = c.run_batchers-ran in
     let found : ran.result.book.found ≡ c.args.run.book.pair = found_ran t c.args.run.book ran.result.book c.args.callers.items ran.result.callers.items ran.result.end ran.ensures.run ran.ensures.stopped ∙ c.requires.begun.found in
     subst (λ (p : PairState g.row.D.Denot). IsOnlyRead m c.args.before.now.spare.value (second_disk p)) (sym found) c.requires.files.read.1
 
 pub end_of-end-requires-clause-reason : goal.end_of-end-requires-clause-reason
 end_of-end-requires-clause-reason g c =
-    let ran = c.run_queue-ran in
+    let ran = c.run_batchers-ran in
     let b : BookState g.row.D.Denot = ran.result.book in
     subst (λ (w : Option Trouble). IfOk ran.result.end (HasReason w c.into_parts-source.result.1)) (sym c.trouble.ensures.value)
     (subst (λ (x : Option InputEnd). IfOk ran.result.end (HasReason b.trouble x)) (sym c.into_parts-source.ensures.end)
@@ -133,5 +133,5 @@ end_of-end-requires-clause-reason g c =
 pub end_of-end-requires-clause-queue : goal.end_of-end-requires-clause-queue
 end_of-end-requires-clause-queue g c =
     let m : DiskMeaning g.row.D.Denot = meaning g.D.Disk.honest g.D.Disk.content g.D.Disk.image g.D.Disk.moment g.D.Disk.image_since g.D.Disk.faults in
-    let b : BookState g.row.D.Denot = c.run_queue-ran.result.book in
+    let b : BookState g.row.D.Denot = c.run_batchers-ran.result.book in
     subst IsOfQueue (sym c.trouble.ensures.value) (of_queue m b b.trouble c.trouble.ensures.cause)

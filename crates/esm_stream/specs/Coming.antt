@@ -1,0 +1,21 @@
+-- Records that came to a book from its input. This product's own.
+use Rattle.std.specs.Prelude.{◌≡◌, ◌++◌, ℕ, true, List}
+use Rattle.esm_model.specs.declared.item.Record.{Record}
+use Rattle.esm_model.specs.Setting.{records_in}
+use Rattle.esm_model.specs.Entries.{is_shut}
+use Rattle.esm_arrival.specs.Coming.{of_shard}
+pub use Rattle.esm_lasting.specs.Items.{records_in_items}
+use Rattle.esm_sbook.specs.Books.{BookState}
+
+-- of each shard those of the list came, in its order
+abbrev pub HaveCome : {D T : Type 0} → BookState D T → List Record → Type 0
+HaveCome b records = (n : ℕ) → records_in b.core.setting.streams n ≡ of_shard n records
+
+-- of each shard the first of them came
+abbrev pub SomeCame : {D T : Type 0} → BookState D T → List Record → Type 0
+SomeCame b records = (n : ℕ) → (rest : List Record) × (of_shard n records ≡ records_in b.core.setting.streams n ++ rest)
+
+-- all of them came, and the end of the input was noted
+pub record AllCame {D T : Type 0} (b : BookState D T) (records : List Record) : Type 0 where
+  pub came : HaveCome b records
+  pub shut : is_shut b.core.past ≡ true
