@@ -23,8 +23,8 @@ use Rattle.esm_model.specs.declared.limits.TheConstants.{MAX_LANES}
 use Rattle.esm_model.specs.declared.memory.OutOfMemory.{OutOfMemory}
 use Rattle.esm_model.specs.Calls.{calls}
 use Rattle.esm_model.specs.Setting.{Setting, Stream, over}
-use Rattle.esm_pool.specs.Coming.{records_in_items}
-use Rattle.esm_pool.specs.Stopping.{HasLogged}
+use Rattle.esm_stream.specs.Coming.{records_in_items}
+use Rattle.esm_stream.specs.Stopping.{HasLogged}
 use Rattle.esm_record.specs.Input.{input_of}
 use Rattle.esm_record.specs.declared.item.Item.{Item}
 use Rattle.esm_record.specs.declared.item.Item.TheVariants as item

@@ -13,8 +13,8 @@ use Rattle.esm_record.specs.declared.item.Item.TheVariants.{Stream, Queue}
 use Rattle.esm_report.specs.declared.ending.LimitName.{LimitName}
 use Rattle.esm_input.specs.Limits.{Limited, limited_after, passed, shards_with, stop_at}
 use Rattle.esm_input.specs.Positions.{from_moment, from_start, has_begun}
-use Rattle.esm_pool.specs.Coming.{records_in_items}
-use Rattle.esm_qpool.specs.Coming.{messages_in_items}
+use Rattle.esm_stream.specs.Coming.{records_in_items}
+use Rattle.esm_queue_run.specs.Coming.{messages_in_items}
 
 -- the list goes on from the first one
 abbrev pub IsFront : {A : Type 0} → List A → List A → Type 0

@@ -17,7 +17,7 @@ use Rattle.esm_model.specs.declared.setup.FoundTries.{FoundTries}
 use Rattle.esm_model.specs.Entries.{came_count}
 use Rattle.esm_model.specs.Setting.{Setting, found_fate, found_try, over, record_at, records_of}
 use Rattle.esm_model.specs.Step.{Legal, MayCome}
-use Rattle.esm_pool.specs.Ran.{IsOfRecord}
+use Rattle.esm_stream.specs.Ran.{IsOfRecord}
 use Rattle.esm_stream.specs.Ended.{AllCame}
 use Rattle.esm_run.proofs.Fronts.{IsFront, shard_front}
 

@@ -9,8 +9,8 @@ use Rattle.esm_model.specs.declared.config.Config.{Config}
 use Rattle.esm_model.specs.declared.entry.Entry.{Entry}
 use Rattle.esm_model.specs.declared.item.Message.{Message}
 use Rattle.esm_mapping.specs.declared.named.NamedMapping.{NamedMapping}
-use Rattle.esm_qpool.specs.Coming.{messages_in_items}
-use Rattle.esm_qpool.specs.Ran.{AllDeleted, HasWaiting}
+use Rattle.esm_queue_run.specs.Coming.{messages_in_items}
+use Rattle.esm_queue_run.specs.Ran.{AllDeleted, HasWaiting}
 use Rattle.esm_queue_core.specs.CoreView.{new_setting}
 use Rattle.esm_queue_model.specs.QueueEntries.{is_deleted}
 use Rattle.esm_queue_model.specs.QueueSetting.{QueueSetting, over_messages}

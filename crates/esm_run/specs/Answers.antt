@@ -16,7 +16,7 @@ use Rattle.esm_input.specs.Reading.{InputState, handed}
 use Rattle.esm_mapping.specs.Named.{IsNamed, WhyNot}
 use Rattle.esm_mapping.specs.declared.named.MappingError.{MappingError}
 use Rattle.esm_mapping.specs.declared.named.NamedMapping.{NamedMapping}
-use Rattle.esm_pool.specs.Coming.{records_in_items}
+use Rattle.esm_stream.specs.Coming.{records_in_items}
 use Rattle.esm_queue_report.specs.Queue.{queue_report_text}
 use Rattle.esm_queue_run.specs.Ended as queue
 use Rattle.esm_queue_run.specs.declared.run.QueueEnd.{QueueEnd}

@@ -8,8 +8,8 @@ use Rattle.esm_model.specs.Earned.{FateIsEarned}
 use Rattle.esm_model.specs.Entries.{CallsFollowShut}
 use Rattle.esm_model.specs.Laws.{CheckpointIsLongest, EveryRecordCounted, NoRepeat, OneFate, OrderPerKey}
 use Rattle.esm_model.specs.Setting.{Setting}
-use Rattle.esm_pool.specs.Given.{AreGiven}
-use Rattle.esm_pool.specs.Running.{NoneRuns}
+use Rattle.esm_stream.specs.Given.{AreGiven}
+use Rattle.esm_stream.specs.Ran.{NoneRuns}
 use Rattle.esm_report.specs.Report.{report_text}
 use Rattle.esm_stream.specs.Ended.{trouble_of}
 use Rattle.esm_stream.specs.Files.{FilesState}

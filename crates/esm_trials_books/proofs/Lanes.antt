@@ -23,8 +23,8 @@ use Rattle.esm_next.specs.Following.{next_for, next_entries}
 use Rattle.esm_owing.specs.OwingView.{OwingView}
 use Rattle.esm_core.specs.Calls.{moment_for, ended_entries, IsNextOver, IsResting, IsRunningJob}
 use Rattle.esm_sbook.specs.Calls.{RunsCall, next_entries_now}
-use Rattle.esm_pool.proofs.Calling.{batcher_is}
-use Rattle.esm_pool.proofs.Quiet.{Same, same_front, one_more}
+use Rattle.esm_trials_books.proofs.Batchers.{batcher_is}
+use Rattle.esm_trials_books.proofs.Quiet.{Same, same_front, one_more}
 use Rattle.esm_trials_books.specs.Streams.{IsOpen, Runs, KeepsOthers}
 
 -- records that come begin no call, and do not end the input

@@ -1,3 +1,5 @@
+pub mod Batchers
 pub mod Lanes
 pub mod Mappings
+pub mod Quiet
 pub mod Resting
