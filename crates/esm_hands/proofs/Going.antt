@@ -42,3 +42,8 @@ module _ (author : List Told → Told → ℕ) where
     pub all_given : (h es : List Told) → ((n : ℕ) → OwnGiven gave author n h es) → AllGiven gave h es
     all_given h [] own = tt
     all_given h (e ∷ es) own = ((own (author h e)).0 refl, all_given (h ++ e ∷ []) es (λ n. (own n).1))
+
+    -- of each author where of all
+    pub own_given : (n : ℕ) (h es : List Told) → AllGiven gave h es → OwnGiven gave author n h es
+    own_given n h [] all = tt
+    own_given n h (e ∷ es) all = ((λ _. all.0), own_given n (h ++ e ∷ []) es all.1)

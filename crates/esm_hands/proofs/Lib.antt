@@ -1,5 +1,5 @@
 mod Going
 mod Packed
-mod AtWork
+mod Closed
+mod Read
 mod Whole
-mod Runs

@@ -1,13 +1,12 @@
 -- What threads that share a book leave. This product's own.
-use Rattle.std.specs.Prelude.{◌≡◌, ◌+◌, ◌<◌, ◌≤◌, ◌++◌, [], ℕ, Bool, true, false, List, slice_index_or, length}
+use Rattle.std.specs.Prelude.{◌≡◌, ◌<◌, ◌≤◌, ◌++◌, [], ℕ, Bool, true, false, List, slice_index_or, length}
 use Rattle.esm_io.specs.Told.{Grows}
 use Rattle.esm_model.specs.declared.book.Job.{Job}
 use Rattle.esm_model.specs.declared.called.Called.{Called}
 use Rattle.esm_model.specs.declared.setup.Setup.{Setup}
 use Rattle.esm_model.specs.declared.setup.Told.{Told}
 use Rattle.esm_pooled.specs.GoingOn.{OthersFollow}
-use Rattle.esm_turn.specs.Seats.{SeatView}
-use Rattle.esm_batchers.specs.Working.{Outside, HasLogged, HasEnded}
+use Rattle.esm_batchers.specs.Working.{Outside, HasLogged}
 
 -- What a reader did, told of what its seat has seen: the shared history goes on from that by the entries of others alone.
 -- A mark that it has seen is that of the book.
@@ -31,13 +30,3 @@ pub record HaveCalled {F : Type 0} (calls : Setup → (List ℕ → List ℕ) �
   pub logged : (k : ℕ) (d : F) → k < length old → HasLogged (runs setup h k) setup o.sends (calls setup o.sends h k) (o.log (slice_index_or old k d)) (o.log (slice_index_or new k d))
   pub untouched : (k : ℕ) (d : F) → batchers ≤ k → slice_index_or new k d ≡ slice_index_or old k d
   pub no_calls : (k : ℕ) → batchers ≤ k → calls setup o.sends h k ≡ []
-
--- Why the batcher k came to its end, told of its seat: the shared history goes on from what that has seen by the entries of
--- others alone. A mark that it has seen is that of the book.
-pub record WhyEnded (author : Setup → List Told → Told → ℕ) (may_follow : Setup → List Told → Told → Type 0) (ended : Setup → List Told → ℕ → Type 0) (setup : Setup) (h : List Told) (mark after_shut : Bool) (k : ℕ) : Type 0 where
-  pub seat : SeatView
-  pub rest : List Told
-  pub whole : h ≡ seat.seen ++ rest
-  pub others : OthersFollow author may_follow setup (k + 1) seat.seen rest
-  pub marked : seat.mark ≡ true → mark ≡ true
-  pub why : HasEnded ended setup k after_shut seat

@@ -1,18 +1,16 @@
 // A seat at a book's turn, with the reader or the caller that its thread works with.
 use esm_turn::Seat;
 
-/// What a hand works with.
-pub enum Work<W, F> {
-    /// It reads the input.
-    Read(W),
-    /// It calls the function.
-    Call(F),
-}
-
-/// A seat at a book's turn, with what its thread works with.
-pub struct Hand<T, W, F> {
+/// A seat at a book's turn, with the reader or the caller that its thread works with.
+pub struct Hand<T, F> {
     pub seat: Seat<T>,
-    pub work: Work<W, F>,
+    pub caller: F,
     /// Want of memory ended its work.
     pub short: bool,
+}
+
+/// The reader's seat at a book's turn, with the reader.
+pub struct ReaderHand<T, W> {
+    pub seat: Seat<T>,
+    pub reader: W,
 }

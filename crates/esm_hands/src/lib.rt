@@ -3,13 +3,12 @@
 //! the calls that it tells of.
 #![tactic(auto)]
 
+mod behind;
 mod hand;
 mod pack;
 mod reading;
-mod room;
 mod running;
 mod working;
 
-pub use hand::{Hand, Work};
 pub use reading::Reading;
 pub use running::{Ran, run_hands};

@@ -1,5 +1,7 @@
 // The trait of what reads an input and hands its items to a book, at the reader's seat.
 ghost use Rattle.std.specs.Prelude.{◌≡◌, [], List, Bool, true, false, OnOk, OnErr};
+ghost use Rattle.esm_model.specs.Books.{entries_told};
+ghost use Rattle.esm_model.specs.Entries.{is_shut};
 ghost use Rattle.esm_model.specs.declared.setup.Setup.{Setup};
 ghost use Rattle.esm_model.specs.declared.setup.Told.{Told};
 ghost use Rattle.esm_batchers.specs.Seated.{IsSeated};
@@ -34,5 +36,6 @@ pub trait Reading<T: Kept> {
         requires unused { seat.old.mine ≡ [] }
         ensures seated { IsSeated T.author T.may_follow C.gave turn.now 0 seat.new }
         ensures read { OnOk result (read turn.now.setup self.old self.new seat.new.seen seat.new.mark false) }
-        ensures stopped { OnErr result (read turn.now.setup self.old self.new seat.new.seen seat.new.mark true) };
+        ensures stopped { OnErr result (read turn.now.setup self.old self.new seat.new.seen seat.new.mark true) }
+        ensures shut { seat.new.mark ≡ false → is_shut (entries_told seat.new.seen) ≡ true };
 }

@@ -1,15 +1,13 @@
-use Rattle.std.proofs.Common.{◌≡◌, ◌+◌, ◌<◌, ◌≤◌, List, ◌++◌, length, reverse, vec_len, vec_capacity}
+use Rattle.std.proofs.Common.{◌≡◌, ◌+◌, ◌≤◌, ◌∷◌, ◌++◌, length, reverse, vec_len, vec_capacity}
 use Rattle.esm_hands.specs.Packs.{seats_of, callers_of}
-use Rattle.esm_hands.specs.declared.hand.Hand.{Hand}
 use Rattle.esm_hands.proofs.pack.unpack.Given as goal
 
-abbrev pub invariant-loop-hands : goal.invariant-loop-hands
-invariant-loop-hands g l =
-    (0 < length l.hands.items)
-    × (vec_len l.seats + length l.hands.items ≤ vec_capacity l.seats)
-    × (vec_len l.callers + length l.hands.items ≤ vec_capacity l.callers + 1)
-    × ((more : List (Hand g.row.T.Denot g.row.W.Denot g.row.F.Denot))
-    × (l.hands.items ++ more ≡ l.fn.hands.items) × (l.seats.items ≡ reverse (seats_of more)) × (l.callers.items ≡ reverse (callers_of more)))
+abbrev pub invariant-loop-hand : goal.invariant-loop-hand
+invariant-loop-hand g l =
+    (vec_len l.seats + length l.worked.items ≤ vec_capacity l.seats)
+    × (vec_len l.callers + length l.worked.items ≤ vec_capacity l.callers)
+    × (l.seats.items ++ seats_of (reverse l.worked.items) ≡ l.fn.first ∷ seats_of l.fn.worked.items)
+    × (l.callers.items ++ callers_of (reverse l.worked.items) ≡ callers_of l.fn.worked.items)
 
-abbrev pub decreases-loop-hands : goal.decreases-loop-hands
-decreases-loop-hands g l = length l.hands.items
+abbrev pub decreases-loop-hand : goal.decreases-loop-hand
+decreases-loop-hand g l = length l.worked.items
