@@ -20,20 +20,22 @@ enum Answer {
     NoMemory,
 }
 
-/// A book without entries, which answers these, the last one first.
+/// A book without entries but the end of its input, which answers these, the last one first.
 #[derive(Drop)]
 struct Scripted {
     answers: Vec<Answer>,
+    shut: bool,
     down: bool,
 }
 
 impl Kept for Scripted {
-    ghost use Rattle.std.specs.Prelude.{[]};
+    ghost use Rattle.std.specs.Prelude.{if◌then◌else◌, [], ◌∷◌};
     ghost use Rattle.esm_model.specs.Setup.{no_setup};
+    ghost use Rattle.esm_model.specs.declared.entry.Entry.TheVariants.{Shut};
 
     ghost setup = { λ _. no_setup };
 
-    ghost history = { λ _. [] };
+    ghost history = { λ book. if book.shut then record { entry = Shut 0; records = []; messages = [] } ∷ [] else [] };
 
     ghost mark = { λ book. book.down };
 
@@ -42,7 +44,7 @@ impl Kept for Scripted {
     ghost may_follow = { λ _ _ _. Unit {0} };
 
     fn entries(&self) -> u64 {
-        0
+        u64::from(self.shut)
     }
 
     fn marked(&self) -> bool {
@@ -120,6 +122,7 @@ fn batcher_over<R: Wait>(
 ) -> Option<(bool, usize, u64)> {
     let book = Scripted {
         answers,
+        shut: false,
         down: false,
     };
     let script = Script::Each(Vec::new(alloc));
