@@ -1,4 +1,5 @@
 pub mod Arriving
+pub mod AsItWas
 pub mod Reading
 pub mod Leaving
 pub mod Sent

@@ -4,8 +4,9 @@ use Rattle.esm_model.specs.Entries.{is_shut}
 use Rattle.esm_model.specs.Kept.{meaning}
 use Rattle.esm_turn.specs.Seats.{SeatView}
 use Rattle.esm_batchers.specs.Seated.{IsSeated}
-use Rattle.esm_batchers.proofs.Turns.{found, given_as_it_was, gone_back}
+use Rattle.esm_batchers.proofs.Turns.{found, gone_back}
 use Rattle.esm_pool.proofs.Arriving.{same_found}
+use Rattle.esm_pool.proofs.AsItWas.{given_as_it_was}
 use Rattle.esm_pool.proofs.coming.is_down.Goals as goal
 
 pub returns-clause-seated : goal.returns-clause-seated
@@ -17,7 +18,7 @@ returns-clause-seated g c =
     let x = c.take-value.result.value in
     let f = found m gave t 0 s (m.history x) c.requires.seated c.take-value.ensures.legal c.take-value.ensures.begins c.take-value.ensures.mine in
     subst (IsSeated m.author m.may_follow gave t 0) (sym (gone_back m gave t 0 s c.take-value.new.seat c.give.new.seat x x c.take-value.ensures.seat c.give.ensures))
-    (given_as_it_was m gave t 0 s x c.requires.seated f (c.take-value.ensures.setup ∙ c.requires.seated.free.setup_is))
+    (given_as_it_was m gave t 0 s x c.requires.seated f)
 
 pub returns-clause-going : goal.returns-clause-going
 returns-clause-going g c =
