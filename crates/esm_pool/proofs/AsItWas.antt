@@ -1,5 +1,5 @@
 -- What a seat knows that took the value and gave it back as it was.
-use Rattle.std.proofs.Common.{◌≡◌, ℕ, Bool, [], ◌++◌, refl, ap, ◌∙◌}
+use Rattle.std.proofs.Common.{ℕ, Bool, ◌++◌, refl, ap, ◌∙◌}
 use Rattle.std.proofs.lemmas.List.{append-nil}
 use Rattle.std.proofs.Math.Seq.{drop-length}
 use Rattle.esm_model.specs.Kept.{Meaning}
