@@ -1,5 +1,5 @@
 // Reads and writes that are made again where a signal interrupted them, as when the process is stopped and continued.
-ghost use Rattle.std.specs.Prelude.{◌≡◌, ◌<◌, ◌≤◌, length, IfOk, OnErr, IsErrAnd, IsTrue, ◌↔◌};
+ghost use Rattle.std.specs.Prelude.{◌≡◌, ◌<◌, ◌≤◌, length, IfOk, OnOk, OnErr, IfErr, IsErrAnd, IsTrue, ◌↔◌};
 ghost use Rattle.std.specs.Io.{ReadsAtMost};
 ghost use Rattle.std.specs.Io.KnownBytes.{ReadConsumes, WriteAppends};
 ghost use Rattle.std.specs.IoError.{error_kind};
@@ -20,6 +20,7 @@ pub fn is_interrupted<T>(outcome: &io::Result<T>) -> bool
 /// A read; one that was interrupted is made again.
 pub fn read_again<S: Read>(source: &mut S, into: &mut [u8]) -> io::Result<usize>
     ensures within { ReadsAtMost result into.new }
+    ensures uninterrupted { IfErr result (λ e. ¬ (error_kind e ≡ ErrorKind.Interrupted)) }
     ensures bytes { ReadConsumes (S.remaining source.old) (S.remaining source.new) result into.new }
 {
     for _ in 0..u64::MAX {
@@ -28,13 +29,14 @@ pub fn read_again<S: Read>(source: &mut S, into: &mut [u8]) -> io::Result<usize>
             return count;
         }
     }
-    Err(io::Error::from(ErrorKind::Interrupted))
+    Err(io::Error::from(ErrorKind::TimedOut))
 }
 
 /// A write; one that was interrupted is made again, and one that takes nothing of bytes that are there has failed.
 pub fn write_again<S: Write>(sink: &mut S, from: &[u8]) -> io::Result<usize>
     ensures within { IfOk result (λ n. n ≤ length from.now) }
     ensures some { IfOk result (λ n. 0 < length from.now → 0 < n) }
+    ensures uninterrupted { IfErr result (λ e. ¬ (error_kind e ≡ ErrorKind.Interrupted)) }
     ensures bytes { WriteAppends (S.contents sink.old) (S.contents sink.new) result from.now }
 {
     for _ in 0..u64::MAX {
@@ -43,7 +45,7 @@ pub fn write_again<S: Write>(sink: &mut S, from: &[u8]) -> io::Result<usize>
             return some_taken(count, from);
         }
     }
-    Err(io::Error::from(ErrorKind::Interrupted))
+    Err(io::Error::from(ErrorKind::TimedOut))
 }
 
 /// What takes nothing of bytes that are there has failed.
@@ -51,6 +53,8 @@ fn some_taken(count: io::Result<usize>, from: &[u8]) -> io::Result<usize>
     ensures some { IfOk result (λ n. 0 < length from.now → 0 < n) }
     ensures same { IfOk result (λ n. count ≡ Ok n) }
     ensures failed { OnErr result (IfOk count (λ n. n ≡ 0)) }
+    ensures cause { IfErr result (λ e. IfErr count (λ cause. cause ≡ e)) }
+    ensures zero { IfErr result (λ e. OnOk count (error_kind e ≡ ErrorKind.WriteZero)) }
 {
     match count {
         Ok(0) if !from.is_empty() => Err(io::Error::from(ErrorKind::WriteZero)),

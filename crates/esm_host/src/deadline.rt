@@ -1,5 +1,5 @@
 // A limit of time by the steady clock.
-ghost use Rattle.std.specs.Prelude.{◌≡◌, ◌-◌, ◌<◌, ◌↔◌, max, None, IfOk, OnOk, IfSome, IsSome, IsNone};
+ghost use Rattle.std.specs.Prelude.{◌≡◌, ◌-◌, ◌<◌, ◌≤◌, ◌↔◌, max, None, IfOk, OnOk, IfSome, IsSome, IsNone};
 ghost use Rattle.std.specs.Duration.{as_nanos};
 ghost use Rattle.esm_host.specs.Limits.{GoesOn};
 
@@ -28,6 +28,17 @@ impl Deadline {
         Deadline { limit, begun: None }
     }
 
+    /// A limit of time from now on. Where the steady clock cannot be read it began at that clock's zero.
+    pub fn from_now<R: Clock>(rt: &R, limit: Duration) -> Self
+        ensures limit { result.limit ≡ limit }
+        ensures running { IsSome result.begun }
+    {
+        Deadline {
+            limit,
+            begun: Some(rt.monotonic().unwrap_or(Duration::ZERO)),
+        }
+    }
+
     /// Begins it, where it has not begun.
     pub fn begin<R: Clock>(&mut self, rt: &R) -> io::Result<()>
         ensures limit { self.new.limit ≡ self.old.limit }
@@ -48,10 +59,11 @@ impl Deadline {
         self.begun = None;
     }
 
-    /// What is left of it, but `grace` at least, and a millisecond at least. An error where nothing is left, and where the
-    /// steady clock cannot be read.
+    /// What is left of it, but `grace` at least; a millisecond at least where anything is left. A limit that has not begun
+    /// counts as whole. An error where nothing is left, and where the steady clock cannot be read.
     pub fn left<R: Clock>(&self, rt: &R, grace: Duration) -> io::Result<Duration>
         ensures some { IfOk result (λ left. 0 < as_nanos left) }
+        ensures bounded { IfOk result (λ left. as_nanos left ≤ max (max (as_nanos self.now.limit) (as_nanos grace)) 1_000_000) }
     {
         let now = rt.monotonic()?;
         let gone = now.saturating_sub(self.begun.unwrap_or(now));

@@ -8,7 +8,8 @@ use std::marker::Model;
 use std::time::Duration;
 
 /// The host's clock. It reads the date once, when it is made, and goes on by the steady clock: a date that is set
-/// afterwards changes nothing.
+/// afterwards changes nothing. The steady clock stands while the machine is suspended, so that afterwards this one lags
+/// behind the date by that time.
 #[derive(Drop)]
 pub struct HostClock<R: std::rt::Clock + Clone> {
     rt: R,

@@ -17,7 +17,7 @@ pub enum NoConnection {
     /// For want of a local port, a descriptor or a buffer (EADDRNOTAVAIL, EMFILE, ENFILE, EAGAIN, ENOBUFS, ENOMEM):
     /// nothing was asked of the peer.
     Wanting,
-    /// Anything else: no peer listens, or it did not take the connection in time.
+    /// Anything else: no peer listens, it did not take the connection in time, or the steady clock cannot be read.
     Refused,
 }
 

@@ -1,5 +1,5 @@
 // A port of 127.0.0.1 as a door, where connections over TCP come in.
-ghost use Rattle.std.specs.Prelude.{◌≡◌, ◌*◌, true, None, IfOk, OnErr};
+ghost use Rattle.std.specs.Prelude.{◌≡◌, ◌*◌, true, None, IsSome, IfOk, OnErr};
 ghost use Rattle.esm_io.specs.Faults.{IsCount, Rose};
 
 use crate::no_connection::is_passing;
@@ -92,6 +92,7 @@ impl<R: Net + Clock + Clone> Door for TcpDoor<R> {
     fn accept(&mut self) -> Result<TcpLink<R>, Failed>
         ensures connected { IfOk result (λ link. link.connected ≡ true) }
         ensures limit { IfOk result (λ link. link.limit ≡ LIMIT * 1_000_000_000) }
+        ensures running { IfOk result (λ link. IsSome link.begun) }
         ensures faultless { IfOk result (λ link. link.faults ≡ 0) }
         ensures count { IsCount self.old.faults self.new.faults }
         ensures cause { OnErr result (Rose self.old.faults self.new.faults) }

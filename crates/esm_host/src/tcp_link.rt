@@ -1,6 +1,7 @@
 // A connection over TCP as a link, made to a local port or accepted by a door.
-ghost use Rattle.std.specs.Prelude.{◌≡◌, ◌<◌, ◌≤◌, true, false, length, None, IfOk, IfErr, IsOk, OnOk, OnErr};
+ghost use Rattle.std.specs.Prelude.{◌≡◌, ◌<◌, ◌≤◌, true, false, length, None, IsSome, IfOk, IfErr, IsOk, OnOk, OnErr};
 ghost use Rattle.std.specs.Duration.{as_nanos};
+ghost use Rattle.std.specs.IoError.{error_kind};
 ghost use Rattle.esm_io.specs.Faults.{IsCount, Rose};
 ghost use Rattle.esm_host.specs.Limits.{GoesOn};
 
@@ -14,15 +15,16 @@ use esm_model::OutOfMemory;
 use std::io;
 use std::io::ErrorKind;
 use std::marker::Model;
-use std::net::{Ipv4Addr, Net, SocketAddr, TcpStream};
+use std::net::{Ipv4Addr, Net, OpenStream, SocketAddr, TcpStream};
 use std::rt::Clock;
 use std::time::Duration;
 
 /// How many seconds a write of an accepted connection may wait for its peer in any case.
 const GRACE: u64 = 10;
 
-/// A connection over TCP, with a limit of time for all of it by the steady clock: once nothing is left of it, each call is
-/// a fault, and so it is where that clock cannot be read. A call that a signal interrupted is made again.
+/// A connection over TCP, with a limit of time for all of it by the steady clock: once nothing is left of it, each read is
+/// a fault, and each write past its grace, and so is either where that clock cannot be read. A call that a signal
+/// interrupted is made again.
 ///
 /// One to a port of 127.0.0.1 is made by its first `connect`, read or write, which begins the limit. Where that fails, the
 /// next call tries again, within the same limit; after `NoConnection::Wanting` it begins the limit anew. One that a door
@@ -39,13 +41,15 @@ pub struct TcpLink<R: Net + Clock + Clone> {
 }
 
 impl<R: Net + Clock + Clone> Model for TcpLink<R> {
-    ghost use Rattle.std.specs.Prelude.{is_some};
+    ghost use Rattle.std.specs.Prelude.{is_some, IsSome};
     ghost use Rattle.std.specs.Duration.{as_nanos};
     ghost use Rattle.esm_host.specs.Forms.{TcpLinkState};
 
     ghost Value = { TcpLinkState };
 
     ghost view = { λ s. record { connected = is_some s.stream; limit = as_nanos s.deadline.limit; begun = s.deadline.begun; faults = s.faults } };
+
+    ghost invariant = { λ s. IsSome s.stream → IsSome s.deadline.begun };
 }
 
 impl<R: Net + Clock + Clone> TcpLink<R> {
@@ -67,21 +71,20 @@ impl<R: Net + Clock + Clone> TcpLink<R> {
         })
     }
 
-    /// A connection that a listener has accepted, whose reads have this limit of time from now on. A write waits for its
-    /// peer for what is left of it, but for ten seconds at least. `OutOfMemory` where the runtime's handle cannot be
-    /// copied.
+    /// A connection that a listener has accepted, whose reads have this limit of time from now on, or from the steady
+    /// clock's zero where that cannot be read. A write waits for its peer for what is left of it, but for ten seconds at
+    /// least. `OutOfMemory` where the runtime's handle cannot be copied.
     pub fn accepted(rt: &R, stream: R::Stream, limit: Duration) -> Result<Self, OutOfMemory>
         ensures connected { IfOk result (λ link. link.connected ≡ true) }
         ensures limit { IfOk result (λ link. link.limit ≡ as_nanos limit) }
+        ensures running { IfOk result (λ link. IsSome link.begun) }
         ensures faultless { IfOk result (λ link. link.faults ≡ 0) }
     {
-        let mut deadline = Deadline::new(limit);
-        let _ = deadline.begin(rt);
         Ok(TcpLink {
             rt: rt.clone()?,
             port: None,
             stream: Some(stream),
-            deadline,
+            deadline: Deadline::from_now(rt, limit),
             grace: Duration::from_secs(GRACE),
             faults: 0,
         })
@@ -93,6 +96,7 @@ impl<R: Net + Clock + Clone> TcpLink<R> {
         ensures ready { self.old.connected ≡ true → IsOk result }
         ensures kept { self.old.connected ≡ true → self.new ≡ self.old }
         ensures limit { self.new.limit ≡ self.old.limit }
+        ensures running { OnOk result (IsSome self.new.begun) }
         ensures begun { OnOk result (GoesOn self.old.begun self.new.begun) }
         ensures refused { IfErr result (λ cause. cause ≡ NoConnection.Refused → GoesOn self.old.begun self.new.begun) }
         ensures wanting { IfErr result (λ cause. cause ≡ NoConnection.Wanting → self.new.begun ≡ None) }
@@ -112,6 +116,7 @@ impl<R: Net + Clock + Clone> TcpLink<R> {
         ensures there { self.old.connected ≡ true → IsOk result }
         ensures untouched { self.old.connected ≡ true → self.new.begun ≡ self.old.begun }
         ensures limit { self.new.limit ≡ self.old.limit }
+        ensures running { OnOk result (IsSome self.new.begun) }
         ensures begun { OnOk result (GoesOn self.old.begun self.new.begun) }
         ensures refused { IfErr result (λ cause. cause ≡ NoConnection.Refused → GoesOn self.old.begun self.new.begun) }
         ensures wanting { IfErr result (λ cause. cause ≡ NoConnection.Wanting → self.new.begun ≡ None) }
@@ -121,49 +126,80 @@ impl<R: Net + Clock + Clone> TcpLink<R> {
         }
         match connect_in_time(&self.rt, self.port, &mut self.deadline) {
             Ok(stream) => Ok(stream),
-            Err(error) => Err(self.unconnected(&error)),
+            Err(error) => Err(unconnected(&mut self.deadline, &error)),
         }
-    }
-
-    /// Why there is no connection. A want ends the limit of time, so that the next try begins it anew.
-    fn unconnected(&mut self, error: &io::Error) -> NoConnection
-        ensures faults { self.new.faults ≡ self.old.faults }
-        ensures limit { self.new.limit ≡ self.old.limit }
-        ensures refused { result ≡ NoConnection.Refused → self.new.begun ≡ self.old.begun }
-        ensures wanting { result ≡ NoConnection.Wanting → self.new.begun ≡ None }
-    {
-        let cause = no_connection(error);
-        match cause {
-            NoConnection::Wanting => self.deadline.end(),
-            NoConnection::Refused => {}
-        }
-        cause
     }
 }
 
-/// A connection to this port of 127.0.0.1, within the limit of time, which begins where it has not begun. A call that was
-/// interrupted is made again.
+/// Why there is no connection. A want ends the limit of time, so that the next try begins it anew.
+fn unconnected(deadline: &mut Deadline, error: &io::Error) -> NoConnection
+    ensures limit { deadline.new.limit ≡ deadline.old.limit }
+    ensures refused { result ≡ NoConnection.Refused → deadline.new.begun ≡ deadline.old.begun }
+    ensures wanting { result ≡ NoConnection.Wanting → deadline.new.begun ≡ None }
+{
+    let cause = no_connection(error);
+    match cause {
+        NoConnection::Wanting => deadline.end(),
+        NoConnection::Refused => {}
+    }
+    cause
+}
+
+/// A connection to this port of 127.0.0.1, within the limit of time, which begins where it has not begun.
 fn connect_in_time<R: Net + Clock>(
     rt: &R,
     port: Option<u16>,
     deadline: &mut Deadline,
 ) -> io::Result<R::Stream>
     ensures limit { deadline.new.limit ≡ deadline.old.limit }
+    ensures running { OnOk result (IsSome deadline.new.begun) }
     ensures once { GoesOn deadline.old.begun deadline.new.begun }
 {
     let Some(port) = port else {
         return Err(io::Error::from(ErrorKind::NotConnected));
     };
     deadline.begin(rt)?;
-    let peer = SocketAddr::from((Ipv4Addr::LOCALHOST, port));
+    connect_again(rt, SocketAddr::from((Ipv4Addr::LOCALHOST, port)), deadline)
+}
+
+/// A connection; a try that was interrupted is made again.
+fn connect_again<R: Net + Clock>(
+    rt: &R,
+    peer: SocketAddr,
+    deadline: &Deadline,
+) -> io::Result<R::Stream>
+    ensures uninterrupted { IfErr result (λ e. ¬ (error_kind e ≡ ErrorKind.Interrupted)) }
+{
     for _ in 0..u64::MAX {
-        let left = deadline.left(rt, Duration::ZERO)?;
-        let stream = TcpStream::connect_timeout(rt, &peer, left);
+        let stream = try_connect(rt, peer, deadline);
         if !is_interrupted(&stream) {
             return stream;
         }
     }
-    Err(io::Error::from(ErrorKind::Interrupted))
+    Err(io::Error::from(ErrorKind::TimedOut))
+}
+
+/// One try to connect, within what is left of the limit of time.
+fn try_connect<R: Net + Clock>(
+    rt: &R,
+    peer: SocketAddr,
+    deadline: &Deadline,
+) -> io::Result<R::Stream> {
+    let left = deadline.left(rt, Duration::ZERO)?;
+    to_another(TcpStream::connect_timeout(rt, &peer, left)?, peer)
+}
+
+/// A connection to a peer. Where nobody listens at a port that the system gives out to those who connect, it may connect
+/// a socket to itself, whose own address is then the peer's: nobody has taken that connection. Where its own address
+/// cannot be told, it counts as a connection to another.
+fn to_another<S: OpenStream + Drop>(stream: S, peer: SocketAddr) -> io::Result<S>
+    ensures same { IfOk result (λ kept. kept ≡ stream) }
+    ensures refused { IfErr result (λ e. error_kind e ≡ ErrorKind.ConnectionRefused) }
+{
+    match stream.local_addr() {
+        Ok(own) if own == peer => Err(io::Error::from(ErrorKind::ConnectionRefused)),
+        _ => Ok(stream),
+    }
 }
 
 impl<R: Net + Clock + Clone> Link for TcpLink<R> {
@@ -176,6 +212,7 @@ impl<R: Net + Clock + Clone> Link for TcpLink<R> {
         ensures connected { OnOk result (self.new.connected ≡ true) }
         ensures stays { self.old.connected ≡ true → self.new.connected ≡ true }
         ensures limit { self.new.limit ≡ self.old.limit }
+        ensures running { OnOk result (IsSome self.new.begun) }
         ensures begun { self.old.connected ≡ true → self.new.begun ≡ self.old.begun }
         ensures count { IsCount self.old.faults self.new.faults }
         ensures cause { OnErr result (Rose self.old.faults self.new.faults) }
@@ -200,6 +237,7 @@ impl<R: Net + Clock + Clone> Link for TcpLink<R> {
         ensures connected { OnOk result (self.new.connected ≡ true) }
         ensures stays { self.old.connected ≡ true → self.new.connected ≡ true }
         ensures limit { self.new.limit ≡ self.old.limit }
+        ensures running { OnOk result (IsSome self.new.begun) }
         ensures begun { self.old.connected ≡ true → self.new.begun ≡ self.old.begun }
         ensures count { IsCount self.old.faults self.new.faults }
         ensures cause { OnErr result (Rose self.old.faults self.new.faults) }
