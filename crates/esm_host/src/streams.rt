@@ -1,6 +1,6 @@
-// The descriptors of the standard streams, which no file of this program works on.
-ghost use Rattle.std.specs.Prelude.{◌≡◌, IfOk, OnErr};
-ghost use Rattle.esm_host.specs.Streams.{IsAboveStreams};
+// The descriptors of the standard streams, which no file and no socket of this program works on.
+ghost use Rattle.std.specs.Prelude.{◌≡◌, IfOk, OnErr, IsSome};
+ghost use Rattle.esm_host.specs.Streams.{IsOther};
 
 use std::fs::{File, OpenOptions};
 use std::os::fd::{AsRawFd, IntoRawFd, RawFd};
@@ -35,11 +35,11 @@ fn keep_below(limit: RawFd, file: File) {
     }
 }
 
-/// The file, where its descriptor is none of the standard streams'. It is closed otherwise.
-pub fn above_streams(file: File) -> io::Result<File>
+/// The file or the socket, where its descriptor is none of the standard streams'. It is closed otherwise.
+pub fn above_streams<F: AsRawFd + Drop>(file: F) -> io::Result<F>
     ensures same { IfOk result (λ kept. kept ≡ file) }
-    ensures above { IfOk result IsAboveStreams }
-    ensures refused { OnErr result (¬ IsAboveStreams file) }
+    ensures above { IfOk result (λ kept. IsOther (F.raw_fd kept)) }
+    ensures refused { OnErr result (IsSome (F.raw_fd file) → ¬ IsOther (F.raw_fd file)) }
 {
     if file.as_raw_fd() < FIRST_OTHER {
         return Err(io::Error::from(io::ErrorKind::Other));

@@ -1,9 +1,11 @@
 // A port of 127.0.0.1 as a door, where connections over TCP come in.
-ghost use Rattle.std.specs.Prelude.{◌≡◌, ◌*◌, true, None, IsSome, IfOk, OnErr};
+ghost use Rattle.std.specs.Prelude.{◌≡◌, ◌*◌, true, None, IsSome, IfNone, IfOk, OnErr};
 ghost use Rattle.esm_io.specs.Faults.{IsCount, Rose};
+ghost use Rattle.esm_host.specs.Streams.{IsOther};
 
 use crate::no_connection::is_passing;
 use crate::real::counted;
+use crate::streams::above_streams;
 use crate::tcp_link::TcpLink;
 use esm_io::{Door, Failed};
 use esm_model::OutOfMemory;
@@ -25,8 +27,9 @@ const LONGEST_PAUSE: u64 = 1000;
 
 /// A port of 127.0.0.1 where connections over TCP come in. The first `accept` listens there; where that fails, as at
 /// a port that another process has, the next one tries again. All reads of an accepted connection have 30 seconds, and
-/// are faults afterwards; a write waits for its peer for ten seconds at least. `close` drops the connection, which ends
-/// it, and keeps no list.
+/// are faults afterwards; a write waits for its peer for ten seconds at least. It works on none of the descriptors of the
+/// standard streams: a socket that got one is closed, which is a fault. `close` drops the connection, which ends it, and
+/// keeps no list.
 #[derive(Drop)]
 pub struct TcpDoor<R: Net + Clock + Clone> {
     rt: R,
@@ -58,20 +61,24 @@ impl<R: Net + Clock + Clone> TcpDoor<R> {
 }
 
 /// The listener, made by the first call.
-fn listening<R: Net>(rt: &R, port: u16, listener: Option<R::Listener>) -> io::Result<R::Listener> {
+fn listening<R: Net>(rt: &R, port: u16, listener: Option<R::Listener>) -> io::Result<R::Listener>
+    ensures above { IfOk result (λ made. IfNone listener (IsOther (R.Listener.raw_fd made))) }
+{
     match listener {
         Some(listener) => Ok(listener),
-        None => TcpListener::bind(rt, (Ipv4Addr::LOCALHOST, port)),
+        None => above_streams(TcpListener::bind(rt, (Ipv4Addr::LOCALHOST, port))?),
     }
 }
 
 /// Waits for a connection, for ever if none comes. Where one cannot be taken for want of a descriptor or a buffer, or was
 /// gone before it was taken, it waits a little and goes on.
-fn accept_patiently<R: Net + Clock>(rt: &R, listener: &R::Listener) -> io::Result<R::Stream> {
+fn accept_patiently<R: Net + Clock>(rt: &R, listener: &R::Listener) -> io::Result<R::Stream>
+    ensures above { IfOk result (λ stream. IsOther (R.Stream.raw_fd stream)) }
+{
     let mut pause = FIRST_PAUSE;
     for _ in 0..u64::MAX {
         match listener.accept() {
-            Ok((stream, _)) => return Ok(stream),
+            Ok((stream, _)) => return above_streams(stream),
             Err(error) if !is_passing(&error) => return Err(error),
             Err(_) => rt.sleep(Duration::from_millis(pause)),
         }

@@ -1,14 +1,17 @@
 // A connection over TCP as a link, made to a local port or accepted by a door.
 ghost use Rattle.std.specs.Prelude.{◌≡◌, ◌<◌, ◌≤◌, true, false, length, None, IsSome, IfOk, IfErr, IsOk, OnOk, OnErr};
 ghost use Rattle.std.specs.Duration.{as_nanos};
-ghost use Rattle.std.specs.IoError.{error_kind};
+ghost use Rattle.std.specs.IoError.{error_kind, raw_os_error};
 ghost use Rattle.esm_io.specs.Faults.{IsCount, Rose};
+ghost use Rattle.esm_host.specs.Errors.{is_wanting};
 ghost use Rattle.esm_host.specs.Limits.{GoesOn};
+ghost use Rattle.esm_host.specs.Streams.{IsOther};
 
 use crate::again::{is_interrupted, read_again, write_again};
 use crate::deadline::Deadline;
 use crate::no_connection::{NoConnection, no_connection};
 use crate::real::{count_failure, counted};
+use crate::streams::above_streams;
 use crate::timed::Timed;
 use esm_io::{Failed, Link};
 use esm_model::OutOfMemory;
@@ -27,8 +30,9 @@ const GRACE: u64 = 10;
 /// interrupted is made again.
 ///
 /// One to a port of 127.0.0.1 is made by its first `connect`, read or write, which begins the limit. Where that fails, the
-/// next call tries again, within the same limit; after `NoConnection::Wanting` it begins the limit anew. One that a door
-/// accepted is there from the start.
+/// next call tries again, within the same limit; after `NoConnection::Wanting` it begins the limit anew. A connection that
+/// is made works on none of the descriptors of the standard streams, and is never one of a socket to itself. One that a
+/// door accepted is there from the start.
 #[derive(Drop)]
 pub struct TcpLink<R: Net + Clock + Clone> {
     rt: R,
@@ -151,6 +155,7 @@ fn connect_in_time<R: Net + Clock>(
     port: Option<u16>,
     deadline: &mut Deadline,
 ) -> io::Result<R::Stream>
+    ensures above { IfOk result (λ stream. IsOther (R.Stream.raw_fd stream)) }
     ensures limit { deadline.new.limit ≡ deadline.old.limit }
     ensures running { OnOk result (IsSome deadline.new.begun) }
     ensures once { GoesOn deadline.old.begun deadline.new.begun }
@@ -168,6 +173,7 @@ fn connect_again<R: Net + Clock>(
     peer: SocketAddr,
     deadline: &Deadline,
 ) -> io::Result<R::Stream>
+    ensures above { IfOk result (λ stream. IsOther (R.Stream.raw_fd stream)) }
     ensures uninterrupted { IfErr result (λ e. ¬ (error_kind e ≡ ErrorKind.Interrupted)) }
 {
     for _ in 0..u64::MAX {
@@ -184,9 +190,12 @@ fn try_connect<R: Net + Clock>(
     rt: &R,
     peer: SocketAddr,
     deadline: &Deadline,
-) -> io::Result<R::Stream> {
+) -> io::Result<R::Stream>
+    ensures above { IfOk result (λ stream. IsOther (R.Stream.raw_fd stream)) }
+{
     let left = deadline.left(rt, Duration::ZERO)?;
-    to_another(TcpStream::connect_timeout(rt, &peer, left)?, peer)
+    let stream = above_streams(TcpStream::connect_timeout(rt, &peer, left)?)?;
+    to_another(stream, peer)
 }
 
 /// A connection to a peer. Where nobody listens at a port that the system gives out to those who connect, it may connect
@@ -194,10 +203,10 @@ fn try_connect<R: Net + Clock>(
 /// cannot be told, it counts as a connection to another.
 fn to_another<S: OpenStream + Drop>(stream: S, peer: SocketAddr) -> io::Result<S>
     ensures same { IfOk result (λ kept. kept ≡ stream) }
-    ensures refused { IfErr result (λ e. error_kind e ≡ ErrorKind.ConnectionRefused) }
+    ensures refused { IfErr result (λ e. is_wanting (raw_os_error e) ≡ false) }
 {
     match stream.local_addr() {
-        Ok(own) if own == peer => Err(io::Error::from(ErrorKind::ConnectionRefused)),
+        Ok(own) if own == peer => Err(io::Error::from_raw_os_error(libc::ECONNREFUSED)),
         _ => Ok(stream),
     }
 }
