@@ -329,3 +329,17 @@ fn http_caller_answered_early(rt: HostRuntime) -> Result<(), Fail> {
     assert!(rt; server.join(&rt));
     Ok(())
 }
+
+/// The limit of time of a call holds where a function takes the connection and says nothing.
+#[test]
+fn http_caller_of_a_silent_function(rt: HostRuntime) -> Result<(), Fail> {
+    let listener = TcpListener::bind(&rt, "127.0.0.1:0")?;
+    let port = listener.local_addr()?.port();
+    let limit = Duration::from_millis(50);
+    let mut caller = HttpCaller::new(&rt, rt.alloc(), port, limit)?;
+    let start = rt.monotonic()?;
+    assert_eq!(rt; judged(&caller.call(rt.alloc(), "f", b"{}")), Lost);
+    let gone = rt.monotonic()?.saturating_sub(start);
+    assert!(rt; gone >= limit && listener.accept().is_ok());
+    Ok(())
+}

@@ -111,11 +111,17 @@ fn a_port_where_nobody_listens_is_refused(rt: HostRuntime) {
     assert!(rt; link.read(&mut [0]) == Err(Failed));
 }
 
-/// Whether the next connection gives a byte and is then a fault, where all its reads have a twentieth of a second.
-fn hear_one<R: Net + Clock + Clone>(rt: &R, listener: &R::Listener) -> Option<bool> {
+/// Whether the next connection gives a byte and is then a fault, also at a byte that its peer sends afterwards, where all
+/// its reads together have a quarter of a second.
+fn hear_one<R: Net + Clock + Clone>(
+    rt: &R,
+    listener: &R::Listener,
+    peer: &mut R::Stream,
+) -> Option<bool> {
     let (stream, _) = listener.accept().ok()?;
-    let mut link = TcpLink::accepted(rt, stream, Duration::from_millis(50)).ok()?;
+    let mut link = TcpLink::accepted(rt, stream, Duration::from_millis(250)).ok()?;
     let heard = link.read(&mut [0; 4]) == Ok(1) && link.read(&mut [0]) == Err(Failed);
+    peer.write(&[8]).ok()?;
     Some(heard && link.read(&mut [0]) == Err(Failed))
 }
 
@@ -123,8 +129,8 @@ fn hear_one<R: Net + Clock + Clone>(rt: &R, listener: &R::Listener) -> Option<bo
 fn a_silent_peer_is_a_fault_after_the_limit(rt: HostRuntime) {
     let listener = TcpListener::bind(&rt, (Ipv4Addr::LOCALHOST, 0)).expect(&rt, "a free port");
     let at = listener.local_addr().expect(&rt, "its address");
-    let mut silent = TcpStream::connect(&rt, at).expect(&rt, "a connection");
-    assert!(rt; silent.write(&[7]).is_ok());
-    assert_eq!(rt; hear_one(&rt, &listener), Some(true));
-    drop(silent);
+    let mut peer = TcpStream::connect(&rt, at).expect(&rt, "a connection");
+    assert!(rt; peer.write(&[7]).is_ok());
+    assert_eq!(rt; hear_one(&rt, &listener, &mut peer), Some(true));
+    drop(peer);
 }
