@@ -16,3 +16,5 @@ mod memory;
 mod real;
 #[cfg(test)]
 mod scarce;
+#[cfg(test)]
+mod sockets;
