@@ -2,3 +2,4 @@ pub mod HeadLemmas
 pub mod BodyLemmas
 pub mod TalkLemmas
 pub mod ReplyLemmas
+pub mod CallLemmas

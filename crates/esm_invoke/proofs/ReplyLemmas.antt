@@ -1,6 +1,6 @@
 -- From what the reader of heads and that of bodies know to the reply.
 use Rattle.std.specs.Prelude.{Result, Ok, Err, IfOk}
-use Rattle.std.proofs.Common.{◌≡◌, ◌≢◌, ℕ, ◌+◌, ◌<◌, ◌≤◌, ◌⊎◌, Bool, true, false, List, [], ◌∷◌, ◌++◌, length, take, drop, Some, None, Option, sym, refl, ap, ◌∙◌, subst, inl, inr, arith, append_assoc, append-nil}
+use Rattle.std.proofs.Common.{◌≡◌, ◌≢◌, ℕ, ◌+◌, ◌≤◌, ◌⊎◌, Bool, true, false, List, [], ◌∷◌, ◌++◌, length, take, drop, Some, None, Option, sym, refl, ap, ◌∙◌, subst, inl, inr, arith, append_assoc, append-nil}
 use Rattle.std.proofs.lemmas.List.{length-append, length-drop, length-take-le, drop-append-le, drop_all}
 use Rattle.std.proofs.lemmas.Bool.{false≢true}
 use Rattle.httparse.specs.Grammar.{ResponseHead, print_end, print_response, ReadsResponse}
@@ -15,17 +15,15 @@ use Rattle.http1.proofs.OneParse.{completes_from_body, body_from_completes}
 use Rattle.esm_model.specs.declared.entry.Reply.{Reply}
 use Rattle.esm_model.specs.declared.entry.Reply.TheVariants.{Answered, Garbled, Lost}
 use Rattle.esm_model.specs.declared.memory.OutOfMemory.{OutOfMemory}
-use Rattle.esm_io.specs.Faults.{Rose}
-use Rattle.esm_io.specs.Talks.{Talk, Reads, Writes, IsReadOut}
+use Rattle.esm_io.specs.Talks.{Talk, Reads, IsReadOut}
 use Rattle.esm_invoke.specs.declared.body.BodyReader.{BodyReader}
 use Rattle.esm_invoke.specs.declared.head.Head.{Head}
-use Rattle.esm_invoke.specs.Response.{limits, Says, BeginsWith, IsBodyWithin, HoldsResponse, HoldsNone, NeverHolds, StopsAt, IsReplyTo}
+use Rattle.esm_invoke.specs.Response.{limits, Says, BeginsWith, IsBodyWithin, HoldsResponse, HoldsNone, NeverHolds, NeverWhole, StopsAt, IsReplyTo}
 use Rattle.esm_invoke.specs.ResponseRead.{HasNoHead, NeverBegins, Awaits, IsUnfinished, NeverHoldsBody}
-use Rattle.esm_invoke.specs.Receiving.{ReadsMore, ReadsInto, WritesPart, Replies, Misses, Settles}
-use Rattle.esm_invoke.specs.Exchange.{GrowsFor, SendsPart, Answers, AnswersEarly, IsAnswer, Stops, Loses}
-use Rattle.esm_invoke.specs.Request.{request_line, request_text}
+use Rattle.esm_invoke.specs.Receiving.{ReadsMore, ReadsInto, Replies, HasNone, Settles}
+use Rattle.esm_invoke.specs.Exchange.{GrowsFor}
 use Rattle.esm_invoke.proofs.HeadLemmas.{print_response_ends, BeginsWith-append}
-use Rattle.esm_invoke.proofs.TalkLemmas.{Reads_none, Reads_then, Writes_none}
+use Rattle.esm_invoke.proofs.TalkLemmas.{Reads_none, Reads_then}
 
 -- ---- one head
 
@@ -70,6 +68,33 @@ never_without_body bytes head begins never ended more other content holds =
     never ended more holds.body holds.rest
     (subst (λ t. ReadsBody limits head.framing t holds.body holds.rest) (sym same.1) (subst (λ h. ReadsBody limits h.framing holds.after holds.body holds.rest) (sym same.0) holds.reads))
     (subst (λ h. IsBodyWithin ended (bytes ++ more) h.framing holds.body holds.rest) (sym same.0) holds.within)
+
+-- a response that is whole before the link's end is one there too
+pub none_before : (ended : Bool) (bytes : List ℕ) → HoldsNone ended bytes → HoldsNone false bytes
+none_before ended bytes none head content holds =
+    none head content (record {
+      after = holds.after;
+      begins = holds.begins;
+      body = holds.body;
+      rest = holds.rest;
+      reads = holds.reads;
+      content_is = holds.content_is;
+      within = record {
+        content = holds.within.content;
+        few = holds.within.few;
+        whole = holds.within.whole;
+        closed = λ e. absurd (false≢true (holds.within.closed e));
+      };
+    })
+
+-- a body up to the link's end is never whole by itself
+pub never_whole : (bytes : List ℕ) (head : Head) → BeginsWith bytes head (drop head.len bytes) → head.framing ≡ Framed.UntilClose → NeverWhole bytes
+never_whole bytes head begins close more other content holds =
+    let same = head_same bytes more head other _ holds.after begins holds.begins in
+    absurd (false≢true (holds.within.closed (ap (λ h. h.framing) (sym same.0) ∙ close)))
+
+pub none_whole : (bytes : List ℕ) → NeverWhole bytes → HoldsNone false bytes
+none_whole bytes never = subst (HoldsNone false) (append-nil bytes) (never [])
 
 is_until_close : (d : Decoder) → (d ≡ UntilClose) ⊎ (d ≢ UntilClose)
 is_until_close (Length left) = inr (λ e. cc)
@@ -182,7 +207,7 @@ into_then a b c bytes filled before middle after reads len grows next = record {
 
 -- ---- a head and a body over more bytes
 
-begins_append : (before piece : List ℕ) (head : Head) → head.len ≤ length before → BeginsWith before head (drop head.len before) → BeginsWith (before ++ piece) head (drop head.len (before ++ piece))
+pub begins_append : (before piece : List ℕ) (head : Head) → head.len ≤ length before → BeginsWith before head (drop head.len before) → BeginsWith (before ++ piece) head (drop head.len (before ++ piece))
 begins_append before piece head within begins =
     subst (BeginsWith (before ++ piece) head) (sym (drop-append-le head.len before piece within)) (BeginsWith-append before head (drop head.len before) piece begins)
 
@@ -263,6 +288,10 @@ replies_if (Ok reply) old new before bytes ended more at_end is = λ other. reco
 }
 replies_if (Err e) old new before bytes ended more at_end is = tt
 
+-- bytes that were read hold no response
+pub has_none : (old new : Option Talk) (before bytes : List ℕ) → ReadsMore old new before bytes → HoldsNone false bytes → HasNone old new before
+has_none old new before bytes more none = record { read = more.piece; reads = more.reads; none = subst (HoldsNone false) more.grown none }
+
 -- ---- one round of reading a body
 
 -- the front of a buffer's bytes, by way of its slice
@@ -281,153 +310,3 @@ front_stays a b buffer new bytes filled n within more_within none more same =
     let old_len = length-take-le filled buffer within in
     let new_len = length-take-le (filled + n) new more_within in
     same ∙ all ∙ nothing_more a b (take filled buffer) (take (filled + n) new) more (omega (arith, old_len, new_len, none))
-
--- ---- a whole call
-
--- a reply to bytes that were read on from others is the reply to them all
-pub replies_after : (r : Result Reply OutOfMemory) (old mid new : Option Talk) (before : List ℕ) → Reads old mid before
-    → IfOk r (λ reply. reply ≢ Lost → Replies mid new before reply) → IfOk r (λ reply. reply ≢ Lost → Replies old new [] reply)
-replies_after (Ok reply) old mid new before first replied = λ other.
-    let next = replied other in record {
-      read = before ++ next.read;
-      ended = next.ended;
-      reads = Reads_then old mid new before next.read first next.reads;
-      at_end = next.at_end;
-      is_reply = next.is_reply;
-    }
-replies_after (Err e) old mid new before first replied = tt
-
--- bytes that hold no response make a garbled reply
-pub replies_garbled : (r : Result Reply OutOfMemory) (old new : Option Talk) (bytes : List ℕ) → Reads old new bytes → Stops new bytes
-    → IfOk r (λ reply. reply ≡ Garbled bytes) → IfOk r (λ reply. reply ≢ Lost → Replies old new [] reply)
-replies_garbled (Ok reply) old new bytes reads stops is = λ other. record {
-  read = bytes;
-  ended = stops.ended;
-  reads = reads;
-  at_end = stops.at_end;
-  is_reply = subst (IsReplyTo stops.ended bytes) (sym is) (refl, stops.none, stops.reason);
-}
-replies_garbled (Err e) old new bytes reads stops is = tt
-
--- a garbled reply is no answer
-pub misses_garbled : (old new : Option Talk) (before after : ℕ) (bytes : List ℕ) → Replies old new [] (Garbled bytes) → Misses old new before after
-misses_garbled old new before after bytes replies =
-    let is = replies.is_reply in record {
-      read = replies.read;
-      reads = replies.reads;
-      cause = inr (record { ended = replies.ended; at_end = replies.at_end; none = is.1; reason = is.2 });
-    }
-
--- a read that failed gave no answer
-pub misses_failed : (old new : Option Talk) (before after room larger : ℕ) → ReadsInto old new 0 room larger → Rose before after → Misses old new before after
-misses_failed old new before after room larger into rose = record { read = into.read; reads = into.reads; cause = inl rose }
-
--- the reply to a request that was sent whole
-pub answers_after : {L : Type 0} (told : L → Option Talk) (faults : L → ℕ) (r : Result Reply OutOfMemory) (old middle new : L) (request : List ℕ) → Writes (told old) (told middle) request
-    → IfOk r (λ reply. reply ≢ Lost → Replies (told middle) (told new) [] reply)
-    → IfOk r (λ reply. reply ≢ Lost → Answers told old new request reply ⊎ AnswersEarly told faults old new request reply)
-answers_after told faults (Ok reply) old middle new request writes replied = λ other.
-    let next = replied other in inl (record {
-      read = next.read;
-      ended = next.ended;
-      exchanges = record { middle = middle; writes = writes; reads = next.reads };
-      at_end = next.at_end;
-      is_reply = next.is_reply;
-    })
-answers_after told faults (Err e) old middle new request writes replied = tt
-
--- the answer to a request that was not
-pub answers_early : {L : Type 0} (told : L → Option Talk) (faults : L → ℕ) (r : Result Reply OutOfMemory) (old middle new : L) (request : List ℕ)
-    → WritesPart (told old) (told middle) request → Rose (faults old) (faults middle)
-    → IfOk r (λ reply. reply ≢ Lost → Replies (told middle) (told new) [] reply) → IfOk r (λ reply. reply ≢ Lost → IsAnswer reply)
-    → IfOk r (λ reply. reply ≢ Lost → Answers told old new request reply ⊎ AnswersEarly told faults old new request reply)
-answers_early told faults (Ok reply) old middle new request part failed replied answered = λ other.
-    let next = replied other in inr (record {
-      sent = part.sent;
-      unsent = part.unsent;
-      read = next.read;
-      ended = next.ended;
-      parts = part.parts;
-      cut = part.cut;
-      exchanges = record { middle = middle; writes = part.writes; reads = next.reads };
-      failed = failed;
-      at_end = next.at_end;
-      is_reply = next.is_reply;
-      is_answer = answered other;
-    })
-answers_early told faults (Err e) old middle new request part failed replied answered = tt
-
--- no answer to a request that was sent whole, since a read failed
-pub loses_after : {L : Type 0} (told : L → Option Talk) (faults : L → ℕ) (r : Result Reply OutOfMemory) (old middle new : L) (request : List ℕ) (before after : ℕ)
-    → Writes (told old) (told middle) request → ReadsInto (told middle) (told new) 0 before after
-    → IfOk r (λ reply. reply ≡ Lost → Rose (faults middle) (faults new)) → IfOk r (λ reply. reply ≡ Lost → Loses told faults old new request)
-loses_after told faults (Ok reply) old middle new request before after writes into lost = λ is. record {
-  sent = request;
-  unsent = [];
-  read = into.read;
-  parts = sym (append-nil request);
-  exchanges = record { middle = middle; writes = writes; reads = into.reads };
-  whole_or_failed = inl refl;
-  cause = inl (lost is);
-}
-loses_after told faults (Err e) old middle new request before after writes into lost = tt
-
--- no answer to a request that was not
-pub loses_early : {L : Type 0} (told : L → Option Talk) (faults : L → ℕ) (r : Result Reply OutOfMemory) (old middle new : L) (request : List ℕ)
-    → WritesPart (told old) (told middle) request → Rose (faults old) (faults middle)
-    → IfOk r (λ reply. reply ≡ Lost → Misses (told middle) (told new) (faults middle) (faults new)) → IfOk r (λ reply. reply ≡ Lost → Loses told faults old new request)
-loses_early told faults (Ok reply) old middle new request part failed missed = λ is.
-    let next = missed is in record {
-      sent = part.sent;
-      unsent = part.unsent;
-      read = next.read;
-      parts = part.parts;
-      exchanges = record { middle = middle; writes = part.writes; reads = next.reads };
-      whole_or_failed = inr failed;
-      cause = elim next.cause [
-        | inl rose ↦ inl rose
-        | inr stops ↦ inr (part.cut, stops)
-      ];
-    }
-loses_early told faults (Err e) old middle new request part failed missed = tt
-
-pub sends_none : {L : Type 0} (told : L → Option Talk) (faults : L → ℕ) (link : L) (request : List ℕ) (before after : ℕ) → after ≤ before
-    → SendsPart told faults link link request before after
-sends_none told faults link request before after shorter = record {
-  sent = [];
-  unsent = request;
-  read = [];
-  parts = refl;
-  exchanges = record { middle = link; writes = Writes_none (told link); reads = Reads_none (told link) };
-  whole_or_failed = λ some. absurd (some refl);
-  grows = omega (arith, shorter);
-}
-
-pub sends_part : {L : Type 0} (told : L → Option Talk) (faults : L → ℕ) (old middle new : L) (request : List ℕ) (before cut after : ℕ)
-    → WritesPart (told old) (told middle) request → Rose (faults old) (faults middle) → cut ≤ before → ReadsInto (told middle) (told new) 0 cut after
-    → SendsPart told faults old new request before after
-sends_part told faults old middle new request before cut after part failed shorter into = record {
-  sent = part.sent;
-  unsent = part.unsent;
-  read = into.read;
-  parts = part.parts;
-  exchanges = record { middle = middle; writes = part.writes; reads = into.reads };
-  whole_or_failed = λ _. inr failed;
-  grows = omega (arith, shorter, into.grows);
-}
-
-pub sends_all : {L : Type 0} (told : L → Option Talk) (faults : L → ℕ) (old middle new : L) (request : List ℕ) (before cut after : ℕ) → Writes (told old) (told middle) request
-    → cut ≤ before → ReadsInto (told middle) (told new) 0 cut after → SendsPart told faults old new request before after
-sends_all told faults old middle new request before cut after writes shorter into = record {
-  sent = request;
-  unsent = [];
-  read = into.read;
-  parts = sym (append-nil request);
-  exchanges = record { middle = middle; writes = writes; reads = into.reads };
-  whole_or_failed = λ _. inl refl;
-  grows = omega (arith, shorter, into.grows);
-}
-
-pub request_some : (name event : List ℕ) → 0 < length (request_text name event)
-unfolding request_line
-request_some name event = omega arith

@@ -1,11 +1,12 @@
 -- What goes over a link in a call, where the link tells it. This product's own.
-use Rattle.std.specs.Prelude.{◌≡◌, ◌≢◌, ◌≤◌, ◌⊎◌, ◌+◌, ◌*◌, max, length, List, [], ℕ, ◌++◌, Bool, true, Option}
+use Rattle.std.specs.Prelude.{◌≡◌, ◌≢◌, ◌<◌, ◌≤◌, ◌⊎◌, ◌+◌, ◌*◌, max, length, List, [], ℕ, ◌++◌, Bool, true, false, Option}
 use Rattle.esm_io.specs.Faults.{Rose}
 use Rattle.esm_io.specs.Talks.{Talk, Reads, Writes, IsReadOut}
 use Rattle.esm_model.specs.declared.entry.Reply.{Reply}
 use Rattle.esm_model.specs.declared.entry.Reply.TheVariants.{Answered, Garbled, Lost}
+use Rattle.esm_model.specs.declared.limits.TheConstants.{MAX_RESPONSE}
 use Rattle.esm_invoke.specs.declared.call.TheConstants.{FIRST_ROOM}
-use Rattle.esm_invoke.specs.Response.{IsReplyTo, HoldsNone, StopsAt}
+use Rattle.esm_invoke.specs.Response.{IsReplyTo, HoldsNone, NeverWhole}
 
 -- these bytes were written, and then those read. The middle is a link, and not only what one would tell: a call over
 -- any link has none to name but those that its own reads and writes left
@@ -43,28 +44,26 @@ IsAnswer (Answered status error body) = Unit {0}
 IsAnswer (Garbled bytes) = ⊥
 IsAnswer Lost = ⊥
 
--- a write failed before the whole request was written, and the bytes that were then read hold the answer whole
+-- a write failed before the whole request was written, and the bytes that were then read tell by themselves that they
+-- hold the answer whole: behind such a write a link ends in the same way in the midst of an answer as after it
 pub record AnswersEarly {L : Type 0} (told : L → Option Talk) (faults : L → ℕ) (old new : L) (request : List ℕ) (reply : Reply) : Type 0 where
   pub sent : List ℕ
   pub unsent : List ℕ
   pub read : List ℕ
-  pub ended : Bool
   pub parts : request ≡ sent ++ unsent
   pub cut : unsent ≢ []
   pub exchanges : Exchanges told old new sent read
   pub failed : Rose (faults old) (faults exchanges.middle)
-  pub at_end : ended ≡ true → IsReadOut (told new)
-  pub is_reply : IsReplyTo ended read reply
+  pub delimited : IsReplyTo false read reply
   pub is_answer : IsAnswer reply
 
--- reading stopped at these bytes, which hold no response
-pub record Stops (new : Option Talk) (bytes : List ℕ) : Type 0 where
-  pub ended : Bool
-  pub at_end : ended ≡ true → IsReadOut new
-  pub none : HoldsNone ended bytes
-  pub reason : StopsAt ended bytes
+-- why reading stops without an answer behind a write that failed: at the link's end, past the limit, or where none can
+-- come that is whole by itself
+abbrev pub StopsEarly : Option Talk → List ℕ → Type 0
+StopsEarly new read = IsReadOut new ⊎ ((MAX_RESPONSE < length read) ⊎ NeverWhole read)
 
--- no answer was had: a read failed, or a write failed and the bytes that were then read hold no response
+-- no answer was had, and the bytes that were read hold none that is whole by itself: a read failed, or a write failed and
+-- reading stopped
 pub record Loses {L : Type 0} (told : L → Option Talk) (faults : L → ℕ) (old new : L) (request : List ℕ) : Type 0 where
   pub sent : List ℕ
   pub unsent : List ℕ
@@ -72,4 +71,5 @@ pub record Loses {L : Type 0} (told : L → Option Talk) (faults : L → ℕ) (o
   pub parts : request ≡ sent ++ unsent
   pub exchanges : Exchanges told old new sent read
   pub whole_or_failed : (unsent ≡ []) ⊎ Rose (faults old) (faults exchanges.middle)
-  pub cause : Rose (faults exchanges.middle) (faults new) ⊎ ((unsent ≢ []) × Stops (told new) read)
+  pub none : HoldsNone false read
+  pub cause : Rose (faults exchanges.middle) (faults new) ⊎ ((unsent ≢ []) × StopsEarly (told new) read)

@@ -6,8 +6,8 @@ use Rattle.esm_model.specs.declared.entry.Reply.{Reply}
 use Rattle.esm_invoke.specs.declared.body.BodyReader.{BodyReader}
 use Rattle.esm_invoke.specs.declared.call.HeadReceived.{HeadReceived}
 use Rattle.esm_invoke.specs.declared.call.HeadReceived.TheVariants as Received
-use Rattle.esm_invoke.specs.Exchange.{GrowsFor, Stops}
-use Rattle.esm_invoke.specs.Response.{BeginsWith, IsReplyTo}
+use Rattle.esm_invoke.specs.Exchange.{GrowsFor, IsAnswer, StopsEarly}
+use Rattle.esm_invoke.specs.Response.{BeginsWith, IsReplyTo, HoldsNone, StopsAt}
 use Rattle.esm_invoke.specs.ResponseRead.{Awaits, IsUnfinished}
 
 -- the bytes were read behind those that were there
@@ -38,11 +38,32 @@ pub record Replies (old new : Option Talk) (before : List ℕ) (reply : Reply) :
   pub at_end : ended ≡ true → IsReadOut new
   pub is_reply : IsReplyTo ended (before ++ read) reply
 
--- no answer was read: a read failed, by the counts of faults, or reading stopped at bytes that hold no response
-pub record Misses (old new : Option Talk) (before after : ℕ) : Type 0 where
+-- reading stopped at these bytes, which hold no response
+pub record Stops (new : Option Talk) (bytes : List ℕ) : Type 0 where
+  pub ended : Bool
+  pub at_end : ended ≡ true → IsReadOut new
+  pub none : HoldsNone ended bytes
+  pub reason : StopsAt ended bytes
+
+-- bytes were read, and all the bytes so far hold no response that is whole by itself
+pub record HasNone (old new : Option Talk) (before : List ℕ) : Type 0 where
   pub read : List ℕ
   pub reads : Reads old new read
-  pub cause : Rose before after ⊎ Stops new read
+  pub none : HoldsNone false (before ++ read)
+
+-- bytes were read, and all the bytes so far hold the answer, which is whole by itself
+pub record AnswersWhole (old new : Option Talk) (before : List ℕ) (reply : Reply) : Type 0 where
+  pub read : List ℕ
+  pub reads : Reads old new read
+  pub delimited : IsReplyTo false (before ++ read) reply
+  pub is_answer : IsAnswer reply
+
+-- no answer was read that is whole by itself: a read failed, by the counts of faults, or reading stopped
+pub record Misses (old new : Option Talk) (bytes : List ℕ) (before after : ℕ) : Type 0 where
+  pub read : List ℕ
+  pub reads : Reads old new read
+  pub none : HoldsNone false (bytes ++ read)
+  pub cause : Rose before after ⊎ StopsEarly new (bytes ++ read)
 
 -- what a reader of a body made of the bytes: a reply, or the body goes on
 abbrev pub Settles : List ℕ → BodyReader → Option Reply → Type 0
@@ -56,4 +77,4 @@ ReceivesHead old new before buffer (Received.Head head filled) =
     × (head.len ≤ filled) × GrowsFor before (length buffer) filled
 ReceivesHead old new before buffer (Received.Garbled filled) =
     (filled ≤ length buffer) × Reads old new (take filled buffer) × Stops new (take filled buffer)
-ReceivesHead old new before buffer Received.Lost = Unit {0}
+ReceivesHead old new before buffer Received.Lost = HasNone old new []

@@ -1,6 +1,6 @@
 -- What a response to a call is. The grammar of heads is `httparse`'s, that of bodies and of the fields that frame them
 -- `http1`'s (RFC 9112, sections 4 to 7); the limits are this product's own.
-use Rattle.std.specs.Prelude.{◌≡◌, ◌⊎◌, ℕ, ◌+◌, ◌<◌, ◌≤◌, Bool, true, List, ◌++◌, length, map, Option, Some, None, if◌then◌else◌, codes}
+use Rattle.std.specs.Prelude.{◌≡◌, ◌⊎◌, ℕ, ◌+◌, ◌<◌, ◌≤◌, Bool, true, false, List, ◌++◌, length, map, Option, Some, None, if◌then◌else◌, codes}
 use Rattle.std.specs.List.{list_any}
 use Rattle.http.specs.StatusCode.{IsStatusCode}
 use Rattle.httparse.specs.Grammar.{ResponseHead, print_response, ReadsResponse, status_code}
@@ -86,6 +86,10 @@ HoldsNone ended bytes = (head : Head) (content : List ℕ) → ¬ (HoldsResponse
 -- no continuation of the bytes is a response
 abbrev pub NeverHolds : List ℕ → Type 0
 NeverHolds bytes = (ended : Bool) (more : List ℕ) → HoldsNone ended (bytes ++ more)
+
+-- no continuation of the bytes is a response whose end they tell by themselves
+abbrev pub NeverWhole : List ℕ → Type 0
+NeverWhole bytes = (more : List ℕ) → HoldsNone false (bytes ++ more)
 
 -- why reading stops without a response: at the link's end, past the limit, or where none can come
 abbrev pub StopsAt : Bool → List ℕ → Type 0

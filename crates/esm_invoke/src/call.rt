@@ -3,8 +3,8 @@ ghost use Rattle.std.specs.Prelude.{◌≡◌, ◌≢◌, ◌⊎◌, ◌+◌, �
 ghost use Rattle.esm_io.specs.Faults.{MAX_FAULTS, IsCount, Rose};
 ghost use Rattle.esm_io.specs.Talks.{Reads, Writes, IsReadOut};
 ghost use Rattle.esm_invoke.specs.Request.{request_text};
-ghost use Rattle.esm_invoke.specs.Exchange.{SendsPart, Answers, AnswersEarly, Loses, IsAnswer, GrowsFor};
-ghost use Rattle.esm_invoke.specs.Receiving.{ReadsMore, ReadsInto, WritesPart, Replies, Misses, ReceivesHead, Settles};
+ghost use Rattle.esm_invoke.specs.Exchange.{SendsPart, Answers, AnswersEarly, Loses, GrowsFor};
+ghost use Rattle.esm_invoke.specs.Receiving.{ReadsMore, ReadsInto, WritesPart, Replies, HasNone, AnswersWhole, Misses, ReceivesHead, Settles};
 ghost use Rattle.esm_invoke.specs.Response.{BeginsWith, IsReplyTo};
 ghost use Rattle.esm_invoke.specs.ResponseRead.{Awaits, IsUnfinished};
 
@@ -14,6 +14,7 @@ use crate::request::request;
 use esm_io::{Failed, Link};
 use esm_model::{Bytes, MAX_RESPONSE, OutOfMemory, Reply};
 use http1::decode::Decoder;
+use http1::framing::Framing;
 use std::alloc::Global;
 use std::mem;
 
@@ -33,10 +34,11 @@ pub enum HeadReceived {
 /// Calls the function `name` with the event over a link: writes the whole request, then reads until a prefix of the
 /// bytes read is a whole response, until no continuation of them is one, until they are more than `MAX_RESPONSE`, or up
 /// to the link's end. `Garbled` gives the bytes read, which hold no response. Where a write fails, what came of a
-/// response is read in the same way: a function that answers before it took the whole event has answered. `Lost` only
-/// where the link's count of faults rose: where a read failed, or where no whole response came behind a write that
-/// failed. `buffer` is a work area that grows with what is read and keeps its room for the next call; what it holds has
-/// no effect, and means nothing afterwards. After `OutOfMemory` a part of the request may have been sent, or all of it,
+/// response is read: a function that answers before it took the whole event has answered, where the answer's own length
+/// shows that it is whole. A body that goes up to the link's end is never so: the link may have been cut. `Lost` only
+/// where the link's count of faults rose: where a read failed, or where no such answer came behind a write that failed.
+/// `buffer` is a work area that grows with what is read and keeps its room for the next call; what it holds has no
+/// effect, and means nothing afterwards. After `OutOfMemory` a part of the request may have been sent, or all of it,
 /// and bytes read (Lambda API Reference of 2015-03-31, `Invoke`; RFC 9112, for answers that come early section 9.5).
 pub fn invoke<L: Link>(
     alloc: Global,
@@ -161,7 +163,7 @@ fn read_behind<L: Link>(link: &mut L, bytes: &mut [u8], filled: usize) -> Result
     link.read(rest)
 }
 
-/// Reads behind a request that was not sent whole: an answer that comes whole, and else `Lost`.
+/// Reads behind a request that was not sent whole: an answer that is whole by its own length, and else `Lost`.
 fn receive_early<L: Link>(
     alloc: Global,
     link: &mut L,
@@ -170,15 +172,44 @@ fn receive_early<L: Link>(
     requires room { vec_len buffer.old ≤ MAX_RESPONSE + 1 }
     requires counted { L.faults link.old ≤ MAX_FAULTS }
     ensures read { ReadsInto (L.told link.old) (L.told link.new) 0 (vec_len buffer.old) (vec_len buffer.new) }
-    ensures replied { IfOk result (λ reply. reply ≢ Reply.Lost → Replies (L.told link.old) (L.told link.new) [] reply) }
-    ensures answered { IfOk result (λ reply. reply ≢ Reply.Lost → IsAnswer reply) }
-    ensures missed { IfOk result (λ reply. reply ≡ Reply.Lost → Misses (L.told link.old) (L.told link.new) (L.faults link.old) (L.faults link.new)) }
+    ensures answered { IfOk result (λ reply. reply ≢ Reply.Lost → AnswersWhole (L.told link.old) (L.told link.new) [] reply) }
+    ensures missed { IfOk result (λ reply. reply ≡ Reply.Lost → Misses (L.told link.old) (L.told link.new) [] (L.faults link.old) (L.faults link.new)) }
     ensures count { IsCount (L.faults link.old) (L.faults link.new) }
     ensures room { vec_len buffer.new ≤ MAX_RESPONSE + 1 }
 {
-    match receive(alloc, link, buffer)? {
-        Reply::Garbled { .. } => Ok(Reply::Lost),
-        reply => Ok(reply),
+    match receive_head(link, buffer)? {
+        HeadReceived::Head(head, filled) => receive_early_body(alloc, link, buffer, head, filled),
+        HeadReceived::Garbled(_) => Ok(Reply::Lost),
+        HeadReceived::Lost => Ok(Reply::Lost),
+    }
+}
+
+/// Reads on behind a request that was not sent whole. After a write that failed a link may end in the midst of an
+/// answer, so a body that goes up to its end is not read.
+fn receive_early_body<L: Link>(
+    alloc: Global,
+    link: &mut L,
+    buffer: &mut Vec<u8>,
+    head: Head,
+    first: usize,
+) -> Result<Reply, OutOfMemory>
+    requires within { first ≤ vec_len buffer.old }
+    requires len { head.len ≤ first }
+    requires begins { BeginsWith (take first buffer.old.items) head (drop head.len (take first buffer.old.items)) }
+    requires room { vec_len buffer.old ≤ MAX_RESPONSE + 1 }
+    requires counted { L.faults link.old ≤ MAX_FAULTS }
+    ensures read { ReadsInto (L.told link.old) (L.told link.new) first (vec_len buffer.old) (vec_len buffer.new) }
+    ensures answered { IfOk result (λ reply. reply ≢ Reply.Lost → AnswersWhole (L.told link.old) (L.told link.new) (take first buffer.old.items) reply) }
+    ensures missed { IfOk result (λ reply. reply ≡ Reply.Lost → Misses (L.told link.old) (L.told link.new) (take first buffer.old.items) (L.faults link.old) (L.faults link.new)) }
+    ensures count { IsCount (L.faults link.old) (L.faults link.new) }
+    ensures room { vec_len buffer.new ≤ MAX_RESPONSE + 1 }
+{
+    match head.framing {
+        Framing::UntilClose => Ok(Reply::Lost),
+        _ => match receive_body(alloc, link, buffer, head, first)? {
+            Reply::Garbled { .. } => Ok(Reply::Lost),
+            reply => Ok(reply),
+        },
     }
 }
 
@@ -188,6 +219,7 @@ fn receive<L: Link>(alloc: Global, link: &mut L, buffer: &mut Vec<u8>) -> Result
     requires counted { L.faults link.old ≤ MAX_FAULTS }
     ensures read { ReadsInto (L.told link.old) (L.told link.new) 0 (vec_len buffer.old) (vec_len buffer.new) }
     ensures replied { IfOk result (λ reply. reply ≢ Reply.Lost → Replies (L.told link.old) (L.told link.new) [] reply) }
+    ensures none { IfOk result (λ reply. reply ≡ Reply.Lost → HasNone (L.told link.old) (L.told link.new) []) }
     ensures lost { IfOk result (λ reply. reply ≡ Reply.Lost → Rose (L.faults link.old) (L.faults link.new)) }
     ensures count { IsCount (L.faults link.old) (L.faults link.new) }
     ensures room { vec_len buffer.new ≤ MAX_RESPONSE + 1 }
@@ -247,6 +279,7 @@ fn receive_body<L: Link>(
     requires counted { L.faults link.old ≤ MAX_FAULTS }
     ensures read { ReadsInto (L.told link.old) (L.told link.new) first (vec_len buffer.old) (vec_len buffer.new) }
     ensures replied { IfOk result (λ reply. reply ≢ Reply.Lost → Replies (L.told link.old) (L.told link.new) (take first buffer.old.items) reply) }
+    ensures none { IfOk result (λ reply. reply ≡ Reply.Lost → HasNone (L.told link.old) (L.told link.new) (take first buffer.old.items)) }
     ensures lost { IfOk result (λ reply. reply ≡ Reply.Lost → Rose (L.faults link.old) (L.faults link.new)) }
     ensures count { IsCount (L.faults link.old) (L.faults link.new) }
     ensures room { vec_len buffer.new ≤ MAX_RESPONSE + 1 }

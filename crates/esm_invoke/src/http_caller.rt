@@ -109,8 +109,8 @@ impl<R: Net + Clock + Clone> Caller for HttpCaller<R> {
 
     ghost log = { λ s. None };
 
-    /// `Lost` where the connection cannot be made, where no answer came within the limit of time, and where a read or a
-    /// write on the connection fails and no whole answer came.
+    /// `Lost` where the connection cannot be made, where no answer came within the limit of time, where a read fails
+    /// before a whole answer came, and where a write fails and no answer came whose own length shows that it is whole.
     fn call(&mut self, alloc: Global, name: &str, event: &[u8]) -> Result<Reply, OutOfMemory> {
         let mut link = TcpLink::new(&self.rt, self.port, self.limit)?;
         if connect(&self.rt, &mut link).is_err() {

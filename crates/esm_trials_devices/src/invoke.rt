@@ -154,15 +154,19 @@ const UP_TO_THE_END: &[u8] = b"HTTP/1.1 200 OK\r\n\r\n{}";
 
 /// Responses of links that give and take 100 bytes a call, so that a request is two writes and a response one read, with
 /// the numbers of the calls that fail.
-const FAILING: [(&[u8], &[u64], Outcome); 12] = [
+const FAILING: [(&[u8], &[u64], Outcome); 13] = [
     // The request is sent whole: a read that fails, and one that is not made.
     (TWO_BYTES, &[2], Lost),
     (UP_TO_THE_END, &[3], Lost),
     (TWO_BYTES, &[3], Answered(200, false)),
-    // A write fails, and a whole response lies ready.
+    // A write fails, and a response lies ready whose own length shows that it is whole.
     (TWO_BYTES, &[0], Answered(200, false)),
     (TWO_BYTES, &[1], Answered(200, false)),
-    (UP_TO_THE_END, &[1], Answered(200, false)),
+    (
+        b"HTTP/1.1 200 OK\r\nTransfer-Encoding: chunked\r\n\r\n2\r\n{}\r\n0\r\n\r\n",
+        &[1],
+        Answered(200, false),
+    ),
     (
         b"HTTP/1.1 429 Slow\r\nContent-Length: 0\r\n\r\n",
         &[1],
@@ -170,6 +174,8 @@ const FAILING: [(&[u8], &[u64], Outcome); 12] = [
     ),
     // A write fails, and a read too.
     (TWO_BYTES, &[1, 2], Lost),
+    // A write fails, and only the link's end could end the response, which may be cut off there.
+    (UP_TO_THE_END, &[1], Lost),
     // A write fails, and the response is cut off: `cut-reply`, and nothing at all.
     (
         b"HTTP/1.1 200 OK\r\nContent-Length: 3\r\n\r\n{}",

@@ -1,7 +1,7 @@
 use Rattle.std.proofs.Common.{◌<◌, ◌≤◌, ◌∙◌, length, sym, subst, arith, vec_len}
 use Rattle.esm_io.specs.Talks.{Writes}
 use Rattle.esm_invoke.specs.Receiving.{WritesPart}
-use Rattle.esm_invoke.proofs.ReplyLemmas.{answers_after, answers_early, loses_after, loses_early, sends_none, sends_part, sends_all, request_some}
+use Rattle.esm_invoke.proofs.CallLemmas.{answers_after, answers_early, loses_after, loses_early, sends_none, sends_part, sends_all, request_some}
 use Rattle.esm_invoke.proofs.call.invoke.Goals as goal
 
 pub returns-in_err-request-clause-sent : goal.returns-in_err-request-clause-sent
@@ -20,7 +20,7 @@ returns-in-Ok-clause-answered g c =
 pub returns-in-Ok-clause-unanswered : goal.returns-in-Ok-clause-unanswered
 returns-in-Ok-clause-unanswered g c =
     let text = c.deref.ensures.value ∙ c.in_ok-request.ensures in
-    loses_after g.L.Link.told g.L.Link.faults c.receive.result _ _ _ _ _ _ (subst (Writes _ _) text c.in-Ok.ensures.sent) c.receive.ensures.read c.receive.ensures.lost
+    loses_after g.L.Link.told g.L.Link.faults c.receive.result _ _ _ _ (subst (Writes _ _) text c.in-Ok.ensures.sent) c.receive.ensures.none c.receive.ensures.lost
 
 pub returns-in-Ok-clause-sent : goal.returns-in-Ok-clause-sent
 returns-in-Ok-clause-sent g c =
@@ -32,7 +32,7 @@ pub returns-clause-answered : goal.returns-clause-answered
 returns-clause-answered g c =
     let text = c.deref.ensures.value ∙ c.in_ok-request.ensures in
     answers_early g.L.Link.told g.L.Link.faults c.receive_early.result _ _ _ _ (subst (WritesPart _ _) text c.in-Err.ensures.part) c.in-Err.ensures.cause
-    c.receive_early.ensures.replied c.receive_early.ensures.answered
+    c.receive_early.ensures.answered
 
 pub returns-clause-unanswered : goal.returns-clause-unanswered
 returns-clause-unanswered g c =

@@ -4,7 +4,8 @@ use Rattle.std.specs.Prelude.{IfOk}
 use Rattle.esm_model.specs.declared.entry.Reply.TheVariants.{Garbled}
 use Rattle.esm_invoke.specs.Exchange.{GrowsFor}
 use Rattle.esm_invoke.specs.Receiving.{ReceivesHead}
-use Rattle.esm_invoke.proofs.ReplyLemmas.{into_then, replies_after, replies_garbled, front_is}
+use Rattle.esm_invoke.proofs.ReplyLemmas.{into_then, front_is}
+use Rattle.esm_invoke.proofs.CallLemmas.{replies_after, replies_garbled, none_after}
 use Rattle.esm_invoke.proofs.call.receive.Goals as goal
 
 pub returns-in-Head-clause-read : goal.returns-in-Head-clause-read
@@ -19,6 +20,14 @@ pub returns-in-Head-clause-replied : goal.returns-in-Head-clause-replied
 returns-in-Head-clause-replied g c =
     let head = subst (ReceivesHead _ _ _ c.receive_head.new.buffer.items) c.in-Head.is c.in_ok-head.ensures.received in
     replies_after c.receive_body.result _ _ _ _ head.1 c.receive_body.ensures.replied
+
+pub returns-in-Head-clause-none : goal.returns-in-Head-clause-none
+returns-in-Head-clause-none g c =
+    let head = subst (ReceivesHead _ _ _ c.receive_head.new.buffer.items) c.in-Head.is c.in_ok-head.ensures.received in
+    none_after c.receive_body.result _ _ _ _ head.1 c.receive_body.ensures.none
+
+pub returns-in-Lost-clause-none : goal.returns-in-Lost-clause-none
+returns-in-Lost-clause-none g c = λ _. subst (ReceivesHead _ _ _ c.receive_head.new.buffer.items) c.in-Lost.is c.in_ok-head.ensures.received
 
 pub returns-in-Garbled-clause-replied : goal.returns-in-Garbled-clause-replied
 returns-in-Garbled-clause-replied g c =

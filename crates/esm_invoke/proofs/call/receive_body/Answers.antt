@@ -6,7 +6,7 @@ use Rattle.esm_model.specs.declared.entry.Reply.TheVariants.{Garbled}
 use Rattle.esm_invoke.specs.Response.{BeginsWith}
 use Rattle.esm_invoke.specs.ResponseRead.{Awaits, IsUnfinished}
 use Rattle.esm_invoke.specs.Receiving.{ReadsMore}
-use Rattle.esm_invoke.proofs.ReplyLemmas.{no_more, more_then, more_behind, begins_on, awaits_more, awaits_start, none_unfinished, garbled_if, replies_if, goes_on_here, front_stays, into_behind, front_is}
+use Rattle.esm_invoke.proofs.ReplyLemmas.{no_more, more_then, more_behind, begins_on, awaits_more, awaits_start, none_unfinished, garbled_if, replies_if, has_none, goes_on_here, front_stays, into_behind, front_is}
 use Rattle.esm_invoke.proofs.call.receive_body.Goals as goal
 
 pub loop-body-init : goal.loop-body-init
@@ -45,6 +45,18 @@ returns-then-filled-gt-MAX_RESPONSE-clause-replied g c =
     (λ e. absurd (false≢true e))
     (garbled_if c.garbled.result false before (none_unfinished false before r begins state.0 state.1 (λ _. refl))
     (inr (inl (omega (arith, len, c.if-filled-gt-MAX_RESPONSE.true)))) (subst (λ t. IfOk c.garbled.result (λ reply. reply ≡ Garbled t)) bytes_are c.garbled.ensures))
+
+pub returns-in-Err-clause-none : goal.returns-in-Err-clause-none
+returns-in-Err-clause-none g c =
+    let r = c.settle.new.body in
+    let inv = c.loop-body.invariant in
+    let start = take c.args.first c.args.buffer.now.items in
+    let before = take c.loop-body.filled c.loop-body.buffer.items in
+    let bytes_are = front_is _ _ _ _ c.split_at.ensures.front c.as_slice.ensures.value in
+    let state = goes_on_here _ before r _ c.in_ok-reply.ensures.settled c.in_default.is bytes_are in
+    let begins = subst (λ h. BeginsWith before h (drop h.len before)) (sym c.in_ok-reply.ensures.head) inv.begins in
+    λ _. has_none _ _ start before (subst (λ t. ReadsMore (g.L.Link.told c.args.link.now) t start before) (sym c.in-Err.ensures.unread) inv.read)
+    (none_unfinished false before r begins state.0 state.1 (λ _. refl))
 
 pub close-requires-clause-begins : goal.close-requires-clause-begins
 close-requires-clause-begins g c =

@@ -113,5 +113,14 @@ returns-in-Err-clause-read g c =
     (subst (λ t. Reads (g.L.Link.told c.args.link.now) t (take c.loop-filled.filled c.loop-filled.buffer.items)) (sym c.in-Err.ensures.unread) inv.read) inv.front
     (omega (arith, inv.grows, c.make_room.ensures.grows, c.read_more.ensures.room))
 
+pub returns-in-Err-clause-received : goal.returns-in-Err-clause-received
+returns-in-Err-clause-received g c =
+    let inv = c.loop-filled.invariant in
+    let bytes = take c.loop-filled.filled c.loop-filled.buffer.items in record {
+      read = bytes;
+      reads = subst (λ t. Reads (g.L.Link.told c.args.link.now) t bytes) (sym c.in-Err.ensures.unread) inv.read;
+      none = none_without_head false bytes (subst (λ n. HasNoHead n bytes) (sym inv.front) inv.none);
+    }
+
 pub returns-clause-read : goal.returns-clause-read
 returns-clause-read g c = into_front _ _ _ c.loop-filled.filled _ _ c.loop-filled.invariant.read c.loop-filled.invariant.front c.loop-filled.invariant.grows
