@@ -3,12 +3,14 @@ ghost use Rattle.std.specs.Prelude.{◌≡◌, None, IfOk};
 ghost use Rattle.esm_host.specs.Streams.{IsAboveStreams};
 
 use crate::again::read_again;
+use crate::ready::is_readable;
 use crate::real::counted;
 use crate::streams::above_streams;
 use esm_io::{Failed, Source};
 use esm_model::{OutOfMemory, Text};
 use std::fs::File;
 use std::marker::Model;
+use std::os::fd::AsRawFd;
 use std::rt::Files;
 use std::{fs, io};
 
@@ -60,9 +62,13 @@ impl<R: Files<File = File> + Clone> Source for FileSource<R> {
 
     ghost left = { λ s. None };
 
-    /// A file is always ready.
-    fn is_ready(&self, _patience: u64) -> bool {
-        true
+    /// Asks of its descriptor, where the file is open: a file is always ready, and a FIFO or a device may not be. True also
+    /// at its end and where it cannot be polled; false where the time passed or a signal interrupted it.
+    fn is_ready(&self, patience: u64) -> bool {
+        match &self.file {
+            Some(file) => is_readable(file.as_raw_fd(), patience),
+            None => true,
+        }
     }
 
     fn read(&mut self, into: &mut [u8]) -> Result<usize, Failed> {

@@ -8,6 +8,7 @@ mod file_disk;
 mod file_source;
 mod host_clock;
 mod no_connection;
+mod ready;
 mod real;
 mod stdin_source;
 mod stdout_sink;

@@ -2,10 +2,10 @@
 ghost use Rattle.std.specs.Prelude.{◌≡◌, None, IfOk};
 
 use crate::again::read_again;
+use crate::ready::is_readable;
 use crate::real::counted;
 use esm_io::{Failed, Source};
 use esm_model::OutOfMemory;
-use libc::types::pollfd;
 use std::marker::Model;
 
 /// Standard input.
@@ -45,16 +45,7 @@ impl<R: Input + Clone> Source for StdinSource<R> {
     /// Asks of the host's descriptor 0. True also at its end and where it cannot be polled; false where the time passed or a
     /// signal interrupted it.
     fn is_ready(&self, patience: u64) -> bool {
-        let mut asked = [pollfd {
-            fd: libc::STDIN_FILENO,
-            events: libc::net::POLLIN,
-            revents: 0,
-        }];
-        match libc::net::poll(&mut asked, i32::try_from(patience).unwrap_or(i32::MAX)) {
-            0 => false,
-            -1 => os::errno() != libc::EINTR,
-            _ => true,
-        }
+        is_readable(libc::STDIN_FILENO, patience)
     }
 
     fn read(&mut self, into: &mut [u8]) -> Result<usize, Failed> {
