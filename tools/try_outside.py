@@ -198,6 +198,23 @@ def no_reader(t):
     t.said("show", 0, [f"{SHARD} given 1 frontier 1", "done"])
 
 
+def fault_with_open_input(t):
+    """A journal that cannot be written ends the run, though its input, a FIFO, stays open."""
+    t.in_folder([])
+    (t.folder / "input.jsonl").unlink()
+    os.mkfifo(t.folder / "input.jsonl")
+    run = t.begin(["run", "--config", json.dumps(STREAM | {"BatchSize": 1})], shell="trap '' XFSZ; ulimit -f 0",
+                  stdout=subprocess.PIPE)
+    with open(t.folder / "input.jsonl", "w") as feed:
+        feed.write(text_of([record(1)]))
+        feed.flush()
+        begun = time.monotonic()
+        output = run.communicate(timeout=60)[0]
+        t.between("seconds until it ends", 0, 10, time.monotonic() - begun)
+    t.same("output", text_of([shard_line(1, 0), "calls 1", "disk fault"]), output)
+    t.same("status", 6, run.returncode)
+
+
 def full_pipe(t):
     """The report waits for the reader of a pipe that is full."""
     ours, theirs = os.pipe()
@@ -307,14 +324,57 @@ int pthread_create(pthread_t *thread, const pthread_attr_t *attributes, void *(*
 """
 
 
-def no_threads(t):
-    """Each thread from the n-th on cannot be made: the run ends all the same, with its report or for want of memory."""
+DATES = """
+#define _GNU_SOURCE
+#include <dlfcn.h>
+#include <fcntl.h>
+#include <stdlib.h>
+#include <time.h>
+#include <unistd.h>
+
+static int asked;
+
+int clock_gettime(clockid_t clock, struct timespec *now) {
+    int ended = ((int (*)(clockid_t, struct timespec *))dlsym(RTLD_NEXT, "clock_gettime"))(clock, now);
+    if (clock == CLOCK_REALTIME) {
+        close(open(getenv("TRIAL_ASKED"), O_CREAT | O_WRONLY, 0600));
+        if (__atomic_fetch_add(&asked, 1, __ATOMIC_SEQ_CST)) now->tv_sec += atoi(getenv("TRIAL_MOVED"));
+    }
+    return ended;
+}
+"""
+
+
+def preloaded(t, text):
+    """A library of this C text in the case's folder, and the path of a file by which it shows that it was called."""
     if not shutil.which("cc"):
         raise Skipped("there is no C compiler")
-    t.new_folder()
-    source, library, sign = (t.folder / name for name in ("fails.c", "fails.so", "failed"))
-    source.write_text(FAILS)
+    source, library, sign = (t.folder / name for name in ("text.c", "text.so", "called"))
+    source.write_text(text)
     subprocess.run(["cc", "-shared", "-fPIC", "-o", library, source, "-ldl"], check=True)
+    return library, sign
+
+
+def moved_date(t):
+    """A date that is set an hour back or on while a run goes on stops no retry and lets nothing expire."""
+    t.new_folder()
+    library, sign = preloaded(t, DATES)
+    t.folder = None
+    arrival = int(time.time() * 1000)
+    lines = [record(1, arrival=arrival), record(2, "bad", arrival=arrival)]
+    mapping = STREAM | {"BatchSize": 1, "MaximumRetryAttempts": 2, "MaximumRecordAgeInSeconds": 600}
+    report = [shard_line(2, 2, succeeded=1, exhausted=1), "calls 4", "done"]
+    for moved in (-3600, 3600):
+        environment = {**os.environ, "LD_PRELOAD": str(library), "TRIAL_ASKED": str(sign), "TRIAL_MOVED": str(moved)}
+        t.run(mapping, 0, report, 'poison:"partitionKey":"bad"', lines, env=environment)
+    if not sign.exists():
+        raise Skipped("the program reads the clock by other means")
+
+
+def no_threads(t):
+    """Each thread from the n-th on cannot be made: the run ends all the same, with its report or for want of memory."""
+    t.new_folder()
+    library, sign = preloaded(t, FAILS)
     t.folder = None
     lines = [record(n, key=f"k{n}", shard=n % 2) for n in range(1, 41)]
     report = text_of([shard_line(20, 20, succeeded=20), shard_line(20, 20, succeeded=20, shard=1), "calls 40", "done"])
@@ -356,6 +416,6 @@ def small_stack(t):
 SLOW = [slow_client]
 CASES = [
     closed_by_run, closed_by_others, closed_by_serve, closed_input, early_answers, no_answer, no_connection,
-    trickling_answer, large_replies, few_descriptors, no_reader, full_pipe, foreign_requests, stopped_serve,
-    no_threads, small_stack, *SLOW,
+    trickling_answer, large_replies, few_descriptors, no_reader, fault_with_open_input, full_pipe,
+    foreign_requests, stopped_serve, no_threads, moved_date, small_stack, *SLOW,
 ]
