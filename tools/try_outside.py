@@ -393,7 +393,7 @@ def no_threads(t):
 
 
 def small_stack(t):
-    """Each command has room in a stack of 512 kB."""
+    """Over a folder each command has room in a stack of 512 kB."""
     shell = "ulimit -s 512"
     t.said(["gen", "--records", "1000"], 0, [
         shard_line(500, 500, succeeded=400, filtered=100),
