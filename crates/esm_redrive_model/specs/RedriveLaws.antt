@@ -1,0 +1,69 @@
+-- What holds of every legal history of a redrive (newest entry first).
+use Rattle.std.specs.Prelude.{◌≡◌, ℕ, ◌+◌, ◌<◌, ◌≤◌, Bool, true, false, IsTrue, List, ◌∷◌, ◌++◌, length, map, Option, Some, is_some, slice_get}
+use Rattle.esm_model.specs.declared.item.Message.{Message}
+use Rattle.esm_model.specs.declared.lane.LaneId.{LaneId}
+use Rattle.esm_model.specs.declared.entry.Fate.{Fate}
+use Rattle.esm_model.specs.declared.entry.Fate.TheVariants.{Succeeded, Filtered, Expired, Exhausted}
+use Rattle.esm_model.specs.declared.entry.WindowState.{WindowState}
+use Rattle.esm_model.specs.declared.entry.Entry.{Entry}
+use Rattle.esm_model.specs.declared.entry.Entry.TheVariants.{Gave}
+use Rattle.esm_model.specs.declared.setup.FoundDeletion.{FoundDeletion}
+use Rattle.esm_model.specs.Entries.{holds}
+use Rattle.esm_model.specs.Books.{lines_of}
+use Rattle.esm_queue_model.specs.QueueSetting.{found_deletion}
+use Rattle.esm_queue_model.specs.QueueEntries.{queue_count, is_deleted, waiting, deletion_fate, deleted_with}
+use Rattle.esm_redrive_model.specs.RedriveSetting.{RedriveSetting, stands_among}
+use Rattle.esm_redrive_model.specs.DeadLetter.{dead_letter}
+use Rattle.esm_redrive_model.specs.Due.{receives, moved_messages, moved_ids}
+
+-- what becomes of a message
+
+-- it succeeded, or was filtered, or was moved
+abbrev pub is_redrive_fate : Fate → Bool
+is_redrive_fate Succeeded = true
+is_redrive_fate Filtered = true
+is_redrive_fate Exhausted = true
+is_redrive_fate Expired = false
+
+-- each deletion that the journal told of is for one of these reasons
+abbrev pub FoundForThese : RedriveSetting → Type 0
+FoundForThese s = (i : ℕ) (f : FoundDeletion) → found_deletion s.queue i ≡ Some f → is_redrive_fate f.fate ≡ true
+
+-- it waits exactly where it has no fate, and its one fate is one of these
+pub record HasOneEnd (s : RedriveSetting) (h : List Entry) (i : ℕ) : Type 0 where
+  pub deleted : is_deleted s.queue h i ≡ is_some (deletion_fate s.queue h i)
+  pub ends : (f : Fate) → deletion_fate s.queue h i ≡ Some f → is_redrive_fate f ≡ true
+
+-- each message that came is exactly one of waiting, succeeded, filtered and moved
+pub record EachHasOneEnd (s : RedriveSetting) (h : List Entry) : Type 0 where
+  pub each : (i : ℕ) → i < queue_count h → HasOneEnd s h i
+  pub counted : queue_count h ≡ length (waiting s.queue h) + deleted_with s.queue h Succeeded + deleted_with s.queue h Filtered + deleted_with s.queue h Exhausted
+
+-- lines
+
+-- no id stands at two positions
+abbrev pub EachOnce : List (List ℕ) → Type 0
+EachOnce ids = (i j : ℕ) (id : List ℕ) → slice_get ids i ≡ Some id → slice_get ids j ≡ Some id → i ≡ j
+
+-- the messages have different ids
+abbrev pub HaveDifferentIds : List Message → Type 0
+HaveDifferentIds messages = EachOnce (map (λ (m : Message). m.id) messages)
+
+-- the lines that the history adds are those of the messages that it moves, in order; an id stands in at most one of them,
+-- and in none where it stood in the dead-letter file
+pub record MovedOnce (s : RedriveSetting) (h : List Entry) : Type 0 where
+  pub lines : lines_of h ≡ map dead_letter (moved_messages s h)
+  pub once : HaveDifferentIds s.queue.messages → EachOnce (moved_ids s h)
+  pub fresh : (id : List ℕ) → stands_among (moved_ids s h) id ≡ true → stands_among s.dead_ids id ≡ false
+
+-- receives
+
+-- a message is moved only after it was received as often as it may be
+abbrev pub MovedAfterReceives : RedriveSetting → List Entry → Type 0
+MovedAfterReceives s h =
+    (later before : List Entry) (lane : LaneId) (shard : ℕ) (places : List ℕ) (line : Option (List ℕ)) (state : Option WindowState) (m : ℕ) → h ≡ later ++ Gave (Some lane) shard places Exhausted line state m ∷ before
+    → (i : ℕ) → IsTrue (holds places i) → s.max_receives ≤ receives before i
+
+-- and none is received more often
+abbrev pub ReceivedAtMost : RedriveSetting → List Entry → Type 0
+ReceivedAtMost s h = (i : ℕ) → receives h i ≤ s.max_receives

@@ -1,0 +1,26 @@
+-- What a history of a redrive is judged over: a queue's setting, and the limit and the dead-letter file that a redrive has
+-- besides. Source: the Amazon SQS Developer Guide, "Using dead-letter queues" (`maxReceiveCount`).
+use Rattle.std.specs.Prelude.{ℕ, Bool, List}
+use Rattle.std.specs.List.{list_any}
+use Rattle.std.specs.Str.{bytes_eq}
+use Rattle.esm_model.specs.declared.item.Message.{Message}
+use Rattle.esm_queue_model.specs.QueueSetting.{QueueSetting, over_messages}
+
+-- the queue, how often a message may be received, and the message ids of the lines that stood in the dead-letter file at
+-- opening
+pub record RedriveSetting : Type 0 where
+  pub queue : QueueSetting
+  pub max_receives : ℕ
+  pub dead_ids : List (List ℕ)
+
+-- the id is one of the ids
+abbrev pub stands_among : List (List ℕ) → List ℕ → Bool
+stands_among ids id = list_any (bytes_eq id) ids
+
+-- the message's id stands in a line that was found in the dead-letter file
+abbrev pub has_dead_id : RedriveSetting → Message → Bool
+has_dead_id s m = stands_among s.dead_ids m.id
+
+-- the same setting over another list of messages
+abbrev pub redrive_over : RedriveSetting → List Message → RedriveSetting
+redrive_over s messages = record s { queue = over_messages s.queue messages }

@@ -1,0 +1,7 @@
+//! The vocabulary of redrives, beside that of queues: which messages are due, which are known, the line of a dead letter,
+//! and which histories of a redrive are legal.
+//! Definitions and laws; no device, clock or thread.
+#![tactic(auto)]
+
+pub mod laws;
+pub mod worked;

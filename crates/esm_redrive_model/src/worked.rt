@@ -1,0 +1,14 @@
+//! Worked examples, each computed from the definitions.
+ghost use Rattle.esm_redrive_model.specs.WorkedRedrives.{RedriveOne, RedriveSpent, NearRedriveOne, RedriveFound, NearRedriveFound, RedriveFifo, NearRedriveFifo};
+
+/// A message that always fails is moved when it shows after its last receive; one whose line was found is recorded
+/// without a second line; and a FIFO queue's next message is called once the first of its group was moved.
+pub fn redrives()
+    ensures one { RedriveOne }
+    ensures spent { RedriveSpent }
+    ensures near_one { NearRedriveOne }
+    ensures found { RedriveFound }
+    ensures near_found { NearRedriveFound }
+    ensures fifo { RedriveFifo }
+    ensures near_fifo { NearRedriveFifo }
+{}
