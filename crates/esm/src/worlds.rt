@@ -65,7 +65,7 @@ pub fn memory_world<H: Runtime + Net + Clone>(
     ensures answering { IfOk result (λ world. AreCallers opening.entry.functions (map string_bytes opening.entry.command.now) world.callers.items) }
     ensures trace { IfOk result (λ world. world.trace.items ≡ []) }
 {
-    let input = StdinSource::new(host)?;
+    let input = StdinSource::new(host, alloc)?;
     world_of(host, alloc, opening, input, fresh_disks(alloc)?)
 }
 

@@ -74,7 +74,7 @@ module _ {T : Type 0} (m : Meaning T) (gave : ℕ → Bool) (t : TurnView) (n : 
 
   -- the seat that took the value x and has given it back as y
   abbrev pub after : SeatView → T → T → SeatView
-  after s x y = record s { seen = m.history y; mine = s.mine ++ added (m.history x) (m.history y); mark = m.mark y; holds = false }
+  after s x y = record s { seen = m.history y; mine = s.mine ++ added (m.history x) (m.history y); mark = m.mark y; change = m.change y; holds = false }
 
   pub given : (moment : ℕ) (s : SeatView) (x y : T) → IsSeated m.author m.may_follow gave t n s → Found s (m.history x) → m.setup x ≡ t.setup
       → GoesOn m n x y → AllAt moment (m.history x) (added (m.history x) (m.history y)) → gave moment ≡ true → IsSeated m.author m.may_follow gave t n (after s x y)
@@ -92,9 +92,9 @@ module _ {T : Type 0} (m : Meaning T) (gave : ℕ → Bool) (t : TurnView) (n : 
       }
 
   -- it is that seat
-  pub gone_back : (s v w : SeatView) (x y : T) → v ≡ record s { seen = m.history x; mark = m.mark x; holds = true }
-      → w ≡ record v { seen = m.history y; mine = v.mine ++ added v.seen (m.history y); mark = m.mark y; holds = false } → w ≡ after s x y
-  gone_back s v w x y taken gone = gone ∙ ap (λ (u : SeatView). record u { seen = m.history y; mine = u.mine ++ added u.seen (m.history y); mark = m.mark y; holds = false }) taken
+  pub gone_back : (s v w : SeatView) (x y : T) → v ≡ record s { seen = m.history x; mark = m.mark x; change = m.change x; holds = true }
+      → w ≡ record v { seen = m.history y; mine = v.mine ++ added v.seen (m.history y); mark = m.mark y; change = m.change y; holds = false } → w ≡ after s x y
+  gone_back s v w x y taken gone = gone ∙ ap (λ (u : SeatView). record u { seen = m.history y; mine = u.mine ++ added u.seen (m.history y); mark = m.mark y; change = m.change y; holds = false }) taken
 
   -- it has seen more than it had
   pub grown : (s w : SeatView) (x y : T) → Found s (m.history x) → w ≡ after s x y → m.history y ≡ m.history x ++ added (m.history x) (m.history y) → IsPrefix s.seen w.seen

@@ -44,6 +44,7 @@ module _ {T : Type 0} (m : Meaning T) (n : ℕ) where
         legal = subst (MayFollowAll (m.may_follow (m.setup x)) h) (sym all) (may_append (m.may_follow (m.setup x)) h a b one.legal legal);
         own = subst (AllBy (m.author (m.setup x)) n h) (sym all) (by_append (m.author (m.setup x)) n h a b one.own own);
         marked = λ marked. two.marked (one.marked marked);
+        unchanged = λ other. two.unchanged other ∙ one.unchanged other;
       }
 
   pub at_twice : (moment : ℕ) (x y z : T) → GoesOn m n x y → GoesOn m n y z → AllAt moment (m.history x) (added (m.history x) (m.history y))

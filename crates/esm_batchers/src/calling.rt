@@ -60,7 +60,7 @@ fn end_and_ask<T: Pooled>(
 ) -> Result<Result<Next, BookError>, OutOfMemory>
     requires number { batcher < MAX_LANES }
     requires runs { T.runs (T.setup book.old) (T.history book.old) batcher job }
-    ensures goes_on { GoesOn (meaning T.setup T.history T.mark T.author T.may_follow) (batcher + 1) book.old book.new }
+    ensures goes_on { GoesOn (meaning T.setup T.history T.mark T.change T.author T.may_follow) (batcher + 1) book.old book.new }
     ensures moments { AllAt moment (T.history book.old) (added (T.history book.old) (T.history book.new)) }
     ensures answer { IfOk result (IsAnswer T.rests T.runs T.finished T.spent (T.setup book.old) batcher (T.history book.new) (T.mark book.new)) }
     ensures called { OnOk result ((sends : List ℕ → List ℕ) →

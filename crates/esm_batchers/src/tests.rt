@@ -29,7 +29,7 @@ struct Scripted {
 }
 
 impl Kept for Scripted {
-    ghost use Rattle.std.specs.Prelude.{if◌then◌else◌, [], ◌∷◌};
+    ghost use Rattle.std.specs.Prelude.{if◌then◌else◌, [], ◌∷◌, None};
     ghost use Rattle.esm_model.specs.Setup.{no_setup};
     ghost use Rattle.esm_model.specs.declared.entry.Entry.TheVariants.{Shut};
 
@@ -38,6 +38,8 @@ impl Kept for Scripted {
     ghost history = { λ book. if book.shut then record { entry = Shut 0; records = []; messages = [] } ∷ [] else [] };
 
     ghost mark = { λ book. book.down };
+
+    ghost change = { λ _. None };
 
     ghost author = { λ _ _ _. 0 };
 
@@ -101,6 +103,10 @@ impl Pooled for Scripted {
     // it answers no call
     fn end_call(&mut self, _: Global, _: u32, _: Job, _: Reply, _: u64) -> Result<u32, BookError> {
         Err(BookError::OutOfMemory)
+    }
+
+    fn is_spent(&self) -> bool {
+        true
     }
 
     fn is_over(&self, _: u32) -> Option<bool> {

@@ -6,7 +6,7 @@ ghost use Rattle.esm_model.specs.declared.entry.Entry.{Entry};
 ghost use Rattle.esm_model.specs.Valid.{IsStreamConfig, IsValidRecord};
 ghost use Rattle.esm_model.specs.declared.moment.TheConstants.{MAX_MOMENT};
 ghost use Rattle.esm_model.specs.Books.{streams_told};
-ghost use Rattle.esm_model.specs.Entries.{is_shut, last_moment};
+ghost use Rattle.esm_model.specs.Entries.{is_shut, last_moment, calls_begun};
 ghost use Rattle.esm_filter.specs.Criteria.{JudgesRecords};
 ghost use Rattle.esm_payload.specs.EntryPayload.{entry_payload};
 ghost use Rattle.esm_tables.specs.LaneHistory.{HasFoundTries};
@@ -277,6 +277,14 @@ impl StreamCore {
         ensures { result ≡ is_shut self.now.past }
     {
         self.owing.is_shut()
+    }
+
+    /// Whether all calls allowed began. Takes no memory.
+    pub fn is_spent(&self) -> bool
+        ensures spent { result ≡ true → self.now.setting.calls ≤ calls_begun self.now.past }
+        ensures going { result ≡ false → calls_begun self.now.past < self.now.setting.calls }
+    {
+        self.owing.is_spent()
     }
 
     /// Whether nothing is left for the batchers below the number: no record of their lanes is open, and no window of their

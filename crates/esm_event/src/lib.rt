@@ -8,7 +8,7 @@ mod dates;
 pub mod digits;
 mod event;
 mod failure;
-mod json;
+pub mod json;
 mod length;
 mod message;
 mod queue;

@@ -8,7 +8,7 @@ use Rattle.esm_io.specs.Meanings.{DiskMeaning}
 use Rattle.esm_model.specs.declared.entry.Entry.{Entry}
 use Rattle.esm_said.specs.Meaning.{history}
 use Rattle.esm_said.specs.Tells.{Tells}
-use Rattle.esm_stream.specs.Files.{FilesState, IsOpenedFiles}
+use Rattle.esm_runner.specs.Files.{FilesState, IsOpenedFiles}
 use Rattle.esm_gen_run.specs.Nothing.{SaysNothing}
 use Rattle.esm_gen_run.specs.Run.{HasRun, generated_setting}
 use Rattle.esm_gen_run.proofs.Fresh.{fresh_none}

@@ -23,18 +23,18 @@ use Rattle.esm_model.specs.declared.limits.TheConstants.{MAX_LANES}
 use Rattle.esm_model.specs.declared.memory.OutOfMemory.{OutOfMemory}
 use Rattle.esm_model.specs.Calls.{calls}
 use Rattle.esm_model.specs.Setting.{Setting, Stream, over}
-use Rattle.esm_stream.specs.Coming.{records_in_items}
-use Rattle.esm_stream.specs.Stopping.{HasLogged}
+use Rattle.esm_runner.specs.Coming.{records_in_items}
+use Rattle.esm_runner.specs.Stopping.{HasLogged}
 use Rattle.esm_record.specs.Input.{input_of}
 use Rattle.esm_record.specs.declared.item.Item.{Item}
 use Rattle.esm_record.specs.declared.item.Item.TheVariants as item
 use Rattle.esm_record.specs.declared.item.LineKind.TheVariants as kinds
 use Rattle.esm_said.specs.SaidLists.{SaidLists}
-use Rattle.esm_stream.specs.Ended.{HasEnded, HasStoppedRun, IsInputOf}
-use Rattle.esm_stream.specs.Files.{FilesState}
-use Rattle.esm_stream.specs.Headline.{Devices, Telling}
-use Rattle.esm_stream.specs.declared.run.StreamEnd.{StreamEnd}
-use Rattle.esm_stream.specs.declared.run.StreamEnd.TheVariants.{Finished}
+use Rattle.esm_runner.specs.Ended.{HasEnded, HasStoppedRun, IsInputOf}
+use Rattle.esm_runner.specs.Files.{FilesState}
+use Rattle.esm_runner.specs.Headline.{Devices, Telling}
+use Rattle.esm_runner.specs.declared.run.MappingEnd.{MappingEnd}
+use Rattle.esm_runner.specs.declared.run.MappingEnd.TheVariants.{Finished}
 use Rattle.esm_gen_run.specs.declared.run.TheConstants.{CALLS}
 use Rattle.esm_gen_run.specs.Function.{AreAnswered, IsFunction, reply_to}
 use Rattle.esm_gen_run.specs.Nothing.{SaysNothing}
@@ -115,7 +115,7 @@ module _ {D : Type 0} (t : Telling D CallerState) (faults : SourceState → ℕ)
       let taken = subst (λ (l : SourceState → Option (List ℕ)). TakesFront (l i.found) (l i.source) i.bytes) left_is is.read.taken in
       (taken.0, ap (λ (s : SourceState). s.left) (sym is.found) ∙ taken.1, cc taken.2)
 
-  ended_came : (e : StreamEnd) (he : HasEnded t faults left config TrimHorizon CALLS f old_input new_input old h new e) → HaveCome records he.setting
+  ended_came : (e : MappingEnd) (he : HasEnded t faults left config TrimHorizon CALLS f old_input new_input old h new e) → HaveCome records he.setting
   ended_came e he =
       let is = he.is_input in
       let i = he.input in
@@ -129,7 +129,7 @@ module _ {D : Type 0} (t : Telling D CallerState) (faults : SourceState → ℕ)
         came = λ n. let c = he.is_setting.came n in (c.0, ap (λ (items : List Item). of_shard n (records_in_items items)) (sym handed_so) ∙ c.1);
       }
 
-  ended_over : (e : StreamEnd) (he : HasEnded t faults left config TrimHorizon CALLS f old_input new_input old h new e) → IsRunOver records he.setting h
+  ended_over : (e : MappingEnd) (he : HasEnded t faults left config TrimHorizon CALLS f old_input new_input old h new e) → IsRunOver records he.setting h
   ended_over e he = record {
     setting = he.is_setting.opened ∙ setting_is config f.said he.setting.streams b.config_is b.says_nothing;
     have_come = ended_came e he;
@@ -169,7 +169,7 @@ module _ {D : Type 0} (t : Telling D CallerState) (faults : SourceState → ℕ)
         logged_answered old new.callers b.count b.as_many b.unused b.functions hs.setting h k below some_caller logged;
   }
 
-  run_over : (r : Result StreamEnd OutOfMemory) → IfOk r (HasEnded t faults left config TrimHorizon CALLS f old_input new_input old h new)
+  run_over : (r : Result MappingEnd OutOfMemory) → IfOk r (HasEnded t faults left config TrimHorizon CALLS f old_input new_input old h new)
       → OnErr r (HasStoppedRun t left config TrimHorizon CALLS f old_input new_input old h new) → HasRun records h
   run_over (Ok e) he hs = record { setting = he.setting; run = ended_over e he }
   run_over (Err why) he hs = record { setting = hs.setting; run = stopped_over hs }
@@ -196,7 +196,7 @@ module _ {D : Type 0} (t : Telling D CallerState) (faults : SourceState → ℕ)
         fated = cause.2;
       }
 
-  run_whole : (r : Result StreamEnd OutOfMemory) → IfOk r (HasEnded t faults left config TrimHorizon CALLS f old_input new_input old h new)
+  run_whole : (r : Result MappingEnd OutOfMemory) → IfOk r (HasEnded t faults left config TrimHorizon CALLS f old_input new_input old h new)
       → r ≡ Ok (Finished End) → HasFinished records h
   run_whole r ended done =
       let he : HasEnded t faults left config TrimHorizon CALLS f old_input new_input old h new (Finished End) = rw done at ended in
@@ -205,7 +205,7 @@ module _ {D : Type 0} (t : Telling D CallerState) (faults : SourceState → ℕ)
 -- with the arguments in the order in which a call of the run tells them
 
 pub has_run : {D : Type 0} (t : Telling D CallerState) (faults : SourceState → ℕ) (left : SourceState → Option (List ℕ)) (records : ℕ) (config : Config) (f : FilesState D)
-    (old_input new_input : SourceState) (old : List CallerState) (h : List Entry) (new : Devices D CallerState) (r : Result StreamEnd OutOfMemory)
+    (old_input new_input : SourceState) (old : List CallerState) (h : List Entry) (new : Devices D CallerState) (r : Result MappingEnd OutOfMemory)
     → IfOk r (HasEnded t faults left config TrimHorizon CALLS f old_input new_input old h new)
     → OnErr r (HasStoppedRun t left config TrimHorizon CALLS f old_input new_input old h new)
     → t.callers.sends ≡ sends_of → t.callers.log ≡ log_of → left ≡ left_of → Begins records config f.said old_input old new.callers → HasRun records h
@@ -213,7 +213,7 @@ has_run t faults left records config f old_input new_input old h new r he hs sen
     run_over t faults left records config f old_input new_input old h new sends log leaves b r he hs
 
 pub has_finished : {D : Type 0} (t : Telling D CallerState) (faults : SourceState → ℕ) (left : SourceState → Option (List ℕ)) (records : ℕ) (config : Config) (f : FilesState D)
-    (old_input new_input : SourceState) (old : List CallerState) (h : List Entry) (new : Devices D CallerState) (r : Result StreamEnd OutOfMemory)
+    (old_input new_input : SourceState) (old : List CallerState) (h : List Entry) (new : Devices D CallerState) (r : Result MappingEnd OutOfMemory)
     → IfOk r (HasEnded t faults left config TrimHorizon CALLS f old_input new_input old h new) → r ≡ Ok (Finished End)
     → t.callers.sends ≡ sends_of → t.callers.log ≡ log_of → left ≡ left_of → Begins records config f.said old_input old new.callers → HasFinished records h
 has_finished t faults left records config f old_input new_input old h new r he done sends log leaves b =

@@ -11,9 +11,9 @@ use Rattle.esm_model.specs.Calls.{calls}
 use Rattle.esm_model.specs.Entries.{came_count, is_shut}
 use Rattle.esm_model.specs.Laws.{EveryRecordCounted, NoRepeat, OrderPerKey}
 use Rattle.esm_model.specs.Setting.{Setting, Stream, records_of}
-use Rattle.esm_stream.specs.Coming.{records_in_items}
-use Rattle.esm_stream.specs.Ran.{AllFated}
-use Rattle.esm_stream.specs.Ran.{NoneRuns}
+use Rattle.esm_runner.specs.Coming.{records_in_items}
+use Rattle.esm_runner.specs.Ran.{AllFated}
+use Rattle.esm_runner.specs.Ran.{NoneRuns}
 use Rattle.esm_record.specs.declared.item.LineKind.TheVariants as kinds
 use Rattle.esm_gen_run.specs.declared.run.TheConstants.{CALLS}
 use Rattle.esm_gen_run.specs.Function.{AreAnswered}

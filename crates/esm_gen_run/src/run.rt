@@ -9,7 +9,7 @@ ghost use Rattle.esm_init.specs.Init.{fresh_bytes};
 ghost use Rattle.esm_init.specs.declared.disks.FileName.TheVariants.{Journal, Spare};
 ghost use Rattle.esm_input.specs.declared.ending.InputEnd.TheVariants.{End};
 ghost use Rattle.esm_model.specs.Setting.{Setting};
-ghost use Rattle.esm_stream.specs.declared.run.StreamEnd.TheVariants.{Finished};
+ghost use Rattle.esm_runner.specs.declared.run.MappingEnd.TheVariants.{Finished};
 
 use crate::disks::fresh_disks;
 use crate::function::{FunctionCaller, all_keep, function_callers};
@@ -19,7 +19,7 @@ use esm_init::Disks;
 use esm_input::InputEnd;
 use esm_io::{MemDisk, MemSource, StepClock};
 use esm_model::{Config, Entry, OutOfMemory, Start};
-use esm_stream::{Files, StreamEnd, StreamRun, open_files, run_stream};
+use esm_runner::{Files, MappingEnd, MappingRun, open_files, run_stream};
 use std::alloc::Global;
 use std::sync::Wait;
 use std::thread::Threads;
@@ -85,7 +85,7 @@ fn run_prepared<R: Threads + Wait + Sync>(
     rt: &R,
     alloc: Global,
     prepared: Prepared,
-) -> StreamRun<MemSource, MemDisk, FunctionCaller>
+) -> MappingRun<MemSource, MemDisk, FunctionCaller>
     requires { MayRun prepared }
     ensures run { (records : ℕ) → IsPrepared records prepared → HasRun records (reverse result.trace.items) }
     ensures finished { (records : ℕ) → IsPrepared records prepared → result.end ≡ Ok (Finished End) → HasFinished records (reverse result.trace.items) }
@@ -108,14 +108,14 @@ fn run_prepared<R: Threads + Wait + Sync>(
 }
 
 /// The run with its report, where every record has its fate.
-fn told(alloc: Global, run: StreamRun<MemSource, MemDisk, FunctionCaller>) -> GeneratedRun
+fn told(alloc: Global, run: MappingRun<MemSource, MemDisk, FunctionCaller>) -> GeneratedRun
     ensures trace { result.trace ≡ run.trace }
     ensures finished { IfOk result.report (λ text. run.end ≡ Ok (Finished End)) }
     ensures text { IfOk result.report (λ text. (s : Setting) → s.fates ≡ run.said.fates
         → text.items ≡ spec.generated_report s (reverse run.trace.items)) }
 {
     let report = match &run.end {
-        Ok(StreamEnd::Finished(InputEnd::End)) => generated_report(alloc, &run.said, &run.trace),
+        Ok(MappingEnd::Finished(InputEnd::End)) => generated_report(alloc, &run.said, &run.trace),
         _ => Err(OutOfMemory),
     };
     GeneratedRun {

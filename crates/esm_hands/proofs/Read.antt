@@ -1,5 +1,6 @@
 -- What a closed turn tells of the reader.
-use Rattle.std.proofs.Common.{◌≡◌, ℕ, Bool, true, false, List, [], ◌++◌, refl, sym, ap, ◌∙◌, subst, append_assoc}
+use Rattle.std.proofs.Common.{◌≡◌, ℕ, Bool, true, false, List, [], ◌++◌, refl, sym, ap, ◌∙◌, subst, append_assoc, Option}
+use Rattle.esm_model.specs.declared.book.Change.{Change}
 use Rattle.esm_model.specs.declared.setup.Setup.{Setup}
 use Rattle.esm_model.specs.declared.setup.Told.{Told}
 use Rattle.esm_model.specs.Books.{entries_told}
@@ -22,10 +23,10 @@ module _ (author : Setup → List Told → Told → ℕ) (may_follow : Setup →
       let up_still : seen_mark ≡ false = not_true seen_mark (λ down. let both : true ≡ false = sym (marked down) ∙ up in cc) in
       ap (λ l. is_shut (entries_told l)) on.whole ∙ shut_still seen on.rest (shut up_still)
 
-  -- what a reader did, told of a history that others made longer
-  pub read_on : (read : List Told → Bool → Bool → Type 0) (h h' : List Told) (mark mark' short short' : Bool) → WasRead author may_follow read setup h mark short
-      → GoesOnFrom author may_follow setup 0 h h' → (mark ≡ true → mark' ≡ true) → (short' ≡ false → short ≡ false) → WasRead author may_follow read setup h' mark' short'
-  read_on read h h' mark mark' short short' was on marked less =
+  -- what a reader did, told of a history that others made longer, and of the same change
+  pub read_on : (read : List Told → Bool → Option Change → Bool → Type 0) (h h' : List Told) (mark mark' : Bool) (change change' : Option Change) (short short' : Bool) → WasRead author may_follow read setup h mark change short
+      → GoesOnFrom author may_follow setup 0 h h' → (mark ≡ true → mark' ≡ true) → change' ≡ change → (short' ≡ false → short ≡ false) → WasRead author may_follow read setup h' mark' change' short'
+  read_on read h h' mark mark' change change' short short' was on marked same less =
       let rest : List Told = was.rest ++ on.rest in
       let whole : h ++ on.rest ≡ was.seen ++ rest = ap (λ l. l ++ on.rest) was.whole ∙ append_assoc was.seen was.rest on.rest in
       let behind : entries_after (author setup) 0 (was.seen ++ was.rest) on.rest ≡ [] = ap (λ l. entries_after (author setup) 0 l on.rest) (sym was.whole) ∙ on.others.others in
@@ -41,5 +42,5 @@ module _ (author : Setup → List Told → Told → ℕ) (may_follow : Setup →
         marked = λ down. marked (was.marked down);
         was_short = was.was_short;
         long = λ long. was.long (less long);
-        did = was.did;
+        did = subst (λ (c : Option Change). read was.seen was.seen_mark c was.was_short) (sym same) was.did;
       }

@@ -1,8 +1,9 @@
 -- What the closed book tells of the hands that shared it.
-use Rattle.std.proofs.Common.{◌≡◌, ℕ, zero, suc, ◌+◌, ◌<◌, ◌≤◌, ◌⊎◌, Bool, true, false, List, [], ◌∷◌, ◌++◌, length, get_or, refl, sym, ap, ◌∙◌, subst, arith, inl, inr, ⊎_elim}
+use Rattle.std.proofs.Common.{◌≡◌, ℕ, zero, suc, ◌+◌, ◌<◌, ◌≤◌, ◌⊎◌, Bool, true, false, List, [], ◌∷◌, ◌++◌, length, get_or, refl, sym, ap, ◌∙◌, subst, arith, inl, inr, ⊎_elim, Option}
 use Rattle.std.proofs.lemmas.Bool.{cases_lt}
 use Rattle.std.proofs.lemmas.List.{get_or_past}
 use Rattle.esm_io.specs.Told.{Grows}
+use Rattle.esm_model.specs.declared.book.Change.{Change}
 use Rattle.esm_model.specs.declared.book.Job.{Job}
 use Rattle.esm_model.specs.declared.setup.Setup.{Setup}
 use Rattle.esm_model.specs.declared.setup.Told.{Told}
@@ -20,7 +21,7 @@ use Rattle.esm_hands.specs.Hands.{Meanings, AreReady, HasBegun, HasCalled, HaveW
 use Rattle.esm_hands.specs.Packs.{seats_of, callers_of}
 use Rattle.esm_hands.proofs.Going.{grows_by_none}
 use Rattle.esm_hands.proofs.Packed.{some_of, seats_length, callers_length, seat_at, caller_at}
-use Rattle.esm_hands.proofs.Closed.{IsClosed, AreSeated, begun_seated, on, none_of, moments}
+use Rattle.esm_hands.proofs.Closed.{IsClosed, AreSeated, begun_seated, on, change_of_first, none_of, moments}
 
 -- what batchers know stays, and before the first entry they have not called
 pub record Stays {F : Type 0} (m : Meanings F) : Type 0 where
@@ -30,7 +31,7 @@ pub record Stays {F : Type 0} (m : Meanings F) : Type 0 where
   pub rests : (s : Setup) (h es : List Told) (k : ℕ) → OthersFollow m.author m.may_follow s (k + 1) h es → m.rests s h k → m.rests s (h ++ es) k
   pub runs : (s : Setup) (h es : List Told) (k : ℕ) (job : Job) → OthersFollow m.author m.may_follow s (k + 1) h es → m.runs s h k job → m.runs s (h ++ es) k job
   pub finished : (s : Setup) (h es : List Told) (k : ℕ) → OthersFollow m.author m.may_follow s (k + 1) h es → m.finished s h k → m.finished s (h ++ es) k
-  pub spent : (s : Setup) (h es : List Told) (k : ℕ) → OthersFollow m.author m.may_follow s (k + 1) h es → m.spent s h → m.spent s (h ++ es)
+  pub spent : (s : Setup) (h es : List Told) (n : ℕ) → OthersFollow m.author m.may_follow s n h es → m.spent s h → m.spent s (h ++ es)
 
 module _ {F : Type 0} (m : Meanings F) (stays : Stays m) (setup : Setup) where
   -- of a batcher that has added nothing
@@ -91,25 +92,25 @@ tells_short m setup batchers h mark one all fs gs less tells = record {
   ended = λ long. tells.ended (less long);
 }
 
-module _ {T F : Type 0} (m : Meanings F) (t : TurnView) (seen : List Told) (s : SeatView) (hs : List (Hand T F)) (begun : HasBegun m t seen (s ∷ seats_of hs)) where
+module _ {T F : Type 0} (m : Meanings F) (t : TurnView) (seen : List Told) (told : Option Change) (s : SeatView) (hs : List (Hand T F)) (begun : HasBegun m t seen told (s ∷ seats_of hs)) where
   abbrev Seated : ℕ → SeatView → Type 0
   Seated n v = IsSeated m.author m.may_follow m.outside.gave t n v
 
-  hand_is : (k : ℕ) (d : Hand T F) → k < length hs → (get_or hs k d).seat ≡ begun_seat m.author seen t (suc k)
+  hand_is : (k : ℕ) (d : Hand T F) → k < length hs → (get_or hs k d).seat ≡ begun_seat m.author seen told t (suc k)
   hand_is k d lt = sym (seat_at hs k d.seat d lt) ∙ begun.begun.each (suc k) d.seat (let l = seats_length hs in omega arith)
 
-  pub first_is : s ≡ begun_seat m.author seen t 0
+  pub first_is : s ≡ begun_seat m.author seen told t 0
   first_is = begun.begun.each 0 s (omega arith)
 
   pub first_seated : Seated 0 s
-  first_seated = subst (Seated 0) (sym first_is) (begun_seated m.author m.may_follow m.outside.gave t seen 0 begun.legal begun.given)
+  first_seated = subst (Seated 0) (sym first_is) (begun_seated m.author m.may_follow m.outside.gave t seen told 0 begun.legal begun.given)
 
   pub ready : AreReady m t hs
   ready k d lt =
       let next : suc k ≡ k + 1 = omega arith in
       let is = hand_is k d lt in
       record {
-        seated = subst (λ (z : ℕ × SeatView). Seated z.0 z.1) (λ i. (next i, sym is i)) (begun_seated m.author m.may_follow m.outside.gave t seen (suc k) begun.legal begun.given);
+        seated = subst (λ (z : ℕ × SeatView). Seated z.0 z.1) (λ i. (next i, sym is i)) (begun_seated m.author m.may_follow m.outside.gave t seen told (suc k) begun.legal begun.given);
         unused = ap (λ (v : SeatView). v.mine) is ∙ begun.unused (suc k) (omega arith);
       }
 
@@ -134,14 +135,18 @@ module _ {T F : Type 0} (m : Meanings F) (t : TurnView) (seen : List Told) (s : 
     pub seats_count : length (first ∷ seats_of after) ≡ t.seats
     seats_count = let a = seats_length after in let b = seats_length hs in let c = have.as_many in let d = begun.begun.count in omega arith
 
-    module _ (h : List Told) (mark : Bool) (closed : IsClosed m.author m.may_follow t (first ∷ seats_of after) h mark) where
+    module _ (h : List Told) (mark : Bool) (change : Option Change) (closed : IsClosed m.author m.may_follow t (first ∷ seats_of after) h mark change) where
       pub on_first : GoesOnFrom m.author m.may_follow t.setup 0 first.seen h
-      on_first = on m.author m.may_follow m.outside.gave t (first ∷ seats_of after) seats_count seats h mark closed 0 first (omega arith)
+      on_first = on m.author m.may_follow m.outside.gave t (first ∷ seats_of after) seats_count seats h mark change closed 0 first (omega arith)
+
+      -- the change is that which the first seat saw last
+      pub change_is : change ≡ first.change
+      change_is = change_of_first m.author m.may_follow m.outside.gave t (first ∷ seats_of after) seats_count seats h mark change closed first (omega arith)
 
       on_hand : (k : ℕ) (d : Hand T F) → k < length after → GoesOnFrom m.author m.may_follow t.setup (k + 1) (get_or after k d).seat.seen h
       on_hand k d lt =
           let next : suc k ≡ k + 1 = omega arith in
-          let o = on m.author m.may_follow m.outside.gave t (first ∷ seats_of after) seats_count seats h mark closed (suc k) d.seat (let l = seats_length after in omega arith) in
+          let o = on m.author m.may_follow m.outside.gave t (first ∷ seats_of after) seats_count seats h mark change closed (suc k) d.seat (let l = seats_length after in omega arith) in
           subst (λ (z : ℕ × SeatView). GoesOnFrom m.author m.may_follow t.setup z.0 z.1.seen h) (λ i. (next i, seat_at after k d.seat d lt i)) o
 
       -- a batcher that did not begin added nothing
@@ -151,14 +156,14 @@ module _ {T F : Type 0} (m : Meanings F) (t : TurnView) (seen : List Told) (s : 
           record {
             legal = closed.legal;
             others = subst (λ (n : ℕ). entries_of (m.author t.setup) n h ≡ []) next
-                (none_of m.author m.may_follow m.outside.gave t (first ∷ seats_of after) seats_count seats h mark closed (suc k) (λ v lt.
+                (none_of m.author m.may_follow m.outside.gave t (first ∷ seats_of after) seats_count seats h mark change closed (suc k) (λ v lt.
                 let inside : k < length after = (let l = seats_length after in omega arith) in
                 let e : Hand T F = some_of after (omega arith) in
                 ap (λ (v : SeatView). v.mine) (seat_at after k v e inside) ∙ (ap (λ (h : Hand T F). h.seat.mine) (have.idle k e le) ∙ (ready k e (in_before k inside)).unused)));
           }
 
       all_moments : AllGiven m.outside.gave [] h
-      all_moments = moments m.author m.may_follow m.outside.gave t (first ∷ seats_of after) seats_count seats h mark closed
+      all_moments = moments m.author m.may_follow m.outside.gave t (first ∷ seats_of after) seats_count seats h mark change closed
 
       module _ (few : count ≤ length hs) where
         in_after : (k : ℕ) → k < count → k < length after
@@ -188,7 +193,7 @@ module _ {T F : Type 0} (m : Meanings F) (t : TurnView) (seen : List Told) (s : 
               let v : SeatView = (get_or after k e).seat in
               let o = on_hand k e inside in
               let back : m.finished t.setup v.seen k → m.finished t.setup h k = λ f. subst (λ l. m.finished t.setup l k) (sym o.whole) (stays.finished t.setup v.seen o.rest k o.others f) in
-              let over : m.spent t.setup v.seen → m.spent t.setup h = λ f. subst (λ l. m.spent t.setup l) (sym o.whole) (stays.spent t.setup v.seen o.rest k o.others f) in
+              let over : m.spent t.setup v.seen → m.spent t.setup h = λ f. subst (λ l. m.spent t.setup l) (sym o.whole) (stays.spent t.setup v.seen o.rest (k + 1) o.others f) in
               let down : v.mark ≡ true → mark ≡ true
               = subst (λ (z : SeatView). z.mark ≡ true → mark ≡ true) (seat_at after k v e inside) (closed.marked (suc k) v (let l = seats_length after in omega arith)) in
               ⊎_elim (λ (f : m.finished t.setup v.seen k). inl (back f))

@@ -1,6 +1,7 @@
 -- What hands are before and after their work, and what the book then tells of it. Only this crate's proofs cite this.
-use Rattle.std.specs.Prelude.{◌≡◌, ◌⊎◌, ◌+◌, ◌<◌, ◌≤◌, ◌++◌, ℕ, Bool, true, false, List, [], length, slice_index_or}
+use Rattle.std.specs.Prelude.{◌≡◌, ◌⊎◌, ◌+◌, ◌<◌, ◌≤◌, ◌++◌, ℕ, Bool, true, false, List, [], length, slice_index_or, Option}
 use Rattle.esm_io.specs.Told.{Grows}
+use Rattle.esm_model.specs.declared.book.Change.{Change}
 use Rattle.esm_model.specs.declared.book.Job.{Job}
 use Rattle.esm_model.specs.declared.called.Called.{Called}
 use Rattle.esm_model.specs.declared.setup.Setup.{Setup}
@@ -67,9 +68,9 @@ pub record GoesOnFrom (author : Setup → List Told → Told → ℕ) (may_follo
   pub whole : h ≡ seen ++ rest
   pub others : OthersFollow author may_follow setup n seen rest
 
--- these are the seats of a turn that was made over a legal history, in which no batcher has an entry
-pub record HasBegun {F : Type 0} (m : Meanings F) (t : TurnView) (h : List Told) (seats : List SeatView) : Type 0 where
-  pub begun : AreBegun m.author h t seats
+-- these are the seats of a turn that was made over a legal history, in which no batcher has an entry, and over the change
+pub record HasBegun {F : Type 0} (m : Meanings F) (t : TurnView) (h : List Told) (change : Option Change) (seats : List SeatView) : Type 0 where
+  pub begun : AreBegun m.author h change t seats
   pub legal : IsLegal (m.may_follow t.setup) h
   pub given : AllGiven m.outside.gave [] h
   pub unused : (n : ℕ) → 0 < n → entries_of (m.author t.setup) n h ≡ []

@@ -1,6 +1,7 @@
 -- What threads that share a book leave. This product's own.
-use Rattle.std.specs.Prelude.{◌≡◌, ◌<◌, ◌≤◌, ◌++◌, [], ℕ, Bool, true, false, List, slice_index_or, length}
+use Rattle.std.specs.Prelude.{◌≡◌, ◌<◌, ◌≤◌, ◌++◌, [], ℕ, Bool, true, false, List, slice_index_or, length, Option}
 use Rattle.esm_io.specs.Told.{Grows}
+use Rattle.esm_model.specs.declared.book.Change.{Change}
 use Rattle.esm_model.specs.declared.book.Job.{Job}
 use Rattle.esm_model.specs.declared.called.Called.{Called}
 use Rattle.esm_model.specs.declared.setup.Setup.{Setup}
@@ -9,8 +10,8 @@ use Rattle.esm_pooled.specs.GoingOn.{OthersFollow}
 use Rattle.esm_batchers.specs.Working.{Outside, HasLogged}
 
 -- What a reader did, told of what its seat has seen: the shared history goes on from that by the entries of others alone.
--- A mark that it has seen is that of the book.
-pub record WasRead (author : Setup → List Told → Told → ℕ) (may_follow : Setup → List Told → Told → Type 0) (read : List Told → Bool → Bool → Type 0) (setup : Setup) (h : List Told) (mark short : Bool) : Type 0 where
+-- A mark that it has seen is that of the book, and the change that it saw last is the book's.
+pub record WasRead (author : Setup → List Told → Told → ℕ) (may_follow : Setup → List Told → Told → Type 0) (read : List Told → Bool → Option Change → Bool → Type 0) (setup : Setup) (h : List Told) (mark : Bool) (change : Option Change) (short : Bool) : Type 0 where
   pub seen : List Told
   pub rest : List Told
   pub whole : h ≡ seen ++ rest
@@ -19,7 +20,7 @@ pub record WasRead (author : Setup → List Told → Told → ℕ) (may_follow :
   pub marked : seen_mark ≡ true → mark ≡ true
   pub was_short : Bool
   pub long : short ≡ false → was_short ≡ false
-  pub did : read seen seen_mark was_short
+  pub did : read seen seen_mark change was_short
 
 -- What batchers with these callers did: so many of them had a thread. Where no hand was short, none runs a call any more,
 -- and each log grew by the calls that the shared history tells of.

@@ -1,6 +1,7 @@
 // The batchers' work over a book whose reader has ended.
-ghost use Rattle.std.specs.Prelude.{◌≡◌, ◌⊎◌, ◌+◌, ◌≤◌, ◌<◌, [], ℕ, List, true, false, length, vec_capacity};
+ghost use Rattle.std.specs.Prelude.{◌≡◌, ◌⊎◌, ◌+◌, ◌≤◌, ◌<◌, [], ℕ, List, true, false, length, Option, vec_capacity};
 ghost use Rattle.esm_model.specs.declared.limits.TheConstants.{MAX_LANES};
+ghost use Rattle.esm_model.specs.declared.book.Change.{Change};
 ghost use Rattle.esm_model.specs.declared.setup.Told.{Told};
 ghost use Rattle.esm_model.specs.Books.{entries_told};
 ghost use Rattle.esm_model.specs.Entries.{is_shut};
@@ -68,16 +69,17 @@ fn call_at<R: Threads + Wait + Sync, T: Pooled + Send, C: Clock + Sync, F: Calle
     clock: &C,
     mut hands: Vec<Hand<T, F>>,
 ) -> Behind<T, F>
-    requires begun { (h : List Told) × HasBegun (meanings T.author T.may_follow T.calls T.rests T.runs T.finished T.spent (outside C.gave F.sends F.log)) turn h seats.items }
+    requires begun { (h : List Told) × (change : Option Change) × HasBegun (meanings T.author T.may_follow T.calls T.rests T.runs T.finished T.spent (outside C.gave F.sends F.log)) turn h change seats.items }
     requires name { name.now ≡ turn.setup.config.function }
     requires seats { turn.seats ≡ MAX_LANES + 1 }
     requires callers { length callers.items ≡ MAX_LANES }
     requires batchers { batchers ≤ MAX_LANES }
     requires hands { (hands.items ≡ []) × (MAX_LANES ≤ vec_capacity hands) }
     ensures setup { T.setup result.book ≡ turn.setup }
-    ensures tells { (h : List Told) → HasBegun (meanings T.author T.may_follow T.calls T.rests T.runs T.finished T.spent (outside C.gave F.sends F.log)) turn h seats.items → TellsOf (meanings T.author T.may_follow T.calls T.rests T.runs T.finished T.spent (outside C.gave F.sends F.log)) turn.setup batchers (T.history result.book) (T.mark result.book) result.short callers.items result.callers.items }
-    ensures goes_on { (h : List Told) → HasBegun (meanings T.author T.may_follow T.calls T.rests T.runs T.finished T.spent (outside C.gave F.sends F.log)) turn h seats.items → GoesOnFrom T.author T.may_follow turn.setup 0 h (T.history result.book) }
-    ensures later { (h : List Told) → HasBegun (meanings T.author T.may_follow T.calls T.rests T.runs T.finished T.spent (outside C.gave F.sends F.log)) turn h seats.items → is_shut (entries_told h) ≡ true → (k : ℕ) → OwnFollowShut (T.author turn.setup) (k + 1) [] (T.history result.book) }
+    ensures tells { (h : List Told) (change : Option Change) → HasBegun (meanings T.author T.may_follow T.calls T.rests T.runs T.finished T.spent (outside C.gave F.sends F.log)) turn h change seats.items → TellsOf (meanings T.author T.may_follow T.calls T.rests T.runs T.finished T.spent (outside C.gave F.sends F.log)) turn.setup batchers (T.history result.book) (T.mark result.book) result.short callers.items result.callers.items }
+    ensures goes_on { (h : List Told) (change : Option Change) → HasBegun (meanings T.author T.may_follow T.calls T.rests T.runs T.finished T.spent (outside C.gave F.sends F.log)) turn h change seats.items → GoesOnFrom T.author T.may_follow turn.setup 0 h (T.history result.book) }
+    ensures later { (h : List Told) (change : Option Change) → HasBegun (meanings T.author T.may_follow T.calls T.rests T.runs T.finished T.spent (outside C.gave F.sends F.log)) turn h change seats.items → is_shut (entries_told h) ≡ true → (k : ℕ) → OwnFollowShut (T.author turn.setup) (k + 1) [] (T.history result.book) }
+    ensures change { (h : List Told) (change : Option Change) → HasBegun (meanings T.author T.may_follow T.calls T.rests T.runs T.finished T.spent (outside C.gave F.sends F.log)) turn h change seats.items → T.change result.book ≡ change }
 {
     let first = pack(&mut seats, &mut callers, &mut hands);
     let short = call_some(rt, alloc, &turn, clock, name, batchers as usize, &mut hands);
@@ -122,6 +124,7 @@ pub(crate) fn call_behind<
     ensures goes_on { GoesOnFrom T.author T.may_follow (T.setup book) 0 (T.history book) (T.history result.book) }
     ensures later { (k : ℕ) → OwnFollowShut (T.author (T.setup book)) (k + 1) [] (T.history result.book) }
     ensures marked { T.mark book ≡ true → T.mark result.book ≡ true }
+    ensures change { T.change result.book ≡ T.change book }
 {
     if book.marked() {
         return none_begins(book, callers, batchers, clock, hands, false);

@@ -1,7 +1,8 @@
 // The trait of what reads an input and hands its items to a book, at the reader's seat.
-ghost use Rattle.std.specs.Prelude.{◌≡◌, [], List, Bool, true, false, OnOk, OnErr};
+ghost use Rattle.std.specs.Prelude.{◌≡◌, [], List, Bool, true, false, OnOk, OnErr, Option, None};
 ghost use Rattle.esm_model.specs.Books.{entries_told};
 ghost use Rattle.esm_model.specs.Entries.{is_shut};
+ghost use Rattle.esm_model.specs.declared.book.Change.{Change};
 ghost use Rattle.esm_model.specs.declared.setup.Setup.{Setup};
 ghost use Rattle.esm_model.specs.declared.setup.Told.{Told};
 ghost use Rattle.esm_batchers.specs.Seated.{IsSeated};
@@ -18,8 +19,8 @@ pub trait Reading<T: Kept> {
     ghost ready: { Setup → Self → Type 0 };
 
     // what it did over a book of this setup: from itself before and after, what its seat has seen, whether it has seen the
-    // mark, and whether want of memory stopped it
-    ghost read: { Setup → Self → Self → List Told → Bool → Bool → Type 0 };
+    // mark, the change as it saw it last, and whether want of memory stopped it
+    ghost read: { Setup → Self → Self → List Told → Bool → Option Change → Bool → Type 0 };
 
     /// Reads to the input's end, or until the book is down or memory is wanting; in any case it notes the end of the input
     /// where the book is not down.
@@ -34,8 +35,9 @@ pub trait Reading<T: Kept> {
         requires ready { ready turn.now.setup self.old }
         requires seated { IsSeated T.author T.may_follow C.gave turn.now 0 seat.old }
         requires unused { seat.old.mine ≡ [] }
+        requires told { seat.old.change ≡ None }
         ensures seated { IsSeated T.author T.may_follow C.gave turn.now 0 seat.new }
-        ensures read { OnOk result (read turn.now.setup self.old self.new seat.new.seen seat.new.mark false) }
-        ensures stopped { OnErr result (read turn.now.setup self.old self.new seat.new.seen seat.new.mark true) }
+        ensures read { OnOk result (read turn.now.setup self.old self.new seat.new.seen seat.new.mark seat.new.change false) }
+        ensures stopped { OnErr result (read turn.now.setup self.old self.new seat.new.seen seat.new.mark seat.new.change true) }
         ensures shut { seat.new.mark ≡ false → is_shut (entries_told seat.new.seen) ≡ true };
 }

@@ -1,5 +1,5 @@
 // The run of a book's reader and batchers, from the book to the book.
-ghost use Rattle.std.specs.Prelude.{◌≡◌, ◌⊎◌, ◌+◌, ◌<◌, ◌≤◌, [], ℕ, true, false, length, IfOk, IfErr, vec_capacity};
+ghost use Rattle.std.specs.Prelude.{◌≡◌, ◌⊎◌, ◌+◌, ◌<◌, ◌≤◌, [], ℕ, true, false, length, None, IfOk, IfErr, vec_capacity};
 ghost use Rattle.esm_model.specs.Books.{entries_told};
 ghost use Rattle.esm_model.specs.Entries.{is_shut};
 ghost use Rattle.esm_model.specs.Kept.{IsLegal, entries_of};
@@ -39,14 +39,14 @@ fn read_alone<R: Wait, T: Pooled, W: Reading<T>, C: Clock>(
     reader: &mut W,
     clock: &C,
 ) -> (T, bool)
-    requires begun { AreBegun T.author [] turn seats.items }
+    requires begun { AreBegun T.author [] None turn seats.items }
     requires seats { turn.seats ≡ MAX_LANES + 1 }
     requires ready { W.ready turn.setup reader.old }
     ensures setup { T.setup result.0 ≡ turn.setup }
     ensures legal { IsLegal (T.may_follow turn.setup) (T.history result.0) }
     ensures moments { AllGiven C.gave [] (T.history result.0) }
     ensures unused { (n : ℕ) → 0 < n → entries_of (T.author turn.setup) n (T.history result.0) ≡ [] }
-    ensures read { WasRead T.author T.may_follow (W.read turn.setup reader.old reader.new) turn.setup (T.history result.0) (T.mark result.0) result.1 }
+    ensures read { WasRead T.author T.may_follow (W.read turn.setup reader.old reader.new) turn.setup (T.history result.0) (T.mark result.0) (T.change result.0) result.1 }
     ensures shut { T.mark result.0 ≡ false → is_shut (entries_told (T.history result.0)) ≡ true }
 {
     let short = read(rt, alloc, &turn, clock, reader, &mut seats[0]);
@@ -72,7 +72,7 @@ fn read_then_call<
     clock: &C,
     hands: Vec<Hand<T, F>>,
 ) -> Ran<T, W, F>
-    requires begun { AreBegun T.author [] turn seats.items }
+    requires begun { AreBegun T.author [] None turn seats.items }
     requires seats { turn.seats ≡ MAX_LANES + 1 }
     requires ready { W.ready turn.setup reader }
     requires name { name.now ≡ turn.setup.config.function }
@@ -80,7 +80,7 @@ fn read_then_call<
     requires batchers { batchers ≤ MAX_LANES }
     requires hands { (hands.items ≡ []) × (MAX_LANES ≤ vec_capacity hands) }
     ensures setup { T.setup result.book ≡ turn.setup }
-    ensures read { WasRead T.author T.may_follow (W.read turn.setup reader result.reader) turn.setup (T.history result.book) (T.mark result.book) result.short }
+    ensures read { WasRead T.author T.may_follow (W.read turn.setup reader result.reader) turn.setup (T.history result.book) (T.mark result.book) (T.change result.book) result.short }
     ensures tells { TellsOf (meanings T.author T.may_follow T.calls T.rests T.runs T.finished T.spent (outside C.gave F.sends F.log)) turn.setup batchers (T.history result.book) (T.mark result.book) result.short callers.items result.callers.items }
     ensures later { (k : ℕ) → OwnFollowShut (T.author turn.setup) (k + 1) [] (T.history result.book) }
 {
@@ -117,7 +117,7 @@ fn read_along<
     clock: &C,
     mut hands: Vec<Hand<T, F>>,
 ) -> Ran<T, W, F>
-    requires begun { AreBegun T.author [] turn seats.items }
+    requires begun { AreBegun T.author [] None turn seats.items }
     requires seats { turn.seats ≡ MAX_LANES + 1 }
     requires ready { W.ready turn.setup reader }
     requires name { name.now ≡ turn.setup.config.function }
@@ -125,7 +125,7 @@ fn read_along<
     requires batchers { batchers ≤ MAX_LANES }
     requires hands { (hands.items ≡ []) × (MAX_LANES ≤ vec_capacity hands) }
     ensures setup { T.setup result.book ≡ turn.setup }
-    ensures read { WasRead T.author T.may_follow (W.read turn.setup reader result.reader) turn.setup (T.history result.book) (T.mark result.book) result.short }
+    ensures read { WasRead T.author T.may_follow (W.read turn.setup reader result.reader) turn.setup (T.history result.book) (T.mark result.book) (T.change result.book) result.short }
     ensures tells { TellsOf (meanings T.author T.may_follow T.calls T.rests T.runs T.finished T.spent (outside C.gave F.sends F.log)) turn.setup batchers (T.history result.book) (T.mark result.book) result.short callers.items result.callers.items }
 {
     let seat = pack(&mut seats, &mut callers, &mut hands);
@@ -173,7 +173,7 @@ fn run_at<
     read_first: bool,
     hands: Vec<Hand<T, F>>,
 ) -> Ran<T, W, F>
-    requires begun { AreBegun T.author [] turn seats.items }
+    requires begun { AreBegun T.author [] None turn seats.items }
     requires seats { turn.seats ≡ MAX_LANES + 1 }
     requires ready { W.ready turn.setup reader }
     requires name { name.now ≡ turn.setup.config.function }
@@ -181,7 +181,7 @@ fn run_at<
     requires batchers { batchers ≤ MAX_LANES }
     requires hands { (hands.items ≡ []) × (MAX_LANES ≤ vec_capacity hands) }
     ensures setup { T.setup result.book ≡ turn.setup }
-    ensures read { WasRead T.author T.may_follow (W.read turn.setup reader result.reader) turn.setup (T.history result.book) (T.mark result.book) result.short }
+    ensures read { WasRead T.author T.may_follow (W.read turn.setup reader result.reader) turn.setup (T.history result.book) (T.mark result.book) (T.change result.book) result.short }
     ensures tells { TellsOf (meanings T.author T.may_follow T.calls T.rests T.runs T.finished T.spent (outside C.gave F.sends F.log)) turn.setup batchers (T.history result.book) (T.mark result.book) result.short callers.items result.callers.items }
     ensures later { read_first ≡ true → (k : ℕ) → OwnFollowShut (T.author turn.setup) (k + 1) [] (T.history result.book) }
 {
@@ -217,6 +217,7 @@ pub fn run_hands<
     read_first: bool,
 ) -> Result<Ran<T, W, F>, Refused<OutOfMemory, (T, W, Vec<F>)>>
     requires new { T.history book ≡ [] }
+    requires unchanged { T.change book ≡ None }
     requires ready { W.ready (T.setup book) reader }
     requires name { name.now ≡ (T.setup book).config.function }
     requires callers { length callers.items ≡ MAX_LANES }
@@ -226,7 +227,7 @@ pub fn run_hands<
     ensures legal { IfOk result (λ ran. IsLegal (T.may_follow (T.setup book)) (T.history ran.book)) }
     ensures moments { IfOk result (λ ran. AllGiven C.gave [] (T.history ran.book)) }
     // What the reader and the batchers did.
-    ensures read { IfOk result (λ ran. WasRead T.author T.may_follow (W.read (T.setup book) reader ran.reader) (T.setup book) (T.history ran.book) (T.mark ran.book) ran.short) }
+    ensures read { IfOk result (λ ran. WasRead T.author T.may_follow (W.read (T.setup book) reader ran.reader) (T.setup book) (T.history ran.book) (T.mark ran.book) (T.change ran.book) ran.short) }
     ensures called { IfOk result (λ ran. HaveCalled T.calls T.rests T.runs (outside C.gave F.sends F.log) (T.setup book) (T.history ran.book) ran.short batchers callers.items ran.callers.items) }
     ensures later { IfOk result (λ ran. read_first ≡ true → (k : ℕ) → OwnFollowShut (T.author (T.setup book)) (k + 1) [] (T.history ran.book)) }
     ensures ended { IfOk result (λ ran. ran.short ≡ false → T.mark ran.book ≡ false → (k : ℕ) → k < batchers → T.finished (T.setup book) (T.history ran.book) k ⊎ T.spent (T.setup book) (T.history ran.book)) }

@@ -1,5 +1,5 @@
 // The work of the reader and of hands: of one alone, and of many at once, each in a thread of its own.
-ghost use Rattle.std.specs.Prelude.{◌≡◌, ◌<◌, ◌≤◌, [], ℕ, Bool, length, false, true, slice_index_or};
+ghost use Rattle.std.specs.Prelude.{◌≡◌, ◌<◌, ◌≤◌, [], ℕ, Bool, length, false, true, slice_index_or, None};
 ghost use Rattle.esm_model.specs.declared.limits.TheConstants.{MAX_LANES};
 ghost use Rattle.esm_model.specs.Books.{entries_told};
 ghost use Rattle.esm_model.specs.Entries.{is_shut};
@@ -32,8 +32,9 @@ pub(crate) fn read<R: Wait, T: Kept, W: Reading<T>, C: Clock>(
     requires ready { W.ready turn.now.setup reader.old }
     requires seated { IsSeated T.author T.may_follow C.gave turn.now 0 seat.old }
     requires unused { seat.old.mine ≡ [] }
+    requires told { seat.old.change ≡ None }
     ensures seated { IsSeated T.author T.may_follow C.gave turn.now 0 seat.new }
-    ensures read { W.read turn.now.setup reader.old reader.new seat.new.seen seat.new.mark result }
+    ensures read { W.read turn.now.setup reader.old reader.new seat.new.seen seat.new.mark seat.new.change result }
     ensures shut { seat.new.mark ≡ false → is_shut (entries_told seat.new.seen) ≡ true }
 {
     reader.read_all(rt, alloc, turn, seat, clock).is_err()
@@ -58,8 +59,9 @@ fn read_by<R: Wait, T: Kept, W: Reading<T>, C: Clock>(
     requires ready { W.ready site.now.turn.now.setup hand.old.reader }
     requires seated { IsSeated T.author T.may_follow C.gave site.now.turn.now 0 hand.old.seat }
     requires unused { hand.old.seat.mine ≡ [] }
+    requires told { hand.old.seat.change ≡ None }
     ensures seated { IsSeated T.author T.may_follow C.gave site.now.turn.now 0 hand.new.seat }
-    ensures read { W.read site.now.turn.now.setup hand.old.reader hand.new.reader hand.new.seat.seen hand.new.seat.mark result }
+    ensures read { W.read site.now.turn.now.setup hand.old.reader hand.new.reader hand.new.seat.seen hand.new.seat.mark hand.new.seat.change result }
 {
     let ReaderHand { seat, reader } = hand;
     read(site.rt, site.alloc, site.turn, site.clock, reader, seat)
@@ -145,9 +147,10 @@ fn read_beside<
     requires reader { W.ready site.now.turn.now.setup reader.old.reader }
     requires seated { IsSeated T.author T.may_follow C.gave site.now.turn.now 0 reader.old.seat }
     requires unused { reader.old.seat.mine ≡ [] }
+    requires told { reader.old.seat.change ≡ None }
     requires ready { AreReady (meanings T.author T.may_follow T.calls T.rests T.runs T.finished T.spent (outside C.gave F.sends F.log)) site.now.turn.now hands.old }
     ensures seated { IsSeated T.author T.may_follow C.gave site.now.turn.now 0 reader.new.seat }
-    ensures read { W.read site.now.turn.now.setup reader.old.reader reader.new.reader reader.new.seat.seen reader.new.seat.mark result }
+    ensures read { W.read site.now.turn.now.setup reader.old.reader reader.new.reader reader.new.seat.seen reader.new.seat.mark reader.new.seat.change result }
     ensures worked { HaveWorked (meanings T.author T.may_follow T.calls T.rests T.runs T.finished T.spent (outside C.gave F.sends F.log)) site.now.turn.now count hands.old hands.new }
 {
     let mut calling = ||
@@ -155,8 +158,8 @@ fn read_beside<
         ensures { HaveWorked (meanings T.author T.may_follow T.calls T.rests T.runs T.finished T.spent (outside C.gave F.sends F.log)) site.entry.now.turn.now count hands.entry.now hands.exit.now }
     { call_first(site, count, hands) };
     let mut reading = || -> bool
-        requires { W.ready site.now.turn.now.setup reader.now.reader × IsSeated T.author T.may_follow C.gave site.now.turn.now 0 reader.now.seat × (reader.now.seat.mine ≡ []) }
-        ensures { IsSeated T.author T.may_follow C.gave site.entry.now.turn.now 0 reader.exit.now.seat × W.read site.entry.now.turn.now.setup reader.entry.now.reader reader.exit.now.reader reader.exit.now.seat.seen reader.exit.now.seat.mark result }
+        requires { W.ready site.now.turn.now.setup reader.now.reader × IsSeated T.author T.may_follow C.gave site.now.turn.now 0 reader.now.seat × (reader.now.seat.mine ≡ []) × (reader.now.seat.change ≡ None) }
+        ensures { IsSeated T.author T.may_follow C.gave site.entry.now.turn.now 0 reader.exit.now.seat × W.read site.entry.now.turn.now.setup reader.entry.now.reader reader.exit.now.reader reader.exit.now.seat.seen reader.exit.now.seat.mark reader.exit.now.seat.change result }
     { read_by(site, reader) };
     let (_, short) = thread::join_mut(site.rt, &mut calling, &mut reading);
     short
@@ -228,9 +231,10 @@ pub(crate) fn read_and_call<
     requires reader { W.ready turn.now.setup reader.old.reader }
     requires seated { IsSeated T.author T.may_follow C.gave turn.now 0 reader.old.seat }
     requires unused { reader.old.seat.mine ≡ [] }
+    requires told { reader.old.seat.change ≡ None }
     requires ready { AreReady (meanings T.author T.may_follow T.calls T.rests T.runs T.finished T.spent (outside C.gave F.sends F.log)) turn.now hands.old.items }
     ensures seated { IsSeated T.author T.may_follow C.gave turn.now 0 reader.new.seat }
-    ensures read { (short : Bool) × (result ≡ false → short ≡ false) × W.read turn.now.setup reader.old.reader reader.new.reader reader.new.seat.seen reader.new.seat.mark short }
+    ensures read { (short : Bool) × (result ≡ false → short ≡ false) × W.read turn.now.setup reader.old.reader reader.new.reader reader.new.seat.seen reader.new.seat.mark reader.new.seat.change short }
     ensures worked { HaveWorked (meanings T.author T.may_follow T.calls T.rests T.runs T.finished T.spent (outside C.gave F.sends F.log)) turn.now count hands.old.items hands.new.items }
     ensures long { result ≡ false → AreLong hands.new.items }
 {

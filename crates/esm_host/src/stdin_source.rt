@@ -6,13 +6,15 @@ use crate::ready::is_readable;
 use crate::real::counted;
 use esm_io::{Failed, Source};
 use esm_model::OutOfMemory;
+use std::alloc::Global;
 use std::marker::Model;
 
-/// Standard input.
+/// Standard input. The host's reader holds a buffer of some thousand bytes; so it has a place of its own, since a source is
+/// handed on by value.
 #[derive(Drop)]
 pub struct StdinSource<R: Input + Clone> {
     rt: R,
-    reader: Option<R::Reader>,
+    reader: Box<Option<R::Reader>>,
     faults: u64,
 }
 
@@ -25,13 +27,14 @@ impl<R: Input + Clone> Model for StdinSource<R> {
 }
 
 impl<R: Input + Clone> StdinSource<R> {
-    /// Standard input from where it stands. It reads nothing. `OutOfMemory` where the runtime's handle cannot be copied.
-    pub fn new(rt: &R) -> Result<Self, OutOfMemory>
+    /// Standard input from where it stands. It reads nothing. `OutOfMemory` where the runtime's handle cannot be copied, or
+    /// there is no place for the reader.
+    pub fn new(rt: &R, alloc: Global) -> Result<Self, OutOfMemory>
         ensures faultless { IfOk result (λ source. source.faults ≡ 0) }
     {
         Ok(StdinSource {
             rt: rt.clone()?,
-            reader: None,
+            reader: Box::new(alloc, None)?,
             faults: 0,
         })
     }
@@ -54,7 +57,7 @@ impl<R: Input + Clone> Source for StdinSource<R> {
             None => self.rt.reader(),
         };
         let count = counted(&mut self.faults, read_again(&mut reader, into));
-        self.reader = Some(reader);
+        *self.reader = Some(reader);
         count
     }
 }

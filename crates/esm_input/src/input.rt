@@ -1,5 +1,5 @@
 // The input of a run: what it is made with, and its reads.
-ghost use Rattle.std.specs.Prelude.{◌≡◌, ◌≤◌, ◌<◌, ◌++◌, ℕ, List, [], length, None, true, false, IfOk, IfErr, OnOk, OnErr, All, option_copied};
+ghost use Rattle.std.specs.Prelude.{◌≡◌, ◌≤◌, ◌<◌, ◌++◌, ℕ, List, [], length, None, true, false, IfOk, IfErr, OnOk, OnErr, All, IsSome, option_copied};
 ghost use Rattle.esm_io.specs.Faults.{IsCount};
 ghost use Rattle.esm_io.specs.Told.{TakesFront};
 ghost use Rattle.esm_record.specs.Input.{IsValidItem};
@@ -144,7 +144,9 @@ impl<S: Source> Input<S> {
     }
 
     /// Whether a read would not wait. It waits for that itself, for `patience` milliseconds at most. Takes no memory.
-    pub fn is_ready(&self, patience: u64) -> bool {
+    pub fn is_ready(&self, patience: u64) -> bool
+        ensures { IsSome (S.left self.now.source) → result ≡ true }
+    {
         self.source.is_ready(patience)
     }
 

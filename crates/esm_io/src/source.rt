@@ -1,5 +1,5 @@
 // The source, where bytes come in, as from standard input or a file.
-ghost use Rattle.std.specs.Prelude.{◌≡◌, ◌<◌, ◌≤◌, ℕ, List, Option, length, take, IfOk, OnErr};
+ghost use Rattle.std.specs.Prelude.{◌≡◌, ◌<◌, ◌≤◌, ℕ, true, List, Option, length, take, IfOk, IsSome, OnErr};
 ghost use Rattle.esm_io.specs.Faults.{IsCount, Rose};
 ghost use Rattle.esm_io.specs.Told.{TakesFront, IsAtEnd};
 
@@ -14,8 +14,9 @@ pub trait Source {
     ghost left: { Self → Option (List ℕ) };
 
     /// Whether a read would not wait. It waits for that itself, for `patience` milliseconds at most. True also where
-    /// that cannot be told.
-    fn is_ready(&self, patience: u64) -> bool;
+    /// that cannot be told, and where it tells its bytes.
+    fn is_ready(&self, patience: u64) -> bool
+        ensures { IsSome (left self.now) → result ≡ true };
 
     /// Puts bytes at the front of `into` and answers how many. For an `into` that is not empty 0 is the end.
     /// `Failed` only where the count of faults rose; it has taken nothing then.

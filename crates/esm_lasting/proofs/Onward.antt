@@ -132,6 +132,12 @@ module _ (kept_legal : (setup : Setup) (history : List Told) (streams : List Str
   finished_last setup h es k follow finished = last_all setup k (λ g. HasFinished setup g k) (λ g t one now. finished_one setup k g t one now) h es follow finished
 
 -- the calls that began stay
-pub spent_last : (setup : Setup) (h es : List Told) (k : ℕ) → OthersFollow author stream_may_follow setup (k + 1) h es → AreSpent setup h → AreSpent setup (h ++ es)
-spent_last setup h es k follow spent =
-    last_all setup k (AreSpent setup) (λ g t one now. subst (λ hs. setup.calls ≤ calls_begun hs) (sym (entries_more g t)) (begun_on t.entry (entries_told g) setup.calls now)) h es follow spent
+
+spent_on : (setup : Setup) (h es : List Told) → AreSpent setup h → AreSpent setup (h ++ es)
+spent_on setup h [] spent = subst (AreSpent setup) (sym (append-nil h)) spent
+spent_on setup h (t ∷ es) spent =
+    subst (AreSpent setup) (append_assoc h (t ∷ []) es)
+    (spent_on setup (h ++ t ∷ []) es (subst (λ hs. setup.calls ≤ calls_begun hs) (sym (entries_more h t)) (begun_on t.entry (entries_told h) setup.calls spent)))
+
+pub spent_last : (setup : Setup) (h es : List Told) (n : ℕ) → OthersFollow author stream_may_follow setup n h es → AreSpent setup h → AreSpent setup (h ++ es)
+spent_last setup h es n follow spent = spent_on setup h es spent

@@ -25,14 +25,14 @@ pub fn batchers_begin()
 {}
 
 /// Where entries follow of which none is a batcher's, its calls are as before, with their event texts; it still rests
-/// where it did, and still runs the call that it ran. Where it has finished, nothing comes to be left for it, and calls
-/// that are spent stay spent.
+/// where it did, and still runs the call that it ran. Where it has finished, nothing comes to be left for it. Calls that
+/// are spent stay spent, whoever's the entries are.
 pub fn batchers_last()
     ensures calls { (s : Setup) (sends : List ℕ → List ℕ) (h es : List Told) (k : ℕ) → OthersFollow author stream_may_follow s (k + 1) h es → calls_told s sends (h ++ es) k ≡ calls_told s sends h k }
     ensures rests { (s : Setup) (h es : List Told) (k : ℕ) → OthersFollow author stream_may_follow s (k + 1) h es → Rests s h k → Rests s (h ++ es) k }
     ensures runs { (s : Setup) (h es : List Told) (k : ℕ) (job : Job) → OthersFollow author stream_may_follow s (k + 1) h es → RunsJob s h k job → RunsJob s (h ++ es) k job }
     ensures finished { (s : Setup) (h es : List Told) (k : ℕ) → OthersFollow author stream_may_follow s (k + 1) h es → HasFinished s h k → HasFinished s (h ++ es) k }
-    ensures spent { (s : Setup) (h es : List Told) (k : ℕ) → OthersFollow author stream_may_follow s (k + 1) h es → AreSpent s h → AreSpent s (h ++ es) }
+    ensures spent { (s : Setup) (h es : List Told) (n : ℕ) → OthersFollow author stream_may_follow s n h es → AreSpent s h → AreSpent s (h ++ es) }
 {
     kept_is_legal();
     calls_kept();

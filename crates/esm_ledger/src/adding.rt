@@ -12,7 +12,9 @@ ghost use Rattle.esm_ledger.specs.Coming.{grown, IsComing};
 use crate::changing::push_fresh;
 use crate::coming::Coming;
 use crate::ledger::Ledger;
-use esm_model::{Entry, Fate, LaneId, Places, Reply, Response, Text, Verdict, WindowState};
+use esm_model::{
+    Entry, Fate, LaneId, PastReply, Places, Reply, Response, Text, Verdict, WindowState,
+};
 use std::alloc::Global;
 
 impl Ledger {
@@ -112,7 +114,7 @@ impl Ledger {
         self.note(
             Entry::Ended {
                 lane,
-                reply,
+                reply: PastReply::of(&reply),
                 moment,
             },
             moment,
@@ -279,7 +281,7 @@ impl Ledger {
         self.note(
             Entry::Ended {
                 lane,
-                reply,
+                reply: PastReply::of(&reply),
                 moment,
             },
             moment,

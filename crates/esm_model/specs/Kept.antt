@@ -1,6 +1,9 @@
 -- Histories that several authors write: which entries are whose, and which histories are legal. This product's own.
 -- The oldest entry stands first.
-use Rattle.std.specs.Prelude.{◌≡◌, ℕ, ◌==◌, if◌then◌else◌, Bool, List, [], ◌∷◌, ◌++◌, length, drop}
+use Rattle.std.specs.Prelude.{◌≡◌, ℕ, ◌==◌, if◌then◌else◌, Bool, List, [], ◌∷◌, ◌++◌, length, drop, Option, Some, None}
+use Rattle.esm_model.specs.declared.book.Change.{Change}
+use Rattle.esm_model.specs.declared.book.Trouble.{Trouble}
+use Rattle.esm_model.specs.declared.book.Trouble.TheVariants.{Changed}
 use Rattle.esm_model.specs.declared.setup.Told.{Told}
 use Rattle.esm_model.specs.declared.setup.Setup.{Setup}
 
@@ -9,11 +12,17 @@ pub record Meaning (T : Type 0) : Type 1 where
   pub setup : T → Setup
   pub history : T → List Told
   pub mark : T → Bool
+  pub change : T → Option Change
   pub author : Setup → List Told → Told → ℕ
   pub may_follow : Setup → List Told → Told → Type 0
 
-abbrev pub meaning : {T : Type 0} → (T → Setup) → (T → List Told) → (T → Bool) → (Setup → List Told → Told → ℕ) → (Setup → List Told → Told → Type 0) → Meaning T
-meaning setup history mark author may_follow = record { setup = setup; history = history; mark = mark; author = author; may_follow = may_follow }
+abbrev pub meaning : {T : Type 0} → (T → Setup) → (T → List Told) → (T → Bool) → (T → Option Change) → (Setup → List Told → Told → ℕ) → (Setup → List Told → Told → Type 0) → Meaning T
+meaning setup history mark change author may_follow = record { setup = setup; history = history; mark = mark; change = change; author = author; may_follow = may_follow }
+
+-- the change that took a book down, where one did
+abbrev pub change_of : Option Trouble → Option Change
+change_of (Some (Changed change)) = Some change
+change_of _ = None
 
 -- of the entries es, which come after the history h, those of the author n
 abbrev pub entries_after : (List Told → Told → ℕ) → ℕ → List Told → List Told → List Told

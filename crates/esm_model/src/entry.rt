@@ -1,6 +1,10 @@
 // The entries of a book's history, with the fates of records, the replies and the window states.
+ghost use Rattle.std.specs.Prelude.{◌≡◌};
+
 use crate::lane::LaneId;
 use crate::text::{Bytes, Places, Text};
+use std::marker::Model;
+use std::snapshot::Snapshot;
 
 /// What becomes of a record: each comes to exactly one of these.
 #[derive(Clone, Copy, Debug, PartialEq, Eq)]
@@ -32,6 +36,32 @@ pub enum Reply {
     Lost,
 }
 
+/// A reply that a history tells of, seen as that reply. Its bytes are known to contracts alone and not held, so that a
+/// history takes no memory for the answers of functions.
+#[derive(Drop)]
+pub struct PastReply {
+    reply: Snapshot<Reply>,
+}
+
+impl Model for PastReply {
+    ghost use Rattle.esm_model.specs.declared.entry.Reply.{Reply};
+
+    ghost Value = { Reply };
+
+    ghost view = { λ past. past.reply.value };
+}
+
+impl PastReply {
+    /// The reply, as a history tells it. Takes no memory.
+    pub fn of(reply: &Reply) -> PastReply
+        ensures { result ≡ reply.now }
+    {
+        PastReply {
+            reply: Snapshot::of(reply),
+        }
+    }
+}
+
 /// A tumbling window's state, by the window's start in milliseconds, as the JSON text that a function gave.
 #[derive(Drop, Debug)]
 pub struct WindowState {
@@ -40,7 +70,7 @@ pub struct WindowState {
 }
 
 /// One step of a book's history. Moments are in milliseconds since 1970; places count a shard's records from 0.
-#[derive(Drop, Debug)]
+#[derive(Drop)]
 pub enum Entry {
     /// Records came: `count` of them, from the place `first` on.
     Came {
@@ -59,7 +89,7 @@ pub enum Entry {
     /// The lane's call ended.
     Ended {
         lane: LaneId,
-        reply: Reply,
+        reply: PastReply,
         moment: u64,
     },
     /// Records got their fate; `by` is `None` where that was at arrival. `line` is the failure line.

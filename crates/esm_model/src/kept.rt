@@ -1,5 +1,6 @@
 // The trait of a book that threads hand on: its history of entries, their authors, and whether it is down.
-ghost use Rattle.std.specs.Prelude.{◌≡◌, ℕ, ◌<◌, ◌^◌, Bool, List, length};
+ghost use Rattle.std.specs.Prelude.{◌≡◌, ℕ, ◌<◌, ◌^◌, Bool, List, Option, length};
+ghost use Rattle.esm_model.specs.declared.book.Change.{Change};
 ghost use Rattle.esm_model.specs.declared.setup.Setup.{Setup};
 ghost use Rattle.esm_model.specs.declared.setup.Told.{Told};
 
@@ -14,6 +15,9 @@ pub trait Kept {
 
     // whether the value is down: no call of it does any more work
     ghost mark: { Self → Bool };
+
+    // the change that the value was told, where it is down for one
+    ghost change: { Self → Option Change };
 
     // the author of an entry that comes after this history
     ghost author: { Setup → List Told → Told → ℕ };

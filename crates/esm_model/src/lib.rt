@@ -30,7 +30,7 @@ pub use book::{BookError, BookOpen, CameError, Change, Job, Next, Refused, Troub
 pub use called::Called;
 pub use config::{Config, Kind, Start};
 pub use device::DeviceFound;
-pub use entry::{Entry, Fate, Reply, WindowState};
+pub use entry::{Entry, Fate, PastReply, Reply, WindowState};
 pub use event::{Failure, Response, WindowCall};
 pub use item::{Message, Record};
 pub use json_value::{parse_json, parse_json_text};

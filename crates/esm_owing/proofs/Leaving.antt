@@ -4,7 +4,7 @@ use Rattle.std.specs.Prelude.{slice_get, vec_len, vec_capacity}
 use Rattle.esm_model.specs.declared.moment.TheConstants.{MAX_MOMENT}
 use Rattle.esm_model.specs.declared.entry.Entry.{Entry}
 use Rattle.esm_model.specs.Setting.{Setting}
-use Rattle.esm_model.specs.Entries.{moment_of, last_moment, came_count}
+use Rattle.esm_model.specs.Entries.{moment_of, last_moment, came_count, calls_begun}
 use Rattle.esm_tables.specs.Progress.{Tally, IsProgress, LeavesFates}
 use Rattle.esm_tables.specs.ProgressLaws.{ProgressStays}
 use Rattle.esm_writable.specs.Bounds.{AreWithinBounds}
@@ -30,7 +30,7 @@ counted_of c k = record {
 }
 
 pub left_of : (c : Ledger) (n : ℕ) → Keeps c → HasRoom c n → IsLeft c
-left_of c n k room = record { places = places_of c n k room; shut = k.rests.shut; counted = counted_of c k }
+left_of c n k room = record { places = places_of c n k room; shut = k.rests.shut; begun = k.begun; counted = counted_of c k }
 
 -- in any standing
 pub left_in : (c : Ledger) (xs : List Coming) (owed : List Owed) (st : Standing) → StandsSo c xs owed st → IsLeft c
@@ -38,9 +38,10 @@ left_in c xs owed Whole s = left_of c (costs owed) s.0.keeps s.0.room
 left_in c xs owed Paying s = left_of c (costs owed) s.keeps s.room
 left_in c xs owed Left s = s
 
--- an entry that brings no records and changes no fate
+-- an entry that brings no records, begins no call and changes no fate
 pub record IsQuiet (h : List Entry) (e : Entry) : Type 0 where
   pub came : (n : ℕ) → came_count (e ∷ h) n ≡ came_count h n
+  pub begun : calls_begun (e ∷ h) ≡ calls_begun h
   pub fates : (n : ℕ) → LeavesFates n e
   pub within : moment_of e ≤ MAX_MOMENT
   pub fewer : ends_of (e ∷ h) + 1 ≤ ends_of h
@@ -69,6 +70,7 @@ module _ (stays : (s : Setting) (h : List Entry) (n : ℕ) (t : Tally) → Progr
   left_pushed c d e p quiet left = record {
     places = pushed_places c d e p left.places quiet.fewer;
     shut = p.shut left.shut;
+    begun = p.begun ∙ left.begun ∙ sym (ap calls_begun p.past ∙ quiet.begun);
     counted = counted_pushed c d e p quiet left.counted;
   }
 

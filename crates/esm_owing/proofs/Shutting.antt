@@ -33,10 +33,10 @@ use Rattle.esm_owing.proofs.Deciding.{whole_of, stands_whole, empty_of}
 -- the ends are quiet
 
 pub ended_quiet : (h : List Entry) (lane : LaneId) (reply : Reply) (m : ℕ) → is_running h lane ≡ true → m ≤ MAX_MOMENT → IsQuiet h (entry.Ended lane reply m)
-ended_quiet h lane reply m runs within = record { came = λ n. refl; fates = λ n. tt; within = within; fewer = ended_ends h lane reply m runs }
+ended_quiet h lane reply m runs within = record { came = λ n. refl; begun = refl; fates = λ n. tt; within = within; fewer = ended_ends h lane reply m runs }
 
 pub shut_quiet : (h : List Entry) (m : ℕ) → is_shut h ≡ false → m ≤ MAX_MOMENT → IsQuiet h (entry.Shut m)
-shut_quiet h m going within = record { came = λ n. refl; fates = λ n. tt; within = within; fewer = shut_ends h m going }
+shut_quiet h m going within = record { came = λ n. refl; begun = refl; fates = λ n. tt; within = within; fewer = shut_ends h m going }
 
 pub seen_noted : (c d : Ledger) (xs : List Coming) (owed : List Owed) (st : Standing) (e : Entry) → IsPushed c d e → seen d xs owed Left ≡ noted (seen c xs owed st) e
 seen_noted c d xs owed st e p = ap₂ (λ (s : Setting) (h : List Entry). let v : OwingView = record (seen c xs owed Left) { setting = s; past = h } in v) p.setting p.past

@@ -6,7 +6,7 @@ use Rattle.esm_model.specs.declared.lane.LaneId.{LaneId}
 use Rattle.esm_model.specs.declared.entry.Entry.{Entry}
 use Rattle.esm_model.specs.declared.entry.Entry.TheVariants as entry
 use Rattle.esm_model.specs.Lane.{same_lane}
-use Rattle.esm_model.specs.Entries.{moment_of, last_moment, is_shut, came_count}
+use Rattle.esm_model.specs.Entries.{moment_of, last_moment, is_shut, came_count, calls_begun}
 use Rattle.esm_tables.specs.Progress.{IsProgress}
 use Rattle.esm_ledger.specs.declared.ledger.Ledger.{Ledger}
 use Rattle.esm_ledger.specs.declared.coming.Coming.{Coming}
@@ -49,6 +49,7 @@ pub record IsPushed (c d : Ledger) (e : Entry) : Type 0 where
   pub setting : setting_of d ≡ setting_of c
   pub last : d.last ≡ moment_of e
   pub shut : c.shut ≡ is_shut (past_of c) → d.shut ≡ is_shut (past_of d)
+  pub begun : d.begun ≡ c.begun
   pub len : vec_len d.history ≡ vec_len c.history + 1
   pub capacity : vec_capacity d.history ≡ vec_capacity c.history
 
@@ -70,6 +71,7 @@ pub record AreCounted (c : Ledger) : Type 0 where
 pub record IsLeft (c : Ledger) : Type 0 where
   pub places : HasPlaces c
   pub shut : c.shut ≡ is_shut (past_of c)
+  pub begun : c.begun ≡ calls_begun (past_of c)
   pub counted : AreCounted c
 
 abbrev pub StandsSo : Ledger → List Coming → List Owed → Standing → Type 0

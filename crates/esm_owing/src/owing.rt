@@ -4,7 +4,7 @@ ghost use Rattle.esm_model.specs.declared.limits.TheConstants.{MAX_PAYLOAD};
 ghost use Rattle.esm_model.specs.declared.moment.TheConstants.{MAX_MOMENT};
 ghost use Rattle.esm_model.specs.declared.entry.Entry.{Entry};
 ghost use Rattle.esm_model.specs.Valid.{IsStreamConfig};
-ghost use Rattle.esm_model.specs.Entries.{last_moment, is_shut, is_running};
+ghost use Rattle.esm_model.specs.Entries.{last_moment, is_shut, is_running, calls_begun};
 ghost use Rattle.esm_model.specs.Step.{IsLater};
 ghost use Rattle.esm_tables.specs.LaneHistory.{HasFoundTries};
 ghost use Rattle.esm_ledger.specs.Ledger.{opened_with};
@@ -19,7 +19,7 @@ use crate::owed::Owed;
 use crate::reading::{kept_in, lengths_in, line_bound, line_in};
 use crate::standing::Standing;
 use esm_ledger::{Coming, Ledger};
-use esm_model::{Config, Entry, LaneId, OutOfMemory, Reply};
+use esm_model::{Config, Entry, LaneId, OutOfMemory, PastReply, Reply};
 use esm_said::Says;
 use esm_tables::progress_laws::{progress_stays, progress_tells};
 use std::alloc::Global;
@@ -104,6 +104,14 @@ impl OwingLedger {
         self.ledger.shut
     }
 
+    /// Whether all calls allowed began. Takes no memory.
+    pub fn is_spent(&self) -> bool
+        ensures spent { result ≡ true → self.now.setting.calls ≤ calls_begun self.now.past }
+        ensures going { result ≡ false → calls_begun self.now.past < self.now.setting.calls }
+    {
+        self.ledger.begun >= u64::from(self.ledger.calls)
+    }
+
     /// Gives up what is owed. Takes no memory.
     pub fn forget(&mut self)
         ensures { self.new ≡ forgotten self.old }
@@ -136,7 +144,7 @@ impl OwingLedger {
     {
         let entry = Entry::Ended {
             lane,
-            reply,
+            reply: PastReply::of(&reply),
             moment,
         };
         progress_stays();

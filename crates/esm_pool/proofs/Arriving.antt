@@ -1,5 +1,5 @@
 -- Items that come to a book at the reader's seat.
-use Rattle.std.proofs.Common.{◌≡◌, ℕ, ◌⊎◌, Bool, true, List, [], ◌++◌, refl, sym, ap, ◌∙◌, subst, append-nil, append_assoc, Some, None, Result, Ok, Err, OnOk, IfErr, inl, inr}
+use Rattle.std.proofs.Common.{◌≡◌, ℕ, ◌⊎◌, Bool, true, List, [], ◌++◌, refl, sym, ap, ◌∙◌, subst, append-nil, append_assoc, Option, Some, None, Result, Ok, Err, OnOk, IfErr, inl, inr}
 use Rattle.std.specs.Prelude.{◌≤◌, IsErrOf, IsErrAnd, take, drop, length}
 use Rattle.std.proofs.Common.{arith}
 use Rattle.std.proofs.lemmas.List.{length-append, take-append-drop}
@@ -12,13 +12,11 @@ use Rattle.esm_model.specs.declared.setup.Setup.{Setup}
 use Rattle.esm_model.specs.declared.setup.Told.{Told}
 use Rattle.esm_model.specs.Kept.{added}
 use Rattle.esm_record.specs.declared.item.Item.{Item}
+use Rattle.esm_pooled.specs.GoingOn.{change_told}
 use Rattle.esm_pooled.specs.Coming.{is_of, items_of, Come, SomeCome, FitBehind}
 use Rattle.esm_pool.specs.declared.coming.Stop.{Stop}
-use Rattle.esm_pool.specs.declared.coming.Stop.TheVariants.{Down, OutOfMemory}
+use Rattle.esm_pool.specs.declared.coming.Stop.TheVariants.{Down, Spent, OutOfMemory}
 use Rattle.esm_pool.specs.Readings.{IsStopFor, stop_of}
-
-pub same_found : (items : List Told → ℕ → List Item) (h seen others : List Told) → h ≡ seen ++ others → ((n : ℕ) → items (seen ++ others) n ≡ items seen n) → (n : ℕ) → items h n ≡ items seen n
-same_found items h seen others is same n = ap (λ l. items l n) is ∙ same n
 
 pub ok_stop : (r : Result (Unit {0}) CameError) (q : Result (Unit {0}) Stop) (P Q : Type 0) → (P → Q) → q ≡ stop_of r → OnOk r P → OnOk q Q
 ok_stop (Ok u) q P Q step is holds = subst (λ z. OnOk z Q) (sym is) (step holds)
@@ -27,14 +25,20 @@ ok_stop (Err refusal.DiskFault) q P Q step is holds = subst (λ z. OnOk z Q) (sy
 ok_stop (Err refusal.Down) q P Q step is holds = subst (λ z. OnOk z Q) (sym is) tt
 ok_stop (Err refusal.OutOfMemory) q P Q step is holds = subst (λ z. OnOk z Q) (sym is) tt
 
-module _ (items : List Told → ℕ → List Item) (differs : Setup → List Told → List Item → Change → Type 0) (setup setup' : Setup) (x y seen now : List Told) (list : List Item) (marked mark : Bool) where
-  stop_as : (r : Result (Unit {0}) CameError) → setup ≡ setup' → y ≡ x ++ added x y → ((n : ℕ) → items x n ≡ items seen n) → now ≡ y → mark ≡ marked
-      → IfErr r (λ e. (e ≡ refusal.OutOfMemory) ⊎ (marked ≡ true)) → ((change : Change) → IsErrOf r (refusal.StreamChanged change) → differs setup x list change)
-      → IfErr (stop_of r) (IsStopFor items differs setup' seen list now mark)
-  stop_as (Ok u) same_setup goes same is is_mark down changed = tt
-  stop_as (Err (refusal.StreamChanged change)) same_setup goes same is is_mark down changed = (
-    elim down [ inl none ↦ absurd (cc) | inr down_now ↦ is_mark ∙ down_now ],
-    record {
+-- a change that came is told, and no other
+told_none : (r : Result (Unit {0}) CameError) (before told : Option Change) → before ≡ None → told ≡ change_told before r → OnOk r (told ≡ None)
+told_none (Ok u) before told none is = is ∙ none
+told_none (Err e) before told none is = tt
+
+pub unchanged_stop : (r : Result (Unit {0}) CameError) (q : Result (Unit {0}) Stop) (before told now : Option Change) → q ≡ stop_of r → before ≡ None → told ≡ change_told before r → now ≡ told → OnOk q (now ≡ None)
+unchanged_stop r q before told now is none told_is now_is = ok_stop r q (told ≡ None) (now ≡ None) (λ holds. now_is ∙ holds) is (told_none r before told none told_is)
+
+module _ (items : List Told → ℕ → List Item) (differs : Setup → List Told → List Item → Change → Type 0) (setup setup' : Setup) (x y seen now : List Told) (list : List Item) (marked mark : Bool) (told : Option Change) where
+  down_as : (e : CameError) → (e ≡ refusal.OutOfMemory → ⊥) → y ≡ x ++ added x y → ((n : ℕ) → items x n ≡ items seen n) → now ≡ y → mark ≡ marked → (e ≡ refusal.OutOfMemory) ⊎ (marked ≡ true)
+      → ((change : Change) → told ≡ Some change → differs setup' x list change) → IsStopFor items differs setup' seen list now mark told Down
+  down_as e other goes same is is_mark down changed = (
+    elim down [ inl none ↦ absurd (other none) | inr down_now ↦ is_mark ∙ down_now ],
+    λ change is_change. record {
       before = x;
       later = added x y;
       history = is ∙ goes;
@@ -43,18 +47,29 @@ module _ (items : List Told → ℕ → List Item) (differs : Setup → List Tol
       rest = [];
       parts = sym (append-nil list);
       came = λ n. same n ∙ sym (append-nil (items seen n));
-      differs_so = subst (λ u. differs u x list change) same_setup (changed change refl);
+      differs_so = changed change is_change;
     },
   )
-  stop_as (Err refusal.DiskFault) same_setup goes same is is_mark down changed = elim down [ inl none ↦ absurd (cc) | inr down_now ↦ is_mark ∙ down_now ]
-  stop_as (Err refusal.Down) same_setup goes same is is_mark down changed = elim down [ inl none ↦ absurd (cc) | inr down_now ↦ is_mark ∙ down_now ]
-  stop_as (Err refusal.OutOfMemory) same_setup goes same is is_mark down changed = tt
 
-  pub err_stop : (r : Result (Unit {0}) CameError) (q : Result (Unit {0}) Stop) → q ≡ stop_of r → setup ≡ setup' → y ≡ x ++ added x y → ((n : ℕ) → items x n ≡ items seen n) → now ≡ y → mark ≡ marked
+  stop_as : (r : Result (Unit {0}) CameError) → setup ≡ setup' → y ≡ x ++ added x y → ((n : ℕ) → items x n ≡ items seen n) → now ≡ y → mark ≡ marked → told ≡ change_told None r
       → IfErr r (λ e. (e ≡ refusal.OutOfMemory) ⊎ (marked ≡ true)) → ((change : Change) → IsErrOf r (refusal.StreamChanged change) → differs setup x list change)
-      → IfErr q (IsStopFor items differs setup' seen list now mark)
-  err_stop r q is_stop same_setup goes same is is_mark down changed =
-      subst (λ z. IfErr z (IsStopFor items differs setup' seen list now mark)) (sym is_stop) (stop_as r same_setup goes same is is_mark down changed)
+      → IfErr (stop_of r) (IsStopFor items differs setup' seen list now mark told)
+  stop_as (Ok u) same_setup goes same is is_mark tells down changed = tt
+  stop_as (Err (refusal.StreamChanged change)) same_setup goes same is is_mark tells down changed = down_as (refusal.StreamChanged change) (λ e. absurd (let h = e in cc)) goes same is is_mark down
+      (λ other is_other. let the_same : change ≡ other = (let h = tells in let i = is_other in cc) in
+      subst (λ u. differs u x list other) same_setup (changed other (ap (λ (z : Change). Err (refusal.StreamChanged z)) the_same)))
+  stop_as (Err refusal.DiskFault) same_setup goes same is is_mark tells down changed = down_as refusal.DiskFault (λ e. absurd (let h = e in cc)) goes same is is_mark down (λ other is_other. absurd (let h = tells in let i = is_other in cc))
+  stop_as (Err refusal.Down) same_setup goes same is is_mark tells down changed = down_as refusal.Down (λ e. absurd (let h = e in cc)) goes same is is_mark down (λ other is_other. absurd (let h = tells in let i = is_other in cc))
+  stop_as (Err refusal.OutOfMemory) same_setup goes same is is_mark tells down changed = tt
+
+pub err_stop : (items : List Told → ℕ → List Item) (differs : Setup → List Told → List Item → Change → Type 0) (setup setup' : Setup) (x y seen now : List Told) (list : List Item) (marked mark : Bool) (before told told' : Option Change)
+    (r : Result (Unit {0}) CameError) (q : Result (Unit {0}) Stop) → q ≡ stop_of r → setup ≡ setup' → y ≡ x ++ added x y → ((n : ℕ) → items x n ≡ items seen n) → now ≡ y → mark ≡ marked
+    → before ≡ None → told ≡ change_told before r → told' ≡ told
+    → IfErr r (λ e. (e ≡ refusal.OutOfMemory) ⊎ (marked ≡ true)) → ((change : Change) → IsErrOf r (refusal.StreamChanged change) → differs setup x list change)
+    → IfErr q (IsStopFor items differs setup' seen list now mark told')
+err_stop items differs setup setup' x y seen now list marked mark before told told' r q is_stop same_setup goes same is is_mark none tells told_is down changed =
+    subst (λ z. IfErr z (IsStopFor items differs setup' seen list now mark told')) (sym is_stop)
+    (stop_as items differs setup setup' x y seen now list marked mark told' r same_setup goes same is is_mark (told_is ∙ (tells ∙ ap (λ b. change_told b r) none)) down changed)
 
 -- handing items on, list by list
 
@@ -115,28 +130,28 @@ regrouped a b c d e =
     let three : a ++ (b ++ c) ≡ (a ++ b) ++ c = sym (append_assoc a b c) in
     ap (λ l. a ++ l) one ∙ (two ∙ ap (λ l. l ++ (d ++ e)) three)
 
-module _ (items : List Told → ℕ → List Item) (differs : Setup → List Told → List Item → Change → Type 0) (setup : Setup) (seen mid now : List Told) (all rest list later : List Item) (mark : Bool)
+module _ (items : List Told → ℕ → List Item) (differs : Setup → List Told → List Item → Change → Type 0) (setup : Setup) (seen mid now : List Told) (all rest list later : List Item) (mark : Bool) (told : Option Change)
     (handing : IsHanding (items seen) (items mid) all rest) (parts : rest ≡ list ++ later) where
-  pub handing_stop : (t : Stop) → IsStopFor items differs setup mid list now mark t → IsStopFor items differs setup seen all now mark t
-  handing_stop (Down None) stop = stop
-  handing_stop (Down (Some change)) stop = (
+  pub handing_stop : (t : Stop) → IsStopFor items differs setup mid list now mark told t → IsStopFor items differs setup seen all now mark told t
+  handing_stop Down stop = (
     stop.0,
-    record {
-      before = stop.1.before;
-      later = stop.1.later;
-      history = stop.1.history;
-      front = handing.front ++ stop.1.front;
-      next = stop.1.next;
-      rest = stop.1.rest ++ later;
-      parts = handing.parts ∙ (ap (λ l. handing.front ++ l) (parts ∙ ap (λ l. l ++ later) stop.1.parts) ∙ regrouped handing.front stop.1.front stop.1.next stop.1.rest later);
-      came = λ n. stop.1.came n ∙ (ap (λ l. l ++ items_of n stop.1.front) (handing.came n)
-          ∙ (append_assoc (items seen n) (items_of n handing.front) (items_of n stop.1.front) ∙ ap (λ l. items seen n ++ l) (sym (items_both n handing.front stop.1.front))));
-      differs_so = stop.1.differs_so;
+    λ change is. let next = stop.1 change is in record {
+      before = next.before;
+      later = next.later;
+      history = next.history;
+      front = handing.front ++ next.front;
+      next = next.next;
+      rest = next.rest ++ later;
+      parts = handing.parts ∙ (ap (λ l. handing.front ++ l) (parts ∙ ap (λ l. l ++ later) next.parts) ∙ regrouped handing.front next.front next.next next.rest later);
+      came = λ n. next.came n ∙ (ap (λ l. l ++ items_of n next.front) (handing.came n)
+          ∙ (append_assoc (items seen n) (items_of n handing.front) (items_of n next.front) ∙ ap (λ l. items seen n ++ l) (sym (items_both n handing.front next.front))));
+      differs_so = next.differs_so;
     },
   )
+  handing_stop Spent stop = stop
   handing_stop OutOfMemory stop = tt
 
-  pub handing_stop_if : (r : Result (Unit {0}) Stop) → IfErr r (IsStopFor items differs setup mid list now mark) → IfErr r (IsStopFor items differs setup seen all now mark)
+  pub handing_stop_if : (r : Result (Unit {0}) Stop) → IfErr r (IsStopFor items differs setup mid list now mark told) → IfErr r (IsStopFor items differs setup seen all now mark told)
   handing_stop_if (Ok u) stop = tt
   handing_stop_if (Err t) stop = handing_stop t stop
 

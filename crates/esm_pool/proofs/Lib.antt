@@ -1,5 +1,6 @@
+pub mod Seats
 pub mod Arriving
-pub mod AsItWas
 pub mod Reading
+pub mod Stopping
 pub mod Leaving
 pub mod Sent

@@ -1,6 +1,7 @@
 -- The items of an input that came, as the reader knows it.
-use Rattle.std.proofs.Common.{◌≡◌, ◌≤◌, ℕ, suc, Bool, true, cond, List, [], ◌∷◌, ◌++◌, length, refl, sym, ap, ◌∙◌, subst, append-nil, append_assoc, arith, Option, Some, None, inl, inr}
-use Rattle.std.specs.Prelude.{filter}
+use Rattle.std.proofs.Common.{◌≡◌, ◌≤◌, ℕ, suc, Bool, true, false, cond, List, [], ◌∷◌, ◌++◌, length, refl, sym, ap, ◌∙◌, subst, append-nil, append_assoc, arith, Option, Some, None, Bor, is_some, inl, inr}
+use Rattle.std.specs.Prelude.{IsSome, filter}
+use Rattle.std.specs.Option.{option_copied}
 use Rattle.std.proofs.lemmas.Bool.{cases_Bool}
 use mathlib.Core.List.{IsPrefix}
 use Rattle.esm_io.specs.Told.{TakesFront}
@@ -16,9 +17,9 @@ use Rattle.esm_input.specs.Reading.{InputState, IsInput, items_read, handed}
 use Rattle.esm_input.specs.Within.{HandedWithin}
 use Rattle.esm_pooled.specs.Coming.{is_of, items_of, Come, SomeCome, AreCome, AreSomeCome, FitBehind}
 use Rattle.esm_pool.specs.Ran.{IsChangeOf, IsCut}
-use Rattle.esm_pool.specs.Readings.{IsStopFor, IsStopOf}
+use Rattle.esm_pool.specs.Readings.{IsStopFor, IsStopAt, IsStopOf}
 use Rattle.esm_pool.specs.declared.coming.Stop.{Stop}
-use Rattle.esm_pool.specs.declared.coming.Stop.TheVariants.{Down, OutOfMemory}
+use Rattle.esm_pool.specs.declared.coming.Stop.TheVariants.{Down, Spent, OutOfMemory}
 use Rattle.esm_pool.proofs.Arriving.{items_both}
 
 filter_shorter : (p : Item → Bool) (xs : List Item) → length (filter p xs) ≤ length xs
@@ -58,24 +59,34 @@ behind_front a b c d =
     one ∙ ap (λ l. l ++ d) two
 
 -- why reading stopped
-pub come_stop : {S : Type 0} (left : S → Option (List ℕ)) (items : List Told → ℕ → List Item) (differs : Setup → List Told → List Item → Change → Type 0) (setup : Setup) (i j : InputState S) (seen new : List Told) (list : List Item) (marked : Bool) (t : Stop)
-    → handed j ≡ handed i ++ list → AreCome (items seen) (handed i) → IsCut left j (items new) → IsStopFor items differs setup seen list new marked t → IsStopOf left items differs setup j new marked t
-come_stop left items differs setup i j seen new list marked (Down None) is come short stop = stop
-come_stop left items differs setup i j seen new list marked (Down (Some change)) is come short stop = (
-  stop.0,
-  record {
-    before = stop.1.before;
-    later = stop.1.later;
-    history = stop.1.history;
-    front = handed i ++ stop.1.front;
-    list = stop.1.next;
-    rest = stop.1.rest;
-    handed_out = is ∙ (ap (λ l. handed i ++ l) stop.1.parts ∙ behind_front (handed i) stop.1.front stop.1.next stop.1.rest);
-    came = come_more (items seen) (items stop.1.before) (handed i) stop.1.front (handed i ++ stop.1.front) refl come stop.1.came;
-    differs_so = stop.1.differs_so;
-  },
-)
-come_stop left items differs setup i j seen new list marked OutOfMemory is come short stop = short
+
+module _ {S : Type 0} (left : S → Option (List ℕ)) (items : List Told → ℕ → List Item) (differs : Setup → List Told → List Item → Change → Type 0) (spent : Setup → List Told → Type 0) (setup : Setup) where
+  -- at a list
+  pub come_stop : (i j : InputState S) (seen new : List Told) (list : List Item) (marked : Bool) (told : Option Change) (t : Stop)
+      → handed j ≡ handed i ++ list → AreCome (items seen) (handed i) → IsCut left j (items new) → IsStopFor items differs setup seen list new marked told t → IsStopOf left items differs spent setup j new marked told t
+  come_stop i j seen new list marked told Down is come short stop = (
+    stop.0,
+    λ change is_change. let next = stop.1 change is_change in record {
+      before = next.before;
+      later = next.later;
+      history = next.history;
+      front = handed i ++ next.front;
+      list = next.next;
+      rest = next.rest;
+      handed_out = is ∙ (ap (λ l. handed i ++ l) next.parts ∙ behind_front (handed i) next.front next.next next.rest);
+      came = come_more (items seen) (items next.before) (handed i) next.front (handed i ++ next.front) refl come next.came;
+      differs_so = next.differs_so;
+    },
+  )
+  come_stop i j seen new list marked told Spent is come short stop = absurd stop
+  come_stop i j seen new list marked told OutOfMemory is come short stop = short
+
+  -- while more was awaited
+  pub wait_stop : (i : InputState S) (seen : List Told) (marked : Bool) (told : Option Change) (t : Stop)
+      → told ≡ None → AreCome (items seen) (handed i) → i.end ≡ None → left i.source ≡ None → IsStopAt spent setup seen marked t → IsStopOf left items differs spent setup i seen marked told t
+  wait_stop i seen marked told Down none come going untold stop = (stop, λ change is_change. absurd (let h = none in let k = is_change in cc))
+  wait_stop i seen marked told Spent none come going untold stop = (none, record { calls = stop; came = come; going = going; untold = untold })
+  wait_stop i seen marked told OutOfMemory none come going untold stop = absurd stop
 
 takes_then : (a b c : Option (List ℕ)) (x y : List ℕ) → TakesFront a b x → TakesFront b c y → TakesFront a c (x ++ y)
 takes_then None None c x y first second = second
@@ -144,13 +155,12 @@ change_as items differs setup seen new i change begins was = record {
   differs_so = was.differs_so;
 }
 
--- what a reader that stopped says of the book
+-- a source that is not ready does not tell its bytes
+pub untold : (o : Option (List ℕ)) (ready : Bool) → (IsSome o → ready ≡ true) → ready ≡ false → o ≡ None
+untold None ready tells not = refl
+untold (Some bytes) ready tells not = absurd (let clash : true ≡ false = sym (tells refl) ∙ not in cc)
 
-module _ {S : Type 0} (left : S → Option (List ℕ)) (items : List Told → ℕ → List Item) (differs : Setup → List Told → List Item → Change → Type 0) (setup : Setup) (i : InputState S) (seen : List Told) (marked : Bool) where
-  pub stop_down : (changed : Option Change) → IsStopOf left items differs setup i seen marked (Down changed) → marked ≡ true
-  stop_down None stop = stop
-  stop_down (Some change) stop = stop.0
-
-  pub stop_change : (changed : Option Change) (change : Change) → changed ≡ Some change → IsStopOf left items differs setup i seen marked (Down changed) → IsChangeOf items differs setup seen i change
-  stop_change None change is stop = absurd (cc)
-  stop_change (Some other) change is stop = (let same : other ≡ change = cc in subst (IsChangeOf items differs setup seen i) same stop.1)
+-- an input whose end is not told has none
+pub end_none : {X : Type 0} (o : Option (Bor X)) (e : Option X) → option_copied o ≡ e → is_some o ≡ false → e ≡ None
+end_none None e is none = sym is
+end_none (Some x) e is none = absurd (let clash : true ≡ false = none in cc)

@@ -16,7 +16,6 @@ use Rattle.esm_input.proofs.ending.InputEnd.TheSendSync as ending
 use Rattle.esm_input.specs.contracts.input.Input as Input
 use Rattle.esm_input.specs.contracts.input.Input.TheInside as Inside
 use Rattle.esm_io.specs.declared.source.Source as Source
-use Rattle.esm_model.proofs.book.Change.TheSendSync as change
 use Rattle.esm_pool.specs.contracts.reader.Reader as Reader
 
 fed_fields : IsSend FedInside.the_row
@@ -60,4 +59,4 @@ module _ (S : RattleType) (s : Source.Ghosts S.Denot) where
   input_send source = view_send (Inside.the_row S s) _ _ _ _ (input_fields source)
 
   pub reader_send : IsSend S → IsSend (Reader.the_row S s)
-  reader_send source = search (input_send, change.the_send, sendable, crosses) depth 40
+  reader_send source = search (input_send, sendable, crosses) depth 40

@@ -1,5 +1,5 @@
 -- What a run of a book's reader and batchers leaves. This product's own.
-use Rattle.std.specs.Prelude.{◌≡◌, ◌<◌, ◌++◌, ℕ, Bool, true, false, List, Option, IsSome}
+use Rattle.std.specs.Prelude.{◌≡◌, ◌<◌, ◌⊎◌, ◌++◌, ℕ, Bool, true, false, List, Option, None, IsSome}
 use Rattle.esm_io.specs.Told.{TakesFront}
 use Rattle.esm_model.specs.declared.book.Change.{Change}
 use Rattle.esm_model.specs.declared.setup.Setup.{Setup}
@@ -20,12 +20,15 @@ pub record IsSameInput {S : Type 0} (before after : InputState S) : Type 0 where
   pub start : after.start ≡ before.start
   pub found : after.found ≡ before.found
 
--- all batchers below the number have finished; or all calls allowed were made, and something is left for one of them; or the
--- book is down
-abbrev pub EndsSo : (finished left : Setup → List Told → ℕ → Type 0) (spent : Setup → List Told → Type 0) → Setup → List Told → (mark : Bool) → (batchers : ℕ) → RunEnd → Type 0
-EndsSo finished left spent setup h mark batchers Finished = (mark ≡ false) × ((k : ℕ) → k < batchers → finished setup h k)
-EndsSo finished left spent setup h mark batchers Spent = (mark ≡ false) × spent setup h × ((k : ℕ) × (k < batchers) × left setup h k)
-EndsSo finished left spent setup h mark batchers Down = mark ≡ true
+-- something is left for one of the batchers below the number
+abbrev pub HasLeftOne : (left : Setup → List Told → ℕ → Type 0) → Setup → List Told → (batchers : ℕ) → Type 0
+HasLeftOne left setup h batchers = (k : ℕ) × (k < batchers) × left setup h k
+
+-- all batchers below the number have finished; or all calls allowed were made; or the book is down
+abbrev pub EndsSo : (finished : Setup → List Told → ℕ → Type 0) (spent : Setup → List Told → Type 0) → Setup → List Told → (mark : Bool) → (batchers : ℕ) → RunEnd → Type 0
+EndsSo finished spent setup h mark batchers Finished = (mark ≡ false) × ((k : ℕ) → k < batchers → finished setup h k)
+EndsSo finished spent setup h mark batchers Spent = (mark ≡ false) × spent setup h
+EndsSo finished spent setup h mark batchers Down = mark ≡ true
 
 -- all items that were handed out of an input that was read to an end came, and the end was noted
 pub record AllCame {S : Type 0} (i : InputState S) (came : ℕ → List Item) (h : List Told) : Type 0 where
@@ -33,11 +36,20 @@ pub record AllCame {S : Type 0} (i : InputState S) (came : ℕ → List Item) (h
   pub ended : IsSome i.end
   pub shut : is_shut (entries_told h) ≡ true
 
--- the items of the input that came: all of them, or the first of those that were handed out where the book went down
-abbrev pub CameSo : {S : Type 0} → InputState S → (came : ℕ → List Item) → List Told → RunEnd → Type 0
-CameSo i came h Finished = AllCame i came h
-CameSo i came h Spent = AllCame i came h
-CameSo i came h Down = AreSomeCome came (handed i)
+-- all items that were handed out of an input that had not ended, and does not tell its bytes, came; the end was noted, since
+-- all calls allowed were made
+pub record IsLeftOff {S : Type 0} (left : S → Option (List ℕ)) (i : InputState S) (came : ℕ → List Item) (h : List Told) : Type 0 where
+  pub items : AreCome came (handed i)
+  pub going : i.end ≡ None
+  pub untold : left i.source ≡ None
+  pub shut : is_shut (entries_told h) ≡ true
+
+-- the items of the input that came: all of them; or all that were handed out until all calls allowed were made; or the first
+-- of those that were handed out where the book went down
+abbrev pub CameSo : {S : Type 0} → (left : S → Option (List ℕ)) → InputState S → (came : ℕ → List Item) → List Told → RunEnd → Type 0
+CameSo left i came h Finished = AllCame i came h
+CameSo left i came h Spent = AllCame i came h ⊎ IsLeftOff left i came h
+CameSo left i came h Down = AreSomeCome came (handed i)
 
 -- The change is of the first item of a list that differs: of the items that were handed out all before the list had come, the
 -- history being the first part of what it is now, and the list is next.

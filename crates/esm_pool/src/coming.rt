@@ -1,5 +1,5 @@
 // What the reader does at its seat between two pieces of the input.
-ghost use Rattle.std.specs.Prelude.{◌≡◌, ◌≤◌, ℕ, true, false, length, All, IfErr, OnOk};
+ghost use Rattle.std.specs.Prelude.{◌≡◌, ◌≤◌, ℕ, None, true, false, length, All, IfErr, OnOk};
 ghost use mathlib.Core.List.{IsPrefix};
 ghost use Rattle.esm_model.specs.declared.limits.TheConstants.{MAX_BATCH};
 ghost use Rattle.esm_model.specs.Books.{entries_told};
@@ -7,10 +7,10 @@ ghost use Rattle.esm_model.specs.Entries.{is_shut};
 ghost use Rattle.esm_record.specs.Input.{IsValidItem};
 ghost use Rattle.esm_pooled.specs.Coming.{Come, SomeCome, StayAsTheyAre, FitBehind};
 ghost use Rattle.esm_batchers.specs.Seated.{IsSeated};
-ghost use Rattle.esm_pool.specs.Readings.{IsStopFor, stop_of};
+ghost use Rattle.esm_pool.specs.Readings.{IsStopAt, IsStopFor, stop_of};
 
 use esm_io::Clock;
-use esm_model::{CameError, Change, MAX_BATCH, OutOfMemory};
+use esm_model::{CameError, MAX_BATCH, OutOfMemory};
 use esm_pooled::Pooled;
 use esm_record::Item;
 use esm_turn::{Held, Seat, Turn};
@@ -20,8 +20,10 @@ use std::sync::Wait;
 /// Why the reader hands on no more, though there is more to read.
 #[derive(Drop, Debug)]
 pub enum Stop {
-    /// The book is down; where an item of the reader's own list brought a change, this is it.
-    Down(Option<Change>),
+    /// The book is down.
+    Down,
+    /// All calls allowed were made, while more was awaited.
+    Spent,
     OutOfMemory,
 }
 
@@ -42,10 +44,8 @@ fn stopped(came: Result<(), CameError>) -> Result<(), Stop>
 {
     match came {
         Ok(()) => Ok(()),
-        Err(CameError::StreamChanged(change)) => Err(Stop::Down(Some(change))),
-        Err(CameError::DiskFault) => Err(Stop::Down(None)),
-        Err(CameError::Down) => Err(Stop::Down(None)),
         Err(CameError::OutOfMemory) => Err(Stop::OutOfMemory),
+        Err(_) => Err(Stop::Down),
     }
 }
 
@@ -60,15 +60,16 @@ fn note<R: Wait, B: Pooled, C: Clock>(
 ) -> Result<(), Stop>
     requires seated { IsSeated B.author B.may_follow C.gave turn.now 0 seat.old }
     requires going { is_shut (entries_told seat.old.seen) ≡ false }
+    requires unchanged { seat.old.change ≡ None }
     requires few { length list.items ≤ MAX_BATCH }
     requires valid { All (IsValidItem (B.kind turn.now.setup)) list.items }
     requires within { FitBehind (B.items seat.old.seen) list.items }
     ensures seated { IsSeated B.author B.may_follow C.gave turn.now 0 seat.new }
-    ensures grows { IsPrefix seat.old.seen seat.new.seen }
     ensures going { is_shut (entries_told seat.new.seen) ≡ false }
+    ensures unchanged { OnOk result (seat.new.change ≡ None) }
     ensures came { OnOk result (Come (B.items seat.old.seen) (B.items seat.new.seen) list.items) }
     ensures some { SomeCome (B.items seat.old.seen) (B.items seat.new.seen) list.items }
-    ensures stop { IfErr result (IsStopFor B.items B.differs turn.now.setup seat.old.seen list.items seat.new.seen seat.new.mark) }
+    ensures stop { IfErr result (IsStopFor B.items B.differs turn.now.setup seat.old.seen list.items seat.new.seen seat.new.mark seat.new.change) }
 {
     B::stays();
     let moment = clock.now();
@@ -89,13 +90,15 @@ pub(crate) fn hand_on<R: Wait, B: Pooled, C: Clock>(
 ) -> Result<(), Stop>
     requires seated { IsSeated B.author B.may_follow C.gave turn.now 0 seat.old }
     requires going { is_shut (entries_told seat.old.seen) ≡ false }
+    requires unchanged { seat.old.change ≡ None }
     requires valid { All (IsValidItem (B.kind turn.now.setup)) items.items }
     requires within { FitBehind (B.items seat.old.seen) items.items }
     ensures seated { IsSeated B.author B.may_follow C.gave turn.now 0 seat.new }
     ensures going { is_shut (entries_told seat.new.seen) ≡ false }
+    ensures unchanged { OnOk result (seat.new.change ≡ None) }
     ensures came { OnOk result (Come (B.items seat.old.seen) (B.items seat.new.seen) items.items) }
     ensures some { SomeCome (B.items seat.old.seen) (B.items seat.new.seen) items.items }
-    ensures stop { IfErr result (IsStopFor B.items B.differs turn.now.setup seat.old.seen items.items seat.new.seen seat.new.mark) }
+    ensures stop { IfErr result (IsStopFor B.items B.differs turn.now.setup seat.old.seen items.items seat.new.seen seat.new.mark seat.new.change) }
 {
     let mut rest = items;
     while rest.len() > MAX_BATCH {
@@ -108,25 +111,39 @@ pub(crate) fn hand_on<R: Wait, B: Pooled, C: Clock>(
     note(rt, alloc, turn, seat, rest, clock)
 }
 
-/// Whether the book of the turn is down.
-pub(crate) fn is_down<R: Wait, B: Pooled, C: Clock>(
+/// Why the reader that waits for more hands on no more: the book is down, or all calls allowed were made.
+fn stop_at<B: Pooled>(book: &B) -> Result<(), Stop>
+    ensures { IfErr result (IsStopAt B.spent (B.setup book.now) (B.history book.now) (B.mark book.now)) }
+{
+    if book.marked() {
+        return Err(Stop::Down);
+    }
+    if book.is_spent() {
+        return Err(Stop::Spent);
+    }
+    Ok(())
+}
+
+/// Looks whether the reader that waits for more goes on.
+pub(crate) fn look<R: Wait, B: Pooled, C: Clock>(
     rt: &R,
     turn: &Turn<B>,
     seat: &mut Seat<B>,
     clock: &C,
-) -> bool
+) -> Result<(), Stop>
     requires seated { IsSeated B.author B.may_follow C.gave turn.now 0 seat.old }
     requires going { is_shut (entries_told seat.old.seen) ≡ false }
     ensures seated { IsSeated B.author B.may_follow C.gave turn.now 0 seat.new }
     ensures going { is_shut (entries_told seat.new.seen) ≡ false }
     ensures same { StayAsTheyAre (B.items seat.old.seen) (B.items seat.new.seen) }
-    ensures marked { result ≡ true → seat.new.mark ≡ true }
+    ensures unchanged { seat.new.change ≡ seat.old.change }
+    ensures stop { IfErr result (IsStopAt B.spent turn.now.setup seat.new.seen seat.new.mark) }
 {
     B::stays();
     let Held { value } = turn.take(rt, seat);
-    let down = value.marked();
+    let stop = stop_at(&value);
     turn.give(seat, Held { value });
-    down
+    stop
 }
 
 /// The end of the input is noted in the book of the turn, where it is not down.
@@ -143,6 +160,8 @@ pub(crate) fn note_end<R: Wait, B: Pooled, C: Clock>(
     ensures marked { seat.old.mark ≡ true → seat.new.mark ≡ true }
     ensures same { StayAsTheyAre (B.items seat.old.seen) (B.items seat.new.seen) }
     ensures shut { seat.new.mark ≡ false → is_shut (entries_told seat.new.seen) ≡ true }
+    ensures unchanged { seat.new.change ≡ seat.old.change }
+    ensures spent { B.spent turn.now.setup seat.old.seen → B.spent turn.now.setup seat.new.seen }
 {
     B::stays();
     let moment = clock.now();

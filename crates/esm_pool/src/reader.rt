@@ -1,5 +1,5 @@
 // The reader of a book's input: what it works with, and its work.
-ghost use Rattle.std.specs.Prelude.{◌≡◌, [], false, IfErr, OnOk, IsErrOf, IsSome};
+ghost use Rattle.std.specs.Prelude.{◌≡◌, [], None, false, IfErr, OnOk, OnErr, IsErrOf, IsSome};
 ghost use Rattle.esm_model.specs.Books.{entries_told};
 ghost use Rattle.esm_model.specs.Entries.{is_shut};
 ghost use Rattle.esm_input.specs.Reading.{IsInput, handed};
@@ -8,26 +8,24 @@ ghost use Rattle.esm_batchers.specs.Seated.{IsSeated};
 ghost use Rattle.esm_pool.specs.Ran.{IsSameInput};
 ghost use Rattle.esm_pool.specs.Readings.{IsStopOf};
 
-use crate::coming::{Stop, hand_on, is_down, note_end};
+use crate::coming::{Stop, hand_on, look, note_end};
 use esm_hands::Reading;
 use esm_input::Input;
 use esm_input::laws::handed_is_within;
 use esm_io::{Clock, Source};
-use esm_model::{Change, OutOfMemory};
+use esm_model::OutOfMemory;
 use esm_pooled::Pooled;
 use esm_turn::{Seat, Turn};
 use std::alloc::Global;
 use std::sync::Wait;
 
-/// How long the reader waits for more of the input before it looks whether the book is down, in milliseconds. This product's
-/// own.
+/// How long the reader waits for more of the input before it looks whether it goes on, in milliseconds. This product's own.
 const PATIENCE: u64 = 1_000;
 
-/// What reads a book's input, and the change that one of its items brought, where it brought one.
+/// What reads a book's input.
 #[derive(Drop)]
 pub struct Reader<S: Source> {
     pub input: Input<S>,
-    pub changed: Option<Change>,
 }
 
 /// Tells what holds of every input.
@@ -37,7 +35,7 @@ fn stands<S: Source>(input: &Input<S>)
     let _end = input.end();
 }
 
-/// Reads the input to its end and hands its items on, piece by piece. While more is awaited it looks whether the book is down.
+/// Reads the input to its end and hands its items on, piece by piece. While more is awaited it looks whether it goes on.
 fn read_on<R: Wait, B: Pooled, S: Source, C: Clock>(
     rt: &R,
     alloc: Global,
@@ -48,6 +46,7 @@ fn read_on<R: Wait, B: Pooled, S: Source, C: Clock>(
 ) -> Result<(), Stop>
     requires seated { IsSeated B.author B.may_follow C.gave turn.now 0 seat.old }
     requires unused { seat.old.mine ≡ [] }
+    requires unchanged { seat.old.change ≡ None }
     requires kind { input.old.kind ≡ B.kind turn.now.setup }
     requires good { input.old.failed ≡ false }
     requires unread { handed input.old ≡ [] }
@@ -57,8 +56,9 @@ fn read_on<R: Wait, B: Pooled, S: Source, C: Clock>(
     // What came.
     ensures came { OnOk result (AreCome (B.items seat.new.seen) (handed input.new)) }
     ensures end { OnOk result (IsSome input.new.end) }
+    ensures unchanged { OnOk result (seat.new.change ≡ None) }
     ensures some { (IsErrOf result Stop.OutOfMemory → ⊥) → AreSomeCome (B.items seat.new.seen) (handed input.new) }
-    ensures stop { IfErr result (IsStopOf S.left B.items B.differs turn.now.setup input.new seat.new.seen seat.new.mark) }
+    ensures stop { IfErr result (IsStopOf S.left B.items B.differs B.spent turn.now.setup input.new seat.new.seen seat.new.mark seat.new.change) }
     // What was read.
     ensures read { (IsErrOf result Stop.OutOfMemory → ⊥) → IsInput S.faults S.left input.new }
     ensures good { (IsErrOf result Stop.OutOfMemory → ⊥) → input.new.failed ≡ false }
@@ -75,20 +75,31 @@ fn read_on<R: Wait, B: Pooled, S: Source, C: Clock>(
             let items = input.read(alloc)?;
             stands(input);
             hand_on(rt, alloc, turn, seat, items, clock)?;
-        } else if is_down(rt, turn, seat, clock) {
+        } else {
             stands(input);
-            return Err(Stop::Down(None));
+            look(rt, turn, seat, clock)?;
         }
     }
     unreachable!()
 }
 
+/// Whether want of memory ended the reading.
+fn memory_of(read: Result<(), Stop>) -> Result<(), OutOfMemory>
+    ensures long { OnOk result (IsErrOf read Stop.OutOfMemory → ⊥) }
+    ensures short { OnErr result (IsErrOf read Stop.OutOfMemory) }
+{
+    match read {
+        Err(Stop::OutOfMemory) => Err(OutOfMemory),
+        Ok(()) | Err(Stop::Down | Stop::Spent) => Ok(()),
+    }
+}
+
 impl<B: Pooled, S: Source> Reading<B> for Reader<S> {
     ghost use Rattle.esm_pool.specs.Readings.{IsUnread, HasRead};
 
-    ghost ready = { λ setup r. IsUnread (B.kind setup) r.input r.changed };
+    ghost ready = { λ setup r. IsUnread (B.kind setup) r.input };
 
-    ghost read = { λ setup before after seen marked short. HasRead S.faults S.left B.items B.differs setup before.input after.input after.changed seen marked short };
+    ghost read = { λ setup before after seen marked told short. HasRead S.faults S.left B.items B.differs B.spent setup before.input after.input seen marked told short };
 
     fn read_all<R: Wait, C: Clock>(
         &mut self,
@@ -100,13 +111,6 @@ impl<B: Pooled, S: Source> Reading<B> for Reader<S> {
     ) -> Result<(), OutOfMemory> {
         let read = read_on(rt, alloc, turn, seat, &mut self.input, clock);
         note_end(rt, turn, seat, clock);
-        match read {
-            Ok(()) => Ok(()),
-            Err(Stop::Down(changed)) => {
-                self.changed = changed;
-                Ok(())
-            }
-            Err(Stop::OutOfMemory) => Err(OutOfMemory),
-        }
+        memory_of(read)
     }
 }

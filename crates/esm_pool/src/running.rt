@@ -1,5 +1,5 @@
 // A run of a book, its reader and its batchers as threads.
-ghost use Rattle.std.specs.Prelude.{◌≡◌, ◌+◌, ◌<◌, ◌≤◌, ℕ, [], None, true, false, length, is_err, IfOk, OnOk, OnErr, Ok};
+ghost use Rattle.std.specs.Prelude.{◌≡◌, ◌⊎◌, ◌+◌, ◌<◌, ◌≤◌, ℕ, [], Some, None, true, false, length, is_err, IfOk, OnOk, OnErr, Ok};
 ghost use Rattle.esm_model.specs.declared.book.Change.{Change};
 ghost use Rattle.esm_model.specs.declared.limits.TheConstants.{MAX_LANES};
 ghost use Rattle.esm_model.specs.Books.{entries_told};
@@ -9,13 +9,13 @@ ghost use Rattle.esm_input.specs.Reading.{IsInput};
 ghost use Rattle.esm_pooled.specs.GoingOn.{AllGiven, OwnFollowShut};
 ghost use Rattle.esm_batchers.specs.Working.{outside};
 ghost use Rattle.esm_hands.specs.Shared.{HaveCalled};
-ghost use Rattle.esm_pool.specs.Ran.{IsSameInput, CameSo, EndsSo, IsChangeOf, IsCut};
+ghost use Rattle.esm_pool.specs.Ran.{IsSameInput, HasLeftOne, CameSo, EndsSo, IsChangeOf, IsCut};
 
 use crate::reader::Reader;
 use esm_hands::run_hands;
 use esm_input::Input;
 use esm_io::{Caller, Clock, Source};
-use esm_model::{Change, OutOfMemory};
+use esm_model::OutOfMemory;
 use esm_pooled::Pooled;
 use std::alloc::Global;
 use std::sync::Wait;
@@ -26,33 +26,35 @@ use std::thread::Threads;
 pub enum RunEnd {
     /// The input has ended, and nothing is left for any batcher.
     Finished,
-    /// All calls allowed were made, and something is left.
+    /// All calls allowed were made, and something is left, or the input had not ended.
     Spent,
     /// The book is down; it tells why.
     Down,
 }
 
-/// What a run of a book leaves: how it ended, the book, the input as it was read, the change that an item brought where one
-/// did, and the callers.
+/// What a run of a book leaves: how it ended, the book, the input as it was read, and the callers.
 pub struct Ran<B, S: Source, F> {
     pub end: Result<RunEnd, OutOfMemory>,
     pub book: B,
     pub input: Input<S>,
-    pub changed: Option<Change>,
     pub callers: Vec<F>,
 }
 
-/// How the run ended, over the book that the threads left. It asks no batcher.
-fn end_of<B: Pooled>(book: &B, batchers: u32) -> Result<RunEnd, OutOfMemory>
+/// How the run ended, over the book that the threads left; whether the reader left its input before the end decides with it. It
+/// asks no batcher.
+fn end_of<B: Pooled>(book: &B, batchers: u32, left_off: bool) -> Result<RunEnd, OutOfMemory>
     requires batchers { (0 < batchers) × (batchers ≤ MAX_LANES) }
     requires shut { B.mark book.now ≡ false → is_shut (entries_told (B.history book.now)) ≡ true }
     requires rests { (k : ℕ) → B.rests (B.setup book.now) (B.history book.now) k }
-    ensures finished { result ≡ Ok RunEnd.Finished → (B.mark book.now ≡ false) × ((k : ℕ) → k < batchers → B.finished (B.setup book.now) (B.history book.now) k) }
-    ensures left { result ≡ Ok RunEnd.Spent → (B.mark book.now ≡ false) × ((k : ℕ) × (k < batchers) × B.left (B.setup book.now) (B.history book.now) k) }
+    ensures finished { result ≡ Ok RunEnd.Finished → (left_off ≡ false) × (B.mark book.now ≡ false) × ((k : ℕ) → k < batchers → B.finished (B.setup book.now) (B.history book.now) k) }
+    ensures spent { result ≡ Ok RunEnd.Spent → (B.mark book.now ≡ false) × (HasLeftOne B.left (B.setup book.now) (B.history book.now) batchers ⊎ (left_off ≡ true)) }
     ensures down { result ≡ Ok RunEnd.Down → B.mark book.now ≡ true }
 {
     if book.marked() {
         return Ok(RunEnd::Down);
+    }
+    if left_off {
+        return Ok(RunEnd::Spent);
     }
     match book.is_over(batchers) {
         Some(true) => Ok(RunEnd::Finished),
@@ -63,7 +65,8 @@ fn end_of<B: Pooled>(book: &B, batchers: u32) -> Result<RunEnd, OutOfMemory>
 
 /// Reads the input and hands its items to the book, in lists of at most 10,000, and has so many batchers call, caller `k` for
 /// batcher `k`, all as threads; with `read_first` the batchers begin once the input was read. The run ends when nothing is
-/// left, when all calls allowed were made, or when the book is down. `name` is the function's. Want of memory ends it at any
+/// left, when all calls allowed were made, or when the book is down. Where all calls allowed were made while more is awaited of
+/// an input that does not tell its bytes, its end is noted and nothing more is read. `name` is the function's. Want of memory ends the run at any
 /// point.
 pub fn run_book<
     R: Threads + Wait + Sync,
@@ -83,6 +86,7 @@ pub fn run_book<
     read_first: bool,
 ) -> Ran<B, S, F>
     requires new { B.history book ≡ [] }
+    requires unchanged { B.change book ≡ None }
     requires name { name.now ≡ (B.setup book).config.function }
     requires kind { input.kind ≡ B.kind (B.setup book) }
     requires unread { input ≡ record input { found = input.source; bytes = []; whole = false; end = None; failed = false } }
@@ -95,9 +99,10 @@ pub fn run_book<
     ensures called { HaveCalled B.calls B.rests B.runs (outside C.gave F.sends F.log) (B.setup book) (B.history result.book) (is_err result.end) batchers callers.items result.callers.items }
     ensures later { read_first ≡ true → (k : ℕ) → OwnFollowShut (B.author (B.setup book)) (k + 1) [] (B.history result.book) }
     // How it ended, and what came of the input.
-    ensures ended { IfOk result.end (EndsSo B.finished B.left B.spent (B.setup book) (B.history result.book) (B.mark result.book) batchers) }
-    ensures came { IfOk result.end (CameSo result.input (B.items (B.history result.book)) (B.history result.book)) }
-    ensures changed { OnOk result.end ((change : Change) → result.changed ≡ Some change → IsChangeOf B.items B.differs (B.setup book) (B.history result.book) result.input change) }
+    ensures ended { IfOk result.end (EndsSo B.finished B.spent (B.setup book) (B.history result.book) (B.mark result.book) batchers) }
+    ensures left { result.end ≡ Ok RunEnd.Spent → HasLeftOne B.left (B.setup book) (B.history result.book) batchers ⊎ (result.input.end ≡ None) }
+    ensures came { IfOk result.end (CameSo S.left result.input (B.items (B.history result.book)) (B.history result.book)) }
+    ensures changed { OnOk result.end ((change : Change) → B.change result.book ≡ Some change → IsChangeOf B.items B.differs (B.setup book) (B.history result.book) result.input change) }
     ensures read { OnOk result.end (IsInput S.faults S.left result.input) }
     ensures good { OnOk result.end (result.input.failed ≡ false) }
     ensures cut { OnErr result.end (IsCut S.left result.input (B.items (B.history result.book))) }
@@ -106,10 +111,7 @@ pub fn run_book<
     B::begins();
     B::stays();
     B::excludes();
-    let reader = Reader {
-        input,
-        changed: None,
-    };
+    let reader = Reader { input };
     match run_hands(
         rt, alloc, book, reader, callers, batchers, name, clock, read_first,
     ) {
@@ -120,22 +122,20 @@ pub fn run_book<
                 callers,
                 short,
             } = left;
-            let Reader { input, changed } = reader;
+            let Reader { input } = reader;
             if short {
                 return Ran {
                     end: Err(OutOfMemory),
                     book,
                     input,
-                    changed,
                     callers,
                 };
             }
-            let end = end_of(&book, batchers);
+            let end = end_of(&book, batchers, input.end().is_none());
             Ran {
                 end,
                 book,
                 input,
-                changed,
                 callers,
             }
         }
@@ -145,7 +145,6 @@ pub fn run_book<
                 end: Err(OutOfMemory),
                 book,
                 input: reader.input,
-                changed: reader.changed,
                 callers,
             }
         }

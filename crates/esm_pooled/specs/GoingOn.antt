@@ -1,6 +1,9 @@
 -- How a shared history goes on: by the entries of one seat, at which moments, and by those of others alone. This product's
 -- own. The oldest entry stands first.
-use Rattle.std.specs.Prelude.{◌≡◌, ℕ, max, Bool, true, List, [], ◌∷◌, ◌++◌}
+use Rattle.std.specs.Prelude.{◌≡◌, ℕ, max, Bool, true, List, [], ◌∷◌, ◌++◌, Option, Some, Result, Err}
+use Rattle.esm_model.specs.declared.book.CameError.{CameError}
+use Rattle.esm_model.specs.declared.book.CameError.TheVariants.{StreamChanged}
+use Rattle.esm_model.specs.declared.book.Change.{Change}
 use Rattle.esm_model.specs.declared.setup.Told.{Told}
 use Rattle.esm_model.specs.declared.setup.Setup.{Setup}
 use Rattle.esm_model.specs.Moment.{capped_moment}
@@ -8,13 +11,20 @@ use Rattle.esm_model.specs.Entries.{moment_of, last_moment, is_shut}
 use Rattle.esm_model.specs.Books.{entries_told}
 use Rattle.esm_model.specs.Kept.{Meaning, entries_after, IsLegal, MayFollowAll, AllBy, added}
 
--- the author n has added entries that may follow; the setup stays, and so does a mark that is true
+-- The author n has added entries that may follow; the setup stays, and so does a mark that is true. Only seat 0, which items
+-- come by, tells the value a change.
 pub record GoesOn {T : Type 0} (m : Meaning T) (n : ℕ) (x y : T) : Type 0 where
   pub setup_is : m.setup y ≡ m.setup x
   pub history_is : m.history y ≡ m.history x ++ added (m.history x) (m.history y)
   pub legal : MayFollowAll (m.may_follow (m.setup x)) (m.history x) (added (m.history x) (m.history y))
   pub own : AllBy (m.author (m.setup x)) n (m.history x) (added (m.history x) (m.history y))
   pub marked : m.mark x ≡ true → m.mark y ≡ true
+  pub unchanged : (n ≡ 0 → ⊥) → m.change y ≡ m.change x
+
+-- the change that a value was told, after items were refused so or came
+abbrev pub change_told : Option Change → Result (Unit {0}) CameError → Option Change
+change_told before (Err (StreamChanged change)) = Some change
+change_told before _ = before
 
 -- the entries es follow h legally, and none of them is of the author n
 pub record OthersFollow (author : Setup → List Told → Told → ℕ) (may_follow : Setup → List Told → Told → Type 0) (setup : Setup) (n : ℕ) (h es : List Told) : Type 0 where

@@ -18,7 +18,7 @@ ghost use Rattle.esm_record.specs.declared.item.LineKind.{LineKind};
 ghost use Rattle.esm_record.specs.Input.{IsValidItem};
 ghost use Rattle.esm_pooled.specs.Batching.{Answers, call_of};
 ghost use Rattle.esm_pooled.specs.Coming.{Come, SomeCome, StayAsTheyAre, FitBehind};
-ghost use Rattle.esm_pooled.specs.GoingOn.{GoesOn, AllAt, OthersFollow};
+ghost use Rattle.esm_pooled.specs.GoingOn.{GoesOn, AllAt, OthersFollow, change_told};
 
 use esm_model::{BookError, CameError, Job, Kept, Next, OutOfMemory, Reply};
 use esm_record::Item;
@@ -68,21 +68,23 @@ pub trait Pooled: Kept {
         requires valid { All (IsValidItem (kind (Self.setup self.old))) list.items }
         requires within { FitBehind (items (Self.history self.old)) list.items }
         // What is added.
-        ensures goes_on { GoesOn (meaning Self.setup Self.history Self.mark Self.author Self.may_follow) 0 self.old self.new }
+        ensures goes_on { GoesOn (meaning Self.setup Self.history Self.mark Self.change Self.author Self.may_follow) 0 self.old self.new }
         ensures moments { AllAt moment (Self.history self.old) (added (Self.history self.old) (Self.history self.new)) }
         ensures going { is_shut (entries_told (Self.history self.new)) ≡ false }
         ensures came { OnOk result (Come (items (Self.history self.old)) (items (Self.history self.new)) list.items) }
         ensures some { SomeCome (items (Self.history self.old)) (items (Self.history self.new)) list.items }
         // When an error comes, and what it tells.
         ensures down { IfErr result (λ e. (e ≡ refusal.OutOfMemory) ⊎ (Self.mark self.new ≡ true)) }
-        ensures changed { (change : Change) → IsErrOf result (refusal.StreamChanged change) → differs (Self.setup self.old) (Self.history self.old) list.items change };
+        ensures changed { (change : Change) → IsErrOf result (refusal.StreamChanged change) → differs (Self.setup self.old) (Self.history self.old) list.items change }
+        ensures tells { Self.change self.new ≡ change_told (Self.change self.old) result };
 
     /// The input ended, at the moment, in milliseconds; that is noted where the book is not down. Takes no memory.
     fn end_input(&mut self, moment: u64)
         requires going { is_shut (entries_told (Self.history self.old)) ≡ false }
-        ensures goes_on { GoesOn (meaning Self.setup Self.history Self.mark Self.author Self.may_follow) 0 self.old self.new }
+        ensures goes_on { GoesOn (meaning Self.setup Self.history Self.mark Self.change Self.author Self.may_follow) 0 self.old self.new }
         ensures moments { AllAt moment (Self.history self.old) (added (Self.history self.old) (Self.history self.new)) }
         ensures same { StayAsTheyAre (items (Self.history self.old)) (items (Self.history self.new)) }
+        ensures change { Self.change self.new ≡ Self.change self.old }
         ensures shut { Self.mark self.new ≡ false → is_shut (entries_told (Self.history self.new)) ≡ true };
 
     /// What the batcher does next at the moment, in milliseconds; a call that is answered has begun. After an error other
@@ -91,7 +93,7 @@ pub trait Pooled: Kept {
         requires number { batcher < MAX_LANES }
         requires rests { rests (Self.setup self.old) (Self.history self.old) batcher }
         // What is added.
-        ensures goes_on { GoesOn (meaning Self.setup Self.history Self.mark Self.author Self.may_follow) (batcher + 1) self.old self.new }
+        ensures goes_on { GoesOn (meaning Self.setup Self.history Self.mark Self.change Self.author Self.may_follow) (batcher + 1) self.old self.new }
         ensures moments { AllAt moment (Self.history self.old) (added (Self.history self.old) (Self.history self.new)) }
         ensures no_end { (sends : List ℕ → List ℕ) → calls (Self.setup self.old) sends (Self.history self.new) batcher ≡ calls (Self.setup self.old) sends (Self.history self.old) batcher }
         // What is answered.
@@ -114,7 +116,7 @@ pub trait Pooled: Kept {
         requires number { batcher < MAX_LANES }
         requires runs { runs (Self.setup self.old) (Self.history self.old) batcher job }
         // What is added.
-        ensures goes_on { GoesOn (meaning Self.setup Self.history Self.mark Self.author Self.may_follow) (batcher + 1) self.old self.new }
+        ensures goes_on { GoesOn (meaning Self.setup Self.history Self.mark Self.change Self.author Self.may_follow) (batcher + 1) self.old self.new }
         ensures moments { AllAt moment (Self.history self.old) (added (Self.history self.old) (Self.history self.new)) }
         ensures called { (IsErrOf result why.OutOfMemory → ⊥) → (sends : List ℕ → List ℕ) →
             calls (Self.setup self.old) sends (Self.history self.new) batcher ≡ calls (Self.setup self.old) sends (Self.history self.old) batcher ++ call_of (Self.setup self.old) sends job.event reply ∷ [] }
@@ -122,6 +124,11 @@ pub trait Pooled: Kept {
         // When an error comes, and what it leaves.
         ensures unchanged { IsErrOf result why.OutOfMemory → Self.history self.new ≡ Self.history self.old }
         ensures down { IfErr result (λ e. (e ≡ why.OutOfMemory) ⊎ (Self.mark self.new ≡ true)) };
+
+    /// Whether all calls allowed were made. Takes no memory.
+    fn is_spent(&self) -> bool
+        ensures spent { result ≡ true → spent (Self.setup self.now) (Self.history self.now) }
+        ensures going { result ≡ false → spent (Self.setup self.now) (Self.history self.now) → ⊥ };
 
     /// Whether nothing is left for the batchers below the number, once the input has ended and none runs a call. `None` for want
     /// of memory alone.
@@ -146,7 +153,7 @@ pub trait Pooled: Kept {
         ensures rests { (s : Setup) (h es : List Told) (k : ℕ) → OthersFollow Self.author Self.may_follow s (k + 1) h es → rests s h k → rests s (h ++ es) k }
         ensures runs { (s : Setup) (h es : List Told) (k : ℕ) (job : Job) → OthersFollow Self.author Self.may_follow s (k + 1) h es → runs s h k job → runs s (h ++ es) k job }
         ensures finished { (s : Setup) (h es : List Told) (k : ℕ) → OthersFollow Self.author Self.may_follow s (k + 1) h es → finished s h k → finished s (h ++ es) k }
-        ensures spent { (s : Setup) (h es : List Told) (k : ℕ) → OthersFollow Self.author Self.may_follow s (k + 1) h es → spent s h → spent s (h ++ es) }
+        ensures spent { (s : Setup) (h es : List Told) (n : ℕ) → OthersFollow Self.author Self.may_follow s n h es → spent s h → spent s (h ++ es) }
         ensures items { (s : Setup) (h es : List Told) → OthersFollow Self.author Self.may_follow s 0 h es → StayAsTheyAre (items h) (items (h ++ es)) }
         ensures shut { (s : Setup) (h es : List Told) → OthersFollow Self.author Self.may_follow s 0 h es → is_shut (entries_told (h ++ es)) ≡ is_shut (entries_told h) };
 

@@ -8,10 +8,10 @@ use Rattle.esm_model.specs.declared.book.CameError.TheVariants as refusal
 use Rattle.esm_model.specs.declared.book.Change.{Change}
 use Rattle.esm_model.specs.Books.{entries_told}
 use Rattle.esm_model.specs.Entries.{is_shut}
-use Rattle.esm_model.specs.Kept.{meaning, added}
+use Rattle.esm_model.specs.Kept.{meaning, change_of, added}
 use Rattle.esm_record.specs.declared.item.Item.{Item}
 use Rattle.esm_pooled.specs.Coming.{Come, SomeCome}
-use Rattle.esm_pooled.specs.GoingOn.{GoesOn, AllAt}
+use Rattle.esm_pooled.specs.GoingOn.{GoesOn, AllAt, change_told}
 use Rattle.esm_queue_model.specs.QueueBooks.{messages_told, queue_author, queue_may_follow}
 use Rattle.esm_queue_lasting.specs.Left.{queue_items}
 use Rattle.esm_queue_core.specs.Coming.{IsChangeOf, NoneHasChanged, IsFirstChange}
@@ -25,13 +25,14 @@ use Rattle.esm_qbook.proofs.Pooling.{IsLegalTold, goes_on, moments}
 use Rattle.esm_qbook.proofs.PoolingCame.{HasCome}
 
 pub record Brought {D : Type 0} (code : Coded D) (t : ℕ) (list : List Item) (old new : BookState D) (r : Result (Unit {0}) CameError) : Type 0 where
-  pub goes_on : GoesOn (meaning (setup_of code) (λ (b : BookState D). told_of b.core) is_down queue_author queue_may_follow) 0 old new
+  pub goes_on : GoesOn (meaning (setup_of code) (λ (b : BookState D). told_of b.core) is_down (λ (b : BookState D). change_of b.trouble) queue_author queue_may_follow) 0 old new
   pub moments : AllAt t (told_of old.core) (added (told_of old.core) (told_of new.core))
   pub going : is_shut (entries_told (told_of new.core)) ≡ false
   pub came : OnOk r (Come (queue_items (told_of old.core)) (queue_items (told_of new.core)) list)
   pub some : SomeCome (queue_items (told_of old.core)) (queue_items (told_of new.core)) list
   pub down : IfErr r (λ (e : CameError). (e ≡ refusal.OutOfMemory) ⊎ (is_down new ≡ true))
   pub changed : (change : Change) → IsErrOf r (refusal.StreamChanged change) → QueueDiffers (setup_of code old) (told_of old.core) list change
+  pub tells : change_of new.trouble ≡ change_told (change_of old.trouble) r
 
 if_ok : {T E : Type 0} (P Q : Type 0) (r : Result T E) → (P → Q) → OnOk r P → OnOk r Q
 if_ok P Q (Ok x) then is = then is
@@ -59,4 +60,5 @@ brought code t list old new r all sound legal has =
       some = some_come before after list all has.some;
       down = has.down;
       changed = λ change is. differs code list old change sound (has.changed change is);
+      tells = has.tells;
     }

@@ -1,18 +1,19 @@
 -- What a call of a queue's book added, as the seats of a turn see it.
 use Rattle.std.proofs.Common.{◌≡◌, ℕ, ◌+◌, true, List, [], ◌∷◌, ◌++◌, length, drop, reverse, refl, sym, ap, ap₂, ◌∙◌, subst, append_assoc, append-nil, arith}
-use Rattle.std.specs.Prelude.{max, is_some, ⊤, Result, Ok, Err, IfOk, OnErr}
+use Rattle.std.specs.Prelude.{max, is_some, ⊤, Option, Some, None, Result, Ok, Err, IfOk, OnErr}
 use Rattle.std.specs.Coded.{Coded}
 use Rattle.std.proofs.lemmas.List.{drop_at}
 use Rattle.esm_journal.specs.Pair.{PairState, pair_code}
 use Rattle.esm_model.specs.declared.item.Message.{Message}
 use Rattle.esm_model.specs.declared.book.Job.{Job}
+use Rattle.esm_model.specs.declared.book.Trouble.{Trouble}
 use Rattle.esm_model.specs.declared.entry.Entry.{Entry}
 use Rattle.esm_model.specs.declared.setup.Told.{Told}
 use Rattle.esm_model.specs.declared.setup.Setup.{Setup}
 use Rattle.esm_model.specs.Setup.{no_setup}
 use Rattle.esm_model.specs.Moment.{capped_moment}
 use Rattle.esm_model.specs.Entries.{moment_of, last_moment, last_call, batch_of, is_running, is_shut, calls_begun}
-use Rattle.esm_model.specs.Kept.{meaning, MayFollowAll, IsLegal, AllBy, added}
+use Rattle.esm_model.specs.Kept.{meaning, change_of, MayFollowAll, IsLegal, AllBy, added}
 use Rattle.esm_model.specs.Books.{entries_told, lane_of_entry}
 use Rattle.esm_pooled.specs.GoingOn.{GoesOn, AllAt}
 use Rattle.esm_queue_model.specs.QueueSetting.{QueueSetting, over_messages}
@@ -66,16 +67,17 @@ may_back may g (t ∷ h) more all = subst (λ (l : List Told). MayFollowAll may 
 
 -- what a call added
 
--- these entries of the seat, at the moment that was handed in, over this list of all messages; and a book that was down still
--- is
+-- these entries of the seat, at the moment that was handed in, over this list of all messages; a book that was down still
+-- is, and only seat 0 tells it a change
 pub record HasGone {D : Type 0} (n t : ℕ) (messages : List Message) (old new : BookState D) (es : List Entry) : Type 0 where
   pub told : told_of new.core ≡ told_of old.core ++ told_entries messages es
   pub opened : new.core.setting ≡ over_messages old.core.setting new.core.setting.messages
   pub found : new.found ≡ old.found
   pub own : AreOf n (moment_for old.core.past t) es
   pub down : is_down old ≡ true → is_down new ≡ true
+  pub unchanged : (n ≡ 0 → ⊥) → change_of new.trouble ≡ change_of old.trouble
 
--- these entries of the batcher, and no messages
+-- these entries of the batcher, and no messages, and it was told no change
 pub record HasAdded {D : Type 0} (k t : ℕ) (old new : BookState D) (es : List Entry) : Type 0 where
   pub past : new.core.past ≡ reverse es ++ old.core.past
   pub told : told_of new.core ≡ told_of old.core ++ told_entries old.core.setting.messages es
@@ -83,12 +85,13 @@ pub record HasAdded {D : Type 0} (k t : ℕ) (old new : BookState D) (es : List 
   pub found : new.found ≡ old.found
   pub own : AreOwn k (moment_for old.core.past t) es
   pub down : is_down old ≡ true → is_down new ≡ true
+  pub change : change_of new.trouble ≡ change_of old.trouble
 
 pub opened_same : {D : Type 0} (old new : BookState D) → new.core.setting ≡ old.core.setting → new.core.setting ≡ over_messages old.core.setting new.core.setting.messages
 opened_same old new same = same ∙ ap (λ (s : QueueSetting). over_messages old.core.setting s.messages) (sym same)
 
 pub gone : {D : Type 0} (k t : ℕ) (old new : BookState D) (es : List Entry) → HasAdded k t old new es → HasGone (k + 1) t old.core.setting.messages old new es
-gone k t old new es has = record { told = has.told; opened = opened_same old new has.setting; found = has.found; own = has.own; down = has.down }
+gone k t old new es has = record { told = has.told; opened = opened_same old new has.setting; found = has.found; own = has.own; down = has.down; unchanged = λ other. has.change }
 
 -- nothing
 pub has_none : {D : Type 0} (k t : ℕ) (old new : BookState D) → new.core ≡ old.core → new.found ≡ old.found → new.trouble ≡ old.trouble → HasAdded k t old new []
@@ -99,7 +102,16 @@ has_none k t old new core found trouble = record {
   found = found;
   own = tt;
   down = λ is. ap is_some trouble ∙ is;
+  change = ap change_of trouble;
 }
+
+no_trouble : (x : Option Trouble) → (is_some x ≡ true → ⊥) → x ≡ None
+no_trouble None up = refl
+no_trouble (Some trouble) up = absurd (up refl)
+
+-- a book that was not down was told no change, and is told none by a fault of a disk
+pub still_none : {D : Type 0} (old new : BookState D) → change_of new.trouble ≡ None → (is_down old ≡ true → ⊥) → change_of new.trouble ≡ change_of old.trouble
+still_none old new none up = none ∙ sym (ap change_of (no_trouble old.trouble up))
 
 -- entries that tell no messages leave the setting
 pub setting_kept : {D : Type 0} (messages : List Message) (old new : BookState D) (es : List Entry) → Added messages old new es → messages_told (told_entries messages es) ≡ [] → IsSound old → IsSound new → new.core.setting ≡ old.core.setting
@@ -136,7 +148,7 @@ module _ {D : Type 0} (code : Coded D) (n t : ℕ) (messages : List Message) (ol
   added_is : HasGone n t messages old new es → added (told_of old.core) (told_of new.core) ≡ told_entries messages es
   added_is has = ap (drop (length (told_of old.core))) has.told ∙ drop_at (told_of old.core) (told_entries messages es) (length (told_of old.core)) refl
 
-  pub goes_on : HasGone n t messages old new es → IsLegalTold new → GoesOn (meaning (setup_of code) (λ (b : BookState D). told_of b.core) is_down queue_author queue_may_follow) n old new
+  pub goes_on : HasGone n t messages old new es → IsLegalTold new → GoesOn (meaning (setup_of code) (λ (b : BookState D). told_of b.core) is_down (λ (b : BookState D). change_of b.trouble) queue_author queue_may_follow) n old new
   goes_on has legal =
       let more : List Told = told_entries messages es in
       let whole : IsLegal (queue_may_follow (setup_of code old)) (told_of old.core ++ more) = subst (IsLegal (queue_may_follow (setup_of code old))) has.told (legal (setup_of code old) (is_setup has)) in
@@ -146,6 +158,7 @@ module _ {D : Type 0} (code : Coded D) (n t : ℕ) (messages : List Message) (ol
         legal = subst (MayFollowAll (queue_may_follow (setup_of code old)) (told_of old.core)) (sym (added_is has)) (may_back (queue_may_follow (setup_of code old)) [] (told_of old.core) more whole);
         own = subst (AllBy (queue_author (setup_of code old)) n (told_of old.core)) (sym (added_is has)) (all_by (setup_of code old) messages (told_of old.core) es n (moment_for old.core.past t) has.own);
         marked = has.down;
+        unchanged = has.unchanged;
       }
 
   pub moments : HasGone n t messages old new es → AllAt t (told_of old.core) (added (told_of old.core) (told_of new.core))

@@ -15,8 +15,10 @@ use Rattle.esm_model.specs.declared.book.Trouble.TheVariants as trouble
 use Rattle.esm_model.specs.declared.entry.Fate.TheVariants.{Filtered}
 use Rattle.esm_model.specs.declared.entry.Entry.{Entry}
 use Rattle.esm_model.specs.declared.entry.Entry.TheVariants.{Shut}
+use Rattle.esm_model.specs.Kept.{change_of}
 use Rattle.esm_model.specs.Entries.{is_shut, is_shut_entry}
 use Rattle.esm_model.specs.ValidMessage.{IsValidMessage}
+use Rattle.esm_pooled.specs.GoingOn.{change_told}
 use Rattle.esm_queue_model.specs.QueueSetting.{QueueSetting}
 use Rattle.esm_queue_model.specs.QueueBooks.{messages_told}
 use Rattle.esm_queue_core.specs.CoreView.{CoreView, moment_for}
@@ -26,7 +28,7 @@ use Rattle.esm_queue_core.proofs.ToldMessages.{told-append, messages-append}
 use Rattle.esm_qbook.specs.Books.{BookState, is_down}
 use Rattle.esm_qbook.specs.Calls.{Added, AddedAll, AddedSome, AddedOne, IsSame}
 use Rattle.esm_qbook.specs.Keeping.{IsSound}
-use Rattle.esm_qbook.proofs.Pooling.{AreOf, HasGone, opened_same}
+use Rattle.esm_qbook.proofs.Pooling.{AreOf, HasGone, opened_same, still_none}
 
 -- a list may come
 pub may_come : {D : Type 0} (b : BookState D) (list : List Message) (items : ℕ) → IsSound b → is_shut b.core.past ≡ false → length list ≤ items → items ≤ 10000 → All (IsValidMessage b.core.setting.config.kind) list
@@ -111,27 +113,30 @@ pub record HasCome {D : Type 0} (t : ℕ) (list : List Message) (old new : BookS
   pub some : (rest : List Message) × (messages_told (told_of old.core) ++ list ≡ messages_told (told_of new.core) ++ rest)
   pub down : IfErr r (λ (e : CameError). (e ≡ refusal.OutOfMemory) ⊎ (is_down new ≡ true))
   pub changed : (change : Change) → IsErrOf r (refusal.StreamChanged change) → IsFirstChange old.core list change
+  pub tells : change_of new.trouble ≡ change_told (change_of old.trouble) r
 
 -- nothing is added
-gone_none : {D : Type 0} (n t : ℕ) (messages : List Message) (old new : BookState D) → new.core ≡ old.core → new.found ≡ old.found → (is_down old ≡ true → is_down new ≡ true) → HasGone n t messages old new []
-gone_none n t messages old new core found down = record {
+gone_none : {D : Type 0} (t : ℕ) (messages : List Message) (old new : BookState D) → new.core ≡ old.core → new.found ≡ old.found → (is_down old ≡ true → is_down new ≡ true) → HasGone 0 t messages old new []
+gone_none t messages old new core found down = record {
   told = ap told_of core ∙ sym (append-nil (told_of old.core));
   opened = opened_same old new (ap (λ (v : CoreView). v.setting) core);
   found = found;
   own = tt;
   down = down;
+  unchanged = λ other. absurd (other refl);
 }
 
 pub none_come : {D : Type 0} (t : ℕ) (list : List Message) (old new : BookState D) (e : CameError) → new.core ≡ old.core → new.found ≡ old.found → (is_down old ≡ true → is_down new ≡ true) → is_shut old.core.past ≡ false
-    → (e ≡ refusal.OutOfMemory) ⊎ (is_down new ≡ true) → ((change : Change) → e ≡ refusal.StreamChanged change → IsFirstChange old.core list change) → HasCome t list old new (Err e)
-none_come t list old new e core found stays going cause changed = record {
+    → (e ≡ refusal.OutOfMemory) ⊎ (is_down new ≡ true) → ((change : Change) → e ≡ refusal.StreamChanged change → IsFirstChange old.core list change) → change_of new.trouble ≡ change_told (change_of old.trouble) (Err e) → HasCome t list old new (Err e)
+none_come t list old new e core found stays going cause changed tells = record {
   es = [];
-  gone = gone_none 0 t (old.core.setting.messages ++ list) old new core found stays;
+  gone = gone_none t (old.core.setting.messages ++ list) old new core found stays;
   going = ap (λ (v : CoreView). is_shut v.past) core ∙ going;
   came = tt;
   some = (list, ap (λ (v : CoreView). messages_told (told_of v) ++ list) (sym core));
   down = cause;
   changed = λ change is. changed change (cc);
+  tells = tells;
 }
 
 module _ {D : Type 0} (d : DiskMeaning D) (t : ℕ) (list : List Message) (old new : BookState D) where
@@ -170,6 +175,7 @@ module _ {D : Type 0} (d : DiskMeaning D) (t : ℕ) (list : List Message) (old n
     found = added.found;
     own = own_front 0 now front rest (subst (AreOf 0 now) (sym split) (own_came old.core.setting (length old.core.setting.messages) list now));
     down = stays;
+    unchanged = λ other. absurd (other refl);
   }
 
   front_open : (front rest : List Entry) → front ++ rest ≡ came_entries old.core list t → Added all old new front → is_shut old.core.past ≡ false → is_shut new.core.past ≡ false
@@ -189,10 +195,12 @@ come {D} d t list old new (Ok x) did going =
       some = ([], sym told ∙ sym (append-nil (messages_told (told_of new.core))));
       down = tt;
       changed = λ change is. absurd (cc);
+      tells = still_none old new (ap change_of added.trouble) up;
     }
 come {D} d t list old new (Err refusal.DiskFault) did going =
     let some : AddedSome d (old.core.setting.messages ++ list) old new (came_entries old.core list t) = did.stopped refl in
     let down : is_down new ≡ true = ap is_some some.trouble in
+    let up : is_down old ≡ true → ⊥ = λ is. (let never = did.down.1 is in absurd (cc)) in
     record {
       es = some.front;
       gone = front_gone d t list old new some.front some.rest some.split some.added (λ is. down);
@@ -201,20 +209,21 @@ come {D} d t list old new (Err refusal.DiskFault) did going =
       some = some_told d t list old new some.front some.rest some.split some.added;
       down = inr down;
       changed = λ change is. absurd (cc);
+      tells = still_none old new (ap change_of some.trouble) up;
     }
 come {D} d t list old new (Err (refusal.StreamChanged change)) did going =
     let found = did.changed change refl in
     let is : new ≡ record old { trouble = Some (trouble.Changed change) } = found.2 in
     let down : is_down new ≡ true = ap (λ (b : BookState D). is_down b) is in
     none_come t list old new (refusal.StreamChanged change) (ap (λ (b : BookState D). b.core) is) (ap (λ (b : BookState D). b.found) is) (λ was. down) going (inr down)
-    (λ other same. subst (λ (x : Change). IsFirstChange old.core list x) (cc) found.1)
+    (λ other same. subst (λ (x : Change). IsFirstChange old.core list x) (cc) found.1) (ap (λ (b : BookState D). change_of b.trouble) is)
 come {D} d t list old new (Err refusal.Down) did going =
     let is : new ≡ old = did.left refl in
     let down : is_down new ≡ true = ap (λ (b : BookState D). is_down b) is ∙ did.down.0 refl in
-    none_come t list old new refusal.Down (ap (λ (b : BookState D). b.core) is) (ap (λ (b : BookState D). b.found) is) (λ was. down) going (inr down) (λ change same. absurd (cc))
+    none_come t list old new refusal.Down (ap (λ (b : BookState D). b.core) is) (ap (λ (b : BookState D). b.found) is) (λ was. down) going (inr down) (λ change same. absurd (cc)) (ap (λ (b : BookState D). change_of b.trouble) is)
 come {D} d t list old new (Err refusal.OutOfMemory) did going =
     let is : IsSame old new = did.no_memory refl in
-    none_come t list old new refusal.OutOfMemory (ap (λ (b : BookState D). b.core) is) (ap (λ (b : BookState D). b.found) is) (λ was. ap (λ (b : BookState D). is_down b) is ∙ was) going (inl refl) (λ change same. absurd (cc))
+    none_come t list old new refusal.OutOfMemory (ap (λ (b : BookState D). b.core) is) (ap (λ (b : BookState D). b.found) is) (λ was. ap (λ (b : BookState D). is_down b) is ∙ was) going (inl refl) (λ change same. absurd (cc)) (ap (λ (b : BookState D). change_of b.trouble) is)
 
 -- the end of the input
 
@@ -230,6 +239,7 @@ pub record HasShut {D : Type 0} (t : ℕ) (old new : BookState D) : Type 0 where
   pub gone : HasGone 0 t old.core.setting.messages old new es
   pub same : messages_told (told_of new.core) ≡ messages_told (told_of old.core)
   pub shut : is_down new ≡ false → is_shut new.core.past ≡ true
+  pub change : change_of new.trouble ≡ change_of old.trouble
 
 pub has_shut : {D : Type 0} (t : ℕ) (old new : BookState D) (r : Result (Unit {0}) BookError) → ShutDid t old new r → HasShut t old new
 has_shut {D} t old new (Ok x) did =
@@ -243,16 +253,19 @@ has_shut {D} t old new (Ok x) did =
         found = ap (λ (b : BookState D). b.found) one.rest;
         own = (refl, refl, tt);
         down = λ is. ap (λ (b : BookState D). is_down b) one.rest ∙ is;
+        unchanged = λ other. absurd (other refl);
       };
       same = told_more old.core.setting.messages old new es one.told ∙ append-nil (messages_told (told_of old.core));
       shut = λ up. ap is_shut one.past;
+      change = ap (λ (b : BookState D). change_of b.trouble) one.rest;
     }
 has_shut {D} t old new (Err e) did =
     let is : new ≡ old = did.left in
     let down : is_down new ≡ true = ap (λ (b : BookState D). is_down b) is ∙ did.down.0 (ap (λ (x : BookError). Err x) did.only_down) in
     record {
       es = [];
-      gone = gone_none 0 t old.core.setting.messages old new (ap (λ (b : BookState D). b.core) is) (ap (λ (b : BookState D). b.found) is) (λ was. down);
+      gone = gone_none t old.core.setting.messages old new (ap (λ (b : BookState D). b.core) is) (ap (λ (b : BookState D). b.found) is) (λ was. down);
       same = ap (λ (b : BookState D). messages_told (told_of b.core)) is;
       shut = λ up. absurd (both_ways (is_down new) up down);
+      change = ap (λ (b : BookState D). change_of b.trouble) is;
     }

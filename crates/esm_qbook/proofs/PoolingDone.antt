@@ -12,6 +12,7 @@ use Rattle.esm_model.specs.declared.entry.Fate.TheVariants.{Succeeded}
 use Rattle.esm_model.specs.declared.entry.Reply.{Reply}
 use Rattle.esm_model.specs.declared.entry.Entry.{Entry}
 use Rattle.esm_model.specs.declared.entry.Entry.TheVariants.{Ended, Gave}
+use Rattle.esm_model.specs.Kept.{change_of}
 use Rattle.esm_model.specs.Entries.{is_running, last_call, batch_of}
 use Rattle.esm_model.proofs.Steps.{same_lane-refl}
 use Rattle.esm_queue_model.specs.QueueSetting.{QueueSetting}
@@ -24,7 +25,7 @@ use Rattle.esm_queue_core.specs.Told.{told_of}
 use Rattle.esm_qbook.specs.Books.{BookState, payloads_in, is_down}
 use Rattle.esm_qbook.specs.Calls.{Added, AddedAll, AddedSome, AddedOne, IsSame}
 use Rattle.esm_qbook.specs.Keeping.{IsSound}
-use Rattle.esm_qbook.proofs.Pooling.{AreOwn, HasAdded, has_none, setting_kept, RunsAt}
+use Rattle.esm_qbook.proofs.Pooling.{AreOwn, HasAdded, has_none, still_none, setting_kept, RunsAt}
 use Rattle.esm_qbook.proofs.PoolingNext.{has_some, none_before}
 
 pub is_running_job : (s : QueueSetting) (h : List Entry) (k : ℕ) (job : Job) → RunsAt s h k job → IsRunningJob h job
@@ -135,7 +136,7 @@ ended {D} d k t job reply old new (Ok count) did runs before after =
     let up : is_down old ≡ true → ⊥ = λ is. (let never : Ok count ≡ Err why.Down = did.down.1 is in absurd (cc)) in
     noted_end k t job reply old new (Ok count) (ended_entries old.core.setting old.core.past job.lane reply m) runs
     (all_end job.lane reply m (ended_places old.core.setting old.core.past job.lane reply m))
-    (λ own. record { past = all.added.past; told = all.added.told; setting = all.setting; found = all.added.found; own = own; down = λ is. absurd (up is) })
+    (λ own. record { past = all.added.past; told = all.added.told; setting = all.setting; found = all.added.found; own = own; down = λ is. absurd (up is); change = still_none old new (ap change_of all.trouble) up })
     (λ is. absurd (cc)) tt
 ended {D} d k t job reply old new (Err why.DiskFault) did runs before after =
     let m : ℕ = moment_for old.core.past t in
@@ -144,8 +145,9 @@ ended {D} d k t job reply old new (Err why.DiskFault) did runs before after =
     let alone : some.front ≡ Ended job.lane reply m ∷ [] = end_alone messages job.lane reply m (ended_places old.core.setting old.core.past job.lane reply m) some.front some.rest some.split some.left some.writing in
     let all : Added messages old new (Ended job.lane reply m ∷ []) = subst (λ (es : List Entry). Added messages old new es) alone some.added in
     let down : is_down new ≡ true = ap is_some some.trouble in
+    let up : is_down old ≡ true → ⊥ = λ is. (let never = did.down.1 is in absurd (cc)) in
     noted_end k t job reply old new (Err why.DiskFault) (Ended job.lane reply m ∷ []) runs (inl refl)
-    (has_some k t old new (Ended job.lane reply m ∷ []) all (setting_kept messages old new (Ended job.lane reply m ∷ []) all refl before after) down)
+    (has_some k t old new (Ended job.lane reply m ∷ []) all (setting_kept messages old new (Ended job.lane reply m ∷ []) all refl before after) down (still_none old new (ap change_of some.trouble) up))
     (λ is. absurd (cc)) (inr down)
 ended {D} d k t job reply old new (Err why.DestFault) did runs before after = absurd (did.no_dest refl)
 ended {D} d k t job reply old new (Err why.Down) did runs before after =
@@ -153,7 +155,7 @@ ended {D} d k t job reply old new (Err why.Down) did runs before after =
     let one : AddedOne old new (Ended job.lane reply m) = did.noted refl in
     let same : is_down new ≡ is_down old = ap is_down one.rest in
     noted_end k t job reply old new (Err why.Down) (Ended job.lane reply m ∷ []) runs (inl refl)
-    (λ own. record { past = one.past; told = one.told; setting = one.setting; found = ap (λ (b : BookState D). b.found) one.rest; own = own; down = λ is. same ∙ is })
+    (λ own. record { past = one.past; told = one.told; setting = one.setting; found = ap (λ (b : BookState D). b.found) one.rest; own = own; down = λ is. same ∙ is; change = ap (λ (b : BookState D). change_of b.trouble) one.rest })
     (λ is. absurd (cc)) (inr (same ∙ did.down.0 refl))
 ended {D} d k t job reply old new (Err why.OutOfMemory) did runs before after =
     let same : IsSame old new = did.no_memory refl in

@@ -12,6 +12,7 @@ use Rattle.esm_model.specs.declared.book.Next.TheVariants as next
 use Rattle.esm_model.specs.declared.entry.Entry.{Entry}
 use Rattle.esm_model.specs.declared.entry.Entry.TheVariants.{Began}
 use Rattle.esm_model.specs.Moment.{moment_after}
+use Rattle.esm_model.specs.Kept.{change_of}
 use Rattle.esm_model.specs.Entries.{last_call, batch_of, is_running, is_shut, calls_begun}
 use Rattle.esm_model.proofs.Steps.{same_lane-refl}
 use Rattle.esm_pooled.specs.Batching.{Answers}
@@ -26,7 +27,7 @@ use Rattle.esm_queue_core.specs.Next.{job_of, is_all_deleted, pause_end, next_ba
 use Rattle.esm_qbook.specs.Books.{BookState, setup_of, is_down}
 use Rattle.esm_qbook.specs.Calls.{Added, AddedAll, AddedSome, RunsCall, IsSame}
 use Rattle.esm_qbook.specs.Keeping.{IsSound}
-use Rattle.esm_qbook.proofs.Pooling.{AreOwn, HasAdded, has_none, setting_kept, RunsAt, running_at, runs_told}
+use Rattle.esm_qbook.proofs.Pooling.{AreOwn, HasAdded, has_none, still_none, setting_kept, RunsAt, running_at, runs_told}
 use Rattle.esm_qbook.proofs.Over.{FinishedAt, finished_is, spent_is}
 
 -- the event of a call that is answered
@@ -91,6 +92,7 @@ module _ {D : Type 0} (d : DiskMeaning D) (k t : ℕ) (old new : BookState D) wh
     found = all.added.found;
     own = own;
     down = λ is. absurd (up is);
+    change = still_none old new (ap change_of all.trouble) up;
   }
 
   runs_at : (job : Job) → new.core.past ≡ Began job.lane job.places job.closing now ∷ old.core.past → job.event ≡ queue_event old.core.setting (queue_of old.core.setting old.core.past) now job.places → RunsCall k new.core.past (next.Call job) → RunsAt old.core.setting new.core.past k job
@@ -163,14 +165,15 @@ none_before (e ∷ front) rest es few split some =
     absurd (omega (arith, long, some, length-append front rest))
 
 -- entries of which a part was added before a disk failed
-pub has_some : {D : Type 0} (k t : ℕ) (old new : BookState D) (front : List Entry) → Added old.core.setting.messages old new front → new.core.setting ≡ old.core.setting → is_down new ≡ true → AreOwn k (moment_for old.core.past t) front → HasAdded k t old new front
-has_some k t old new front all setting down own = record {
+pub has_some : {D : Type 0} (k t : ℕ) (old new : BookState D) (front : List Entry) → Added old.core.setting.messages old new front → new.core.setting ≡ old.core.setting → is_down new ≡ true → change_of new.trouble ≡ change_of old.trouble → AreOwn k (moment_for old.core.past t) front → HasAdded k t old new front
+has_some k t old new front all setting down change own = record {
   past = all.past;
   told = all.told;
   setting = setting;
   found = all.found;
   own = own;
   down = λ is. down;
+  change = change;
 }
 
 pub asked : {D : Type 0} (d : DiskMeaning D) (k t : ℕ) (old new : BookState D) (r : Result Next BookError) → NextDid d k t old new r → is_running old.core.past (queue_lane k) ≡ false → IsSound old → IsSound new → HasAsked k t old new r
@@ -186,7 +189,8 @@ asked {D} d k t old new (Err why.DiskFault) did rest before after =
     let none : some.front ≡ [] = none_before some.front some.rest (next_entries (next_for old.core.setting old.core.past k m) m) (one_entry (next_for old.core.setting old.core.past k m) m) some.split some.left in
     let all : Added old.core.setting.messages old new [] = subst (λ (es : List Entry). Added old.core.setting.messages old new es) none some.added in
     let down : is_down new ≡ true = ap is_some some.trouble in
-    refused d k t old new why.DiskFault (has_some k t old new [] all (setting_kept old.core.setting.messages old new [] all refl before after) down tt) rest (inr down)
+    let up : is_down old ≡ true → ⊥ = λ is. (let never = did.down.1 is in absurd (cc)) in
+    refused d k t old new why.DiskFault (has_some k t old new [] all (setting_kept old.core.setting.messages old new [] all refl before after) down (still_none old new (ap change_of some.trouble) up) tt) rest (inr down)
 asked {D} d k t old new (Err why.DestFault) did rest before after = absurd (did.no_dest refl)
 asked {D} d k t old new (Err why.Down) did rest before after =
     let same : new ≡ old = did.left refl in

@@ -15,10 +15,15 @@ use Rattle.esm_io.specs.declared.dest.Dest as Dest
 use Rattle.esm_io.specs.declared.disk.Disk as Disk
 use Rattle.esm_journal.proofs.pair.Pair.TheSendSync as pair
 use Rattle.esm_model.proofs.config.Config.TheSendSync as config
-use Rattle.esm_model.proofs.entry.Entry.TheSendSync as entry
+use Rattle.esm_model.proofs.entry.WindowState.TheSendSync as state
 use Rattle.esm_model.proofs.item.Message.TheSendSync as message
+use Rattle.esm_model.proofs.lane.LaneId.TheSendSync as lane
+use Rattle.esm_model.proofs.text.Places.TheSendSync as places
+use Rattle.esm_model.proofs.text.Text.TheSendSync as text
 use Rattle.esm_model.specs.contracts.config.Config as Config
 use Rattle.esm_model.specs.contracts.entry.Entry as Entry
+use Rattle.esm_model.specs.contracts.entry.PastReply as PastReply
+use Rattle.esm_model.specs.contracts.entry.PastReply.TheInside as PastInside
 use Rattle.esm_model.specs.contracts.item.Message as Message
 use Rattle.esm_said.proofs.lookup.Says.TheSendSync as says
 use Rattle.esm_said.specs.contracts.lookup.Says as Says
@@ -66,6 +71,15 @@ listed T s = as_row_send (Vec.the_field T Global.the_row ghosts) (Vec-send T s)
 maybe : (T : RattleType) → IsSend T → IsSend (as_row (Option.the_field T))
 maybe T s = as_row_send (Option.the_field T) (option.the_field_send T s)
 
+past_fields : IsSend PastInside.the_row
+past_fields = search (sendable, crosses) depth 40
+
+past : IsSend PastReply.the_row
+past = view_send PastInside.the_row _ _ _ _ past_fields
+
+entry : IsSend Entry.the_row
+entry = search (past, state.the_send, lane.the_send, places.the_send, text.the_send, sendable, crosses) depth 60
+
 criteria : IsSend (as_row Criteria.the_field)
 criteria = search (rule.crosses, test.the_send, String-send, sendable, crosses) depth 40
 
@@ -83,7 +97,7 @@ core_fields = declared_send CoreInside.the_type (
           (
             as_row_send Queue.the_field queue.the_send,
             (
-              listed Entry.the_row entry.the_send,
+              listed Entry.the_row entry,
               (
                 u64s,
                 (

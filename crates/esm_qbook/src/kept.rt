@@ -5,6 +5,7 @@ use esm_io::Disk;
 use esm_model::Kept;
 
 impl<D: Disk> Kept for QueueBook<D> {
+    ghost use Rattle.esm_model.specs.Kept.{change_of};
     ghost use Rattle.esm_queue_model.specs.QueueBooks.{queue_author, queue_may_follow};
     ghost use Rattle.esm_queue_core.specs.Told.{told_of};
     ghost use Rattle.esm_qbook.specs.Books.{setup_of, is_down};
@@ -14,6 +15,8 @@ impl<D: Disk> Kept for QueueBook<D> {
     ghost history = { λ b. told_of b.core };
 
     ghost mark = { λ b. is_down b };
+
+    ghost change = { λ b. change_of b.trouble };
 
     ghost author = { queue_author };
 

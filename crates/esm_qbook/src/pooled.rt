@@ -112,6 +112,10 @@ impl<D: Disk> Pooled for QueueBook<D> {
         answer
     }
 
+    fn is_spent(&self) -> bool {
+        QueueBook::is_spent(self)
+    }
+
     fn is_over(&self, _batchers: u32) -> Option<bool> {
         know(self);
         Some(QueueBook::is_over(self))

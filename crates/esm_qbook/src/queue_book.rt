@@ -1,5 +1,5 @@
 // The book of a queue's mapping: messages that come, calls of batchers, and deletions kept in a journal.
-ghost use Rattle.std.specs.Prelude.{◌≡◌, ◌↔◌, ℕ, List, [], ◌++◌, None, Some, true, false, is_ok, length, reverse, IfOk, IfErr, OnOk, OnErr, IsErrOf, IsSome};
+ghost use Rattle.std.specs.Prelude.{◌≡◌, ◌==◌, ◌↔◌, ℕ, List, [], ◌++◌, None, Some, true, false, is_ok, length, reverse, IfOk, IfErr, OnOk, OnErr, IsErrOf, IsSome};
 ghost use Rattle.std.specs.Option.{option_copied};
 ghost use Rattle.esm_io.specs.Faults.{Rose};
 ghost use Rattle.esm_io.specs.Images.{Only};
@@ -9,7 +9,7 @@ ghost use Rattle.esm_journal.specs.Reads.{IsOnlyRead};
 ghost use Rattle.esm_model.specs.declared.book.Change.{Change};
 ghost use Rattle.esm_model.specs.declared.book.Trouble.TheVariants as trouble;
 ghost use Rattle.esm_model.specs.declared.entry.Entry.TheVariants as entry;
-ghost use Rattle.esm_model.specs.Entries.{is_shut, is_running};
+ghost use Rattle.esm_model.specs.Entries.{is_shut, is_running, calls_begun};
 ghost use Rattle.esm_model.specs.Kept.{IsLegal};
 ghost use Rattle.esm_model.specs.Pattern.{read_patterns};
 ghost use Rattle.esm_model.specs.QueueEvent.{IsQueueConfig};
@@ -237,6 +237,13 @@ impl<D: Disk> QueueBook<D> {
         ensures { result ≡ is_shut self.now.core.past }
     {
         self.durable.core().is_shut()
+    }
+
+    /// Whether all calls allowed were made, also of a book that is down. Takes no memory.
+    pub fn is_spent(&self) -> bool
+        ensures { result ≡ (calls_begun self.now.core.past == self.now.core.setting.calls) }
+    {
+        self.durable.core().is_spent()
     }
 
     /// Whether every message that came is deleted. Takes no memory.

@@ -8,6 +8,7 @@ ghost use Rattle.esm_queue_model.specs.Queue.{eligible};
 ghost use Rattle.esm_queue_model.specs.QueueSetting.{QueueSetting};
 ghost use Rattle.esm_queue_model.specs.QueueEntries.{queue_lane};
 ghost use Rattle.esm_queue_core.specs.Next.{next_for, lesser_of, IsToldBy, IsValidStored, deleted_number};
+ghost use Rattle.esm_queue_core.specs.Kept.{IsBegunBy};
 ghost use Rattle.esm_queue_core.specs.Ready.{IsReadyFor};
 ghost use Rattle.esm_queue_core.specs.Choosing.{received, fits_in, batch_in, window_of, ready_test, rest_of, pause_with, next_in};
 
@@ -188,6 +189,24 @@ fn lesser(one: Option<u64>, other: Option<u64>) -> Option<u64>
         (None, other) => other,
         (Some(one), None) => Some(one),
         (Some(one), Some(other)) => Some(one.min(other)),
+    }
+}
+
+/// The call that begins by the answer, where one does.
+pub(crate) fn began_by(
+    alloc: Global,
+    next: &Next,
+    moment: u64,
+) -> Result<Option<First>, OutOfMemory>
+    ensures { IfOk result (λ first. IsBegunBy next.now moment first) }
+{
+    match next {
+        Next::Call(job) => Ok(Some(First::Began {
+            lane: job.lane,
+            places: job.places.copy(alloc)?,
+            moment,
+        })),
+        Next::Gave(_) | Next::Idle { .. } | Next::Spent | Next::Finished => Ok(None),
     }
 }
 

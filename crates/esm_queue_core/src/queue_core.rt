@@ -1,5 +1,5 @@
 // The core of a queue's book: its history, the calls and deletions that it decides on, and the entries it owes.
-ghost use Rattle.std.specs.Prelude.{◌≡◌, ℕ, ◌+◌, ◌<◌, ◌≤◌, ◌^◌, ◌∷◌, [], min, max, IfOk, IfErr, IfSome, IfNone, OnOk, OnErr, All, length, take, reverse, false, true};
+ghost use Rattle.std.specs.Prelude.{◌≡◌, ℕ, ◌+◌, ◌<◌, ◌≤◌, ◌==◌, ◌^◌, ◌∷◌, [], min, max, IfOk, IfErr, IfSome, IfNone, OnOk, OnErr, All, length, take, reverse, false, true};
 ghost use Rattle.std.specs.Vec.{vec_capacity};
 ghost use Rattle.esm_model.specs.declared.limits.TheConstants.{MAX_BATCH, MAX_PAYLOAD};
 ghost use Rattle.esm_model.specs.declared.moment.TheConstants.{MAX_MOMENT};
@@ -7,7 +7,7 @@ ghost use Rattle.esm_model.specs.QueueEvent.{IsQueueConfig};
 ghost use Rattle.esm_model.specs.Valid.{is_stream};
 ghost use Rattle.esm_model.specs.ValidMessage.{IsValidMessage};
 ghost use Rattle.esm_model.specs.declared.entry.Entry.{Entry};
-ghost use Rattle.esm_model.specs.Entries.{is_shut, is_running, last_moment};
+ghost use Rattle.esm_model.specs.Entries.{is_shut, is_running, calls_begun, last_moment};
 ghost use Rattle.esm_filter.specs.Criteria.{JudgesMessages};
 ghost use Rattle.esm_book.specs.Decided.{written_of, lengths_of, IsRefused};
 ghost use Rattle.esm_payload.specs.EntryPayload.{queue_payload};
@@ -21,19 +21,19 @@ ghost use Rattle.esm_queue_core.specs.Coming.{came_entries, IsFirstChange};
 ghost use Rattle.esm_queue_core.specs.Ending.{ended_places, ended_entries};
 ghost use Rattle.esm_queue_core.specs.Next.{is_all_deleted, next_for, next_entries};
 ghost use Rattle.esm_queue_core.specs.Told.{told_of};
-ghost use Rattle.esm_queue_core.specs.Kept.{IsBegunBy};
 
 use crate::coming::{change_at, first_changed, refused};
 use crate::ending::succeeded;
 use crate::gift::{gift_of, ids_at};
-use crate::next::{Counts, decide_next, prepare_for};
+use crate::next::{Counts, began_by, decide_next, prepare_for};
 use crate::owed::{First, Gift};
 use crate::paying::{bring, delete_all};
 use crate::standing::Standing;
 use esm_book::Refusal;
 use esm_filter::Criteria;
 use esm_model::{
-    Config, Entry, Fate, Job, Kind, MAX_ENTRIES, MAX_MOMENT, Message, Next, OutOfMemory, Reply,
+    Config, Entry, Fate, Job, Kind, MAX_ENTRIES, MAX_MOMENT, Message, Next, OutOfMemory, PastReply,
+    Reply,
 };
 use esm_queue::Queue;
 use esm_said::Says;
@@ -127,20 +127,6 @@ fn may_decide(standing: Standing, entries: usize, running: usize) -> bool
         Standing::Whole => {
             entries <= MAX_ENTRIES && running <= MAX_ENTRIES && entries + running + 3 <= MAX_ENTRIES
         }
-    }
-}
-
-/// The call that begins by the answer, where one does.
-fn began_by(alloc: Global, next: &Next, moment: u64) -> Result<Option<First>, OutOfMemory>
-    ensures { IfOk result (λ first. IsBegunBy next.now moment first) }
-{
-    match next {
-        Next::Call(job) => Ok(Some(First::Began {
-            lane: job.lane,
-            places: job.places.copy(alloc)?,
-            moment,
-        })),
-        Next::Gave(_) | Next::Idle { .. } | Next::Spent | Next::Finished => Ok(None),
     }
 }
 
@@ -365,7 +351,7 @@ impl QueueCore {
             ) => {
                 self.history.push_reserved(Entry::Ended {
                     lane,
-                    reply,
+                    reply: PastReply::of(&reply),
                     moment,
                 });
                 self.last = moment;
@@ -399,7 +385,7 @@ impl QueueCore {
         let now = raised_to(self.last, moment);
         self.history.push_reserved(Entry::Ended {
             lane: job.lane,
-            reply,
+            reply: PastReply::of(&reply),
             moment: now,
         });
         self.last = now;
@@ -423,6 +409,13 @@ impl QueueCore {
         ensures { result ≡ is_shut self.now.past }
     {
         self.shut
+    }
+
+    /// Whether all calls allowed were made, whatever waits. Takes no memory.
+    pub fn is_spent(&self) -> bool
+        ensures { result ≡ (calls_begun self.now.past == self.now.setting.calls) }
+    {
+        self.begun == self.calls as u64
     }
 
     /// Whether every message that came is deleted, by a history that is legal. Takes no memory.

@@ -150,7 +150,7 @@ spent_more laws setup h t kept spent =
 -- all that follow
 
 pub finished_last : (s : Setup) (h es : List Told) (k : ℕ) → OthersFollow queue_author queue_may_follow s (k + 1) h es → QueueFinished s h k → QueueFinished s (h ++ es) k
-finished_last s h es k follow over = lasts (λ (g : List Told). QueueFinished s g k) s k (λ g t kept ne is. finished_more s k g t kept is) h es follow over
+finished_last s h es k follow over = lasts (λ (g : List Told). QueueFinished s g k) s (k + 1) (λ g t kept ne is. finished_more s k g t kept is) h es follow over
 
-pub spent_last : AreLaws → (s : Setup) (h es : List Told) (k : ℕ) → OthersFollow queue_author queue_may_follow s (k + 1) h es → QueueSpent s h → QueueSpent s (h ++ es)
-spent_last laws s h es k follow spent = lasts (λ (g : List Told). QueueSpent s g) s k (λ g t kept ne is. spent_more laws s g t kept is) h es follow spent
+pub spent_last : AreLaws → (s : Setup) (h es : List Told) (n : ℕ) → OthersFollow queue_author queue_may_follow s n h es → QueueSpent s h → QueueSpent s (h ++ es)
+spent_last laws s h es n follow spent = lasts (λ (g : List Told). QueueSpent s g) s n (λ g t kept ne is. spent_more laws s g t kept is) h es follow spent

@@ -142,26 +142,26 @@ event_more laws setup k h t kept ne running =
 -- all that follow
 
 -- what one more entry of another seat keeps, all of them keep
-pub lasts : (P : List Told → Type 0) (setup : Setup) (k : ℕ) → ((h : List Told) (t : Told) → IsLegal (queue_may_follow setup) (h ++ t ∷ []) → IsOther k t.entry → P h → P (h ++ t ∷ [])) → (h es : List Told) → OthersFollow queue_author queue_may_follow setup (k + 1) h es → P h → P (h ++ es)
-lasts P setup k step h [] follow p = subst P (sym (append-nil h)) p
-lasts P setup k step h (t ∷ es) follow p =
+pub lasts : (P : List Told → Type 0) (setup : Setup) (n : ℕ) → ((h : List Told) (t : Told) → IsLegal (queue_may_follow setup) (h ++ t ∷ []) → queue_seat (lane_of_entry t.entry) ≢ n → P h → P (h ++ t ∷ [])) → (h es : List Told) → OthersFollow queue_author queue_may_follow setup n h es → P h → P (h ++ es)
+lasts P setup n step h [] follow p = subst P (sym (append-nil h)) p
+lasts P setup n step h (t ∷ es) follow p =
     let regroup : (h ++ t ∷ []) ++ es ≡ h ++ t ∷ es = append_assoc h (t ∷ []) es in
-    let parts = none_of_author (queue_author setup) (k + 1) h t es follow.others in
+    let parts = none_of_author (queue_author setup) n h t es follow.others in
     let legal : IsLegal (queue_may_follow setup) ((h ++ t ∷ []) ++ es) = subst (IsLegal (queue_may_follow setup)) (sym regroup) follow.legal in
     let now : P (h ++ t ∷ []) = step h t (may_front (queue_may_follow setup) [] (h ++ t ∷ []) es legal) parts.0 p in
-    subst P regroup (lasts P setup k step (h ++ t ∷ []) es (record { legal = legal; others = parts.1 }) now)
+    subst P regroup (lasts P setup n step (h ++ t ∷ []) es (record { legal = legal; others = parts.1 }) now)
 
 pub calls_last : AreLaws → (s : Setup) (sends : List ℕ → List ℕ) (h es : List Told) (k : ℕ) → OthersFollow queue_author queue_may_follow s (k + 1) h es → queue_calls_told s sends (h ++ es) k ≡ queue_calls_told s sends h k
 calls_last laws s sends h es k follow =
-    lasts (λ (g : List Told). queue_calls_told s sends g k ≡ queue_calls_told s sends h k) s k
+    lasts (λ (g : List Told). queue_calls_told s sends g k ≡ queue_calls_told s sends h k) s (k + 1)
     (λ g t kept ne is. calls_more laws s sends k g t (may_front (queue_may_follow s) [] g (t ∷ []) kept) ne ∙ is) h es follow refl
 
 pub rests_last : (s : Setup) (h es : List Told) (k : ℕ) → OthersFollow queue_author queue_may_follow s (k + 1) h es → QueueRests s h k → QueueRests s (h ++ es) k
-rests_last s h es k follow rests = lasts (λ (g : List Told). QueueRests s g k) s k (λ g t kept ne is. running_more k g t ne ∙ is) h es follow rests
+rests_last s h es k follow rests = lasts (λ (g : List Told). QueueRests s g k) s (k + 1) (λ g t kept ne is. running_more k g t ne ∙ is) h es follow rests
 
 pub runs_last : AreLaws → (s : Setup) (h es : List Told) (k : ℕ) (job : Job) → OthersFollow queue_author queue_may_follow s (k + 1) h es → RunsQueueJob s h k job → RunsQueueJob s (h ++ es) k job
 runs_last laws s h es k job follow runs =
-    lasts (λ (g : List Told). RunsQueueJob s g k job) s k
+    lasts (λ (g : List Told). RunsQueueJob s g k job) s (k + 1)
     (λ g t kept ne is. record {
       lane = is.lane;
       running = running_more k g t ne ∙ is.running;

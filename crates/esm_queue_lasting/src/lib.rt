@@ -25,14 +25,14 @@ pub fn queue_batchers_begin()
 {}
 
 /// Where entries follow of which none is a batcher's, its calls are as before, with their event texts; it still rests
-/// where it did, still runs the call that it ran, and has still finished where it had; and the calls that were spent still
-/// are.
+/// where it did, still runs the call that it ran, and has still finished where it had. Calls that were spent still are,
+/// whoever's entries follow.
 pub fn queue_batchers_last()
     ensures calls { (s : Setup) (sends : List ℕ → List ℕ) (h es : List Told) (k : ℕ) → OthersFollow queue_author queue_may_follow s (k + 1) h es → queue_calls_told s sends (h ++ es) k ≡ queue_calls_told s sends h k }
     ensures rests { (s : Setup) (h es : List Told) (k : ℕ) → OthersFollow queue_author queue_may_follow s (k + 1) h es → QueueRests s h k → QueueRests s (h ++ es) k }
     ensures runs { (s : Setup) (h es : List Told) (k : ℕ) (job : Job) → OthersFollow queue_author queue_may_follow s (k + 1) h es → RunsQueueJob s h k job → RunsQueueJob s (h ++ es) k job }
     ensures finished { (s : Setup) (h es : List Told) (k : ℕ) → OthersFollow queue_author queue_may_follow s (k + 1) h es → QueueFinished s h k → QueueFinished s (h ++ es) k }
-    ensures spent { (s : Setup) (h es : List Told) (k : ℕ) → OthersFollow queue_author queue_may_follow s (k + 1) h es → QueueSpent s h → QueueSpent s (h ++ es) }
+    ensures spent { (s : Setup) (h es : List Told) (n : ℕ) → OthersFollow queue_author queue_may_follow s n h es → QueueSpent s h → QueueSpent s (h ++ es) }
 {
     kept_queue_is_legal();
     queue_calls_kept_over();

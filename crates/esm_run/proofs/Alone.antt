@@ -11,17 +11,15 @@ use Rattle.esm_mapping.specs.declared.named.MappingError.TheVariants as mapping
 use Rattle.esm_model.specs.Setup.{no_config}
 use Rattle.esm_model.specs.declared.entry.Entry.{Entry}
 use Rattle.esm_model.specs.Setting.{Setting}
-use Rattle.esm_queue_run.specs.declared.run.QueueEnd.{QueueEnd}
-use Rattle.esm_queue_run.specs.declared.run.QueueEnd.TheVariants as queue
 use Rattle.esm_report.specs.declared.ending.Ending.{Ending}
 use Rattle.esm_report.specs.declared.ending.Ending.TheVariants as ending
 use Rattle.esm_report.specs.Report.{last_line, report_text, stands_alone}
-use Rattle.esm_stream.specs.declared.files.FilesError.{FilesError}
-use Rattle.esm_stream.specs.declared.files.FilesError.TheVariants as files
-use Rattle.esm_stream.specs.declared.run.StreamEnd.{StreamEnd}
-use Rattle.esm_stream.specs.declared.run.StreamEnd.TheVariants as run
+use Rattle.esm_runner.specs.declared.files.FilesError.{FilesError}
+use Rattle.esm_runner.specs.declared.files.FilesError.TheVariants as files
+use Rattle.esm_runner.specs.declared.run.MappingEnd.{MappingEnd}
+use Rattle.esm_runner.specs.declared.run.MappingEnd.TheVariants as run
 use Rattle.esm_run.specs.Answers.{RunCause, RunEnded}
-use Rattle.esm_run.specs.Endings.{ending_of, ending_of_files, ending_of_mapping, ending_of_queue, ending_of_reading, file_of}
+use Rattle.esm_run.specs.Endings.{ending_of, ending_of_files, ending_of_mapping, ending_of_reading, file_of}
 use Rattle.esm_run.specs.World.{RunTells, Seen}
 
 same_some : (e d : Ending) → ◌≡◌ {A = Option Ending} (Some e) (Some d) → e ≡ d
@@ -83,23 +81,17 @@ reading_words (ends.BadLine bad) tells = cc
 reading_words ends.Fault tells = cc
 reading_words (ends.Limit limit) tells = cc
 
-stream_words : (end : StreamEnd) → ending.BadWords ≡ ending_of end → ⊥
-stream_words (run.Finished why) tells = reading_words why tells
-stream_words run.CallsSpent tells = cc
-stream_words run.DiskFault tells = cc
-stream_words run.DestFault tells = cc
-stream_words (run.Changed change) tells = cc
-
-queue_words : (end : QueueEnd) → ending.BadWords ≡ ending_of_queue end → ⊥
-queue_words (queue.Finished why) tells = reading_words why tells
-queue_words queue.CallsSpent tells = cc
-queue_words queue.DiskFault tells = cc
-queue_words (queue.Changed change) tells = cc
+run_words : (end : MappingEnd) → ending.BadWords ≡ ending_of end → ⊥
+run_words (run.Finished why) tells = reading_words why tells
+run_words run.CallsSpent tells = cc
+run_words run.DiskFault tells = cc
+run_words run.DestFault tells = cc
+run_words (run.Changed change) tells = cc
 
 cause_words : {S D F : Type 0} (o : RunTells S D F) (r : RunWords) (h : List Entry) (old new : Seen S D F) (text : List ℕ) → RunCause o r h old new text ending.BadWords → ⊥
 cause_words o r h old new text (inl none) = elim none.why [ inl files ↦ files_words files.why files.tells | inr mapping ↦ mapping_words mapping.why mapping.tells ]
-cause_words o r h old new text (inr (inl run)) = stream_words run.end run.tells
-cause_words o r h old new text (inr (inr run)) = queue_words run.end run.tells
+cause_words o r h old new text (inr (inl run)) = run_words run.end run.tells
+cause_words o r h old new text (inr (inr run)) = run_words run.end run.tells
 
 pub not_bad_words : {S D F : Type 0} (o : RunTells S D F) (r : RunWords) (h : List Entry) (old new : Seen S D F) → RunEnded o r h old new ending.BadWords → ⊥
 not_bad_words o r h old new ended = cause_words o r h old new ended.text ended.cause

@@ -1,20 +1,16 @@
--- The records or messages of the first items of an input are the first of its own, also from a starting position on and shard by
--- shard.
+-- The records or messages of the first items of an input are the first of its own, also from a starting position on.
 use Rattle.std.proofs.Common.{◌≡◌, ℕ, zero, suc, Bool, true, false, List, [], ◌∷◌, ◌++◌, refl, sym, ap, ◌∙◌, append_assoc, Option, Some, None}
-use Rattle.std.specs.Prelude.{◌==◌, slice_get, if◌then◌else◌}
+use Rattle.std.specs.Prelude.{slice_get, if◌then◌else◌}
 use Rattle.std.proofs.lemmas.List.{append-nil}
-use Rattle.std.proofs.lemmas.List.Elements.{filter-append}
 use Rattle.esm_model.specs.declared.config.Start.{Start}
 use Rattle.esm_model.specs.declared.config.Start.TheVariants.{TrimHorizon, Latest, At}
-use Rattle.esm_model.specs.declared.item.Record.{Record}
-use Rattle.esm_arrival.specs.Coming.{of_shard}
 use Rattle.esm_record.specs.declared.item.Item.{Item}
 use Rattle.esm_record.specs.declared.item.Item.TheVariants.{Stream, Queue}
 use Rattle.esm_report.specs.declared.ending.LimitName.{LimitName}
 use Rattle.esm_input.specs.Limits.{Limited, limited_after, passed, shards_with, stop_at}
 use Rattle.esm_input.specs.Positions.{from_moment, from_start, has_begun}
-use Rattle.esm_stream.specs.Coming.{records_in_items}
-use Rattle.esm_queue_run.specs.Coming.{messages_in_items}
+use Rattle.esm_runner.specs.Coming.{records_in_items}
+use Rattle.esm_runner.specs.QueueComing.{messages_in_items}
 
 -- the list goes on from the first one
 abbrev pub IsFront : {A : Type 0} → List A → List A → Type 0
@@ -106,9 +102,3 @@ get_front (x ∷ xs) more (suc i) r is = get_front xs more i r is
 
 pub place_front : {A : Type 0} (xs ys : List A) (i : ℕ) (r : A) → IsFront xs ys → slice_get xs i ≡ Some r → slice_get ys i ≡ Some r
 place_front xs ys i r front is = ap (λ l. slice_get l i) front.1 ∙ get_front xs front.0 i r is
-
-pub shard_front : (n : ℕ) (xs ys : List Record) (i : ℕ) (r : Record) → IsFront xs ys → slice_get (of_shard n xs) i ≡ Some r → slice_get (of_shard n ys) i ≡ Some r
-shard_front n xs ys i r front is =
-    ap (λ l. slice_get (of_shard n l) i) front.1
-    ∙ ap (λ l. slice_get l i) (filter-append (λ (x : Record). x.shard == n) xs front.0)
-    ∙ get_front (of_shard n xs) (of_shard n front.0) i r is

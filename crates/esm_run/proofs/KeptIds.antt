@@ -1,57 +1,31 @@
--- In a legal history over all messages of an input each message of which the journal kept a deletion has the kept id, so no
--- message of the input differs.
-use Rattle.std.proofs.Common.{◌≡◌, ◌∙◌, ℕ, ◌+◌, ◌<◌, Bool, List, [], ◌∷◌, Some, ap, arith, inl, inr, length, subst, sym}
-use Rattle.std.specs.Prelude.{◌==◌, slice_get, if◌then◌else◌}
-use Rattle.std.proofs.lemmas.Bool.Decides.{eqb_tells, leb_tells}
+-- Where each message of an input that was found deleted has the id that the journal kept, so has each of its front.
+use Rattle.std.proofs.Common.{◌≡◌, ◌∙◌, ◌+◌, ◌<◌, Bool, true, false, List, Some, ap, arith, length, refl, sym}
+use Rattle.std.specs.Prelude.{not, option_map, slice_get, unwrap_or}
+use Rattle.std.specs.Str.{bytes_eq}
 use Rattle.std.proofs.lemmas.Option.{slice_get_within}
+use Rattle.std.proofs.lemmas.Slice.Eq.{bytes_eq-Decides}
 use Rattle.esm_model.specs.declared.book.Change.{Change}
-use Rattle.esm_model.specs.declared.entry.Entry.{Entry}
-use Rattle.esm_model.specs.declared.entry.Entry.TheVariants.{Came}
 use Rattle.esm_model.specs.declared.item.Message.{Message}
 use Rattle.esm_model.specs.declared.setup.FoundDeletion.{FoundDeletion}
-use Rattle.esm_queue_model.specs.QueueEntries.{queue_count}
-use Rattle.esm_queue_model.specs.QueueSetting.{QueueSetting, found_deletion, message_at, over_messages}
-use Rattle.esm_queue_model.specs.QueueStep.{IsKeptMessage, LegalQueue, MayComeQueue}
-use Rattle.esm_queue_run.specs.Ended.{AllCame, IsChanged}
-use Rattle.esm_queue_run.specs.Headline.{LegalOver}
+use Rattle.esm_queue_core.specs.Coming.{has_changed}
+use Rattle.esm_queue_model.specs.QueueSetting.{QueueSetting, found_deletion, over_messages}
+use Rattle.esm_runner.specs.QueueEnded.{IsChanged}
+use Rattle.esm_runner.specs.QueueRan.{NoneDiffersBefore}
 use Rattle.esm_run.proofs.Fronts.{IsFront, place_front}
 
--- the message at the place has the id that was kept of it
-record IsKeptAt (s : QueueSetting) (i : ℕ) : Type 0 where
-  same : (f : FoundDeletion) (m : Message) → message_at s i ≡ Some m → found_deletion s i ≡ Some f → m.id ≡ f.text
+same_of : (b : Bool) → not b ≡ false → b ≡ true
+same_of true is = refl
+same_of false is = absurd (cc)
 
--- so each message that came
-
-kept_next : (s : QueueSetting) (h : List Entry) (i first count : ℕ) → first ≡ queue_count h → IsKeptMessage s first count → (i < queue_count h → IsKeptAt s i) → i < count + queue_count h → IsKeptAt s i
-kept_next s h i first count next kept before came = elim (leb_tells first i) [
-  | inl here ↦
-      let within : i < first + count = omega (arith, came, next) in
-      record { same = λ f m. kept i f m here.1 within }
-  | inr earlier ↦ before (omega (arith, earlier.1, next))
-]
-
-kept_after : (s : QueueSetting) (h : List Entry) (shard i first count : ℕ) → MayComeQueue s h shard first count → (i < queue_count h → IsKeptAt s i)
-    → i < (if shard == 0 then count + queue_count h else queue_count h) → IsKeptAt s i
-kept_after s h shard i first count comes before came = elim (eqb_tells shard 0) [
-  | inl mine ↦ kept_next s h i first count comes.next comes.kept before
-      (subst (λ (b : Bool). i < (if b then count + queue_count h else queue_count h)) mine.0 came)
-  | inr other ↦ before (subst (λ (b : Bool). i < (if b then count + queue_count h else queue_count h)) other.0 came)
-]
-
-kept_of_came : (s : QueueSetting) (h : List Entry) (i : ℕ) → LegalQueue s h → i < queue_count h → IsKeptAt s i
-kept_of_came s [] i legal came = absurd (omega (arith, came))
-kept_of_came s (Came shard first count moment ∷ h) i legal came = kept_after s h shard i first count legal.1.1 (kept_of_came s h i legal.0) came
-kept_of_came s (e ∷ h) i legal came = kept_of_came s h i legal.0 came
-
--- where all messages of the one run came, and the messages of the other are a front of them, none of these differs
-pub same_ids : (s z : QueueSetting) (h : List Entry) (xs ys : List Message) (change : Change) → z ≡ over_messages s z.messages → LegalOver s h → AllCame s h xs → IsFront ys xs
-    → IsChanged z ys change → ⊥
-same_ids s z h xs ys change same legal all front changed =
+pub same_ids : (s z : QueueSetting) (xs ys : List Message) (change : Change) → z ≡ over_messages s z.messages → NoneDiffersBefore s.deletions xs (length xs) → IsFront ys xs → IsChanged z ys change → ⊥
+same_ids s z xs ys change same none front changed =
     let i = change.place in
     let here : slice_get xs i ≡ Some changed.message = place_front ys xs i changed.message front changed.at in
-    let at : message_at s i ≡ Some changed.message = ap (λ l. slice_get l i) all.list ∙ here in
     let within : i < length xs = slice_get_within xs i changed.message here in
-    let came : i < queue_count h = subst (λ k. i < k) (sym all.came) within in
     let found : found_deletion s i ≡ Some changed.found = sym (ap (λ v. found_deletion v i) same) ∙ changed.deletion in
-    let kept = kept_of_came s h i (legal s.messages (λ j m is. is)) came in
-    changed.differs (changed.given ∙ kept.same changed.found changed.message at found ∙ sym changed.kept)
+    let zero_is : i ≡ 0 + i = omega arith in
+    let kept : has_changed s.deletions i changed.message ≡ false = ap (λ k. has_changed s.deletions k changed.message) zero_is ∙ none i changed.message within here in
+    let seen : not (bytes_eq changed.found.text changed.message.id) ≡ false =
+    sym (ap (λ o. unwrap_or (option_map (λ (f : FoundDeletion). not (bytes_eq f.text changed.message.id)) o) false) found) ∙ kept in
+    let texts : changed.found.text ≡ changed.message.id = (bytes_eq-Decides changed.found.text changed.message.id).0 (same_of (bytes_eq changed.found.text changed.message.id) seen) in
+    changed.differs (changed.given ∙ sym texts ∙ sym changed.kept)

@@ -1,83 +1,26 @@
--- In a legal history over all records of an input each record of which the journal kept a fate or tries has the kept number,
--- so no record of the input differs.
-use Rattle.std.proofs.Common.{◌≡◌, ◌∙◌, ℕ, ◌+◌, ◌<◌, Bool, List, [], ◌∷◌, Option, None, Some, ap, arith, inl, inr, refl, subst, sym, length}
-use Rattle.std.specs.Prelude.{◌==◌, option_map, slice_get, if◌then◌else◌}
+-- Where no record of an input differs from what the journal kept of it, none of its front does.
+use Rattle.std.proofs.Common.{◌≡◌, ◌∙◌, List, [], ◌∷◌, ◌++◌, Option, None, Some, ap, sym}
 use Rattle.std.specs.Option.{option_or}
-use Rattle.std.proofs.lemmas.Bool.Decides.{eqb_tells, leb_tells}
-use Rattle.std.proofs.lemmas.Option.{slice_get_within}
-use Rattle.std.proofs.lemmas.Slice.Eq.{bytes_eq-Decides}
-use Rattle.esm_arrival.specs.Changes.{kept_otherwise, other_text}
-use Rattle.esm_ledger.specs.Ledger.{LegalOver}
+use Rattle.esm_arrival.specs.Changes.{change_at, first_change, first_change_from, place_after}
 use Rattle.esm_model.specs.declared.book.Change.{Change}
-use Rattle.esm_model.specs.declared.entry.Entry.{Entry}
-use Rattle.esm_model.specs.declared.entry.Entry.TheVariants.{Came}
 use Rattle.esm_model.specs.declared.item.Record.{Record}
-use Rattle.esm_model.specs.declared.setup.FoundFate.{FoundFate}
-use Rattle.esm_model.specs.declared.setup.FoundTries.{FoundTries}
-use Rattle.esm_model.specs.Entries.{came_count}
-use Rattle.esm_model.specs.Setting.{Setting, found_fate, found_try, over, record_at, records_of}
-use Rattle.esm_model.specs.Step.{Legal, MayCome}
-use Rattle.esm_stream.specs.Ran.{IsOfRecord}
-use Rattle.esm_stream.specs.Ended.{AllCame}
-use Rattle.esm_run.proofs.Fronts.{IsFront, shard_front}
+use Rattle.esm_model.specs.Setting.{Setting, over}
+use Rattle.esm_run.proofs.Fronts.{IsFront}
 
--- the record at the place has the number that was kept of it
-record IsKeptAt (s : Setting) (n i : ℕ) : Type 0 where
-  fates : (f : FoundFate) (r : Record) → record_at s n i ≡ Some r → found_fate s n i ≡ Some f → r.seq ≡ f.text
-  tries : (f : FoundTries) (r : Record) → record_at s n i ≡ Some r → found_try s n i ≡ Some f → r.seq ≡ f.text
+or_stays : (o a b : Option Change) (change : Change) → (a ≡ Some change → b ≡ Some change) → option_or o a ≡ Some change → option_or o b ≡ Some change
+or_stays None a b change on is = on is
+or_stays (Some c) a b change on is = is
 
--- so each record that came
+-- the first that differs is the first also where more records follow
+first_stays : (s : Setting) (acc xs ys : List Record) (change : Change) → first_change_from s [] acc xs ≡ Some change → first_change_from s [] acc (xs ++ ys) ≡ Some change
+first_stays s acc [] ys change is = absurd (cc)
+first_stays s acc (r ∷ xs) ys change is =
+    or_stays (change_at s (place_after [] acc r) r) (first_change_from s [] (acc ++ r ∷ []) xs) (first_change_from s [] (acc ++ r ∷ []) (xs ++ ys)) change
+    (first_stays s (acc ++ r ∷ []) xs ys change) is
 
-kept_next : (s : Setting) (h : List Entry) (n i first count : ℕ) → MayCome s h n first count → (i < came_count h n → IsKeptAt s n i) → i < count + came_count h n → IsKeptAt s n i
-kept_next s h n i first count comes before came = elim (leb_tells first i) [
-  | inl here ↦
-      let within : i < first + count = (let next = comes.next in omega (arith, came, next)) in
-      record { fates = λ f r. comes.kept.fates i f r here.1 within; tries = λ f r. comes.kept.tries i f r here.1 within }
-  | inr earlier ↦ before (let next = comes.next in omega (arith, earlier.1, next))
-]
-
-kept_after : (s : Setting) (h : List Entry) (shard n i first count : ℕ) → MayCome s h shard first count → (i < came_count h n → IsKeptAt s n i)
-    → i < (if shard == n then count + came_count h n else came_count h n) → IsKeptAt s n i
-kept_after s h shard n i first count comes before came = elim (eqb_tells shard n) [
-  | inl mine ↦ kept_next s h n i first count (subst (λ k. MayCome s h k first count) mine.1 comes) before
-      (subst (λ (b : Bool). i < (if b then count + came_count h n else came_count h n)) mine.0 came)
-  | inr other ↦ before (subst (λ (b : Bool). i < (if b then count + came_count h n else came_count h n)) other.0 came)
-]
-
-kept_of_came : (s : Setting) (h : List Entry) (n i : ℕ) → Legal s h → i < came_count h n → IsKeptAt s n i
-kept_of_came s [] n i legal came = absurd (omega (arith, came))
-kept_of_came s (Came shard first count moment ∷ h) n i legal came = kept_after s h shard n i first count legal.1.1 (kept_of_came s h n i legal.0) came
-kept_of_came s (e ∷ h) n i legal came = kept_of_came s h n i legal.0 came
-
--- nothing else was kept of it
-
-same_text : (seq text : List ℕ) → seq ≡ text → other_text seq (Some text) ≡ None
-same_text seq text same = ap (λ (b : Bool). if b then None else Some text) ((bytes_eq-Decides text seq).1 (sym same))
-
-no_other_fate : (o : Option FoundFate) (seq : List ℕ) → ((f : FoundFate) → o ≡ Some f → seq ≡ f.text) → other_text seq (option_map (λ (f : FoundFate). f.text) o) ≡ None
-no_other_fate None seq kept = refl
-no_other_fate (Some f) seq kept = same_text seq f.text (kept f refl)
-
-no_other_tries : (o : Option FoundTries) (seq : List ℕ) → ((f : FoundTries) → o ≡ Some f → seq ≡ f.text) → other_text seq (option_map (λ (f : FoundTries). f.text) o) ≡ None
-no_other_tries None seq kept = refl
-no_other_tries (Some f) seq kept = same_text seq f.text (kept f refl)
-
-none_otherwise : (s : Setting) (n i : ℕ) (r : Record) → IsKeptAt s n i → record_at s n i ≡ Some r → kept_otherwise s n i r.seq ≡ None
-none_otherwise s n i r kept at =
-    let tries = other_text r.seq (option_map (λ (f : FoundTries). f.text) (found_try s n i)) in
-    ap (λ o. option_or o tries) (no_other_fate (found_fate s n i) r.seq (λ f. kept.fates f r at))
-    ∙ no_other_tries (found_try s n i) r.seq (λ f. kept.tries f r at)
-
--- where all records of the one run came, and the records of the other are a front of them, none of these differs
-pub unchanged : (s z : Setting) (h : List Entry) (xs ys : List Record) (change : Change) → z ≡ over s z.streams → LegalOver s h → AllCame s h xs → IsFront ys xs
-    → kept_otherwise z change.shard change.place change.given ≡ Some change.kept → IsOfRecord ys change → ⊥
-unchanged s z h xs ys change same legal all front differs of =
-    let n = change.shard in
-    let i = change.place in
-    let here : record_at s n i ≡ Some of.item = ap (λ l. slice_get l i) (all.lists n) ∙ shard_front n ys xs i of.item front of.at in
-    let within : i < length (records_of s n) = slice_get_within (records_of s n) i of.item here in
-    let came : i < came_count h n = subst (λ k. i < k) (sym (all.came n)) within in
-    let none : kept_otherwise s n i of.item.seq ≡ None = none_otherwise s n i of.item (kept_of_came s h n i (legal s.streams (λ m j r is. is)) came) here in
-    let both : Some change.kept ≡ None =
-    sym differs ∙ ap (λ seq. kept_otherwise z n i seq) (sym of.given) ∙ ap (λ v. kept_otherwise v n i of.item.seq) same ∙ none in
+pub unchanged : (s z : Setting) (xs ys : List Record) (change : Change) → z ≡ over s z.streams → first_change s [] xs ≡ None → IsFront ys xs → first_change z [] ys ≡ Some change → ⊥
+unchanged s z xs ys change same none front differs =
+    let own : first_change s [] ys ≡ Some change = sym (ap (λ v. first_change v [] ys) same) ∙ differs in
+    let more : first_change s [] xs ≡ Some change = ap (λ l. first_change s [] l) front.1 ∙ first_stays s [] ys front.0 change own in
+    let both : Some change ≡ None = sym more ∙ none in
     cc

@@ -11,7 +11,7 @@ use Rattle.esm_model.specs.Valid.{is_stream}
 use Rattle.esm_model.specs.declared.entry.Entry.{Entry}
 use Rattle.esm_report.specs.declared.ending.Ending.{Ending}
 use Rattle.esm_report.specs.declared.ending.Ending.TheVariants as ending
-use Rattle.esm_stream.specs.Files.{FilesState}
+use Rattle.esm_runner.specs.Files.{FilesState}
 use Rattle.esm_run.specs.Answers.{HasRefusedFiles, HasRefusedMapping, IsReadyFor, IsSoundRun, RunCause, RunOutcome}
 use Rattle.esm_run.specs.Endings.{ending_of_mapping, status_of, IsTold}
 use Rattle.esm_run.specs.World.{RunTells, Seen, Written}

@@ -188,3 +188,13 @@ one_front faults left kind factor start old new i j e goes told sound one other 
 pub some_of : (o : Option InputEnd) → IsSome o → (e : InputEnd) × (o ≡ Some e)
 some_of None some = absurd (cc)
 some_of (Some e) some = (e, refl)
+
+-- a source that tells its bytes goes on to tell them
+
+still_told : (before left : Option (List ℕ)) (bytes : List ℕ) → IsSome before → TakesFront before left bytes → IsSome left
+still_told None left bytes told taken = absurd (cc)
+still_told (Some old) left bytes told taken = subst IsSome (sym taken.2) refl
+
+pub told_still : {S : Type 0} (faults : S → ℕ) (left : S → Option (List ℕ)) (kind : LineKind) (factor : ℕ) (start : Start) (old new : S) (i : InputState S)
+    → IsSome (left old) → IsReadFrom faults left kind factor start old new i → IsSome (left new)
+told_still faults left kind factor start old new i told is = still_told (left old) (left new) i.bytes told (taken_is faults left kind factor start old new i is)

@@ -12,8 +12,8 @@ use Rattle.esm_mapping.specs.Named.{IsNamed, WhyNot}
 use Rattle.esm_mapping.specs.declared.named.MappingError.{MappingError}
 use Rattle.esm_mapping.specs.declared.named.MappingError.TheVariants.{OutOfMemory}
 use Rattle.esm_mapping.specs.declared.named.NamedMapping.{NamedMapping}
-use Rattle.esm_stream.specs.Files.{FilesState}
-use Rattle.esm_stream.specs.Headline.{Devices, Telling}
+use Rattle.esm_runner.specs.Files.{FilesState}
+use Rattle.esm_runner.specs.Headline.{Devices, Telling}
 use Rattle.esm_upkeep.specs.Upkeep.{OneRose, found}
 use Rattle.esm_run.specs.Answers.{IsReadyFor, IsSoundRegistry, IsSoundRun}
 use Rattle.esm_run.specs.Tended.{IsSoundDisk}

@@ -6,9 +6,9 @@ use Rattle.esm_report.specs.declared.ending.Ending.{Ending}
 use Rattle.esm_report.specs.declared.ending.Ending.TheVariants as ending
 use Rattle.esm_upkeep.specs.Upkeep.{AreFound, AreHonest, found}
 use Rattle.esm_upkeep.specs.declared.ending.JournalFile.TheVariants as file
-use Rattle.esm_stream.specs.Files.{AreFoundLines, FilesState, WhyRefused, found_lines}
-use Rattle.esm_stream.specs.declared.files.FilesError.{FilesError}
-use Rattle.esm_stream.specs.declared.files.FilesError.TheVariants as files
+use Rattle.esm_runner.specs.Files.{AreFoundLines, FilesState, WhyRefused, found_lines}
+use Rattle.esm_runner.specs.declared.files.FilesError.{FilesError}
+use Rattle.esm_runner.specs.declared.files.FilesError.TheVariants as files
 use Rattle.esm_cli.specs.declared.command.RunWords.{RunWords}
 use Rattle.esm_init.specs.declared.disks.Disks.{Disks}
 use Rattle.esm_mapping.specs.declared.named.NamedMapping.{NamedMapping}

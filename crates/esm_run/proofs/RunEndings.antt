@@ -16,19 +16,18 @@ use Rattle.esm_mapping.specs.declared.named.MappingError.{MappingError}
 use Rattle.esm_mapping.specs.declared.named.NamedMapping.{NamedMapping}
 use Rattle.esm_queue_model.specs.QueueSetting.{QueueSetting}
 use Rattle.esm_queue_report.specs.Queue.{queue_report_text}
-use Rattle.esm_queue_run.specs.Ended as queue
-use Rattle.esm_queue_run.specs.declared.run.QueueEnd.{QueueEnd}
+use Rattle.esm_runner.specs.QueueEnded as queue
 use Rattle.esm_report.specs.declared.ending.Ending.{Ending}
 use Rattle.esm_report.specs.Report.{last_line, report_text, stands_alone}
 use Rattle.esm_said.specs.SaidLists.{SaidLists}
-use Rattle.esm_stream.specs.Ended as stream
-use Rattle.esm_stream.specs.Files.{FilesState, IsOpenedFiles, AreRefused}
-use Rattle.esm_stream.specs.declared.files.FilesError.{FilesError}
-use Rattle.esm_stream.specs.declared.run.StreamEnd.{StreamEnd}
+use Rattle.esm_runner.specs.Ended as stream
+use Rattle.esm_runner.specs.Files.{FilesState, IsOpenedFiles, AreRefused}
+use Rattle.esm_runner.specs.declared.files.FilesError.{FilesError}
+use Rattle.esm_runner.specs.declared.run.MappingEnd.{MappingEnd}
 use Rattle.esm_run.specs.Answers.{AreGoodFiles, HasNotBegun, HasRefusedFiles, HasRefusedMapping, IsCutOf, IsReadyFor, IsRegistryLeft, RunEnded, RunOutcome, visibility_of}
 use Rattle.esm_run.specs.Headline.{Headline}
-use Rattle.esm_run.specs.Endings.{IsTold, ending_of, ending_of_files, ending_of_mapping, ending_of_queue}
-use Rattle.esm_run.specs.Ran.{EndsWith, IsEndingOf, IsEndingOfQueue, IsReport}
+use Rattle.esm_run.specs.Endings.{IsTold, ending_of, ending_of_files, ending_of_mapping}
+use Rattle.esm_run.specs.Ran.{EndsWith, IsEndingOf, IsReport}
 use Rattle.esm_run.specs.World.{RunTells, Seen, Written, devices_of, disks}
 use Rattle.esm_run.specs.declared.left.Began.{Began}
 use Rattle.esm_run.specs.declared.left.Began.TheVariants as began
@@ -59,13 +58,13 @@ module _ {S D F : Type 0} (o : RunTells S D F) (r : RunWords) (h : List Entry) (
   module _ (mapping : NamedMapping) (files : FilesState D) (ready : IsReadyFor o.run.disk r old new mapping files) (later : r.read_first ≡ true → CallsFollowShut h) where
     -- a stream's mapping ran
 
-    abbrev HasStreamEnded : StreamEnd → Type 0
+    abbrev HasStreamEnded : MappingEnd → Type 0
     HasStreamEnded end = stream.HasEnded o.run o.faults o.left mapping.config mapping.start r.calls files old.input new.input old.callers h (devices_of new) end
 
     abbrev HasStreamStopped : Type 0
     HasStreamStopped = stream.HasStoppedRun o.run o.left mapping.config mapping.start r.calls files old.input new.input old.callers h (devices_of new)
 
-    headline_of : (end : StreamEnd) (is : HasStreamEnded end) → Headline o r files is.setting h end is.hand old new (report_text is.setting h (ending_of end))
+    headline_of : (end : MappingEnd) (is : HasStreamEnded end) → Headline o r files is.setting h end is.hand old new (report_text is.setting h (ending_of end))
     headline_of end is = record {
       legal_trace = is.headline.legal_trace;
       moments = is.headline.moments;
@@ -89,7 +88,7 @@ module _ {S D F : Type 0} (o : RunTells S D F) (r : RunWords) (h : List Entry) (
       read_first = later;
     }
 
-    stream_ended : is_stream mapping.config.kind ≡ true → (end : StreamEnd) → HasStreamEnded end → RunEnded o r h old new (ending_of end)
+    stream_ended : is_stream mapping.config.kind ≡ true → (end : MappingEnd) → HasStreamEnded end → RunEnded o r h old new (ending_of end)
     stream_ended kind end is = record {
       text = report_text is.setting h (ending_of end);
       cause = inr (inl (record {
@@ -110,7 +109,7 @@ module _ {S D F : Type 0} (o : RunTells S D F) (r : RunWords) (h : List Entry) (
     }
 
     -- it came to its end, which is told
-    pub stream_ends : is_stream mapping.config.kind ≡ true → (said : SaidLists) (end : Result StreamEnd OutOfMemory) (e : Ending) → said ≡ files.said
+    pub stream_ends : is_stream mapping.config.kind ≡ true → (said : SaidLists) (end : Result MappingEnd OutOfMemory) (e : Ending) → said ≡ files.said
         → IfOk end HasStreamEnded → IsEndingOf end e → EndsWith o r h old new (began.Stream said) e
     unfolding stream_ended
     stream_ends kind said (Ok end) e same is tells = subst (EndsWith o r h old new (began.Stream said)) (sym tells) (record {
@@ -124,26 +123,26 @@ module _ {S D F : Type 0} (o : RunTells S D F) (r : RunWords) (h : List Entry) (
     stream_ends kind said (Err why) e same is tells = absurd tells
 
     -- it was stopped, or its end could not be told
-    pub stream_cut : is_stream mapping.config.kind ≡ true → (end : Result StreamEnd OutOfMemory) → IfOk end HasStreamEnded → OnErr end HasStreamStopped → IsCutOf o r h old new
+    pub stream_cut : is_stream mapping.config.kind ≡ true → (end : Result MappingEnd OutOfMemory) → IfOk end HasStreamEnded → OnErr end HasStreamStopped → IsCutOf o r h old new
     stream_cut kind (Ok end) is stopped = inr (inr (ending_of end, stream_ended kind end is))
     stream_cut kind (Err why) is stopped = inr (inl (inl (record { mapping = mapping; files = files; ready = ready; kind = kind; run = stopped; read_first = later })))
 
     -- a queue's mapping ran
 
-    abbrev HasQueueEnded : QueueEnd → Type 0
+    abbrev HasQueueEnded : MappingEnd → Type 0
     HasQueueEnded end = queue.HasEnded o.run o.faults o.left mapping.config r.calls (visibility_of r) files old.input new.input old.callers h (devices_of new) end
 
     abbrev HasQueueStopped : Type 0
     HasQueueStopped = queue.HasStoppedRun o.run o.left mapping.config r.calls (visibility_of r) files old.input new.input old.callers h (devices_of new)
 
-    queue_ended : is_stream mapping.config.kind ≡ false → (end : QueueEnd) → HasQueueEnded end → RunEnded o r h old new (ending_of_queue end)
+    queue_ended : is_stream mapping.config.kind ≡ false → (end : MappingEnd) → HasQueueEnded end → RunEnded o r h old new (ending_of end)
     queue_ended kind end is = record {
-      text = queue_report_text is.setting h (ending_of_queue end);
+      text = queue_report_text is.setting h (ending_of end);
       cause = inr (inr (record { mapping = mapping; files = files; ready = ready; kind = kind; end = end; run = is; tells = refl; text_is = refl; read_first = later }));
     }
 
-    pub queue_ends : is_stream mapping.config.kind ≡ false → (said : SaidLists) (end : Result QueueEnd OutOfMemory) (e : Ending) → said ≡ files.said
-        → IfOk end HasQueueEnded → IsEndingOfQueue end e → EndsWith o r h old new (began.Queue said) e
+    pub queue_ends : is_stream mapping.config.kind ≡ false → (said : SaidLists) (end : Result MappingEnd OutOfMemory) (e : Ending) → said ≡ files.said
+        → IfOk end HasQueueEnded → IsEndingOf end e → EndsWith o r h old new (began.Queue said) e
     unfolding queue_ended
     queue_ends kind said (Ok end) e same is tells = subst (EndsWith o r h old new (began.Queue said)) (sym tells) (record {
       ended = queue_ended kind end is;
@@ -156,8 +155,8 @@ module _ {S D F : Type 0} (o : RunTells S D F) (r : RunWords) (h : List Entry) (
     })
     queue_ends kind said (Err why) e same is tells = absurd tells
 
-    pub queue_cut : is_stream mapping.config.kind ≡ false → (end : Result QueueEnd OutOfMemory) → IfOk end HasQueueEnded → OnErr end HasQueueStopped → IsCutOf o r h old new
-    queue_cut kind (Ok end) is stopped = inr (inr (ending_of_queue end, queue_ended kind end is))
+    pub queue_cut : is_stream mapping.config.kind ≡ false → (end : Result MappingEnd OutOfMemory) → IfOk end HasQueueEnded → OnErr end HasQueueStopped → IsCutOf o r h old new
+    queue_cut kind (Ok end) is stopped = inr (inr (ending_of end, queue_ended kind end is))
     queue_cut kind (Err why) is stopped = inr (inl (inr (record { mapping = mapping; files = files; ready = ready; kind = kind; run = stopped; read_first = later })))
 
   -- nothing ran

@@ -16,21 +16,20 @@ use Rattle.esm_input.specs.Reading.{InputState, handed}
 use Rattle.esm_mapping.specs.Named.{IsNamed, WhyNot}
 use Rattle.esm_mapping.specs.declared.named.MappingError.{MappingError}
 use Rattle.esm_mapping.specs.declared.named.NamedMapping.{NamedMapping}
-use Rattle.esm_stream.specs.Coming.{records_in_items}
+use Rattle.esm_runner.specs.Coming.{records_in_items}
 use Rattle.esm_queue_report.specs.Queue.{queue_report_text}
-use Rattle.esm_queue_run.specs.Ended as queue
-use Rattle.esm_queue_run.specs.declared.run.QueueEnd.{QueueEnd}
+use Rattle.esm_runner.specs.QueueEnded as queue
 use Rattle.esm_report.specs.declared.ending.Ending.{Ending}
 use Rattle.esm_report.specs.declared.ending.Ending.TheVariants as ending
 use Rattle.esm_report.specs.Report.{last_line}
-use Rattle.esm_stream.specs.Ended as stream
-use Rattle.esm_stream.specs.Headline.{IsSettingOf}
-use Rattle.esm_stream.specs.Files.{FilesState, IsOpenedFiles, AreRefused, AreUnwritten, AreGoodPayloads, AreFoundLines}
-use Rattle.esm_stream.specs.declared.files.FilesError.{FilesError}
-use Rattle.esm_stream.specs.declared.run.StreamEnd.{StreamEnd}
+use Rattle.esm_runner.specs.Ended as stream
+use Rattle.esm_runner.specs.Headline.{IsSettingOf}
+use Rattle.esm_runner.specs.Files.{FilesState, IsOpenedFiles, AreRefused, AreUnwritten, AreGoodPayloads, AreFoundLines}
+use Rattle.esm_runner.specs.declared.files.FilesError.{FilesError}
+use Rattle.esm_runner.specs.declared.run.MappingEnd.{MappingEnd}
 use Rattle.esm_upkeep.specs.Upkeep.{AreHonest, OneRose}
 use Rattle.esm_run.specs.Built.{SpellsBuilt}
-use Rattle.esm_run.specs.Endings.{IsTold, ending_of, ending_of_files, ending_of_mapping, ending_of_queue}
+use Rattle.esm_run.specs.Endings.{IsTold, ending_of, ending_of_files, ending_of_mapping}
 use Rattle.esm_run.specs.Headline.{Headline}
 use Rattle.esm_run.specs.Tended.{IsSoundDisk}
 use Rattle.esm_run.specs.World.{RunTells, Seen, Written, devices_of, disks}
@@ -107,9 +106,9 @@ pub record IsStreamRun {S D F : Type 0} (o : RunTells S D F) (r : RunWords) (h :
   pub setting : Setting
   pub is_setting : IsSettingOf mapping.config r.calls files.said (records_in_items (handed input)) setting
   -- how it ended, and why
-  pub end : StreamEnd
+  pub end : MappingEnd
   pub tells : ending ≡ ending_of end
-  pub cause : stream.IsCauseOf o.run files setting h (records_in_items (handed input)) input.end (devices_of new) end
+  pub cause : stream.IsCauseOf o.run files setting h (records_in_items (handed input)) input.end (o.left new.input) (devices_of new) end
   pub hand : List Entry
   pub headline : Headline o r files setting h end hand old new text
 
@@ -119,9 +118,9 @@ pub record IsQueueRun {S D F : Type 0} (o : RunTells S D F) (r : RunWords) (h : 
   pub files : FilesState D
   pub ready : IsReadyFor o.run.disk r old new mapping files
   pub kind : is_stream mapping.config.kind ≡ false
-  pub end : QueueEnd
+  pub end : MappingEnd
   pub run : queue.HasEnded o.run o.faults o.left mapping.config r.calls (visibility_of r) files old.input new.input old.callers h (devices_of new) end
-  pub tells : ending ≡ ending_of_queue end
+  pub tells : ending ≡ ending_of end
   pub text_is : text ≡ queue_report_text run.setting h ending
   -- with `--read-first` no call begins before the end of the input was noted
   pub read_first : r.read_first ≡ true → CallsFollowShut h

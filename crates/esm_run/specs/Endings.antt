@@ -5,8 +5,6 @@ use Rattle.esm_io.specs.Faults.{Rose}
 use Rattle.esm_config.specs.Names.{name_of as param_name}
 use Rattle.esm_mapping.specs.declared.named.MappingError.{MappingError}
 use Rattle.esm_mapping.specs.declared.named.MappingError.TheVariants as mapping
-use Rattle.esm_queue_run.specs.declared.run.QueueEnd.{QueueEnd}
-use Rattle.esm_queue_run.specs.declared.run.QueueEnd.TheVariants as queue
 use Rattle.esm_record.specs.Line.{name_of}
 use Rattle.esm_record.specs.declared.error.LineError.{LineError}
 use Rattle.esm_record.specs.declared.error.LineError.TheVariants.{NotJson, Missing, BadField, Backwards, LineTooLong, Repeated}
@@ -18,10 +16,10 @@ use Rattle.esm_report.specs.declared.ending.Ending.{Ending}
 use Rattle.esm_report.specs.declared.ending.Ending.TheVariants as ending
 use Rattle.esm_input.specs.declared.ending.InputEnd.{InputEnd}
 use Rattle.esm_input.specs.declared.ending.InputEnd.TheVariants as ends
-use Rattle.esm_stream.specs.declared.files.FilesError.{FilesError}
-use Rattle.esm_stream.specs.declared.files.FilesError.TheVariants as files
-use Rattle.esm_stream.specs.declared.run.StreamEnd.{StreamEnd}
-use Rattle.esm_stream.specs.declared.run.StreamEnd.TheVariants as run
+use Rattle.esm_runner.specs.declared.files.FilesError.{FilesError}
+use Rattle.esm_runner.specs.declared.files.FilesError.TheVariants as files
+use Rattle.esm_runner.specs.declared.run.MappingEnd.{MappingEnd}
+use Rattle.esm_runner.specs.declared.run.MappingEnd.TheVariants as run
 
 -- why a line was refused
 abbrev pub why_text : LineError → List ℕ
@@ -39,20 +37,13 @@ ending_of_reading (ends.BadLine bad) = ending.BadLine bad.line (why_text bad.why
 ending_of_reading ends.Fault = ending.InputFault
 ending_of_reading (ends.Limit limit) = ending.Limit limit
 
--- of a stream's run
-abbrev pub ending_of : StreamEnd → Ending
+-- of a mapping's run
+abbrev pub ending_of : MappingEnd → Ending
 ending_of (run.Finished why) = ending_of_reading why
 ending_of run.CallsSpent = ending.CallsSpent
 ending_of run.DiskFault = ending.DiskFault
 ending_of run.DestFault = ending.DestFault
 ending_of (run.Changed change) = ending.StreamChanged change
-
--- of a queue's run
-abbrev pub ending_of_queue : QueueEnd → Ending
-ending_of_queue (queue.Finished why) = ending_of_reading why
-ending_of_queue queue.CallsSpent = ending.CallsSpent
-ending_of_queue queue.DiskFault = ending.DiskFault
-ending_of_queue (queue.Changed change) = ending.StreamChanged change
 
 abbrev pub file_of : JournalFile → FileName
 file_of file.Journal = name.Journal

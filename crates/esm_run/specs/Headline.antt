@@ -8,19 +8,19 @@ use Rattle.esm_model.specs.Earned.{FateIsEarned}
 use Rattle.esm_model.specs.Entries.{CallsFollowShut}
 use Rattle.esm_model.specs.Laws.{CheckpointIsLongest, EveryRecordCounted, NoRepeat, OneFate, OrderPerKey}
 use Rattle.esm_model.specs.Setting.{Setting}
-use Rattle.esm_stream.specs.Given.{AreGiven}
-use Rattle.esm_stream.specs.Ran.{NoneRuns}
+use Rattle.esm_runner.specs.Given.{AreGiven}
+use Rattle.esm_runner.specs.Ran.{NoneRuns}
 use Rattle.esm_report.specs.Report.{report_text}
-use Rattle.esm_stream.specs.Ended.{trouble_of}
-use Rattle.esm_stream.specs.Files.{FilesState}
-use Rattle.esm_stream.specs.Headline.{AnswersAreLogged, CallsMade, CheckpointIsRecorded, CrashKept, FailureLinesKept, FatesAreRecorded, IsInHand, JournalKept, JournalStopped}
-use Rattle.esm_stream.specs.declared.run.StreamEnd.{StreamEnd}
+use Rattle.esm_runner.specs.Ended.{trouble_of}
+use Rattle.esm_runner.specs.Files.{FilesState}
+use Rattle.esm_runner.specs.Headline.{AnswersAreLogged, CallsMade, CheckpointIsRecorded, CrashKept, FailureLinesKept, FatesAreRecorded, IsInHand, JournalKept, JournalStopped}
+use Rattle.esm_runner.specs.declared.run.MappingEnd.{MappingEnd}
 use Rattle.esm_run.specs.Endings.{ending_of}
 use Rattle.esm_run.specs.World.{RunTells, Seen, devices_of}
 
 -- The run of these options over these files and this setting left this history, newest entry first, and this text, and ended
 -- so. In hand is the entry, if there is one, whose payload may stand in the journal though it is not in the history.
-pub record Headline {S D F : Type 0} (o : RunTells S D F) (r : RunWords) (f : FilesState D) (s : Setting) (h : List Entry) (end : StreamEnd) (hand : List Entry) (old new : Seen S D F) (text : List ℕ) : Type 0 where
+pub record Headline {S D F : Type 0} (o : RunTells S D F) (r : RunWords) (f : FilesState D) (s : Setting) (h : List Entry) (end : MappingEnd) (hand : List Entry) (old new : Seen S D F) (text : List ℕ) : Type 0 where
   -- each entry may follow those before it, over every list of records that goes on from those that came
   pub legal_trace : LegalOver s h
   -- each moment is one that the clock gave, at most the greatest, or that of the entry before it where that is later

@@ -7,26 +7,20 @@ use Rattle.esm_cli.specs.declared.command.RunWords.{RunWords}
 use Rattle.esm_queue_model.specs.QueueSetting.{QueueSetting}
 use Rattle.esm_queue_model.specs.QueueStep.{LegalQueue}
 use Rattle.esm_queue_report.specs.Queue.{queue_report_text}
-use Rattle.esm_queue_run.specs.declared.run.QueueEnd.{QueueEnd}
 use Rattle.esm_report.specs.declared.ending.Ending.{Ending}
 use Rattle.esm_report.specs.Report.{last_line, report_text, stands_alone}
 use Rattle.esm_said.specs.SaidLists.{SaidLists}
-use Rattle.esm_stream.specs.declared.run.StreamEnd.{StreamEnd}
+use Rattle.esm_runner.specs.declared.run.MappingEnd.{MappingEnd}
 use Rattle.esm_run.specs.Answers.{RunEnded}
-use Rattle.esm_run.specs.Endings.{ending_of, ending_of_queue}
+use Rattle.esm_run.specs.Endings.{ending_of}
 use Rattle.esm_run.specs.World.{RunTells, Seen}
 use Rattle.esm_run.specs.declared.left.Began.{Began}
 use Rattle.esm_run.specs.declared.left.Began.TheVariants as began
 
--- a stream's run that was not stopped tells this ending
-abbrev pub IsEndingOf : Result StreamEnd OutOfMemory → Ending → Type 0
+-- a run that was not stopped tells this ending
+abbrev pub IsEndingOf : Result MappingEnd OutOfMemory → Ending → Type 0
 IsEndingOf (Ok end) ending = ending ≡ ending_of end
 IsEndingOf (Err why) ending = ⊥
-
--- a queue's
-abbrev pub IsEndingOfQueue : Result QueueEnd OutOfMemory → Ending → Type 0
-IsEndingOfQueue (Ok end) ending = ending ≡ ending_of_queue end
-IsEndingOfQueue (Err why) ending = ⊥
 
 -- the last line of an ending that stands alone
 pub record IsLastLine (ending : Ending) (text : List ℕ) : Type 0 where

@@ -7,7 +7,7 @@ use Rattle.esm_io.specs.Meanings.{DiskMeaning}
 use Rattle.esm_io.specs.Talks.{Closed, Talk}
 use Rattle.esm_model.specs.declared.called.Called.{Called}
 use Rattle.esm_model.specs.declared.entry.Entry.{Entry}
-use Rattle.esm_stream.specs.Headline.{Devices, Telling, telling}
+use Rattle.esm_runner.specs.Headline.{Devices, Telling, telling}
 use Rattle.esm_run.specs.declared.world.World.{World}
 
 -- what the devices of a world tell

@@ -1,14 +1,13 @@
 // What became of the options of `run`, before it is told.
 ghost use Rattle.std.specs.Prelude.{◌≡◌, [], IfOk};
-ghost use Rattle.esm_run.specs.Ran.{IsEndingOf, IsEndingOfQueue};
+ghost use Rattle.esm_run.specs.Ran.{IsEndingOf};
 ghost use Rattle.esm_run.specs.declared.left.Began.TheVariants as began;
 
-use crate::refusal::{ending_of, ending_of_queue};
+use crate::refusal::ending_of;
 use esm_model::{Entry, OutOfMemory};
-use esm_queue_run::QueueRun;
 use esm_report::Ending;
+use esm_runner::MappingRun;
 use esm_said::Says;
-use esm_stream::StreamRun;
 use std::alloc::Global;
 
 /// The devices of a run.
@@ -59,14 +58,22 @@ pub fn not_begun<S, D, F>(
     }
 }
 
-/// How the run of a stream's mapping ended, and the devices that it left.
-pub fn stream_ran<S, D, F>(alloc: Global, run: StreamRun<S, D, F>, registry: D) -> Ran<S, D, F>
+/// A run that ended, with what its journal said before, and its devices, the registry's disk among them.
+struct Left<S, D, F> {
+    end: Result<Ending, OutOfMemory>,
+    said: Says,
+    trace: Vec<Entry>,
+    devices: RunDevices<S, D, F>,
+}
+
+/// How the run of a mapping ended, and the devices that it left.
+fn left_by<S, D, F>(alloc: Global, run: MappingRun<S, D, F>, registry: D) -> Left<S, D, F>
     ensures ended { IfOk result.end (IsEndingOf run.end) }
-    ensures began { result.began ≡ began.Stream run.said }
+    ensures said { result.said ≡ run.said }
     ensures trace { result.trace ≡ run.trace }
     ensures devices { result.devices ≡ record { input = run.input; journal = run.journal; spare = run.spare; failures = run.failures; registry = registry; callers = run.callers } }
 {
-    let StreamRun {
+    let MappingRun {
         end,
         trace,
         said,
@@ -80,9 +87,9 @@ pub fn stream_ran<S, D, F>(alloc: Global, run: StreamRun<S, D, F>, registry: D) 
         Ok(end) => ending_of(alloc, end),
         Err(OutOfMemory) => Err(OutOfMemory),
     };
-    Ran {
+    Left {
         end,
-        began: Began::Stream(said),
+        said,
         trace,
         devices: RunDevices {
             input,
@@ -95,38 +102,44 @@ pub fn stream_ran<S, D, F>(alloc: Global, run: StreamRun<S, D, F>, registry: D) 
     }
 }
 
+/// How the run of a stream's mapping ended, and the devices that it left.
+pub fn stream_ran<S, D, F>(alloc: Global, run: MappingRun<S, D, F>, registry: D) -> Ran<S, D, F>
+    ensures ended { IfOk result.end (IsEndingOf run.end) }
+    ensures began { result.began ≡ began.Stream run.said }
+    ensures trace { result.trace ≡ run.trace }
+    ensures devices { result.devices ≡ record { input = run.input; journal = run.journal; spare = run.spare; failures = run.failures; registry = registry; callers = run.callers } }
+{
+    let Left {
+        end,
+        said,
+        trace,
+        devices,
+    } = left_by(alloc, run, registry);
+    Ran {
+        end,
+        began: Began::Stream(said),
+        trace,
+        devices,
+    }
+}
+
 /// How the run of a queue's mapping ended, and the devices that it left.
-pub fn queue_ran<S, D, F>(alloc: Global, run: QueueRun<S, D, F>, registry: D) -> Ran<S, D, F>
-    ensures ended { IfOk result.end (IsEndingOfQueue run.end) }
+pub fn queue_ran<S, D, F>(alloc: Global, run: MappingRun<S, D, F>, registry: D) -> Ran<S, D, F>
+    ensures ended { IfOk result.end (IsEndingOf run.end) }
     ensures began { result.began ≡ began.Queue run.said }
     ensures trace { result.trace ≡ run.trace }
     ensures devices { result.devices ≡ record { input = run.input; journal = run.journal; spare = run.spare; failures = run.failures; registry = registry; callers = run.callers } }
 {
-    let QueueRun {
+    let Left {
         end,
-        trace,
         said,
-        input,
-        journal,
-        spare,
-        failures,
-        callers,
-    } = run;
-    let end = match end {
-        Ok(end) => ending_of_queue(alloc, end),
-        Err(OutOfMemory) => Err(OutOfMemory),
-    };
+        trace,
+        devices,
+    } = left_by(alloc, run, registry);
     Ran {
         end,
         began: Began::Queue(said),
         trace,
-        devices: RunDevices {
-            input,
-            journal,
-            spare,
-            failures,
-            registry,
-            callers,
-        },
+        devices,
     }
 }

@@ -3,17 +3,16 @@ ghost use Rattle.std.specs.Prelude.{◌≡◌, ◌++◌, Some, IfOk, OnErr};
 ghost use Rattle.esm_config.specs.Names.{name_of};
 ghost use Rattle.esm_record.specs.declared.error.LineError.TheVariants.{Backwards};
 ghost use Rattle.esm_report.specs.declared.ending.Ending.TheVariants.{BadParameter};
-ghost use Rattle.esm_run.specs.Endings.{why_text, ending_of, ending_of_queue, ending_of_reading, ending_of_files, ending_of_mapping, file_of};
+ghost use Rattle.esm_run.specs.Endings.{why_text, ending_of, ending_of_reading, ending_of_files, ending_of_mapping, file_of};
 
 use esm_config::Param;
 use esm_init::FileName;
 use esm_input::InputEnd;
 use esm_mapping::MappingError;
 use esm_model::{OutOfMemory, Text};
-use esm_queue_run::QueueEnd;
 use esm_record::LineError;
 use esm_report::Ending;
-use esm_stream::{FilesError, StreamEnd};
+use esm_runner::{FilesError, MappingEnd};
 use esm_upkeep::JournalFile;
 use std::alloc::Global;
 
@@ -83,28 +82,16 @@ fn ending_of_reading(alloc: Global, end: InputEnd) -> Result<Ending, OutOfMemory
     }
 }
 
-/// The ending of a stream's run.
-pub fn ending_of(alloc: Global, end: StreamEnd) -> Result<Ending, OutOfMemory>
+/// The ending of a mapping's run.
+pub fn ending_of(alloc: Global, end: MappingEnd) -> Result<Ending, OutOfMemory>
     ensures { IfOk result (λ ending. ending ≡ ending_of end) }
 {
     match end {
-        StreamEnd::Finished(why) => ending_of_reading(alloc, why),
-        StreamEnd::CallsSpent => Ok(Ending::CallsSpent),
-        StreamEnd::DiskFault => Ok(Ending::DiskFault),
-        StreamEnd::DestFault => Ok(Ending::DestFault),
-        StreamEnd::Changed(change) => Ok(Ending::StreamChanged(change)),
-    }
-}
-
-/// The ending of a queue's run.
-pub fn ending_of_queue(alloc: Global, end: QueueEnd) -> Result<Ending, OutOfMemory>
-    ensures { IfOk result (λ ending. ending ≡ ending_of_queue end) }
-{
-    match end {
-        QueueEnd::Finished(why) => ending_of_reading(alloc, why),
-        QueueEnd::CallsSpent => Ok(Ending::CallsSpent),
-        QueueEnd::DiskFault => Ok(Ending::DiskFault),
-        QueueEnd::Changed(change) => Ok(Ending::StreamChanged(change)),
+        MappingEnd::Finished(why) => ending_of_reading(alloc, why),
+        MappingEnd::CallsSpent => Ok(Ending::CallsSpent),
+        MappingEnd::DiskFault => Ok(Ending::DiskFault),
+        MappingEnd::DestFault => Ok(Ending::DestFault),
+        MappingEnd::Changed(change) => Ok(Ending::StreamChanged(change)),
     }
 }
 

@@ -27,12 +27,12 @@ use std::thread::Threads;
 /// the files, `show` told what the journal says or `failures` its lines, `compact` or `migrate` wrote the journal anew or
 /// found it of version 2, `run` read the input to its end and every record has its fate, or every message is deleted,
 /// `serve` served as many connections as it was asked to, or every record of the stream of `gen` has its fate; 1 where
-/// the calls allowed were spent before; 2 where the words are no command that is built; 3 at a bad line; 4 where the input
-/// failed; 5 where the output failed; 6 where a disk failed; 7 where the failure file failed in a run; 8 where `init` found
-/// a file that is not empty, or another command one that is no journal, is damaged or has a bad payload, or a record or
-/// message differs from the kept one; 9 where the mapping is unknown or disabled, or a parameter is refused; 10 past a
-/// limit; 11 where the door failed; 70 for want of memory, after which nothing is told. 4, 5, 6, 7 and 11 come only where
-/// the device's count of faults rose.
+/// the calls allowed were spent before, also while more of the input was awaited; 2 where the words are no command that is
+/// built; 3 at a bad line; 4 where the input failed; 5 where the output failed; 6 where a disk failed; 7 where the failure
+/// file failed in a run; 8 where `init` found a file that is not empty, or another command one that is no journal, is
+/// damaged or has a bad payload, or a record or message differs from the kept one; 9 where the mapping is unknown or
+/// disabled, or a parameter is refused; 10 past a limit; 11 where the door failed; 70 for want of memory, after which
+/// nothing is told. 4, 5, 6, 7 and 11 come only where the device's count of faults rose.
 pub fn esm<
     R: Threads + Wait + Sync,
     S: Source + Send,

@@ -8,6 +8,7 @@ pub mod Endings
 pub mod Noting
 pub mod Standing
 pub mod Founds
+mod PoolingChanges
 mod PoolingEntries
 mod PoolingFinished
 mod PoolingCame

@@ -15,7 +15,7 @@ use Rattle.esm_model.specs.declared.book.Trouble.{Trouble}
 use Rattle.esm_model.specs.declared.book.Trouble.TheVariants.{Disk, Dest, Changed}
 use Rattle.esm_model.specs.declared.entry.Entry.{Entry}
 use Rattle.esm_model.specs.declared.entry.Entry.TheVariants.{Began}
-use Rattle.esm_model.specs.Kept.{meaning, added, IsLegal}
+use Rattle.esm_model.specs.Kept.{meaning, change_of, added, IsLegal}
 use Rattle.esm_model.specs.Books.{author, stream_may_follow}
 use Rattle.esm_model.specs.Setting.{Setting}
 use Rattle.esm_model.specs.Step.{Legal}
@@ -193,19 +193,19 @@ asked_none k t old new e es none g rest down = record {
 }
 
 asked_fault : {D T : Type 0} (d : DiskMeaning D) (n : DestMeaning T) (k t : ℕ) (old new : BookState D T) (e : BookError) (trouble : Trouble) → AddedSome d n old.core.setting old new (next_entries_now old.core k t) trouble
-    → IsSound old → IsSound new → AllRest old.core.setting old.core.past k → HasAsked old new k t (Err e)
-asked_fault d n k t old new e trouble some before after rest =
+    → (is_down old ≡ true → ⊥) → IsSound old → IsSound new → AllRest old.core.setting old.core.past k → HasAsked old new k t (Err e)
+asked_fault d n k t old new e trouble some up before after rest =
     let s = old.core.setting in
     let m = moment_for old.core.past t in
     let none : some.front ≡ [] = none_before trouble s some.front some.rest (next_entries_now old.core k t) (one_entry s old.core.past k m (next_for s old.core.past k m)) some.split some.writing in
     asked_none k t old new e some.front none
-    (added_some d n old new k m (next_entries_now old.core k t) trouble some before after (subst (AreOwn s old.core.past k m) (sym none) tt))
+    (added_some d n old new k m (next_entries_now old.core k t) trouble some up before after (subst (AreOwn s old.core.past k m) (sym none) tt))
     rest (inr (ap is_some some.trouble_is))
 
 pub asked : {D T : Type 0} (d : DiskMeaning D) (n : DestMeaning T) (k t : ℕ) (old new : BookState D T) (r : Result Next BookError) → NextSays d n k t old new r → IsSound old → IsSound new → AllRest old.core.setting old.core.past k → HasAsked old new k t r
 asked d n k t old new (Ok x) says before after rest = answered_all d n k t old new x says after rest
-asked d n k t old new (Err why.DiskFault) says before after rest = asked_fault d n k t old new why.DiskFault Disk (says.stopped refl) before after rest
-asked d n k t old new (Err why.DestFault) says before after rest = asked_fault d n k t old new why.DestFault Dest (says.undelivered refl) before after rest
+asked d n k t old new (Err why.DiskFault) says before after rest = asked_fault d n k t old new why.DiskFault Disk (says.stopped refl) (λ was. let clash : Err why.DiskFault ≡ Err why.Down = says.down.1 was in absurd (cc)) before after rest
+asked d n k t old new (Err why.DestFault) says before after rest = asked_fault d n k t old new why.DestFault Dest (says.undelivered refl) (λ was. let clash : Err why.DestFault ≡ Err why.Down = says.down.1 was in absurd (cc)) before after rest
 asked {D} {T} d n k t old new (Err why.Down) says before after rest =
     let m = moment_for old.core.past t in
     asked_none k t old new why.Down [] refl (subst (λ (b : BookState D T). HasAdded old b k m []) (sym (says.left refl)) (added_none old k m)) rest
@@ -221,7 +221,7 @@ module _ {D T : Type 0} (code : Coded D) (dest_code : Coded T) (lines : T → Op
   so = asked d n k t old new r says before after (rests_still code dest_code lines old k before rest)
 
   pub ask_goes_on : ((setup : Setup) → IsSetupOf setup new → IsLegal (stream_may_follow setup) (told_of new.core))
-      → GoesOn (meaning (λ b. setup_of code dest_code lines b) (λ (b : BookState D T). told_of b.core) (λ b. is_down b) author stream_may_follow) (k + 1) old new
+      → GoesOn (meaning (λ b. setup_of code dest_code lines b) (λ (b : BookState D T). told_of b.core) (λ b. is_down b) (λ b. change_of b.trouble) author stream_may_follow) (k + 1) old new
   ask_goes_on law = goes_on code dest_code lines old new k (moment_for old.core.past t) so.es so.added law
 
   pub ask_moments : AllAt t (told_of old.core) (added (told_of old.core) (told_of new.core))

@@ -20,6 +20,7 @@ use Rattle.esm_model.specs.Moment.{capped_moment}
 use Rattle.esm_model.specs.Setting.{Setting, Stream, records_in, records_of, over}
 use Rattle.esm_model.specs.Entries.{moment_of, last_moment, holds, came_count, is_shut, is_shut_entry}
 use Rattle.esm_model.specs.Books.{entries_told, records_told, lane_of_entry}
+use Rattle.esm_model.specs.Kept.{change_of}
 use Rattle.esm_model.proofs.Lists.{Distinct}
 use Rattle.esm_model.proofs.TellingFacts.{entries_more, records_in_told, records-append}
 use Rattle.esm_model.proofs.BookLaws.{count_told}
@@ -33,11 +34,12 @@ use Rattle.esm_owing.specs.Arrival.{streams_of}
 use Rattle.esm_owing.specs.OwingView.{OwingView, full_setting, with_coming, setting_with}
 use Rattle.esm_core.specs.Calls.{moment_for, coming_lists, came_entries, Differs}
 use Rattle.esm_core.specs.Told.{covered, stream_entry, told_entries, told_of}
-use Rattle.esm_pooled.specs.GoingOn.{AllAt}
+use Rattle.esm_pooled.specs.GoingOn.{AllAt, change_told}
 use Rattle.esm_sbook.specs.Books.{BookState, is_down}
 use Rattle.esm_sbook.specs.Calls.{Added, AddedAll, AddedSome, AddedOne, IsSame}
 use Rattle.esm_sbook.specs.Keeping.{IsSound}
 use Rattle.esm_sbook.proofs.Records.{entries_same}
+use Rattle.esm_sbook.proofs.PoolingChanges.{none_while_up}
 
 -- what the reader adds
 
@@ -447,21 +449,34 @@ has_come {D} {T} d n list moment v w (Err refusal.OutOfMemory) says sound going 
     let same = says.no_memory refl in
     come_still list moment v w refusal.OutOfMemory (brought_same n moment v w same) (ap (λ (b : BookState D T). b.core) same.rest) going (inl refl)
 
+-- the change that the book was told: the one that the records brought, if they brought one
+pub came_tells : {D T : Type 0} (d : DiskMeaning D) (n : DestMeaning T) (list : List Record) (moment : ℕ) (v w : BookState D T) (r : Result (Unit {0}) CameError) → CameSays d n list moment v w r → change_of w.trouble ≡ change_told (change_of v.trouble) r
+came_tells d n list moment v w (Ok u) says =
+    ap change_of says.added.trouble ∙ sym (none_while_up v.trouble (λ was. let clash : Ok u ≡ Err refusal.Down = says.down.1 was in absurd (cc)))
+came_tells d n list moment v w (Err refusal.DiskFault) says =
+    ap change_of (says.stopped refl).trouble_is ∙ sym (none_while_up v.trouble (λ was. let clash : Err refusal.DiskFault ≡ Err refusal.Down = says.down.1 was in absurd (cc)))
+came_tells {D} {T} d n list moment v w (Err (refusal.StreamChanged change)) says = ap (λ (b : BookState D T). change_of b.trouble) (says.changed change refl).2
+came_tells {D} {T} d n list moment v w (Err refusal.Down) says = ap (λ (b : BookState D T). change_of b.trouble) (says.left refl)
+came_tells {D} {T} d n list moment v w (Err refusal.OutOfMemory) says = ap (λ (b : BookState D T). change_of b.trouble) (says.no_memory refl).rest
+
 -- and by one that notes the input's end
 
 pub record HasEndedInput {D T : Type 0} (moment : ℕ) (v w : BookState D T) : Type 0 where
   pub brought : IsBrought moment v w
   pub same : (n : ℕ) → records_told n (told_of w.core) ≡ records_told n (told_of v.core)
   pub shut : is_down w ≡ false → is_shut w.core.past ≡ true
+  pub change : change_of w.trouble ≡ change_of v.trouble
 
 pub has_ended : {D T : Type 0} (moment : ℕ) (v w : BookState D T) (r : Result (Unit {0}) BookError) → OnOk r (AddedOne v w (Shut (moment_for v.core.past moment))) → IsErrOf r why.Down ↔ IsSome v.trouble → IfErr r (λ e. e ≡ why.Down) → OnErr r (w ≡ v) → HasEndedInput moment v w
-has_ended moment v w (Ok u) added down only left = record {
+has_ended {D} {T} moment v w (Ok u) added down only left = record {
   brought = brought_end moment v w added;
   same = λ n. same_end moment n v w added;
   shut = λ up. ap is_shut added.past;
+  change = ap (λ (b : BookState D T). change_of b.trouble) added.rest;
 }
 has_ended {D} {T} moment v w (Err e) added down only left = record {
   brought = brought_nothing moment v w left;
   same = λ n. same_nothing n v w left;
   shut = λ up. absurd (let clash : true ≡ false = sym (down.0 (ap Err only)) ∙ sym (ap (λ (b : BookState D T). is_down b) left) ∙ up in cc);
+  change = ap (λ (b : BookState D T). change_of b.trouble) left;
 }

@@ -16,7 +16,7 @@ use Rattle.esm_model.specs.declared.book.Trouble.TheVariants.{Disk, Dest, Change
 use Rattle.esm_model.specs.declared.entry.Entry.{Entry}
 use Rattle.esm_model.specs.declared.entry.Entry.TheVariants.{Ended}
 use Rattle.esm_model.specs.declared.entry.Reply.{Reply}
-use Rattle.esm_model.specs.Kept.{meaning, added, IsLegal}
+use Rattle.esm_model.specs.Kept.{meaning, change_of, added, IsLegal}
 use Rattle.esm_model.specs.Books.{author, stream_may_follow}
 use Rattle.esm_model.specs.Lane.{same_lane}
 use Rattle.esm_model.specs.Setting.{Setting}
@@ -159,14 +159,14 @@ ended_front t s h k m job reply (e ∷ es) rest legal runs split writing =
     subst (λ (x : Entry). IsEnded s h k m job reply (x ∷ es)) e_is (ended_so s h k m job reply es rest legal runs tail)
 
 ended_fault : {D T : Type 0} (d : DiskMeaning D) (n : DestMeaning T) (k t : ℕ) (job : Job) (reply : Reply) (old new : BookState D T) (e : BookError) (trouble : Trouble) → (e ≡ why.OutOfMemory → ⊥) → Legal old.core.setting old.core.past
-    → AddedSome d n old.core.setting old new (ended_entries old.core job.lane reply (moment_for old.core.past t)) trouble → IsSound old → IsSound new → RunsOver old.core.setting old.core.past k job → HasEnded old new k t job reply (Err e)
-ended_fault d n k t job reply old new e trouble other legal some before after runs =
+    → AddedSome d n old.core.setting old new (ended_entries old.core job.lane reply (moment_for old.core.past t)) trouble → (is_down old ≡ true → ⊥) → IsSound old → IsSound new → RunsOver old.core.setting old.core.past k job → HasEnded old new k t job reply (Err e)
+ended_fault d n k t job reply old new e trouble other legal some up before after runs =
     let s = old.core.setting in
     let m = moment_for old.core.past t in
     let so : IsEnded s old.core.past k m job reply some.front = ended_front trouble s old.core.past k m job reply some.front some.rest legal runs some.split some.writing in
     record {
       es = some.front;
-      added = added_some d n old new k m (ended_entries old.core job.lane reply m) trouble some before after so.own;
+      added = added_some d n old new k m (ended_entries old.core job.lane reply m) trouble some up before after so.own;
       ended = λ any. so;
       unchanged = λ is. absurd (other (let same : e ≡ why.OutOfMemory = cc in same));
       down = inr (ap is_some some.trouble_is);
@@ -190,9 +190,9 @@ ended d n k t job reply old new (Ok count) says before after runs =
       down = tt;
     }
 ended d n k t job reply old new (Err why.DiskFault) says before after runs =
-    ended_fault d n k t job reply old new why.DiskFault Disk (λ is. absurd (cc)) (legal_before old before) (says.stopped refl) before after runs
+    ended_fault d n k t job reply old new why.DiskFault Disk (λ is. absurd (cc)) (legal_before old before) (says.stopped refl) (λ was. let clash : Err why.DiskFault ≡ Err why.Down = says.down.1 was in absurd (cc)) before after runs
 ended d n k t job reply old new (Err why.DestFault) says before after runs =
-    ended_fault d n k t job reply old new why.DestFault Dest (λ is. absurd (cc)) (legal_before old before) (says.undelivered refl) before after runs
+    ended_fault d n k t job reply old new why.DestFault Dest (λ is. absurd (cc)) (legal_before old before) (says.undelivered refl) (λ was. let clash : Err why.DestFault ≡ Err why.Down = says.down.1 was in absurd (cc)) before after runs
 ended {D} {T} d n k t job reply old new (Err why.Down) says before after runs =
     let s = old.core.setting in
     let m = moment_for old.core.past t in
@@ -221,7 +221,7 @@ module _ {D T : Type 0} (code : Coded D) (dest_code : Coded T) (lines : T → Op
   so = ended d n k t job reply old new r says before after (runs_still code dest_code lines old k before job runs)
 
   pub end_goes_on : ((setup : Setup) → IsSetupOf setup new → IsLegal (stream_may_follow setup) (told_of new.core))
-      → GoesOn (meaning (λ b. setup_of code dest_code lines b) (λ (b : BookState D T). told_of b.core) (λ b. is_down b) author stream_may_follow) (k + 1) old new
+      → GoesOn (meaning (λ b. setup_of code dest_code lines b) (λ (b : BookState D T). told_of b.core) (λ b. is_down b) (λ b. change_of b.trouble) author stream_may_follow) (k + 1) old new
   end_goes_on law = goes_on code dest_code lines old new k (moment_for old.core.past t) so.es so.added law
 
   pub end_moments : AllAt t (told_of old.core) (added (told_of old.core) (told_of new.core))

@@ -15,7 +15,7 @@ use Rattle.esm_model.specs.declared.setup.Told.{Told}
 use Rattle.esm_model.specs.Setup.{no_setup}
 use Rattle.esm_model.specs.Setting.{Setting, over}
 use Rattle.esm_model.specs.Entries.{is_shut}
-use Rattle.esm_model.specs.Kept.{meaning, added, IsLegal, MayFollowAll, AllBy}
+use Rattle.esm_model.specs.Kept.{meaning, change_of, added, IsLegal, MayFollowAll, AllBy}
 use Rattle.esm_model.specs.Books.{author, stream_may_follow, setting_told, entries_told, seat_of, records_told}
 use Rattle.esm_model.specs.Valid.{IsValidRecord}
 use Rattle.esm_record.specs.declared.item.Item.{Item}
@@ -69,7 +69,7 @@ module _ {D T : Type 0} (code : Coded D) (dest : Coded T) (lines : T → Option 
     more_is = ap (drop (length (told_of v.core))) brought.told ∙ drop-append_seam (told_of v.core) brought.more
 
     pub read_goes_on : ((setup : Setup) → IsSetupOf setup w → IsLegal (stream_may_follow setup) (told_of w.core))
-        → GoesOn (meaning (λ (b : BookState D T). setup_of code dest lines b) (λ (b : BookState D T). told_of b.core) (λ (b : BookState D T). is_down b) author stream_may_follow) 0 v w
+        → GoesOn (meaning (λ (b : BookState D T). setup_of code dest lines b) (λ (b : BookState D T). told_of b.core) (λ (b : BookState D T). is_down b) (λ (b : BookState D T). change_of b.trouble) author stream_may_follow) 0 v w
     read_goes_on law =
         let setup : Setup = setup_of code dest lines v in
         let whole : IsLegal (stream_may_follow setup) (told_of v.core ++ brought.more)
@@ -80,6 +80,7 @@ module _ {D T : Type 0} (code : Coded D) (dest : Coded T) (lines : T → Option 
           legal = subst (MayFollowAll (stream_may_follow setup) (told_of v.core)) (sym more_is) (may_back (stream_may_follow setup) [] (told_of v.core) brought.more whole);
           own = subst (AllBy (author setup) 0 (told_of v.core)) (sym more_is) (readers_own setup (told_of v.core) brought.more brought.own);
           marked = brought.down;
+          unchanged = λ batcher. absurd (batcher refl);
         }
 
     pub read_moments : AllAt moment (told_of v.core) (added (told_of v.core) (told_of w.core))

@@ -14,7 +14,7 @@ use Rattle.esm_model.specs.Setting.{Setting, Stream, over}
 use Rattle.esm_model.specs.Moment.{capped_moment}
 use Rattle.esm_model.specs.Entries.{last_moment, came_count, is_running, batcher, last_call, batch_of, shards_that_came}
 use Rattle.esm_model.specs.Calls.{calls, last_event}
-use Rattle.esm_model.specs.Kept.{meaning, added, IsLegal, MayFollowAll, AllBy}
+use Rattle.esm_model.specs.Kept.{meaning, change_of, added, IsLegal, MayFollowAll, AllBy}
 use Rattle.esm_model.specs.Books.{entries_told, streams_told, setting_told, author, stream_may_follow}
 use Rattle.esm_pooled.specs.GoingOn.{GoesOn, AllAt}
 use Rattle.esm_lasting.specs.Batchers.{calls_told, Rests, RunsJob}
@@ -26,9 +26,10 @@ use Rattle.esm_sbook.specs.Books.{BookState, setup_of, is_down}
 use Rattle.esm_sbook.specs.Calls.{AddedAll, AddedSome, AddedOne, IsSame}
 use Rattle.esm_sbook.specs.Keeping.{IsSound, IsSetupOf}
 use Rattle.esm_sbook.proofs.Records.{entries_same}
+use Rattle.esm_sbook.proofs.PoolingChanges.{none_while_up, none_by_fault}
 use Rattle.esm_sbook.proofs.PoolingEntries.{AreOwn, all_own, all_at, streams_own}
 
--- the batcher's own entries were added, and no records came
+-- the batcher's own entries were added, no records came, and the book was told no change
 pub record HasAdded {D T : Type 0} (old new : BookState D T) (k m : ℕ) (es : List Entry) : Type 0 where
   pub setting : new.core.setting ≡ old.core.setting
   pub past : new.core.past ≡ reverse es ++ old.core.past
@@ -36,6 +37,7 @@ pub record HasAdded {D T : Type 0} (old new : BookState D T) (k m : ℕ) (es : L
   pub found : new.found ≡ old.found
   pub found_dest : new.found_dest ≡ old.found_dest
   pub marked : is_down old ≡ true → is_down new ≡ true
+  pub unchanged : change_of new.trouble ≡ change_of old.trouble
   pub own : AreOwn old.core.setting old.core.past k m es
 
 -- what was added by a call, as far as it came
@@ -51,12 +53,13 @@ added_all d n old new k m es all up own = record {
   found = all.added.found;
   found_dest = all.added.found_dest;
   marked = λ was. absurd (up was);
+  unchanged = ap change_of all.trouble ∙ sym (none_while_up old.trouble up);
   own = own;
 }
 
-pub added_some : {D T : Type 0} (d : DiskMeaning D) (n : DestMeaning T) (old new : BookState D T) (k m : ℕ) (es : List Entry) (trouble : Trouble) (some : AddedSome d n old.core.setting old new es trouble) → IsSound old → IsSound new
+pub added_some : {D T : Type 0} (d : DiskMeaning D) (n : DestMeaning T) (old new : BookState D T) (k m : ℕ) (es : List Entry) (trouble : Trouble) (some : AddedSome d n old.core.setting old new es trouble) → (is_down old ≡ true → ⊥) → IsSound old → IsSound new
     → AreOwn old.core.setting old.core.past k m some.front → HasAdded old new k m some.front
-added_some d n old new k m es trouble some before after own =
+added_some d n old new k m es trouble some up before after own =
     let s = old.core.setting in
     let streams : new.core.setting.streams ≡ s.streams =
     after.records ∙ ap streams_told some.added.told ∙ streams_own s s old.core.past k m (told_of old.core) some.front own ∙ sym before.records in
@@ -67,6 +70,7 @@ added_some d n old new k m es trouble some before after own =
       found = some.added.found;
       found_dest = some.added.found_dest;
       marked = down_by old new trouble some.trouble_is;
+      unchanged = ap change_of some.trouble_is ∙ none_by_fault trouble old.core.setting some.rest some.writing ∙ sym (none_while_up old.trouble up);
       own = own;
     }
 
@@ -78,6 +82,7 @@ added_one {D} {T} old new k m e one own = record {
   found = ap (λ (b : BookState D T). b.found) one.rest;
   found_dest = ap (λ (b : BookState D T). b.found_dest) one.rest;
   marked = λ was. ap (λ (b : BookState D T). is_down b) one.rest ∙ was;
+  unchanged = ap (λ (b : BookState D T). change_of b.trouble) one.rest;
   own = own;
 }
 
@@ -89,6 +94,7 @@ added_none old k m = record {
   found = refl;
   found_dest = refl;
   marked = λ was. was;
+  unchanged = refl;
   own = tt;
 }
 
@@ -100,6 +106,7 @@ added_same {D} {T} n old new k m same = record {
   found = ap (λ (b : BookState D T). b.found) same.rest;
   found_dest = ap (λ (b : BookState D T). b.found_dest) same.rest;
   marked = λ was. ap (λ (b : BookState D T). is_down b) same.rest ∙ was;
+  unchanged = ap (λ (b : BookState D T). change_of b.trouble) same.rest;
   own = tt;
 }
 
@@ -143,7 +150,7 @@ module _ {D T : Type 0} (code : Coded D) (dest_code : Coded T) (lines : T → Op
     entries_before = entries_same (full_setting old.core) old.core.past
 
     pub goes_on : ((setup : Setup) → IsSetupOf setup new → IsLegal (stream_may_follow setup) (told_of new.core))
-        → GoesOn (meaning setup_at (λ (b : BookState D T). told_of b.core) is_down author stream_may_follow) (k + 1) old new
+        → GoesOn (meaning setup_at (λ (b : BookState D T). told_of b.core) is_down (λ (b : BookState D T). change_of b.trouble) author stream_may_follow) (k + 1) old new
     goes_on law =
         let setup = setup_at old in
         let is : IsSetupOf setup new = record {
@@ -162,6 +169,7 @@ module _ {D T : Type 0} (code : Coded D) (dest_code : Coded T) (lines : T → Op
           own = subst (AllBy (author setup) (k + 1) (told_of old.core)) (sym added_is)
               (all_own setup old.core.setting old.core.setting old.core.past k m (told_of old.core) es refl (ap shards_that_came entries_before) g.own);
           marked = g.marked;
+          unchanged = λ batcher. g.unchanged;
         }
 
     pub at_moment : (t : ℕ) → m ≡ moment_for old.core.past t → AllAt t (told_of old.core) (added (told_of old.core) (told_of new.core))

@@ -6,6 +6,7 @@ use esm_model::Kept;
 
 impl<D: Disk, T: Dest> Kept for Book<D, T> {
     ghost use Rattle.esm_model.specs.Books.{author, stream_may_follow};
+    ghost use Rattle.esm_model.specs.Kept.{change_of};
     ghost use Rattle.esm_core.specs.Told.{told_of};
     ghost use Rattle.esm_sbook.specs.Books.{setup_of, is_down};
 
@@ -14,6 +15,8 @@ impl<D: Disk, T: Dest> Kept for Book<D, T> {
     ghost history = { λ b. told_of b.core };
 
     ghost mark = { λ b. is_down b };
+
+    ghost change = { λ b. change_of b.trouble };
 
     ghost author = { author };
 

@@ -68,6 +68,11 @@ impl<D: Disk, T: Dest> Pooled for Book<D, T> {
         answer
     }
 
+    fn is_spent(&self) -> bool {
+        let _trouble = self.trouble();
+        Book::is_spent(self)
+    }
+
     fn is_over(&self, batchers: u32) -> Option<bool> {
         let _trouble = self.trouble();
         Book::is_over(self, batchers)

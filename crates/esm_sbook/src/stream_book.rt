@@ -1,5 +1,5 @@
 // The book of a stream's mapping, over its journal and its failure destination.
-ghost use Rattle.std.specs.Prelude.{◌≡◌, ◌↔◌, ◌<◌, ℕ, List, [], ◌++◌, None, Some, true, false, is_ok, reverse, IfOk, IfErr, OnOk, OnErr, IsErrOf, IsSome};
+ghost use Rattle.std.specs.Prelude.{◌≡◌, ◌↔◌, ◌<◌, ◌≤◌, ℕ, List, [], ◌++◌, None, Some, true, false, is_ok, reverse, IfOk, IfErr, OnOk, OnErr, IsErrOf, IsSome};
 ghost use Rattle.std.specs.Option.{option_copied};
 ghost use Rattle.esm_io.specs.Faults.{Rose};
 ghost use Rattle.esm_io.specs.Images.{Only};
@@ -12,7 +12,7 @@ ghost use Rattle.esm_model.specs.declared.book.Trouble.TheVariants as trouble;
 ghost use Rattle.esm_model.specs.declared.entry.Entry.TheVariants as entry;
 ghost use Rattle.esm_model.specs.declared.setup.Setup.{Setup};
 ghost use Rattle.esm_model.specs.Books.{stream_may_follow};
-ghost use Rattle.esm_model.specs.Entries.{is_shut};
+ghost use Rattle.esm_model.specs.Entries.{is_shut, calls_begun};
 ghost use Rattle.esm_model.specs.Kept.{IsLegal};
 ghost use Rattle.esm_model.specs.Pattern.{read_patterns};
 ghost use Rattle.esm_model.specs.Valid.{IsStreamConfig, is_stream};
@@ -259,6 +259,14 @@ impl<D: Disk, T: Dest> Book<D, T> {
         ensures { result ≡ is_shut self.now.core.past }
     {
         self.durable.core().is_shut()
+    }
+
+    /// Whether all calls allowed began, also where the book is down. Takes no memory.
+    pub fn is_spent(&self) -> bool
+        ensures spent { result ≡ true → self.now.core.setting.calls ≤ calls_begun self.now.core.past }
+        ensures going { result ≡ false → calls_begun self.now.core.past < self.now.core.setting.calls }
+    {
+        self.durable.core().is_spent()
     }
 
     /// Whether nothing is left for the batchers below the number, where the book is not down: no record of their lanes is

@@ -2,6 +2,7 @@
 use Rattle.std.proofs.Common.{◌≡◌, ◌≢◌, ℕ, zero, suc, ◌+◌, ◌-◌, ◌%◌, ◌<◌, ◌≤◌, get_or, Bool, true, false, cond, ⊎_elim, inl, inr, List, [], ◌∷◌, ◌++◌, length, refl, sym, ap, ◌∙◌, subst, arith, eq-eqb, ne_eqb, Option, None, Some}
 use mathlib.Core.Logic.{dite}
 use native.Mathlib.Decide.{ℕ_discrete}
+use Rattle.esm_model.specs.declared.book.Change.{Change}
 use Rattle.esm_model.specs.declared.setup.Setup.{Setup}
 use Rattle.esm_model.specs.declared.setup.Told.{Told}
 use Rattle.esm_turn.specs.declared.part.Part.{Part}
@@ -25,24 +26,24 @@ each_but P Q n (x ∷ xs) f h = dite (ℕ_discrete x.number n)
     (λ e. subst (λ b. Each Q (cond b (parts_but n xs) (x ∷ parts_but n xs))) (sym (eq-eqb x.number n e)) (each_but P Q n xs f h.1))
     (λ ne. subst (λ b. Each Q (cond b (parts_but n xs) (x ∷ parts_but n xs))) (sym (ne_eqb x.number n ne)) (f x ne h.0, each_but P Q n xs f h.1))
 
-module _ (author : Setup → List Told → Told → ℕ) (setup : Setup) (seen : List Told) where
-  but_begun : (n k count : ℕ) → n < k → parts_but n (begun_parts author setup seen k count) ≡ begun_parts author setup seen k count
+module _ (author : Setup → List Told → Told → ℕ) (setup : Setup) (seen : List Told) (change : Option Change) where
+  but_begun : (n k count : ℕ) → n < k → parts_but n (begun_parts author setup seen change k count) ≡ begun_parts author setup seen change k count
   but_begun n k zero h = refl
   but_begun n k (suc count) h =
-      let p : Part = begun_part author setup seen k in
-      let rest : List Part = begun_parts author setup seen (suc k) count in
+      let p : Part = begun_part author setup seen change k in
+      let rest : List Part = begun_parts author setup seen change (suc k) count in
       let ne : k ≢ n = λ e. omega (arith, e) in
       ap (λ b. cond b (parts_but n rest) (p ∷ parts_but n rest)) (ne_eqb k n ne) ∙ ap (λ l. p ∷ l) (but_begun n (suc k) count (omega arith))
 
-  pub cut_begun : (i n : ℕ) → i < n → but_first (begun_parts author setup seen i (n - i)) ≡ begun_parts author setup seen (i + 1) (n - (i + 1))
+  pub cut_begun : (i n : ℕ) → i < n → but_first (begun_parts author setup seen change i (n - i)) ≡ begun_parts author setup seen change (i + 1) (n - (i + 1))
   cut_begun i n h =
       let more : n - i ≡ suc (n - (i + 1)) = omega arith in
       let next : suc i ≡ i + 1 = omega arith in
-      ap (λ k. but_first (begun_parts author setup seen i k)) more ∙ (but_begun i (suc i) (n - (i + 1)) (omega arith) ∙ ap (λ k. begun_parts author setup seen k (n - (i + 1))) next)
+      ap (λ k. but_first (begun_parts author setup seen change i k)) more ∙ (but_begun i (suc i) (n - (i + 1)) (omega arith) ∙ ap (λ k. begun_parts author setup seen change k (n - (i + 1))) next)
 
-  pub first_begun : (i n : ℕ) → i < n → first_of_parts (begun_parts author setup seen i (n - i)) ≡ begun_part author setup seen i ∷ []
+  pub first_begun : (i n : ℕ) → i < n → first_of_parts (begun_parts author setup seen change i (n - i)) ≡ begun_part author setup seen change i ∷ []
   first_begun i n h =
-      let more : n - i ≡ suc (n - (i + 1)) = omega arith in ap (λ k. first_of_parts (begun_parts author setup seen i k)) more
+      let more : n - i ≡ suc (n - (i + 1)) = omega arith in ap (λ k. first_of_parts (begun_parts author setup seen change i k)) more
 
 pub mark_even : (mark : Bool) → cond mark 2 0 % 2 ≡ 0
 mark_even true = refl

@@ -4,6 +4,7 @@ use mathlib.Core.List.{IsPrefix}
 use mathlib.Core.Option.{none, some}
 use lib.ListN.{get_elem?}
 use Rattle.atomic_table.specs.Table.{State, Me, Step}
+use Rattle.esm_model.specs.declared.book.Change.{Change}
 use Rattle.esm_model.specs.declared.setup.Told.{Told}
 use Rattle.esm_model.specs.declared.setup.Setup.{Setup}
 use Rattle.esm_model.specs.Kept.{Meaning, entries_of, IsLegal, added}
@@ -20,48 +21,52 @@ abbrev pub word_of : List Told → Bool → Option ℕ → ℕ
 word_of log mark holder = length log * 4 + (if mark then 2 else 0) + out_bit holder
 
 module _ {T : Type 0} (m : Meaning T) (setup : Setup) where
-  -- What the part p, which stands in the view j, knows fits the history log, the mark and the holder.
+  -- What the part p, which stands in the view j, knows fits the history log, the mark, the change and the holder.
   -- Each number's part stands in one view: view_of says in which.
-  pub record FitsPart (seats : ℕ) (log : List Told) (mark : Bool) (holder : Option ℕ) (view_of : ℕ → ℕ) (j : ℕ) (p : Part) : Type 0 where
+  pub record FitsPart (seats : ℕ) (log : List Told) (mark : Bool) (change : Option Change) (holder : Option ℕ) (view_of : ℕ → ℕ) (j : ℕ) (p : Part) : Type 0 where
     pub setup_is : p.setup ≡ setup
     pub seated : p.number < seats
     pub in_view : view_of p.number ≡ j
     pub seen : IsPrefix p.seen log
     pub marked : p.mark ≡ true → mark ≡ true
+    pub told : p.number ≡ 0 → p.change ≡ change
     pub mine : entries_of (m.author setup) p.number log ≡ p.mine
-    pub holding : p.holds ≡ true → (holder ≡ Some p.number) × (p.seen ≡ log) × (p.mark ≡ mark)
+    pub holding : p.holds ≡ true → (holder ≡ Some p.number) × (p.seen ≡ log) × (p.mark ≡ mark) × (p.change ≡ change)
     pub idle : p.holds ≡ false → holder ≢ Some p.number
 
-  -- the value has this setup, history and mark
-  pub record IsAt (log : List Told) (mark : Bool) (x : T) : Type 0 where
+  -- the value has this setup, history, mark and change
+  pub record IsAt (log : List Told) (mark : Bool) (change : Option Change) (x : T) : Type 0 where
     pub setup_is : m.setup x ≡ setup
     pub history_is : m.history x ≡ log
     pub mark_is : m.mark x ≡ mark
+    pub change_is : m.change x ≡ change
 
   -- the value is at home, or out with one of the seats
-  abbrev pub IsHomeOrOut : ℕ → List Told → Bool → Option ℕ → List (mathlib.Core.Option.Option (Option T)) → Type 0
-  IsHomeOrOut seats log mark None homes = (x : T) × (homes ≡ some (Some x) ∷ []) × IsAt log mark x
-  IsHomeOrOut seats log mark (Some n) homes = (n < seats) × (homes ≡ none ∷ [])
+  abbrev pub IsHomeOrOut : ℕ → List Told → Bool → Option Change → Option ℕ → List (mathlib.Core.Option.Option (Option T)) → Type 0
+  IsHomeOrOut seats log mark change None homes = (x : T) × (homes ≡ some (Some x) ∷ []) × IsAt log mark change x
+  IsHomeOrOut seats log mark change (Some n) homes = (n < seats) × (homes ≡ none ∷ [])
 
-  -- Between any two steps there are a history, a mark and a holder that the word tells, the value has and each seat's part fits
+  -- Between any two steps there are a history, a mark, a change and a holder that the value has and each seat's part fits;
+  -- the word tells them, but for the change
   pub record IsKept (seats : ℕ) (s : State (Option T) (List Part)) : Type 0 where
     pub log : List Told
     pub mark : Bool
+    pub change : Option Change
     pub holder : Option ℕ
     pub view_of : ℕ → ℕ
     pub words : s.words ≡ word_of log mark holder ∷ []
-    pub home : IsHomeOrOut seats log mark holder s.homes
+    pub home : IsHomeOrOut seats log mark change holder s.homes
     pub legal : IsLegal (m.may_follow setup) log
     pub others : (n : ℕ) → seats ≤ n → entries_of (m.author setup) n log ≡ []
-    pub each : (j : ℕ) (v : List Part) → get_elem? s.views j ≡ some v → Each (FitsPart seats log mark holder view_of j) v
+    pub each : (j : ℕ) (v : List Part) → get_elem? s.views j ≡ some v → Each (FitsPart seats log mark change holder view_of j) v
 
--- the part of a seat that has taken the value with this history and mark
-abbrev pub found_by : Part → List Told → Bool → Part
-found_by p log mark = record p { seen = log; mark = mark; holds = true }
+-- the part of a seat that has taken the value with this history, mark and change
+abbrev pub found_by : Part → List Told → Bool → Option Change → Part
+found_by p log mark change = record p { seen = log; mark = mark; change = change; holds = true }
 
--- the part of a seat that has given the value back with this history and mark
-abbrev pub given_by : Part → List Told → Bool → Part
-given_by p log mark = record p { seen = log; mine = p.mine ++ added p.seen log; mark = mark; holds = false }
+-- the part of a seat that has given the value back with this history, mark and change
+abbrev pub given_by : Part → List Told → Bool → Option Change → Part
+given_by p log mark change = record p { seen = log; mine = p.mine ++ added p.seen log; mark = mark; change = change; holds = false }
 
 module _ {T : Type 0} (m : Meaning T) where
   -- what a seat knows of a value that it has taken
@@ -71,14 +76,15 @@ module _ {T : Type 0} (m : Meaning T) where
     pub begins : IsPrefix p.seen (m.history x)
     pub mine : entries_of (m.author p.setup) p.number (m.history x) ≡ p.mine
     pub marked : p.mark ≡ true → m.mark x ≡ true
+    pub told : p.number ≡ 0 → m.change x ≡ p.change
 
   -- where the word was the one that was read, the seat has the value; else it is as before
   abbrev pub Took : Step (Option T) → Me (Option T) (List Part) → ℕ → Me (Option T) (List Part) → Type 0
   Took st before n after =
       (n ≡ st.first → (p : Part) → before.0 ≡ p ∷ []
-      → (x : T) × IsTaken p x × (after ≡ (found_by p (m.history x) (m.mark x) ∷ [], (0, Some x) ∷ [])))
+      → (x : T) × IsTaken p x × (after ≡ (found_by p (m.history x) (m.mark x) (m.change x) ∷ [], (0, Some x) ∷ [])))
       × (n ≢ st.first → after ≡ before)
 
   -- the seat has given the value back
   abbrev pub Gave : Me (Option T) (List Part) → Me (Option T) (List Part) → Type 0
-  Gave before after = (p : Part) (x : T) → before ≡ (p ∷ [], (0, Some x) ∷ []) → after ≡ (given_by p (m.history x) (m.mark x) ∷ [], [])
+  Gave before after = (p : Part) (x : T) → before ≡ (p ∷ [], (0, Some x) ∷ []) → after ≡ (given_by p (m.history x) (m.mark x) (m.change x) ∷ [], [])

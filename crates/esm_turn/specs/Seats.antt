@@ -2,6 +2,7 @@
 use Rattle.std.specs.Prelude.{◌≡◌, ℕ, ◌<◌, if◌then◌else◌, Bool, false, List, [], ◌∷◌, length, Option, None, slice_index_or}
 use Rattle.atomic_table.specs.Seated.{TableId}
 use Rattle.atomic_table.specs.Table.{Me}
+use Rattle.esm_model.specs.declared.book.Change.{Change}
 use Rattle.esm_model.specs.declared.setup.Setup.{Setup}
 use Rattle.esm_model.specs.declared.setup.Told.{Told}
 use Rattle.esm_turn.specs.declared.part.Part.{Part}
@@ -21,16 +22,17 @@ pub record SeatView : Type 0 where
   pub seen : List Told
   pub mine : List Told
   pub mark : Bool
+  pub change : Option Change
   pub holds : Bool
 
 abbrev pub turn_view : TableId → Setup → ℕ → TurnView
 turn_view at setup seats = record { at = at; setup = setup; seats = seats }
 
 abbrev pub seat_view : TableId → Part → SeatView
-seat_view at p = record { at = at; setup = p.setup; number = p.number; seen = p.seen; mine = p.mine; mark = p.mark; holds = p.holds }
+seat_view at p = record { at = at; setup = p.setup; number = p.number; seen = p.seen; mine = p.mine; mark = p.mark; change = p.change; holds = p.holds }
 
 abbrev pub part_of : SeatView → Part
-part_of s = record { setup = s.setup; number = s.number; seen = s.seen; mine = s.mine; mark = s.mark; holds = s.holds }
+part_of s = record { setup = s.setup; number = s.number; seen = s.seen; mine = s.mine; mark = s.mark; change = s.change; holds = s.holds }
 
 -- the slot that the seat has is empty, since its caller has the value
 abbrev pub slot_in_hand : {T : Type 0} → Bool → List (ℕ × Option T)
@@ -52,11 +54,11 @@ pub record AreAllSeats (t : TurnView) (seats : List SeatView) : Type 0 where
   pub count : length seats ≡ t.seats
   pub each : (k : ℕ) (d : SeatView) → k < length seats → IsFreeSeat t k (slice_index_or seats k d)
 
--- the seat k, which has seen the history h and its own entries in it
-abbrev pub begun_seat : (Setup → List Told → Told → ℕ) → List Told → TurnView → ℕ → SeatView
-begun_seat author h t k = seat_view t.at (begun_part author t.setup h k)
+-- the seat k, which has seen the history h, its own entries in it, and the change
+abbrev pub begun_seat : (Setup → List Told → Told → ℕ) → List Told → Option Change → TurnView → ℕ → SeatView
+begun_seat author h change t k = seat_view t.at (begun_part author t.setup h change k)
 
--- these are all seats of the turn, as it was made over a value with the history h
-pub record AreBegun (author : Setup → List Told → Told → ℕ) (h : List Told) (t : TurnView) (seats : List SeatView) : Type 0 where
+-- these are all seats of the turn, as it was made over a value with the history h and the change
+pub record AreBegun (author : Setup → List Told → Told → ℕ) (h : List Told) (change : Option Change) (t : TurnView) (seats : List SeatView) : Type 0 where
   pub count : length seats ≡ t.seats
-  pub each : (k : ℕ) (d : SeatView) → k < length seats → slice_index_or seats k d ≡ begun_seat author h t k
+  pub each : (k : ℕ) (d : SeatView) → k < length seats → slice_index_or seats k d ≡ begun_seat author h change t k

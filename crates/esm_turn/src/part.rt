@@ -1,5 +1,5 @@
 // What one seat of a turn knows, and what a turn is told when it is made.
-use esm_model::{Setup, Told};
+use esm_model::{Change, Setup, Told};
 use std::collections::LinkedList;
 use std::snapshot::Snapshot;
 
@@ -13,6 +13,8 @@ pub struct Part {
     pub mine: LinkedList<Told>,
     /// Whether it has seen the mark true.
     pub mark: bool,
+    /// The change that the value was told, as the seat saw it last.
+    pub change: Option<Change>,
     /// Whether it has the value out.
     pub holds: bool,
 }

@@ -8,6 +8,7 @@ use std::collections::LinkedList;
 use std::marker::PhantomData;
 
 /// One word tells the history's length, the mark, and whether the value is out; one slot has the value while it is not.
+/// Only seat 0 tells the value a change, so what that seat saw last is what the value has.
 pub struct Rule<T> {
     of: PhantomData<T>,
 }
@@ -16,9 +17,9 @@ impl<T: Kept> TableRule<Option<T>, LinkedList<Part>, Terms<T>> for Rule<T> {
     ghost use Rattle.esm_turn.specs.Rule.{IsKept};
     ghost use Rattle.esm_turn.specs.Parts.{begun_parts};
 
-    ghost holds = { λ key. IsKept (meaning T.setup T.history T.mark T.author T.may_follow) (T.setup key.made.value) key.seats };
+    ghost holds = { λ key. IsKept (meaning T.setup T.history T.mark T.change T.author T.may_follow) (T.setup key.made.value) key.seats };
 
-    ghost first = { λ key. begun_parts T.author (T.setup key.made.value) (T.history key.made.value) 0 key.seats };
+    ghost first = { λ key. begun_parts T.author (T.setup key.made.value) (T.history key.made.value) (T.change key.made.value) 0 key.seats };
 }
 
 /// Takes the value where the word is still the one that was read.
@@ -29,7 +30,7 @@ pub(crate) struct Takes<T> {
 impl<T: Kept> Play<Option<T>, LinkedList<Part>> for Takes<T> {
     ghost use Rattle.esm_turn.specs.Rule.{Took};
 
-    ghost then = { λ st m n after. Took (meaning T.setup T.history T.mark T.author T.may_follow) st m n after };
+    ghost then = { λ st m n after. Took (meaning T.setup T.history T.mark T.change T.author T.may_follow) st m n after };
 }
 
 /// Gives the value back.
@@ -40,7 +41,7 @@ pub(crate) struct Gives<T> {
 impl<T: Kept> Play<Option<T>, LinkedList<Part>> for Gives<T> {
     ghost use Rattle.esm_turn.specs.Rule.{Gave};
 
-    ghost then = { λ st m n after. Gave (meaning T.setup T.history T.mark T.author T.may_follow) m after };
+    ghost then = { λ st m n after. Gave (meaning T.setup T.history T.mark T.change T.author T.may_follow) m after };
 }
 
 /// Gives a new seat the first part.

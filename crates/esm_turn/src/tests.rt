@@ -20,7 +20,7 @@ struct Log {
 }
 
 impl Kept for Log {
-    ghost use Rattle.std.specs.Prelude.{map, false};
+    ghost use Rattle.std.specs.Prelude.{map, false, None};
     ghost use Rattle.esm_model.specs.Setup.{no_setup};
     ghost use Rattle.esm_turn.specs.TestLogs.{told, seat_of};
 
@@ -29,6 +29,8 @@ impl Kept for Log {
     ghost history = { λ log. map told log.entries.items };
 
     ghost mark = { λ _. false };
+
+    ghost change = { λ _. None };
 
     ghost author = { λ _ _ told. seat_of told.entry };
 

@@ -44,7 +44,7 @@ impl<T: Kept> Model for Turn<T> {
 /// A thread's place at a turn. It takes no bytes.
 ///
 /// Contracts see the turn that it is of, its number, what it has seen, its own entries, whether it has seen the mark true,
-/// and whether it has the value out. It can't be dropped, so a turn is closed with all its seats.
+/// the change as it saw it last, and whether it has the value out. It can't be dropped, so a turn is closed with all its seats.
 pub struct Seat<T> {
     inner: atomic_table::Seat<Option<T>, LinkedList<Part>>,
 }
@@ -73,10 +73,10 @@ type Place<T> = atomic_table::Seat<Option<T>, LinkedList<Part>>;
 // Deals a part to each of the seats; the one that had all parts has none in the end.
 fn seat_all<T: Kept>(shared: &Board<T>, mut first: Place<T>, all: &mut Vec<Seat<T>>, seats: u32)
     requires at { (first.table_id ≡ shared.now.table_id) × (shared.now.table_id.words ≡ 1) }
-    requires first { first.me ≡ (begun_parts T.author (T.setup shared.now.key.made.value) (T.history shared.now.key.made.value) 0 seats, []) }
+    requires first { first.me ≡ (begun_parts T.author (T.setup shared.now.key.made.value) (T.history shared.now.key.made.value) (T.change shared.now.key.made.value) 0 seats, []) }
     requires key { shared.now.key.seats ≡ seats }
     requires room { (vec_len all.old ≡ 0) × (seats ≤ vec_capacity all.old) }
-    ensures { AreBegun T.author (T.history shared.now.key.made.value) (turn_view shared.now.table_id (T.setup shared.now.key.made.value) seats) all.new.items }
+    ensures { AreBegun T.author (T.history shared.now.key.made.value) (T.change shared.now.key.made.value) (turn_view shared.now.table_id (T.setup shared.now.key.made.value) seats) all.new.items }
 {
     for _i in 0..seats {
         let inner = shared.split_seat::<Deals>(&mut first);
@@ -111,8 +111,8 @@ fn word_at_home<T: Kept>(value: &T) -> u64
 }
 
 impl<T: Kept> Turn<T> {
-    /// A turn with this value at home, and its seats: the seat at index `s` has the number `s`, and has seen the history that
-    /// the value has. For want of memory the value comes back.
+    /// A turn with this value at home, and its seats: the seat at index `s` has the number `s`, and has seen the history and
+    /// the change that the value has. For want of memory the value comes back.
     pub fn new(
         alloc: Global,
         value: T,
@@ -123,7 +123,7 @@ impl<T: Kept> Turn<T> {
         requires others { (n : ℕ) → seats ≤ n → entries_of (T.author (T.setup value)) n (T.history value) ≡ [] }
         ensures setup { IfOk result (λ r. r.0.setup ≡ T.setup value) }
         ensures count { IfOk result (λ r. r.0.seats ≡ seats) }
-        ensures seats { IfOk result (λ r. AreBegun T.author (T.history value) r.0 r.1.items) }
+        ensures seats { IfOk result (λ r. AreBegun T.author (T.history value) (T.change value) r.0 r.1.items) }
         ensures refused { IfErr result (λ r. r.back ≡ value) }
     {
         let word = word_at_home(&value);
@@ -172,8 +172,8 @@ impl<T: Kept> Turn<T> {
     fn try_take(&self, seat: &mut Seat<T>) -> Option<Held<T>>
         requires at { seat.old.at ≡ self.now.at }
         requires free { seat.old.holds ≡ false }
-        ensures taken { IfSome result (λ h. IsTaken (meaning T.setup T.history T.mark T.author T.may_follow) (part_of seat.old) h.value) }
-        ensures seat { IfSome result (λ h. seat.new ≡ record seat.old { seen = T.history h.value; mark = T.mark h.value; holds = true }) }
+        ensures taken { IfSome result (λ h. IsTaken (meaning T.setup T.history T.mark T.change T.author T.may_follow) (part_of seat.old) h.value) }
+        ensures seat { IfSome result (λ h. seat.new ≡ record seat.old { seen = T.history h.value; mark = T.mark h.value; change = T.change h.value; holds = true }) }
         ensures none { IfNone result (seat.new ≡ seat.old) }
     {
         let shared = &self.table.shared;
@@ -212,7 +212,8 @@ impl<T: Kept> Turn<T> {
         ensures begins { IsPrefix seat.old.seen (T.history result.value) }
         ensures mine { entries_of (T.author seat.old.setup) seat.old.number (T.history result.value) ≡ seat.old.mine }
         ensures marked { seat.old.mark ≡ true → T.mark result.value ≡ true }
-        ensures seat { seat.new ≡ record seat.old { seen = T.history result.value; mark = T.mark result.value; holds = true } }
+        ensures change { seat.old.number ≡ 0 → T.change result.value ≡ seat.old.change }
+        ensures seat { seat.new ≡ record seat.old { seen = T.history result.value; mark = T.mark result.value; change = T.change result.value; holds = true } }
     {
         let backoff = Backoff::new();
         for _ in rt.forever() {
@@ -228,7 +229,7 @@ impl<T: Kept> Turn<T> {
         unreachable!()
     }
 
-    /// Gives the value back, and wakes one seat where some sleep. It takes no memory.
+    /// Gives the value back, and wakes one seat where some sleep. Only seat 0 may have told it a change. It takes no memory.
     pub fn give(&self, seat: &mut Seat<T>, held: Held<T>)
         requires at { seat.old.at ≡ self.now.at }
         requires holds { seat.old.holds ≡ true }
@@ -237,7 +238,8 @@ impl<T: Kept> Turn<T> {
         requires legal { MayFollowAll (T.may_follow seat.old.setup) seat.old.seen (added seat.old.seen (T.history held.value)) }
         requires own { AllBy (T.author seat.old.setup) seat.old.number seat.old.seen (added seat.old.seen (T.history held.value)) }
         requires marked { seat.old.mark ≡ true → T.mark held.value ≡ true }
-        ensures { seat.new ≡ record seat.old { seen = T.history held.value; mine = seat.old.mine ++ added seat.old.seen (T.history held.value); mark = T.mark held.value; holds = false } }
+        requires unchanged { (seat.old.number ≡ 0 → ⊥) → T.change held.value ≡ seat.old.change }
+        ensures { seat.new ≡ record seat.old { seen = T.history held.value; mine = seat.old.mine ++ added seat.old.seen (T.history held.value); mark = T.mark held.value; change = T.change held.value; holds = false } }
     {
         let Held { value } = held;
         let word = word_at_home(&value);
@@ -259,6 +261,7 @@ impl<T: Kept> Turn<T> {
         ensures mine { All (λ s. entries_of (T.author self.setup) s.number (T.history result) ≡ s.mine) seats.items }
         ensures others { (n : ℕ) → self.seats ≤ n → entries_of (T.author self.setup) n (T.history result) ≡ [] }
         ensures marked { All (λ s. s.mark ≡ true → T.mark result ≡ true) seats.items }
+        ensures change { All (λ s. s.number ≡ 0 → T.change result ≡ s.change) seats.items }
     {
         let Turn { table, sleeping: _ } = self;
         let all = join_all(&table.shared, seats);

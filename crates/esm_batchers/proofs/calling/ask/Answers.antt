@@ -7,7 +7,7 @@ use Rattle.esm_batchers.proofs.calling.ask.Goals as goal
 
 pub ask-next-requires-clause-rests : goal.ask-next-requires-clause-rests
 ask-next-requires-clause-rests g c =
-    let m = meaning g.T.Kept.setup g.T.Kept.history g.T.Kept.mark g.T.Kept.author g.T.Kept.may_follow in
+    let m = meaning g.T.Kept.setup g.T.Kept.history g.T.Kept.mark g.T.Kept.change g.T.Kept.author g.T.Kept.may_follow in
     let gave = g.C.Clock.gave in
     let t = c.args.turn.now in
     let s : SeatView = c.args.seat.now in
@@ -18,7 +18,7 @@ ask-next-requires-clause-rests g c =
 
 pub returns-clause-seated : goal.returns-clause-seated
 returns-clause-seated g c =
-    let m = meaning g.T.Kept.setup g.T.Kept.history g.T.Kept.mark g.T.Kept.author g.T.Kept.may_follow in
+    let m = meaning g.T.Kept.setup g.T.Kept.history g.T.Kept.mark g.T.Kept.change g.T.Kept.author g.T.Kept.may_follow in
     let gave = g.C.Clock.gave in
     let t = c.args.turn.now in
     let s : SeatView = c.args.seat.now in
@@ -31,7 +31,7 @@ returns-clause-seated g c =
 
 pub returns-clause-no_end : goal.returns-clause-no_end
 returns-clause-no_end g c = λ sends.
-    let m = meaning g.T.Kept.setup g.T.Kept.history g.T.Kept.mark g.T.Kept.author g.T.Kept.may_follow in
+    let m = meaning g.T.Kept.setup g.T.Kept.history g.T.Kept.mark g.T.Kept.change g.T.Kept.author g.T.Kept.may_follow in
     let gave = g.C.Clock.gave in
     let t = c.args.turn.now in
     let s : SeatView = c.args.seat.now in
@@ -44,7 +44,7 @@ returns-clause-no_end g c = λ sends.
 
 pub returns-clause-grows : goal.returns-clause-grows
 returns-clause-grows g c =
-    let m = meaning g.T.Kept.setup g.T.Kept.history g.T.Kept.mark g.T.Kept.author g.T.Kept.may_follow in
+    let m = meaning g.T.Kept.setup g.T.Kept.history g.T.Kept.mark g.T.Kept.change g.T.Kept.author g.T.Kept.may_follow in
     let gave = g.C.Clock.gave in
     let t = c.args.turn.now in
     let s : SeatView = c.args.seat.now in

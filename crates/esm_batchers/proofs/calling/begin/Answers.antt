@@ -5,7 +5,7 @@ use Rattle.esm_batchers.proofs.calling.begin.Goals as goal
 
 pub returns-clause-calls : goal.returns-clause-calls
 returns-clause-calls g c = λ sends.
-    let m = meaning g.T.Kept.setup g.T.Kept.history g.T.Kept.mark g.T.Kept.author g.T.Kept.may_follow in
+    let m = meaning g.T.Kept.setup g.T.Kept.history g.T.Kept.mark g.T.Kept.change g.T.Kept.author g.T.Kept.may_follow in
     let t = c.args.turn.now in
     let s = c.args.seat.now in
     c.stays.ensures.calls t.setup sends [] s.seen c.args.batcher (unused m g.C.Clock.gave t (c.args.batcher + 1) s c.requires.seated c.requires.unused)

@@ -5,10 +5,10 @@ use Rattle.esm_batchers.proofs.calling.end_and_ask.Goals as goal
 
 pub returns-in-Ok-clause-goes_on : goal.returns-in-Ok-clause-goes_on
 returns-in-Ok-clause-goes_on g c =
-    let m = meaning g.T.Kept.setup g.T.Kept.history g.T.Kept.mark g.T.Kept.author g.T.Kept.may_follow in
+    let m = meaning g.T.Kept.setup g.T.Kept.history g.T.Kept.mark g.T.Kept.change g.T.Kept.author g.T.Kept.may_follow in
     goes_on_twice m (c.args.batcher + 1) c.args.book.now c.end_call.new.self c.ask.new.self c.end_call.ensures.goes_on c.ask.ensures.goes_on
 
 pub returns-in-Ok-clause-moments : goal.returns-in-Ok-clause-moments
 returns-in-Ok-clause-moments g c =
-    let m = meaning g.T.Kept.setup g.T.Kept.history g.T.Kept.mark g.T.Kept.author g.T.Kept.may_follow in
+    let m = meaning g.T.Kept.setup g.T.Kept.history g.T.Kept.mark g.T.Kept.change g.T.Kept.author g.T.Kept.may_follow in
     at_twice m (c.args.batcher + 1) c.args.moment c.args.book.now c.end_call.new.self c.ask.new.self c.end_call.ensures.goes_on c.ask.ensures.goes_on c.end_call.ensures.moments c.ask.ensures.moments

@@ -8,7 +8,7 @@ use Rattle.esm_batchers.proofs.calling.tell.Goals as goal
 
 pub end_and_ask-next-requires-clause-runs : goal.end_and_ask-next-requires-clause-runs
 end_and_ask-next-requires-clause-runs g c =
-    let m = meaning g.T.Kept.setup g.T.Kept.history g.T.Kept.mark g.T.Kept.author g.T.Kept.may_follow in
+    let m = meaning g.T.Kept.setup g.T.Kept.history g.T.Kept.mark g.T.Kept.change g.T.Kept.author g.T.Kept.may_follow in
     let gave = g.C.Clock.gave in
     let t = c.args.turn.now in
     let s : SeatView = c.args.seat.now in
@@ -19,7 +19,7 @@ end_and_ask-next-requires-clause-runs g c =
 
 pub returns-clause-seated : goal.returns-clause-seated
 returns-clause-seated g c =
-    let m = meaning g.T.Kept.setup g.T.Kept.history g.T.Kept.mark g.T.Kept.author g.T.Kept.may_follow in
+    let m = meaning g.T.Kept.setup g.T.Kept.history g.T.Kept.mark g.T.Kept.change g.T.Kept.author g.T.Kept.may_follow in
     let gave = g.C.Clock.gave in
     let t = c.args.turn.now in
     let s : SeatView = c.args.seat.now in
@@ -32,7 +32,7 @@ returns-clause-seated g c =
 
 pub returns-clause-called : goal.returns-clause-called
 returns-clause-called g c =
-    let m = meaning g.T.Kept.setup g.T.Kept.history g.T.Kept.mark g.T.Kept.author g.T.Kept.may_follow in
+    let m = meaning g.T.Kept.setup g.T.Kept.history g.T.Kept.mark g.T.Kept.change g.T.Kept.author g.T.Kept.may_follow in
     let gave = g.C.Clock.gave in
     let t = c.args.turn.now in
     let s : SeatView = c.args.seat.now in
@@ -47,7 +47,7 @@ returns-clause-called g c =
 
 pub returns-clause-no_end : goal.returns-clause-no_end
 returns-clause-no_end g c =
-    let m = meaning g.T.Kept.setup g.T.Kept.history g.T.Kept.mark g.T.Kept.author g.T.Kept.may_follow in
+    let m = meaning g.T.Kept.setup g.T.Kept.history g.T.Kept.mark g.T.Kept.change g.T.Kept.author g.T.Kept.may_follow in
     let gave = g.C.Clock.gave in
     let t = c.args.turn.now in
     let s : SeatView = c.args.seat.now in
@@ -63,7 +63,7 @@ returns-clause-no_end g c =
 
 pub returns-clause-runs : goal.returns-clause-runs
 returns-clause-runs g c =
-    let m = meaning g.T.Kept.setup g.T.Kept.history g.T.Kept.mark g.T.Kept.author g.T.Kept.may_follow in
+    let m = meaning g.T.Kept.setup g.T.Kept.history g.T.Kept.mark g.T.Kept.change g.T.Kept.author g.T.Kept.may_follow in
     let gave = g.C.Clock.gave in
     let t = c.args.turn.now in
     let s : SeatView = c.args.seat.now in
@@ -79,7 +79,7 @@ returns-clause-runs g c =
 
 pub returns-clause-grows : goal.returns-clause-grows
 returns-clause-grows g c =
-    let m = meaning g.T.Kept.setup g.T.Kept.history g.T.Kept.mark g.T.Kept.author g.T.Kept.may_follow in
+    let m = meaning g.T.Kept.setup g.T.Kept.history g.T.Kept.mark g.T.Kept.change g.T.Kept.author g.T.Kept.may_follow in
     let gave = g.C.Clock.gave in
     let t = c.args.turn.now in
     let s : SeatView = c.args.seat.now in

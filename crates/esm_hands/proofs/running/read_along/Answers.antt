@@ -1,11 +1,12 @@
-use Rattle.std.proofs.Common.{◌≡◌, ◌≤◌, List, [], ◌∷◌, length, refl, ap, sym, ◌∙◌, subst, arith}
+use Rattle.std.proofs.Common.{◌≡◌, ◌≤◌, List, [], ◌∷◌, length, refl, ap, sym, ◌∙◌, subst, arith, Option, None}
+use Rattle.esm_model.specs.declared.book.Change.{Change}
 use Rattle.esm_turn.specs.Seats.{SeatView, AreAllSeats}
 use Rattle.esm_batchers.specs.Working.{outside}
 use Rattle.esm_hands.specs.Hands.{meanings, HasBegun, TellsOf}
 use Rattle.esm_hands.specs.Packs.{seats_of}
 use Rattle.esm_hands.proofs.Packed.{callers_length}
 use Rattle.esm_hands.proofs.Closed.{IsClosed, all_back}
-use Rattle.esm_hands.proofs.Whole.{Stays, ready, first_is, first_seated, seats, seats_count, on_first, tells_whole}
+use Rattle.esm_hands.proofs.Whole.{Stays, ready, first_is, first_seated, seats, seats_count, on_first, change_is, tells_whole}
 use Rattle.esm_hands.proofs.running.read_along.Goals as goal
 
 pub read_and_call-short-requires-clause-few : goal.read_and_call-short-requires-clause-few
@@ -22,8 +23,8 @@ read_and_call-short-requires-clause-seated g c κs within =
     let t = c.args.turn in
     let seat = c.pack-seat.result in
     let hs = c.pack-seat.new.hands.items in
-    let begun : HasBegun m t [] (seat ∷ seats_of hs) = subst (HasBegun m t []) (sym c.pack-seat.ensures.seats.1) (record { begun = c.requires.begun; legal = tt; given = tt; unused = λ n lt. refl }) in
-    first_seated m t [] seat hs begun
+    let begun : HasBegun m t [] None (seat ∷ seats_of hs) = subst (HasBegun m t [] None) (sym c.pack-seat.ensures.seats.1) (record { begun = c.requires.begun; legal = tt; given = tt; unused = λ n lt. refl }) in
+    first_seated m t [] None seat hs begun
 
 pub read_and_call-short-requires-clause-unused : goal.read_and_call-short-requires-clause-unused
 read_and_call-short-requires-clause-unused g c κs within =
@@ -31,8 +32,17 @@ read_and_call-short-requires-clause-unused g c κs within =
     let t = c.args.turn in
     let seat = c.pack-seat.result in
     let hs = c.pack-seat.new.hands.items in
-    let begun : HasBegun m t [] (seat ∷ seats_of hs) = subst (HasBegun m t []) (sym c.pack-seat.ensures.seats.1) (record { begun = c.requires.begun; legal = tt; given = tt; unused = λ n lt. refl }) in
-    ap (λ (v : SeatView). v.mine) (first_is m t [] seat hs begun)
+    let begun : HasBegun m t [] None (seat ∷ seats_of hs) = subst (HasBegun m t [] None) (sym c.pack-seat.ensures.seats.1) (record { begun = c.requires.begun; legal = tt; given = tt; unused = λ n lt. refl }) in
+    ap (λ (v : SeatView). v.mine) (first_is m t [] None seat hs begun)
+
+pub read_and_call-short-requires-clause-told : goal.read_and_call-short-requires-clause-told
+read_and_call-short-requires-clause-told g c κs within =
+    let m = meanings g.T.Kept.author g.T.Kept.may_follow g.T.Pooled.calls g.T.Pooled.rests g.T.Pooled.runs g.T.Pooled.finished g.T.Pooled.spent (outside g.C.Clock.gave g.F.Caller.sends g.F.Caller.log) in
+    let t = c.args.turn in
+    let seat = c.pack-seat.result in
+    let hs = c.pack-seat.new.hands.items in
+    let begun : HasBegun m t [] None (seat ∷ seats_of hs) = subst (HasBegun m t [] None) (sym c.pack-seat.ensures.seats.1) (record { begun = c.requires.begun; legal = tt; given = tt; unused = λ n lt. refl }) in
+    ap (λ (v : SeatView). v.change) (first_is m t [] None seat hs begun)
 
 pub read_and_call-short-requires-clause-ready : goal.read_and_call-short-requires-clause-ready
 read_and_call-short-requires-clause-ready g c κs within =
@@ -40,8 +50,8 @@ read_and_call-short-requires-clause-ready g c κs within =
     let t = c.args.turn in
     let seat = c.pack-seat.result in
     let hs = c.pack-seat.new.hands.items in
-    let begun : HasBegun m t [] (seat ∷ seats_of hs) = subst (HasBegun m t []) (sym c.pack-seat.ensures.seats.1) (record { begun = c.requires.begun; legal = tt; given = tt; unused = λ n lt. refl }) in
-    ready m t [] seat hs begun
+    let begun : HasBegun m t [] None (seat ∷ seats_of hs) = subst (HasBegun m t [] None) (sym c.pack-seat.ensures.seats.1) (record { begun = c.requires.begun; legal = tt; given = tt; unused = λ n lt. refl }) in
+    ready m t [] None seat hs begun
 
 pub unpack-requires-clause-room : goal.unpack-requires-clause-room
 unpack-requires-clause-room g c =
@@ -63,14 +73,14 @@ close-book-requires g c =
     let t = c.args.turn in
     let seat = c.pack-seat.result in
     let hs = c.pack-seat.new.hands.items in
-    let begun : HasBegun m t [] (seat ∷ seats_of hs) = subst (HasBegun m t []) (sym c.pack-seat.ensures.seats.1) (record { begun = c.requires.begun; legal = tt; given = tt; unused = λ n lt. refl }) in
+    let begun : HasBegun m t [] None (seat ∷ seats_of hs) = subst (HasBegun m t [] None) (sym c.pack-seat.ensures.seats.1) (record { begun = c.requires.begun; legal = tt; given = tt; unused = λ n lt. refl }) in
     let after = c.read_and_call-short.new.hands.items in
     let have = c.read_and_call-short.ensures.worked in
     let first = c.read_and_call-short.new.reader.seat in
     let here = c.read_and_call-short.ensures.seated in
     record {
       all = subst (AreAllSeats t) (sym c.unpack.ensures.seats)
-          (all_back m.author m.may_follow m.outside.gave t (first ∷ seats_of after) (seats_count m t [] seat hs begun c.args.batchers after have first here) (seats m t [] seat hs begun c.args.batchers after have first here));
+          (all_back m.author m.may_follow m.outside.gave t (first ∷ seats_of after) (seats_count m t [] None seat hs begun c.args.batchers after have first here) (seats m t [] None seat hs begun c.args.batchers after have first here));
     }
 
 pub returns-clause-read : goal.returns-clause-read
@@ -79,18 +89,20 @@ returns-clause-read g c =
     let t = c.args.turn in
     let seat = c.pack-seat.result in
     let hs = c.pack-seat.new.hands.items in
-    let begun : HasBegun m t [] (seat ∷ seats_of hs) = subst (HasBegun m t []) (sym c.pack-seat.ensures.seats.1) (record { begun = c.requires.begun; legal = tt; given = tt; unused = λ n lt. refl }) in
+    let begun : HasBegun m t [] None (seat ∷ seats_of hs) = subst (HasBegun m t [] None) (sym c.pack-seat.ensures.seats.1) (record { begun = c.requires.begun; legal = tt; given = tt; unused = λ n lt. refl }) in
     let after = c.read_and_call-short.new.hands.items in
     let have = c.read_and_call-short.ensures.worked in
     let first = c.read_and_call-short.new.reader.seat in
     let here = c.read_and_call-short.ensures.seated in
     let h = g.T.Kept.history c.close-book.result in
     let mark = g.T.Kept.mark c.close-book.result in
+    let change = g.T.Kept.change c.close-book.result in
     let e = c.close-book.ensures in
-    let closed : IsClosed m.author m.may_follow t (first ∷ seats_of after) h mark
-    = subst (λ l. IsClosed m.author m.may_follow t l h mark) c.unpack.ensures.seats (record { legal = e.legal; begins = e.begins; mine = e.mine; others = e.others; marked = e.marked }) in
-    let on = on_first m t [] seat hs begun c.args.batchers after have first here h mark closed in
+    let closed : IsClosed m.author m.may_follow t (first ∷ seats_of after) h mark change
+    = subst (λ l. IsClosed m.author m.may_follow t l h mark change) c.unpack.ensures.seats (record { legal = e.legal; begins = e.begins; mine = e.mine; others = e.others; marked = e.marked; told = e.change }) in
+    let on = on_first m t [] None seat hs begun c.args.batchers after have first here h mark change closed in
     let did = c.read_and_call-short.ensures.read in
+    let told : change ≡ first.change = change_is m t [] None seat hs begun c.args.batchers after have first here h mark change closed in
     record {
       seen = first.seen;
       rest = on.rest;
@@ -100,7 +112,7 @@ returns-clause-read g c =
       marked = closed.marked 0 first (omega arith);
       was_short = did.0;
       long = did.1;
-      did = did.2;
+      did = subst (λ (c' : Option Change). g.W.Reading.read t.setup c.args.reader c.read_and_call-short.new.reader.reader first.seen first.mark c' did.0) (sym told) did.2;
     }
 
 pub returns-clause-tells : goal.returns-clause-tells
@@ -109,7 +121,7 @@ returns-clause-tells g c =
     let t = c.args.turn in
     let seat = c.pack-seat.result in
     let hs = c.pack-seat.new.hands.items in
-    let begun : HasBegun m t [] (seat ∷ seats_of hs) = subst (HasBegun m t []) (sym c.pack-seat.ensures.seats.1) (record { begun = c.requires.begun; legal = tt; given = tt; unused = λ n lt. refl }) in
+    let begun : HasBegun m t [] None (seat ∷ seats_of hs) = subst (HasBegun m t [] None) (sym c.pack-seat.ensures.seats.1) (record { begun = c.requires.begun; legal = tt; given = tt; unused = λ n lt. refl }) in
     let many : length hs ≡ length c.args.callers.items = sym (callers_length hs) ∙ ap length c.pack-seat.ensures.callers.1 in
     let after = c.read_and_call-short.new.hands.items in
     let have = c.read_and_call-short.ensures.worked in
@@ -117,10 +129,11 @@ returns-clause-tells g c =
     let here = c.read_and_call-short.ensures.seated in
     let h = g.T.Kept.history c.close-book.result in
     let mark = g.T.Kept.mark c.close-book.result in
+    let change = g.T.Kept.change c.close-book.result in
     let e = c.close-book.ensures in
-    let closed : IsClosed m.author m.may_follow t (first ∷ seats_of after) h mark
-    = subst (λ l. IsClosed m.author m.may_follow t l h mark) c.unpack.ensures.seats (record { legal = e.legal; begins = e.begins; mine = e.mine; others = e.others; marked = e.marked }) in
+    let closed : IsClosed m.author m.may_follow t (first ∷ seats_of after) h mark change
+    = subst (λ l. IsClosed m.author m.may_follow t l h mark change) c.unpack.ensures.seats (record { legal = e.legal; begins = e.begins; mine = e.mine; others = e.others; marked = e.marked; told = e.change }) in
     let few : c.args.batchers ≤ length hs = (let b = c.requires.batchers in let l = c.requires.callers in omega (arith, b, l, many)) in
     let stays : Stays m = record { no_calls = c.begins.ensures.calls; at_rest = c.begins.ensures.rests; calls = c.stays.ensures.calls; rests = c.stays.ensures.rests; runs = c.stays.ensures.runs; finished = c.stays.ensures.finished; spent = c.stays.ensures.spent } in
     subst (λ (z : List g.row.F.Denot × List g.row.F.Denot). TellsOf m t.setup c.args.batchers h mark c.read_and_call-short.result z.0 z.1) (λ i. (c.pack-seat.ensures.callers.1 i, sym c.unpack.ensures.callers i))
-    (tells_whole m t [] seat hs begun c.args.batchers after have first here h mark closed few stays c.read_and_call-short.result c.read_and_call-short.ensures.long)
+    (tells_whole m t [] None seat hs begun c.args.batchers after have first here h mark change closed few stays c.read_and_call-short.result c.read_and_call-short.ensures.long)

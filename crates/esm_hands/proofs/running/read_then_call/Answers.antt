@@ -24,8 +24,8 @@ returns-clause-read g c =
       | else-read_short w ↦ (w.if-read_short.false, sym w.result-is ∙ long)
     ] in
     let on : GoesOnFrom author may_follow setup 0 h h' = subst (λ (u : Setup). GoesOnFrom author may_follow u 0 h h') c.read_alone-book.ensures.setup c.call_behind-book.ensures.goes_on in
-    read_on author may_follow setup (g.W.Reading.read setup c.args.reader c.read_alone-book.new.reader) h h' (g.T.Kept.mark book) (g.T.Kept.mark after) one all
-    c.read_alone-book.ensures.read on c.call_behind-book.ensures.marked (λ long. (less long).0)
+    read_on author may_follow setup (g.W.Reading.read setup c.args.reader c.read_alone-book.new.reader) h h' (g.T.Kept.mark book) (g.T.Kept.mark after) (g.T.Kept.change book) (g.T.Kept.change after) one all
+    c.read_alone-book.ensures.read on c.call_behind-book.ensures.marked c.call_behind-book.ensures.change (λ long. (less long).0)
 
 pub returns-clause-tells : goal.returns-clause-tells
 returns-clause-tells g c =

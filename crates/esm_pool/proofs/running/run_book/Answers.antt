@@ -1,9 +1,11 @@
-use Rattle.std.proofs.Common.{◌≡◌, ◌∙◌, ℕ, sym, ap, subst, [], List, rules}
+use Rattle.std.proofs.Common.{◌≡◌, ◌∙◌, ◌⊎◌, ◌<◌, ℕ, true, false, Ok, sym, ap, subst, [], List, rules}
 use denote.Param.Send.{sendable}
+use Rattle.esm_model.specs.declared.setup.Setup.{Setup}
 use Rattle.esm_model.specs.declared.setup.Told.{Told}
 use Rattle.esm_input.specs.Reading.{InputState}
-use Rattle.esm_pool.specs.Ran.{IsCut}
-use Rattle.esm_pool.proofs.Leaving.{all_came, some_came, change_of, cut_of, came_so, unread, cut_unread, on_ok_always, on_err_always}
+use Rattle.esm_pool.specs.Ran.{HasLeftOne, IsCut}
+use Rattle.esm_pool.specs.declared.running.RunEnd.TheVariants.{Finished, Spent}
+use Rattle.esm_pool.proofs.Leaving.{read_whole, some_came, change_of, cut_of, shut_so, left_none, left_some, came_so, left_so, ends_so, unread, cut_unread, on_ok_always, on_err_always}
 use Rattle.esm_pool.proofs.Sent.{reader_send}
 use Rattle.esm_pool.proofs.running.run_book.Goals as goal
 
@@ -14,31 +16,61 @@ pub run_hands-requires-clause-ready : goal.run_hands-requires-clause-ready
 run_hands-requires-clause-ready g c κs within = unread c.args.input (g.B.Pooled.kind (g.B.Kept.setup c.args.book)) c.requires.kind c.requires.unread
 
 pub end_of-end-requires-clause-shut : goal.end_of-end-requires-clause-shut
-end_of-end-requires-clause-shut g c = λ up.
-    (all_came g.B.Kept.author g.B.Kept.may_follow g.B.Pooled.items g.B.Pooled.differs (g.B.Kept.setup c.args.book) g.S.Source.faults g.S.Source.left c.args.input c.in-Ok.left.reader.input c.in-Ok.left.reader.changed (g.B.Kept.history c.in-Ok.left.book) (g.B.Kept.mark c.in-Ok.left.book) c.in-Ok.left.short
-    (c.stays.ensures.items (g.B.Kept.setup c.args.book)) c.in-Ok.ensures.read (c.stays.ensures.shut (g.B.Kept.setup c.args.book)) c.if-short.false up).shut
+end_of-end-requires-clause-shut g c =
+    let left = c.in-Ok.left in
+    let whole = read_whole g.B.Kept.author g.B.Kept.may_follow g.B.Pooled.items g.B.Pooled.differs g.B.Pooled.spent (g.B.Kept.setup c.args.book) g.S.Source.faults g.S.Source.left c.args.input left.reader.input (g.B.Kept.history left.book) (g.B.Kept.mark left.book) (g.B.Kept.change left.book) left.short
+    (c.stays.ensures.items (g.B.Kept.setup c.args.book)) c.in-Ok.ensures.read (c.stays.ensures.shut (g.B.Kept.setup c.args.book)) (λ h es. c.stays.ensures.spent (g.B.Kept.setup c.args.book) h es 0) c.if-short.false in
+    shut_so g.S.Source.left g.B.Pooled.items g.B.Pooled.spent (g.B.Kept.setup c.args.book) left.reader.input (g.B.Kept.history left.book) (g.B.Kept.mark left.book) whole
+
+pub returns-else-short-clause-ended : goal.returns-else-short-clause-ended
+returns-else-short-clause-ended g c =
+    let left = c.in-Ok.left in
+    let whole = read_whole g.B.Kept.author g.B.Kept.may_follow g.B.Pooled.items g.B.Pooled.differs g.B.Pooled.spent (g.B.Kept.setup c.args.book) g.S.Source.faults g.S.Source.left c.args.input left.reader.input (g.B.Kept.history left.book) (g.B.Kept.mark left.book) (g.B.Kept.change left.book) left.short
+    (c.stays.ensures.items (g.B.Kept.setup c.args.book)) c.in-Ok.ensures.read (c.stays.ensures.shut (g.B.Kept.setup c.args.book)) (λ h es. c.stays.ensures.spent (g.B.Kept.setup c.args.book) h es 0) c.if-short.false in
+    let finished = subst (λ (u : Setup). c.end_of-end.result ≡ Ok Finished → (c.is_none.result ≡ false) × (g.B.Kept.mark left.book ≡ false) × ((k : ℕ) → k < c.args.batchers → g.B.Pooled.finished u (g.B.Kept.history left.book) k)) c.in-Ok.ensures.setup c.end_of-end.ensures.finished in
+    let spent = subst (λ (u : Setup). c.end_of-end.result ≡ Ok Spent → (g.B.Kept.mark left.book ≡ false) × (HasLeftOne g.B.Pooled.left u (g.B.Kept.history left.book) c.args.batchers ⊎ (c.is_none.result ≡ true))) c.in-Ok.ensures.setup c.end_of-end.ensures.spent in
+    ends_so g.S.Source.left g.B.Pooled.items g.B.Pooled.finished g.B.Pooled.left g.B.Pooled.spent (g.B.Kept.setup c.args.book) left.reader.input (g.B.Kept.history left.book) (g.B.Kept.mark left.book) c.args.batchers c.is_none.result
+    (left_none c.end.result left.reader.input.end c.is_none.result c.end.ensures.value c.is_none.ensures) (left_some c.end.result left.reader.input.end c.is_none.result c.end.ensures.value c.is_none.ensures) whole
+    c.end_of-end.result (c.excludes.ensures (g.B.Kept.setup c.args.book) (g.B.Kept.history left.book)) (c.in-Ok.ensures.ended c.if-short.false) finished spent c.end_of-end.ensures.down
+
+pub returns-else-short-clause-left : goal.returns-else-short-clause-left
+returns-else-short-clause-left g c =
+    let left = c.in-Ok.left in
+    let whole = read_whole g.B.Kept.author g.B.Kept.may_follow g.B.Pooled.items g.B.Pooled.differs g.B.Pooled.spent (g.B.Kept.setup c.args.book) g.S.Source.faults g.S.Source.left c.args.input left.reader.input (g.B.Kept.history left.book) (g.B.Kept.mark left.book) (g.B.Kept.change left.book) left.short
+    (c.stays.ensures.items (g.B.Kept.setup c.args.book)) c.in-Ok.ensures.read (c.stays.ensures.shut (g.B.Kept.setup c.args.book)) (λ h es. c.stays.ensures.spent (g.B.Kept.setup c.args.book) h es 0) c.if-short.false in
+    let spent = subst (λ (u : Setup). c.end_of-end.result ≡ Ok Spent → (g.B.Kept.mark left.book ≡ false) × (HasLeftOne g.B.Pooled.left u (g.B.Kept.history left.book) c.args.batchers ⊎ (c.is_none.result ≡ true))) c.in-Ok.ensures.setup c.end_of-end.ensures.spent in
+    left_so g.S.Source.left g.B.Pooled.items g.B.Pooled.finished g.B.Pooled.left g.B.Pooled.spent (g.B.Kept.setup c.args.book) left.reader.input (g.B.Kept.history left.book) (g.B.Kept.mark left.book) c.args.batchers c.is_none.result
+    (left_none c.end.result left.reader.input.end c.is_none.result c.end.ensures.value c.is_none.ensures) (left_some c.end.result left.reader.input.end c.is_none.result c.end.ensures.value c.is_none.ensures) whole
+    c.end_of-end.result spent
 
 pub returns-else-short-clause-came : goal.returns-else-short-clause-came
 returns-else-short-clause-came g c =
-    let all = all_came g.B.Kept.author g.B.Kept.may_follow g.B.Pooled.items g.B.Pooled.differs (g.B.Kept.setup c.args.book) g.S.Source.faults g.S.Source.left c.args.input c.in-Ok.left.reader.input c.in-Ok.left.reader.changed (g.B.Kept.history c.in-Ok.left.book) (g.B.Kept.mark c.in-Ok.left.book) c.in-Ok.left.short
-    (c.stays.ensures.items (g.B.Kept.setup c.args.book)) c.in-Ok.ensures.read (c.stays.ensures.shut (g.B.Kept.setup c.args.book)) c.if-short.false in
-    let some = some_came g.B.Kept.author g.B.Kept.may_follow g.B.Pooled.items g.B.Pooled.differs (g.B.Kept.setup c.args.book) g.S.Source.faults g.S.Source.left c.args.input c.in-Ok.left.reader.input c.in-Ok.left.reader.changed (g.B.Kept.history c.in-Ok.left.book) (g.B.Kept.mark c.in-Ok.left.book) c.in-Ok.left.short
-    (c.stays.ensures.items (g.B.Kept.setup c.args.book)) c.in-Ok.ensures.read c.if-short.false in
-    came_so c.in-Ok.left.reader.input (g.B.Pooled.items (g.B.Kept.history c.in-Ok.left.book)) (g.B.Kept.history c.in-Ok.left.book) (g.B.Kept.mark c.in-Ok.left.book) _ _ c.end_of-end.result c.end_of-end.ensures.finished c.end_of-end.ensures.left all some
+    let left = c.in-Ok.left in
+    let whole = read_whole g.B.Kept.author g.B.Kept.may_follow g.B.Pooled.items g.B.Pooled.differs g.B.Pooled.spent (g.B.Kept.setup c.args.book) g.S.Source.faults g.S.Source.left c.args.input left.reader.input (g.B.Kept.history left.book) (g.B.Kept.mark left.book) (g.B.Kept.change left.book) left.short
+    (c.stays.ensures.items (g.B.Kept.setup c.args.book)) c.in-Ok.ensures.read (c.stays.ensures.shut (g.B.Kept.setup c.args.book)) (λ h es. c.stays.ensures.spent (g.B.Kept.setup c.args.book) h es 0) c.if-short.false in
+    let finished = subst (λ (u : Setup). c.end_of-end.result ≡ Ok Finished → (c.is_none.result ≡ false) × (g.B.Kept.mark left.book ≡ false) × ((k : ℕ) → k < c.args.batchers → g.B.Pooled.finished u (g.B.Kept.history left.book) k)) c.in-Ok.ensures.setup c.end_of-end.ensures.finished in
+    let spent = subst (λ (u : Setup). c.end_of-end.result ≡ Ok Spent → (g.B.Kept.mark left.book ≡ false) × (HasLeftOne g.B.Pooled.left u (g.B.Kept.history left.book) c.args.batchers ⊎ (c.is_none.result ≡ true))) c.in-Ok.ensures.setup c.end_of-end.ensures.spent in
+    came_so g.S.Source.left g.B.Pooled.items g.B.Pooled.finished g.B.Pooled.left g.B.Pooled.spent (g.B.Kept.setup c.args.book) left.reader.input (g.B.Kept.history left.book) (g.B.Kept.mark left.book) c.args.batchers c.is_none.result
+    (left_none c.end.result left.reader.input.end c.is_none.result c.end.ensures.value c.is_none.ensures) (left_some c.end.result left.reader.input.end c.is_none.result c.end.ensures.value c.is_none.ensures) whole
+    c.end_of-end.result finished spent (some_came g.B.Kept.author g.B.Kept.may_follow g.B.Pooled.items g.B.Pooled.differs g.B.Pooled.spent (g.B.Kept.setup c.args.book) g.S.Source.faults g.S.Source.left c.args.input left.reader.input (g.B.Kept.history left.book) (g.B.Kept.mark left.book) (g.B.Kept.change left.book) left.short
+    (c.stays.ensures.items (g.B.Kept.setup c.args.book)) c.in-Ok.ensures.read c.if-short.false)
 
 pub returns-else-short-clause-changed : goal.returns-else-short-clause-changed
-returns-else-short-clause-changed g c = on_ok_always c.end_of-end.result _
-    (change_of g.B.Kept.author g.B.Kept.may_follow g.B.Pooled.items g.B.Pooled.differs (g.B.Kept.setup c.args.book) g.S.Source.faults g.S.Source.left c.args.input c.in-Ok.left.reader.input c.in-Ok.left.reader.changed (g.B.Kept.history c.in-Ok.left.book) (g.B.Kept.mark c.in-Ok.left.book) c.in-Ok.left.short
-    (c.stays.ensures.items (g.B.Kept.setup c.args.book)) c.in-Ok.ensures.read)
+returns-else-short-clause-changed g c =
+    let left = c.in-Ok.left in
+    on_ok_always c.end_of-end.result _ (change_of g.B.Kept.author g.B.Kept.may_follow g.B.Pooled.items g.B.Pooled.differs g.B.Pooled.spent (g.B.Kept.setup c.args.book) g.S.Source.faults g.S.Source.left c.args.input left.reader.input (g.B.Kept.history left.book) (g.B.Kept.mark left.book) (g.B.Kept.change left.book) left.short
+    (c.stays.ensures.items (g.B.Kept.setup c.args.book)) c.in-Ok.ensures.read c.if-short.false)
 
 pub returns-else-short-clause-cut : goal.returns-else-short-clause-cut
-returns-else-short-clause-cut g c = on_err_always c.end_of-end.result _
-    (cut_of g.B.Kept.author g.B.Kept.may_follow g.B.Pooled.items g.B.Pooled.differs (g.B.Kept.setup c.args.book) g.S.Source.faults g.S.Source.left c.args.input c.in-Ok.left.reader.input c.in-Ok.left.reader.changed (g.B.Kept.history c.in-Ok.left.book) (g.B.Kept.mark c.in-Ok.left.book) c.in-Ok.left.short
+returns-else-short-clause-cut g c =
+    let left = c.in-Ok.left in
+    on_err_always c.end_of-end.result _ (cut_of g.B.Kept.author g.B.Kept.may_follow g.B.Pooled.items g.B.Pooled.differs g.B.Pooled.spent (g.B.Kept.setup c.args.book) g.S.Source.faults g.S.Source.left c.args.input left.reader.input (g.B.Kept.history left.book) (g.B.Kept.mark left.book) (g.B.Kept.change left.book) left.short
     (c.stays.ensures.items (g.B.Kept.setup c.args.book)) c.in-Ok.ensures.read)
 
 pub returns-then-short-clause-cut : goal.returns-then-short-clause-cut
 returns-then-short-clause-cut g c =
-    cut_of g.B.Kept.author g.B.Kept.may_follow g.B.Pooled.items g.B.Pooled.differs (g.B.Kept.setup c.args.book) g.S.Source.faults g.S.Source.left c.args.input c.in-Ok.left.reader.input c.in-Ok.left.reader.changed (g.B.Kept.history c.in-Ok.left.book) (g.B.Kept.mark c.in-Ok.left.book) c.in-Ok.left.short
+    let left = c.in-Ok.left in
+    cut_of g.B.Kept.author g.B.Kept.may_follow g.B.Pooled.items g.B.Pooled.differs g.B.Pooled.spent (g.B.Kept.setup c.args.book) g.S.Source.faults g.S.Source.left c.args.input left.reader.input (g.B.Kept.history left.book) (g.B.Kept.mark left.book) (g.B.Kept.change left.book) left.short
     (c.stays.ensures.items (g.B.Kept.setup c.args.book)) c.in-Ok.ensures.read
 
 pub returns-in-Err-clause-cut : goal.returns-in-Err-clause-cut

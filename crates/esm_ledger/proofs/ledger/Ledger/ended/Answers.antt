@@ -1,5 +1,6 @@
-use Rattle.std.proofs.Common.{ℕ, ◌+◌, sym, arith, ◌∷◌, ◌≡◌, ap, refl}
+use Rattle.std.proofs.Common.{ℕ, ◌+◌, sym, arith, [], ◌∷◌, ◌++◌, ◌≡◌, ap, refl, subst}
 use Rattle.esm_model.specs.declared.entry.Entry.TheVariants.{Ended}
+use Rattle.esm_model.specs.declared.entry.Reply.{Reply}
 use Rattle.esm_ledger.specs.declared.ledger.Ledger.{Ledger}
 use Rattle.esm_ledger.specs.Ledger.{past_of, setting_of, HasRoom}
 use Rattle.esm_ledger.proofs.Fitting.{end_may_come}
@@ -41,8 +42,10 @@ returns c =
     let m = c.args.moment in
     let legal = own_legal (setting_of self) (Ended lane reply m ∷ past_of self) c.requires.legal in
     let each = c.shard_ended.ensures.goes_on reply legal c.requires.verdict c.response_of-response.ensures in
+    let items : c.note.new.self.history.items ≡ w.history.items ++ Ended lane reply m ∷ []
+    = subst (λ (r : Reply). c.note.new.self.history.items ≡ w.history.items ++ Ended lane r m ∷ []) c.of.ensures c.note.ensures.history in
     let done = ended_added self w c.note.new.self lane reply m c.saturating_sub-self.result c.requires.kept c.requires.legal
-    c.shard_ended.ensures.before c.saturating_sub-self.ensures c.note.ensures.others c.note.ensures.history c.note.ensures.len c.note.ensures.capacity c.shard_ended.ensures.changed each in
+    c.shard_ended.ensures.before c.saturating_sub-self.ensures c.note.ensures.others items c.note.ensures.len c.note.ensures.capacity c.shard_ended.ensures.changed each in
     let shards : c.note.new.self.shards ≡ c.shard_ended.new.self.shards = ap (λ (z : Ledger). z.shards) c.note.ensures.others in
     record {
       kept = done.kept;

@@ -1,6 +1,7 @@
-use Rattle.std.proofs.Common.{◌≡◌, ◌∷◌, Some, ap, subst, Vec, Global}
+use Rattle.std.proofs.Common.{◌≡◌, [], ◌∷◌, ◌++◌, Some, ap, subst, Vec, Global}
 use Rattle.std.specs.Prelude.{slice_get}
 use Rattle.esm_model.specs.declared.entry.Entry.TheVariants.{Ended}
+use Rattle.esm_model.specs.declared.entry.Reply.{Reply}
 use Rattle.esm_ledger.specs.declared.ledger.Ledger.{Ledger}
 use Rattle.esm_ledger.specs.declared.shard.ShardLedger.{ShardLedger}
 use Rattle.esm_ledger.specs.Ledger.{past_of, setting_of}
@@ -31,8 +32,11 @@ note-requires c =
 
 pub returns : goal.returns
 returns c =
+    let w = c.lane_rests.new.self in
+    let items : c.note.new.self.history.items ≡ w.history.items ++ Ended c.args.lane c.args.reply c.args.moment ∷ []
+    = subst (λ (r : Reply). c.note.new.self.history.items ≡ w.history.items ++ Ended c.args.lane r c.args.moment ∷ []) c.of.ensures c.note.ensures.history in
     let done = ended_rests c.args.self.now c.lane_rests.new.self c.note.new.self c.args.lane c.args.reply c.args.moment c.saturating_sub-self.result c.requires.rests c.requires.legal
-    c.lane_rests.ensures.before c.saturating_sub-self.ensures c.note.ensures.others c.note.ensures.history c.note.ensures.len c.note.ensures.capacity c.lane_rests.ensures.changed in
+    c.lane_rests.ensures.before c.saturating_sub-self.ensures c.note.ensures.others items c.note.ensures.len c.note.ensures.capacity c.lane_rests.ensures.changed in
     record {
       splits = λ other off has y here. splits_noted c.args.self.now c.lane_rests.new.self c.args.lane other c.lane_rests.ensures.changed off has y
           (here.0, subst (λ (v : Vec ShardLedger Global). slice_get v.items here.0 ≡ Some y) (ap (λ (z : Ledger). z.shards) c.note.ensures.others) here.1, here.2);

@@ -1,9 +1,11 @@
-use Rattle.std.proofs.Common.{◌≡◌, ◌∙◌, true, reverse, ap}
+use Rattle.std.proofs.Common.{◌≡◌, ◌∙◌, true, reverse, ap, subst}
 use Rattle.esm_model.specs.declared.entry.Entry.{Entry}
 use Rattle.esm_model.specs.declared.entry.Entry.TheVariants.{Ended}
+use Rattle.esm_model.specs.declared.entry.Reply.{Reply}
 use Rattle.esm_model.specs.Entries.{is_running}
 use Rattle.esm_ledger.specs.Ledger.{past_of}
 use Rattle.esm_owing.specs.OwingView.{OwingView, noted}
+use Rattle.esm_owing.specs.Kept.{IsPushed}
 use Rattle.esm_owing.proofs.Leaving.{room_to_note, kept_noted}
 use Rattle.esm_owing.proofs.Shutting.{ended_quiet, seen_noted}
 use Rattle.esm_owing.proofs.owing.OwingLedger.note_ended.Goals as goal
@@ -21,10 +23,12 @@ invariant_of-self c =
     let e : Entry = Ended c.args.lane c.args.reply c.args.moment in
     let runs : is_running (past_of x.ledger) c.args.lane ≡ true = ap (λ (v : OwingView). is_running v.past c.args.lane) c.self.view_is ∙ c.requires.runs in
     kept_noted c.progress_stays.ensures x.ledger c.push.new.ledger (reverse x.coming.items) (reverse x.owed.items) x.standing e c.self.invariant
-    (ended_quiet (past_of x.ledger) c.args.lane c.args.reply c.args.moment runs c.requires.in_time.within) c.push.ensures
+    (ended_quiet (past_of x.ledger) c.args.lane c.args.reply c.args.moment runs c.requires.in_time.within)
+    (subst (λ (r : Reply). IsPushed x.ledger c.push.new.ledger (Ended c.args.lane r c.args.moment)) c.of.ensures c.push.ensures)
 
 pub returns : goal.returns
 returns c =
     let x = c.self.inside in
     let e : Entry = Ended c.args.lane c.args.reply c.args.moment in
-    seen_noted x.ledger c.push.new.ledger (reverse x.coming.items) (reverse x.owed.items) x.standing e c.push.ensures ∙ ap (λ (v : OwingView). noted v e) c.self.view_is
+    let pushed : IsPushed x.ledger c.push.new.ledger e = subst (λ (r : Reply). IsPushed x.ledger c.push.new.ledger (Ended c.args.lane r c.args.moment)) c.of.ensures c.push.ensures in
+    seen_noted x.ledger c.push.new.ledger (reverse x.coming.items) (reverse x.owed.items) x.standing e pushed ∙ ap (λ (v : OwingView). noted v e) c.self.view_is

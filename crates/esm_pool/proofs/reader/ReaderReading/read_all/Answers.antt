@@ -1,34 +1,41 @@
-use Rattle.std.proofs.Common.{◌≡◌, ◌∙◌, sym, subst, true, false}
 use Rattle.esm_input.specs.Reading.{handed}
-use Rattle.esm_pool.specs.Readings.{IsStopOf}
-use Rattle.esm_pool.proofs.Reading.{some_as, cut_as, change_as, stop_down, stop_change}
+use Rattle.esm_turn.specs.Seats.{SeatView}
+use Rattle.esm_pool.proofs.Reading.{some_as}
+use Rattle.esm_pool.proofs.Stopping.{read_so, changed_so, cut_so, on_ok, on_err}
 use Rattle.esm_pool.proofs.reader.ReaderReading.read_all.Goals as goal
 
-pub returns-in-Err-Down-clause-read : goal.returns-in-Err-Down-clause-read
-returns-in-Err-Down-clause-read g c =
-    let before = g.B.Pooled.items c.read_on-read.new.seat.seen in
-    let after = g.B.Pooled.items c.note_end.new.seat.seen in
-    record {
-      same = c.read_on-read.ensures.input;
-      read = λ long. c.in-Err-Down.ensures.read (λ e. absurd (let h = e in cc));
-      good = λ long. c.in-Err-Down.ensures.good (λ e. absurd (let h = e in cc));
-      some = λ long. some_as before after c.note_end.ensures.same (handed c.read_on-read.new.input) (c.in-Err-Down.ensures.some (λ e. absurd (let h = e in cc)));
-      whole = λ long up. absurd (let down = c.note_end.ensures.marked (stop_down g.S.Source.left g.B.Pooled.items g.B.Pooled.differs c.args.turn.now.setup c.read_on-read.new.input c.read_on-read.new.seat.seen c.read_on-read.new.seat.mark c.in-Err-Down.changed (subst (IsStopOf g.S.Source.left g.B.Pooled.items g.B.Pooled.differs c.args.turn.now.setup c.read_on-read.new.input c.read_on-read.new.seat.seen c.read_on-read.new.seat.mark) c.in-Err-Down.field-0-is c.in-Err-Down.ensures.stop)) in let clash : true ≡ false = sym down ∙ up in cc);
-      changed = λ change is. change_as g.B.Pooled.items g.B.Pooled.differs c.args.turn.now.setup c.read_on-read.new.seat.seen c.note_end.new.seat.seen c.read_on-read.new.input change c.note_end.ensures.grows
-          (stop_change g.S.Source.left g.B.Pooled.items g.B.Pooled.differs c.args.turn.now.setup c.read_on-read.new.input c.read_on-read.new.seat.seen c.read_on-read.new.seat.mark c.in-Err-Down.changed change is (subst (IsStopOf g.S.Source.left g.B.Pooled.items g.B.Pooled.differs c.args.turn.now.setup c.read_on-read.new.input c.read_on-read.new.seat.seen c.read_on-read.new.seat.mark) c.in-Err-Down.field-0-is c.in-Err-Down.ensures.stop));
+pub returns-clause-read : goal.returns-clause-read
+returns-clause-read g c =
+    let i = c.read_on-read.new.input in
+    let old : SeatView = c.read_on-read.new.seat in
+    let new : SeatView = c.note_end.new.seat in
+    let read = c.read_on-read.ensures in
+    let end = c.note_end.ensures in
+    let items = g.B.Pooled.items in
+    on_ok c.memory_of.result _ _ (λ long. record {
+      same = read.input;
+      read = λ _. read.read long;
+      good = λ _. read.good long;
+      some = λ _. some_as (items old.seen) (items new.seen) end.same (handed i) (read.some long);
+      whole = λ _. read_so g.S.Source.left items g.B.Pooled.differs g.B.Pooled.spent c.args.turn.now.setup i old.seen new.seen old.mark new.mark old.change new.change end.same c.read_on-read.result long read.came read.end read.stop end.marked end.spent end.shut;
+      changed = λ _. changed_so g.S.Source.left items g.B.Pooled.differs g.B.Pooled.spent c.args.turn.now.setup i old.seen new.seen old.mark new.mark old.change new.change end.same c.read_on-read.result long read.unchanged read.stop end.unchanged end.grows;
       cut = λ short. absurd (cc);
-    }
+    }) c.memory_of.ensures.long
 
-pub returns-in-Err-OutOfMemory-clause-stopped : goal.returns-in-Err-OutOfMemory-clause-stopped
-returns-in-Err-OutOfMemory-clause-stopped g c =
-    let before = g.B.Pooled.items c.read_on-read.new.seat.seen in
-    let after = g.B.Pooled.items c.note_end.new.seat.seen in
-    record {
-      same = c.read_on-read.ensures.input;
+pub returns-clause-stopped : goal.returns-clause-stopped
+returns-clause-stopped g c =
+    let i = c.read_on-read.new.input in
+    let old : SeatView = c.read_on-read.new.seat in
+    let new : SeatView = c.note_end.new.seat in
+    let read = c.read_on-read.ensures in
+    let end = c.note_end.ensures in
+    let items = g.B.Pooled.items in
+    on_err c.memory_of.result _ _ (λ short. record {
+      same = read.input;
       read = λ long. absurd (cc);
       good = λ long. absurd (cc);
       some = λ long. absurd (cc);
       whole = λ long. absurd (cc);
-      changed = λ change is. absurd (let none = c.requires.ready.unchanged in cc);
-      cut = λ short. cut_as before after c.note_end.ensures.same g.S.Source.left c.read_on-read.new.input (subst (IsStopOf g.S.Source.left g.B.Pooled.items g.B.Pooled.differs c.args.turn.now.setup c.read_on-read.new.input c.read_on-read.new.seat.seen c.read_on-read.new.seat.mark) c.in-Err-OutOfMemory.field-0-is c.in-Err-OutOfMemory.ensures.stop);
-    }
+      changed = λ long. absurd (cc);
+      cut = λ _. cut_so g.S.Source.left items g.B.Pooled.differs g.B.Pooled.spent c.args.turn.now.setup i old.seen new.seen old.mark new.mark old.change new.change end.same c.read_on-read.result short read.stop;
+    }) c.memory_of.ensures.short

@@ -39,9 +39,9 @@ returns-in_default g c =
     let list : List Item = c.args.list.items in
     let none : Result (Unit {0}) CameError = Err refusal.OutOfMemory in
     let has : HasCome c.args.moment (messages_in_items c.args.list.items) c.args.self.now c.args.self.now (Err refusal.OutOfMemory) =
-    none_come t (messages_in_items list) old old refusal.OutOfMemory refl refl (λ is. is) (ap is_shut (sym (past_told old.core)) ∙ c.requires.going) (inl refl) (λ change same. absurd (cc)) in
+    none_come t (messages_in_items list) old old refusal.OutOfMemory refl refl (λ is. is) (ap is_shut (sym (past_told old.core)) ∙ c.requires.going) (inl refl) (λ change same. absurd (cc)) refl in
     let b = brought code t list old old none (are_messages (is_fifo old.core.setting.config.kind) list c.requires.valid) c.know.ensures.sound c.know.ensures.legal has in
-    record { goes_on = b.goes_on; moments = b.moments; going = b.going; came = b.came; some = b.some; down = b.down; changed = b.changed }
+    record { goes_on = b.goes_on; moments = b.moments; going = b.going; came = b.came; some = b.some; down = b.down; changed = b.changed; tells = b.tells }
 
 pub returns : goal.returns
 returns g c =
@@ -64,4 +64,4 @@ returns g c =
     let did : CameDid d t (messages_in_items list) old new r = subst (λ (ms : List Message). CameDid d t ms old new r) c.in-Ok.ensures given in
     let has : HasCome t (messages_in_items list) old new r = come d t (messages_in_items list) old new r did (ap is_shut (sym (past_told old.core)) ∙ c.requires.going) in
     let b = brought code t list old new r (are_messages (is_fifo old.core.setting.config.kind) list c.requires.valid) c.know.ensures.sound c.know-2.ensures.legal has in
-    record { goes_on = b.goes_on; moments = b.moments; going = b.going; came = b.came; some = b.some; down = b.down; changed = b.changed }
+    record { goes_on = b.goes_on; moments = b.moments; going = b.going; came = b.came; some = b.some; down = b.down; changed = b.changed; tells = b.tells }

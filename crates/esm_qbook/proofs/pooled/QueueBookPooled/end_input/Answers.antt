@@ -28,5 +28,6 @@ returns g c =
       goes_on = goes_on code 0 t old.core.setting.messages old new has.es has.gone c.know-2.ensures.legal;
       moments = moments code 0 t old.core.setting.messages old new has.es has.gone;
       same = stay_as (told_of old.core) (told_of new.core) has.same;
+      change = has.change;
       shut = λ up. ap is_shut (past_told new.core) ∙ has.shut up;
     }

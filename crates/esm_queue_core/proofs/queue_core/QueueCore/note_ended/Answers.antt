@@ -1,4 +1,5 @@
-use Rattle.std.proofs.Common.{◌≡◌, ◌∙◌, true, length, vec_len, rules, arith, sym, ap}
+use Rattle.std.proofs.Common.{◌≡◌, ◌∙◌, ◌++◌, ◌∷◌, [], true, length, vec_len, rules, arith, sym, ap, subst}
+use Rattle.esm_model.specs.declared.entry.Reply.{Reply}
 use Rattle.esm_model.specs.declared.entry.Entry.{Entry}
 use Rattle.esm_model.specs.declared.entry.Entry.TheVariants.{Ended}
 use Rattle.esm_model.specs.Entries.{is_running}
@@ -25,5 +26,7 @@ invariant_of-self c =
     let new = c.push_reserved.new.self.items in
     let e : Entry = Ended c.args.job.lane c.args.reply c.raised_to-now.result in
     let runs : is_running p.past c.args.job.lane ≡ true = ap (λ (v : CoreView). is_running v.past c.args.job.lane) c.self.view_is ∙ c.requires.runs in
+    let pushed : c.push_reserved.new.self.items ≡ c.self.inside.history.items ++ Ended c.args.job.lane c.args.reply c.raised_to-now.result ∷ []
+    = subst (λ (r : Reply). new ≡ old ++ Ended c.args.job.lane r c.raised_to-now.result ∷ []) c.of.ensures c.push_reserved.ensures.items in
     kept_pushed (noting p e p.shut Left) new _ (kept_noted p e p.shut Left c.self.invariant (ended_notes p c.args.job.lane c.args.reply c.raised_to-now.result c.self.invariant c.raised_to-now.ensures.in_time runs))
-    (pushed_past old new e c.push_reserved.ensures.items) (pushed_number old new e c.push_reserved.ensures.items) (sym c.push_reserved.ensures.capacity)
+    (pushed_past old new e pushed) (pushed_number old new e pushed) (sym c.push_reserved.ensures.capacity)

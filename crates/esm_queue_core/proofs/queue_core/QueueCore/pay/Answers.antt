@@ -1,7 +1,8 @@
-use Rattle.std.proofs.Common.{◌≡◌, ◌∙◌, ◌+◌, [], List, ℕ, Option, Some, None, refl, sym, ap, ap₂, take, drop, arith, length}
+use Rattle.std.proofs.Common.{◌≡◌, ◌∙◌, ◌+◌, ◌++◌, ◌∷◌, [], List, ℕ, Option, Some, None, refl, sym, ap, ap₂, subst, take, drop, arith, length}
 use Rattle.std.specs.Vec.{vec_capacity}
 use Rattle.std.proofs.lemmas.List.{length-reverse}
 use Rattle.esm_model.specs.declared.item.Message.{Message}
+use Rattle.esm_model.specs.declared.entry.Reply.{Reply}
 use Rattle.esm_model.specs.declared.entry.Entry.{Entry}
 use Rattle.esm_model.specs.declared.entry.Entry.TheVariants as entry
 use Rattle.esm_model.specs.Moment.{capped_moment}
@@ -30,10 +31,40 @@ invariant_of-self-in-Some-Ended c =
     let push = c.push_reserved-in-Some-Ended in
     let is : p.first ≡ Some (Ended x.lane x.reply x.moment) = sym x.ensures.value ∙ ap Some x.field-0-is in
     let e : Entry = entry.Ended x.lane x.reply x.moment in
+    let pushed : c.push_reserved-in-Some-Ended.new.self.items ≡ c.self.inside.history.items ++ entry.Ended c.in-Some-Ended.lane c.in-Some-Ended.reply c.in-Some-Ended.moment ∷ []
+    = subst (λ (r : Reply). push.new.self.items ≡ c.self.inside.history.items ++ entry.Ended x.lane r x.moment ∷ []) c.of.ensures push.ensures.items in
     let adds = adds_as p p.held e p.begun p.deleted c.saturating_sub-self-inside.result c.replace.new.dest None p.gift p.gift c.paid-self-inside-in-Some-Ended.result _ c.replace.ensures.after refl (c.paid-self-inside-in-Some-Ended.ensures ∙ ap (standing_paid p.standing) c.is_some-more.ensures)
     (ended_adds p x.lane x.reply x.moment c.saturating_sub-self-inside.result c.self.invariant is c.saturating_sub-self-inside.ensures) in
     (is_paid p c.args.self.now p.held e p.begun p.deleted c.saturating_sub-self-inside.result c.replace.new.dest p.gift c.paid-self-inside-in-Some-Ended.result c.self.inside.history.items push.new.self.items (vec_capacity push.new.self) p.coming
-    c.self.invariant c.self.view_is adds (front_first p _ is) (rest_first p _ _ is c.replace.ensures.after) refl refl push.ensures.items (sym push.ensures.capacity) (can_first p _ c.self.invariant is).0).kept
+    c.self.invariant c.self.view_is adds (front_first p _ is) (rest_first p _ _ is c.replace.ensures.after) refl refl pushed (sym push.ensures.capacity) (can_first p _ c.self.invariant is).0).kept
+
+pub invariant_of-self-in-Some-Ended-2 : goal.invariant_of-self-in-Some-Ended-2
+invariant_of-self-in-Some-Ended-2 c =
+    let p = parts_of c.self.inside in
+    let x = c.in-Some-Ended in
+    let push = c.push_reserved-in-Some-Ended in
+    let is : p.first ≡ Some (Ended x.lane x.reply x.moment) = sym x.ensures.value ∙ ap Some x.field-0-is in
+    let e : Entry = entry.Ended x.lane x.reply x.moment in
+    let pushed : c.push_reserved-in-Some-Ended.new.self.items ≡ c.self.inside.history.items ++ entry.Ended c.in-Some-Ended.lane c.in-Some-Ended.reply c.in-Some-Ended.moment ∷ []
+    = subst (λ (r : Reply). push.new.self.items ≡ c.self.inside.history.items ++ entry.Ended x.lane r x.moment ∷ []) c.of.ensures push.ensures.items in
+    let adds = adds_as p p.held e p.begun p.deleted c.saturating_sub-self-inside.result c.replace.new.dest None p.gift p.gift c.paid-self-inside-in-Some-Ended.result _ c.replace.ensures.after refl (c.paid-self-inside-in-Some-Ended.ensures ∙ ap (standing_paid p.standing) c.is_some-more.ensures)
+    (ended_adds p x.lane x.reply x.moment c.saturating_sub-self-inside.result c.self.invariant is c.saturating_sub-self-inside.ensures) in
+    (is_paid p c.args.self.now p.held e p.begun p.deleted c.saturating_sub-self-inside.result c.replace.new.dest p.gift c.paid-self-inside-in-Some-Ended.result c.self.inside.history.items push.new.self.items (vec_capacity push.new.self) p.coming
+    c.self.invariant c.self.view_is adds (front_first p _ is) (rest_first p _ _ is c.replace.ensures.after) refl refl pushed (sym push.ensures.capacity) (can_first p _ c.self.invariant is).0).kept
+
+pub invariant_of-self-in-Some-Ended-3 : goal.invariant_of-self-in-Some-Ended-3
+invariant_of-self-in-Some-Ended-3 c =
+    let p = parts_of c.self.inside in
+    let x = c.in-Some-Ended in
+    let push = c.push_reserved-in-Some-Ended in
+    let is : p.first ≡ Some (Ended x.lane x.reply x.moment) = sym x.ensures.value ∙ ap Some x.field-0-is in
+    let e : Entry = entry.Ended x.lane x.reply x.moment in
+    let pushed : c.push_reserved-in-Some-Ended.new.self.items ≡ c.self.inside.history.items ++ entry.Ended c.in-Some-Ended.lane c.in-Some-Ended.reply c.in-Some-Ended.moment ∷ []
+    = subst (λ (r : Reply). push.new.self.items ≡ c.self.inside.history.items ++ entry.Ended x.lane r x.moment ∷ []) c.of.ensures push.ensures.items in
+    let adds = adds_as p p.held e p.begun p.deleted c.saturating_sub-self-inside.result c.replace.new.dest None p.gift p.gift c.paid-self-inside-in-Some-Ended.result _ c.replace.ensures.after refl (c.paid-self-inside-in-Some-Ended.ensures ∙ ap (standing_paid p.standing) c.is_some-more.ensures)
+    (ended_adds p x.lane x.reply x.moment c.saturating_sub-self-inside.result c.self.invariant is c.saturating_sub-self-inside.ensures) in
+    (is_paid p c.args.self.now p.held e p.begun p.deleted c.saturating_sub-self-inside.result c.replace.new.dest p.gift c.paid-self-inside-in-Some-Ended.result c.self.inside.history.items push.new.self.items (vec_capacity push.new.self) p.coming
+    c.self.invariant c.self.view_is adds (front_first p _ is) (rest_first p _ _ is c.replace.ensures.after) refl refl pushed (sym push.ensures.capacity) (can_first p _ c.self.invariant is).0).kept
 
 pub invariant_of-self-in-Some-Began : goal.invariant_of-self-in-Some-Began
 invariant_of-self-in-Some-Began c =

@@ -6,7 +6,7 @@ use Rattle.esm_model.specs.Valid.{IsValidRecord}
 use Rattle.esm_lasting.specs.Items.{records_in_items}
 use Rattle.esm_core.specs.Calls.{Differs}
 use Rattle.esm_core.specs.Told.{told_of}
-use Rattle.esm_sbook.proofs.PoolingCame.{come_by, AreAdded, SomeAdded, has_come}
+use Rattle.esm_sbook.proofs.PoolingCame.{come_by, AreAdded, SomeAdded, has_come, came_tells}
 use Rattle.esm_sbook.proofs.PoolingRead.{read_goes_on, read_moments, read_shut, shut_read, records_valid, records_few, come_if, some_items, none_items, differs_told}
 use Rattle.esm_sbook.proofs.pooled.BookPooled.bring.Goals as goal
 
@@ -74,3 +74,10 @@ pub returns-clause-changed : goal.returns-clause-changed
 returns-clause-changed g c = λ change is.
     differs_told g.row.D.coded g.row.T.coded g.T.Dest.lines c.args.self.now c.args.list.items change c.trouble-before.ensures.sound
     (subst (λ (rs : List Record). Differs c.args.self.now.core rs change) c.in-Ok.ensures (c.came-answer.ensures.changed change is).1)
+
+pub returns-clause-tells : goal.returns-clause-tells
+returns-clause-tells g c =
+    let e = c.came-answer.ensures in
+    came_tells (disk g.D.Disk.honest g.D.Disk.content g.D.Disk.image g.D.Disk.moment g.D.Disk.image_since g.D.Disk.faults) (destination g.T.Dest.honest g.T.Dest.faults g.T.Dest.lines g.T.Dest.sends g.T.Dest.failed)
+    c.in-Ok.records.items c.args.moment c.args.self.now c.came-answer.new.self c.came-answer.result
+    (record { added = e.added; stopped = e.stopped; changed = e.changed; down = e.down; left = e.left; no_memory = e.no_memory })

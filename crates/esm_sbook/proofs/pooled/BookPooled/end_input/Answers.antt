@@ -24,3 +24,8 @@ returns-clause-same g c =
     let e = c.shut-ended.ensures in
     same_items (told_of c.args.self.now.core) (told_of c.shut-ended.new.self.core)
     (has_ended c.args.moment c.args.self.now c.shut-ended.new.self c.shut-ended.result e.added e.down e.only_down e.left).same
+
+pub returns-clause-change : goal.returns-clause-change
+returns-clause-change g c =
+    let e = c.shut-ended.ensures in
+    (has_ended c.args.moment c.args.self.now c.shut-ended.new.self c.shut-ended.result e.added e.down e.only_down e.left).change

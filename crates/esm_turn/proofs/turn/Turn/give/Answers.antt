@@ -11,7 +11,7 @@ use Rattle.esm_turn.proofs.turn.Turn.give.Goals as goal
 pub store-requires : goal.store-requires
 store-requires g c =
     let T = g.row.T.Denot in
-    let m = meaning g.T.Kept.setup g.T.Kept.history g.T.Kept.mark g.T.Kept.author g.T.Kept.may_follow in
+    let m = meaning g.T.Kept.setup g.T.Kept.history g.T.Kept.mark g.T.Kept.change g.T.Kept.author g.T.Kept.may_follow in
     let shared = c.self.inside.table.shared in
     let inner = c.seat.inside.inner in
     let seat = c.exchange-empty.new.seat in
@@ -23,7 +23,7 @@ store-requires g c =
     let out : inner.me ≡ (p ∷ [], (0, None) ∷ []) = c.seat.invariant ∙ ap (λ b. (p ∷ [], slot_in_hand b)) holds in
     let me : seat.me ≡ (p ∷ [], (0, Some value) ∷ []) = c.exchange-empty.ensures.3 ∙ ap (λ (z : Me (Option T) (List Part)). (z.0, (0, Some value) ∷ rest z.1)) out in
     let may : MayGive m p value = subst (λ (q : Part). MayGive m q value) (sym (ap part_of c.seat.view_is)) (
-    record { setup_is = c.requires.setup; goes_on = c.requires.goes_on; legal = c.requires.legal; own = c.requires.own; marked = c.requires.marked }
+    record { setup_is = c.requires.setup; goes_on = c.requires.goes_on; legal = c.requires.legal; own = c.requires.own; marked = c.requires.marked; unchanged = c.requires.unchanged }
     ) in
     let word_is : word ≡ word_of (m.history value) (m.mark value) None = c.word_at_home-word.ensures in (
       c.exchange-empty.ensures.0 ∙ (ap (λ v. v.at) c.seat.view_is ∙ (c.requires.at ∙ sym (ap (λ v. v.at) c.self.view_is))),

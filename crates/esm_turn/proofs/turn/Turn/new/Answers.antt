@@ -9,7 +9,7 @@ use Rattle.esm_turn.proofs.turn.Turn.new.Goals as goal
 pub new-made-requires : goal.new-made-requires
 new-made-requires g c =
     let T = g.row.T.Denot in
-    let m = meaning g.T.Kept.setup g.T.Kept.history g.T.Kept.mark g.T.Kept.author g.T.Kept.may_follow in
+    let m = meaning g.T.Kept.setup g.T.Kept.history g.T.Kept.mark g.T.Kept.change g.T.Kept.author g.T.Kept.may_follow in
     let value : T = c.args.value in
     let made : T = c.of.result.value in
     let same : value ≡ made = sym c.of.ensures in
@@ -20,5 +20,5 @@ new-made-requires g c =
     let others : (n : ℕ) → seats ≤ n → entries_of (m.author (m.setup made)) n (m.history made) ≡ []
     = λ n h. ap (λ x. entries_of (m.author (m.setup x)) n (m.history x)) (sym same) ∙ c.requires.others n h in
     let items : c.push_reserved.new.self.items ≡ Some value ∷ [] = c.push_reserved.ensures.items ∙ ap (λ l. l ++ Some value ∷ []) c.in-Ok-with_capacity.ensures.items in
-    subst (λ (l : List (Option T)). IsKept m (m.setup made) seats (opening (word ∷ []) l (begun_parts m.author (m.setup made) (m.history made) 0 seats))) (sym items)
-    (starts m (m.setup made) seats value (m.history made) word (ap m.setup same) (ap m.history same) legal others word_is)
+    subst (λ (l : List (Option T)). IsKept m (m.setup made) seats (opening (word ∷ []) l (begun_parts m.author (m.setup made) (m.history made) (m.change made) 0 seats))) (sym items)
+    (starts m (m.setup made) seats value (m.history made) (m.change made) word (ap m.setup same) (ap m.history same) (ap m.change same) legal others word_is)

@@ -1,0 +1,81 @@
+-- As many records came to a book as its setting has, and they are few; so each entry of its history may be said.
+use Rattle.std.proofs.Common.{◌≡◌, ◌∙◌, ◌≤◌, ℕ, List, [], ◌∷◌, ◌++◌, map, length, ap, arith, refl, sym}
+use Rattle.std.specs.Prelude.{◌==◌, not, reverse}
+use Rattle.std.specs.List.{All}
+use Rattle.std.proofs.lemmas.List.{length-append, reverse-reverse}
+use Rattle.std.proofs.lemmas.List.Filters.{length-filter_both}
+use Rattle.esm_model.specs.declared.item.Record.{Record}
+use Rattle.esm_model.specs.declared.entry.Entry.{Entry}
+use Rattle.esm_model.specs.declared.setup.Told.{Told}
+use Rattle.esm_model.specs.Setting.{Setting, Stream, records_in, records_of}
+use Rattle.esm_model.specs.Entries.{came_count}
+use Rattle.esm_model.specs.Books.{IsOfStream, entries_told, records_told, streams_told}
+use Rattle.esm_model.proofs.BookLaws.{count_told}
+use Rattle.esm_model.proofs.TellingFacts.{records_in_told}
+use Rattle.esm_payload.specs.EntryPayload.{AllMayBeSaid}
+use Rattle.esm_writable.specs.Bounds.{AreCountedInFourBytes, AreWithinBounds}
+use Rattle.esm_arrival.specs.Coming.{of_shard}
+use Rattle.esm_owing.specs.OwingView.{OwingView, full_setting}
+use Rattle.esm_core.specs.Told.{told_entries, told_of}
+use Rattle.esm_journal.specs.State.{JournalState}
+use Rattle.esm_record.specs.declared.item.Item.{Item}
+use Rattle.esm_record.specs.declared.item.Item.TheVariants.{Queue, Stream as StreamItem}
+use Rattle.esm_sbook.specs.Books.{BookState}
+use Rattle.esm_sbook.specs.Keeping.{IsSound}
+use Rattle.esm_runner.specs.Coming.{SomeCame, records_in_items}
+use Rattle.esm_runner.specs.Laws.{AreLaws}
+use Rattle.esm_runner.proofs.Payloads.{coming_extends, own_legal}
+
+entries_same : (s : Setting) (es : List Entry) → map (λ (t : Told). t.entry) (told_entries s es) ≡ es
+entries_same s [] = refl
+entries_same s (e ∷ es) = ap (λ (xs : List Entry). e ∷ xs) (entries_same s es)
+
+entries_of : (v : OwingView) → entries_told (told_of v) ≡ v.past
+entries_of v = ap reverse (entries_same (full_setting v) (reverse v.past)) ∙ reverse-reverse v.past
+
+pub came_all : (v : OwingView) → v.setting.streams ≡ streams_told (told_of v) → All IsOfStream (told_of v) → (n : ℕ) → came_count v.past n ≡ length (records_of v.setting n)
+came_all v records of_stream n =
+    let counted : came_count (entries_told (told_of v)) n ≡ length (records_told n (told_of v)) = count_told (told_of v) n of_stream in
+    let stand : records_in v.setting.streams n ≡ records_told n (told_of v) = ap (λ (ts : List Stream). records_in ts n) records ∙ records_in_told (told_of v) n in
+    sym (ap (λ (h : List Entry). came_count h n) (entries_of v)) ∙ (counted ∙ ap length (sym stand))
+
+-- the records that came are no more than the items of the input
+
+records_few : (xs : List Item) → length (records_in_items xs) ≤ length xs
+records_few [] = omega arith
+records_few (StreamItem r ∷ xs) = let more = records_few xs in omega (arith, more)
+records_few (Queue m ∷ xs) = let more = records_few xs in omega (arith, more)
+
+of_shard_few : (n : ℕ) (rs : List Record) → length (of_shard n rs) ≤ length rs
+of_shard_few n rs =
+    let both = length-filter_both (λ (r : Record). r.shard == n) (λ (r : Record). not (r.shard == n)) (λ r. refl) rs in
+    omega (arith, both)
+
+some_few : {D : Type 0} (b : BookState D (JournalState D)) (xs : List Item) → SomeCame b (records_in_items xs) → (n : ℕ) → length (records_of b.core.setting n) ≤ length xs
+some_few b xs came n =
+    let records = records_in_items xs in
+    let some = came n in
+    let long : length (of_shard n records) ≡ length (records_of b.core.setting n ++ some.0) = ap length some.1 in
+    let both = length-append (records_of b.core.setting n) some.0 in
+    let few = of_shard_few n records in
+    let fewer = records_few xs in
+    omega (arith, long, both, few, fewer)
+
+counted : {D : Type 0} (b : BookState D (JournalState D)) (xs : List Item) → IsSound b → length xs ≤ 1000000 → SomeCame b (records_in_items xs) → AreCountedInFourBytes b.core.past
+counted b xs sound few came n =
+    let all = came_all b.core sound.records sound.of_stream n in
+    let some = some_few b xs came n in
+    omega (arith, all, some, few)
+
+-- the bounds of all that came or is coming are those of what came
+own_bounds : (v : OwingView) → AreWithinBounds (full_setting v) → AreWithinBounds v.setting
+own_bounds v all = record {
+  own_shard = λ n i r at. all.own_shard n i r (coming_extends v.setting.streams v.coming n i r at);
+  valid = λ n i r at. all.valid n i r (coming_extends v.setting.streams v.coming n i r at);
+  states = λ n w text is. all.states n w text is;
+}
+
+pub may_be_said : {D : Type 0} (b : BookState D (JournalState D)) (xs : List Item) → AreLaws → IsSound b → AreWithinBounds (full_setting b.core) → length xs ≤ 1000000 → SomeCame b (records_in_items xs)
+    → AllMayBeSaid b.core.setting b.core.past
+may_be_said b xs laws sound bounds few came =
+    laws.said b.core.setting b.core.past (own_bounds b.core bounds) (own_legal b.core.setting b.core.past sound.legal) (counted b xs sound few came)

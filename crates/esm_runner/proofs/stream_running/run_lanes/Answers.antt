@@ -1,0 +1,70 @@
+use denote.Param.Send.{sendable}
+use Rattle.std.proofs.Common.{◌≡◌, ◌∙◌, ℕ, ◌*◌, Result, List, ap}
+use Rattle.std.specs.Prelude.{min}
+use Rattle.std.specs.Coded.{Coded}
+use Rattle.esm_model.specs.declared.memory.OutOfMemory.{OutOfMemory}
+use Rattle.esm_model.specs.Kept.{change_of}
+use Rattle.esm_input.specs.Reading.{InputState}
+use Rattle.esm_batchers.specs.Working.{Outside, outside}
+use Rattle.esm_pool.specs.declared.running.RunEnd.{RunEnd}
+use Rattle.esm_sbook.specs.Books.{BookState, setup_of}
+use Rattle.esm_sbook.specs.Keeping.{IsSound}
+use Rattle.esm_sbook.proofs.Sent.{book_send}
+use Rattle.esm_runner.specs.Ran.{HasRun, CameSo, EndsSo}
+use Rattle.esm_runner.proofs.Bridges.{told_new}
+use Rattle.esm_runner.proofs.Following.{left_follow}
+use Rattle.esm_runner.proofs.Shared.{BookRan, ran_so, stopped_so, came_so, ended_so, cut_came, if_ran, on_ran}
+use Rattle.esm_runner.proofs.Unbegun.{on_any_err}
+use Rattle.esm_runner.proofs.stream_running.run_lanes.Goals as goal
+
+pub run_book-end-requires-send-B : goal.run_book-end-requires-send-B
+run_book-end-requires-send-B g c κs within = search (book_send, sendable) depth 10
+
+pub run_book-end-requires-clause-new : goal.run_book-end-requires-clause-new
+run_book-end-requires-clause-new g c κs within = told_new c.args.book c.requires.new
+
+pub run_book-end-requires-clause-unchanged : goal.run_book-end-requires-clause-unchanged
+run_book-end-requires-clause-unchanged g c κs within = ap change_of c.requires.up
+
+pub returns : goal.returns
+returns g c =
+    let code : Coded g.row.D.Denot = g.row.D.coded in
+    let dest : Coded g.row.T.Denot = g.row.T.coded in
+    let lines = g.T.Dest.lines in
+    let o : Outside g.row.F.Denot = outside g.C.Clock.gave g.F.Caller.sends g.F.Caller.log in
+    let faults = g.S.Source.faults in
+    let left = g.S.Source.left in
+    let ran = c.run_book-end in
+    let v : BookState g.row.D.Denot g.row.T.Denot = c.args.book in
+    let w : BookState g.row.D.Denot g.row.T.Denot = c.run_book-end.result.book in
+    let j : InputState g.row.S.Denot = c.run_book-end.result.input in
+    let count : ℕ = c.batchers_for-batchers.result in
+    let old : List g.row.F.Denot = c.args.callers.items in
+    let new : List g.row.F.Denot = c.run_book-end.result.callers.items in
+    let r : Result RunEnd OutOfMemory = c.run_book-end.result.end in
+    let sound : IsSound c.run_book-end.result.book = c.know.ensures in
+    let did : BookRan code dest g.T.Dest.lines o g.S.Source.faults g.S.Source.left v w j count old new r = record {
+      setup_is = ran.ensures.setup;
+      moments = ran.ensures.moments;
+      called = ran.ensures.called;
+      ended = ran.ensures.ended;
+      left_one = ran.ensures.left;
+      came = ran.ensures.came;
+      changed = ran.ensures.changed;
+      read = ran.ensures.read;
+      good = ran.ensures.good;
+      cut = ran.ensures.cut;
+    } in
+    let factor : c.run_book-end.result.input.factor ≡ c.args.book.core.setting.config.factor = ran.ensures.input.factor ∙ c.requires.factor in
+    let number : c.batchers_for-batchers.result ≡ min (16 * c.args.book.core.setting.config.factor) 64 = c.batchers_for-batchers.ensures.count ∙ ap (λ f. min (16 * f) 64) (c.factor.ensures ∙ c.requires.factor) in
+    record {
+      run = on_ran (HasRun o v w old new) r (ran_so code dest lines o faults left v w j count old new r sound did);
+      came = if_ran (CameSo j w) r (came_so code dest lines o faults left v w j count old new r sound did);
+      ended = if_ran (EndsSo left j w) r (λ e was. ended_so code dest lines o faults left v w j count old new r sound did e c.handed_is_within.ensures c.requires.config number factor was);
+      read = ran.ensures.read;
+      good = ran.ensures.good;
+      stopped = on_any_err r (stopped_so code dest lines o faults left v w j count old new r sound did);
+      cut = on_any_err r (cut_came code dest lines o faults left v w j count old new r sound did);
+      later = λ first. left_follow (setup_of code dest lines v) w (ran.ensures.later first);
+      input = (ran.ensures.input.kind, ran.ensures.input.factor, ran.ensures.input.start, ran.ensures.input.found);
+    }

@@ -1,0 +1,174 @@
+-- The headline: what a run of a stream's mapping leaves. This product's own.
+use Rattle.std.specs.Prelude.{◌≡◌, ◌⊎◌, ◌<◌, ◌≤◌, ◌∷◌, ◌++◌, ℕ, true, List, [], length, take_while, slice_index_or, Option, Some, is_some, option_map, reverse}
+use Rattle.esm_io.specs.Told.{Grows}
+use Rattle.esm_io.specs.Meanings.{DiskMeaning}
+use Rattle.esm_journal.specs.File.{header_of}
+use Rattle.esm_journal.specs.Pair.{PairOpensTo, first_disk, second_disk}
+use Rattle.esm_journal.specs.State.{Keeps, StillOpens}
+use Rattle.esm_model.specs.declared.config.Config.{Config}
+use Rattle.esm_model.specs.declared.item.Record.{Record}
+use Rattle.esm_model.specs.declared.lane.LaneId.{LaneId}
+use Rattle.esm_model.specs.declared.entry.Entry.{Entry}
+use Rattle.esm_model.specs.declared.called.Called.{Called}
+use Rattle.esm_model.specs.declared.book.Trouble.{Trouble}
+use Rattle.esm_model.specs.declared.book.Trouble.TheVariants.{Disk, Dest}
+use Rattle.esm_model.specs.Setting.{Setting, over, records_of}
+use Rattle.esm_model.specs.Entries.{batcher}
+use Rattle.esm_model.specs.Fates.{fate, came_places}
+use Rattle.esm_model.specs.Checkpoint.{checkpoint}
+use Rattle.esm_model.specs.Calls.{calls, last_event}
+use Rattle.esm_model.specs.Earned.{FateIsEarned, LastEnd}
+use Rattle.esm_model.specs.Laws.{OrderPerKey, OneFate, NoRepeat, EveryRecordCounted, CheckpointIsLongest}
+use Rattle.esm_arrival.specs.Coming.{of_shard}
+use Rattle.esm_ledger.specs.Ledger.{LegalOver, opened_with}
+use Rattle.esm_owing.specs.OwingView.{lines_of}
+use Rattle.esm_payload.specs.declared.said.Said.{Said}
+use Rattle.esm_said.specs.declared.kept.KeptFate.{KeptFate}
+use Rattle.esm_said.specs.Meaning.{fate_said, history}
+use Rattle.esm_said.specs.SaidLists.{SaidLists}
+use Rattle.esm_upkeep.specs.Upkeep.{AreHonest, AreSettled, PairHolds}
+use Rattle.esm_sbook.specs.Books.{payloads_in}
+use Rattle.esm_runner.specs.Given.{AreGiven}
+use Rattle.esm_batchers.specs.Working.{Outside}
+use Rattle.esm_runner.specs.Stopping.{HasLogged}
+use Rattle.esm_runner.specs.Files.{FilesState}
+
+-- what devices tell: of the clock and the callers, and of the disks
+pub record Telling (D F : Type 0) : Type 1 where
+  pub callers : Outside F
+  pub disk : DiskMeaning D
+
+abbrev pub telling : {D F : Type 0} → Outside F → DiskMeaning D → Telling D F
+telling callers disk = record { callers = callers; disk = disk }
+
+-- what a run found or left: its disks, and its callers in order
+pub record Devices (D F : Type 0) : Type 0 where
+  pub journal : D
+  pub spare : D
+  pub failures : D
+  pub callers : List F
+
+-- the setting of a run: opened with the configuration, the calls allowed and what the journal said; the lists of records are
+-- those of the input, shard by shard, as far as they came
+pub record IsSettingOf (config : Config) (calls : ℕ) (said : SaidLists) (records : List Record) (s : Setting) : Type 0 where
+  pub opened : s ≡ over (opened_with config calls said) s.streams
+  pub came : (n : ℕ) → (rest : List Record) × (of_shard n records ≡ records_of s n ++ rest)
+
+-- caller k's log, where told, grew by the calls of batcher k
+abbrev pub CallsMade : {D F : Type 0} → Telling D F → Setting → List Entry → (old new : List F) → Type 0
+CallsMade {D} {F} t s h old new = (k : ℕ) (d : F) → k < length old → Grows (t.callers.log (slice_index_or old k d)) (t.callers.log (slice_index_or new k d)) (calls s t.callers.sends h k)
+
+-- or perhaps by one further call of a lane that still runs
+abbrev pub CallsMadeOrOneMore : {D F : Type 0} → Telling D F → Setting → List Entry → (old new : List F) → Type 0
+CallsMadeOrOneMore {D} {F} t s h old new = (k : ℕ) (d : F) → k < length old → HasLogged t.callers.sends s h k (t.callers.log (slice_index_or old k d)) (t.callers.log (slice_index_or new k d))
+
+-- the journal's content is the old one followed by the payloads of the history
+abbrev pub JournalKept : {D F : Type 0} → Telling D F → FilesState D → Setting → List Entry → Devices D F → Type 0
+JournalKept t f s h new = AreHonest t.disk f.journal f.spare → PairHolds t.disk f.pair.epoch (f.pair.payloads ++ payloads_in s (reverse h)) new.journal new.spare
+
+-- a crash now may leave this of the disk, and so might one since the disk was opened
+abbrev pub IsLeftNow : {D : Type 0} → DiskMeaning D → (opened now : D) → List ℕ → Type 0
+IsLeftNow m opened now image = m.image now image × m.since now (m.moment opened) image
+
+-- What a crash now leaves of the pair opens to the payloads found and the one list, or to them and the other. A disk as it reads
+-- is one of the images that a crash now may leave.
+abbrev pub PairStopped : {D : Type 0} → DiskMeaning D → FilesState D → (kept more : List (List ℕ)) → (journal spare : D) → Type 0
+PairStopped m f kept more journal spare =
+    AreHonest m f.journal f.spare → (one other : List ℕ) → IsLeftNow m (first_disk f.pair) journal one → IsLeftNow m (second_disk f.pair) spare other →
+    PairOpensTo (header_of 2) f.pair.epoch (f.pair.payloads ++ kept) one other ⊎ PairOpensTo (header_of 2) f.pair.epoch (f.pair.payloads ++ more) one other
+
+-- where a disk of the journal failed: the payloads of the history, and perhaps that of the entry in hand
+abbrev pub JournalStopped : {D F : Type 0} → Telling D F → FilesState D → Setting → List Entry → (hand : List Entry) → Devices D F → Type 0
+JournalStopped t f s h hand new = PairStopped t.disk f (payloads_in s (reverse h)) (payloads_in s (reverse h ++ hand)) new.journal new.spare
+
+-- the failure file's lines are the old ones followed by these
+abbrev pub LinesKept : {D F : Type 0} → Telling D F → FilesState D → List (List ℕ) → Devices D F → Type 0
+LinesKept t f lines new = t.disk.honest f.failures ≡ true → Keeps t.disk (header_of 1) (f.dest.payloads ++ lines) new.failures
+
+-- while a line was added the failure file failed: a crash leaves these lines, or these and that one
+abbrev pub LinesStopped : {D F : Type 0} → Telling D F → FilesState D → List (List ℕ) → Devices D F → Type 0
+LinesStopped t f lines new = t.disk.honest f.failures ≡ true → StillOpens t.disk (header_of 1) (f.dest.payloads ++ lines) new.failures
+
+-- the lines of the history, and after a fault of the journal perhaps that of the entry whose payload was being written
+abbrev pub FailureLinesKept : {D F : Type 0} → Telling D F → FilesState D → Option Trouble → List Entry → (hand : List Entry) → Devices D F → Type 0
+FailureLinesKept t f (Some Dest) h hand new = LinesStopped t f (lines_of (reverse h)) new
+FailureLinesKept t f _ h hand new = LinesKept t f (lines_of (reverse h ++ hand)) new
+
+-- the entries whose payloads may stand in the journal though they are not in the history: one at most, and only where a disk
+-- failed
+abbrev pub IsInHand : Option Trouble → List Entry → Type 0
+IsInHand (Some Disk) hand = length hand ≤ 1
+IsInHand _ hand = hand ≡ []
+
+-- two disks open to the payloads found, and then to those of the first of these entries, or of all of them
+pub record OpensToFrontOf (s : Setting) (epoch : ℕ) (before : List (List ℕ)) (es : List Entry) (one other : List ℕ) : Type 0 where
+  pub front : List Entry
+  pub rest : List Entry
+  pub split : front ++ rest ≡ es
+  pub opens : PairOpensTo (header_of 2) epoch (before ++ payloads_in s front) one other
+
+-- Every image of the pair since the run's start opens to the content found, followed by a prefix of the payloads of the
+-- history in their order; where a disk failed, one further whole payload may follow all of them.
+abbrev pub CrashKept : {D F : Type 0} → Telling D F → FilesState D → Setting → List Entry → (hand : List Entry) → Devices D F → Type 0
+CrashKept t f s h hand new =
+    AreHonest t.disk f.journal f.spare → AreSettled t.disk f.journal f.spare → (one other : List ℕ) →
+    t.disk.since new.journal (t.disk.moment f.journal) one → t.disk.since new.spare (t.disk.moment f.spare) other →
+    OpensToFrontOf s f.pair.epoch f.pair.payloads (reverse h ++ hand) one other
+
+-- what the journal's content says after the history: the old payloads followed by those of the history, the newest first
+abbrev pub said_after : {D : Type 0} → FilesState D → Setting → List Entry → List Said
+said_after f s h = history (reverse (f.pair.payloads ++ payloads_in s (reverse h)))
+
+-- by the journal's content each place has the fate that it has after the history, and none where it has none
+abbrev pub FatesAreRecorded : {D : Type 0} → FilesState D → Setting → List Entry → Type 0
+FatesAreRecorded f s h = (n i : ℕ) → option_map (λ (k : KeptFate). k.fate) (fate_said (said_after f s h) n i) ≡ fate s h n i
+
+-- the checkpoint of a shard is the length of the longest prefix of the places that came which all have a fate by the journal's
+-- content
+abbrev pub CheckpointIsRecorded : {D : Type 0} → FilesState D → Setting → List Entry → Type 0
+CheckpointIsRecorded f s h = (n : ℕ) → checkpoint s h n ≡ length (take_while (λ i. is_some (fate_said (said_after f s h) n i)) (came_places h n))
+
+-- the answer of each call that ended is the one that stands with its event among the calls of its lane's batcher, by which the
+-- log of that caller grew
+abbrev pub AnswersAreLogged : {D F : Type 0} → Telling D F → Setting → List Entry → Type 0
+AnswersAreLogged t s h =
+    (later before : List Entry) (lane : LaneId) → h ≡ later ++ before → (end : LastEnd s before lane)
+    → (earlier rest : List Called)
+    × (calls s t.callers.sends h (batcher s end.earlier lane) ≡ earlier ++ record { name = s.config.function; event = t.callers.sends (last_event s end.earlier lane); reply = end.reply } ∷ rest)
+
+-- What holds of a history, newest entry first, and of the devices after it, whatever ended the run.
+pub record Headline {D F : Type 0} (t : Telling D F) (f : FilesState D) (s : Setting) (h : List Entry) (trouble : Option Trouble) (hand : List Entry) (new : Devices D F) : Type 0 where
+  -- each entry may follow those before it, over every list of records that goes on from those that came
+  pub legal_trace : LegalOver s h
+  -- each moment is one that the clock gave, at most the greatest, or that of the entry before it where that is later
+  pub moments : AreGiven t.callers.gave h
+  -- the journal's content is the old one followed by the payloads of the trace
+  pub journal_kept : (trouble ≡ Some Disk → ⊥) → JournalKept t f s h new
+  -- where a disk of it failed, one further whole payload may follow, that of the entry in hand
+  pub journal_stopped : trouble ≡ Some Disk → JournalStopped t f s h hand new
+  -- the failure file's lines are the old ones followed by the trace's lines; where a disk failed, one further line may follow
+  pub failure_lines_kept : FailureLinesKept t f trouble h hand new
+  -- an entry is in hand only where a disk of the journal failed, and then one at most
+  pub in_hand : IsInHand trouble hand
+  -- what a crash leaves since the run's start: the old content followed by a prefix of the payloads of the trace
+  pub crash : CrashKept t f s h hand new
+  -- a record that has a fate, found or given, is given no other
+  pub one_fate : OneFate s h
+  -- each fate is earned: by the answer to a call, by the filter, by the age at its moment, or by more failed tries than are
+  -- allowed
+  pub fate_is_earned : FateIsEarned s h
+  -- and the answer by which it is earned stands in the log of its lane's caller
+  pub answers_are_logged : AnswersAreLogged t s h
+  -- each fate is recorded: it stands in the journal's content, and no other does
+  pub fates_are_recorded : FatesAreRecorded f s h
+  -- a shard's checkpoint is the longest prefix of the records that came in which each has a fate
+  pub checkpoint_is_longest : (n : ℕ) → CheckpointIsLongest s h n
+  -- and the longest whose places all have one by what the journal's content says
+  pub checkpoint_is_recorded : CheckpointIsRecorded f s h
+  -- for each call and each record of its batch every earlier record of that shard with the same key, outside the batch, has
+  -- its fate before the call begins
+  pub order_per_key : OrderPerKey s h
+  -- no call holds a record that has a found fate or was given one before
+  pub no_repeat : NoRepeat s h
+  -- the records of a shard that came are the succeeded, filtered, expired, exhausted and open ones together, each counted once
+  pub every_record_counted : EveryRecordCounted s h

@@ -1,0 +1,75 @@
+-- A run that is to begin, and what it leaves. Only this crate's proofs cite this.
+use Rattle.std.specs.Prelude.{◌≡◌, ℕ, true, false, List, [], Some, None}
+use Rattle.esm_io.specs.Images.{Only}
+use Rattle.esm_io.specs.Meanings.{DiskMeaning, DestMeaning, destination}
+use Rattle.esm_journal.specs.Pair.{PairState, PairKeepsWhileUp, first_disk, second_disk}
+use Rattle.esm_journal.specs.State.{JournalState, KeepsWhileUp, KeepsWhileDown}
+use Rattle.esm_journal.specs.Stopped.{PairKeepsWhileDown}
+use Rattle.esm_model.specs.declared.book.Trouble.TheVariants as trouble
+use Rattle.esm_model.specs.declared.config.Config.{Config}
+use Rattle.esm_model.specs.declared.config.Start.{Start}
+use Rattle.esm_payload.specs.EntryPayload.{AllMayBeSaid}
+use Rattle.esm_book.specs.State.{in_hand}
+use Rattle.esm_ledger.specs.Ledger.{opened_with, LegalOver}
+use Rattle.esm_owing.specs.OwingView.{new_view, full_setting}
+use Rattle.esm_record.specs.declared.item.LineKind.TheVariants as kinds
+use Rattle.esm_input.specs.Reading.{InputState}
+use Rattle.esm_said.specs.SaidLists.{SaidLists}
+use Rattle.esm_sbook.specs.Books.{BookState, LeavesFirst, OpensToFirst, payloads_in}
+use Rattle.esm_sbook.specs.Keeping.{HasJournal, HasLines, entries_left}
+use Rattle.esm_runner.specs.Files.{FilesState, IsOpenedFiles}
+
+-- what begins
+
+-- nothing was read of the input
+abbrev pub new_input : {S : Type 0} → Config → Start → S → InputState S
+new_input config start source = record { kind = kinds.Stream; factor = config.factor; start = start; found = source; source = source; bytes = []; whole = false; end = None; failed = false }
+
+-- the book and the input of a run with this configuration and starting position are new, over these files and this source
+pub record IsBegun {S D : Type 0} (config : Config) (start : Start) (calls : ℕ) (said : SaidLists) (pair : PairState D) (dest : JournalState D) (source : S) (b : BookState D (JournalState D)) (i : InputState S) (name : List ℕ) : Type 0 where
+  pub core : b.core ≡ new_view (opened_with config calls said)
+  pub pair_is : b.pair ≡ pair
+  pub dest_is : b.dest ≡ dest
+  pub found : b.found ≡ pair
+  pub found_dest : b.found_dest ≡ dest
+  pub up : b.trouble ≡ None
+  pub input : i ≡ new_input config start source
+  pub name_is : name ≡ config.function
+
+-- the files of a run that has begun
+abbrev pub files_of : {D : Type 0} → (journal spare failures : D) → SaidLists → BookState D (JournalState D) → FilesState D
+files_of journal spare failures said b = record { journal = journal; spare = spare; failures = failures; pair = b.pair; said = said; dest = b.dest }
+
+-- what it leaves
+
+-- a failure file as a destination
+abbrev pub file_dest : {D : Type 0} → DiskMeaning D → DestMeaning (JournalState D)
+file_dest m = destination (λ d. m.honest d.disk) (λ d. m.faults d.disk) (λ d. Some d.payloads) (λ line. line) (λ d. d.down)
+
+-- what a crash leaves of the disks since they were handed in
+abbrev pub LeavesSince : {D : Type 0} → DiskMeaning D → FilesState D → BookState D (JournalState D) → Type 0
+LeavesSince m f b =
+    m.honest f.journal ≡ true → m.honest f.spare ≡ true → Only (m.content f.journal) (m.image f.journal) → Only (m.content f.spare) (m.image f.spare) → (one other : List ℕ) →
+    m.since (first_disk b.pair) (m.moment f.journal) one → m.since (second_disk b.pair) (m.moment f.spare) other →
+    OpensToFirst (file_dest m) (full_setting b.core) b.found.epoch b.found.payloads b.found_dest b.dest (entries_left b) one other
+
+-- the book was opened over these files, and this holds of it and of its devices
+pub record IsLeft {D : Type 0} (m : DiskMeaning D) (f : FilesState D) (b : BookState D (JournalState D)) : Type 0 where
+  pub files : IsOpenedFiles m f
+  pub found : b.found ≡ f.pair
+  pub found_dest : b.found_dest ≡ f.dest
+  pub legal : LegalOver b.core.setting b.core.past
+  -- the found fates are those that the journal told of, and each entry that it keeps may be said
+  pub fates : b.core.setting.fates ≡ f.said.fates
+  pub may_be_said : AllMayBeSaid b.core.setting b.core.past
+  pub journal : HasJournal m b
+  pub lines : HasLines (file_dest m) b
+  pub since : LeavesSince m f b
+  pub pair_kept : PairKeepsWhileUp m b.pair
+  -- where a disk failed: what a crash leaves since the opening, and what it leaves now
+  pub opened_since : b.trouble ≡ Some trouble.Disk → LeavesFirst m (file_dest m) (full_setting b.core) b.found b.pair b.found_dest b.dest (entries_left b)
+  pub pair_stopped : PairKeepsWhileDown m b.pair
+  pub dest_kept : KeepsWhileUp m b.dest
+  pub dest_stopped : KeepsWhileDown m b.dest
+  -- no records are coming that the entry in hand names
+  pub hand : payloads_in (full_setting b.core) (in_hand b.trouble b.core.owed) ≡ payloads_in b.core.setting (in_hand b.trouble b.core.owed)

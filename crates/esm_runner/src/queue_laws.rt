@@ -1,0 +1,21 @@
+// The laws by which the headline of a queue holds, as one.
+ghost use Rattle.esm_runner.specs.QueueLaws.{AreLaws};
+
+use esm_input::laws::handed_is_within;
+use esm_payload::laws::read_again;
+use esm_queue_model::history_laws::{
+    deleted_once, every_message_counted, legal_over_more, order_per_group, queue_calls_kept,
+};
+
+/// What holds of every history of a queue, of every payload, and of every input. Does nothing.
+pub(crate) fn laws_hold()
+    ensures { AreLaws }
+{
+    deleted_once();
+    order_per_group();
+    every_message_counted();
+    legal_over_more();
+    queue_calls_kept();
+    read_again();
+    handed_is_within();
+}

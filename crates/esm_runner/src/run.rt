@@ -1,0 +1,148 @@
+// What a run of a mapping leaves, how its end is told, and its devices taken apart.
+ghost use Rattle.std.specs.Prelude.{◌≡◌, None, Some, Ok, IfOk, OnErr};
+ghost use Rattle.std.specs.Option.{option_copied};
+ghost use Rattle.esm_io.specs.Meanings.{disk as meaning};
+ghost use Rattle.esm_journal.specs.Pair.{PairKeepsWhileUp, first_disk, second_disk};
+ghost use Rattle.esm_journal.specs.State.{KeepsWhileUp, KeepsWhileDown};
+ghost use Rattle.esm_journal.specs.Stopped.{PairKeepsWhileDown};
+ghost use Rattle.esm_runner.specs.Ending.{HasReason, IsEndOf, EndsBy, StopsBy};
+
+use esm_input::InputEnd;
+use esm_io::Disk;
+use esm_journal::{FileDest, Pair};
+use esm_model::{Change, Entry, OutOfMemory, Trouble};
+use esm_pool::RunEnd;
+use esm_said::Says;
+use std::alloc::Global;
+use std::snapshot::Snapshot;
+
+/// How the run of a mapping ended.
+#[derive(Drop, Debug)]
+pub enum MappingEnd {
+    /// Every record that came has its fate, and no tumbling window is outstanding, or every message that came is deleted; the
+    /// reading of the input ended for this.
+    Finished(InputEnd),
+    /// All calls allowed were made, and a record is open, or a window outstanding, or a message is not deleted, or the input had
+    /// not ended.
+    CallsSpent,
+    /// A disk of the journal failed.
+    DiskFault,
+    /// The failure file failed. A queue delivers no lines, so no run of one ends so.
+    DestFault,
+    /// A record came with another sequence number than was kept of its place, or a message that was found deleted with another
+    /// id, the first of the input that did.
+    Changed(Change),
+}
+
+/// A run of a mapping: how it ended, its history with the oldest entry first, what its journal said before, and
+/// the devices as it left them.
+#[derive(Drop)]
+pub struct MappingRun<S, D, F> {
+    pub end: Result<MappingEnd, OutOfMemory>,
+    pub trace: Vec<Entry>,
+    pub said: Says,
+    pub input: S,
+    pub journal: D,
+    pub spare: D,
+    pub failures: D,
+    pub callers: Vec<F>,
+}
+
+/// The disks as they were handed in, for the contracts alone.
+#[derive(Drop)]
+pub(crate) struct Before<D> {
+    pub journal: Snapshot<D>,
+    pub spare: Snapshot<D>,
+    pub failures: Snapshot<D>,
+}
+
+/// The same change, in memory of its own.
+fn copied(alloc: Global, change: &Change) -> Result<Change, OutOfMemory>
+    ensures { IfOk result (λ copy. copy ≡ change.now) }
+{
+    Ok(Change {
+        shard: change.shard,
+        place: change.place,
+        kept: change.kept.copy(alloc)?,
+        given: change.given.copy(alloc)?,
+    })
+}
+
+/// Why a book is down, as the end of a run.
+fn end_down(alloc: Global, trouble: &Trouble) -> Result<MappingEnd, OutOfMemory>
+    ensures ended { IfOk result (IsEndOf RunEnd.Down (Some trouble.now) None) }
+    ensures stopped { OnErr result (StopsBy (Ok RunEnd.Down) (Some trouble.now)) }
+{
+    match trouble {
+        Trouble::Disk => Ok(MappingEnd::DiskFault),
+        Trouble::Dest => Ok(MappingEnd::DestFault),
+        Trouble::Changed(change) => match copied(alloc, change) {
+            Ok(change) => Ok(MappingEnd::Changed(change)),
+            Err(OutOfMemory) => Err(OutOfMemory),
+        },
+    }
+}
+
+/// How a run ended by which the batchers came to this, with this trouble of the book, and the reading to that.
+pub(crate) fn end_of(
+    alloc: Global,
+    ran: Result<RunEnd, OutOfMemory>,
+    trouble: Option<&Trouble>,
+    reading: Option<InputEnd>,
+) -> Result<MappingEnd, OutOfMemory>
+    requires reason { IfOk ran (HasReason (option_copied trouble) reading) }
+    ensures ended { IfOk result (EndsBy ran (option_copied trouble.entry) reading) }
+    ensures stopped { OnErr result (StopsBy ran (option_copied trouble.entry)) }
+{
+    match ran {
+        Ok(RunEnd::Finished) => match reading {
+            Some(why) => Ok(MappingEnd::Finished(why)),
+            None => unreachable!(),
+        },
+        Ok(RunEnd::Spent) => Ok(MappingEnd::CallsSpent),
+        Ok(RunEnd::Down) => match trouble {
+            Some(trouble) => end_down(alloc, trouble),
+            None => unreachable!(),
+        },
+        Err(OutOfMemory) => Err(OutOfMemory),
+    }
+}
+
+/// The run with its devices taken apart.
+pub(crate) fn closed<S, F, D: Disk>(
+    end: Result<MappingEnd, OutOfMemory>,
+    trace: Vec<Entry>,
+    pair: Pair<D>,
+    dest: FileDest<D>,
+    said: Says,
+    input: S,
+    callers: Vec<F>,
+) -> MappingRun<S, D, F>
+    ensures end { result.end ≡ end }
+    ensures trace { result.trace ≡ trace }
+    ensures said { result.said ≡ said }
+    ensures input { result.input ≡ input }
+    ensures callers { result.callers ≡ callers }
+    ensures journal { result.journal ≡ first_disk pair }
+    ensures spare { result.spare ≡ second_disk pair }
+    ensures failures { result.failures ≡ dest.disk }
+    ensures pair_kept { PairKeepsWhileUp (meaning D.honest D.content D.image D.moment D.image_since D.faults) pair }
+    ensures pair_stopped { PairKeepsWhileDown (meaning D.honest D.content D.image D.moment D.image_since D.faults) pair }
+    ensures dest_kept { KeepsWhileUp (meaning D.honest D.content D.image D.moment D.image_since D.faults) dest }
+    ensures dest_stopped { KeepsWhileDown (meaning D.honest D.content D.image D.moment D.image_since D.faults) dest }
+{
+    let _ = pair.payloads();
+    let (journal, spare) = pair.into_disks();
+    let lines = dest.into_journal();
+    let _ = lines.payloads();
+    MappingRun {
+        end,
+        trace,
+        said,
+        input,
+        journal,
+        spare,
+        failures: lines.into_disk(),
+        callers,
+    }
+}

@@ -1,0 +1,30 @@
+// The laws by which the headline holds, as one.
+ghost use Rattle.esm_runner.specs.Laws.{AreLaws};
+
+use esm_input::laws::handed_is_within;
+use esm_model::laws::{
+    answer_is_logged, calls_kept, checkpoint_is_longest, every_record_counted, fate_is_earned,
+    no_repeat, one_fate, order_per_key,
+};
+use esm_payload::laws::history_payloads_stay;
+use esm_said::laws::{checkpoint_is_kept, fates_are_kept};
+use esm_writable::laws::legal_may_be_said;
+
+/// What holds of every history, of what its payloads say, and of every input. Does nothing.
+pub(crate) fn laws_hold()
+    ensures { AreLaws }
+{
+    order_per_key();
+    one_fate();
+    fate_is_earned();
+    answer_is_logged();
+    calls_kept();
+    no_repeat();
+    every_record_counted();
+    checkpoint_is_longest();
+    history_payloads_stay();
+    legal_may_be_said();
+    fates_are_kept();
+    checkpoint_is_kept();
+    handed_is_within();
+}
