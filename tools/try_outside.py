@@ -170,9 +170,10 @@ def trickling_answer(t):
 
 
 def large_replies(t):
+    """1,000 replies of 1 MB fit into 700 MB: no reply's bytes are held once it is ruled on."""
     f = t.function(always((200, False, b"x" * 1_000_000)))
-    t.run(STREAM | {"BatchSize": 1}, 0, [shard_line(200, 200, succeeded=200), "calls 200", "done"], f.port,
-          [record(n) for n in range(1, 201)])
+    t.run(STREAM | {"BatchSize": 1}, 0, [shard_line(1000, 1000, succeeded=1000), "calls 1000", "done"], f.port,
+          [record(n) for n in range(1, 1001)], shell="ulimit -v 700000")
 
 
 def few_descriptors(t):
@@ -213,6 +214,22 @@ def fault_with_open_input(t):
         t.between("seconds until it ends", 0, 10, time.monotonic() - begun)
     t.same("output", text_of([shard_line(1, 0), "calls 1", "disk fault"]), output)
     t.same("status", 6, run.returncode)
+
+
+def spent_with_open_input(t):
+    """Where all calls allowed were made the run ends, though its input, a FIFO, stays open."""
+    t.in_folder([])
+    (t.folder / "input.jsonl").unlink()
+    os.mkfifo(t.folder / "input.jsonl")
+    run = t.begin(["run", "--config", json.dumps(STREAM | {"BatchSize": 1}), "--calls", "2"], stdout=subprocess.PIPE)
+    with open(t.folder / "input.jsonl", "w") as feed:
+        feed.write(text_of([record(n) for n in range(1, 4)]))
+        feed.flush()
+        begun = time.monotonic()
+        output = run.communicate(timeout=60)[0]
+        t.between("seconds until it ends", 0, 10, time.monotonic() - begun)
+    t.same("output", text_of([shard_line(3, 2, succeeded=2), "calls 2", "calls spent"]), output)
+    t.same("status", 1, run.returncode)
 
 
 def full_pipe(t):
@@ -393,8 +410,10 @@ def no_threads(t):
 
 
 def small_stack(t):
-    """Over a folder each command has room in a stack of 512 kB."""
+    """Each command has room in a stack of 512 kB."""
     shell = "ulimit -s 512"
+    t.run(STREAM, 0, [shard_line(3, 3, succeeded=3), "calls 1", "done"], lines_in=[record(n) for n in range(1, 4)],
+          options=["--read-first"], shell=shell)
     t.said(["gen", "--records", "1000"], 0, [
         shard_line(500, 500, succeeded=400, filtered=100),
         shard_line(500, 500, succeeded=400, filtered=80, exhausted=20, shard=1), "done"], shell=shell)
@@ -416,6 +435,6 @@ def small_stack(t):
 SLOW = [slow_client]
 CASES = [
     closed_by_run, closed_by_others, closed_by_serve, closed_input, early_answers, no_answer, no_connection,
-    trickling_answer, large_replies, few_descriptors, no_reader, fault_with_open_input, full_pipe,
-    foreign_requests, stopped_serve, no_threads, moved_date, small_stack, *SLOW,
+    trickling_answer, large_replies, few_descriptors, no_reader, fault_with_open_input, spent_with_open_input,
+    full_pipe, foreign_requests, stopped_serve, no_threads, moved_date, small_stack, *SLOW,
 ]
