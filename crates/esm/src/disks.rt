@@ -1,8 +1,8 @@
 // The disks and the input of a run, in memory or in a folder.
+use esm_folder::{Disks, InitEnd, Initialized, init};
 use esm_host::{FileDisk, FileSource};
-use esm_init::{Disks, FileName, InitEnd, Initialized, init};
 use esm_io::MemDisk;
-use esm_model::{OutOfMemory, Text};
+use esm_model::{FileName, OutOfMemory, Text};
 use std::alloc::Global;
 use std::fs::File;
 use std::rt::Files;

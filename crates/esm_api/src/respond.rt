@@ -27,8 +27,8 @@ pub fn respond<D: Disk>(
     moment: u64,
 ) -> Result<Response, OutOfMemory>
     requires { registry.old.journal.down ≡ false }
-    ensures given { IfOk result (Gives (meaning D.honest D.content D.image D.moment D.image_since D.faults) registry.old registry.new (judgement_of judged) moment) }
-    ensures unanswered { OnErr result (Stands (meaning D.honest D.content D.image D.moment D.image_since D.faults) registry.old registry.new (judgement_of judged) moment) }
+    ensures given { IfOk result (Gives (meaning D.Disk) registry.old registry.new (judgement_of judged) moment) }
+    ensures unanswered { OnErr result (Stands (meaning D.Disk) registry.old registry.new (judgement_of judged) moment) }
     ensures honesty { D.honest registry.new.journal.disk ≡ D.honest registry.old.journal.disk }
     ensures never_falls { D.faults registry.old.journal.disk ≤ D.faults registry.new.journal.disk }
 {

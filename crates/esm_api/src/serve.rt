@@ -38,13 +38,13 @@ pub fn serve_one<L: Link, D: Disk>(
     requires { registry.old.journal.down ≡ false }
     // What each answer means.
     ensures answered { IfOk result (λ served. (n : ℕ) → served ≡ Served.Answered n
-        → Responds L.told link.old link.new (meaning D.honest D.content D.image D.moment D.image_since D.faults) registry.old registry.new moment n []) }
+        → Responds L.told link.old link.new (meaning D.Disk) registry.old registry.new moment n []) }
     ensures cut { IfOk result (λ served. served ≡ Served.Cut
         → Waits (L.told link.old) (L.told link.new) registry.old registry.new × IsReadOut (L.told link.new)) }
     ensures fault { IfOk result (λ served. served ≡ Served.LinkFault
         → Waits (L.told link.old) (L.told link.new) registry.old registry.new
-        ⊎ ((n : ℕ) × (unsent : List ℕ) × Responds L.told link.old link.new (meaning D.honest D.content D.image D.moment D.image_since D.faults) registry.old registry.new moment n unsent)) }
-    ensures unanswered { OnErr result (IsUnanswered (L.told link.old) (L.told link.new) (meaning D.honest D.content D.image D.moment D.image_since D.faults) registry.old registry.new moment) }
+        ⊎ ((n : ℕ) × (unsent : List ℕ) × Responds L.told link.old link.new (meaning D.Disk) registry.old registry.new moment n unsent)) }
+    ensures unanswered { OnErr result (IsUnanswered (L.told link.old) (L.told link.new) (meaning D.Disk) registry.old registry.new moment) }
     // The causes.
     ensures link_cause { IfOk result (λ served. served ≡ Served.LinkFault → Rose (L.faults link.old) (L.faults link.new)) }
     ensures disk_cause { IfOk result (λ served. served ≡ Served.Answered 500 → Rose (D.faults registry.old.journal.disk) (D.faults registry.new.journal.disk)) }

@@ -8,7 +8,8 @@ use Rattle.esm_io.proofs.Leaving.{started, goes_on, weaker}
 use Rattle.esm_journal.specs.File.{header_of, IsFile}
 use Rattle.esm_journal.specs.Log.{IsEither}
 use Rattle.esm_journal.specs.Pair.{PairState, PairKeepsWhileUp}
-use Rattle.esm_book.specs.Decided.{CoreMeaning, written_of}
+use Rattle.esm_book.specs.Decided.{written_of}
+use Rattle.esm_book.specs.Meanings.{CoreMeaning}
 use Rattle.esm_book.specs.Growth.{HoldsFront, HasAppended}
 use Rattle.esm_book.proofs.Lists.{clash, silent_behind}
 use Rattle.esm_book.proofs.Fronts.{holds_none, holds_either, holds_more, holds_behind, holds_noted}

@@ -3,7 +3,8 @@ use Rattle.std.proofs.Common.{◌≡◌, ℕ, false, List, [], ◌∷◌, ◌++�
 use Rattle.esm_io.specs.Faults.{IsCount, Rose}
 use Rattle.esm_io.specs.Meanings.{DestMeaning}
 use Rattle.esm_io.specs.Told.{Grows}
-use Rattle.esm_book.specs.Decided.{CoreMeaning, written_of}
+use Rattle.esm_book.specs.Decided.{written_of}
+use Rattle.esm_book.specs.Meanings.{CoreMeaning}
 use Rattle.esm_book.specs.Growth.{HasDelivered, AreTold}
 use Rattle.esm_book.specs.Answers.{IsSameDest}
 use Rattle.esm_book.proofs.Lists.{clash, grows_none, grows_then, silent_within, sent-append}

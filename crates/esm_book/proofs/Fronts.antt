@@ -3,7 +3,8 @@ use Rattle.std.proofs.Common.{◌≡◌, inl, inr, ⊎_elim, ℕ, List, [], ◌�
 use Rattle.std.proofs.lemmas.List.Elements.{filter_map-append}
 use Rattle.esm_journal.specs.File.{header_of, IsFile}
 use Rattle.esm_journal.specs.Log.{IsEither}
-use Rattle.esm_book.specs.Decided.{CoreMeaning, written_of}
+use Rattle.esm_book.specs.Decided.{written_of}
+use Rattle.esm_book.specs.Meanings.{CoreMeaning}
 use Rattle.esm_book.specs.Growth.{HoldsFront}
 use Rattle.esm_book.proofs.Lists.{front_of, silent_behind}
 

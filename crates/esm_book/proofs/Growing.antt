@@ -3,7 +3,8 @@ use Rattle.std.proofs.Common.{◌≡◌, ℕ, false, List, [], ◌++◌, length,
 use Rattle.esm_io.specs.Meanings.{DiskMeaning, DestMeaning}
 use Rattle.esm_journal.specs.File.{header_of, IsFile}
 use Rattle.esm_journal.specs.Pair.{PairState, PairKeepsWhileUp, IsSpare, PairOpensTo}
-use Rattle.esm_book.specs.Decided.{CoreMeaning, written_of}
+use Rattle.esm_book.specs.Decided.{written_of}
+use Rattle.esm_book.specs.Meanings.{CoreMeaning}
 use Rattle.esm_book.specs.Growth.{HasAppended, HasDelivered, HasGrown, LeavesFronts}
 use Rattle.esm_book.specs.Answers.{IsSameDest}
 use Rattle.esm_book.proofs.Lists.{grows_none}

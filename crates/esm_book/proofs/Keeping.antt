@@ -5,7 +5,8 @@ use Rattle.esm_journal.specs.Pair.{PairState, PairKeepsWhileUp}
 use Rattle.esm_model.specs.declared.book.Change.{Change}
 use Rattle.esm_model.specs.declared.book.Trouble.{Trouble}
 use Rattle.esm_model.specs.declared.book.Trouble.TheVariants.{Changed}
-use Rattle.esm_book.specs.Decided.{CoreMeaning, written_of, added}
+use Rattle.esm_book.specs.Decided.{written_of, added}
+use Rattle.esm_book.specs.Meanings.{CoreMeaning}
 use Rattle.esm_book.specs.Answers.{IsSameDest}
 use Rattle.esm_book.specs.Growth.{HasGrown}
 use Rattle.esm_book.specs.State.{is_disk, is_dest, in_hand, IsSettled, IsKept}

@@ -6,7 +6,8 @@ use Rattle.esm_io.proofs.Leaving.{goes_on}
 use Rattle.esm_journal.specs.File.{header_of, IsFile}
 use Rattle.esm_journal.specs.Pair.{IsSpare, first_disk, second_disk}
 use Rattle.esm_journal.specs.Reads.{IsOnlyRead}
-use Rattle.esm_book.specs.Decided.{CoreMeaning, written_of}
+use Rattle.esm_book.specs.Decided.{written_of}
+use Rattle.esm_book.specs.Meanings.{CoreMeaning}
 use Rattle.esm_book.specs.Growth.{HoldsFront, OpensToFront}
 use Rattle.esm_book.specs.State.{DurableState, in_hand, IsKept}
 use Rattle.esm_book.proofs.Lists.{clash}

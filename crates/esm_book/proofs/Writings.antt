@@ -3,7 +3,8 @@ use Rattle.std.proofs.Common.{◌≡◌, List, [], ◌∷◌, ◌++◌, take, dr
 use Rattle.std.proofs.lemmas.List.{reverse-append}
 use Rattle.esm_io.specs.Meanings.{DiskMeaning, DestMeaning}
 use Rattle.esm_journal.specs.Pair.{PairState}
-use Rattle.esm_book.specs.Decided.{CoreMeaning, added}
+use Rattle.esm_book.specs.Decided.{added}
+use Rattle.esm_book.specs.Meanings.{CoreMeaning}
 use Rattle.esm_book.specs.Growth.{HasAppended, HasDelivered, HasGrown}
 use Rattle.esm_book.specs.Writing.{Writes}
 use Rattle.esm_book.proofs.Lists.{added_is}

@@ -5,17 +5,6 @@ use Rattle.esm_model.specs.declared.book.Change.{Change}
 use Rattle.esm_book.specs.declared.error.Refusal.{Refusal}
 use Rattle.esm_book.specs.declared.error.Refusal.TheVariants.{Changed, OutOfMemory}
 
--- a core's history, newest entry first; what it owes, oldest first; and what an entry has in the journal and at the
--- destination
-pub record CoreMeaning (C E : Type 0) : Type 1 where
-  pub history : C → List E
-  pub owed : C → List E
-  pub payload : E → Option (List ℕ)
-  pub line : E → Option (List ℕ)
-
-abbrev pub decisions : {C E : Type 0} → (C → List E) → (C → List E) → (E → Option (List ℕ)) → (E → Option (List ℕ)) → CoreMeaning C E
-decisions history owed payload line = record { history = history; owed = owed; payload = payload; line = line }
-
 -- what the entries have written, in their order: the payloads, or the lines
 abbrev pub written_of : {E : Type 0} → (E → Option (List ℕ)) → List E → List (List ℕ)
 written_of text entries = filter_map text entries

@@ -6,7 +6,8 @@ use Rattle.esm_io.specs.Meanings.{DiskMeaning, DestMeaning}
 use Rattle.esm_io.specs.Told.{Grows}
 use Rattle.esm_journal.specs.File.{header_of, IsFile}
 use Rattle.esm_journal.specs.Pair.{PairState, PairKeepsWhileUp, PairOpensTo}
-use Rattle.esm_book.specs.Decided.{CoreMeaning, written_of}
+use Rattle.esm_book.specs.Decided.{written_of}
+use Rattle.esm_book.specs.Meanings.{CoreMeaning}
 
 -- a file holds the payloads from before, and then those of the first of these entries, or of all of them
 pub record HoldsFront {C E : Type 0} (k : CoreMeaning C E) (epoch : ℕ) (before : List (List ℕ)) (entries : List E) (bytes : List ℕ) : Type 0 where

@@ -1,4 +1,5 @@
 pub mod Decided
+pub mod Meanings
 pub mod Growth
 pub mod State
 pub mod Answers

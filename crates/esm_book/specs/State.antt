@@ -5,7 +5,7 @@ use Rattle.esm_journal.specs.Pair.{PairState, PairKeepsWhileUp}
 use Rattle.esm_model.specs.declared.book.Change.{Change}
 use Rattle.esm_model.specs.declared.book.Trouble.{Trouble}
 use Rattle.esm_model.specs.declared.book.Trouble.TheVariants.{Disk, Dest, Changed}
-use Rattle.esm_book.specs.Decided.{CoreMeaning}
+use Rattle.esm_book.specs.Meanings.{CoreMeaning}
 use Rattle.esm_book.specs.Growth.{HasGrown}
 
 -- the core, the journal and the destination as they are; why it is down, where it is; and the journal and the destination

@@ -2,7 +2,8 @@
 use Rattle.std.specs.Prelude.{◌≡◌, ◌++◌, ℕ, Bool, true, false, List, [], ◌∷◌, ◌<◌, length, take, reverse, Option}
 use Rattle.esm_io.specs.Meanings.{DiskMeaning, DestMeaning}
 use Rattle.esm_journal.specs.Pair.{PairState}
-use Rattle.esm_book.specs.Decided.{CoreMeaning, written_of, lengths_of, added}
+use Rattle.esm_book.specs.Decided.{written_of, lengths_of, added}
+use Rattle.esm_book.specs.Meanings.{CoreMeaning}
 use Rattle.esm_book.specs.Growth.{HasGrown}
 use Rattle.esm_book.specs.Answers.{IsSameDest}
 use Rattle.esm_book.specs.declared.error.Fault.{Fault}

@@ -6,7 +6,8 @@ ghost use Rattle.esm_io.specs.Images.{Only};
 ghost use Rattle.esm_io.specs.Meanings.{disk, destination};
 ghost use Rattle.esm_journal.specs.Pair.{PairKeepsWhileUp, first_disk, second_disk};
 ghost use Rattle.esm_journal.specs.Reads.{IsOnlyRead};
-ghost use Rattle.esm_book.specs.Decided.{decisions, added, written_of};
+ghost use Rattle.esm_book.specs.Decided.{added, written_of};
+ghost use Rattle.esm_book.specs.Meanings.{decisions};
 ghost use Rattle.esm_book.specs.Growth.{HasGrown, LeavesFronts, OpensToFront};
 ghost use Rattle.esm_book.specs.State.{in_hand, IsReason, IsKept};
 ghost use Rattle.esm_book.specs.Answers.{IsFault, in_doubt, trouble_after, IsLeftBy, IsChangeOf};
@@ -23,12 +24,13 @@ use std::marker::Model;
 use std::mem;
 use std::snapshot::Snapshot;
 
-/// What a book over devices is made of.
+/// What a book over devices is made of, and why it is down, where it is.
 #[derive(Drop)]
 pub struct Parts<C, D: Disk, T> {
     pub core: C,
     pub pair: Pair<D>,
     pub dest: T,
+    pub trouble: Option<Trouble>,
 }
 
 /// A core over a journal and a destination: what it decides is delivered and appended, entry by entry. After the first
@@ -49,14 +51,14 @@ pub struct Durable<C: Decisions, D: Disk, T: Dest> {
 impl<C: Decisions, D: Disk, T: Dest> Model for Durable<C, D, T> {
     ghost use Rattle.std.specs.Prelude.{◌≡◌};
     ghost use Rattle.esm_io.specs.Meanings.{disk, destination};
-    ghost use Rattle.esm_book.specs.Decided.{decisions};
+    ghost use Rattle.esm_book.specs.Meanings.{decisions};
     ghost use Rattle.esm_book.specs.State.{DurableState, IsKept, IsReason};
 
     ghost Value = { DurableState C D T };
 
     ghost view = { λ b. record { core = b.core; pair = b.pair; dest = b.dest; trouble = b.trouble; found = b.found.value; found_dest = b.found_dest.value } };
 
-    ghost invariant = { λ b. IsKept (decisions C.history C.owed C.payload C.line) (disk D.honest D.content D.image D.moment D.image_since D.faults) (destination T.honest T.faults T.lines T.sends T.failed)
+    ghost invariant = { λ b. IsKept (decisions C.Decisions) (disk D.Disk) (destination T.Dest)
         (record { core = b.core; pair = b.pair; dest = b.dest; trouble = b.trouble; found = b.found.value; found_dest = b.found_dest.value })
         × IsReason (C.is_change (C.origin b.core)) b.trouble };
 }
@@ -91,7 +93,8 @@ impl<C: Decisions, D: Disk, T: Dest> Durable<C, D, T> {
         requires { C.may_ask self.old.core call }
         // What the call decides and adds: after Ok all of it, after a fault the first of it, and the rest is owed.
         ensures decided { IfOk result (λ answer. C.decides self.old.core call answer (added (C.history self.old.core) (C.history self.new.core))) }
-        ensures begun { IsFault result → (answer : C.Answer) × C.decides self.old.core call answer (added (C.history self.old.core) (C.history self.new.core) ++ C.owed self.new.core) }
+        ensures begun { IsFault result → (answer : C.Answer) ×
+            C.decides self.old.core call answer (added (C.history self.old.core) (C.history self.new.core) ++ C.owed self.new.core) }
         ensures noted { IsErrOf result CallError.Down → C.notes self.old.core call (added (C.history self.old.core) (C.history self.new.core)) }
         ensures changed { IfErr result (IsChangeOf (C.refuses self.old.core call)) }
         ensures history { C.history self.new.core ≡ reverse (added (C.history self.old.core) (C.history self.new.core)) ++ C.history self.old.core }
@@ -101,21 +104,24 @@ impl<C: Decisions, D: Disk, T: Dest> Durable<C, D, T> {
         ensures delivering { IsErrOf result CallError.DestFault → 0 < length (written_of C.line (take 1 (C.owed self.new.core))) }
         ensures origin { C.origin self.new.core ≡ C.origin self.old.core }
         // What is written of it.
-        ensures grown { self.old.trouble ≡ None → HasGrown (decisions C.history C.owed C.payload C.line) (disk D.honest D.content D.image D.moment D.image_since D.faults) (destination T.honest T.faults T.lines T.sends T.failed)
-            self.old.pair self.new.pair self.old.dest self.new.dest (added (C.history self.old.core) (C.history self.new.core)) (in_doubt result (C.owed self.new.core)) }
-        ensures quiet { OnOk result (added (C.history self.old.core) (C.history self.new.core) ≡ [] → (self.new.pair ≡ self.old.pair) × (self.new.dest ≡ self.old.dest)) }
+        ensures grown { self.old.trouble ≡ None → HasGrown (decisions C.Decisions) (disk D.Disk) (destination T.Dest)
+            self.old.pair self.new.pair self.old.dest self.new.dest
+            (added (C.history self.old.core) (C.history self.new.core)) (in_doubt result (C.owed self.new.core)) }
+        ensures quiet { OnOk result (added (C.history self.old.core) (C.history self.new.core) ≡ [] →
+            (self.new.pair ≡ self.old.pair) × (self.new.dest ≡ self.old.dest)) }
         ensures found { self.new.found ≡ self.old.found }
         ensures found_dest { self.new.found_dest ≡ self.old.found_dest }
         // What a crash leaves: of both disks since the call began, and once it has returned.
-        ensures images { self.old.pair.down ≡ false → LeavesFronts (decisions C.history C.owed C.payload C.line) (disk D.honest D.content D.image D.moment D.image_since D.faults) (destination T.honest T.faults T.lines T.sends T.failed)
-            self.old.pair self.new.pair self.old.dest self.new.dest (added (C.history self.old.core) (C.history self.new.core) ++ in_doubt result (C.owed self.new.core)) }
-        ensures kept { PairKeepsWhileUp (disk D.honest D.content D.image D.moment D.image_since D.faults) self.new.pair }
+        ensures images { self.old.pair.down ≡ false → LeavesFronts (decisions C.Decisions) (disk D.Disk) (destination T.Dest)
+            self.old.pair self.new.pair self.old.dest self.new.dest
+            (added (C.history self.old.core) (C.history self.new.core) ++ in_doubt result (C.owed self.new.core)) }
+        ensures kept { PairKeepsWhileUp (disk D.Disk) self.new.pair }
         // When each error comes, and what it leaves.
         ensures disk_fault { IsErrOf result CallError.DiskFault → Rose (D.faults self.old.pair.used) (D.faults self.new.pair.used) }
         ensures dest_fault { IsErrOf result CallError.DestFault → Rose (T.faults self.old.dest) (T.faults self.new.dest) }
         ensures down { IsErrOf result CallError.Down ↔ IsSome self.old.trouble }
         ensures trouble { self.new.trouble ≡ trouble_after result self.old.trouble }
-        ensures unchanged { IfErr result (IsLeftBy (destination T.honest T.faults T.lines T.sends T.failed) self.old self.new) }
+        ensures unchanged { IfErr result (IsLeftBy (destination T.Dest) self.old self.new) }
     {
         file_beside_spare();
         if self.trouble.is_some() {
@@ -161,12 +167,13 @@ impl<C: Decisions, D: Disk, T: Dest> Durable<C, D, T> {
     pub fn trouble(&self) -> Option<&Trouble>
         ensures value { option_copied result ≡ self.now.trouble }
         // What the devices have beyond those that were handed in.
-        ensures keeps { IsKept (decisions C.history C.owed C.payload C.line) (disk D.honest D.content D.image D.moment D.image_since D.faults) (destination T.honest T.faults T.lines T.sends T.failed) self.now }
+        ensures keeps { IsKept (decisions C.Decisions) (disk D.Disk) (destination T.Dest) self.now }
         ensures reason { IsReason (C.is_change (C.origin self.now.core)) self.now.trouble }
         // What a crash leaves: of both disks since they were handed in, and now.
-        ensures images { LeavesFronts (decisions C.history C.owed C.payload C.line) (disk D.honest D.content D.image D.moment D.image_since D.faults) (destination T.honest T.faults T.lines T.sends T.failed)
-            self.now.found self.now.pair self.now.found_dest self.now.dest (reverse (C.history self.now.core) ++ in_hand self.now.trouble (C.owed self.now.core)) }
-        ensures kept { PairKeepsWhileUp (disk D.honest D.content D.image D.moment D.image_since D.faults) self.now.pair }
+        ensures images { LeavesFronts (decisions C.Decisions) (disk D.Disk) (destination T.Dest)
+            self.now.found self.now.pair self.now.found_dest self.now.dest
+            (reverse (C.history self.now.core) ++ in_hand self.now.trouble (C.owed self.now.core)) }
+        ensures kept { PairKeepsWhileUp (disk D.Disk) self.now.pair }
     {
         file_beside_spare();
         let _ = self.pair.payloads();
@@ -176,12 +183,13 @@ impl<C: Decisions, D: Disk, T: Dest> Durable<C, D, T> {
     /// What the disks leave since a moment at which nobody had opened them yet, where each had one image then, as after a
     /// crash or a sync. Does nothing.
     pub fn since_before(&self, journal: &Snapshot<D>, spare: &Snapshot<D>)
-        requires first { IsOnlyRead (disk D.honest D.content D.image D.moment D.image_since D.faults) journal.now.value (first_disk self.now.found) }
-        requires second { IsOnlyRead (disk D.honest D.content D.image D.moment D.image_since D.faults) spare.now.value (second_disk self.now.found) }
+        requires first { IsOnlyRead (disk D.Disk) journal.now.value (first_disk self.now.found) }
+        requires second { IsOnlyRead (disk D.Disk) spare.now.value (second_disk self.now.found) }
         ensures { D.honest journal.now.value ≡ true → D.honest spare.now.value ≡ true →
             Only (D.content journal.now.value) (D.image journal.now.value) → Only (D.content spare.now.value) (D.image spare.now.value) → (one other : List ℕ) →
-            D.image_since (first_disk self.now.pair) (D.moment journal.now.value) one → D.image_since (second_disk self.now.pair) (D.moment spare.now.value) other →
-            OpensToFront (decisions C.history C.owed C.payload C.line) (destination T.honest T.faults T.lines T.sends T.failed) self.now.found.epoch self.now.found.payloads self.now.found_dest self.now.dest
+            D.image_since (first_disk self.now.pair) (D.moment journal.now.value) one →
+            D.image_since (second_disk self.now.pair) (D.moment spare.now.value) other →
+            OpensToFront (decisions C.Decisions) (destination T.Dest) self.now.found.epoch self.now.found.payloads self.now.found_dest self.now.dest
             (reverse (C.history self.now.core) ++ in_hand self.now.trouble (C.owed self.now.core)) one other }
     {
         let _ = journal;
@@ -197,20 +205,26 @@ impl<C: Decisions, D: Disk, T: Dest> Durable<C, D, T> {
         &self.core
     }
 
-    /// The parts, as the calls left them. Takes no memory.
+    /// The parts, as the calls left them, the trouble moved out with them. Takes no memory.
     pub fn into_parts(self) -> Parts<C, D, T>
         ensures core { result.core ≡ self.core }
         ensures pair { result.pair ≡ self.pair }
         ensures dest { result.dest ≡ self.dest }
+        ensures trouble { result.trouble ≡ self.trouble }
     {
         let Durable {
             core,
             pair,
             dest,
-            trouble: _,
+            trouble,
             found: _,
             found_dest: _,
         } = self;
-        Parts { core, pair, dest }
+        Parts {
+            core,
+            pair,
+            dest,
+            trouble,
+        }
     }
 }

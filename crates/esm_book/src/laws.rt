@@ -2,7 +2,7 @@
 ghost use Rattle.std.specs.Prelude.{◌≡◌, ◌++◌, List, [], false};
 ghost use Rattle.esm_io.specs.Meanings.{disk, destination};
 ghost use Rattle.esm_journal.specs.Pair.{PairState, PairKeepsWhileUp};
-ghost use Rattle.esm_book.specs.Decided.{decisions};
+ghost use Rattle.esm_book.specs.Meanings.{decisions};
 ghost use Rattle.esm_book.specs.Growth.{HasGrown, LeavesFronts};
 
 use crate::decisions::Decisions;
@@ -13,17 +13,17 @@ use esm_journal::laws::file_beside_spare;
 /// own start and what its type keeps from the opening are one relation.
 pub fn growth_joins<C: Decisions, D: Disk, T: Dest>()
     ensures joined { (pair pair' pair'' : PairState D) (dest dest' dest'' : T) (paid more hand : List C.Entry) →
-        HasGrown (decisions C.history C.owed C.payload C.line) (disk D.honest D.content D.image D.moment D.image_since D.faults) (destination T.honest T.faults T.lines T.sends T.failed) pair pair' dest dest' paid [] →
-        HasGrown (decisions C.history C.owed C.payload C.line) (disk D.honest D.content D.image D.moment D.image_since D.faults) (destination T.honest T.faults T.lines T.sends T.failed) pair' pair'' dest' dest'' more hand →
-        HasGrown (decisions C.history C.owed C.payload C.line) (disk D.honest D.content D.image D.moment D.image_since D.faults) (destination T.honest T.faults T.lines T.sends T.failed) pair pair'' dest dest'' (paid ++ more) hand }
+        HasGrown (decisions C.Decisions) (disk D.Disk) (destination T.Dest) pair pair' dest dest' paid [] →
+        HasGrown (decisions C.Decisions) (disk D.Disk) (destination T.Dest) pair' pair'' dest' dest'' more hand →
+        HasGrown (decisions C.Decisions) (disk D.Disk) (destination T.Dest) pair pair'' dest dest'' (paid ++ more) hand }
 {}
 
 /// What is known of each disk of a pair alone says what a crash leaves of both.
 pub fn growth_leaves<C: Decisions, D: Disk, T: Dest>()
     ensures leaves { (pair pair' : PairState D) (dest dest' : T) (paid hand : List C.Entry) → pair.down ≡ false →
-        PairKeepsWhileUp (disk D.honest D.content D.image D.moment D.image_since D.faults) pair →
-        HasGrown (decisions C.history C.owed C.payload C.line) (disk D.honest D.content D.image D.moment D.image_since D.faults) (destination T.honest T.faults T.lines T.sends T.failed) pair pair' dest dest' paid hand →
-        LeavesFronts (decisions C.history C.owed C.payload C.line) (disk D.honest D.content D.image D.moment D.image_since D.faults) (destination T.honest T.faults T.lines T.sends T.failed) pair pair' dest dest' (paid ++ hand) }
+        PairKeepsWhileUp (disk D.Disk) pair →
+        HasGrown (decisions C.Decisions) (disk D.Disk) (destination T.Dest) pair pair' dest dest' paid hand →
+        LeavesFronts (decisions C.Decisions) (disk D.Disk) (destination T.Dest) pair pair' dest dest' (paid ++ hand) }
 {
     file_beside_spare();
 }

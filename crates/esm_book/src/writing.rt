@@ -1,7 +1,8 @@
 // Writing what is owed: of each entry its line, then its payload.
 ghost use Rattle.std.specs.Prelude.{◌≡◌, ◌<◌, [], length, take, drop, true, false, OnOk, OnErr, IfErr};
 ghost use Rattle.esm_io.specs.Meanings.{disk, destination};
-ghost use Rattle.esm_book.specs.Decided.{decisions, written_of, lengths_of, added};
+ghost use Rattle.esm_book.specs.Decided.{written_of, lengths_of, added};
+ghost use Rattle.esm_book.specs.Meanings.{decisions};
 ghost use Rattle.esm_book.specs.Growth.{HasAppended, HasDelivered};
 ghost use Rattle.esm_book.specs.Answers.{IsSameDest};
 ghost use Rattle.esm_book.specs.Writing.{HasLineRoom, IsReady, Writes, hand_of, HasFailed, WasWriting, HasCome};
@@ -18,8 +19,8 @@ fn deliver_first<C: Decisions, T: Dest>(alloc: Global, core: &C, dest: &mut T) -
     requires owes { 0 < length (C.owed core.now) }
     requires usable { T.failed dest.old ≡ false }
     requires room { HasLineRoom (T.has_room dest.old) (written_of C.line (C.owed core.now)) }
-    ensures delivered { OnOk result (HasDelivered (decisions C.history C.owed C.payload C.line) (destination T.honest T.faults T.lines T.sends T.failed) dest.old dest.new (take 1 (C.owed core.now))) }
-    ensures not_delivered { OnErr result (HasDelivered (decisions C.history C.owed C.payload C.line) (destination T.honest T.faults T.lines T.sends T.failed) dest.old dest.new []) }
+    ensures delivered { OnOk result (HasDelivered (decisions C.Decisions) (destination T.Dest) dest.old dest.new (take 1 (C.owed core.now))) }
+    ensures not_delivered { OnErr result (HasDelivered (decisions C.Decisions) (destination T.Dest) dest.old dest.new []) }
     ensures usable { OnOk result (T.failed dest.new ≡ false) }
     ensures failed { OnErr result (T.failed dest.new ≡ true) }
     ensures delivering { OnErr result (0 < length (written_of C.line (take 1 (C.owed core.now)))) }
@@ -44,8 +45,8 @@ fn append_first<C: Decisions, D: Disk>(
     requires owes { 0 < length (C.owed core.now) }
     requires up { pair.old.down ≡ false }
     requires room { pair.old.room ≡ lengths_of (written_of C.payload (C.owed core.now)) }
-    ensures appended { OnOk result (HasAppended (decisions C.history C.owed C.payload C.line) (disk D.honest D.content D.image D.moment D.image_since D.faults) pair.old pair.new (take 1 (C.owed core.now)) []) }
-    ensures not_appended { OnErr result (HasAppended (decisions C.history C.owed C.payload C.line) (disk D.honest D.content D.image D.moment D.image_since D.faults) pair.old pair.new [] (take 1 (C.owed core.now))) }
+    ensures appended { OnOk result (HasAppended (decisions C.Decisions) (disk D.Disk) pair.old pair.new (take 1 (C.owed core.now)) []) }
+    ensures not_appended { OnErr result (HasAppended (decisions C.Decisions) (disk D.Disk) pair.old pair.new [] (take 1 (C.owed core.now))) }
     ensures up { OnOk result (pair.new.down ≡ false) }
     ensures down { OnErr result (pair.new.down ≡ true) }
     ensures appending { OnErr result (0 < length (written_of C.payload (take 1 (C.owed core.now)))) }
@@ -73,11 +74,11 @@ fn write_first<C: Decisions, D: Disk, T: Dest>(
 ) -> Result<(), Fault>
     requires owes { 0 < length (C.owed core.old) }
     requires payable { C.payable core.old }
-    requires ready { IsReady (decisions C.history C.owed C.payload C.line) (destination T.honest T.faults T.lines T.sends T.failed) T.has_room core.old pair.old dest.old }
-    ensures written { OnOk result (Writes (decisions C.history C.owed C.payload C.line) (disk D.honest D.content D.image D.moment D.image_since D.faults) (destination T.honest T.faults T.lines T.sends T.failed)
+    requires ready { IsReady (decisions C.Decisions) (destination T.Dest) T.has_room core.old pair.old dest.old }
+    ensures written { OnOk result (Writes (decisions C.Decisions) (disk D.Disk) (destination T.Dest)
         (C.history core.old) (C.owed core.old) core.new pair.old pair.new dest.old dest.new (take 1 (C.owed core.old)) []) }
-    ensures ready { OnOk result (IsReady (decisions C.history C.owed C.payload C.line) (destination T.honest T.faults T.lines T.sends T.failed) T.has_room core.new pair.new dest.new) }
-    ensures stopped { IfErr result (λ fault. Writes (decisions C.history C.owed C.payload C.line) (disk D.honest D.content D.image D.moment D.image_since D.faults) (destination T.honest T.faults T.lines T.sends T.failed)
+    ensures ready { OnOk result (IsReady (decisions C.Decisions) (destination T.Dest) T.has_room core.new pair.new dest.new) }
+    ensures stopped { IfErr result (λ fault. Writes (decisions C.Decisions) (disk D.Disk) (destination T.Dest)
         (C.history core.old) (C.owed core.old) core.new pair.old pair.new dest.old dest.new [] (hand_of fault (C.owed core.new))) }
     ensures failed { IfErr result (λ fault. HasFailed fault pair.new.down (T.failed dest.new)) }
     ensures payable { OnOk result (C.payable core.new) }
@@ -107,9 +108,9 @@ fn reserve_owed<C: Decisions, D: Disk, T: Dest>(
 ) -> Result<(), OutOfMemory>
     requires up { pair.old.down ≡ false }
     requires usable { T.failed dest.old ≡ false }
-    ensures ready { OnOk result (IsReady (decisions C.history C.owed C.payload C.line) (destination T.honest T.faults T.lines T.sends T.failed) T.has_room core.now pair.new dest.new) }
+    ensures ready { OnOk result (IsReady (decisions C.Decisions) (destination T.Dest) T.has_room core.now pair.new dest.new) }
     ensures pair { pair.new ≡ record pair.old { room = pair.new.room } }
-    ensures dest { IsSameDest (destination T.honest T.faults T.lines T.sends T.failed) dest.old dest.new }
+    ensures dest { IsSameDest (destination T.Dest) dest.old dest.new }
 {
     let lengths = core.owed_lengths(alloc)?;
     pair.reserve(alloc, &lengths)?;
@@ -127,14 +128,15 @@ pub(crate) fn write_owed<C: Decisions, D: Disk, T: Dest>(
     dest: &mut T,
 ) -> Result<(), Fault>
     requires payable { C.payable core.old }
-    requires ready { IsReady (decisions C.history C.owed C.payload C.line) (destination T.honest T.faults T.lines T.sends T.failed) T.has_room core.old pair.old dest.old }
-    ensures written { OnOk result (Writes (decisions C.history C.owed C.payload C.line) (disk D.honest D.content D.image D.moment D.image_since D.faults) (destination T.honest T.faults T.lines T.sends T.failed)
+    requires ready { IsReady (decisions C.Decisions) (destination T.Dest) T.has_room core.old pair.old dest.old }
+    ensures written { OnOk result (Writes (decisions C.Decisions) (disk D.Disk) (destination T.Dest)
         (C.history core.old) (C.owed core.old) core.new pair.old pair.new dest.old dest.new (added (C.history core.old) (C.history core.new)) []) }
     ensures settled { OnOk result (C.owed core.new ≡ []) }
     ensures up { OnOk result (pair.new.down ≡ false) }
     ensures usable { OnOk result (T.failed dest.new ≡ false) }
-    ensures stopped { IfErr result (λ fault. Writes (decisions C.history C.owed C.payload C.line) (disk D.honest D.content D.image D.moment D.image_since D.faults) (destination T.honest T.faults T.lines T.sends T.failed)
-        (C.history core.old) (C.owed core.old) core.new pair.old pair.new dest.old dest.new (added (C.history core.old) (C.history core.new)) (hand_of fault (C.owed core.new))) }
+    ensures stopped { IfErr result (λ fault. Writes (decisions C.Decisions) (disk D.Disk) (destination T.Dest)
+        (C.history core.old) (C.owed core.old) core.new pair.old pair.new dest.old dest.new
+        (added (C.history core.old) (C.history core.new)) (hand_of fault (C.owed core.new))) }
     ensures failed { IfErr result (λ fault. HasFailed fault pair.new.down (T.failed dest.new)) }
     ensures left { OnErr result (0 < length (C.owed core.new)) }
     ensures writing { IfErr result (λ fault. WasWriting C.payload C.line fault (C.owed core.new)) }
@@ -157,7 +159,7 @@ pub(crate) fn write_out<C: Decisions, D: Disk, T: Dest>(
     requires payable { C.payable core.old }
     requires up { pair.old.down ≡ false }
     requires usable { T.failed dest.old ≡ false }
-    ensures came { HasCome (decisions C.history C.owed C.payload C.line) (disk D.honest D.content D.image D.moment D.image_since D.faults) (destination T.honest T.faults T.lines T.sends T.failed)
+    ensures came { HasCome (decisions C.Decisions) (disk D.Disk) (destination T.Dest)
         C.forgotten core.old core.new pair.old pair.new dest.old dest.new result }
     ensures quiet { C.owed core.old ≡ [] → (result ≡ Outcome.Written) × (core.new ≡ core.old) × (pair.new ≡ pair.old) × (dest.new ≡ dest.old) }
     ensures origin { (result ≡ Outcome.OutOfMemory → ⊥) → C.origin core.new ≡ C.origin core.old }

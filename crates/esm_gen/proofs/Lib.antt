@@ -4,3 +4,9 @@ mod Plain
 mod Orders
 mod OneLine
 mod WholeInput
+mod Begun
+mod Fresh
+mod Limits
+mod Nothing
+mod Runs
+mod Told

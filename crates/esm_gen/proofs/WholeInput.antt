@@ -8,9 +8,9 @@ use Rattle.std.proofs.lemmas.List.Sums.{fold-append}
 use Rattle.esm_model.specs.Fates.{below}
 use Rattle.esm_model.specs.declared.item.Record.{Record}
 use Rattle.esm_record.specs.Input.{Input, add_line, after_line, begun, ended, in_order, input_of, last_number, lines_of, number_after, read_after, read_lines}
-use Rattle.esm_record.specs.declared.item.Item.{Item}
-use Rattle.esm_record.specs.declared.item.Item.TheVariants.{Stream}
-use Rattle.esm_record.specs.declared.item.LineKind.TheVariants as kinds
+use Rattle.esm_model.specs.declared.item.Item.{Item}
+use Rattle.esm_model.specs.declared.item.Item.TheVariants.{Stream}
+use Rattle.esm_model.specs.declared.item.LineKind.TheVariants as kinds
 use Rattle.esm_record.proofs.Splits.{begun_at_end, ended_at_end, lines_are}
 use Rattle.esm_gen.specs.Generated.{generated_record, generated_records, generated_lines}
 use Rattle.esm_gen.specs.Reads.{ReadsAs}

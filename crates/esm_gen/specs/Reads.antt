@@ -2,8 +2,8 @@
 use Rattle.std.specs.Prelude.{◌≡◌, ℕ, List, map, None}
 use Rattle.esm_model.specs.declared.item.Record.{Record}
 use Rattle.esm_record.specs.Input.{input_of}
-use Rattle.esm_record.specs.declared.item.Item.TheVariants.{Stream}
-use Rattle.esm_record.specs.declared.item.LineKind.TheVariants as kinds
+use Rattle.esm_model.specs.declared.item.Item.TheVariants.{Stream}
+use Rattle.esm_model.specs.declared.item.LineKind.TheVariants as kinds
 
 -- these records in order, and no line is refused
 pub record ReadsAs (bytes : List ℕ) (records : List Record) : Type 0 where

@@ -5,7 +5,7 @@ use Rattle.std.proofs.lemmas.List.{reverse-append}
 use Rattle.std.proofs.lemmas.List.Elements.{All-cons, All-head, All-tail}
 use Rattle.esm_model.specs.declared.config.Start.{Start}
 use Rattle.esm_model.specs.declared.config.Start.TheVariants.{TrimHorizon, Latest, At}
-use Rattle.esm_record.specs.declared.item.Item.{Item}
+use Rattle.esm_model.specs.declared.item.Item.{Item}
 use Rattle.esm_input.specs.Limits.{shards_with}
 use Rattle.esm_input.specs.Positions.{has_begun, from_moment, from_start}
 use Rattle.esm_input.specs.Begun.{begun_after, kept_from, begun_from}

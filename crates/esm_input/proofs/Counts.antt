@@ -5,10 +5,10 @@ use Rattle.std.specs.List.{list_any}
 use Rattle.std.proofs.lemmas.List.{append-nil, length-append, take_more, drop_more, take_all, drop_all}
 use Rattle.esm_model.specs.declared.limits.TheConstants.{MAX_RECORDS, MAX_INPUT, MAX_SHARDS, MAX_LANES}
 use Rattle.esm_model.specs.declared.item.Record.{Record}
-use Rattle.esm_record.specs.declared.item.Item.{Item}
-use Rattle.esm_record.specs.declared.item.Item.TheVariants.{Stream}
-use Rattle.esm_report.specs.declared.ending.LimitName.{LimitName}
-use Rattle.esm_report.specs.declared.ending.LimitName.TheVariants.{Records, Bytes, Shards, Lanes}
+use Rattle.esm_model.specs.declared.item.Item.{Item}
+use Rattle.esm_model.specs.declared.item.Item.TheVariants.{Stream}
+use Rattle.esm_model.specs.declared.names.LimitName.{LimitName}
+use Rattle.esm_model.specs.declared.names.LimitName.TheVariants.{Records, Bytes, Shards, Lanes}
 use Rattle.esm_input.specs.Limits.{item_bytes, data_bytes, shards_with, passed, limited_after}
 use Rattle.esm_input.specs.Counting.{IsCountOf, CountsMore, passed_by}
 use Rattle.esm_input.specs.declared.counted.Counted.{Counted}

@@ -2,8 +2,8 @@
 use Rattle.std.proofs.Common.{◌≡◌, ◌+◌, ℕ, List, [], ◌∷◌, ◌++◌, sym, ap, ◌∙◌, arith, append_assoc, Option, Some, None}
 use Rattle.std.proofs.lemmas.List.{append-nil}
 use Rattle.std.proofs.lemmas.List.Sums.{fold_push}
-use Rattle.esm_record.specs.declared.item.Item.{Item}
-use Rattle.esm_report.specs.declared.ending.LimitName.{LimitName}
+use Rattle.esm_model.specs.declared.item.Item.{Item}
+use Rattle.esm_model.specs.declared.names.LimitName.{LimitName}
 use Rattle.esm_input.specs.Limits.{item_bytes, data_bytes, shards_with, shards_in, passed, Limited, stop_at, limited_after}
 
 pub data_more : (xs : List Item) (x : Item) → data_bytes (xs ++ x ∷ []) ≡ data_bytes xs + item_bytes x

@@ -10,10 +10,11 @@ use Rattle.esm_io.specs.Faults.{IsCount}
 use Rattle.esm_model.specs.declared.config.Start.{Start}
 use Rattle.esm_model.specs.declared.config.Start.TheVariants.{TrimHorizon, Latest, At}
 use Rattle.esm_record.specs.declared.error.BadLine.{BadLine}
-use Rattle.esm_record.specs.declared.item.Item.{Item}
-use Rattle.esm_record.specs.declared.item.LineKind.{LineKind}
-use Rattle.esm_record.specs.Input.{Feeding, input_so_far, IsValidItem}
-use Rattle.esm_report.specs.declared.ending.LimitName.{LimitName}
+use Rattle.esm_model.specs.declared.item.Item.{Item}
+use Rattle.esm_model.specs.declared.item.LineKind.{LineKind}
+use Rattle.esm_model.specs.Items.{IsValidItem}
+use Rattle.esm_record.specs.Input.{Feeding, input_so_far}
+use Rattle.esm_model.specs.declared.names.LimitName.{LimitName}
 use Rattle.esm_input.specs.declared.counted.Counted.{Counted}
 use Rattle.esm_input.specs.declared.ending.InputEnd.{InputEnd}
 use Rattle.esm_input.specs.Limits.{Limited, limited_after}

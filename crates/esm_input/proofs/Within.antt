@@ -10,10 +10,10 @@ use Rattle.std.proofs.lemmas.List.Sums.{fold-append}
 use Rattle.esm_model.specs.declared.config.Start.{Start}
 use Rattle.esm_model.specs.declared.config.Start.TheVariants.{TrimHorizon, Latest, At}
 use Rattle.esm_model.specs.Entries.{holds}
-use Rattle.esm_record.specs.declared.item.Item.{Item}
-use Rattle.esm_record.specs.declared.item.Item.TheVariants.{Stream, Queue}
-use Rattle.esm_report.specs.declared.ending.LimitName.{LimitName}
-use Rattle.esm_report.specs.declared.ending.LimitName.TheVariants.{Records, Bytes, Shards, Lanes}
+use Rattle.esm_model.specs.declared.item.Item.{Item}
+use Rattle.esm_model.specs.declared.item.Item.TheVariants.{Stream, Queue}
+use Rattle.esm_model.specs.declared.names.LimitName.{LimitName}
+use Rattle.esm_model.specs.declared.names.LimitName.TheVariants.{Records, Bytes, Shards, Lanes}
 use Rattle.esm_input.specs.Limits.{item_bytes, data_bytes, shards_with, shards_in, passed, stop_at, limited_after}
 use Rattle.esm_input.specs.Positions.{has_begun, from_moment, from_start}
 use Rattle.esm_input.specs.Reading.{input_read}

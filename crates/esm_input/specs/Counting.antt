@@ -1,9 +1,9 @@
 -- What is counted of the items of an input, and the limits of the counts. Only this crate's proofs cite this.
 use Rattle.std.specs.Prelude.{◌≡◌, ℕ, ◌+◌, ◌*◌, ◌≤◌, nat_le, nat_lt, List, ◌++◌, length, take, Option, Some, None, if◌then◌else◌}
 use Rattle.esm_model.specs.declared.limits.TheConstants.{MAX_RECORDS, MAX_INPUT, MAX_SHARDS, MAX_LANES}
-use Rattle.esm_record.specs.declared.item.Item.{Item}
-use Rattle.esm_report.specs.declared.ending.LimitName.{LimitName}
-use Rattle.esm_report.specs.declared.ending.LimitName.TheVariants.{Records, Bytes, Shards, Lanes}
+use Rattle.esm_model.specs.declared.item.Item.{Item}
+use Rattle.esm_model.specs.declared.names.LimitName.{LimitName}
+use Rattle.esm_model.specs.declared.names.LimitName.TheVariants.{Records, Bytes, Shards, Lanes}
 use Rattle.esm_input.specs.Limits.{item_bytes, data_bytes, shards_with, shards_in, limited_after}
 use Rattle.esm_input.specs.declared.counted.Counted.{Counted}
 

@@ -2,9 +2,9 @@
 use Rattle.std.specs.Prelude.{◌≡◌, ◌≤◌, ◌<◌, ℕ, Bool, true, false, List, [], take, Option, Some, None}
 use Rattle.esm_model.specs.declared.config.Start.{Start}
 use Rattle.esm_record.specs.declared.error.BadLine.{BadLine}
-use Rattle.esm_record.specs.declared.item.Item.{Item}
+use Rattle.esm_model.specs.declared.item.Item.{Item}
 use Rattle.esm_record.specs.Input.{input_so_far}
-use Rattle.esm_report.specs.declared.ending.LimitName.{LimitName}
+use Rattle.esm_model.specs.declared.names.LimitName.{LimitName}
 use Rattle.esm_input.specs.Reading.{InputState, IsInput}
 use Rattle.esm_input.specs.Counting.{IsCountOf, IsWithin, IsFront, CountsOn}
 use Rattle.esm_input.specs.Begun.{kept_from, begun_from}

@@ -2,10 +2,10 @@
 use Rattle.std.specs.Prelude.{ℕ, ◌+◌, ◌*◌, nat_le, nat_lt, List, [], ◌∷◌, ◌++◌, length, fold, Option, Some, None, if◌then◌else◌}
 use Rattle.esm_model.specs.declared.limits.TheConstants.{MAX_RECORDS, MAX_INPUT, MAX_SHARDS, MAX_LANES}
 use Rattle.esm_model.specs.Entries.{holds}
-use Rattle.esm_record.specs.declared.item.Item.{Item}
-use Rattle.esm_record.specs.declared.item.Item.TheVariants.{Stream, Queue}
-use Rattle.esm_report.specs.declared.ending.LimitName.{LimitName}
-use Rattle.esm_report.specs.declared.ending.LimitName.TheVariants.{Records, Bytes, Shards, Lanes}
+use Rattle.esm_model.specs.declared.item.Item.{Item}
+use Rattle.esm_model.specs.declared.item.Item.TheVariants.{Stream, Queue}
+use Rattle.esm_model.specs.declared.names.LimitName.{LimitName}
+use Rattle.esm_model.specs.declared.names.LimitName.TheVariants.{Records, Bytes, Shards, Lanes}
 
 -- the bytes of a record's data, or of a message's body
 abbrev pub item_bytes : Item → ℕ

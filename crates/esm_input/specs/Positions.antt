@@ -4,8 +4,8 @@ use Rattle.std.specs.Prelude.{ℕ, nat_le, Bool, true, ◌||◌, List, [], ◌�
 use Rattle.esm_model.specs.declared.config.Start.{Start}
 use Rattle.esm_model.specs.declared.config.Start.TheVariants.{TrimHorizon, Latest, At}
 use Rattle.esm_model.specs.Entries.{holds}
-use Rattle.esm_record.specs.declared.item.Item.{Item}
-use Rattle.esm_record.specs.declared.item.Item.TheVariants.{Stream, Queue}
+use Rattle.esm_model.specs.declared.item.Item.{Item}
+use Rattle.esm_model.specs.declared.item.Item.TheVariants.{Stream, Queue}
 use Rattle.esm_input.specs.Limits.{shards_with}
 
 -- the item is not before its position: its shard has begun, or it is the first of its shard that did not arrive before

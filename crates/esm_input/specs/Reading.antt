@@ -4,8 +4,8 @@ use Rattle.esm_io.specs.Told.{TakesFront, IsAtEnd}
 use Rattle.esm_io.specs.Faults.{Rose}
 use Rattle.esm_model.specs.declared.config.Start.{Start}
 use Rattle.esm_record.specs.declared.error.BadLine.{BadLine}
-use Rattle.esm_record.specs.declared.item.Item.{Item}
-use Rattle.esm_record.specs.declared.item.LineKind.{LineKind}
+use Rattle.esm_model.specs.declared.item.Item.{Item}
+use Rattle.esm_model.specs.declared.item.LineKind.{LineKind}
 use Rattle.esm_record.specs.Input.{Input, input_so_far, input_of}
 use Rattle.esm_input.specs.Limits.{Limited, limited_after}
 use Rattle.esm_input.specs.Positions.{from_start}

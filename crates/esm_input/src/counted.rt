@@ -3,9 +3,7 @@ ghost use Rattle.std.specs.Prelude.{◌≡◌, ◌≤◌, [], length, None, IfOk
 ghost use Rattle.esm_input.specs.Limits.{item_bytes, shards_with};
 ghost use Rattle.esm_input.specs.Counting.{IsCountOf, IsWithin, CountsMore, CountsOn, IsFront, passed_by};
 
-use esm_model::{MAX_INPUT, MAX_LANES, MAX_RECORDS, MAX_SHARDS, OutOfMemory};
-use esm_record::Item;
-use esm_report::LimitName;
+use esm_model::{Item, LimitName, MAX_INPUT, MAX_LANES, MAX_RECORDS, MAX_SHARDS, OutOfMemory};
 use std::alloc::Global;
 
 /// How many items came, how many bytes they have, and their shards, in the order of first appearance.

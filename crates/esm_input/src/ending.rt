@@ -1,6 +1,6 @@
 // Why the reading of an input ended.
+use esm_model::LimitName;
 use esm_record::BadLine;
-use esm_report::LimitName;
 
 /// Why the reading of an input ended.
 #[derive(Drop, Debug)]

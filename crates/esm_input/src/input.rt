@@ -2,7 +2,7 @@
 ghost use Rattle.std.specs.Prelude.{◌≡◌, ◌≤◌, ◌<◌, ◌++◌, ℕ, List, [], length, None, true, false, IfOk, IfErr, OnOk, OnErr, All, IsSome, option_copied};
 ghost use Rattle.esm_io.specs.Faults.{IsCount};
 ghost use Rattle.esm_io.specs.Told.{TakesFront};
-ghost use Rattle.esm_record.specs.Input.{IsValidItem};
+ghost use Rattle.esm_model.specs.Items.{IsValidItem};
 ghost use Rattle.esm_input.specs.Reading.{InputState, IsInput, handed};
 
 use crate::counted::Counted;
@@ -10,8 +10,8 @@ use crate::ending::InputEnd;
 use crate::positions::Positions;
 use crate::taking::{read_bytes, read_lines, take};
 use esm_io::Source;
-use esm_model::{OutOfMemory, Refused, Start};
-use esm_record::{Item, LineKind, Lines};
+use esm_model::{Item, LineKind, OutOfMemory, Refused, Start};
+use esm_record::Lines;
 use std::alloc::Global;
 use std::marker::Model;
 use std::snapshot::Snapshot;

@@ -4,8 +4,7 @@ ghost use Rattle.esm_input.specs.Limits.{shards_with};
 ghost use Rattle.esm_input.specs.Positions.{has_begun, from_moment};
 ghost use Rattle.esm_input.specs.Begun.{begun_after, kept_from, begun_from};
 
-use esm_model::{OutOfMemory, Start};
-use esm_record::Item;
+use esm_model::{Item, OutOfMemory, Start};
 use std::alloc::Global;
 
 /// The shards whose starting position was reached, where it is a moment.

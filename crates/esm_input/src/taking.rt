@@ -2,7 +2,7 @@
 ghost use Rattle.std.specs.Prelude.{◌≡◌, ◌≤◌, ◌<◌, ◌==◌, ◌++◌, length, take, vec_len, false, IfOk, OnOk, OnErr, All};
 ghost use Rattle.esm_io.specs.Faults.{IsCount, Rose};
 ghost use Rattle.esm_io.specs.Told.{TakesFront, IsAtEnd};
-ghost use Rattle.esm_record.specs.Input.{IsValidItem};
+ghost use Rattle.esm_model.specs.Items.{IsValidItem};
 ghost use Rattle.esm_input.specs.Reading.{input_read};
 ghost use Rattle.esm_input.specs.Counting.{IsWithin};
 ghost use Rattle.esm_input.specs.Going.{IsTaken, end_by};
@@ -11,9 +11,8 @@ use crate::counted::Counted;
 use crate::ending::InputEnd;
 use crate::positions::Positions;
 use esm_io::{Failed, Source};
-use esm_model::{OutOfMemory, Start};
-use esm_record::{BadLine, Fed, Item, Lines};
-use esm_report::LimitName;
+use esm_model::{Item, LimitName, OutOfMemory, Start};
+use esm_record::{BadLine, Fed, Lines};
 use std::alloc::Global;
 
 /// The items that a piece gives out, and why the reading ends by it, if it does.

@@ -1,6 +1,8 @@
 -- What a disk means, and what a destination means, each as one value, so that a contract is handed one argument for
 -- it. This product's own.
 use Rattle.std.specs.Prelude.{ℕ, Bool, List, Option}
+use Rattle.esm_io.specs.declared.disk.Disk.{Ghosts as Disk}
+use Rattle.esm_io.specs.declared.dest.Dest.{Ghosts as Dest}
 
 pub record DiskMeaning (D : Type 0) : Type 1 where
   pub honest : D → Bool
@@ -10,8 +12,9 @@ pub record DiskMeaning (D : Type 0) : Type 1 where
   pub since : D → ℕ → List ℕ → Type 0
   pub faults : D → ℕ
 
-abbrev pub disk : {D : Type 0} → (D → Bool) → (D → List ℕ) → (D → List ℕ → Type 0) → (D → ℕ) → (D → ℕ → List ℕ → Type 0) → (D → ℕ) → DiskMeaning D
-disk honest content image moment since faults = record { honest = honest; content = content; image = image; moment = moment; since = since; faults = faults }
+-- by the members of its trait
+abbrev pub disk : {D : Type 0} → Disk D → DiskMeaning D
+disk members = record { honest = members.honest; content = members.content; image = members.image; moment = members.moment; since = members.image_since; faults = members.faults }
 
 pub record DestMeaning (T : Type 0) : Type 1 where
   pub honest : T → Bool
@@ -20,5 +23,6 @@ pub record DestMeaning (T : Type 0) : Type 1 where
   pub sends : List ℕ → List ℕ
   pub failed : T → Bool
 
-abbrev pub destination : {T : Type 0} → (T → Bool) → (T → ℕ) → (T → Option (List (List ℕ))) → (List ℕ → List ℕ) → (T → Bool) → DestMeaning T
-destination honest faults lines sends failed = record { honest = honest; faults = faults; lines = lines; sends = sends; failed = failed }
+-- by the members of its trait
+abbrev pub destination : {T : Type 0} → Dest T → DestMeaning T
+destination members = record { honest = members.honest; faults = members.faults; lines = members.lines; sends = members.sends; failed = members.failed }

@@ -19,7 +19,7 @@ use std::alloc::Global;
 fn byte_at<D: Disk>(disk: &mut D, place: u64) -> Result<u8, Failed>
     requires within { D.honest disk.old ≡ true → place < length (D.content disk.old) }
     ensures byte { D.honest disk.old ≡ true → IfOk result (λ byte. byte ≡ slice_index (D.content disk.old) place) }
-    ensures only_read { IsOnlyRead (meaning D.honest D.content D.image D.moment D.image_since D.faults) disk.old disk.new }
+    ensures only_read { IsOnlyRead (meaning D.Disk) disk.old disk.new }
     ensures cause { OnErr result (Rose (D.faults disk.old) (D.faults disk.new)) }
 {
     let mut byte = [0];
@@ -41,7 +41,7 @@ fn number_at<D: Disk>(disk: &mut D, place: u64) -> Result<u32, Failed>
     requires within { D.honest disk.old ≡ true → place + 4 ≤ length (D.content disk.old) }
     ensures number { D.honest disk.old ≡ true → IfOk result (λ n. n ≡ number_in (drop place (D.content disk.old))) }
     ensures written { D.honest disk.old ≡ true → IfOk result (λ n. to_be_bytes w32 n ≡ take 4 (drop place (D.content disk.old))) }
-    ensures only_read { IsOnlyRead (meaning D.honest D.content D.image D.moment D.image_since D.faults) disk.old disk.new }
+    ensures only_read { IsOnlyRead (meaning D.Disk) disk.old disk.new }
     ensures cause { OnErr result (Rose (D.faults disk.old) (D.faults disk.new)) }
 {
     let mut four = [0; 4];
@@ -59,7 +59,7 @@ fn bytes_at<D: Disk>(
     requires within { D.honest disk.old ≡ true → place + count ≤ length (D.content disk.old) }
     ensures bytes { D.honest disk.old ≡ true → IfOk result (λ bytes. bytes ≡ take count (drop place (D.content disk.old))) }
     ensures size { IfOk result (λ bytes. length bytes ≡ count) }
-    ensures only_read { IsOnlyRead (meaning D.honest D.content D.image D.moment D.image_since D.faults) disk.old disk.new }
+    ensures only_read { IsOnlyRead (meaning D.Disk) disk.old disk.new }
     ensures refused { IfErr result (λ e. RefusedFor (λ first. ⊥) (λ place. ⊥) (Rose (D.faults disk.old) (D.faults disk.new)) e) }
 {
     let mut bytes = vec![in alloc; 0; count]?;
@@ -81,7 +81,7 @@ fn read_entry<D: Disk>(
         drop place (D.content disk.old) ≡ 1 ∷ [] ++ entry payload ++ drop (place + 5 + length payload) (D.content disk.old))) }
     ensures next { IfOk result (λ found. IfSome found (λ payload. place + 5 + length payload < size)) }
     ensures short { IfOk result (λ found. IfSome found (λ payload. length payload ≤ MAX_PAYLOAD)) }
-    ensures only_read { IsOnlyRead (meaning D.honest D.content D.image D.moment D.image_since D.faults) disk.old disk.new }
+    ensures only_read { IsOnlyRead (meaning D.Disk) disk.old disk.new }
     ensures refused { IfErr result (λ e. RefusedFor (λ first. ⊥)
         (λ damage. D.honest disk.old ≡ true → (epoch : ℕ) → read_from epoch place 0 (drop place (D.content disk.old)) ≡ Damaged damage)
         (Rose (D.faults disk.old) (D.faults disk.new)) e) }
@@ -118,7 +118,7 @@ pub(crate) fn read_entries<D: Disk>(
     ensures end { IfOk result (λ found. found.1 ≡ end_of found.0.items) }
     ensures within { IfOk result (λ found. found.1 < size) }
     ensures short { IfOk result (λ found. AreShort found.0.items) }
-    ensures only_read { IsOnlyRead (meaning D.honest D.content D.image D.moment D.image_since D.faults) disk.old disk.new }
+    ensures only_read { IsOnlyRead (meaning D.Disk) disk.old disk.new }
     ensures refused { IfErr result (λ e. RefusedFor (λ first. ⊥)
         (λ damage. D.honest disk.old ≡ true → (epoch : ℕ) → read_from epoch 17 0 (drop 17 (D.content disk.old)) ≡ Damaged damage)
         (Rose (D.faults disk.old) (D.faults disk.new)) e) }

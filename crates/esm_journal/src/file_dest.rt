@@ -87,8 +87,8 @@ impl<D: Disk> Dest for FileDest<D> {
         ensures room_kept { IsErrOf result DestError.OutOfMemory → (n : ℕ)
             → HasRoomIfShort self.old.room n → HasRoomIfShort self.new.room n }
         ensures uncounted { IsErrOf result DestError.OutOfMemory → D.faults self.new.disk ≡ D.faults self.old.disk }
-        ensures kept { KeepsWhileUp (meaning D.honest D.content D.image D.moment D.image_since D.faults) self.new }
-        ensures stopped { KeepsWhileDown (meaning D.honest D.content D.image D.moment D.image_since D.faults) self.new }
+        ensures kept { KeepsWhileUp (meaning D.Disk) self.new }
+        ensures stopped { KeepsWhileDown (meaning D.Disk) self.new }
         ensures any_moment { D.honest self.old.disk ≡ true →
             LeavesOnly D.moment D.image_since self.old.disk self.new.disk (OpensToEither (header_of 1) self.old.payloads line.now) }
         ensures honesty { D.honest self.new.disk ≡ D.honest self.old.disk }

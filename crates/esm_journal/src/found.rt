@@ -35,7 +35,7 @@ pub(crate) fn read_rest<D: Disk>(
     ensures epoch { IfOk result (λ found. found.epoch ≡ head.now.epoch) }
     ensures end { IfOk result (λ found. found.end ≡ end_of found.payloads.items) }
     ensures short { IfOk result (λ found. AreShort found.payloads.items) }
-    ensures only_read { IsOnlyRead (meaning D.honest D.content D.image D.moment D.image_since D.faults) disk.old disk.new }
+    ensures only_read { IsOnlyRead (meaning D.Disk) disk.old disk.new }
     ensures refused { IfErr result (λ e. RefusedFor (λ first. ⊥)
         (λ damage. D.honest disk.old ≡ true → opened_rest (D.content disk.old) ≡ Damaged damage)
         (Rose (D.faults disk.old) (D.faults disk.new)) e) }
@@ -64,7 +64,7 @@ pub(crate) fn read_file<D: Disk>(
     ensures found { D.honest disk.old ≡ true → IfOk result (λ found. IsFile header found.epoch found.payloads.items (D.content disk.old)) }
     ensures end { IfOk result (λ found. found.end ≡ end_of found.payloads.items) }
     ensures durable { D.honest disk.old ≡ true → OnOk result (Only (D.content disk.new) (D.image disk.new)) }
-    ensures only_read { IsOnlyRead (meaning D.honest D.content D.image D.moment D.image_since D.faults) disk.old disk.new }
+    ensures only_read { IsOnlyRead (meaning D.Disk) disk.old disk.new }
     ensures count { IsCount (D.faults disk.old) (D.faults disk.new) }
     ensures refused { IfErr result (λ e. RefusedFor
         (λ first. D.honest disk.old ≡ true → (opened header (D.content disk.old) ≡ Foreign) × (first ≡ eight_at (D.content disk.old) 0))

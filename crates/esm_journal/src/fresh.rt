@@ -37,8 +37,8 @@ pub(crate) fn write_blank<D: Disk>(
     ensures refused { IfErr result (λ e. NotMadeFor
         (λ size. D.honest disk.old ≡ true → (size ≡ length (D.content disk.old)) × (size ≢ 0) × (D.content disk.new ≡ D.content disk.old))
         (Rose (D.faults disk.old) (D.faults disk.new)) e) }
-    ensures only_read { D.honest disk.old ≡ true → length (D.content disk.old) ≢ 0 → OnErr result (IsOnlyRead (meaning D.honest D.content D.image D.moment D.image_since D.faults) disk.old disk.new) }
-    ensures unchanged { IfErr result (λ e. (e ≡ InitError.DiskFault → ⊥) → IsOnlyRead (meaning D.honest D.content D.image D.moment D.image_since D.faults) disk.old disk.new) }
+    ensures only_read { D.honest disk.old ≡ true → length (D.content disk.old) ≢ 0 → OnErr result (IsOnlyRead (meaning D.Disk) disk.old disk.new) }
+    ensures unchanged { IfErr result (λ e. (e ≡ InitError.DiskFault → ⊥) → IsOnlyRead (meaning D.Disk) disk.old disk.new) }
     ensures any_moment { D.honest disk.old ≡ true → LeavesOnly D.moment D.image_since disk.old disk.new (WasOrHoldsNone (D.image disk.old)) }
     ensures honesty { D.honest disk.new ≡ D.honest disk.old }
     ensures count { IsCount (D.faults disk.old) (D.faults disk.new) }
@@ -61,8 +61,8 @@ pub(crate) fn write_fresh<D: Disk>(disk: &mut D, header: [u8; 8]) -> Result<(), 
     ensures refused { IfErr result (λ e. NotMadeFor
         (λ size. D.honest disk.old ≡ true → (size ≡ length (D.content disk.old)) × (size ≢ 0) × (D.content disk.new ≡ D.content disk.old))
         (Rose (D.faults disk.old) (D.faults disk.new)) e) }
-    ensures only_read { D.honest disk.old ≡ true → length (D.content disk.old) ≢ 0 → OnErr result (IsOnlyRead (meaning D.honest D.content D.image D.moment D.image_since D.faults) disk.old disk.new) }
-    ensures unchanged { IfErr result (λ e. (e ≡ InitError.DiskFault → ⊥) → IsOnlyRead (meaning D.honest D.content D.image D.moment D.image_since D.faults) disk.old disk.new) }
+    ensures only_read { D.honest disk.old ≡ true → length (D.content disk.old) ≢ 0 → OnErr result (IsOnlyRead (meaning D.Disk) disk.old disk.new) }
+    ensures unchanged { IfErr result (λ e. (e ≡ InitError.DiskFault → ⊥) → IsOnlyRead (meaning D.Disk) disk.old disk.new) }
     ensures any_moment { D.honest disk.old ≡ true → LeavesOnly D.moment D.image_since disk.old disk.new (WasOrHoldsNone (D.image disk.old)) }
     ensures honesty { D.honest disk.new ≡ D.honest disk.old }
     ensures count { IsCount (D.faults disk.old) (D.faults disk.new) }

@@ -62,7 +62,7 @@ pub(crate) fn head_bytes(header: [u8; 8], epoch: u64) -> [u8; 16]
 fn first_bytes<D: Disk>(disk: &mut D, size: u64) -> Result<[u8; 17], Failed>
     requires { D.honest disk.old ≡ true → size ≡ length (D.content disk.old) }
     ensures bytes { D.honest disk.old ≡ true → IfOk result (λ bytes. (k : ℕ) → k < 17 → slice_index bytes k ≡ slice_index (D.content disk.old) k) }
-    ensures only_read { IsOnlyRead (meaning D.honest D.content D.image D.moment D.image_since D.faults) disk.old disk.new }
+    ensures only_read { IsOnlyRead (meaning D.Disk) disk.old disk.new }
     ensures cause { OnErr result (Rose (D.faults disk.old) (D.faults disk.new)) }
 {
     let mut bytes = [0; 17];
@@ -74,7 +74,7 @@ fn first_bytes<D: Disk>(disk: &mut D, size: u64) -> Result<[u8; 17], Failed>
 /// Reads the front of a file.
 pub(crate) fn read_head<D: Disk>(disk: &mut D) -> Result<Head, Failed>
     ensures head { D.honest disk.old ≡ true → IfOk result (IsHead (D.content disk.old)) }
-    ensures only_read { IsOnlyRead (meaning D.honest D.content D.image D.moment D.image_since D.faults) disk.old disk.new }
+    ensures only_read { IsOnlyRead (meaning D.Disk) disk.old disk.new }
     ensures cause { OnErr result (Rose (D.faults disk.old) (D.faults disk.new)) }
 {
     let size = size_of(disk)?;

@@ -43,7 +43,7 @@ impl<D: Disk> Model for Journal<D> {
 
     ghost view = { λ j. record { payloads = j.log.payloads.items; down = j.log.down; room = room_of j.log.spares.items; disk = j.log.disk } };
 
-    ghost invariant = { λ j. IsLog (meaning D.honest D.content D.image D.moment D.image_since D.faults) j.log × (j.log.header ≡ header_of 1) };
+    ghost invariant = { λ j. IsLog (meaning D.Disk) j.log × (j.log.header ≡ header_of 1) };
 }
 
 impl<D: Disk> Journal<D> {
@@ -54,14 +54,14 @@ impl<D: Disk> Journal<D> {
         // What Ok leaves.
         ensures fresh { IfOk result (λ journal. (journal.payloads ≡ []) × (journal.down ≡ false) × (journal.room ≡ [])) }
         ensures bytes { D.honest disk ≡ true → IfOk result (λ journal. D.content journal.disk ≡ fresh_file (header_of 1)) }
-        ensures kept { D.honest disk ≡ true → IfOk result (λ journal. Keeps (meaning D.honest D.content D.image D.moment D.image_since D.faults) (header_of 1) [] journal.disk) }
+        ensures kept { D.honest disk ≡ true → IfOk result (λ journal. Keeps (meaning D.Disk) (header_of 1) [] journal.disk) }
         ensures was_empty { D.honest disk ≡ true → OnOk result (length (D.content disk) ≡ 0) }
         // When each error comes, and what it leaves.
         ensures refused { IfErr result (λ refused. NotMadeFor
             (λ size. D.honest disk ≡ true → (size ≡ length (D.content disk)) × (size ≢ 0) × (D.content refused.back ≡ D.content disk))
             (Rose (D.faults disk) (D.faults refused.back)) refused.why) }
-        ensures only_read { D.honest disk ≡ true → length (D.content disk) ≢ 0 → IfErr result (λ refused. IsOnlyRead (meaning D.honest D.content D.image D.moment D.image_since D.faults) disk refused.back) }
-        ensures unchanged { IfErr result (λ refused. (refused.why ≡ InitError.DiskFault → ⊥) → IsOnlyRead (meaning D.honest D.content D.image D.moment D.image_since D.faults) disk refused.back) }
+        ensures only_read { D.honest disk ≡ true → length (D.content disk) ≢ 0 → IfErr result (λ refused. IsOnlyRead (meaning D.Disk) disk refused.back) }
+        ensures unchanged { IfErr result (λ refused. (refused.why ≡ InitError.DiskFault → ⊥) → IsOnlyRead (meaning D.Disk) disk refused.back) }
         // What a crash leaves at any moment of the call.
         ensures any_moment { D.honest disk ≡ true → IfOk result (λ journal. LeavesOnly D.moment D.image_since disk journal.disk (WasOrHoldsNone (D.image disk))) }
         ensures any_moment_err { D.honest disk ≡ true → IfErr result (λ refused. LeavesOnly D.moment D.image_since disk refused.back (WasOrHoldsNone (D.image disk))) }
@@ -99,8 +99,8 @@ impl<D: Disk> Journal<D> {
         ensures refused { IfErr result (λ refused. NotMadeFor
             (λ size. D.honest disk ≡ true → (size ≡ length (D.content disk)) × (size ≢ 0) × (D.content refused.back ≡ D.content disk))
             (Rose (D.faults disk) (D.faults refused.back)) refused.why) }
-        ensures only_read { D.honest disk ≡ true → length (D.content disk) ≢ 0 → IfErr result (λ refused. IsOnlyRead (meaning D.honest D.content D.image D.moment D.image_since D.faults) disk refused.back) }
-        ensures unchanged { IfErr result (λ refused. (refused.why ≡ InitError.DiskFault → ⊥) → IsOnlyRead (meaning D.honest D.content D.image D.moment D.image_since D.faults) disk refused.back) }
+        ensures only_read { D.honest disk ≡ true → length (D.content disk) ≢ 0 → IfErr result (λ refused. IsOnlyRead (meaning D.Disk) disk refused.back) }
+        ensures unchanged { IfErr result (λ refused. (refused.why ≡ InitError.DiskFault → ⊥) → IsOnlyRead (meaning D.Disk) disk refused.back) }
         // What a crash leaves at any moment of the call.
         ensures any_moment { D.honest disk ≡ true → IfOk result (λ made. LeavesOnly D.moment D.image_since disk made (WasOrHoldsNone (D.image disk))) }
         ensures any_moment_err { D.honest disk ≡ true → IfErr result (λ refused. LeavesOnly D.moment D.image_since disk refused.back (WasOrHoldsNone (D.image disk))) }
@@ -123,15 +123,15 @@ impl<D: Disk> Journal<D> {
         // What Ok tells: the payloads, and that nothing was written.
         ensures opened { D.honest disk ≡ true → IfOk result (λ journal. OpensTo (header_of 1) journal.payloads (D.content disk)) }
         ensures fresh { IfOk result (λ journal. (journal.down ≡ false) × (journal.room ≡ [])) }
-        ensures only_read { IfOk result (λ journal. IsOnlyRead (meaning D.honest D.content D.image D.moment D.image_since D.faults) disk journal.disk) }
+        ensures only_read { IfOk result (λ journal. IsOnlyRead (meaning D.Disk) disk journal.disk) }
         // What a crash leaves after Ok.
-        ensures kept { D.honest disk ≡ true → IfOk result (λ journal. Keeps (meaning D.honest D.content D.image D.moment D.image_since D.faults) (header_of 1) journal.payloads journal.disk) }
+        ensures kept { D.honest disk ≡ true → IfOk result (λ journal. Keeps (meaning D.Disk) (header_of 1) journal.payloads journal.disk) }
         // When each error comes, and that nothing was written.
         ensures refused { IfErr result (λ refused. RefusedFor
             (λ first. D.honest disk ≡ true → (opened (header_of 1) (D.content disk) ≡ Foreign) × (first ≡ eight_at (D.content disk) 0))
             (λ place. D.honest disk ≡ true → opened (header_of 1) (D.content disk) ≡ Damaged place)
             (Rose (D.faults disk) (D.faults refused.back)) refused.why) }
-        ensures back { IfErr result (λ refused. IsOnlyRead (meaning D.honest D.content D.image D.moment D.image_since D.faults) disk refused.back) }
+        ensures back { IfErr result (λ refused. IsOnlyRead (meaning D.Disk) disk refused.back) }
     {
         let mut disk = disk;
         match read_file(alloc, &mut disk, SINGLE) {
@@ -153,8 +153,8 @@ impl<D: Disk> Journal<D> {
     /// The payloads, in order.
     pub fn payloads(&self) -> &[Bytes]
         ensures payloads { result.now ≡ self.now.payloads }
-        ensures kept { KeepsWhileUp (meaning D.honest D.content D.image D.moment D.image_since D.faults) self.now }
-        ensures stopped { KeepsWhileDown (meaning D.honest D.content D.image D.moment D.image_since D.faults) self.now }
+        ensures kept { KeepsWhileUp (meaning D.Disk) self.now }
+        ensures stopped { KeepsWhileDown (meaning D.Disk) self.now }
     {
         &self.log.payloads
     }
@@ -195,8 +195,8 @@ impl<D: Disk> Journal<D> {
         // What a crash leaves: since the call began, and once it has returned.
         ensures any_moment { D.honest self.old.disk ≡ true → self.old.down ≡ false →
             LeavesOnly D.moment D.image_since self.old.disk self.new.disk (OpensToEither (header_of 1) self.old.payloads payload.now) }
-        ensures kept { KeepsWhileUp (meaning D.honest D.content D.image D.moment D.image_since D.faults) self.new }
-        ensures stopped { KeepsWhileDown (meaning D.honest D.content D.image D.moment D.image_since D.faults) self.new }
+        ensures kept { KeepsWhileUp (meaning D.Disk) self.new }
+        ensures stopped { KeepsWhileDown (meaning D.Disk) self.new }
         // The disk is as honest as it was, and its count of faults never falls.
         ensures honesty { D.honest self.new.disk ≡ D.honest self.old.disk }
         ensures count { IsCount (D.faults self.old.disk) (D.faults self.new.disk) }

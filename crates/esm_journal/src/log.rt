@@ -53,8 +53,8 @@ impl<D: Disk> Log<D> {
 
     /// Makes room for the next payloads of these lengths.
     pub(crate) fn reserve(&mut self, alloc: Global, lengths: &[u32]) -> Result<(), OutOfMemory>
-        requires { IsLog (meaning D.honest D.content D.image D.moment D.image_since D.faults) self.old }
-        ensures log { IsLog (meaning D.honest D.content D.image D.moment D.image_since D.faults) self.new }
+        requires { IsLog (meaning D.Disk) self.old }
+        ensures log { IsLog (meaning D.Disk) self.new }
         ensures room { OnOk result (room_of self.new.spares.items ≡ lengths.now) }
         ensures kept { OnErr result (IsUnchanged self.old self.new) }
         ensures disk { self.new.disk ≡ self.old.disk }
@@ -71,8 +71,8 @@ impl<D: Disk> Log<D> {
 
     /// Adds a payload behind those that are there. Four device calls.
     pub(crate) fn append(&mut self, alloc: Global, payload: &[u8]) -> Result<(), AppendError>
-        requires { IsLog (meaning D.honest D.content D.image D.moment D.image_since D.faults) self.old }
-        ensures log { IsLog (meaning D.honest D.content D.image D.moment D.image_since D.faults) self.new }
+        requires { IsLog (meaning D.Disk) self.old }
+        ensures log { IsLog (meaning D.Disk) self.new }
         ensures header { self.new.header ≡ self.old.header }
         ensures epoch { self.new.epoch ≡ self.old.epoch }
         ensures added { OnOk result (self.new.payloads.items ≡ self.old.payloads.items ++ payload.now ∷ []) }
@@ -116,7 +116,7 @@ impl<D: Disk> Log<D> {
 
     /// Goes over to the next file, on another disk, which the disk so far takes the place of.
     pub(crate) fn move_over(&mut self, disk: &mut D, payloads: Vec<Bytes>, end: u64)
-        requires log { IsLog (meaning D.honest D.content D.image D.moment D.image_since D.faults) self.old }
+        requires log { IsLog (meaning D.Disk) self.old }
         requires up { self.old.down ≡ false }
         requires epoch { self.old.epoch + 1 < 2 ^ 64 }
         requires file { D.honest disk.old ≡ true → IsFile self.old.header (self.old.epoch + 1) payloads.items (D.content disk.old) }
@@ -125,7 +125,7 @@ impl<D: Disk> Log<D> {
         requires end { end ≡ end_of payloads.items }
         requires total { end + total_room self.old.spares.items < 2 ^ 64 }
         requires places { vec_len payloads + length self.old.spares.items ≤ vec_capacity payloads }
-        ensures log { IsLog (meaning D.honest D.content D.image D.moment D.image_since D.faults) self.new }
+        ensures log { IsLog (meaning D.Disk) self.new }
         ensures disk { self.new.disk ≡ disk.old }
         ensures disk_before { disk.new ≡ self.old.disk }
         ensures header { self.new.header ≡ self.old.header }

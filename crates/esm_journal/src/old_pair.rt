@@ -21,8 +21,8 @@ use std::alloc::Global;
 /// One of two disks is sealed with the header of version 2.
 pub(crate) fn has_version_2<D: Disk>(first: &mut D, second: &mut D) -> Result<bool, Failed>
     ensures version { D.honest first.old ≡ true → D.honest second.old ≡ true → IfOk result (λ found. found ≡ is_version_2 (D.content first.old) (D.content second.old)) }
-    ensures first_read { IsOnlyRead (meaning D.honest D.content D.image D.moment D.image_since D.faults) first.old first.new }
-    ensures second_read { IsOnlyRead (meaning D.honest D.content D.image D.moment D.image_since D.faults) second.old second.new }
+    ensures first_read { IsOnlyRead (meaning D.Disk) first.old first.new }
+    ensures second_read { IsOnlyRead (meaning D.Disk) second.old second.new }
     ensures cause { OnErr result (Rose (D.faults first.old) (D.faults first.new) ⊎ Rose (D.faults second.old) (D.faults second.new)) }
 {
     let one = read_head(first)?;
@@ -43,11 +43,11 @@ pub(crate) fn read_old_pair<D: Disk>(
     first: &mut D,
     second: &mut D,
 ) -> Result<OldPair, OpenError>
-    ensures read { IfOk result (λ old. IsReadPair (meaning D.honest D.content D.image D.moment D.image_since D.faults) (header_of 1) first.new second.new old.taken) }
+    ensures read { IfOk result (λ old. IsReadPair (meaning D.Disk) (header_of 1) first.new second.new old.taken) }
     ensures bytes { IfOk result (λ old. old.bytes.items ≡ entries old.taken.found.payloads.items ++ 0 ∷ []) }
     ensures below_greatest { IfOk result (λ old. old.taken.found.epoch < 18446744073709551615) }
-    ensures first_read { IsOnlyRead (meaning D.honest D.content D.image D.moment D.image_since D.faults) first.old first.new }
-    ensures second_read { IsOnlyRead (meaning D.honest D.content D.image D.moment D.image_since D.faults) second.old second.new }
+    ensures first_read { IsOnlyRead (meaning D.Disk) first.old first.new }
+    ensures second_read { IsOnlyRead (meaning D.Disk) second.old second.new }
     ensures refused { IfErr result (λ e. RefusedFor
         (λ eight. D.honest first.old ≡ true → D.honest second.old ≡ true → (with_next_epoch (pair_opened (header_of 1) (D.content first.old) (D.content second.old)) ≡ Foreign) × (eight ≡ eight_at (D.content first.old) 0))
         (λ damage. D.honest first.old ≡ true → D.honest second.old ≡ true → with_next_epoch (pair_opened (header_of 1) (D.content first.old) (D.content second.old)) ≡ Damaged damage)

@@ -64,7 +64,7 @@ impl<D: Disk> Model for Pair<D> {
       swapped = p.swapped;
     } };
 
-    ghost invariant = { λ p. IsLog (meaning D.honest D.content D.image D.moment D.image_since D.faults) p.log × IsPair (meaning D.honest D.content D.image D.moment D.image_since D.faults) p.log p.spare p.spare_sealed };
+    ghost invariant = { λ p. IsLog (meaning D.Disk) p.log × IsPair (meaning D.Disk) p.log p.spare p.spare_sealed };
 }
 
 impl<D: Disk> Pair<D> {
@@ -75,17 +75,17 @@ impl<D: Disk> Pair<D> {
         // What Ok tells: the payloads, the epoch, and that nothing was written.
         ensures opened { D.honest journal ≡ true → D.honest spare ≡ true → IfOk result (λ pair. pair_opened (header_of 2) (D.content journal) (D.content spare) ≡ Holding pair.epoch pair.payloads) }
         ensures fresh { IfOk result (λ pair. (pair.down ≡ false) × (pair.room ≡ [])) }
-        ensures first_read { IfOk result (λ pair. IsOnlyRead (meaning D.honest D.content D.image D.moment D.image_since D.faults) journal (first_disk pair)) }
-        ensures second_read { IfOk result (λ pair. IsOnlyRead (meaning D.honest D.content D.image D.moment D.image_since D.faults) spare (second_disk pair)) }
+        ensures first_read { IfOk result (λ pair. IsOnlyRead (meaning D.Disk) journal (first_disk pair)) }
+        ensures second_read { IfOk result (λ pair. IsOnlyRead (meaning D.Disk) spare (second_disk pair)) }
         // What a crash leaves after Ok.
-        ensures kept { D.honest journal ≡ true → D.honest spare ≡ true → IfOk result (λ pair. PairKeeps (meaning D.honest D.content D.image D.moment D.image_since D.faults) (header_of 2) pair.epoch pair.payloads pair.used pair.spare) }
+        ensures kept { D.honest journal ≡ true → D.honest spare ≡ true → IfOk result (λ pair. PairKeeps (meaning D.Disk) (header_of 2) pair.epoch pair.payloads pair.used pair.spare) }
         // When each error comes, and that nothing was written.
         ensures refused { IfErr result (λ refused. RefusedFor
             (λ first. D.honest journal ≡ true → D.honest spare ≡ true → (pair_opened (header_of 2) (D.content journal) (D.content spare) ≡ Foreign) × (first ≡ eight_at (D.content journal) 0))
             (λ place. D.honest journal ≡ true → D.honest spare ≡ true → pair_opened (header_of 2) (D.content journal) (D.content spare) ≡ Damaged place)
             (Rose (D.faults journal) (D.faults refused.back.0) ⊎ Rose (D.faults spare) (D.faults refused.back.1)) refused.why) }
-        ensures first_back { IfErr result (λ refused. IsOnlyRead (meaning D.honest D.content D.image D.moment D.image_since D.faults) journal refused.back.0) }
-        ensures second_back { IfErr result (λ refused. IsOnlyRead (meaning D.honest D.content D.image D.moment D.image_since D.faults) spare refused.back.1) }
+        ensures first_back { IfErr result (λ refused. IsOnlyRead (meaning D.Disk) journal refused.back.0) }
+        ensures second_back { IfErr result (λ refused. IsOnlyRead (meaning D.Disk) spare refused.back.1) }
     {
         let mut first = journal;
         let mut second = spare;
@@ -153,8 +153,8 @@ impl<D: Disk> Pair<D> {
         ensures refused { IfErr result (λ refused. NotMadeFor
             (λ size. D.honest disk ≡ true → (size ≡ length (D.content disk)) × (size ≢ 0) × (D.content refused.back ≡ D.content disk))
             (Rose (D.faults disk) (D.faults refused.back)) refused.why) }
-        ensures only_read { D.honest disk ≡ true → length (D.content disk) ≢ 0 → IfErr result (λ refused. IsOnlyRead (meaning D.honest D.content D.image D.moment D.image_since D.faults) disk refused.back) }
-        ensures unchanged { IfErr result (λ refused. (refused.why ≡ InitError.DiskFault → ⊥) → IsOnlyRead (meaning D.honest D.content D.image D.moment D.image_since D.faults) disk refused.back) }
+        ensures only_read { D.honest disk ≡ true → length (D.content disk) ≢ 0 → IfErr result (λ refused. IsOnlyRead (meaning D.Disk) disk refused.back) }
+        ensures unchanged { IfErr result (λ refused. (refused.why ≡ InitError.DiskFault → ⊥) → IsOnlyRead (meaning D.Disk) disk refused.back) }
         // What a crash leaves at any moment of the call.
         ensures any_moment { D.honest disk ≡ true → IfOk result (λ made. LeavesOnly D.moment D.image_since disk made (WasOrHoldsNone (D.image disk))) }
         ensures any_moment_err { D.honest disk ≡ true → IfErr result (λ refused. LeavesOnly D.moment D.image_since disk refused.back (WasOrHoldsNone (D.image disk))) }
@@ -175,8 +175,8 @@ impl<D: Disk> Pair<D> {
     /// pair that opens to these, or to what that call was to leave.
     pub fn payloads(&self) -> &[Bytes]
         ensures payloads { result.now ≡ self.now.payloads }
-        ensures kept { PairKeepsWhileUp (meaning D.honest D.content D.image D.moment D.image_since D.faults) self.now }
-        ensures stopped { PairKeepsWhileDown (meaning D.honest D.content D.image D.moment D.image_since D.faults) self.now }
+        ensures kept { PairKeepsWhileUp (meaning D.Disk) self.now }
+        ensures stopped { PairKeepsWhileDown (meaning D.Disk) self.now }
     {
         &self.log.payloads
     }
@@ -228,7 +228,7 @@ impl<D: Disk> Pair<D> {
         ensures pair_images { D.honest self.old.used ≡ true → D.honest self.old.spare ≡ true → self.old.down ≡ false → (one other : List ℕ) →
             D.image_since self.new.used (D.moment self.old.used) one → D.image_since self.new.spare (D.moment self.old.spare) other →
             PairOpensToEither (header_of 2) self.old.epoch self.old.payloads payload.now one other }
-        ensures kept { PairKeepsWhileUp (meaning D.honest D.content D.image D.moment D.image_since D.faults) self.new }
+        ensures kept { PairKeepsWhileUp (meaning D.Disk) self.new }
         // The disk is as honest as it was, and its count of faults never falls.
         ensures honesty { D.honest self.new.used ≡ D.honest self.old.used }
         ensures count { IsCount (D.faults self.old.used) (D.faults self.new.used) }
@@ -268,7 +268,7 @@ impl<D: Disk> Pair<D> {
         ensures pair_images { D.honest self.old.used ≡ true → D.honest self.old.spare ≡ true → self.old.down ≡ false → (one other : List ℕ) →
             D.image_since (first_disk self.new) (D.moment (first_disk self.old)) one → D.image_since (second_disk self.new) (D.moment (second_disk self.old)) other →
             PairOpensToOldOrNew (header_of 2) self.old.epoch self.old.payloads payloads.now one other }
-        ensures kept { PairKeepsWhileUp (meaning D.honest D.content D.image D.moment D.image_since D.faults) self.new }
+        ensures kept { PairKeepsWhileUp (meaning D.Disk) self.new }
         // The disk is as honest as it was, and its count of faults never falls.
         ensures honesty { OnOk result (D.honest self.new.used ≡ D.honest self.old.spare) }
         ensures honesty_err { OnErr result (D.honest self.new.spare ≡ D.honest self.old.spare) }

@@ -62,7 +62,7 @@ fn read_taken<D: Disk>(
     ensures end { IfOk result (λ found. found.end ≡ end_of found.payloads.items) }
     ensures short { IfOk result (λ found. AreShort found.payloads.items) }
     ensures long { OnOk result (18 ≤ size) }
-    ensures only_read { IsOnlyRead (meaning D.honest D.content D.image D.moment D.image_since D.faults) disk.old disk.new }
+    ensures only_read { IsOnlyRead (meaning D.Disk) disk.old disk.new }
     ensures refused { IfErr result (λ e. RefusedFor (λ first. ⊥)
         (λ damage. D.honest disk.old ≡ true → beside (opened_rest (D.content disk.old)) size ≡ Damaged damage)
         (Rose (D.faults disk.old) (D.faults disk.new)) e) }
@@ -91,8 +91,8 @@ pub(crate) fn read_pair<D: Disk>(
     ensures short { IfOk result (λ taken. AreShort taken.found.payloads.items) }
     ensures durable { D.honest first.old ≡ true → OnOk result (Only (D.content first.new) (D.image first.new)) }
     ensures spare_durable { D.honest second.old ≡ true → OnOk result (Only (D.content second.new) (D.image second.new)) }
-    ensures first_read { IsOnlyRead (meaning D.honest D.content D.image D.moment D.image_since D.faults) first.old first.new }
-    ensures second_read { IsOnlyRead (meaning D.honest D.content D.image D.moment D.image_since D.faults) second.old second.new }
+    ensures first_read { IsOnlyRead (meaning D.Disk) first.old first.new }
+    ensures second_read { IsOnlyRead (meaning D.Disk) second.old second.new }
     ensures faults { OnOk result (D.faults first.new ≤ MAX_FAULTS) }
     ensures spare_faults { OnOk result (D.faults second.new ≤ MAX_FAULTS) }
     ensures refused { IfErr result (λ e. RefusedFor

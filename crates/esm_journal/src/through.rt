@@ -27,7 +27,7 @@ pub(crate) fn write_through<D: Disk>(disk: &mut D, at: u64, from: &[u8]) -> Resu
 /// The number of bytes.
 pub(crate) fn size_of<D: Disk>(disk: &mut D) -> Result<u64, Failed>
     ensures size { D.honest disk.old ≡ true → IfOk result (λ n. n ≡ length (D.content disk.old)) }
-    ensures only_read { IsOnlyRead (meaning D.honest D.content D.image D.moment D.image_since D.faults) disk.old disk.new }
+    ensures only_read { IsOnlyRead (meaning D.Disk) disk.old disk.new }
     ensures count { IsCount (D.faults disk.old) (D.faults disk.new) }
     ensures cause { OnErr result (Rose (D.faults disk.old) (D.faults disk.new)) }
 {
@@ -38,7 +38,7 @@ pub(crate) fn size_of<D: Disk>(disk: &mut D) -> Result<u64, Failed>
 pub(crate) fn read_at<D: Disk>(disk: &mut D, at: u64, into: &mut [u8]) -> Result<(), Failed>
     requires { D.honest disk.old ≡ true → at + length into.old ≤ length (D.content disk.old) }
     ensures bytes { D.honest disk.old ≡ true → OnOk result (into.new ≡ take (length into.old) (drop at (D.content disk.old))) }
-    ensures only_read { IsOnlyRead (meaning D.honest D.content D.image D.moment D.image_since D.faults) disk.old disk.new }
+    ensures only_read { IsOnlyRead (meaning D.Disk) disk.old disk.new }
     ensures cause { OnErr result (Rose (D.faults disk.old) (D.faults disk.new)) }
 {
     disk.read(at, into)
@@ -47,7 +47,7 @@ pub(crate) fn read_at<D: Disk>(disk: &mut D, at: u64, into: &mut [u8]) -> Result
 /// After its Ok what a read gives is the only image.
 pub(crate) fn settle<D: Disk>(disk: &mut D) -> Result<(), Failed>
     ensures durable { D.honest disk.old ≡ true → OnOk result (Only (D.content disk.new) (D.image disk.new)) }
-    ensures only_read { IsOnlyRead (meaning D.honest D.content D.image D.moment D.image_since D.faults) disk.old disk.new }
+    ensures only_read { IsOnlyRead (meaning D.Disk) disk.old disk.new }
     ensures count { IsCount (D.faults disk.old) (D.faults disk.new) }
     ensures cause { OnErr result (Rose (D.faults disk.old) (D.faults disk.new)) }
 {

@@ -12,8 +12,8 @@ use Rattle.esm_model.specs.declared.entry.Entry.TheVariants.{Began, Ended, Gave,
 use Rattle.esm_model.specs.Entries.{moment_of, came_count, is_shut, shards_that_came, calls_begun, is_running}
 use Rattle.esm_model.specs.Lane.{same_lane}
 use Rattle.esm_model.proofs.Sound.{same_lane-true}
-use Rattle.esm_tables.specs.LaneView.{LaneView, lane_in}
-use Rattle.esm_tables.specs.WindowEntries.{has_entry}
+use Rattle.esm_shard_index.specs.LaneView.{LaneView, lane_in}
+use Rattle.esm_shard_index.specs.WindowEntries.{has_entry}
 use Rattle.esm_ledger.specs.declared.ledger.Ledger.{Ledger}
 use Rattle.esm_ledger.specs.declared.shard.ShardLedger.{ShardLedger}
 use Rattle.esm_ledger.specs.Shard.{lane_id}

@@ -8,10 +8,10 @@ use Rattle.esm_model.specs.declared.entry.Fate.{Fate}
 use Rattle.esm_model.specs.Setting.{Setting, record_at}
 use Rattle.esm_model.specs.EventText.{record_text}
 use Rattle.esm_model.specs.Windows.{window_floor, window_of}
-use Rattle.esm_tables.specs.Progress.{AreFound, found_at}
-use Rattle.esm_tables.specs.Windows.{window_before}
-use Rattle.esm_tables.specs.WindowsLaws.{open_windows}
-use Rattle.esm_tables.proofs.WindowSteps.{window_follows}
+use Rattle.esm_shard_index.specs.Progress.{AreFound, found_at}
+use Rattle.esm_shard_index.specs.Windows.{window_before}
+use Rattle.esm_shard_index.specs.WindowsLaws.{open_windows}
+use Rattle.esm_shard_index.proofs.WindowSteps.{window_follows}
 use Rattle.esm_ledger.specs.Shard.{measure_at}
 use Rattle.esm_ledger.specs.Measuring.{window_next, measures_of, last_of, open_of}
 

@@ -13,9 +13,9 @@ use Rattle.esm_model.specs.Setting.{Setting, Stream, Extends, over}
 use Rattle.esm_model.specs.Entries.{holds, came_count, shards_that_came, is_running}
 use Rattle.esm_model.specs.Step.{Legal}
 use Rattle.esm_model.proofs.Lists.{In, apart, Distinct}
-use Rattle.esm_said.specs.SaidLists.{SaidLists}
-use Rattle.esm_tables.specs.LaneView.{lane_in}
-use Rattle.esm_tables.proofs.LaneSteps.{unused}
+use Rattle.esm_journal_state.specs.SaidLists.{SaidLists}
+use Rattle.esm_shard_index.specs.LaneView.{lane_in}
+use Rattle.esm_shard_index.proofs.LaneSteps.{unused}
 use Rattle.esm_ledger.specs.declared.arriving.Arriving.{Arriving}
 use Rattle.esm_ledger.specs.declared.coming.Coming.{Coming}
 use Rattle.esm_ledger.specs.declared.ledger.Ledger.{Ledger}

@@ -12,7 +12,7 @@ use Rattle.esm_model.specs.Entries.{moment_of, last_moment, is_shut, shards_that
 use Rattle.esm_model.specs.Lane.{same_lane}
 use Rattle.esm_model.proofs.Sound.{same_lane-true}
 use Rattle.esm_lanes.specs.Piece.{front_length}
-use Rattle.esm_tables.specs.LaneView.{LaneView, lane_in, running_count}
+use Rattle.esm_shard_index.specs.LaneView.{LaneView, lane_in, running_count}
 use Rattle.esm_ledger.specs.declared.ledger.Ledger.{Ledger}
 use Rattle.esm_ledger.specs.declared.shard.ShardLedger.{ShardLedger}
 use Rattle.esm_ledger.specs.Shard.{lane_id}

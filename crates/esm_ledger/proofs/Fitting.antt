@@ -28,13 +28,13 @@ use Rattle.esm_model.proofs.Sound.{same_lane-true, expired_front}
 use Rattle.esm_model.proofs.NamedPlaces.{names_came}
 use Rattle.esm_model.proofs.Records.{covered_running}
 use Rattle.esm_lanes.specs.Piece.{Piece, front_length}
-use Rattle.esm_tables.specs.LaneView.{lane_in, front_places}
-use Rattle.esm_tables.specs.LaneHistory.{IsLane}
-use Rattle.esm_tables.specs.Windows.{is_open_in}
-use Rattle.esm_tables.proofs.CallingSteps.{batch_stands_once}
-use Rattle.esm_tables.proofs.LaneReads.{lane_bounded}
-use Rattle.esm_tables.proofs.LaneGroups.{group_is}
-use Rattle.esm_tables.proofs.ProgressSteps.{progress_tells}
+use Rattle.esm_shard_index.specs.LaneView.{lane_in, front_places}
+use Rattle.esm_shard_index.specs.LaneHistory.{IsLane}
+use Rattle.esm_shard_index.specs.Windows.{is_open_in}
+use Rattle.esm_shard_index.proofs.CallingSteps.{batch_stands_once}
+use Rattle.esm_shard_index.proofs.LaneReads.{lane_bounded}
+use Rattle.esm_shard_index.proofs.LaneGroups.{group_is}
+use Rattle.esm_shard_index.proofs.ProgressSteps.{progress_tells}
 use Rattle.esm_ledger.specs.declared.shard.ShardLedger.{ShardLedger}
 use Rattle.esm_ledger.specs.Shard.{IsShard, lane_id}
 use Rattle.esm_ledger.specs.declared.arriving.Arriving.{Arriving}

@@ -15,15 +15,15 @@ use Rattle.esm_model.specs.Lane.{lane_of}
 use Rattle.esm_model.specs.Setting.{Setting, record_at, found_fate, found_try, is_key_of}
 use Rattle.esm_model.specs.Owed.{is_refused}
 use Rattle.esm_model.specs.Ruling.{capped_tries}
-use Rattle.esm_said.specs.declared.kept.KeptFate.{KeptFate}
-use Rattle.esm_said.specs.declared.kept.KeptTries.{KeptTries}
-use Rattle.esm_said.specs.declared.lookup.SaidState.{SaidState}
-use Rattle.esm_said.specs.declared.lookup.SaidWindowTries.{SaidWindowTries}
-use Rattle.esm_said.specs.SaidLists.{SaidLists, fate_told, tries_told, state_told, window_tries_told}
-use Rattle.esm_said.specs.Tells.{fate_of_found, tries_of_found}
-use Rattle.esm_said.specs.View.{found_state, of_window}
-use Rattle.esm_tables.specs.LaneHistory.{HasFoundTries, arrives}
-use Rattle.esm_tables.specs.Progress.{AreFound, found_at}
+use Rattle.esm_journal_state.specs.declared.kept.KeptFate.{KeptFate}
+use Rattle.esm_journal_state.specs.declared.kept.KeptTries.{KeptTries}
+use Rattle.esm_journal_state.specs.declared.lookup.SaidState.{SaidState}
+use Rattle.esm_journal_state.specs.declared.lookup.SaidWindowTries.{SaidWindowTries}
+use Rattle.esm_journal_state.specs.SaidLists.{SaidLists, fate_told, tries_told, state_told, window_tries_told}
+use Rattle.esm_journal_state.specs.Tells.{fate_of_found, tries_of_found}
+use Rattle.esm_journal_state.specs.View.{found_state, of_window}
+use Rattle.esm_shard_index.specs.LaneHistory.{HasFoundTries, arrives}
+use Rattle.esm_shard_index.specs.Progress.{AreFound, found_at}
 use Rattle.esm_ledger.specs.declared.arriving.Landing.{Landing}
 use Rattle.esm_ledger.specs.Shard.{lane_id}
 use Rattle.esm_ledger.specs.Arriving.{IsLanding, IsWithin, landing_at, lands_in, tries_found}

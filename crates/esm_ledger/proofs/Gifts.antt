@@ -18,17 +18,17 @@ use Rattle.esm_model.proofs.Debts.{debt_places}
 use Rattle.esm_model.proofs.Sound.{sound, pending, paid, expired_front, open_distinct}
 use Rattle.esm_model.proofs.Paid.{gave_open}
 use Rattle.esm_model.proofs.NamedPlaces.{names_came}
-use Rattle.esm_tables.specs.LaneView.{LaneView, Table, lane_in, after_expired}
-use Rattle.esm_tables.specs.LaneHistory.{HasFoundTries}
-use Rattle.esm_tables.specs.LaneSteps.{after_entry}
-use Rattle.esm_tables.specs.FateCounts.{count_in}
-use Rattle.esm_tables.specs.Progress.{Tally, number_of}
-use Rattle.esm_tables.specs.Callings.{StandOnce}
-use Rattle.esm_tables.specs.Windows.{WindowTable, open_in, state_in, times}
-use Rattle.esm_tables.proofs.ArrivalSteps.{arrivals_stay}
-use Rattle.esm_tables.proofs.CallingSteps.{callings_stay}
-use Rattle.esm_tables.proofs.ProgressSteps.{progress_gives}
-use Rattle.esm_tables.proofs.WindowSteps.{windows_give}
+use Rattle.esm_shard_index.specs.LaneView.{LaneView, Table, lane_in, after_expired}
+use Rattle.esm_shard_index.specs.LaneHistory.{HasFoundTries}
+use Rattle.esm_shard_index.specs.LaneSteps.{after_entry}
+use Rattle.esm_shard_index.specs.FateCounts.{count_in}
+use Rattle.esm_shard_index.specs.Progress.{Tally, number_of}
+use Rattle.esm_shard_index.specs.Callings.{StandOnce}
+use Rattle.esm_shard_index.specs.Windows.{WindowTable, open_in, state_in, times}
+use Rattle.esm_shard_index.proofs.ArrivalSteps.{arrivals_stay}
+use Rattle.esm_shard_index.proofs.CallingSteps.{callings_stay}
+use Rattle.esm_shard_index.proofs.ProgressSteps.{progress_gives}
+use Rattle.esm_shard_index.proofs.WindowSteps.{windows_give}
 use Rattle.esm_ledger.specs.declared.shard.ShardLedger.{ShardLedger}
 use Rattle.esm_ledger.specs.Shard.{IsShard, lane_id, measure_at, windows_at}
 use Rattle.esm_ledger.proofs.Shards.{records_stay, lanes_step, at_lane}

@@ -8,10 +8,10 @@ use Rattle.esm_model.specs.Valid.{IsStreamConfig}
 use Rattle.esm_model.specs.Setting.{Setting, Stream}
 use Rattle.esm_model.specs.Entries.{last_moment, came_count, is_shut, shards_that_came, calls_begun, is_running}
 use Rattle.esm_model.specs.Step.{Legal}
-use Rattle.esm_said.specs.SaidLists.{SaidLists}
-use Rattle.esm_tables.specs.LaneView.{lane_in}
-use Rattle.esm_tables.specs.LaneHistory.{IsLane, HasFoundTries}
-use Rattle.esm_tables.proofs.LaneReads.{lane_bounded}
+use Rattle.esm_journal_state.specs.SaidLists.{SaidLists}
+use Rattle.esm_shard_index.specs.LaneView.{lane_in}
+use Rattle.esm_shard_index.specs.LaneHistory.{IsLane, HasFoundTries}
+use Rattle.esm_shard_index.proofs.LaneReads.{lane_bounded}
 use Rattle.esm_ledger.specs.declared.ledger.Ledger.{Ledger}
 use Rattle.esm_ledger.specs.declared.shard.ShardLedger.{ShardLedger}
 use Rattle.esm_ledger.specs.Shard.{IsShard, lane_id}

@@ -20,26 +20,26 @@ use Rattle.esm_model.specs.Step.{Legal}
 use Rattle.esm_model.proofs.Steps.{came_of_shard}
 use Rattle.esm_lanes.specs.declared.standing.Standing.{Standing}
 use Rattle.esm_lanes.specs.Piece as piece
-use Rattle.esm_tables.specs.FateCounts.{count_in}
-use Rattle.esm_tables.specs.LaneView.{LaneView, Table, lane_in, after_came, after_arrivals, standing_of}
-use Rattle.esm_tables.specs.LaneHistory.{IsLane, HasFoundTries, arrives, arriving, standing_at, places_from}
-use Rattle.esm_tables.specs.LaneSteps.{after_entry}
-use Rattle.esm_tables.specs.Progress.{Tally}
-use Rattle.esm_tables.specs.Arrivals.{Coming, arrival}
-use Rattle.esm_tables.specs.Callings.{Called, calls_at, response_at}
-use Rattle.esm_tables.specs.Windows.{WindowTable, open_in, times}
-use Rattle.esm_tables.proofs.ArrivalSteps.{arrivals_come}
-use Rattle.esm_tables.proofs.CallingSteps.{callings_come}
-use Rattle.esm_tables.proofs.ProgressSteps.{progress_comes}
-use Rattle.esm_tables.proofs.WindowSteps.{windows_come}
+use Rattle.esm_shard_index.specs.FateCounts.{count_in}
+use Rattle.esm_shard_index.specs.LaneView.{LaneView, Table, lane_in, after_came, after_arrivals, standing_of}
+use Rattle.esm_shard_index.specs.LaneHistory.{IsLane, HasFoundTries, arrives, arriving, standing_at, places_from}
+use Rattle.esm_shard_index.specs.LaneSteps.{after_entry}
+use Rattle.esm_shard_index.specs.Progress.{Tally}
+use Rattle.esm_shard_index.specs.Arrivals.{Coming, arrival}
+use Rattle.esm_shard_index.specs.Callings.{Called, calls_at, response_at}
+use Rattle.esm_shard_index.specs.Windows.{WindowTable, open_in, times}
+use Rattle.esm_shard_index.proofs.ArrivalSteps.{arrivals_come}
+use Rattle.esm_shard_index.proofs.CallingSteps.{callings_come}
+use Rattle.esm_shard_index.proofs.ProgressSteps.{progress_comes}
+use Rattle.esm_shard_index.proofs.WindowSteps.{windows_come}
 use Rattle.esm_ledger.specs.declared.arriving.Arriving.{Arriving}
 use Rattle.esm_ledger.specs.declared.arriving.Landing.{Landing}
 use Rattle.esm_ledger.specs.declared.measure.Measure.{Measure}
 use Rattle.esm_ledger.specs.declared.shard.ShardLedger.{ShardLedger}
 use Rattle.esm_ledger.specs.Shard.{IsShard, AreRecords, lane_id, nothing, measure_at}
 use Rattle.esm_ledger.specs.Arriving.{AreArriving, IsEven, IsLanding, landing_at, IsWithin, landing_count, lands_in, land_in, landed}
-use Rattle.esm_tables.proofs.LaneArrivals.{arrived_places}
-use Rattle.esm_tables.proofs.LaneSteps.{lane_step}
+use Rattle.esm_shard_index.proofs.LaneArrivals.{arrived_places}
+use Rattle.esm_shard_index.proofs.LaneSteps.{lane_step}
 
 -- lanes
 

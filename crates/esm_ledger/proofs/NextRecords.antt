@@ -13,11 +13,11 @@ use Rattle.esm_model.specs.Entries.{holds, came_count, shards_that_came}
 use Rattle.esm_model.specs.Step.{Legal}
 use Rattle.esm_model.proofs.Lists.{In, not_in}
 use Rattle.esm_model.proofs.Records.{same_records, window_same}
-use Rattle.esm_tables.specs.Windows.{WindowTable, IsWindows, window_before}
-use Rattle.esm_tables.specs.Windows as windows
-use Rattle.esm_tables.specs.LaneView.{lane_in}
-use Rattle.esm_tables.specs.LaneHistory.{HasFoundTries}
-use Rattle.esm_tables.proofs.WindowSteps.{windows_begin}
+use Rattle.esm_shard_index.specs.Windows.{WindowTable, IsWindows, window_before}
+use Rattle.esm_shard_index.specs.Windows as windows
+use Rattle.esm_shard_index.specs.LaneView.{lane_in}
+use Rattle.esm_shard_index.specs.LaneHistory.{HasFoundTries}
+use Rattle.esm_shard_index.proofs.WindowSteps.{windows_begin}
 use Rattle.esm_model.specs.Windows.{window_of}
 use Rattle.esm_ledger.specs.declared.arriving.Arriving.{Arriving}
 use Rattle.esm_ledger.specs.declared.coming.Coming.{Coming}

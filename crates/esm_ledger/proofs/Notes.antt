@@ -2,7 +2,7 @@
 use Rattle.std.proofs.Common.{◌≡◌, ℕ, ◌≤◌, false, sym, subst}
 use Rattle.esm_model.specs.Lane.{same_lane}
 use Rattle.esm_model.specs.declared.lane.LaneId.{LaneId}
-use Rattle.esm_tables.specs.LaneView.{LaneView}
+use Rattle.esm_shard_index.specs.LaneView.{LaneView}
 use Rattle.esm_ledger.specs.declared.ledger.Ledger.{Ledger}
 use Rattle.esm_ledger.specs.Shard.{lane_id}
 use Rattle.esm_ledger.specs.Ledger.{HasSplits}

@@ -14,13 +14,13 @@ use Rattle.esm_model.specs.Owed.{is_refused}
 use Rattle.esm_model.specs.Windows.{window_from}
 use Rattle.esm_model.specs.Step.{Legal}
 use Rattle.esm_model.specs.Lane.{same_lane}
-use Rattle.esm_tables.specs.LaneView.{LaneView, Table, lane_in}
-use Rattle.esm_tables.specs.declared.lane_state.LaneState.{LaneState}
-use Rattle.esm_tables.specs.LaneHistory.{arrives}
-use Rattle.esm_tables.specs.Progress.{found_at}
-use Rattle.esm_tables.specs.Places.{places_from}
-use Rattle.esm_tables.specs.WindowEntries.{has_entry}
-use Rattle.esm_tables.specs.Windows.{window_before}
+use Rattle.esm_shard_index.specs.LaneView.{LaneView, Table, lane_in}
+use Rattle.esm_shard_index.specs.declared.lane_state.LaneState.{LaneState}
+use Rattle.esm_shard_index.specs.LaneHistory.{arrives}
+use Rattle.esm_shard_index.specs.Progress.{found_at}
+use Rattle.esm_shard_index.specs.Places.{places_from}
+use Rattle.esm_shard_index.specs.WindowEntries.{has_entry}
+use Rattle.esm_shard_index.specs.Windows.{window_before}
 use Rattle.esm_ledger.specs.declared.arriving.Arriving.{Arriving}
 use Rattle.esm_ledger.specs.declared.coming.Coming.{Coming}
 use Rattle.esm_ledger.specs.declared.ledger.Ledger.{Ledger}

@@ -18,19 +18,19 @@ use Rattle.esm_model.specs.Batches.{delay_end, delay_from}
 use Rattle.esm_model.specs.FailureLine.{calls_of, response_of}
 use Rattle.esm_model.specs.Checkpoint.{checkpoint, spread}
 use Rattle.esm_model.specs.Step.{Legal}
-use Rattle.esm_tables.specs.LaneView.{lane_in, empty_view}
-use Rattle.esm_tables.specs.LaneHistory.{IsLane}
-use Rattle.esm_tables.specs.LaneSteps.{IsGrouped, IsBounded}
-use Rattle.esm_tables.specs.Arrivals.{moment_in}
-use Rattle.esm_tables.specs.Callings.{calls_at, response_at}
-use Rattle.esm_tables.specs.FateCounts.{count_in}
-use Rattle.esm_tables.specs.Progress.{front_of, past_of as spread_in}
-use Rattle.esm_tables.specs.Windows.{WindowTable, HasState, IsLeastDue, IsWindows, state_in, tries_in}
-use Rattle.esm_tables.specs.WindowsLaws.{WindowsTell, closing_of}
-use Rattle.esm_tables.proofs.LaneSteps.{lane_begins}
-use Rattle.esm_tables.proofs.LaneReads.{lane_bounded, lane_grouped}
-use Rattle.esm_tables.proofs.LaneGroups.{delay_is}
-use Rattle.esm_tables.proofs.WindowSteps.{windows_tell}
+use Rattle.esm_shard_index.specs.LaneView.{lane_in, empty_view}
+use Rattle.esm_shard_index.specs.LaneHistory.{IsLane}
+use Rattle.esm_shard_index.specs.LaneSteps.{IsGrouped, IsBounded}
+use Rattle.esm_shard_index.specs.Arrivals.{moment_in}
+use Rattle.esm_shard_index.specs.Callings.{calls_at, response_at}
+use Rattle.esm_shard_index.specs.FateCounts.{count_in}
+use Rattle.esm_shard_index.specs.Progress.{front_of, past_of as spread_in}
+use Rattle.esm_shard_index.specs.Windows.{WindowTable, HasState, IsLeastDue, IsWindows, state_in, tries_in}
+use Rattle.esm_shard_index.specs.WindowsLaws.{WindowsTell, closing_of}
+use Rattle.esm_shard_index.proofs.LaneSteps.{lane_begins}
+use Rattle.esm_shard_index.proofs.LaneReads.{lane_bounded, lane_grouped}
+use Rattle.esm_shard_index.proofs.LaneGroups.{delay_is}
+use Rattle.esm_shard_index.proofs.WindowSteps.{windows_tell}
 use Rattle.esm_ledger.specs.declared.ledger.Ledger.{Ledger}
 use Rattle.esm_ledger.specs.declared.shard.ShardLedger.{ShardLedger}
 use Rattle.esm_ledger.specs.Shard.{measure_at, called_places, closing_in}

@@ -15,8 +15,8 @@ use Rattle.esm_model.specs.Entries.{is_running}
 use Rattle.esm_model.specs.Lane.{same_lane}
 use Rattle.esm_model.specs.Step.{Legal}
 use Rattle.esm_model.proofs.Steps.{same_lane-refl}
-use Rattle.esm_tables.specs.LaneView.{LaneView, Table, lane_in}
-use Rattle.esm_tables.specs.LaneHistory.{HasFoundTries}
+use Rattle.esm_shard_index.specs.LaneView.{LaneView, Table, lane_in}
+use Rattle.esm_shard_index.specs.LaneHistory.{HasFoundTries}
 use Rattle.esm_ledger.specs.declared.ledger.Ledger.{Ledger}
 use Rattle.esm_ledger.specs.declared.shard.ShardLedger.{ShardLedger}
 use Rattle.esm_ledger.specs.Shard.{IsShard, LeavesShard, lane_id}

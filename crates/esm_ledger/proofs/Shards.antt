@@ -18,18 +18,18 @@ use Rattle.esm_model.specs.Tries.{is_closed_by, verdict_after}
 use Rattle.esm_model.specs.Step.{Legal}
 use Rattle.esm_model.proofs.Steps.{same_lane-refl}
 use Rattle.esm_model.proofs.Sound.{same_lane-true}
-use Rattle.esm_tables.specs.declared.lane_state.Running.{Running}
-use Rattle.esm_tables.specs.LaneView.{LaneView, Table, lane_in, after_began, after_ended, running_count, front_places}
-use Rattle.esm_tables.specs.LaneHistory.{IsLane, HasFoundTries}
-use Rattle.esm_tables.specs.LaneSteps.{after_entry}
-use Rattle.esm_tables.specs.Callings.{Called, calls_at, response_at}
-use Rattle.esm_tables.specs.Windows.{WindowTable, state_in, tries_in}
-use Rattle.esm_tables.specs.WindowsLaws.{closing_of}
-use Rattle.esm_tables.proofs.LaneSteps.{lane_step}
-use Rattle.esm_tables.proofs.ArrivalSteps.{arrivals_stay}
-use Rattle.esm_tables.proofs.CallingSteps.{call_begins, call_ends, callings_stay}
-use Rattle.esm_tables.proofs.ProgressSteps.{progress_stays}
-use Rattle.esm_tables.proofs.WindowSteps.{windows_stay, windows_end, windows_close}
+use Rattle.esm_shard_index.specs.declared.lane_state.Running.{Running}
+use Rattle.esm_shard_index.specs.LaneView.{LaneView, Table, lane_in, after_began, after_ended, running_count, front_places}
+use Rattle.esm_shard_index.specs.LaneHistory.{IsLane, HasFoundTries}
+use Rattle.esm_shard_index.specs.LaneSteps.{after_entry}
+use Rattle.esm_shard_index.specs.Callings.{Called, calls_at, response_at}
+use Rattle.esm_shard_index.specs.Windows.{WindowTable, state_in, tries_in}
+use Rattle.esm_shard_index.specs.WindowsLaws.{closing_of}
+use Rattle.esm_shard_index.proofs.LaneSteps.{lane_step}
+use Rattle.esm_shard_index.proofs.ArrivalSteps.{arrivals_stay}
+use Rattle.esm_shard_index.proofs.CallingSteps.{call_begins, call_ends, callings_stay}
+use Rattle.esm_shard_index.proofs.ProgressSteps.{progress_stays}
+use Rattle.esm_shard_index.proofs.WindowSteps.{windows_stay, windows_end, windows_close}
 use Rattle.esm_ledger.specs.declared.measure.Measure.{Measure}
 use Rattle.esm_ledger.specs.declared.shard.ShardLedger.{ShardLedger}
 use Rattle.esm_ledger.specs.Shard.{IsShard, AreRecords, lane_id, closing_in, called_places}

@@ -21,17 +21,17 @@ use Rattle.esm_model.proofs.Debts.{first_debt}
 use Rattle.esm_model.proofs.Sound.{open_In}
 use Rattle.esm_model.proofs.Paid.{gave_In}
 use Rattle.esm_model.proofs.Records.{SameRecords, same_records, filter_same, window_same, window_tries_same, kept_same}
-use Rattle.esm_tables.specs.LaneView.{LaneView, lane_in, empty_view}
-use Rattle.esm_tables.specs.LaneHistory.{IsLane, HasFoundTries}
-use Rattle.esm_tables.specs.LaneSteps.{after_entry}
-use Rattle.esm_tables.specs.FateCounts.{count_in}
-use Rattle.esm_tables.specs.Windows.{WindowTable, IsWindows, window_before, is_open_in}
-use Rattle.esm_tables.proofs.LaneSteps.{unused, lane_begins}
-use Rattle.esm_tables.proofs.LaneOver.{lane_over}
-use Rattle.esm_tables.proofs.ArrivalSteps.{arrivals_begin, arrivals_stay}
-use Rattle.esm_tables.proofs.CallingSteps.{callings_begin, callings_stay}
-use Rattle.esm_tables.proofs.ProgressSteps.{progress_begins, progress_stays}
-use Rattle.esm_tables.proofs.WindowSteps.{windows_stay}
+use Rattle.esm_shard_index.specs.LaneView.{LaneView, lane_in, empty_view}
+use Rattle.esm_shard_index.specs.LaneHistory.{IsLane, HasFoundTries}
+use Rattle.esm_shard_index.specs.LaneSteps.{after_entry}
+use Rattle.esm_shard_index.specs.FateCounts.{count_in}
+use Rattle.esm_shard_index.specs.Windows.{WindowTable, IsWindows, window_before, is_open_in}
+use Rattle.esm_shard_index.proofs.LaneSteps.{unused, lane_begins}
+use Rattle.esm_shard_index.proofs.LaneOver.{lane_over}
+use Rattle.esm_shard_index.proofs.ArrivalSteps.{arrivals_begin, arrivals_stay}
+use Rattle.esm_shard_index.proofs.CallingSteps.{callings_begin, callings_stay}
+use Rattle.esm_shard_index.proofs.ProgressSteps.{progress_begins, progress_stays}
+use Rattle.esm_shard_index.proofs.WindowSteps.{windows_stay}
 use Rattle.esm_ledger.specs.declared.measure.Measure.{Measure}
 use Rattle.esm_ledger.specs.declared.shard.ShardLedger.{ShardLedger}
 use Rattle.esm_ledger.specs.Shard.{IsShard, AreRecords, LeavesShard, lane_id}

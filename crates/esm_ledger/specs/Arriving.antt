@@ -9,12 +9,12 @@ use Rattle.esm_model.specs.Entries.{holds}
 use Rattle.esm_model.specs.Ruling.{capped_tries}
 use Rattle.esm_model.specs.Windows.{window_of}
 use Rattle.esm_lanes.specs.Piece.{open_places}
-use Rattle.esm_tables.specs.LaneView.{LaneView, lane_in, after_came, standing_of}
-use Rattle.esm_tables.specs.LaneHistory.{arrives}
-use Rattle.esm_tables.specs.Progress.{AreFound}
-use Rattle.esm_tables.specs.WindowEntries.{has_entry}
-use Rattle.esm_tables.specs.Windows.{open_in, window_before}
-use Rattle.esm_tables.specs.WindowsLaws.{open_windows}
+use Rattle.esm_shard_index.specs.LaneView.{LaneView, lane_in, after_came, standing_of}
+use Rattle.esm_shard_index.specs.LaneHistory.{arrives}
+use Rattle.esm_shard_index.specs.Progress.{AreFound}
+use Rattle.esm_shard_index.specs.WindowEntries.{has_entry}
+use Rattle.esm_shard_index.specs.Windows.{open_in, window_before}
+use Rattle.esm_shard_index.specs.WindowsLaws.{open_windows}
 use Rattle.esm_ledger.specs.declared.arriving.Arriving.{Arriving}
 use Rattle.esm_ledger.specs.declared.arriving.Landing.{Landing}
 use Rattle.esm_ledger.specs.declared.shard.ShardLedger.{ShardLedger}

@@ -8,8 +8,8 @@ use Rattle.esm_model.specs.declared.entry.Entry.{Entry}
 use Rattle.esm_model.specs.declared.entry.Entry.TheVariants.{Came}
 use Rattle.esm_model.specs.Owed.{is_refused}
 use Rattle.esm_model.specs.Step.{Legal}
-use Rattle.esm_tables.specs.LaneView.{lane_in}
-use Rattle.esm_tables.specs.LaneHistory.{HasFoundTries}
+use Rattle.esm_shard_index.specs.LaneView.{lane_in}
+use Rattle.esm_shard_index.specs.LaneHistory.{HasFoundTries}
 use Rattle.esm_ledger.specs.declared.arriving.Arriving.{Arriving}
 use Rattle.esm_ledger.specs.declared.coming.Coming.{Coming}
 use Rattle.esm_ledger.specs.declared.ledger.Ledger.{Ledger}

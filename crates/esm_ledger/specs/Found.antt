@@ -5,8 +5,8 @@ use Rattle.esm_model.specs.declared.setup.FoundWindowTries.{FoundWindowTries}
 use Rattle.esm_model.specs.declared.config.Config.{Config}
 use Rattle.esm_model.specs.Setting.{Setting}
 use Rattle.esm_model.specs.Ruling.{capped_tries}
-use Rattle.esm_said.specs.SaidLists.{SaidLists, state_told, window_tries_told}
-use Rattle.esm_tables.specs.Windows.{WindowTable, open_in, state_in, tries_in}
+use Rattle.esm_journal_state.specs.SaidLists.{SaidLists, state_told, window_tries_told}
+use Rattle.esm_shard_index.specs.Windows.{WindowTable, open_in, state_in, tries_in}
 
 -- no record came, and each window of the shard has what the lists tell of it
 pub record HasFoundWindows (t : SaidLists) (n : ℕ) (windows : WindowTable) : Type 0 where

@@ -9,11 +9,11 @@ use Rattle.esm_model.specs.Valid.{IsStreamConfig}
 use Rattle.esm_model.specs.Setting.{Setting, Stream, Extends, over}
 use Rattle.esm_model.specs.Entries.{last_moment, came_count, is_shut, shards_that_came, calls_begun, is_running}
 use Rattle.esm_model.specs.Step.{Legal}
-use Rattle.esm_said.specs.SaidLists.{SaidLists}
+use Rattle.esm_journal_state.specs.SaidLists.{SaidLists}
 use Rattle.esm_lanes.specs.Piece.{front_length}
-use Rattle.esm_tables.specs.LaneView.{lane_in, running_count}
-use Rattle.esm_tables.specs.LaneHistory.{HasFoundTries}
-use Rattle.esm_tables.specs.WindowEntries.{has_entry}
+use Rattle.esm_shard_index.specs.LaneView.{lane_in, running_count}
+use Rattle.esm_shard_index.specs.LaneHistory.{HasFoundTries}
+use Rattle.esm_shard_index.specs.WindowEntries.{has_entry}
 use Rattle.esm_ledger.specs.declared.ledger.Ledger.{Ledger}
 use Rattle.esm_ledger.specs.declared.shard.ShardLedger.{ShardLedger}
 use Rattle.esm_ledger.specs.Shard.{IsShard, closing_in}

@@ -10,9 +10,9 @@ use Rattle.esm_model.specs.declared.setup.FoundFate.{FoundFate}
 use Rattle.esm_model.specs.declared.setup.FoundTries.{FoundTries}
 use Rattle.esm_model.specs.Lane.{lane_of}
 use Rattle.esm_model.specs.Ruling.{capped_tries}
-use Rattle.esm_said.specs.declared.lookup.SaidState.{SaidState}
-use Rattle.esm_said.specs.declared.lookup.SaidWindowTries.{SaidWindowTries}
-use Rattle.esm_said.specs.SaidLists.{SaidLists, fate_told, tries_told}
+use Rattle.esm_journal_state.specs.declared.lookup.SaidState.{SaidState}
+use Rattle.esm_journal_state.specs.declared.lookup.SaidWindowTries.{SaidWindowTries}
+use Rattle.esm_journal_state.specs.SaidLists.{SaidLists, fate_told, tries_told}
 use Rattle.esm_ledger.specs.declared.arriving.Landing.{Landing}
 use Rattle.esm_ledger.specs.declared.measure.Measure.{Measure}
 use Rattle.esm_ledger.specs.Shard.{measure_at}

@@ -8,13 +8,13 @@ use Rattle.esm_model.specs.Setting.{Setting, record_at}
 use Rattle.esm_model.specs.EventText.{record_text}
 use Rattle.esm_model.specs.Entries.{came_count}
 use Rattle.esm_model.specs.Windows.{window_of}
-use Rattle.esm_tables.specs.declared.lane_state.Running.{Running}
-use Rattle.esm_tables.specs.LaneView.{LaneView, Table, lane_in, running_count, front_places}
-use Rattle.esm_tables.specs.LaneHistory.{IsLane}
-use Rattle.esm_tables.specs.Progress.{IsProgress}
-use Rattle.esm_tables.specs.Arrivals.{IsArrivals}
-use Rattle.esm_tables.specs.Callings.{IsCallings}
-use Rattle.esm_tables.specs.Windows.{IsWindows}
+use Rattle.esm_shard_index.specs.declared.lane_state.Running.{Running}
+use Rattle.esm_shard_index.specs.LaneView.{LaneView, Table, lane_in, running_count, front_places}
+use Rattle.esm_shard_index.specs.LaneHistory.{IsLane}
+use Rattle.esm_shard_index.specs.Progress.{IsProgress}
+use Rattle.esm_shard_index.specs.Arrivals.{IsArrivals}
+use Rattle.esm_shard_index.specs.Callings.{IsCallings}
+use Rattle.esm_shard_index.specs.Windows.{IsWindows}
 use Rattle.esm_ledger.specs.declared.measure.Measure.{Measure}
 use Rattle.esm_ledger.specs.declared.shard.ShardLedger.{ShardLedger}
 

@@ -6,9 +6,9 @@ use Rattle.esm_model.specs.Entries.{holds}
 use Rattle.esm_model.specs.Fates.{open_count}
 use Rattle.esm_model.specs.Checkpoint.{checkpoint, spread}
 use Rattle.esm_lanes.specs.Piece.{front_length}
-use Rattle.esm_tables.specs.LaneView.{lane_in, running_count}
-use Rattle.esm_tables.specs.Callings.{StandOnce, calls_at}
-use Rattle.esm_tables.specs.Progress.{front_of, past_of, number_of}
+use Rattle.esm_shard_index.specs.LaneView.{lane_in, running_count}
+use Rattle.esm_shard_index.specs.Callings.{StandOnce, calls_at}
+use Rattle.esm_shard_index.specs.Progress.{front_of, past_of, number_of}
 use Rattle.esm_ledger.specs.declared.shard.ShardLedger.{ShardLedger}
 use Rattle.esm_ledger.specs.Shard.{called_places}
 

@@ -265,41 +265,6 @@ impl Ledger {
         self.shut = true;
         self.note(Entry::Shut { moment }, moment);
     }
-
-    /// Notes that the lane's call ended where nothing is kept any more but the history: no memory, and no ruling.
-    pub fn note_ended(&mut self, alloc: Global, lane: LaneId, reply: Reply, moment: u64)
-        requires rests { Rests self.old }
-        requires splits { HasSplits self.old lane }
-        requires legal { LegalOver (setting_of self.old) (Entry.Ended lane reply moment ∷ past_of self.old) }
-        ensures splits { (other : LaneId) → same_lane lane other ≡ false → HasSplits self.old other → HasSplits self.new other }
-        ensures rests { Rests self.new }
-        ensures past { past_of self.new ≡ Entry.Ended lane reply moment ∷ past_of self.old }
-        ensures setting { setting_of self.new ≡ setting_of self.old }
-    {
-        self.lane_rests(alloc, lane, moment);
-        self.unended = self.unended.saturating_sub(1);
-        self.note(
-            Entry::Ended {
-                lane,
-                reply: PastReply::of(&reply),
-                moment,
-            },
-            moment,
-        );
-    }
-
-    /// Notes that the input ended where nothing is kept any more but the history.
-    pub fn note_shut(&mut self, moment: u64)
-        requires rests { Rests self.old }
-        requires legal { LegalOver (setting_of self.old) (Entry.Shut moment ∷ past_of self.old) }
-        ensures splits { (lane : LaneId) → HasSplits self.old lane → HasSplits self.new lane }
-        ensures rests { Rests self.new }
-        ensures past { past_of self.new ≡ Entry.Shut moment ∷ past_of self.old }
-        ensures setting { setting_of self.new ≡ setting_of self.old }
-    {
-        self.shut = true;
-        self.note(Entry::Shut { moment }, moment);
-    }
 }
 
 /// What a reply answers; `None` where it is lost or garbled.

@@ -1,14 +1,14 @@
 //! What the journal told at opening of records and windows of a shard that is about to come.
 ghost use Rattle.std.specs.Prelude.{◌≡◌, ℕ, ◌+◌, ◌≤◌, ◌==◌, ◌&&◌, Some, length, if◌then◌else◌, IfOk, OnOk};
 ghost use Rattle.esm_model.specs.Ruling.{capped_tries};
-ghost use Rattle.esm_tables.specs.Windows.{state_in, tries_in};
+ghost use Rattle.esm_shard_index.specs.Windows.{state_in, tries_in};
 ghost use Rattle.esm_ledger.specs.Measuring.{fate_for, tries_for, landing_for, fates_from, landings_from, state_from, tries_from};
 ghost use Rattle.esm_ledger.specs.Found.{HasFoundWindows};
 
 use crate::arriving::Landing;
+use esm_journal_state::{SaidState, SaidWindowTries, Says};
 use esm_model::{Fate, MAX_TRIES, OutOfMemory, Record, lane_of};
-use esm_said::{SaidState, SaidWindowTries, Says};
-use esm_tables::Windows;
+use esm_shard_index::Windows;
 use std::alloc::Global;
 
 /// The fate that was found of the record at the place.

@@ -5,14 +5,14 @@ ghost use Rattle.esm_model.specs.Valid.{IsStreamConfig};
 ghost use Rattle.esm_model.specs.Setting.{Setting};
 ghost use Rattle.esm_model.specs.Entries.{last_moment, came_count, is_shut, calls_begun, is_running};
 ghost use Rattle.esm_model.specs.Tries.{verdict_after};
-ghost use Rattle.esm_tables.specs.LaneHistory.{HasFoundTries};
+ghost use Rattle.esm_shard_index.specs.LaneHistory.{HasFoundTries};
 ghost use Rattle.esm_ledger.specs.Ledger.{past_of, setting_of, opened_with, LegalOver, IsAt, HasRoom, HasShardRoom, Rests, Keeps, HasSplits, HasState};
 ghost use Rattle.esm_ledger.specs.Prepared.{StaysElsewhere, Stays};
-ghost use Rattle.esm_tables.specs.WindowEntries.{has_entry};
+ghost use Rattle.esm_shard_index.specs.WindowEntries.{has_entry};
 
 use crate::shard::ShardLedger;
+use esm_journal_state::Says;
 use esm_model::{Config, Entry, LaneId, MAX_ENTRIES, OutOfMemory};
-use esm_said::Says;
 use std::alloc::Global;
 
 /// A stream's book without its decisions: the history, and beside it what says in constant or logarithmic time what the
@@ -183,21 +183,6 @@ impl Ledger {
     {
         self.history.push_reserved(entry);
         self.last = moment;
-    }
-
-    /// The number of entries.
-    pub fn len(&self) -> usize
-        ensures { result ≡ length (past_of self.now) }
-    {
-        self.history.len()
-    }
-
-    /// The moment of the newest entry in milliseconds, or 0.
-    pub fn last_moment(&self) -> u64
-        requires { Rests self.now }
-        ensures { result ≡ last_moment (past_of self.now) }
-    {
-        self.last
     }
 
     /// Whether the input ended.

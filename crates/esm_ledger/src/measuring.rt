@@ -5,8 +5,8 @@ ghost use Rattle.esm_model.specs.declared.item.Record.{Record};
 ghost use Rattle.esm_model.specs.Valid.{IsStreamConfig, IsValidRecord};
 ghost use Rattle.esm_model.specs.Setting.{Setting, record_at};
 ghost use Rattle.esm_model.specs.Windows.{window_floor};
-ghost use Rattle.esm_tables.specs.Progress.{AreFound};
-ghost use Rattle.esm_tables.specs.Windows.{window_before};
+ghost use Rattle.esm_shard_index.specs.Progress.{AreFound};
+ghost use Rattle.esm_shard_index.specs.Windows.{window_before};
 ghost use Rattle.esm_ledger.specs.Arriving.{AreArriving, IsEven, IsLanding, landing_at};
 ghost use Rattle.esm_ledger.specs.Measuring.{measures_of, open_of, last_of};
 

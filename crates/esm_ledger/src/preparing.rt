@@ -1,15 +1,15 @@
 //! Memory for records of a shard that are about to come.
 ghost use Rattle.std.specs.Prelude.{◌≡◌, ◌≢◌, ℕ, ◌+◌, ◌<◌, ◌≤◌, true, length, vec_len, vec_capacity, OnOk};
 ghost use Rattle.esm_model.specs.Entries.{holds};
-ghost use Rattle.esm_tables.specs.LaneView.{lane_in};
-ghost use Rattle.esm_tables.specs.WindowEntries.{has_entry};
-ghost use Rattle.esm_tables.specs.Windows.{open_in};
+ghost use Rattle.esm_shard_index.specs.LaneView.{lane_in};
+ghost use Rattle.esm_shard_index.specs.WindowEntries.{has_entry};
+ghost use Rattle.esm_shard_index.specs.Windows.{open_in};
 ghost use Rattle.esm_ledger.specs.Arriving.{landing_count, lands_in};
 
 use crate::arriving::{Arriving, Landing};
 use crate::measure::Measure;
 use esm_model::{OutOfMemory, Record};
-use esm_tables::{Arrivals, Callings, LaneTable, Progress, Windows};
+use esm_shard_index::{Arrivals, Callings, LaneTable, Progress, Windows};
 use std::alloc::Global;
 
 /// Memory for the records and what stands beside them. After `OutOfMemory` they are as before.

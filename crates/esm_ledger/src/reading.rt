@@ -10,9 +10,9 @@ ghost use Rattle.esm_model.specs.Tries.{window_tries};
 ghost use Rattle.esm_model.specs.Windows.{has_windows, window_of, kept_state, is_due, is_outstanding};
 ghost use Rattle.esm_model.specs.Batches.{delay_end};
 ghost use Rattle.esm_model.specs.FailureLine.{calls_of, response_of};
-ghost use Rattle.esm_tables.specs.FateCounts.{count_in};
-ghost use Rattle.esm_tables.specs.LaneSteps.{IsGroupOf};
-ghost use Rattle.esm_tables.specs.WindowsLaws.{closing_of};
+ghost use Rattle.esm_shard_index.specs.FateCounts.{count_in};
+ghost use Rattle.esm_shard_index.specs.LaneSteps.{IsGroupOf};
+ghost use Rattle.esm_shard_index.specs.WindowsLaws.{closing_of};
 ghost use Rattle.esm_ledger.specs.Shard.{closing_in, measure_at};
 ghost use Rattle.esm_ledger.specs.Ledger.{past_of, setting_of, Rests, Keeps};
 ghost use Rattle.esm_ledger.specs.Reading.{lane_of_batcher, checkpoint_of, spread_of, IsLaneSettled, IsLeastDueWindow};
@@ -20,7 +20,7 @@ ghost use Rattle.esm_ledger.specs.Reading.{lane_of_batcher, checkpoint_of, sprea
 use crate::ledger::Ledger;
 use crate::measure::Measure;
 use esm_model::{Bytes, LaneId, Record, Response};
-use esm_tables::{FateCounts, Front, Running};
+use esm_shard_index::{FateCounts, Front, Running};
 
 impl Ledger {
     /// The lane that the batcher serves; `None` where its shard has not come.
@@ -35,22 +35,6 @@ impl Ledger {
                 shard: kept.shard,
                 lane: batcher % self.config.factor,
             }),
-        }
-    }
-
-    /// Whether a call of the lane runs.
-    pub fn is_running(&self, lane: LaneId) -> bool
-        requires { Rests self.now }
-        ensures { result ≡ is_running (past_of self.now) lane }
-    {
-        match self.kept(lane.shard) {
-            None => false,
-            Some(kept) => {
-                if lane.lane >= self.config.factor {
-                    return false;
-                }
-                kept.lanes.state(lane.lane).running.is_some()
-            }
         }
     }
 
@@ -238,39 +222,6 @@ impl Ledger {
         match self.kept(shard) {
             None => None,
             Some(kept) => kept.windows.least_due(self.shut),
-        }
-    }
-
-    /// How many of the shard's first records all have a fate; `None` where it has not come.
-    pub fn checkpoint(&self, shard: u64) -> Option<u32>
-        requires kept { Keeps self.now }
-        ensures { result ≡ checkpoint_of (setting_of self.now) (past_of self.now) shard }
-    {
-        match self.kept(shard) {
-            None => None,
-            Some(kept) => Some(kept.progress.checkpoint()),
-        }
-    }
-
-    /// How many of its records have a fate and stand past the checkpoint; `None` where it has not come.
-    pub fn spread(&self, shard: u64) -> Option<u32>
-        requires kept { Keeps self.now }
-        ensures { result ≡ spread_of (setting_of self.now) (past_of self.now) shard }
-    {
-        match self.kept(shard) {
-            None => None,
-            Some(kept) => Some(kept.progress.spread()),
-        }
-    }
-
-    /// How many of its records have which fate.
-    pub fn counts(&self, shard: u64) -> FateCounts
-        requires kept { Keeps self.now }
-        ensures { (f : Fate) → count_in result f ≡ fate_count (setting_of self.now) (past_of self.now) shard f }
-    {
-        match self.kept(shard) {
-            None => FateCounts::none(),
-            Some(kept) => kept.progress.counts(),
         }
     }
 }

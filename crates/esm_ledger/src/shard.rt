@@ -11,11 +11,11 @@ ghost use Rattle.esm_model.specs.FailureLine.{response_in};
 ghost use Rattle.esm_model.specs.Tries.{verdict_after};
 ghost use Rattle.esm_model.specs.Step.{Legal};
 ghost use Rattle.esm_lanes.specs.Piece.{front_length};
-ghost use Rattle.esm_tables.specs.LaneView.{lane_in, running_count};
-ghost use Rattle.esm_tables.specs.LaneHistory.{HasFoundTries};
-ghost use Rattle.esm_tables.specs.Callings.{StandOnce, calls_at};
-ghost use Rattle.esm_tables.specs.WindowEntries.{has_entry};
-ghost use Rattle.esm_tables.specs.Windows.{IsWindows};
+ghost use Rattle.esm_shard_index.specs.LaneView.{lane_in, running_count};
+ghost use Rattle.esm_shard_index.specs.LaneHistory.{HasFoundTries};
+ghost use Rattle.esm_shard_index.specs.Callings.{StandOnce, calls_at};
+ghost use Rattle.esm_shard_index.specs.WindowEntries.{has_entry};
+ghost use Rattle.esm_shard_index.specs.Windows.{IsWindows};
 ghost use Rattle.esm_ledger.specs.Shard.{IsShard, lane_id, closing_in, called_places, SameSplits};
 ghost use Rattle.esm_ledger.specs.Arriving.{AreArriving, IsEven, IsWithin, HasRoomFor, FitsNumbers};
 
@@ -24,7 +24,7 @@ use crate::measure::Measure;
 use crate::preparing::{reserve_lanes, reserve_records, reserve_tables};
 use crate::shard_steps::{count_try, land, leave_windows, take_state};
 use esm_model::{Fate, OutOfMemory, Record, Response, Verdict, WindowState};
-use esm_tables::{Arrivals, Callings, LaneTable, Progress, Running, Windows};
+use esm_shard_index::{Arrivals, Callings, LaneTable, Progress, Running, Windows};
 use std::alloc::Global;
 
 /// What is kept of one shard: its records that came, and the tables that say what the history says of them. Once the

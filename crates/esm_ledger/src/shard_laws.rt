@@ -9,7 +9,7 @@ ghost use Rattle.esm_model.specs.declared.entry.WindowState.{WindowState};
 ghost use Rattle.esm_model.specs.Setting.{Setting, Stream, Extends, over};
 ghost use Rattle.esm_model.specs.Entries.{came_count};
 ghost use Rattle.esm_model.specs.Step.{Legal};
-ghost use Rattle.esm_tables.specs.LaneHistory.{HasFoundTries};
+ghost use Rattle.esm_shard_index.specs.LaneHistory.{HasFoundTries};
 ghost use Rattle.esm_ledger.specs.declared.arriving.Arriving.{Arriving};
 ghost use Rattle.esm_ledger.specs.declared.shard.ShardLedger.{ShardLedger};
 ghost use Rattle.esm_ledger.specs.Shard.{IsShard, LeavesShard};

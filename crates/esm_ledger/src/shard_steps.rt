@@ -5,9 +5,9 @@ ghost use Rattle.esm_model.specs.Entries.{holds};
 ghost use Rattle.esm_model.specs.Ruling.{capped_tries, is_counted};
 ghost use Rattle.esm_model.specs.Tries.{is_closed_by};
 ghost use Rattle.esm_lanes.specs.Piece.{open_places};
-ghost use Rattle.esm_tables.specs.LaneView.{lane_in};
-ghost use Rattle.esm_tables.specs.WindowEntries.{has_entry};
-ghost use Rattle.esm_tables.specs.Windows.{open_in, state_in, tries_in, times};
+ghost use Rattle.esm_shard_index.specs.LaneView.{lane_in};
+ghost use Rattle.esm_shard_index.specs.WindowEntries.{has_entry};
+ghost use Rattle.esm_shard_index.specs.Windows.{open_in, state_in, tries_in, times};
 ghost use Rattle.esm_model.specs.Windows.{text_for};
 ghost use Rattle.esm_ledger.specs.Shard.{closing_in, windows_at};
 ghost use Rattle.esm_ledger.specs.Arriving.{IsWithin, landing_count, landed, land_in};
@@ -15,7 +15,7 @@ ghost use Rattle.esm_ledger.specs.Arriving.{IsWithin, landing_count, landed, lan
 use crate::arriving::Landing;
 use crate::measure::Measure;
 use esm_model::{Rest, WindowState};
-use esm_tables::{LaneTable, Running, Windows};
+use esm_shard_index::{LaneTable, Running, Windows};
 use std::alloc::Global;
 
 /// A failed try counts for the window that the call closes, if it closes one, where the rest of its verdict is counted.

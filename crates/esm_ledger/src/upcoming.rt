@@ -5,8 +5,8 @@ ghost use Rattle.esm_model.specs.declared.item.Record.{Record};
 ghost use Rattle.esm_model.specs.Valid.{IsStreamConfig, IsValidRecord};
 ghost use Rattle.esm_model.specs.Setting.{Setting, record_at};
 ghost use Rattle.esm_model.specs.Entries.{holds, came_count, shards_that_came};
-ghost use Rattle.esm_tables.specs.LaneHistory.{HasFoundTries};
-ghost use Rattle.esm_tables.specs.Windows.{window_before};
+ghost use Rattle.esm_shard_index.specs.LaneHistory.{HasFoundTries};
+ghost use Rattle.esm_shard_index.specs.Windows.{window_before};
 ghost use Rattle.esm_ledger.specs.declared.shard.ShardLedger.{ShardLedger};
 ghost use Rattle.esm_ledger.specs.Shard.{IsShard};
 ghost use Rattle.esm_ledger.specs.Arriving.{AreArriving, IsEven, IsWithin, HasRoomFor};
@@ -22,8 +22,8 @@ use crate::found::{Fated, found_records, found_windows};
 use crate::ledger::Ledger;
 use crate::measure::Measure;
 use crate::shard::ShardLedger;
+use esm_journal_state::Says;
 use esm_model::{Config, OutOfMemory, Record};
-use esm_said::Says;
 use std::alloc::Global;
 
 /// What is kept of records of the shard from the place `first` on. `before` is the window of the record before them.

@@ -14,12 +14,12 @@ use esm_io::Disk;
 /// why they name none. So each answer but want of memory comes exactly where its cause stands.
 pub fn one_answer<D: Disk>()
     ensures one_mapping { (w : Which) (old : D) (one other : NamedMapping) → D.honest old ≡ true
-        → IsNamed (meaning D.honest D.content D.image D.moment D.image_since D.faults) w old one
-        → IsNamed (meaning D.honest D.content D.image D.moment D.image_since D.faults) w old other → one ≡ other }
+        → IsNamed (meaning D.Disk) w old one
+        → IsNamed (meaning D.Disk) w old other → one ≡ other }
     ensures no_reason { (w : Which) (old new : D) (named : NamedMapping) (why : MappingError) → D.honest old ≡ true → ¬ Rose (D.faults old) (D.faults new)
-        → IsNamed (meaning D.honest D.content D.image D.moment D.image_since D.faults) w old named
-        → WhyNot (meaning D.honest D.content D.image D.moment D.image_since D.faults) w old new why → why ≡ error.OutOfMemory }
+        → IsNamed (meaning D.Disk) w old named
+        → WhyNot (meaning D.Disk) w old new why → why ≡ error.OutOfMemory }
     ensures one_reason { (w : Which) (old new : D) (one other : MappingError) → D.honest old ≡ true → ¬ Rose (D.faults old) (D.faults new)
-        → WhyNot (meaning D.honest D.content D.image D.moment D.image_since D.faults) w old new one → one ≢ error.OutOfMemory
-        → WhyNot (meaning D.honest D.content D.image D.moment D.image_since D.faults) w old new other → other ≢ error.OutOfMemory → one ≡ other }
+        → WhyNot (meaning D.Disk) w old new one → one ≢ error.OutOfMemory
+        → WhyNot (meaning D.Disk) w old new other → other ≢ error.OutOfMemory → one ≡ other }
 {}

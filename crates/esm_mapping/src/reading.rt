@@ -18,10 +18,10 @@ use std::alloc::Global;
 /// be enabled; where it says `LATEST` it starts at the moment of its creation. Nothing is written, and the registry's disk
 /// is not touched where a text names the mapping. `DiskFault` only where its count of faults rose.
 pub fn read_mapping<D: Disk>(alloc: Global, which: &Which, registry: D) -> MappingRead<D>
-    ensures named { IfOk result.named (IsNamed (meaning D.honest D.content D.image D.moment D.image_since D.faults) which.now registry) }
-    ensures why { IfErr result.named (WhyNot (meaning D.honest D.content D.image D.moment D.image_since D.faults) which.now registry result.registry) }
+    ensures named { IfOk result.named (IsNamed (meaning D.Disk) which.now registry) }
+    ensures why { IfErr result.named (WhyNot (meaning D.Disk) which.now registry result.registry) }
     // What is left of the registry's disk.
-    ensures only_read { IsOnlyRead (meaning D.honest D.content D.image D.moment D.image_since D.faults) registry result.registry }
+    ensures only_read { IsOnlyRead (meaning D.Disk) registry result.registry }
     ensures untouched { (text : List ℕ) → which.now ≡ Config text → result.registry ≡ registry }
 {
     match which {

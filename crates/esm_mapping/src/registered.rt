@@ -76,9 +76,9 @@ fn find_mapping<D: Disk>(
 
 /// Opens the registry's file, and reads the mapping with this id. Nothing is written.
 pub fn read_registered<D: Disk>(alloc: Global, id: &Uuid, registry: D) -> MappingRead<D>
-    ensures named { IfOk result.named (IsNamedById (meaning D.honest D.content D.image D.moment D.image_since D.faults) id.now registry) }
-    ensures why { IfErr result.named (WhyNotById (meaning D.honest D.content D.image D.moment D.image_since D.faults) id.now registry result.registry) }
-    ensures only_read { IsOnlyRead (meaning D.honest D.content D.image D.moment D.image_since D.faults) registry result.registry }
+    ensures named { IfOk result.named (IsNamedById (meaning D.Disk) id.now registry) }
+    ensures why { IfErr result.named (WhyNotById (meaning D.Disk) id.now registry result.registry) }
+    ensures only_read { IsOnlyRead (meaning D.Disk) registry result.registry }
 {
     let journal = match Journal::open(alloc, registry) {
         Ok(journal) => journal,

@@ -4,6 +4,7 @@ use Rattle.std.specs.Prelude.{◌≡◌, ℕ, ◌==◌, if◌then◌else◌, Boo
 use Rattle.esm_model.specs.declared.book.Change.{Change}
 use Rattle.esm_model.specs.declared.book.Trouble.{Trouble}
 use Rattle.esm_model.specs.declared.book.Trouble.TheVariants.{Changed}
+use Rattle.esm_model.specs.declared.kept.Kept.{Ghosts as Kept}
 use Rattle.esm_model.specs.declared.setup.Told.{Told}
 use Rattle.esm_model.specs.declared.setup.Setup.{Setup}
 
@@ -16,8 +17,9 @@ pub record Meaning (T : Type 0) : Type 1 where
   pub author : Setup → List Told → Told → ℕ
   pub may_follow : Setup → List Told → Told → Type 0
 
-abbrev pub meaning : {T : Type 0} → (T → Setup) → (T → List Told) → (T → Bool) → (T → Option Change) → (Setup → List Told → Told → ℕ) → (Setup → List Told → Told → Type 0) → Meaning T
-meaning setup history mark change author may_follow = record { setup = setup; history = history; mark = mark; change = change; author = author; may_follow = may_follow }
+-- by the members of its trait
+abbrev pub meaning : {T : Type 0} → Kept T → Meaning T
+meaning members = record { setup = members.setup; history = members.history; mark = members.mark; change = members.change; author = members.author; may_follow = members.may_follow }
 
 -- the change that took a book down, where one did
 abbrev pub change_of : Option Trouble → Option Change

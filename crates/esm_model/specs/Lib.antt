@@ -46,3 +46,8 @@ pub mod Kept
 pub mod Device
 pub mod Setup
 pub mod Books
+pub mod Names
+pub mod Items
+pub mod GoingOn
+pub mod Batching
+pub mod Coming

@@ -1,4 +1,4 @@
-// What a source holds: a record of a stream, and a message of a queue.
+// What a source holds: a record of a stream, and a message of a queue; and what a line of an input gives.
 use crate::sequence::Seq;
 use crate::text::{Bytes, Text};
 
@@ -20,4 +20,22 @@ pub struct Message {
     pub group: Option<Text>,
     pub body: Text,
     pub sent: u64,
+}
+
+/// What the lines of an input are.
+#[derive(Clone, Copy, Debug, PartialEq, Eq)]
+pub enum LineKind {
+    /// Records of a Kinesis stream.
+    Stream,
+    /// Messages of an SQS queue; those of a FIFO queue have a group.
+    Queue { fifo: bool },
+}
+
+/// What one line gives.
+#[derive(Drop, Debug)]
+pub enum Item {
+    /// A record of a stream.
+    Stream(Record),
+    /// A message of a queue.
+    Queue(Message),
 }

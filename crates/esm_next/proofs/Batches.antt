@@ -15,8 +15,8 @@ use Rattle.esm_model.specs.Tries.{is_fresh}
 use Rattle.esm_model.specs.Calls.{window_call}
 use Rattle.esm_model.specs.Batches.{is_expired}
 use Rattle.esm_model.specs.Step.{Legal}
-use Rattle.esm_batch.specs.declared.piece.Why.{Why}
-use Rattle.esm_batch.specs.Cuts.{IsLongestPrefix, why_of, CanBegin}
+use Rattle.esm_next.specs.declared.piece.Why.{Why}
+use Rattle.esm_next.specs.Cuts.{IsLongestPrefix, why_of, CanBegin}
 use Rattle.esm_next.specs.Following.{job_of, next_batch}
 use Rattle.esm_next.specs.Gathering.{piece_of, call_in, window_in, frame_of, limits_of, IsFrontOf, wait_of}
 use Rattle.esm_next.proofs.Bounds.{came_stands, call_first, FitsAlone}

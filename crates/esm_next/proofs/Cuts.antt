@@ -23,12 +23,12 @@ use Rattle.esm_model.specs.Laws.{IsLongestPrefix as IsModelPrefix}
 use Rattle.esm_model.proofs.EventLength.{length-event_text}
 use Rattle.esm_model.proofs.Fits.{batch_longest}
 use Rattle.esm_model.proofs.Lists.{In, In-here, In-there, In-take}
-use Rattle.esm_batch.specs.declared.piece.Piece1.{Piece1}
-use Rattle.esm_batch.specs.declared.piece.Limits.{Limits}
-use Rattle.esm_batch.specs.declared.piece.Why.{Why}
-use Rattle.esm_batch.specs.declared.piece.Why.TheVariants.{Full, Waited, Shut, Waiting}
-use Rattle.esm_batch.specs.Cuts.{Fits, IsLongestPrefix, first_came, payload_bytes, why_of, wait_end}
-use Rattle.esm_batch.specs.Cuts as cuts
+use Rattle.esm_next.specs.declared.piece.SizedItem.{SizedItem}
+use Rattle.esm_next.specs.declared.piece.Limits.{Limits}
+use Rattle.esm_next.specs.declared.piece.Why.{Why}
+use Rattle.esm_next.specs.declared.piece.Why.TheVariants.{Full, Waited, Shut, Waiting}
+use Rattle.esm_next.specs.Cuts.{Fits, IsLongestPrefix, first_came, payload_bytes, why_of, wait_end}
+use Rattle.esm_next.specs.Cuts as cuts
 use Rattle.esm_next.specs.Following.{job_of, next_batch}
 use Rattle.esm_next.specs.Gathering.{element_bytes, window_in, piece_of, frame_of, limits_of, wait_of}
 
@@ -37,7 +37,7 @@ abbrev pub Stand : Setting → ℕ → List ℕ → Type 0
 Stand s n places = (i : ℕ) → In places i → is_some (record_at s n i) ≡ true
 
 module _ (s : Setting) (h : List Entry) (n : ℕ) where
-  piece : ℕ → Piece1
+  piece : ℕ → SizedItem
   piece = piece_of s h n
 
   -- the elements' bytes
@@ -45,11 +45,11 @@ module _ (s : Setting) (h : List Entry) (n : ℕ) where
   record_bytes : Record → ℕ
   record_bytes r = length (record_text s.config r)
 
-  piece_bytes : Piece1 → ℕ
+  piece_bytes : SizedItem → ℕ
   piece_bytes p = p.bytes
 
   pub record Measured (places : List ℕ) : Type 0 where
-    pub sum : sum_by (λ (r : Record). length (record_text s.config r)) (records_at s n places) ≡ sum_by (λ (p : Piece1). p.bytes) (map (piece_of s h n) places)
+    pub sum : sum_by (λ (r : Record). length (record_text s.config r)) (records_at s n places) ≡ sum_by (λ (p : SizedItem). p.bytes) (map (piece_of s h n) places)
     pub long : length (records_at s n places) ≡ length (map (piece_of s h n) places)
 
   measured_more : (x : ℕ) (xs : List ℕ) (o : Option Record) → record_at s n x ≡ o → is_some o ≡ true → Measured xs → Measured (x ∷ xs)
@@ -61,7 +61,7 @@ module _ (s : Setting) (h : List Entry) (n : ℕ) where
         sum = ap (sum_by (λ (q : Record). length (record_text s.config q))) all ∙ omega (
           arith,
           sum_by-cons (λ (q : Record). length (record_text s.config q)) r (records_at s n xs),
-          sum_by-cons (λ (p : Piece1). p.bytes) (piece_of s h n x) (map (piece_of s h n) xs),
+          sum_by-cons (λ (p : SizedItem). p.bytes) (piece_of s h n x) (map (piece_of s h n) xs),
           before.sum,
           bytes,
         );
@@ -79,13 +79,13 @@ module _ (s : Setting) (h : List Entry) (n : ℕ) where
 
   -- what holds of each
 
-  all_to : (p : ℕ → Bool) (Q : Piece1 → Type 0) (zs : List ℕ) → ((i : ℕ) → In zs i → p i ≡ true → Q (piece_of s h n i)) → list_all p zs ≡ true → AllByRecursion Q (map (piece_of s h n) zs)
+  all_to : (p : ℕ → Bool) (Q : SizedItem → Type 0) (zs : List ℕ) → ((i : ℕ) → In zs i → p i ≡ true → Q (piece_of s h n i)) → list_all p zs ≡ true → AllByRecursion Q (map (piece_of s h n) zs)
   all_to p Q [] each all = tt
   all_to p Q (x ∷ xs) each all =
       let both = and_parts (p x) (list_all p xs) all in
       (each x (In-here x xs x refl) both.0, all_to p Q xs (λ i member. each i (In-there x xs i member)) both.1)
 
-  all_back : (p : ℕ → Bool) (Q : Piece1 → Type 0) (zs : List ℕ) → ((i : ℕ) → In zs i → Q (piece_of s h n i) → p i ≡ true) → AllByRecursion Q (map (piece_of s h n) zs) → list_all p zs ≡ true
+  all_back : (p : ℕ → Bool) (Q : SizedItem → Type 0) (zs : List ℕ) → ((i : ℕ) → In zs i → Q (piece_of s h n i) → p i ≡ true) → AllByRecursion Q (map (piece_of s h n) zs) → list_all p zs ≡ true
   all_back p Q [] each all = refl
   all_back p Q (x ∷ xs) each all = and_from (p x) (list_all p xs) (each x (In-here x xs x refl) all.0) (all_back p Q xs (λ i member. each i (In-there x xs i member)) all.1)
 
@@ -110,9 +110,9 @@ module _ (s : Setting) (h : List Entry) (n : ℕ) where
 
   -- the windows
 
-  window_to : (x : ℕ) (zs : List ℕ) → is_one_window s n (x ∷ zs) ≡ true → All (λ (p : Piece1). p.window ≡ window_in s n x) (map (piece_of s h n) (x ∷ zs))
+  window_to : (x : ℕ) (zs : List ℕ) → is_one_window s n (x ∷ zs) ≡ true → All (λ (p : SizedItem). p.window ≡ window_in s n x) (map (piece_of s h n) (x ∷ zs))
   window_to x zs is =
-      let Q : Piece1 → Type 0 = λ p. p.window ≡ window_in s n x in
+      let Q : SizedItem → Type 0 = λ p. p.window ≡ window_in s n x in
       All-from_recursion Q (map (piece_of s h n) (x ∷ zs)) (elim (cases_Bool (has_windows s.config)) [
         | inr none ↦ all_to (λ i. true) Q (x ∷ zs) (λ i member _. rw none refl) (everything (x ∷ zs))
         | inl has ↦ all_to (λ i. window_of s n i == window_of s n x) Q (x ∷ zs) (λ i member same. rw has (eqb-true (window_of s n i) (window_of s n x) same)) (of_one has (or_cases (not (has_windows s.config)) (list_all (λ i. window_of s n i == window_of s n x) (x ∷ zs)) is))
@@ -126,9 +126,9 @@ module _ (s : Setting) (h : List Entry) (n : ℕ) where
       of_one has (inl none) = (let clash : false ≡ true = ap not (sym has) ∙ none in absurd cc)
       of_one has (inr one) = one
 
-  window_back : (x : ℕ) (zs : List ℕ) → All (λ (p : Piece1). p.window ≡ window_in s n x) (map (piece_of s h n) (x ∷ zs)) → is_one_window s n (x ∷ zs) ≡ true
+  window_back : (x : ℕ) (zs : List ℕ) → All (λ (p : SizedItem). p.window ≡ window_in s n x) (map (piece_of s h n) (x ∷ zs)) → is_one_window s n (x ∷ zs) ≡ true
   window_back x zs all =
-      let Q : Piece1 → Type 0 = λ p. p.window ≡ window_in s n x in
+      let Q : SizedItem → Type 0 = λ p. p.window ≡ window_in s n x in
       let one = list_all (λ i. window_of s n i == window_of s n x) (x ∷ zs) in
       elim (cases_Bool (has_windows s.config)) [
         | inr none ↦ or_left (not (has_windows s.config)) one (ap not none)
@@ -153,7 +153,7 @@ module _ (s : Setting) (h : List Entry) (n : ℕ) where
       let first = and_parts (size && event && window) young passes in
       let second = and_parts (size && event) window first.0 in
       let third = and_parts size event second.0 in
-      let Q : Piece1 → Type 0 = λ p. cuts.is_expired s.config.age_ms m p ≡ false in
+      let Q : SizedItem → Type 0 = λ p. cuts.is_expired s.config.age_ms m p ≡ false in
       record {
         count = omega (arith, length-map (x ∷ zs), leb-true (length (x ∷ zs)) s.config.batch_size third.0);
         payload = omega (arith, leb-true (length (event_of s h n (x ∷ zs) None)) MAX_EVENT third.1, event_bytes x zs stand);
@@ -163,7 +163,7 @@ module _ (s : Setting) (h : List Entry) (n : ℕ) where
 
   fits_back : (m x : ℕ) (zs : List ℕ) → Stand s n (x ∷ zs) → frame_of s (window_call s h n (x ∷ []) None) ≤ MAX_EVENT → Fits (limits x) m (map (piece_of s h n) (x ∷ zs)) → fits s h n m (x ∷ zs) ≡ true
   fits_back m x zs stand framed is =
-      let Q : Piece1 → Type 0 = λ p. cuts.is_expired s.config.age_ms m p ≡ false in
+      let Q : SizedItem → Type 0 = λ p. cuts.is_expired s.config.age_ms m p ≡ false in
       let size : length (x ∷ zs) ≤ s.config.batch_size = omega (arith, length-map (x ∷ zs), is.count) in
       let event : length (event_of s h n (x ∷ zs) None) ≤ MAX_EVENT = omega (arith, is.payload, event_bytes x zs stand, framed) in
       and_from _ _ (and_from _ _ (and_from _ _ (le-leb (length (x ∷ zs)) s.config.batch_size size) (le-leb (length (event_of s h n (x ∷ zs) None)) MAX_EVENT event))
@@ -273,7 +273,7 @@ module _ (s : Setting) (h : List Entry) (lane : LaneId) (m x : ℕ) (rest front 
         let all = prefix_to s h lane.shard m x rest (length (batch s h lane m)) (omega arith) is.stand (subst (λ (ys : List ℕ). fits s h lane.shard m ys ≡ true) batch_is passes) in
         let pieces : map (piece_of s h lane.shard) (take (length (batch s h lane m)) (x ∷ rest)) ≡ take (length (batch s h lane m)) (map (piece_of s h lane.shard) front) =
         ap (map (piece_of s h lane.shard)) (sym (same_prefix (length (batch s h lane m)) (omega arith))) ∙ sym (take-map s h lane.shard (length (batch s h lane m)) front) in
-        is.cut.longest (length (batch s h lane m)) less (omega (arith, there, long_front)) (subst (λ (ps : List Piece1). Fits (limits_of s h (window_call s h lane.shard (x ∷ []) None)) m ps) pieces all))
+        is.cut.longest (length (batch s h lane m)) less (omega (arith, there, long_front)) (subst (λ (ps : List SizedItem). Fits (limits_of s h (window_call s h lane.shard (x ∷ []) None)) m ps) pieces all))
   ]
 
   cut_few : count ≤ s.config.batch_size
@@ -286,7 +286,7 @@ module _ (s : Setting) (h : List Entry) (lane : LaneId) (m x : ℕ) (rest front 
   not_more more =
       let pieces : take count (map (piece_of s h lane.shard) front) ≡ map (piece_of s h lane.shard) (take count (x ∷ rest)) =
       take-map s h lane.shard count front ∙ ap (map (piece_of s h lane.shard)) (same_prefix count (omega (arith, cut_few))) in
-      let passes = prefix_back s h lane.shard m x rest count (omega arith) is.stand is.framed (subst (λ (ps : List Piece1). Fits (limits_of s h (window_call s h lane.shard (x ∷ []) None)) m ps) pieces is.cut.fits) in
+      let passes = prefix_back s h lane.shard m x rest count (omega arith) is.stand is.framed (subst (λ (ps : List SizedItem). Fits (limits_of s h (window_call s h lane.shard (x ∷ []) None)) m ps) pieces is.cut.fits) in
       let fails : fits s h lane.shard m (take count (x ∷ rest)) ≡ false =
       subst (λ (ys : List ℕ). fits s h lane.shard m (take count ys) ≡ false) is.group_is (model.longest count more (subst (λ (ys : List ℕ). count ≤ length ys) (sym is.group_is) (omega (arith, count_within, front_within)))) in
       let clash : true ≡ false = sym passes ∙ fails in

@@ -8,7 +8,7 @@ use Rattle.esm_model.specs.Setting.{Setting}
 use Rattle.esm_model.specs.Fates.{open_places}
 use Rattle.esm_model.specs.Tries.{is_fresh}
 use Rattle.esm_model.specs.Batches.{same_piece, group_of, group}
-use Rattle.esm_tables.specs.LaneSteps.{IsGroupOf}
+use Rattle.esm_shard_index.specs.LaneSteps.{IsGroupOf}
 use Rattle.esm_ledger.specs.Reading.{IsLeastDueWindow}
 use Rattle.esm_next.specs.Following.{job_of, due_windows, least, next_batch, next_call, next_allowed}
 use Rattle.esm_next.specs.Gathering.{IsFrontOf}

@@ -12,3 +12,4 @@ mod Lines
 mod Groups
 mod Results
 mod Served
+pub mod Prefixes

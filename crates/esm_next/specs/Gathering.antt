@@ -12,10 +12,10 @@ use Rattle.esm_model.specs.Windows.{has_windows, window_of, window_state}
 use Rattle.esm_model.specs.EventText.{record_text, event_text}
 use Rattle.esm_model.specs.Batches.{group}
 use Rattle.esm_model.specs.FailureLine.{arrival_at}
-use Rattle.esm_batch.specs.declared.piece.Piece1.{Piece1}
-use Rattle.esm_batch.specs.declared.piece.Limits.{Limits}
-use Rattle.esm_batch.specs.declared.piece.Why.{Why}
-use Rattle.esm_batch.specs.declared.piece.Why.TheVariants.{Waiting}
+use Rattle.esm_next.specs.declared.piece.SizedItem.{SizedItem}
+use Rattle.esm_next.specs.declared.piece.Limits.{Limits}
+use Rattle.esm_next.specs.declared.piece.Why.{Why}
+use Rattle.esm_next.specs.declared.piece.Why.TheVariants.{Waiting}
 
 -- the bytes of the record's element in an event
 abbrev pub element_bytes : Setting → ℕ → ℕ → ℕ
@@ -25,7 +25,7 @@ element_bytes s n i = unwrap_or (option_map (λ (r : Record). length (record_tex
 abbrev pub window_in : Setting → ℕ → ℕ → ℕ
 window_in s n i = if has_windows s.config then window_of s n i else 0
 
-abbrev pub piece_of : Setting → List Entry → ℕ → ℕ → Piece1
+abbrev pub piece_of : Setting → List Entry → ℕ → ℕ → SizedItem
 piece_of s h n i = record { bytes = element_bytes s n i; came = came_moment h n i; arrival = arrival_at s n i; window = window_in s n i }
 
 -- what an event says of the window, where windows are configured

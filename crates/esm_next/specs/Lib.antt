@@ -1,3 +1,5 @@
 pub mod Following
 pub mod Deciding
 pub mod Gathering
+pub mod Cuts
+pub mod Steps

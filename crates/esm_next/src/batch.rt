@@ -6,7 +6,7 @@ ghost use Rattle.esm_model.specs.declared.limits.TheConstants.{MAX_EVENT};
 ghost use Rattle.esm_model.specs.ValidCall.{IsValidWindowCall};
 ghost use Rattle.esm_model.specs.Entries.{came_count};
 ghost use Rattle.esm_model.specs.Batches.{is_expired};
-ghost use Rattle.esm_batch.specs.Cuts.{IsLongestPrefix, why_of};
+ghost use Rattle.esm_next.specs.Cuts.{IsLongestPrefix, why_of};
 ghost use Rattle.esm_ledger.specs.Ledger.{past_of, setting_of, Keeps};
 ghost use Rattle.esm_next.specs.Following.{next_batch};
 ghost use Rattle.esm_next.specs.Deciding.{IsWithinBounds, answer_of, Gives};
@@ -16,7 +16,8 @@ ghost use Rattle.esm_next.specs.Gathering.{piece_of, limits_of, frame_of, elemen
 use crate::decision::Decision;
 use crate::event::{job, window_call_of};
 use crate::expiry::arrival;
-use esm_batch::{Cut, Limits, Piece1, Why, cut};
+use crate::piece::{Cut, Limits, SizedItem, Why};
+use crate::prefix::cut;
 use esm_event::{frame_bytes, stream_bytes};
 use esm_ledger::Ledger;
 use esm_model::{LaneId, MAX_EVENT, OutOfMemory, WindowCall};
@@ -136,7 +137,7 @@ fn pieces(
     ledger: &Ledger,
     shard: u64,
     places: &[u32],
-) -> Result<Vec<Piece1>, OutOfMemory>
+) -> Result<Vec<SizedItem>, OutOfMemory>
     requires kept { Keeps ledger.now }
     requires came { All (λ p. p < came_count (past_of ledger.now) shard) places.now }
     ensures { IfOk result (λ v. v.items ≡ map (piece_of (setting_of ledger.now) (past_of ledger.now) shard) places.now) }
@@ -148,12 +149,12 @@ fn pieces(
     Ok(pieces)
 }
 
-fn piece(ledger: &Ledger, shard: u64, place: u32) -> Piece1
+fn piece(ledger: &Ledger, shard: u64, place: u32) -> SizedItem
     requires kept { Keeps ledger.now }
     requires came { place < came_count (past_of ledger.now) shard }
     ensures { result ≡ piece_of (setting_of ledger.now) (past_of ledger.now) shard place }
 {
-    Piece1 {
+    SizedItem {
         bytes: ledger.element_length(shard, place),
         came: ledger.came_moment(shard, place),
         arrival: arrival(ledger, shard, place),

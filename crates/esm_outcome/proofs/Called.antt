@@ -15,8 +15,8 @@ use Rattle.esm_model.specs.Owed.{Settled}
 use Rattle.esm_model.proofs.Lists.{In}
 use Rattle.esm_model.proofs.Records.{covered_running}
 use Rattle.esm_model.proofs.Paid.{running_front}
-use Rattle.esm_tables.specs.LaneSteps.{IsGroupOf}
-use Rattle.esm_tables.specs.WindowsLaws.{closing_of}
+use Rattle.esm_shard_index.specs.LaneSteps.{IsGroupOf}
+use Rattle.esm_shard_index.specs.WindowsLaws.{closing_of}
 use Rattle.esm_ledger.specs.declared.ledger.Ledger.{Ledger}
 use Rattle.esm_ledger.specs.Ledger.{past_of, setting_of, Keeps}
 use Rattle.esm_ledger.specs.Reading.{IsLaneSettled}

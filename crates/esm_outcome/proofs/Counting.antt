@@ -10,9 +10,9 @@ use Rattle.esm_model.specs.declared.entry.WindowState.{WindowState}
 use Rattle.esm_model.specs.declared.verdict.Rest.{Rest}
 use Rattle.esm_model.specs.declared.verdict.Rest.TheVariants as rest
 use Rattle.esm_model.specs.Entries.{last_call, is_running}
-use Rattle.esm_tables.specs.LaneView.{lane_in}
-use Rattle.esm_tables.specs.WindowEntries.{has_entry}
-use Rattle.esm_tables.specs.WindowsLaws.{closing_of}
+use Rattle.esm_shard_index.specs.LaneView.{lane_in}
+use Rattle.esm_shard_index.specs.WindowEntries.{has_entry}
+use Rattle.esm_shard_index.specs.WindowsLaws.{closing_of}
 use Rattle.esm_ledger.specs.declared.ledger.Ledger.{Ledger}
 use Rattle.esm_ledger.specs.declared.shard.ShardLedger.{ShardLedger}
 use Rattle.esm_ledger.specs.Shard.{closing_in}

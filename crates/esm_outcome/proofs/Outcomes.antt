@@ -15,7 +15,7 @@ use Rattle.esm_model.specs.FailureLine.{failure_line}
 use Rattle.esm_model.specs.Tries.{tries_for, verdict_after}
 use Rattle.esm_model.specs.Windows.{has_windows}
 use Rattle.esm_model.specs.Owed.{state_in_reply, owed}
-use Rattle.esm_tables.specs.WindowsLaws.{closing_of}
+use Rattle.esm_shard_index.specs.WindowsLaws.{closing_of}
 use Rattle.esm_ledger.specs.declared.ledger.Ledger.{Ledger}
 use Rattle.esm_ledger.specs.Ledger.{past_of, setting_of, LegalOver, Keeps}
 use Rattle.esm_outcome.specs.declared.outcome.Due.{Due}

@@ -15,7 +15,7 @@ use Rattle.esm_model.specs.State.{span_bytes}
 use Rattle.esm_model.specs.Ruling.{capped_tries}
 use Rattle.esm_model.specs.Windows.{has_windows}
 use Rattle.esm_model.specs.Calls.{window_of_call}
-use Rattle.esm_tables.specs.WindowsLaws.{closing_of}
+use Rattle.esm_shard_index.specs.WindowsLaws.{closing_of}
 use Rattle.esm_ledger.specs.declared.ledger.Ledger.{Ledger}
 use Rattle.esm_ledger.specs.Ledger.{past_of}
 use Rattle.esm_outcome.specs.declared.outcome.Due.{Due}

@@ -4,7 +4,7 @@ use Rattle.esm_model.specs.declared.lane.LaneId.{LaneId}
 use Rattle.esm_model.specs.declared.entry.Entry.{Entry}
 use Rattle.esm_model.specs.declared.entry.Fate.{Fate}
 use Rattle.esm_model.specs.declared.entry.Fate.TheVariants.{Expired}
-use Rattle.esm_tables.specs.WindowEntries.{has_entry}
+use Rattle.esm_shard_index.specs.WindowEntries.{has_entry}
 use Rattle.esm_ledger.specs.declared.ledger.Ledger.{Ledger}
 use Rattle.esm_ledger.specs.declared.shard.ShardLedger.{ShardLedger}
 use Rattle.esm_ledger.specs.Ledger.{past_of, IsAt, Keeps, HasState, IsClosingPrepared}

@@ -4,7 +4,7 @@ ghost use Rattle.std.specs.Option.{option_or};
 ghost use Rattle.esm_model.specs.declared.moment.TheConstants.{MAX_MOMENT};
 ghost use Rattle.esm_model.specs.declared.entry.Entry.{Entry};
 ghost use Rattle.esm_model.specs.Entries.{last_moment, last_call, is_running};
-ghost use Rattle.esm_tables.specs.WindowsLaws.{closing_of};
+ghost use Rattle.esm_shard_index.specs.WindowsLaws.{closing_of};
 ghost use Rattle.esm_ledger.specs.Ledger.{past_of, setting_of, Keeps};
 ghost use Rattle.esm_outcome.specs.Dues.{due_entry, given_count, window_given};
 ghost use Rattle.esm_outcome.specs.Ending.{AreValidRecords, SettledOver, IsVerdictOver, AreOwedOver, MaySettle};

@@ -11,9 +11,9 @@ use Rattle.esm_model.specs.declared.book.Change.{Change}
 use Rattle.esm_model.specs.declared.setup.Setup.{Setup}
 use Rattle.esm_model.specs.declared.setup.Told.{Told}
 use Rattle.esm_model.specs.Kept.{added}
-use Rattle.esm_record.specs.declared.item.Item.{Item}
-use Rattle.esm_pooled.specs.GoingOn.{change_told}
-use Rattle.esm_pooled.specs.Coming.{is_of, items_of, Come, SomeCome, FitBehind}
+use Rattle.esm_model.specs.declared.item.Item.{Item}
+use Rattle.esm_model.specs.GoingOn.{change_told}
+use Rattle.esm_model.specs.Coming.{is_of, items_of, Come, SomeCome, FitBehind}
 use Rattle.esm_pool.specs.declared.coming.Stop.{Stop}
 use Rattle.esm_pool.specs.declared.coming.Stop.TheVariants.{Down, Spent, OutOfMemory}
 use Rattle.esm_pool.specs.Readings.{IsStopFor, stop_of}

@@ -11,16 +11,16 @@ use Rattle.esm_model.specs.declared.setup.Setup.{Setup}
 use Rattle.esm_model.specs.declared.setup.Told.{Told}
 use Rattle.esm_model.specs.Books.{entries_told}
 use Rattle.esm_model.specs.Entries.{is_shut}
-use Rattle.esm_record.specs.declared.item.Item.{Item}
-use Rattle.esm_record.specs.declared.item.LineKind.{LineKind}
-use Rattle.esm_record.specs.declared.item.LineKind.TheVariants as kinds
+use Rattle.esm_model.specs.declared.item.Item.{Item}
+use Rattle.esm_model.specs.declared.item.LineKind.{LineKind}
+use Rattle.esm_model.specs.declared.item.LineKind.TheVariants as kinds
 use Rattle.esm_record.specs.Input.{input_so_far}
 use Rattle.esm_input.specs.Positions.{from_start}
 use Rattle.esm_input.specs.Reading.{InputState, items_read, handed}
 use Rattle.esm_input.specs.declared.ending.InputEnd.{InputEnd}
-use Rattle.esm_pooled.specs.Coming.{items_of, StayAsTheyAre, AreSomeCome}
-use Rattle.esm_pooled.specs.GoingOn.{OthersFollow}
-use Rattle.esm_hands.specs.Shared.{WasRead}
+use Rattle.esm_model.specs.Coming.{items_of, StayAsTheyAre, AreSomeCome}
+use Rattle.esm_model.specs.GoingOn.{OthersFollow}
+use Rattle.esm_workers.specs.Shared.{WasRead}
 use Rattle.esm_pool.specs.declared.running.RunEnd.{RunEnd}
 use Rattle.esm_pool.specs.declared.running.RunEnd.TheVariants.{Finished, Spent, Down}
 use Rattle.esm_pool.specs.Ran.{AllCame, HasLeftOne, EndsSo, CameSo, IsChangeOf, IsCut}

@@ -10,12 +10,12 @@ use Rattle.esm_model.specs.declared.config.Start.{Start}
 use Rattle.esm_model.specs.declared.limits.TheConstants.{MAX_RECORDS}
 use Rattle.esm_model.specs.declared.setup.Setup.{Setup}
 use Rattle.esm_model.specs.declared.setup.Told.{Told}
-use Rattle.esm_record.specs.declared.item.Item.{Item}
-use Rattle.esm_record.specs.declared.item.LineKind.{LineKind}
+use Rattle.esm_model.specs.declared.item.Item.{Item}
+use Rattle.esm_model.specs.declared.item.LineKind.{LineKind}
 use Rattle.esm_input.specs.Positions.{from_start}
 use Rattle.esm_input.specs.Reading.{InputState, IsInput, items_read, handed}
 use Rattle.esm_input.specs.Within.{HandedWithin}
-use Rattle.esm_pooled.specs.Coming.{is_of, items_of, Come, SomeCome, AreCome, AreSomeCome, FitBehind}
+use Rattle.esm_model.specs.Coming.{is_of, items_of, Come, SomeCome, AreCome, AreSomeCome, FitBehind}
 use Rattle.esm_pool.specs.Ran.{IsChangeOf, IsCut}
 use Rattle.esm_pool.specs.Readings.{IsStopFor, IsStopAt, IsStopOf}
 use Rattle.esm_pool.specs.declared.coming.Stop.{Stop}

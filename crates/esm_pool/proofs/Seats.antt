@@ -7,9 +7,9 @@ use Rattle.esm_model.specs.declared.setup.Setup.{Setup}
 use Rattle.esm_model.specs.declared.setup.Told.{Told}
 use Rattle.esm_model.specs.Kept.{Meaning, entries_after, entries_of, IsLegal, MayFollowAll, AllBy, added}
 use Rattle.esm_model.proofs.Growing.{entries-append, none_other, own_after, may_append}
-use Rattle.esm_pooled.specs.GoingOn.{GoesOn, OthersFollow, AllAt, OwnGiven}
+use Rattle.esm_model.specs.GoingOn.{GoesOn, OthersFollow, AllAt, OwnGiven}
 use Rattle.esm_turn.specs.Seats.{TurnView, SeatView}
-use Rattle.esm_batchers.specs.Seated.{IsSeated}
+use Rattle.esm_workers.specs.Seated.{IsSeated}
 
 not_picked : (b : Bool) (e : Told) (rest : List Told) → cond b (e ∷ rest) rest ≡ [] → (b ≡ false) × (rest ≡ [])
 not_picked true e rest is = absurd (cc)

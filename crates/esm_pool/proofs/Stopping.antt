@@ -7,11 +7,11 @@ use Rattle.esm_model.specs.declared.setup.Setup.{Setup}
 use Rattle.esm_model.specs.declared.setup.Told.{Told}
 use Rattle.esm_model.specs.Books.{entries_told}
 use Rattle.esm_model.specs.Entries.{is_shut}
-use Rattle.esm_record.specs.declared.item.Item.{Item}
+use Rattle.esm_model.specs.declared.item.Item.{Item}
 use Rattle.esm_input.specs.Reading.{InputState, handed}
-use Rattle.esm_pooled.specs.Coming.{AreCome}
+use Rattle.esm_model.specs.Coming.{AreCome}
 use Rattle.esm_pool.specs.Ran.{AllCame, IsChangeOf, IsCut}
-use Rattle.esm_pool.specs.Readings.{IsStopAt, IsStopOf, IsReadInPart}
+use Rattle.esm_pool.specs.Readings.{IsStopAt, IsStopOf, IsReadInPart, MayGoOn}
 use Rattle.esm_pool.specs.declared.coming.Stop.{Stop}
 use Rattle.esm_pool.specs.declared.coming.Stop.TheVariants.{Down, Spent, OutOfMemory}
 use Rattle.esm_pool.proofs.Reading.{come_as, cut_as, change_as}
@@ -23,6 +23,14 @@ stop_at_as spent setup setup' h seen mark marked same_setup is is_mark (Ok u) st
 stop_at_as spent setup setup' h seen mark marked same_setup is is_mark (Err Down) stop = is_mark ∙ stop
 stop_at_as spent setup setup' h seen mark marked same_setup is is_mark (Err Spent) stop = subst (λ (z : Setup × List Told). spent z.0 z.1) (λ i. (same_setup i, sym is i)) stop
 stop_at_as spent setup setup' h seen mark marked same_setup is is_mark (Err OutOfMemory) stop = stop
+
+pub goes_on_as : (spent : Setup → List Told → Type 0) (setup setup' : Setup) (h seen : List Told) (mark marked : Bool) → setup ≡ setup' → seen ≡ h → marked ≡ mark
+    → (r : Result (Unit {0}) Stop) → OnOk r (MayGoOn spent setup h mark) → OnOk r (MayGoOn spent setup' seen marked)
+goes_on_as spent setup setup' h seen mark marked same_setup is is_mark (Ok u) up = (
+  is_mark ∙ up.0,
+  λ all. up.1 (subst (λ (z : Setup × List Told). spent z.0 z.1) (λ i. (sym same_setup i, is i)) all),
+)
+goes_on_as spent setup setup' h seen mark marked same_setup is is_mark (Err t) up = tt
 
 module _ {S : Type 0} (left : S → Option (List ℕ)) (items : List Told → ℕ → List Item) (differs : Setup → List Told → List Item → Change → Type 0) (spent : Setup → List Told → Type 0) (setup : Setup) (i : InputState S)
     (seen new : List Told) (marked marked' : Bool) (told told' : Option Change) (same : (n : ℕ) → items new n ≡ items seen n) where

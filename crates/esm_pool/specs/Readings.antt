@@ -5,10 +5,10 @@ use Rattle.esm_model.specs.declared.book.CameError.TheVariants as refusal
 use Rattle.esm_model.specs.declared.book.Change.{Change}
 use Rattle.esm_model.specs.declared.setup.Setup.{Setup}
 use Rattle.esm_model.specs.declared.setup.Told.{Told}
-use Rattle.esm_record.specs.declared.item.Item.{Item}
-use Rattle.esm_record.specs.declared.item.LineKind.{LineKind}
+use Rattle.esm_model.specs.declared.item.Item.{Item}
+use Rattle.esm_model.specs.declared.item.LineKind.{LineKind}
 use Rattle.esm_input.specs.Reading.{InputState, IsInput, handed}
-use Rattle.esm_pooled.specs.Coming.{Come, AreCome, AreSomeCome}
+use Rattle.esm_model.specs.Coming.{Come, AreCome, AreSomeCome}
 use Rattle.esm_pool.specs.Ran.{IsSameInput, AllCame, IsLeftOff, IsChangeOf, IsCut}
 use Rattle.esm_pool.specs.declared.coming.Stop.{Stop}
 use Rattle.esm_pool.specs.declared.coming.Stop.TheVariants.{Down, Spent, OutOfMemory}
@@ -52,6 +52,10 @@ abbrev pub IsStopAt : (spent : Setup → List Told → Type 0) → Setup → (se
 IsStopAt spent setup seen marked Down = marked ≡ true
 IsStopAt spent setup seen marked Spent = spent setup seen
 IsStopAt spent setup seen marked OutOfMemory = ⊥
+
+-- the reader that waits for more goes on: the book is up, and not all calls allowed were made
+abbrev pub MayGoOn : (spent : Setup → List Told → Type 0) → Setup → (seen : List Told) → (marked : Bool) → Type 0
+MayGoOn spent setup seen marked = (marked ≡ false) × (spent setup seen → ⊥)
 
 -- what was read came, and the input, which does not tell its bytes, had not ended, when all calls allowed were made
 pub record HasLeft {S : Type 0} (left : S → Option (List ℕ)) (items : List Told → ℕ → List Item) (spent : Setup → List Told → Type 0) (setup : Setup) (i : InputState S) (seen : List Told) : Type 0 where

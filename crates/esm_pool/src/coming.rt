@@ -4,15 +4,13 @@ ghost use mathlib.Core.List.{IsPrefix};
 ghost use Rattle.esm_model.specs.declared.limits.TheConstants.{MAX_BATCH};
 ghost use Rattle.esm_model.specs.Books.{entries_told};
 ghost use Rattle.esm_model.specs.Entries.{is_shut};
-ghost use Rattle.esm_record.specs.Input.{IsValidItem};
-ghost use Rattle.esm_pooled.specs.Coming.{Come, SomeCome, StayAsTheyAre, FitBehind};
-ghost use Rattle.esm_batchers.specs.Seated.{IsSeated};
-ghost use Rattle.esm_pool.specs.Readings.{IsStopAt, IsStopFor, stop_of};
+ghost use Rattle.esm_model.specs.Items.{IsValidItem};
+ghost use Rattle.esm_model.specs.Coming.{Come, SomeCome, StayAsTheyAre, FitBehind};
+ghost use Rattle.esm_workers.specs.Seated.{IsSeated};
+ghost use Rattle.esm_pool.specs.Readings.{IsStopAt, IsStopFor, MayGoOn, stop_of};
 
 use esm_io::Clock;
-use esm_model::{CameError, MAX_BATCH, OutOfMemory};
-use esm_pooled::Pooled;
-use esm_record::Item;
+use esm_model::{CameError, Item, MAX_BATCH, OutOfMemory, Pooled};
 use esm_turn::{Held, Seat, Turn};
 use std::alloc::Global;
 use std::sync::Wait;
@@ -111,9 +109,11 @@ pub(crate) fn hand_on<R: Wait, B: Pooled, C: Clock>(
     note(rt, alloc, turn, seat, rest, clock)
 }
 
-/// Why the reader that waits for more hands on no more: the book is down, or all calls allowed were made.
+/// Why the reader that waits for more hands on no more: the book is down, or all calls allowed were made. Where neither is so
+/// it goes on.
 fn stop_at<B: Pooled>(book: &B) -> Result<(), Stop>
-    ensures { IfErr result (IsStopAt B.spent (B.setup book.now) (B.history book.now) (B.mark book.now)) }
+    ensures stop { IfErr result (IsStopAt B.spent (B.setup book.now) (B.history book.now) (B.mark book.now)) }
+    ensures goes_on { OnOk result (MayGoOn B.spent (B.setup book.now) (B.history book.now) (B.mark book.now)) }
 {
     if book.marked() {
         return Err(Stop::Down);
@@ -124,7 +124,7 @@ fn stop_at<B: Pooled>(book: &B) -> Result<(), Stop>
     Ok(())
 }
 
-/// Looks whether the reader that waits for more goes on.
+/// Looks whether the reader that waits for more goes on: the book is up, and not all calls allowed were made.
 pub(crate) fn look<R: Wait, B: Pooled, C: Clock>(
     rt: &R,
     turn: &Turn<B>,
@@ -138,6 +138,7 @@ pub(crate) fn look<R: Wait, B: Pooled, C: Clock>(
     ensures same { StayAsTheyAre (B.items seat.old.seen) (B.items seat.new.seen) }
     ensures unchanged { seat.new.change ≡ seat.old.change }
     ensures stop { IfErr result (IsStopAt B.spent turn.now.setup seat.new.seen seat.new.mark) }
+    ensures goes_on { OnOk result (MayGoOn B.spent turn.now.setup seat.new.seen seat.new.mark) }
 {
     B::stays();
     let Held { value } = turn.take(rt, seat);

@@ -3,19 +3,18 @@ ghost use Rattle.std.specs.Prelude.{◌≡◌, [], None, false, IfErr, OnOk, OnE
 ghost use Rattle.esm_model.specs.Books.{entries_told};
 ghost use Rattle.esm_model.specs.Entries.{is_shut};
 ghost use Rattle.esm_input.specs.Reading.{IsInput, handed};
-ghost use Rattle.esm_pooled.specs.Coming.{AreCome, AreSomeCome};
-ghost use Rattle.esm_batchers.specs.Seated.{IsSeated};
+ghost use Rattle.esm_model.specs.Coming.{AreCome, AreSomeCome};
+ghost use Rattle.esm_workers.specs.Seated.{IsSeated};
 ghost use Rattle.esm_pool.specs.Ran.{IsSameInput};
 ghost use Rattle.esm_pool.specs.Readings.{IsStopOf};
 
 use crate::coming::{Stop, hand_on, look, note_end};
-use esm_hands::Reading;
 use esm_input::Input;
 use esm_input::laws::handed_is_within;
 use esm_io::{Clock, Source};
-use esm_model::OutOfMemory;
-use esm_pooled::Pooled;
+use esm_model::{OutOfMemory, Pooled};
 use esm_turn::{Seat, Turn};
+use esm_workers::Reading;
 use std::alloc::Global;
 use std::sync::Wait;
 
@@ -99,7 +98,8 @@ impl<B: Pooled, S: Source> Reading<B> for Reader<S> {
 
     ghost ready = { λ setup r. IsUnread (B.kind setup) r.input };
 
-    ghost read = { λ setup before after seen marked told short. HasRead S.faults S.left B.items B.differs B.spent setup before.input after.input seen marked told short };
+    ghost read = { λ setup before after seen marked told short.
+        HasRead S.faults S.left B.items B.differs B.spent setup before.input after.input seen marked told short };
 
     fn read_all<R: Wait, C: Clock>(
         &mut self,

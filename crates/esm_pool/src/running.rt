@@ -6,17 +6,16 @@ ghost use Rattle.esm_model.specs.Books.{entries_told};
 ghost use Rattle.esm_model.specs.Entries.{is_shut};
 ghost use Rattle.esm_model.specs.Kept.{IsLegal};
 ghost use Rattle.esm_input.specs.Reading.{IsInput};
-ghost use Rattle.esm_pooled.specs.GoingOn.{AllGiven, OwnFollowShut};
-ghost use Rattle.esm_batchers.specs.Working.{outside};
-ghost use Rattle.esm_hands.specs.Shared.{HaveCalled};
+ghost use Rattle.esm_model.specs.GoingOn.{AllGiven, OwnFollowShut};
+ghost use Rattle.esm_workers.specs.Working.{outside};
+ghost use Rattle.esm_workers.specs.Shared.{HaveCalled};
 ghost use Rattle.esm_pool.specs.Ran.{IsSameInput, HasLeftOne, CameSo, EndsSo, IsChangeOf, IsCut};
 
 use crate::reader::Reader;
-use esm_hands::run_hands;
 use esm_input::Input;
 use esm_io::{Caller, Clock, Source};
-use esm_model::OutOfMemory;
-use esm_pooled::Pooled;
+use esm_model::{OutOfMemory, Pooled};
+use esm_workers::run_hands;
 use std::alloc::Global;
 use std::sync::Wait;
 use std::thread::Threads;
@@ -26,7 +25,7 @@ use std::thread::Threads;
 pub enum RunEnd {
     /// The input has ended, and nothing is left for any batcher.
     Finished,
-    /// All calls allowed were made, and something is left, or the input had not ended.
+    /// All calls allowed were made, and something is left, or the input, which does not tell its bytes, had not ended.
     Spent,
     /// The book is down; it tells why.
     Down,
@@ -46,8 +45,10 @@ fn end_of<B: Pooled>(book: &B, batchers: u32, left_off: bool) -> Result<RunEnd, 
     requires batchers { (0 < batchers) × (batchers ≤ MAX_LANES) }
     requires shut { B.mark book.now ≡ false → is_shut (entries_told (B.history book.now)) ≡ true }
     requires rests { (k : ℕ) → B.rests (B.setup book.now) (B.history book.now) k }
-    ensures finished { result ≡ Ok RunEnd.Finished → (left_off ≡ false) × (B.mark book.now ≡ false) × ((k : ℕ) → k < batchers → B.finished (B.setup book.now) (B.history book.now) k) }
-    ensures spent { result ≡ Ok RunEnd.Spent → (B.mark book.now ≡ false) × (HasLeftOne B.left (B.setup book.now) (B.history book.now) batchers ⊎ (left_off ≡ true)) }
+    ensures finished { result ≡ Ok RunEnd.Finished → (left_off ≡ false) × (B.mark book.now ≡ false) ×
+        ((k : ℕ) → k < batchers → B.finished (B.setup book.now) (B.history book.now) k) }
+    ensures spent { result ≡ Ok RunEnd.Spent → (B.mark book.now ≡ false) ×
+        (HasLeftOne B.left (B.setup book.now) (B.history book.now) batchers ⊎ (left_off ≡ true)) }
     ensures down { result ≡ Ok RunEnd.Down → B.mark book.now ≡ true }
 {
     if book.marked() {
@@ -66,8 +67,8 @@ fn end_of<B: Pooled>(book: &B, batchers: u32, left_off: bool) -> Result<RunEnd, 
 /// Reads the input and hands its items to the book, in lists of at most 10,000, and has so many batchers call, caller `k` for
 /// batcher `k`, all as threads; with `read_first` the batchers begin once the input was read. The run ends when nothing is
 /// left, when all calls allowed were made, or when the book is down. Where all calls allowed were made while more is awaited of
-/// an input that does not tell its bytes, its end is noted and nothing more is read. `name` is the function's. Want of memory ends the run at any
-/// point.
+/// an input that does not tell its bytes, its end is noted and nothing more is read. `name` is the function's. Want of memory
+/// ends the run at any point.
 pub fn run_book<
     R: Threads + Wait + Sync,
     B: Pooled + Send,
@@ -96,13 +97,15 @@ pub fn run_book<
     ensures setup { B.setup result.book ≡ B.setup book }
     ensures legal { IsLegal (B.may_follow (B.setup book)) (B.history result.book) }
     ensures moments { AllGiven C.gave [] (B.history result.book) }
-    ensures called { HaveCalled B.calls B.rests B.runs (outside C.gave F.sends F.log) (B.setup book) (B.history result.book) (is_err result.end) batchers callers.items result.callers.items }
+    ensures called { HaveCalled B.calls B.rests B.runs (outside C.gave F.sends F.log) (B.setup book) (B.history result.book)
+        (is_err result.end) batchers callers.items result.callers.items }
     ensures later { read_first ≡ true → (k : ℕ) → OwnFollowShut (B.author (B.setup book)) (k + 1) [] (B.history result.book) }
     // How it ended, and what came of the input.
     ensures ended { IfOk result.end (EndsSo B.finished B.spent (B.setup book) (B.history result.book) (B.mark result.book) batchers) }
     ensures left { result.end ≡ Ok RunEnd.Spent → HasLeftOne B.left (B.setup book) (B.history result.book) batchers ⊎ (result.input.end ≡ None) }
     ensures came { IfOk result.end (CameSo S.left result.input (B.items (B.history result.book)) (B.history result.book)) }
-    ensures changed { OnOk result.end ((change : Change) → B.change result.book ≡ Some change → IsChangeOf B.items B.differs (B.setup book) (B.history result.book) result.input change) }
+    ensures changed { OnOk result.end ((change : Change) → B.change result.book ≡ Some change →
+        IsChangeOf B.items B.differs (B.setup book) (B.history result.book) result.input change) }
     ensures read { OnOk result.end (IsInput S.faults S.left result.input) }
     ensures good { OnOk result.end (result.input.failed ≡ false) }
     ensures cut { OnErr result.end (IsCut S.left result.input (B.items (B.history result.book))) }
@@ -116,7 +119,7 @@ pub fn run_book<
         rt, alloc, book, reader, callers, batchers, name, clock, read_first,
     ) {
         Ok(left) => {
-            let esm_hands::Ran {
+            let esm_workers::Ran {
                 book,
                 reader,
                 callers,

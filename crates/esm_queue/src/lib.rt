@@ -8,9 +8,10 @@ mod fifo;
 mod groups;
 mod links;
 mod marking;
-mod moment_tree;
+pub mod moment_tree;
 mod names;
 mod queue;
 mod timeline;
 
+pub use marking::moment_after;
 pub use queue::Queue;

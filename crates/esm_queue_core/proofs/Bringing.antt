@@ -9,9 +9,9 @@ use Rattle.esm_model.specs.declared.item.Message.{Message}
 use Rattle.esm_model.specs.declared.setup.FoundDeletion.{FoundDeletion}
 use Rattle.esm_model.specs.Entries.{holds}
 use Rattle.esm_model.specs.Moment.{capped_moment}
-use Rattle.esm_said.specs.declared.kept.KeptFate.{KeptFate}
-use Rattle.esm_said.specs.SaidLists.{SaidLists, deletion_told}
-use Rattle.esm_said.specs.Tells.{deletion_of_found}
+use Rattle.esm_journal_state.specs.declared.kept.KeptFate.{KeptFate}
+use Rattle.esm_journal_state.specs.SaidLists.{SaidLists, deletion_told}
+use Rattle.esm_journal_state.specs.Tells.{deletion_of_found}
 use Rattle.esm_queue_model.specs.declared.stored.Stored.{Stored}
 use Rattle.esm_queue_model.specs.Queue.{QueueState, arrived, changed_from, deleted_once, after_arrival, after_deletion}
 use Rattle.esm_queue_model.specs.QueueSetting.{QueueSetting, is_found}

@@ -16,7 +16,7 @@ use Rattle.esm_model.specs.ValidMessage.{IsValidMessage}
 use Rattle.esm_book.specs.Decided.{IsRefused}
 use Rattle.esm_book.specs.declared.error.Refusal.TheVariants as refusal
 use Rattle.esm_queue.specs.Held.{Held}
-use Rattle.esm_said.specs.SaidLists.{SaidLists}
+use Rattle.esm_journal_state.specs.SaidLists.{SaidLists}
 use Rattle.esm_queue_model.specs.declared.stored.Stored.{Stored}
 use Rattle.esm_queue_model.specs.QueueSetting.{QueueSetting}
 use Rattle.esm_queue_core.specs.declared.owed.First.TheVariants.{Came}

@@ -21,7 +21,7 @@ use Rattle.esm_model.specs.declared.entry.Reply.TheVariants.{Answered, Garbled, 
 use Rattle.esm_model.specs.declared.entry.Fate.TheVariants.{Succeeded}
 use Rattle.esm_model.specs.declared.entry.Entry.{Entry}
 use Rattle.esm_model.specs.declared.verdict.QueueReading.{QueueReading}
-use Rattle.esm_payload.specs.EntryPayload.{ids_at}
+use Rattle.esm_journal_record.specs.EntryPayload.{ids_at}
 use Rattle.esm_queue.specs.Held.{Held}
 use Rattle.esm_queue_model.specs.declared.stored.Stored.{Stored}
 use Rattle.esm_queue_model.specs.Queue.{QueueState, is_deleted_at}

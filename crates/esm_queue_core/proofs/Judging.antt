@@ -8,9 +8,9 @@ use Rattle.esm_model.specs.declared.setup.FoundDeletion.{FoundDeletion}
 use Rattle.esm_model.specs.Filter.{patterns_pass, in_message, passes_message}
 use Rattle.esm_filter.specs.Criteria.{patterns_of}
 use Rattle.esm_filter.specs.declared.criteria.Criteria.{Criteria}
-use Rattle.esm_said.specs.declared.kept.KeptFate.{KeptFate}
-use Rattle.esm_said.specs.SaidLists.{SaidLists, deletion_told}
-use Rattle.esm_said.specs.Tells.{deletion_of_found}
+use Rattle.esm_journal_state.specs.declared.kept.KeptFate.{KeptFate}
+use Rattle.esm_journal_state.specs.SaidLists.{SaidLists, deletion_told}
+use Rattle.esm_journal_state.specs.Tells.{deletion_of_found}
 use Rattle.esm_queue_model.specs.QueueSetting.{QueueSetting, is_found}
 use Rattle.esm_queue_core.specs.Coming.{is_refused_at, refused_from}
 use Rattle.esm_queue_core.specs.Judged.{IsJudgedBy}

@@ -21,9 +21,9 @@ use Rattle.esm_model.specs.Entries.{holds, last_call, batch_of}
 use Rattle.esm_model.specs.Fates.{below}
 use Rattle.esm_model.specs.Batches.{longest}
 use Rattle.esm_model.specs.ValidMessage.{IsValidMessage, is_message_id}
-use Rattle.esm_payload.specs.declared.said.Said.TheVariants.{Deleted}
-use Rattle.esm_payload.specs.Payload.{eight, four, name_bytes, names_bytes, named_bytes, payload_of, rises_from, is_place, is_deletion, IsSaid}
-use Rattle.esm_payload.specs.EntryPayload.{ids_at}
+use Rattle.esm_journal_record.specs.declared.said.Said.TheVariants.{Deleted}
+use Rattle.esm_journal_record.specs.Payload.{eight, four, name_bytes, names_bytes, named_bytes, payload_of, rises_from, is_place, is_deletion, IsSaid}
+use Rattle.esm_journal_record.specs.EntryPayload.{ids_at}
 use Rattle.esm_queue.proofs.Fronts.{Rises, Rises-take, Rises-filter_below}
 use Rattle.esm_queue_model.specs.Queue.{eligible, is_eligible}
 use Rattle.esm_queue_model.specs.QueueSetting.{QueueSetting}

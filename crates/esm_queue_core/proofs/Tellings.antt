@@ -11,9 +11,9 @@ use Rattle.esm_model.specs.declared.entry.Fate.TheVariants.{Succeeded, Filtered,
 use Rattle.esm_model.specs.declared.entry.Entry.{Entry}
 use Rattle.esm_model.specs.declared.entry.Entry.TheVariants.{Came, Began, Ended, Gave, Tried, Closed, Replayed, Shut}
 use Rattle.esm_model.specs.Entries.{came_count}
-use Rattle.esm_payload.specs.Payload.{payload_of}
-use Rattle.esm_payload.specs.declared.said.Said.TheVariants.{Deleted}
-use Rattle.esm_payload.specs.EntryPayload.{ids_at, queue_payload}
+use Rattle.esm_journal_record.specs.Payload.{payload_of}
+use Rattle.esm_journal_record.specs.declared.said.Said.TheVariants.{Deleted}
+use Rattle.esm_journal_record.specs.EntryPayload.{ids_at, queue_payload}
 use Rattle.esm_book.specs.Decided.{written_of}
 use Rattle.esm_queue_model.specs.QueueSetting.{QueueSetting, over_messages}
 use Rattle.esm_queue_model.specs.QueueEntries.{queue_count}

@@ -8,7 +8,7 @@ use Rattle.std.proofs.lemmas.List.Elements.{filter_map-append}
 use Rattle.std.proofs.lemmas.Bool.{cases_lt, or_left, or_from, eq-eqb, ne_eqb}
 use Rattle.esm_model.specs.declared.item.Message.{Message}
 use Rattle.esm_model.specs.Entries.{holds}
-use Rattle.esm_payload.specs.EntryPayload.{ids_at}
+use Rattle.esm_journal_record.specs.EntryPayload.{ids_at}
 use Rattle.esm_queue_model.specs.QueueStep.{not_failed}
 use Rattle.esm_queue_core.specs.Kept.{IsRisingFrom}
 

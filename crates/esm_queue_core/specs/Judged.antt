@@ -3,7 +3,7 @@ use Rattle.std.specs.Prelude.{◌≡◌, false}
 use Rattle.esm_model.specs.Valid.{is_stream}
 use Rattle.esm_filter.specs.Criteria.{JudgesMessages}
 use Rattle.esm_filter.specs.declared.criteria.Criteria.{Criteria}
-use Rattle.esm_said.specs.SaidLists.{SaidLists}
+use Rattle.esm_journal_state.specs.SaidLists.{SaidLists}
 use Rattle.esm_queue_model.specs.QueueSetting.{QueueSetting}
 
 -- the setting has the deletions that were told, and the criteria are those of its filters

@@ -21,9 +21,9 @@ use Rattle.esm_filter.specs.Criteria.{JudgesMessages}
 use Rattle.esm_filter.specs.declared.criteria.Criteria.{Criteria}
 use Rattle.esm_model.specs.declared.config.Config.{Config}
 use Rattle.esm_model.specs.declared.setup.FoundDeletion.{FoundDeletion}
-use Rattle.esm_payload.specs.declared.said.Said.TheVariants.{Deleted}
-use Rattle.esm_payload.specs.EntryPayload.{ids_at, queue_payload}
-use Rattle.esm_payload.specs.Payload.{IsSaid}
+use Rattle.esm_journal_record.specs.declared.said.Said.TheVariants.{Deleted}
+use Rattle.esm_journal_record.specs.EntryPayload.{ids_at, queue_payload}
+use Rattle.esm_journal_record.specs.Payload.{IsSaid}
 use Rattle.esm_queue.specs.Held.{Held}
 use Rattle.esm_queue_model.specs.declared.stored.Stored.{Stored}
 use Rattle.esm_queue_model.specs.Queue.{QueueState, receivable}

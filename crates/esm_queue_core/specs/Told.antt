@@ -12,7 +12,7 @@ use Rattle.esm_model.specs.declared.setup.FoundDeletion.{FoundDeletion}
 use Rattle.esm_model.specs.declared.setup.Told.{Told}
 use Rattle.esm_model.specs.Entries.{is_shut, is_running}
 use Rattle.esm_model.specs.ValidMessage.{IsValidMessage}
-use Rattle.esm_payload.specs.EntryPayload.{queue_payload}
+use Rattle.esm_journal_record.specs.EntryPayload.{queue_payload}
 use Rattle.esm_queue_model.specs.QueueEntries.{queue_lane}
 use Rattle.esm_queue_core.specs.declared.decisions.Opened.{Opened}
 use Rattle.esm_queue_core.specs.declared.decisions.QueueEntry.{QueueEntry}

@@ -5,8 +5,8 @@ ghost use Rattle.esm_queue_core.specs.Coming.{is_refused_at, refused_from, has_c
 ghost use Rattle.esm_queue_core.specs.Judged.{IsJudgedBy};
 
 use esm_filter::Criteria;
+use esm_journal_state::Says;
 use esm_model::{Change, Message, OutOfMemory};
-use esm_said::Says;
 use std::alloc::Global;
 
 /// Whether the message that comes at the place fails the filter and was not found deleted.

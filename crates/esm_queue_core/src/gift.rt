@@ -1,12 +1,12 @@
 // A deletion that is owed.
 ghost use Rattle.std.specs.Prelude.{◌≡◌, ◌+◌, ◌<◌, ◌≤◌, ◌++◌, [], Some, All, IfOk, length, slice_get};
-ghost use Rattle.esm_payload.specs.EntryPayload.{ids_at};
+ghost use Rattle.esm_journal_record.specs.EntryPayload.{ids_at};
 ghost use Rattle.esm_queue_core.specs.Kept.{messages_stored, IsGift, MayBeGiven, gift_entries};
 ghost use Rattle.esm_queue_core.specs.Coming.{gave_entries};
 
 use crate::owed::Gift;
+use esm_journal_record::{Said, said_bytes};
 use esm_model::{Fate, LaneId, Message, OutOfMemory, Places, Text, Texts};
-use esm_payload::{Said, said_bytes};
 use esm_queue::Queue;
 use std::alloc::Global;
 

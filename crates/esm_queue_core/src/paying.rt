@@ -7,9 +7,9 @@ ghost use Rattle.esm_queue_model.specs.QueueEntries.{coming_from};
 ghost use Rattle.esm_queue_core.specs.Next.{deleted_number};
 ghost use Rattle.esm_queue_core.specs.Kept.{one_coming};
 
+use esm_journal_state::Says;
 use esm_model::Message;
 use esm_queue::Queue;
-use esm_said::Says;
 use std::alloc::Global;
 
 /// A message comes, in room that is there: whether it was found deleted, and is deleted then.

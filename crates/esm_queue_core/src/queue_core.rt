@@ -10,7 +10,7 @@ ghost use Rattle.esm_model.specs.declared.entry.Entry.{Entry};
 ghost use Rattle.esm_model.specs.Entries.{is_shut, is_running, calls_begun, last_moment};
 ghost use Rattle.esm_filter.specs.Criteria.{JudgesMessages};
 ghost use Rattle.esm_book.specs.Decided.{written_of, lengths_of, IsRefused};
-ghost use Rattle.esm_payload.specs.EntryPayload.{queue_payload};
+ghost use Rattle.esm_journal_record.specs.EntryPayload.{queue_payload};
 ghost use Rattle.esm_queue_model.specs.QueueSetting.{is_fifo};
 ghost use Rattle.esm_queue_model.specs.QueueEntries.{queue_lane};
 ghost use Rattle.esm_queue_model.specs.QueueStep.{LegalQueue};
@@ -31,12 +31,12 @@ use crate::paying::{bring, delete_all};
 use crate::standing::Standing;
 use esm_book::Refusal;
 use esm_filter::Criteria;
+use esm_journal_state::Says;
 use esm_model::{
     Config, Entry, Fate, Job, Kind, MAX_ENTRIES, MAX_MOMENT, Message, Next, OutOfMemory, PastReply,
     Reply,
 };
 use esm_queue::Queue;
-use esm_said::Says;
 use esm_verdict::read_queue;
 use std::alloc::Global;
 use std::marker::Model;

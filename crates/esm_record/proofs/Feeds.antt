@@ -1,7 +1,7 @@
 -- What a reader was fed, seen from the call that goes on with it.
 use Rattle.std.proofs.Common.{ℕ, List, [], refl, sym}
 use Rattle.std.proofs.lemmas.List.{append-nil}
-use Rattle.esm_record.specs.declared.item.Item.{Item}
+use Rattle.esm_model.specs.declared.item.Item.{Item}
 use Rattle.esm_record.specs.declared.splitter.Splitter.{Splitter}
 use Rattle.esm_record.specs.Splitting.{HasRead, IsFed}
 use Rattle.esm_record.specs.Input.{input_so_far}

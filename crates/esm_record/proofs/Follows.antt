@@ -9,8 +9,8 @@ use Rattle.esm_model.specs.declared.item.Message.{Message}
 use Rattle.esm_record.specs.declared.error.LineError.{LineError}
 use Rattle.esm_record.specs.declared.error.Refusal.{Refusal}
 use Rattle.esm_record.specs.declared.error.Refusal.TheVariants as refusal
-use Rattle.esm_record.specs.declared.item.Item.{Item}
-use Rattle.esm_record.specs.declared.item.Item.TheVariants.{Stream, Queue}
+use Rattle.esm_model.specs.declared.item.Item.{Item}
+use Rattle.esm_model.specs.declared.item.Item.TheVariants.{Stream, Queue}
 use Rattle.esm_record.specs.declared.seen.Seen.{Seen}
 use Rattle.esm_record.specs.Gives.{Fails}
 use Rattle.esm_record.specs.Line.{◌>>=◌, line_of, record_of, message_of}

@@ -4,7 +4,7 @@ use Rattle.std.specs.Prelude.{fold}
 use Rattle.std.proofs.lemmas.List.{append-nil}
 use Rattle.std.proofs.lemmas.List.Sums.{fold-append}
 use Rattle.esm_record.specs.declared.error.BadLine.{BadLine}
-use Rattle.esm_record.specs.declared.item.LineKind.{LineKind}
+use Rattle.esm_model.specs.declared.item.LineKind.{LineKind}
 use Rattle.esm_record.specs.Input.{Input, nothing_read, add_line, read_lines, lines_of, ended, begun, input_so_far, input_of}
 use Rattle.esm_record.proofs.Splits.{settled, goes_on, long_goes_on, still_long, after_first, lines_are}
 

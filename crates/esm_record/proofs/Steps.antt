@@ -6,8 +6,8 @@ use Rattle.std.proofs.lemmas.Bool.Decides.{nat_tests}
 use Rattle.esm_record.specs.declared.error.LineError.{LineError}
 use Rattle.esm_record.specs.declared.error.LineError.TheVariants.{LineTooLong}
 use Rattle.esm_record.specs.declared.error.BadLine.{BadLine}
-use Rattle.esm_record.specs.declared.item.LineKind.{LineKind}
-use Rattle.esm_record.specs.declared.item.Item.{Item}
+use Rattle.esm_model.specs.declared.item.LineKind.{LineKind}
+use Rattle.esm_model.specs.declared.item.Item.{Item}
 use Rattle.esm_record.specs.declared.splitter.Splitter.{Splitter}
 use Rattle.esm_record.specs.Seen.{Follows}
 use Rattle.esm_record.specs.Splitting.{Stands, HasRead, NoLineFeed, IsFirstLine}

@@ -26,12 +26,13 @@ use Rattle.esm_record.specs.declared.error.Field.{Field}
 use Rattle.esm_record.specs.declared.error.Field.TheVariants as field
 use Rattle.esm_record.specs.declared.error.LineError.{LineError}
 use Rattle.esm_record.specs.declared.error.LineError.TheVariants.{NotJson, BadField, Backwards, LineTooLong}
-use Rattle.esm_record.specs.declared.item.LineKind.{LineKind}
-use Rattle.esm_record.specs.declared.item.LineKind.TheVariants as kinds
-use Rattle.esm_record.specs.declared.item.Item.{Item}
-use Rattle.esm_record.specs.declared.item.Item.TheVariants.{Stream, Queue}
+use Rattle.esm_model.specs.declared.item.LineKind.{LineKind}
+use Rattle.esm_model.specs.declared.item.LineKind.TheVariants as kinds
+use Rattle.esm_model.specs.declared.item.Item.{Item}
+use Rattle.esm_model.specs.declared.item.Item.TheVariants.{Stream, Queue}
 use Rattle.esm_record.specs.Line.{◌>>=◌, only_if, is_shard_id, shard_number, sequence_number, partition_key, payload_within, payload, moment_within, moment, of_text, judged, name_of, field_of, object_of, record_of, message_id, message_body, message_group, some_group, group_of, message_of, line_of}
-use Rattle.esm_record.specs.Input.{is_blank, in_order, next_record, as_new, next_message, has_stood, some_item, item_of, queue_kind, read_after, last_number, Input, nothing_read, after_line, add_line, read_lines, lines_of, ended, begun, too_long, input_so_far, input_of, IsValidItem}
+use Rattle.esm_model.specs.Items.{queue_kind, IsValidItem}
+use Rattle.esm_record.specs.Input.{is_blank, in_order, next_record, as_new, next_message, has_stood, some_item, item_of, read_after, last_number, Input, nothing_read, after_line, add_line, read_lines, lines_of, ended, begun, too_long, input_so_far, input_of}
 use Rattle.esm_record.proofs.Digits.{all_digits}
 
 bind_ok : {A B : Type 0} (x : Result A LineError) (f : A → Result B LineError) (y : B) → (x >>= f) ≡ Ok y → (a : A) × (x ≡ Ok a) × (f a ≡ Ok y)

@@ -4,8 +4,8 @@ use Rattle.std.specs.Prelude.{is_some, IsSome}
 use Rattle.std.proofs.lemmas.List.{append-nil}
 use Rattle.esm_record.specs.declared.error.LineError.{LineError}
 use Rattle.esm_record.specs.declared.error.BadLine.{BadLine}
-use Rattle.esm_record.specs.declared.item.LineKind.{LineKind}
-use Rattle.esm_record.specs.declared.item.Item.{Item}
+use Rattle.esm_model.specs.declared.item.LineKind.{LineKind}
+use Rattle.esm_model.specs.declared.item.Item.{Item}
 use Rattle.esm_record.specs.Input.{Input, add_line, after_line, read_after, read_lines, lines_of, ended, begun, input_so_far, input_of}
 use Rattle.esm_record.specs.GoesOn.{GoesOnFrom}
 use Rattle.esm_record.proofs.Splits.{lines_are}

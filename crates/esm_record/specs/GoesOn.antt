@@ -1,7 +1,7 @@
 -- How an input goes on after what has been read of it. Source: JSON Lines; that nothing is read behind the first bad
 -- line is this product's own.
 use Rattle.std.specs.Prelude.{◌≡◌, List, ◌++◌, IsSome}
-use Rattle.esm_record.specs.declared.item.Item.{Item}
+use Rattle.esm_model.specs.declared.item.Item.{Item}
 use Rattle.esm_record.specs.Input.{Input}
 
 -- the items so far are a front of the later ones, and behind a bad line nothing is read

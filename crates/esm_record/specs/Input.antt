@@ -7,19 +7,15 @@ use Rattle.std.specs.Str.{bytes_eq}
 use Rattle.std.specs.Ordering.{is_lt}
 use Rattle.esm_model.specs.declared.limits.TheConstants.{MAX_LINE}
 use Rattle.esm_model.specs.Sequence.{sequence_order}
-use Rattle.esm_model.specs.Valid.{IsValidRecord}
-use Rattle.esm_model.specs.ValidMessage.{IsValidMessage}
-use Rattle.esm_model.specs.declared.config.Kind.{Kind}
-use Rattle.esm_model.specs.declared.config.Kind.TheVariants.{Standard, Fifo}
 use Rattle.esm_model.specs.declared.item.Record.{Record}
 use Rattle.esm_model.specs.declared.item.Message.{Message}
 use Rattle.esm_record.specs.declared.error.LineError.{LineError}
 use Rattle.esm_record.specs.declared.error.LineError.TheVariants.{LineTooLong, Backwards, Repeated}
 use Rattle.esm_record.specs.declared.error.BadLine.{BadLine}
-use Rattle.esm_record.specs.declared.item.LineKind.{LineKind}
-use Rattle.esm_record.specs.declared.item.LineKind.TheVariants as kinds
-use Rattle.esm_record.specs.declared.item.Item.{Item}
-use Rattle.esm_record.specs.declared.item.Item.TheVariants.{Stream, Queue}
+use Rattle.esm_model.specs.declared.item.LineKind.{LineKind}
+use Rattle.esm_model.specs.declared.item.LineKind.TheVariants as kinds
+use Rattle.esm_model.specs.declared.item.Item.{Item}
+use Rattle.esm_model.specs.declared.item.Item.TheVariants.{Stream, Queue}
 use Rattle.esm_record.specs.Line.{◌>>=◌, line_of, record_of, message_of}
 
 abbrev pub is_line_feed : ℕ → Bool
@@ -129,15 +125,6 @@ too_long line = if nat_lt MAX_LINE (length line) then line ∷ [] else []
 -- the lines of the bytes that ended, and a last one that is too long already
 unfoldable pub input_so_far : LineKind → List ℕ → Input
 input_so_far kind bytes = read_lines kind (ended (lines_of bytes) ++ too_long (begun (lines_of bytes)))
-
-abbrev pub queue_kind : Bool → Kind
-queue_kind fifo = if fifo then Fifo else Standard
-
--- an item of lines of this kind, whose fields have the values of that kind
-abbrev pub IsValidItem : LineKind → Item → Type 0
-IsValidItem kinds.Stream (Stream r) = IsValidRecord r
-IsValidItem (kinds.Queue fifo) (Queue m) = IsValidMessage (queue_kind fifo) m
-IsValidItem _ _ = ⊥
 
 -- what a reader of lines was fed
 pub record Feeding : Type 0 where

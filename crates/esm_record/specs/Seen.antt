@@ -1,6 +1,6 @@
 -- What a reader of lines keeps of the items before. Only this crate's proofs cite this.
 use Rattle.std.specs.Prelude.{◌≡◌, ℕ, List}
-use Rattle.esm_record.specs.declared.item.Item.{Item}
+use Rattle.esm_model.specs.declared.item.Item.{Item}
 use Rattle.esm_record.specs.declared.seen.Seen.{Seen}
 use Rattle.esm_record.specs.Input.{last_number, has_stood}
 use Rattle.esm_record.specs.Ids.{stood_in}

@@ -1,7 +1,7 @@
 -- What a reader of lines keeps of what it has read. Only this crate's proofs cite this.
 use Rattle.std.specs.Prelude.{◌≡◌, ℕ, ◌≤◌, false, List, [], ◌∷◌, ◌++◌, length, IsNone}
 use Rattle.std.specs.List.{All}
-use Rattle.esm_record.specs.declared.item.Item.{Item}
+use Rattle.esm_model.specs.declared.item.Item.{Item}
 use Rattle.esm_record.specs.declared.splitter.Splitter.{Splitter}
 use Rattle.esm_model.specs.declared.limits.TheConstants.{MAX_LINE}
 use Rattle.esm_record.specs.Input.{Input, is_line_feed, lines_of, begun, input_so_far}

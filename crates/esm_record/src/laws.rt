@@ -1,6 +1,6 @@
 //! What holds of every input, as the contract of a function that does nothing.
 ghost use Rattle.std.specs.Prelude.{ℕ, List};
-ghost use Rattle.esm_record.specs.declared.item.LineKind.{LineKind};
+ghost use Rattle.esm_model.specs.declared.item.LineKind.{LineKind};
 ghost use Rattle.esm_record.specs.Input.{input_so_far, input_of};
 ghost use Rattle.esm_record.specs.GoesOn.{GoesOnFrom};
 

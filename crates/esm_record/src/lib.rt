@@ -19,5 +19,6 @@ mod splitter;
 mod stream;
 
 pub use error::{BadLine, Field, LineError};
-pub use item::{Fed, Item, LineKind};
+pub use item::Fed;
 pub use lines::Lines;
+pub use stream::shard_number;

@@ -1,13 +1,14 @@
 // The reader of an input's lines, which takes the input in pieces of any size.
 ghost use Rattle.std.specs.Prelude.{◌≡◌, ◌≤◌, ℕ, List, ◌++◌, [], length, true, false, Ok, IsErr, OnOk, IfOk, OnErr, IsNone, All};
-ghost use Rattle.esm_record.specs.declared.item.Item.{Item};
-ghost use Rattle.esm_record.specs.Input.{IsValidItem, input_so_far, input_of};
+ghost use Rattle.esm_model.specs.declared.item.Item.{Item};
+ghost use Rattle.esm_model.specs.Items.{IsValidItem};
+ghost use Rattle.esm_record.specs.Input.{input_so_far, input_of};
 ghost use Rattle.esm_record.specs.Splitting.{HasRead, Stands};
 
 use crate::fed_bytes::FedBytes;
-use crate::item::{Fed, LineKind};
+use crate::item::Fed;
 use crate::splitter::Splitter;
-use esm_model::{MAX_LINE, OutOfMemory};
+use esm_model::{LineKind, MAX_LINE, OutOfMemory};
 use std::alloc::Global;
 use std::marker::Model;
 

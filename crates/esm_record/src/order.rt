@@ -9,12 +9,11 @@ ghost use Rattle.esm_record.specs.Numbers.{number_in};
 ghost use Rattle.esm_record.specs.Seen.{Follows};
 
 use crate::error::{LineError, Refusal};
-use crate::item::{Item, LineKind};
 use crate::numbers::Numbers;
 use crate::queue::read_message;
 use crate::seen::{Seen, as_new};
 use crate::stream::read_record;
-use esm_model::{MAX_LINE, Message, OutOfMemory, Record, Text};
+use esm_model::{Item, LineKind, MAX_LINE, Message, OutOfMemory, Record, Text};
 use json::Scratch;
 use std::alloc::Global;
 use std::cmp::Ordering;

@@ -1,16 +1,15 @@
 // Splitting the input into lines piece by piece, and reading each up to the first bad one.
 ghost use Rattle.std.specs.Prelude.{◌≡◌, ◌≤◌, ◌<◌, ◌+◌, Some, ℕ, List, ◌++◌, ◌∷◌, [], length, option_to_list, OnOk, IfOk, IfSome, IfNone, IsNone};
-ghost use Rattle.esm_record.specs.declared.item.Item.{Item};
+ghost use Rattle.esm_model.specs.declared.item.Item.{Item};
 ghost use Rattle.esm_record.specs.Gives.{Gives};
 ghost use Rattle.esm_record.specs.Input.{Input, add_line, input_of, read_after};
 ghost use Rattle.esm_record.specs.Seen.{Follows};
 ghost use Rattle.esm_record.specs.Splitting.{Stands, HasRead, NoLineFeed, IsFirstLine};
 
 use crate::error::{BadLine, LineError, Refusal};
-use crate::item::{Item, LineKind};
 use crate::order::read_next;
 use crate::seen::Seen;
-use esm_model::{MAX_LINE, OutOfMemory};
+use esm_model::{Item, LineKind, MAX_LINE, OutOfMemory};
 use json::Scratch;
 use memchr::memchr;
 use std::alloc::Global;

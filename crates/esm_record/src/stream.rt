@@ -47,7 +47,9 @@ fn number_of(digits: &[u8]) -> u64
     number
 }
 
-fn shard_number(text: &[u8]) -> Option<u64>
+/// The number of a shard, by its id: `shardId-` and twelve digits (Kinesis API Reference, `ShardId`); `None` for any other
+/// text.
+pub fn shard_number(text: &[u8]) -> Option<u64>
     ensures { result ≡ spec.shard_number text.now }
 {
     if is_shard_id(text) {

@@ -19,7 +19,7 @@ fn write<D: Disk>(
 ) -> Result<(), RegistryError>
     requires up { journal.old.down ≡ false }
     requires short { length payload.now ≤ MAX_PAYLOAD }
-    ensures { Writes (meaning D.honest D.content D.image D.moment D.image_since D.faults) journal.old journal.new (Some payload.now) result }
+    ensures { Writes (meaning D.Disk) journal.old journal.new (Some payload.now) result }
 {
     match journal.append(alloc, payload) {
         Ok(()) => Ok(()),
@@ -38,7 +38,7 @@ pub(crate) fn create<D: Disk>(
 ) -> Result<Applied, RegistryError>
     requires ready { IsReady table.old journal.old }
     requires creation { IsCreation table.old.mappings creation }
-    ensures { Obeys (meaning D.honest D.content D.image D.moment D.image_since D.faults) table.old table.new journal.old journal.new
+    ensures { Obeys (meaning D.Disk) table.old table.new journal.old journal.new
         (creation_step table.old.mappings creation) result }
 {
     let _ = journal.payloads();
@@ -77,7 +77,7 @@ pub(crate) fn update<D: Disk>(
 ) -> Result<Applied, RegistryError>
     requires ready { IsReady table.old journal.old }
     requires update { IsUpdate table.old.mappings update }
-    ensures { Obeys (meaning D.honest D.content D.image D.moment D.image_since D.faults) table.old table.new journal.old journal.new
+    ensures { Obeys (meaning D.Disk) table.old table.new journal.old journal.new
         (update_step table.old.mappings update) result }
 {
     let _ = journal.payloads();
@@ -115,7 +115,7 @@ pub(crate) fn delete<D: Disk>(
 ) -> Result<Applied, RegistryError>
     requires ready { IsReady table.old journal.old }
     requires deletion { IsDeletion table.old.mappings deletion }
-    ensures { Obeys (meaning D.honest D.content D.image D.moment D.image_since D.faults) table.old table.new journal.old journal.new
+    ensures { Obeys (meaning D.Disk) table.old table.new journal.old journal.new
         (deletion_step table.old.mappings deletion) result }
 {
     let Deletion {

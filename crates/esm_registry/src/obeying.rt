@@ -34,7 +34,7 @@ fn create<D: Disk>(
 ) -> Result<Applied, RegistryError>
     requires ready { IsReady table.old journal.old }
     requires moment { moment ≤ MAX_MOMENT }
-    ensures { Obeys (meaning D.honest D.content D.image D.moment D.image_since D.faults) table.old table.new journal.old journal.new
+    ensures { Obeys (meaning D.Disk) table.old table.new journal.old journal.new
         (created_by table.old.mappings moment (config_judged (view value.now))) result }
 {
     let _ = journal.payloads();
@@ -55,7 +55,7 @@ fn update<D: Disk>(
 ) -> Result<Applied, RegistryError>
     requires ready { IsReady table.old journal.old }
     requires moment { moment ≤ MAX_MOMENT }
-    ensures { Obeys (meaning D.honest D.content D.image D.moment D.image_since D.faults) table.old table.new journal.old journal.new
+    ensures { Obeys (meaning D.Disk) table.old table.new journal.old journal.new
         (updated_at table.old.mappings id.now (view value.now) moment (mapping_at id.now table.old.mappings.list)) result }
 {
     let _ = journal.payloads();
@@ -75,7 +75,7 @@ fn delete<D: Disk>(
 ) -> Result<Applied, RegistryError>
     requires ready { IsReady table.old journal.old }
     requires moment { moment ≤ MAX_MOMENT }
-    ensures { Obeys (meaning D.honest D.content D.image D.moment D.image_since D.faults) table.old table.new journal.old journal.new
+    ensures { Obeys (meaning D.Disk) table.old table.new journal.old journal.new
         (deleted table.old.mappings id.now moment (mapping_at id.now table.old.mappings.list)) result }
 {
     let _ = journal.payloads();
@@ -106,7 +106,7 @@ fn get<D: Disk>(
     id: &Uuid,
 ) -> Result<Applied, RegistryError>
     requires ready { IsReady table.old journal.old }
-    ensures { Obeys (meaning D.honest D.content D.image D.moment D.image_since D.faults) table.old table.new journal.old journal.new
+    ensures { Obeys (meaning D.Disk) table.old table.new journal.old journal.new
         (got table.old.mappings (mapping_at id.now table.old.mappings.list)) result }
 {
     let _ = journal.payloads();
@@ -122,7 +122,7 @@ fn list<D: Disk>(
     alloc: Global,
 ) -> Result<Applied, RegistryError>
     requires ready { IsReady table.old journal.old }
-    ensures { Obeys (meaning D.honest D.content D.image D.moment D.image_since D.faults) table.old table.new journal.old journal.new
+    ensures { Obeys (meaning D.Disk) table.old table.new journal.old journal.new
         (answered table.old.mappings (Many (list_text table.old.mappings.list))) result }
 {
     let _ = journal.payloads();
@@ -144,7 +144,7 @@ fn obey_at<D: Disk>(
 ) -> Result<Applied, RegistryError>
     requires ready { IsReady table.old journal.old }
     requires moment { moment ≤ MAX_MOMENT }
-    ensures { Obeys (meaning D.honest D.content D.image D.moment D.image_since D.faults) table.old table.new journal.old journal.new
+    ensures { Obeys (meaning D.Disk) table.old table.new journal.old journal.new
         (step_at table.old.mappings (asked command) moment) result }
 {
     match command {
@@ -165,12 +165,12 @@ pub(crate) fn obey<D: Disk>(
     moment: u64,
 ) -> Result<Applied, RegistryError>
     requires { IsReady table.old journal.old }
-    ensures obeys { Obeys (meaning D.honest D.content D.image D.moment D.image_since D.faults) table.old table.new journal.old journal.new
+    ensures obeys { Obeys (meaning D.Disk) table.old table.new journal.old journal.new
         (step table.old.mappings (asked command) moment) result }
     ensures distinct { IsDistinct bytes_eq (map (λ m. m.id) table.new.mappings.list) }
     ensures given { All (λ m. IsGiven m.config) table.new.mappings.list }
-    ensures kept { KeepsWhileUp (meaning D.honest D.content D.image D.moment D.image_since D.faults) journal.new }
-    ensures stopped { KeepsWhileDown (meaning D.honest D.content D.image D.moment D.image_since D.faults) journal.new }
+    ensures kept { KeepsWhileUp (meaning D.Disk) journal.new }
+    ensures stopped { KeepsWhileDown (meaning D.Disk) journal.new }
 {
     let outcome = obey_at(table, journal, alloc, command, moment.min(MAX_MOMENT));
     let _ = table.created();

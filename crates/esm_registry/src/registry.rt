@@ -97,8 +97,8 @@ impl<D: Disk> Registry<D> {
         ensures any_moment { D.honest self.old.journal.disk ≡ true → self.old.journal.down ≡ false →
             LeavesOnly D.moment D.image_since self.old.journal.disk self.new.journal.disk
             (OpensToStep self.old.journal.payloads (step self.old.mappings (asked command) moment).payload) }
-        ensures kept { KeepsWhileUp (meaning D.honest D.content D.image D.moment D.image_since D.faults) self.new.journal }
-        ensures stopped { KeepsWhileDown (meaning D.honest D.content D.image D.moment D.image_since D.faults) self.new.journal }
+        ensures kept { KeepsWhileUp (meaning D.Disk) self.new.journal }
+        ensures stopped { KeepsWhileDown (meaning D.Disk) self.new.journal }
         // What the type keeps; the disk is as honest as it was, and its count of faults never falls.
         ensures registry { IsRegistry self.new }
         ensures honesty { D.honest self.new.journal.disk ≡ D.honest self.old.journal.disk }

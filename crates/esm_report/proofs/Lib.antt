@@ -1,2 +1,4 @@
 pub mod Counting
 pub mod Telling
+pub mod Deleted
+pub mod QueueTelling

@@ -10,7 +10,7 @@ use Rattle.esm_model.specs.declared.entry.Entry.{Entry}
 use Rattle.esm_model.specs.Setting.{Setting}
 use Rattle.esm_model.specs.Entries.{came_count}
 use Rattle.esm_model.specs.Fates.{fate, given}
-use Rattle.esm_said.specs.SaidLists.{SaidLists}
+use Rattle.esm_journal_state.specs.SaidLists.{SaidLists}
 use Rattle.esm_report.specs.Report.{line, shard_text, shard_lines}
 use Rattle.esm_report.specs.Totals.{IsTotal, fate_of, fate_found, count_text, front_count, total_line, total_lines}
 use Rattle.esm_report.specs.declared.totals.Totals.{Totals}

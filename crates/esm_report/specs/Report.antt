@@ -14,11 +14,9 @@ use Rattle.esm_model.specs.Checkpoint.{checkpoint}
 use Rattle.esm_model.specs.Numbers.{decimal}
 use Rattle.esm_model.specs.EventText.{shard_id}
 use Rattle.esm_model.specs.declared.book.Change.{Change}
-use Rattle.esm_init.specs.Text.{file_name}
+use Rattle.esm_model.specs.Names.{file_name, limit_name}
 use Rattle.esm_report.specs.declared.ending.Ending.{Ending}
 use Rattle.esm_report.specs.declared.ending.Ending.TheVariants.{Done, CallsSpent, BadWords, BadLine, InputFault, DiskFault, OpenFault, DestFault, NotAJournal, Damaged, BadPayload, StreamChanged, UnknownMapping, DisabledMapping, BadParameter, Limit}
-use Rattle.esm_report.specs.declared.ending.LimitName.{LimitName}
-use Rattle.esm_report.specs.declared.ending.LimitName.TheVariants.{Records, Bytes, Shards, Lanes}
 
 -- a line ends with a line feed
 abbrev pub line : List ℕ → List ℕ
@@ -54,13 +52,6 @@ shard_text s h n = records_part s h n ++ fates_part s h n
 -- the number of calls that began
 abbrev pub calls_text : List Entry → List ℕ
 calls_text h = codes "calls " ++ decimal (calls_begun h)
-
--- the name of a limit of the engine
-abbrev pub limit_name : LimitName → List ℕ
-limit_name Records = codes "records"
-limit_name Bytes = codes "bytes"
-limit_name Shards = codes "shards"
-limit_name Lanes = codes "lanes"
 
 -- a record's place in the stream
 abbrev pub place_part : ℕ → ℕ → List ℕ

@@ -14,7 +14,7 @@ use Rattle.esm_model.specs.Fates.{below, given, is_fate}
 use Rattle.esm_model.specs.declared.setup.FoundFate.{FoundFate}
 use Rattle.esm_model.specs.Numbers.{decimal}
 use Rattle.esm_model.specs.EventText.{shard_id}
-use Rattle.esm_said.specs.SaidLists.{SaidLists, fate_told}
+use Rattle.esm_journal_state.specs.SaidLists.{SaidLists, fate_told}
 use Rattle.esm_report.specs.Report.{line, rising}
 use Rattle.esm_report.specs.declared.shard.ShardFates.{ShardFates}
 use Rattle.esm_report.specs.declared.totals.Totals.{Totals}

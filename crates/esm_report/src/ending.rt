@@ -1,15 +1,5 @@
 // The endings of a run.
-use esm_init::FileName;
-use esm_model::{Change, Text};
-
-/// A limit of the engine that an input went past: records, bytes of records, shards, or lanes.
-#[derive(Clone, Copy, Debug, PartialEq, Eq)]
-pub enum LimitName {
-    Records,
-    Bytes,
-    Shards,
-    Lanes,
-}
+use esm_model::{Change, FileName, LimitName, Text};
 
 /// How the run of a stream's mapping ended, or why nothing ran.
 #[derive(Drop, Debug)]

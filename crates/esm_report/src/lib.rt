@@ -1,13 +1,20 @@
-//! The report that a stream's run prints: what became of the records of each shard, how many calls were made, and
-//! how the run ended, as a text that is a function of what the journal said, the history and the ending.
+//! The reports that runs print: of a stream's run what became of the records of each shard, of a queue's run what became of
+//! the messages; how many calls were made, and how the run ended. Each is a text that is a function of what the journal said,
+//! the history and the ending.
 //! Pure: values in, bytes out. No device, clock or thread.
 #![tactic(auto)]
 
+mod deletions;
 pub mod ending;
 pub mod fates;
+pub mod laws;
 mod output;
+mod queue_fates;
+mod queue_output;
 mod shard;
 mod totals;
+pub mod worked;
 
-pub use ending::{Ending, LimitName};
+pub use ending::Ending;
 pub use output::{last_line, push_calls_line, push_last_line, push_texts, report, stands_alone};
+pub use queue_output::queue_report;

@@ -4,19 +4,18 @@ ghost use Rattle.esm_model.specs.declared.entry.Entry.{Entry};
 ghost use Rattle.esm_model.specs.Setting.{Setting};
 ghost use Rattle.esm_model.specs.Entries.{calls_begun};
 ghost use Rattle.esm_model.specs.Numbers.{decimal};
-ghost use Rattle.esm_init.specs.Text.{file_name};
-ghost use Rattle.esm_report.specs.Report.{report_text, shard_lines, calls_text, line, limit_name, place_part, texts_part, change_text, last_line, ending_text, stands_alone};
+ghost use Rattle.esm_model.specs.Names.{file_name, limit_name};
+ghost use Rattle.esm_report.specs.Report.{report_text, shard_lines, calls_text, line, place_part, texts_part, change_text, last_line, ending_text, stands_alone};
 ghost use Rattle.esm_report.specs.Totals.{place_fate, numbers_part, count_part, counts_part, count_text, total_line, total_lines};
 
-use crate::ending::{Ending, LimitName};
+use crate::ending::Ending;
 use crate::shard::ShardFates;
 use crate::totals::{Totals, records_of, totals_of};
 use esm_event::bytes::push_bytes;
 use esm_event::digits::push_decimal;
 use esm_event::record::push_shard_id;
-use esm_init::FileName;
-use esm_model::{Change, Entry, Fate, OutOfMemory, Text};
-use esm_said::Says;
+use esm_journal_state::Says;
+use esm_model::{Change, Entry, Fate, FileName, LimitName, OutOfMemory, Text};
 use std::alloc::Global;
 
 /// The report of a run whose history is `trace`, the oldest entry first, and that ended so, where the journal said

@@ -5,8 +5,8 @@ ghost use Rattle.esm_model.specs.Fates.{below, is_fate};
 ghost use Rattle.esm_report.specs.Totals.{fate_at, place_fate, fate_found, front_count};
 
 use crate::fates::{Fates, is_fate};
+use esm_journal_state::Says;
 use esm_model::Fate;
-use esm_said::Says;
 
 /// The fates of a shard's places: the found one, else the one that the history gave.
 #[derive(Drop)]

@@ -3,7 +3,7 @@ use Rattle.std.proofs.Common.{◌≡◌, ◌∙◌, ℕ, Bool, true, ap, refl, s
 use Rattle.std.specs.Prelude.{if◌then◌else◌}
 use Rattle.esm_cli.specs.declared.command.RunWords.{RunWords}
 use Rattle.esm_config.specs.Names.{name_of}
-use Rattle.esm_init.specs.declared.disks.FileName.TheVariants as name
+use Rattle.esm_model.specs.declared.names.FileName.TheVariants as name
 use Rattle.esm_input.specs.declared.ending.InputEnd.{InputEnd}
 use Rattle.esm_input.specs.declared.ending.InputEnd.TheVariants as ends
 use Rattle.esm_mapping.specs.declared.named.MappingError.{MappingError}

@@ -3,7 +3,7 @@ use Rattle.std.proofs.Common.{◌≡◌, ◌∙◌, ℕ, Bool, true, false, List
 use Rattle.std.specs.Prelude.{◌&&◌}
 use Rattle.std.proofs.lemmas.List.{reverse-append, take-append-drop}
 use Rattle.esm_journal.specs.File.{Opening, Foreign, Damaged, Holding}
-use Rattle.esm_said.specs.Meaning.{are_good, history, is_good}
+use Rattle.esm_journal_state.specs.Meaning.{are_good, history, is_good}
 
 -- payloads of which a front is bad are bad
 

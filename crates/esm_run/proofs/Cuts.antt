@@ -3,10 +3,10 @@ use Rattle.std.proofs.Common.{◌≡◌, ◌∙◌, List, ℕ, [], ap, inl, inr,
 use Rattle.esm_cli.specs.declared.command.Command.{Command}
 use Rattle.esm_cli.specs.declared.command.Command.TheVariants.{Init, Run, Show, Failures, Gen, Compact, Serve, Migrate, Ddb, Redrive, Replay}
 use Rattle.esm_cli.specs.declared.command.RunWords.{RunWords}
-use Rattle.esm_init.specs.declared.disks.Disks.{Disks}
+use Rattle.esm_folder.specs.declared.disks.Disks.{Disks}
 use Rattle.esm_io.specs.Meanings.{DiskMeaning}
 use Rattle.esm_model.specs.declared.entry.Entry.{Entry}
-use Rattle.esm_upkeep.specs.Upkeep.{AreOnlyRead}
+use Rattle.esm_folder.specs.Upkeep.{AreOnlyRead}
 use Rattle.esm_run.specs.Answers.{HasNotBegun, IsRegistryLeft, IsUntouched}
 use Rattle.esm_run.specs.Built.{SpellsBuilt}
 use Rattle.esm_run.specs.Commands.{AreFilesLeft, IsCut, IsLeft, IsStopped}

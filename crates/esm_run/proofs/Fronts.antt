@@ -4,9 +4,9 @@ use Rattle.std.specs.Prelude.{slice_get, if◌then◌else◌}
 use Rattle.std.proofs.lemmas.List.{append-nil}
 use Rattle.esm_model.specs.declared.config.Start.{Start}
 use Rattle.esm_model.specs.declared.config.Start.TheVariants.{TrimHorizon, Latest, At}
-use Rattle.esm_record.specs.declared.item.Item.{Item}
-use Rattle.esm_record.specs.declared.item.Item.TheVariants.{Stream, Queue}
-use Rattle.esm_report.specs.declared.ending.LimitName.{LimitName}
+use Rattle.esm_model.specs.declared.item.Item.{Item}
+use Rattle.esm_model.specs.declared.item.Item.TheVariants.{Stream, Queue}
+use Rattle.esm_model.specs.declared.names.LimitName.{LimitName}
 use Rattle.esm_input.specs.Limits.{Limited, limited_after, passed, shards_with, stop_at}
 use Rattle.esm_input.specs.Positions.{from_moment, from_start, has_begun}
 use Rattle.esm_runner.specs.Coming.{records_in_items}

@@ -2,11 +2,11 @@
 use Rattle.std.proofs.Common.{◌≡◌, ◌∙◌, ℕ, List, Option, inl, inr, refl, sym}
 use Rattle.esm_io.specs.Faults.{Rose}
 use Rattle.esm_io.specs.Meanings.{DiskMeaning}
-use Rattle.esm_init.specs.Init.{IsInitEnd, IsFirstNotEmpty, size_in}
-use Rattle.esm_init.specs.declared.disks.Disks.{Disks}
-use Rattle.esm_init.specs.declared.disks.FileName.{FileName}
-use Rattle.esm_init.specs.declared.files.InitEnd.{InitEnd}
-use Rattle.esm_init.specs.declared.files.InitEnd.TheVariants.{Done, NotEmpty, DiskFault}
+use Rattle.esm_folder.specs.Init.{IsInitEnd, IsFirstNotEmpty, size_in}
+use Rattle.esm_folder.specs.declared.disks.Disks.{Disks}
+use Rattle.esm_model.specs.declared.names.FileName.{FileName}
+use Rattle.esm_folder.specs.declared.files.InitEnd.{InitEnd}
+use Rattle.esm_folder.specs.declared.files.InitEnd.TheVariants.{Done, NotEmpty, DiskFault}
 use Rattle.esm_run.specs.Endings.{IsToldWith}
 use Rattle.esm_run.specs.Initialized.{AreSound, InitOutcome, init_status}
 use Rattle.esm_run.specs.World.{Written}

@@ -1,7 +1,7 @@
 -- Where no record of an input differs from what the journal kept of it, none of its front does.
 use Rattle.std.proofs.Common.{◌≡◌, ◌∙◌, List, [], ◌∷◌, ◌++◌, Option, None, Some, ap, sym}
 use Rattle.std.specs.Option.{option_or}
-use Rattle.esm_arrival.specs.Changes.{change_at, first_change, first_change_from, place_after}
+use Rattle.esm_ingest.specs.Changes.{change_at, first_change, first_change_from, place_after}
 use Rattle.esm_model.specs.declared.book.Change.{Change}
 use Rattle.esm_model.specs.declared.item.Record.{Record}
 use Rattle.esm_model.specs.Setting.{Setting, over}

@@ -1,16 +1,16 @@
 -- Disks on which no call was made are left as each command over the files leaves them.
 use Rattle.std.proofs.Common.{◌≡◌, ◌∙◌, ℕ, true, List, Result, ap, inl, refl, subst, sym, arith}
 use Rattle.std.specs.Prelude.{IfOk}
-use Rattle.esm_init.specs.Init.{IsSafe, disk_of}
-use Rattle.esm_init.specs.declared.disks.Disks.{Disks}
-use Rattle.esm_init.specs.declared.disks.FileName.{FileName}
+use Rattle.esm_folder.specs.Init.{IsSafe, disk_of}
+use Rattle.esm_folder.specs.declared.disks.Disks.{Disks}
+use Rattle.esm_model.specs.declared.names.FileName.{FileName}
 use Rattle.esm_io.specs.Meanings.{DiskMeaning}
 use Rattle.esm_journal.specs.File.{header_of}
 use Rattle.esm_journal.specs.Migrate.{is_version_2}
 use Rattle.esm_journal.specs.Pair.{pair_opened}
 use Rattle.esm_model.specs.declared.memory.OutOfMemory.{OutOfMemory}
-use Rattle.esm_upkeep.specs.Upkeep.{AreKept, AreOnlyRead, IsCompacting, IsKept, IsMigrateEnd, IsMigrating}
-use Rattle.esm_upkeep.specs.declared.ending.UpkeepEnd.{UpkeepEnd}
+use Rattle.esm_folder.specs.Upkeep.{AreKept, AreOnlyRead, IsCompacting, IsKept, IsMigrateEnd, IsMigrating}
+use Rattle.esm_folder.specs.declared.ending.UpkeepEnd.{UpkeepEnd}
 use Rattle.esm_run.specs.Tended.{AreLeft, IsLeft, IsUpkeepEnd}
 use Rattle.esm_run.specs.World.{disks}
 use Rattle.esm_run.specs.declared.tending.FilesCommand.{FilesCommand}

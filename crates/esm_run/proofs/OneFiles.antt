@@ -2,16 +2,16 @@
 -- the output failed.
 use Rattle.std.proofs.Common.{◌≡◌, ◌∙◌, ℕ, ◌+◌, List, inl, inr, refl, sym}
 use Rattle.std.specs.Prelude.{◌⊎◌}
-use Rattle.esm_init.specs.declared.disks.Disks.{Disks}
+use Rattle.esm_folder.specs.declared.disks.Disks.{Disks}
 use Rattle.esm_io.specs.Faults.{Rose}
 use Rattle.esm_io.specs.Meanings.{DiskMeaning}
 use Rattle.esm_journal.specs.File.{header_of, opened, Opening}
-use Rattle.esm_upkeep.specs.Text.{upkeep_status}
-use Rattle.esm_upkeep.specs.Upkeep.{AreFound, AreHonest, AreOnlyRead, HasBadPayload, HasFound, HasMigrated, IsCompactEnd, IsFailuresEnd, IsMigrateEnd, IsRefused, IsRefusedPair, IsShowEnd, OneRose, found, found_of_any_version, found_to_write}
-use Rattle.esm_upkeep.specs.declared.ending.JournalFile.{JournalFile}
-use Rattle.esm_upkeep.specs.declared.ending.JournalFile.TheVariants as file
-use Rattle.esm_upkeep.specs.declared.ending.UpkeepEnd.{UpkeepEnd}
-use Rattle.esm_upkeep.specs.declared.ending.UpkeepEnd.TheVariants as end
+use Rattle.esm_folder.specs.UpkeepText.{upkeep_status}
+use Rattle.esm_folder.specs.Upkeep.{AreFound, AreHonest, AreOnlyRead, HasBadPayload, HasFound, HasMigrated, IsCompactEnd, IsFailuresEnd, IsMigrateEnd, IsRefused, IsRefusedPair, IsShowEnd, OneRose, found, found_of_any_version, found_to_write}
+use Rattle.esm_folder.specs.declared.ending.JournalFile.{JournalFile}
+use Rattle.esm_folder.specs.declared.ending.JournalFile.TheVariants as file
+use Rattle.esm_folder.specs.declared.ending.UpkeepEnd.{UpkeepEnd}
+use Rattle.esm_folder.specs.declared.ending.UpkeepEnd.TheVariants as end
 use Rattle.esm_run.specs.Tended.{AreSoundUnder, FilesOutcome, IsSoundDisk, IsUpkeepEnd}
 use Rattle.esm_run.specs.World.{Written}
 use Rattle.esm_run.specs.declared.tending.FilesCommand.{FilesCommand}

@@ -19,7 +19,7 @@ use Rattle.esm_runner.specs.QueueHeadline.{IsSettingOf}
 use Rattle.esm_runner.specs.declared.run.MappingEnd.{MappingEnd}
 use Rattle.esm_runner.specs.declared.run.MappingEnd.TheVariants as end
 use Rattle.esm_report.specs.declared.ending.Ending.{Ending}
-use Rattle.esm_said.specs.SaidLists.{SaidLists}
+use Rattle.esm_journal_state.specs.SaidLists.{SaidLists}
 use Rattle.esm_runner.specs.Files.{FilesState}
 use Rattle.esm_runner.specs.Headline.{Devices, Telling}
 use Rattle.esm_run.specs.Answers.{IsQueueRun, IsSoundRun, visibility_of}
@@ -128,6 +128,11 @@ shared_by faults left c old new i j s z goes told sound one other same =
       other_front = λ e ended. messages_front (handed i) (handed j) (one_front faults left (line_kind c) c.factor c.start old new j i e goes told sound second first ended);
     }
 
+-- why it ended, told of the reading as the input has it
+read_cause : {S D F : Type 0} (o : RunTells S D F) (h : List Entry) (new : Seen S D F) (f : FilesState D) (s : QueueSetting) (xs : List Message) (i reading : Option InputEnd) (e : MappingEnd) → i ≡ reading
+    → IsCauseOf o.run f s h xs reading (o.left new.input) (devices_of new) e → IsCauseOf o.run f s h xs i (o.left new.input) (devices_of new) e
+read_cause o h new f s xs i reading e same cause = subst (λ x. IsCauseOf o.run f s h xs x (o.left new.input) (devices_of new) e) (sym same) cause
+
 pub one_queue_run : {S D F : Type 0} (o : RunTells S D F) (r : RunWords) (h : List Entry) (old new : Seen S D F) (text other_text : List ℕ) (e d : Ending)
     → WholeGoesOn → SameTold → IsSoundRun o r old new → (one : IsQueueRun o r h old new text e) → (other : IsQueueRun o r h old new other_text d) → one.mapping ≡ other.mapping
     → status_of e ≡ status_of d
@@ -147,5 +152,6 @@ one_queue_run o r h old new text other_text e d goes told sound one other mappin
     (faultless o r old new one.mapping one.files sound one.ready) (faultless o r old new other.mapping other.files sound other.ready)
     (shared_by o.faults o.left one.mapping.config old.input new.input one.run.input other.run.input one.run.setting other.run.setting goes sound.told sound.no_input_fault
     one.run.is_input input same)
-    one.run.cause other.run.cause
+    (read_cause o h new one.files one.run.setting xs one.run.input.end one.reading one.end one.run.read_to one.run.cause)
+    (read_cause o h new other.files other.run.setting ys other.run.input.end other.reading other.end other.run.read_to other.run.cause)
     ∙ sym (ap status_of other.tells)

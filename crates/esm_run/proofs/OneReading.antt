@@ -6,10 +6,10 @@ use Rattle.esm_io.specs.Told.{TakesFront}
 use Rattle.esm_io.specs.Faults.{Rose}
 use Rattle.esm_model.specs.declared.config.Start.{Start}
 use Rattle.esm_record.specs.declared.error.BadLine.{BadLine}
-use Rattle.esm_record.specs.declared.item.LineKind.{LineKind}
+use Rattle.esm_model.specs.declared.item.LineKind.{LineKind}
 use Rattle.esm_record.specs.Input.{Input, input_so_far, input_of}
 use Rattle.esm_record.specs.GoesOn.{GoesOnFrom}
-use Rattle.esm_report.specs.declared.ending.LimitName.{LimitName}
+use Rattle.esm_model.specs.declared.names.LimitName.{LimitName}
 use Rattle.esm_input.specs.declared.ending.InputEnd.{InputEnd}
 use Rattle.esm_input.specs.declared.ending.InputEnd.TheVariants as ends
 use Rattle.esm_input.specs.Limits.{Limited, limited_after}

@@ -14,7 +14,7 @@ use Rattle.esm_mapping.specs.declared.named.MappingError.TheVariants.{OutOfMemor
 use Rattle.esm_mapping.specs.declared.named.NamedMapping.{NamedMapping}
 use Rattle.esm_runner.specs.Files.{FilesState}
 use Rattle.esm_runner.specs.Headline.{Devices, Telling}
-use Rattle.esm_upkeep.specs.Upkeep.{OneRose, found}
+use Rattle.esm_folder.specs.Upkeep.{OneRose, found}
 use Rattle.esm_run.specs.Answers.{IsReadyFor, IsSoundRegistry, IsSoundRun}
 use Rattle.esm_run.specs.Tended.{IsSoundDisk}
 use Rattle.esm_run.specs.World.{RunTells, Seen, devices_of}

@@ -1,16 +1,16 @@
 -- Files that are refused are no good files, where their disks are honest and none of them failed.
 use Rattle.std.proofs.Common.{◌≡◌, ◌+◌, true, Some, ap, inl, inr, subst}
-use Rattle.esm_init.specs.declared.disks.FileName.TheVariants as name
+use Rattle.esm_model.specs.declared.names.FileName.TheVariants as name
 use Rattle.esm_io.specs.Meanings.{DiskMeaning}
 use Rattle.esm_report.specs.declared.ending.Ending.{Ending}
 use Rattle.esm_report.specs.declared.ending.Ending.TheVariants as ending
-use Rattle.esm_upkeep.specs.Upkeep.{AreFound, AreHonest, found}
-use Rattle.esm_upkeep.specs.declared.ending.JournalFile.TheVariants as file
+use Rattle.esm_folder.specs.Upkeep.{AreFound, AreHonest, found}
+use Rattle.esm_folder.specs.declared.ending.JournalFile.TheVariants as file
 use Rattle.esm_runner.specs.Files.{AreFoundLines, FilesState, WhyRefused, found_lines}
 use Rattle.esm_runner.specs.declared.files.FilesError.{FilesError}
 use Rattle.esm_runner.specs.declared.files.FilesError.TheVariants as files
 use Rattle.esm_cli.specs.declared.command.RunWords.{RunWords}
-use Rattle.esm_init.specs.declared.disks.Disks.{Disks}
+use Rattle.esm_folder.specs.declared.disks.Disks.{Disks}
 use Rattle.esm_mapping.specs.declared.named.NamedMapping.{NamedMapping}
 use Rattle.esm_run.specs.Answers.{AreGoodFiles, HasRefusedFiles, IsReadyFor, IsSoundRun}
 use Rattle.esm_run.specs.Endings.{ending_of_files, status_of}

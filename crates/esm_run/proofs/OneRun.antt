@@ -12,7 +12,7 @@ use Rattle.esm_model.specs.declared.entry.Entry.{Entry}
 use Rattle.esm_model.specs.declared.item.Record.{Record}
 use Rattle.esm_model.specs.Setting.{Setting, over}
 use Rattle.esm_runner.specs.Coming.{records_in_items}
-use Rattle.esm_record.specs.declared.item.LineKind.TheVariants as kinds
+use Rattle.esm_model.specs.declared.item.LineKind.TheVariants as kinds
 use Rattle.esm_report.specs.declared.ending.Ending.{Ending}
 use Rattle.esm_runner.specs.Ran.{HasOpen, HasOutstanding, IsUnfinished}
 use Rattle.esm_runner.specs.Ended.{IsCauseOf, IsInputOf}

@@ -10,10 +10,10 @@ use Rattle.esm_model.specs.Fates.{fate}
 use Rattle.esm_model.specs.Setting.{Setting, over}
 use Rattle.esm_model.specs.Windows.{is_outstanding}
 use Rattle.esm_runner.specs.Ran.{AllFated, HasOpen, HasOutstanding, NoneOutstanding}
-use Rattle.esm_said.specs.Compact.{SameSaid}
-use Rattle.esm_said.specs.Meaning.{history}
-use Rattle.esm_said.specs.SaidLists.{IsInOrder, SaidLists}
-use Rattle.esm_said.specs.Tells.{Tells}
+use Rattle.esm_journal_state.specs.Compact.{SameSaid}
+use Rattle.esm_journal_state.specs.Meaning.{history}
+use Rattle.esm_journal_state.specs.SaidLists.{IsInOrder, SaidLists}
+use Rattle.esm_journal_state.specs.Tells.{Tells}
 use Rattle.esm_runner.specs.Headline.{IsSettingOf}
 use Rattle.esm_run.proofs.BadPayloads.{same_payloads}
 

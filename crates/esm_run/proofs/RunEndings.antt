@@ -1,11 +1,13 @@
 -- How the options of `run` came to their ending, or were stopped by want of memory.
-use Rattle.std.proofs.Common.{◌≡◌, ◌∙◌, ℕ, true, false, List, refl, sym, ap, subst, inl, inr, Some, Result, Ok, Err}
+use Rattle.std.proofs.Common.{◌≡◌, ◌∙◌, ℕ, true, false, List, refl, sym, ap, subst, inl, inr, Option, Some, Result, Ok, Err}
 use Rattle.std.specs.Prelude.{◌⊎◌, IfOk, OnErr}
 use Rattle.esm_model.specs.Valid.{is_stream}
 use Rattle.esm_model.specs.declared.entry.Entry.{Entry}
 use Rattle.esm_model.specs.declared.memory.OutOfMemory.{OutOfMemory}
 use Rattle.esm_model.specs.Entries.{CallsFollowShut}
 use Rattle.esm_model.specs.Setting.{Setting}
+use Rattle.esm_input.specs.declared.ending.InputEnd.{InputEnd}
+use Rattle.esm_input.specs.Reading.{handed}
 use Rattle.esm_cli.specs.declared.command.RunWords.{RunWords}
 use Rattle.esm_cli.specs.declared.command.Which.{Which}
 use Rattle.esm_cli.specs.declared.command.Which.TheVariants.{Config, Mapping}
@@ -15,11 +17,12 @@ use Rattle.esm_mapping.specs.Named.{IsNamed, MayRun, WhyNot}
 use Rattle.esm_mapping.specs.declared.named.MappingError.{MappingError}
 use Rattle.esm_mapping.specs.declared.named.NamedMapping.{NamedMapping}
 use Rattle.esm_queue_model.specs.QueueSetting.{QueueSetting}
-use Rattle.esm_queue_report.specs.Queue.{queue_report_text}
+use Rattle.esm_report.specs.Queue.{queue_report_text}
+use Rattle.esm_runner.specs.Coming.{records_in_items}
 use Rattle.esm_runner.specs.QueueEnded as queue
 use Rattle.esm_report.specs.declared.ending.Ending.{Ending}
 use Rattle.esm_report.specs.Report.{last_line, report_text, stands_alone}
-use Rattle.esm_said.specs.SaidLists.{SaidLists}
+use Rattle.esm_journal_state.specs.SaidLists.{SaidLists}
 use Rattle.esm_runner.specs.Ended as stream
 use Rattle.esm_runner.specs.Files.{FilesState, IsOpenedFiles, AreRefused}
 use Rattle.esm_runner.specs.declared.files.FilesError.{FilesError}
@@ -55,11 +58,11 @@ pub registry_unopened : {D : Type 0} (m : DiskMeaning D) (which : Which) (disk :
 registry_unopened m which disk read = registry_left m which disk disk read (λ text is. refl)
 
 module _ {S D F : Type 0} (o : RunTells S D F) (r : RunWords) (h : List Entry) (old new : Seen S D F) where
-  module _ (mapping : NamedMapping) (files : FilesState D) (ready : IsReadyFor o.run.disk r old new mapping files) (later : r.read_first ≡ true → CallsFollowShut h) where
+  module _ (mapping : NamedMapping) (files : FilesState D) (reading : Option InputEnd) (ready : IsReadyFor o.run.disk r old new mapping files) (later : r.read_first ≡ true → CallsFollowShut h) where
     -- a stream's mapping ran
 
     abbrev HasStreamEnded : MappingEnd → Type 0
-    HasStreamEnded end = stream.HasEnded o.run o.faults o.left mapping.config mapping.start r.calls files old.input new.input old.callers h (devices_of new) end
+    HasStreamEnded end = stream.HasEnded o.run o.faults o.left mapping.config mapping.start r.calls files old.input new.input reading old.callers h (devices_of new) end
 
     abbrev HasStreamStopped : Type 0
     HasStreamStopped = stream.HasStoppedRun o.run o.left mapping.config mapping.start r.calls files old.input new.input old.callers h (devices_of new)
@@ -102,7 +105,7 @@ module _ {S D F : Type 0} (o : RunTells S D F) (r : RunWords) (h : List Entry) (
         is_setting = is.is_setting;
         end = end;
         tells = refl;
-        cause = is.cause;
+        cause = subst (λ (x : Option InputEnd). stream.IsCauseOf o.run files is.setting h (records_in_items (handed is.input)) x (o.left new.input) (devices_of new) end) (sym is.read_to) is.cause;
         hand = is.hand;
         headline = headline_of end is;
       }));
@@ -130,7 +133,7 @@ module _ {S D F : Type 0} (o : RunTells S D F) (r : RunWords) (h : List Entry) (
     -- a queue's mapping ran
 
     abbrev HasQueueEnded : MappingEnd → Type 0
-    HasQueueEnded end = queue.HasEnded o.run o.faults o.left mapping.config r.calls (visibility_of r) files old.input new.input old.callers h (devices_of new) end
+    HasQueueEnded end = queue.HasEnded o.run o.faults o.left mapping.config r.calls (visibility_of r) files old.input new.input reading old.callers h (devices_of new) end
 
     abbrev HasQueueStopped : Type 0
     HasQueueStopped = queue.HasStoppedRun o.run o.left mapping.config r.calls (visibility_of r) files old.input new.input old.callers h (devices_of new)
@@ -138,7 +141,7 @@ module _ {S D F : Type 0} (o : RunTells S D F) (r : RunWords) (h : List Entry) (
     queue_ended : is_stream mapping.config.kind ≡ false → (end : MappingEnd) → HasQueueEnded end → RunEnded o r h old new (ending_of end)
     queue_ended kind end is = record {
       text = queue_report_text is.setting h (ending_of end);
-      cause = inr (inr (record { mapping = mapping; files = files; ready = ready; kind = kind; end = end; run = is; tells = refl; text_is = refl; read_first = later }));
+      cause = inr (inr (record { mapping = mapping; files = files; ready = ready; kind = kind; end = end; reading = reading; run = is; tells = refl; text_is = refl; read_first = later }));
     }
 
     pub queue_ends : is_stream mapping.config.kind ≡ false → (said : SaidLists) (end : Result MappingEnd OutOfMemory) (e : Ending) → said ≡ files.said

@@ -1,5 +1,5 @@
 -- How the options of `run` ended, and what they left. This product's own.
-use Rattle.std.specs.Prelude.{◌≡◌, ◌⊎◌, ◌*◌, ℕ, true, false, List, [], Some, IsSome}
+use Rattle.std.specs.Prelude.{◌≡◌, ◌⊎◌, ◌*◌, ℕ, true, false, List, [], Option, Some, IsSome}
 use Rattle.esm_model.specs.declared.entry.Entry.{Entry}
 use Rattle.esm_model.specs.Entries.{CallsFollowShut}
 use Rattle.esm_model.specs.Setting.{Setting}
@@ -8,16 +8,17 @@ use Rattle.esm_cli.specs.declared.command.Command.{Command}
 use Rattle.esm_cli.specs.declared.command.RunWords.{RunWords}
 use Rattle.esm_cli.specs.declared.command.Which.{Which}
 use Rattle.esm_cli.specs.declared.command.Which.TheVariants.{Config, Mapping}
-use Rattle.esm_init.specs.declared.disks.Disks.{Disks}
+use Rattle.esm_folder.specs.declared.disks.Disks.{Disks}
 use Rattle.esm_io.specs.Faults.{Rose}
 use Rattle.esm_io.specs.Meanings.{DiskMeaning}
 use Rattle.esm_journal.specs.Reads.{IsOnlyRead}
+use Rattle.esm_input.specs.declared.ending.InputEnd.{InputEnd}
 use Rattle.esm_input.specs.Reading.{InputState, handed}
 use Rattle.esm_mapping.specs.Named.{IsNamed, WhyNot}
 use Rattle.esm_mapping.specs.declared.named.MappingError.{MappingError}
 use Rattle.esm_mapping.specs.declared.named.NamedMapping.{NamedMapping}
 use Rattle.esm_runner.specs.Coming.{records_in_items}
-use Rattle.esm_queue_report.specs.Queue.{queue_report_text}
+use Rattle.esm_report.specs.Queue.{queue_report_text}
 use Rattle.esm_runner.specs.QueueEnded as queue
 use Rattle.esm_report.specs.declared.ending.Ending.{Ending}
 use Rattle.esm_report.specs.declared.ending.Ending.TheVariants as ending
@@ -27,7 +28,7 @@ use Rattle.esm_runner.specs.Headline.{IsSettingOf}
 use Rattle.esm_runner.specs.Files.{FilesState, IsOpenedFiles, AreRefused, AreUnwritten, AreGoodPayloads, AreFoundLines}
 use Rattle.esm_runner.specs.declared.files.FilesError.{FilesError}
 use Rattle.esm_runner.specs.declared.run.MappingEnd.{MappingEnd}
-use Rattle.esm_upkeep.specs.Upkeep.{AreHonest, OneRose}
+use Rattle.esm_folder.specs.Upkeep.{AreHonest, OneRose}
 use Rattle.esm_run.specs.Built.{SpellsBuilt}
 use Rattle.esm_run.specs.Endings.{IsTold, ending_of, ending_of_files, ending_of_mapping}
 use Rattle.esm_run.specs.Headline.{Headline}
@@ -119,7 +120,9 @@ pub record IsQueueRun {S D F : Type 0} (o : RunTells S D F) (r : RunWords) (h : 
   pub ready : IsReadyFor o.run.disk r old new mapping files
   pub kind : is_stream mapping.config.kind ≡ false
   pub end : MappingEnd
-  pub run : queue.HasEnded o.run o.faults o.left mapping.config r.calls (visibility_of r) files old.input new.input old.callers h (devices_of new) end
+  -- how the reading of its input ended, if it did
+  pub reading : Option InputEnd
+  pub run : queue.HasEnded o.run o.faults o.left mapping.config r.calls (visibility_of r) files old.input new.input reading old.callers h (devices_of new) end
   pub tells : ending ≡ ending_of end
   pub text_is : text ≡ queue_report_text run.setting h ending
   -- with `--read-first` no call begins before the end of the input was noted

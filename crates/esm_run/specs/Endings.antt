@@ -8,10 +8,10 @@ use Rattle.esm_mapping.specs.declared.named.MappingError.TheVariants as mapping
 use Rattle.esm_record.specs.Line.{name_of}
 use Rattle.esm_record.specs.declared.error.LineError.{LineError}
 use Rattle.esm_record.specs.declared.error.LineError.TheVariants.{NotJson, Missing, BadField, Backwards, LineTooLong, Repeated}
-use Rattle.esm_init.specs.declared.disks.FileName.{FileName}
-use Rattle.esm_init.specs.declared.disks.FileName.TheVariants as name
-use Rattle.esm_upkeep.specs.declared.ending.JournalFile.{JournalFile}
-use Rattle.esm_upkeep.specs.declared.ending.JournalFile.TheVariants as file
+use Rattle.esm_model.specs.declared.names.FileName.{FileName}
+use Rattle.esm_model.specs.declared.names.FileName.TheVariants as name
+use Rattle.esm_folder.specs.declared.ending.JournalFile.{JournalFile}
+use Rattle.esm_folder.specs.declared.ending.JournalFile.TheVariants as file
 use Rattle.esm_report.specs.declared.ending.Ending.{Ending}
 use Rattle.esm_report.specs.declared.ending.Ending.TheVariants as ending
 use Rattle.esm_input.specs.declared.ending.InputEnd.{InputEnd}

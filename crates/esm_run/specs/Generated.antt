@@ -1,6 +1,6 @@
 -- How `gen` ended: which generated stream ran, what was told, and with which exit status. This product's own.
 use Rattle.std.specs.Prelude.{◌≡◌, ◌⊎◌, ℕ, List, []}
-use Rattle.esm_gen_run.specs.Run.{HasRun, HasTold}
+use Rattle.esm_gen.specs.Run.{HasRun, HasTold}
 use Rattle.esm_model.specs.declared.entry.Entry.{Entry}
 use Rattle.esm_run.specs.Endings.{IsToldWith}
 use Rattle.esm_run.specs.Initialized.{OUTPUT_FAULT}

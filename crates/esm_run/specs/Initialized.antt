@@ -2,12 +2,12 @@
 use Rattle.std.specs.Prelude.{ℕ}
 use Rattle.esm_io.specs.Faults.{Rose}
 use Rattle.esm_io.specs.Meanings.{DiskMeaning}
-use Rattle.esm_init.specs.Init.{AreHonest, IsInitEnd, disk_of}
-use Rattle.esm_init.specs.Text.{init_text}
-use Rattle.esm_init.specs.declared.disks.Disks.{Disks}
-use Rattle.esm_init.specs.declared.disks.FileName.{FileName}
-use Rattle.esm_init.specs.declared.files.InitEnd.{InitEnd}
-use Rattle.esm_init.specs.declared.files.InitEnd.TheVariants.{Done, NotEmpty, DiskFault}
+use Rattle.esm_folder.specs.Init.{AreHonest, IsInitEnd, disk_of}
+use Rattle.esm_folder.specs.Text.{init_text}
+use Rattle.esm_folder.specs.declared.disks.Disks.{Disks}
+use Rattle.esm_model.specs.declared.names.FileName.{FileName}
+use Rattle.esm_folder.specs.declared.files.InitEnd.{InitEnd}
+use Rattle.esm_folder.specs.declared.files.InitEnd.TheVariants.{Done, NotEmpty, DiskFault}
 use Rattle.esm_run.specs.Endings.{IsToldWith}
 use Rattle.esm_run.specs.World.{Written}
 

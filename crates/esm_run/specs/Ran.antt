@@ -6,10 +6,10 @@ use Rattle.esm_model.specs.Setting.{Setting}
 use Rattle.esm_cli.specs.declared.command.RunWords.{RunWords}
 use Rattle.esm_queue_model.specs.QueueSetting.{QueueSetting}
 use Rattle.esm_queue_model.specs.QueueStep.{LegalQueue}
-use Rattle.esm_queue_report.specs.Queue.{queue_report_text}
+use Rattle.esm_report.specs.Queue.{queue_report_text}
 use Rattle.esm_report.specs.declared.ending.Ending.{Ending}
 use Rattle.esm_report.specs.Report.{last_line, report_text, stands_alone}
-use Rattle.esm_said.specs.SaidLists.{SaidLists}
+use Rattle.esm_journal_state.specs.SaidLists.{SaidLists}
 use Rattle.esm_runner.specs.declared.run.MappingEnd.{MappingEnd}
 use Rattle.esm_run.specs.Answers.{RunEnded}
 use Rattle.esm_run.specs.Endings.{ending_of}

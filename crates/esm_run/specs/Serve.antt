@@ -9,8 +9,8 @@ use Rattle.esm_journal.specs.File.{header_of, opened, Foreign, Damaged}
 use Rattle.esm_journal.specs.Reads.{IsOnlyRead}
 use Rattle.esm_journal.specs.State.{JournalState, OpensTo, KeepsWhileUp, KeepsWhileDown}
 use Rattle.esm_registry.specs.State.{RegistryState, IsRegistry, IsFirstBad}
-use Rattle.esm_init.specs.Text.{file_name}
-use Rattle.esm_init.specs.declared.disks.FileName.TheVariants.{Registry}
+use Rattle.esm_model.specs.Names.{file_name}
+use Rattle.esm_model.specs.declared.names.FileName.TheVariants.{Registry}
 use Rattle.esm_run.specs.declared.connections.Accepted.{Accepted}
 use Rattle.esm_run.specs.declared.connections.Stop.{Stop}
 use Rattle.esm_run.specs.declared.connections.Stop.TheVariants as stop

@@ -3,14 +3,14 @@
 use Rattle.std.specs.Prelude.{◌≡◌, ◌⊎◌, ℕ, true}
 use Rattle.esm_cli.specs.declared.command.Command.{Command}
 use Rattle.esm_cli.specs.declared.command.Command.TheVariants as command
-use Rattle.esm_init.specs.Init.{AreSafe}
-use Rattle.esm_init.specs.declared.disks.Disks.{Disks}
+use Rattle.esm_folder.specs.Init.{AreSafe}
+use Rattle.esm_folder.specs.declared.disks.Disks.{Disks}
 use Rattle.esm_io.specs.Faults.{Rose}
 use Rattle.esm_io.specs.Meanings.{DiskMeaning}
 use Rattle.esm_journal.specs.Reads.{IsOnlyRead}
-use Rattle.esm_upkeep.specs.Text.{upkeep_status, upkeep_text}
-use Rattle.esm_upkeep.specs.Upkeep.{AreKept, AreOnlyRead, IsCompactEnd, IsCompacting, IsFailuresEnd, IsMigrateEnd, IsMigrating, IsShowEnd}
-use Rattle.esm_upkeep.specs.declared.ending.UpkeepEnd.{UpkeepEnd}
+use Rattle.esm_folder.specs.UpkeepText.{upkeep_status, upkeep_text}
+use Rattle.esm_folder.specs.Upkeep.{AreKept, AreOnlyRead, IsCompactEnd, IsCompacting, IsFailuresEnd, IsMigrateEnd, IsMigrating, IsShowEnd}
+use Rattle.esm_folder.specs.declared.ending.UpkeepEnd.{UpkeepEnd}
 use Rattle.esm_run.specs.declared.tending.FilesCommand.{FilesCommand}
 use Rattle.esm_run.specs.declared.tending.FilesCommand.TheVariants as files
 use Rattle.esm_run.specs.declared.tending.Upkeep.{Upkeep}

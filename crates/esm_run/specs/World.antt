@@ -1,13 +1,22 @@
 -- What devices tell, each time as one value, so that a contract is handed one argument for it, and what is seen of a world
 -- before and after a command. This product's own.
 use Rattle.std.specs.Prelude.{ℕ, Bool, List, Option, reverse}
-use Rattle.esm_batchers.specs.Working.{outside}
-use Rattle.esm_init.specs.declared.disks.Disks.{Disks}
-use Rattle.esm_io.specs.Meanings.{DiskMeaning}
+use Rattle.esm_workers.specs.Working.{outside}
+use Rattle.esm_folder.specs.declared.disks.Disks.{Disks}
+use Rattle.esm_io.specs.declared.caller.Caller.{Ghosts as Caller}
+use Rattle.esm_io.specs.declared.clock.Clock.{Ghosts as Clock}
+use Rattle.esm_io.specs.declared.disk.Disk.{Ghosts as Disk}
+use Rattle.esm_io.specs.declared.door.Door.{Ghosts as Door}
+use Rattle.esm_io.specs.declared.link.Link.{Ghosts as Link}
+use Rattle.esm_io.specs.declared.sink.Sink.{Ghosts as Sink}
+use Rattle.esm_io.specs.declared.source.Source.{Ghosts as Source}
+use Rattle.esm_io.specs.Meanings.{DiskMeaning, disk as meaning}
 use Rattle.esm_io.specs.Talks.{Closed, Talk}
 use Rattle.esm_model.specs.declared.called.Called.{Called}
 use Rattle.esm_model.specs.declared.entry.Entry.{Entry}
+use Rattle.esm_runner.specs.declared.run.MappingRun.{MappingRun}
 use Rattle.esm_runner.specs.Headline.{Devices, Telling, telling}
+use Rattle.esm_run.specs.declared.left.RunDevices.{RunDevices}
 use Rattle.esm_run.specs.declared.world.World.{World}
 
 -- what the devices of a world tell
@@ -34,20 +43,21 @@ pub record DevicesTell (S K D F L N : Type 0) : Type 1 where
   pub talk : N → Option Talk
   pub link_faults : N → ℕ
 
-abbrev pub devices : {S K D F L N : Type 0} → (ℕ → Bool) → (List ℕ → List ℕ) → (F → Option (List Called)) → DiskMeaning D → (S → ℕ) → (S → Option (List ℕ)) → (K → ℕ) → (K → Option (List ℕ)) → (L → ℕ) → (L → Option (List Closed)) → (N → Option Talk) → (N → ℕ) → DevicesTell S K D F L N
-devices gave sends log disk input_faults left output_faults written door_faults closed talk link_faults = record {
-  gave = gave;
-  sends = sends;
-  log = log;
-  disk = disk;
-  input_faults = input_faults;
-  left = left;
-  output_faults = output_faults;
-  written = written;
-  door_faults = door_faults;
-  closed = closed;
-  talk = talk;
-  link_faults = link_faults;
+-- by the members of their traits
+abbrev pub devices : {S K D C F L N : Type 0} → Clock C → Caller F → Disk D → Source S → Sink K → Door L N → Link N → DevicesTell S K D F L N
+devices clock caller disk source sink door link = record {
+  gave = clock.gave;
+  sends = caller.sends;
+  log = caller.log;
+  disk = meaning disk;
+  input_faults = source.faults;
+  left = source.left;
+  output_faults = sink.faults;
+  written = sink.written;
+  door_faults = door.faults;
+  closed = door.closed;
+  talk = link.told;
+  link_faults = link.faults;
 }
 
 -- what those of a run tell: of the clock, the callers and the disks, and of the input
@@ -56,8 +66,8 @@ pub record RunTells (S D F : Type 0) : Type 1 where
   pub faults : S → ℕ
   pub left : S → Option (List ℕ)
 
-abbrev pub run_tells : {S D F : Type 0} → (ℕ → Bool) → (List ℕ → List ℕ) → (F → Option (List Called)) → DiskMeaning D → (S → ℕ) → (S → Option (List ℕ)) → RunTells S D F
-run_tells gave sends log disk faults left = record { run = telling (outside gave sends log) disk; faults = faults; left = left }
+abbrev pub run_tells : {S D C F : Type 0} → Clock C → Caller F → Disk D → Source S → RunTells S D F
+run_tells clock caller disk source = record { run = telling (outside clock.gave caller.sends caller.log) (meaning disk); faults = source.faults; left = source.left }
 
 -- what those of `serve` tell: which moments the clock gave, what connections tell, how often they failed, and what the
 -- registry's disk means
@@ -67,14 +77,14 @@ pub record ServeTells (C D : Type 0) : Type 1 where
   pub faults : C → ℕ
   pub disk : DiskMeaning D
 
-abbrev pub serve_tells : {C D : Type 0} → (ℕ → Bool) → (C → Option Talk) → (C → ℕ) → DiskMeaning D → ServeTells C D
-serve_tells gave told faults disk = record { gave = gave; told = told; faults = faults; disk = disk }
+abbrev pub serve_tells : {C D N : Type 0} → Clock C → Link N → Disk D → ServeTells N D
+serve_tells clock link disk = record { gave = clock.gave; told = link.told; faults = link.faults; disk = meaning disk }
 
 abbrev pub of_run : {S K D F L N : Type 0} → DevicesTell S K D F L N → RunTells S D F
-of_run t = run_tells t.gave t.sends t.log t.disk t.input_faults t.left
+of_run t = record { run = telling (outside t.gave t.sends t.log) t.disk; faults = t.input_faults; left = t.left }
 
 abbrev pub of_serve : {S K D F L N : Type 0} → DevicesTell S K D F L N → ServeTells N D
-of_serve t = serve_tells t.gave t.talk t.link_faults t.disk
+of_serve t = record { gave = t.gave; told = t.talk; faults = t.link_faults; disk = t.disk }
 
 -- what is seen of a world
 
@@ -90,6 +100,14 @@ pub record Seen (S D F : Type 0) : Type 0 where
 
 abbrev pub seen_of : {S D F : Type 0} → S → (journal spare failures registry : D) → List F → Seen S D F
 seen_of input journal spare failures registry callers = record { input = input; disks = disks journal spare failures registry; callers = callers }
+
+-- the same of a run's devices
+abbrev pub seen_by : {S D F : Type 0} → RunDevices S D F → Seen S D F
+seen_by run = seen_of run.input run.journal run.spare run.failures run.registry run.callers.items
+
+-- the devices that the run of a mapping left, the registry's disk among them
+abbrev pub devices_left : {S D F : Type 0} → MappingRun S D F → D → RunDevices S D F
+devices_left run registry = record { input = run.input; journal = run.journal; spare = run.spare; failures = run.failures; registry = registry; callers = run.callers }
 
 -- the disks that a run writes, and the callers
 abbrev pub devices_of : {S D F : Type 0} → Seen S D F → Devices D F

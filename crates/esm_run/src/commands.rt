@@ -8,7 +8,7 @@ ghost use Rattle.esm_report.specs.Report.{last_line, stands_alone};
 ghost use Rattle.esm_run.specs.Endings.{IsTold};
 ghost use Rattle.esm_run.specs.Answers.{RunOutcome, IsCutOf, IsRegistryLeft};
 ghost use Rattle.esm_run.specs.Ran.{IsReport};
-ghost use Rattle.esm_run.specs.World.{run_tells, seen_of, written_of};
+ghost use Rattle.esm_run.specs.World.{run_tells, seen, written_of};
 
 use crate::left::{Began, Ran, RunDevices};
 use crate::output::{OUT_OF_MEMORY, tell};
@@ -17,8 +17,7 @@ use crate::world::{Ended, World};
 use esm_cli::{RunWords, WordsError};
 use esm_io::{Caller, Clock, Disk, Door, Sink, Source};
 use esm_model::{Entry, OutOfMemory};
-use esm_queue_report::queue_report;
-use esm_report::{Ending, last_line, report};
+use esm_report::{Ending, last_line, queue_report, report};
 use std::alloc::Global;
 use std::sync::Wait;
 use std::thread::Threads;
@@ -117,13 +116,11 @@ pub fn run<
     L: Door,
 >(rt: &R, alloc: Global, words: RunWords, world: World<S, K, D, C, F, L>) -> Ended<S, K, D, C, F, L>
     requires { length world.callers.items ≡ MAX_LANES }
-    ensures outcome { result.status ≢ 70 → RunOutcome (run_tells C.gave F.sends F.log (meaning D.honest D.content D.image D.moment D.image_since D.faults) S.faults S.left) words
+    ensures outcome { result.status ≢ 70 → RunOutcome (run_tells C.Clock F.Caller D.Disk S.Source) words
         (written_of K.faults K.written world.out result.world.out) (reverse result.world.trace.items)
-        (seen_of world.input world.journal world.spare world.failures world.registry world.callers.items)
-        (seen_of result.world.input result.world.journal result.world.spare result.world.failures result.world.registry result.world.callers.items) result.status }
-    ensures want_of_memory { result.status ≡ 70 → IsCutOf (run_tells C.gave F.sends F.log (meaning D.honest D.content D.image D.moment D.image_since D.faults) S.faults S.left) words (reverse result.world.trace.items)
-        (seen_of world.input world.journal world.spare world.failures world.registry world.callers.items)
-        (seen_of result.world.input result.world.journal result.world.spare result.world.failures result.world.registry result.world.callers.items) }
+        (seen world) (seen result.world) result.status }
+    ensures want_of_memory { result.status ≡ 70 → IsCutOf (run_tells C.Clock F.Caller D.Disk S.Source) words (reverse result.world.trace.items)
+        (seen world) (seen result.world) }
     ensures good_words { result.status ≢ 2 }
     ensures untold { result.status ≡ 70 → result.world.out ≡ world.out }
     ensures kept { result.world ≡ record world {
@@ -136,7 +133,7 @@ pub fn run<
       callers = result.world.callers;
       trace = result.world.trace;
     } }
-    ensures registry { IsRegistryLeft (meaning D.honest D.content D.image D.moment D.image_since D.faults) words.which world.registry result.world.registry }
+    ensures registry { IsRegistryLeft (meaning D.Disk) words.which world.registry result.world.registry }
 {
     let World {
         input,

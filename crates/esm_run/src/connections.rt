@@ -1,6 +1,5 @@
 // Serving the connections of the mappings' API, one after the other, and why no more are accepted.
 ghost use Rattle.std.specs.Prelude.{◌≡◌, ◌≤◌, false, Some, IfOk, OnOk, OnErr};
-ghost use Rattle.esm_io.specs.Meanings.{disk as meaning};
 ghost use Rattle.esm_io.specs.Talks.{Closes, IsFresh};
 ghost use Rattle.esm_run.specs.Serving.{Connection, HaveServed, HaveServedUpTo, IsCutAt, IsServed, StopsFor};
 ghost use Rattle.esm_run.specs.World.{door_of, serve_tells};
@@ -42,10 +41,10 @@ fn serve_connection<D: Disk, C: Clock, L: Door>(
     requires faultless { L.Conn.faults conn ≡ 0 }
     requires up { registry.old.journal.down ≡ false }
     ensures served { OnOk result ((c : Connection L.Conn)
-        × IsServed (serve_tells C.gave L.Conn.told L.Conn.faults (meaning D.honest D.content D.image D.moment D.image_since D.faults)) c registry.old registry.new
+        × IsServed (serve_tells C.Clock L.Conn.Link D.Disk) c registry.old registry.new
         × Closes (L.closed door.old) (L.closed door.new) (L.Conn.told c.left) (L.Conn.faults c.left)) }
     ensures cut { OnErr result ((c : Connection L.Conn)
-        × IsCutAt (serve_tells C.gave L.Conn.told L.Conn.faults (meaning D.honest D.content D.image D.moment D.image_since D.faults)) registry.old (Some c) registry.new
+        × IsCutAt (serve_tells C.Clock L.Conn.Link D.Disk) registry.old (Some c) registry.new
         (L.closed door.old) (L.closed door.new)) }
     ensures count { L.faults door.new ≡ L.faults door.old }
 {
@@ -68,11 +67,11 @@ pub fn serve_connections<D: Disk, C: Clock, L: Door>(
     registry: &mut Registry<D>,
 ) -> Result<Accepted, OutOfMemory>
     requires up { registry.old.journal.down ≡ false }
-    ensures served { IfOk result (λ accepted. HaveServed (serve_tells C.gave L.Conn.told L.Conn.faults (meaning D.honest D.content D.image D.moment D.image_since D.faults))
+    ensures served { IfOk result (λ accepted. HaveServed (serve_tells C.Clock L.Conn.Link D.Disk)
         registry.old registry.new (door_of L.faults L.closed door.old door.new) accepted.count) }
     ensures stop { IfOk result (λ accepted. StopsFor (D.faults registry.old.journal.disk) (D.faults registry.new.journal.disk) registry.new.journal.down
         (door_of L.faults L.closed door.old door.new) requests accepted.count accepted.stop) }
-    ensures cut { OnErr result (HaveServedUpTo (serve_tells C.gave L.Conn.told L.Conn.faults (meaning D.honest D.content D.image D.moment D.image_since D.faults))
+    ensures cut { OnErr result (HaveServedUpTo (serve_tells C.Clock L.Conn.Link D.Disk)
         registry.old registry.new (door_of L.faults L.closed door.old door.new)) }
 {
     for accepted in 0..requests {

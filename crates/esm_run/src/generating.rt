@@ -1,13 +1,13 @@
 // The command `gen`: a generated stream's run over devices of its own, the report that it prints and its exit status.
 ghost use Rattle.std.specs.Prelude.{◌≡◌, ◌≢◌, reverse, IsOkAnd};
-ghost use Rattle.esm_gen_run.specs.Run.{HasRun};
+ghost use Rattle.esm_gen.specs.Run.{HasRun};
 ghost use Rattle.esm_run.specs.Endings.{IsToldWith};
 ghost use Rattle.esm_run.specs.Generated.{GenOutcome};
 ghost use Rattle.esm_run.specs.World.{written_of};
 
 use crate::output::{OUT_OF_MEMORY, OUTPUT_FAULT, write_all};
 use crate::world::{Ended, World};
-use esm_gen_run::{GeneratedRun, run_generated};
+use esm_gen::{GeneratedRun, run_generated};
 use esm_io::Sink;
 use esm_model::OutOfMemory;
 use std::alloc::Global;

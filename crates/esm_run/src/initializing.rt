@@ -1,16 +1,16 @@
 // Making the four files that the program keeps by the `init` command, and telling how that ended.
 ghost use Rattle.std.specs.Prelude.{◌≡◌, ◌≢◌, Ok};
 ghost use Rattle.esm_io.specs.Meanings.{disk as meaning};
-ghost use Rattle.esm_init.specs.Init.{AreSafe};
-ghost use Rattle.esm_init.specs.Text.{init_text};
-ghost use Rattle.esm_init.specs.declared.files.InitEnd.{InitEnd};
+ghost use Rattle.esm_folder.specs.Init.{AreSafe};
+ghost use Rattle.esm_folder.specs.Text.{init_text};
+ghost use Rattle.esm_folder.specs.declared.files.InitEnd.{InitEnd};
 ghost use Rattle.esm_run.specs.Endings.{IsToldWith};
 ghost use Rattle.esm_run.specs.Initialized.{InitOutcome, init_status};
 ghost use Rattle.esm_run.specs.World.{disks, written_of};
 
 use crate::output::{OUT_OF_MEMORY, OUTPUT_FAULT, write_all};
 use crate::world::{Ended, World};
-use esm_init::{Disks, InitEnd, Initialized, init_text};
+use esm_folder::{Disks, InitEnd, Initialized, init_text};
 use esm_io::{Disk, Sink};
 use esm_model::OutOfMemory;
 use std::alloc::Global;
@@ -56,11 +56,11 @@ pub fn initialize<S, K: Sink, D: Disk, C, F, L>(
     alloc: Global,
     world: World<S, K, D, C, F, L>,
 ) -> Ended<S, K, D, C, F, L>
-    ensures outcome { result.status ≢ 70 → InitOutcome (meaning D.honest D.content D.image D.moment D.image_since D.faults)
+    ensures outcome { result.status ≢ 70 → InitOutcome (meaning D.Disk)
         (disks world.journal world.spare world.failures world.registry)
         (disks result.world.journal result.world.spare result.world.failures result.world.registry)
         (written_of K.faults K.written world.out result.world.out) result.status }
-    ensures safe { AreSafe (meaning D.honest D.content D.image D.moment D.image_since D.faults)
+    ensures safe { AreSafe (meaning D.Disk)
         (disks world.journal world.spare world.failures world.registry)
         (disks result.world.journal result.world.spare result.world.failures result.world.registry) }
     ensures untold { result.status ≡ 70 → result.world.out ≡ world.out }
@@ -85,7 +85,7 @@ pub fn initialize<S, K: Sink, D: Disk, C, F, L>(
         door,
         trace,
     } = world;
-    let Initialized { end, disks } = esm_init::init(
+    let Initialized { end, disks } = esm_folder::init(
         alloc,
         Disks {
             journal,

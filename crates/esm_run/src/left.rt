@@ -1,13 +1,14 @@
 // What became of the options of `run`, before it is told.
 ghost use Rattle.std.specs.Prelude.{◌≡◌, [], IfOk};
 ghost use Rattle.esm_run.specs.Ran.{IsEndingOf};
+ghost use Rattle.esm_run.specs.World.{devices_left};
 ghost use Rattle.esm_run.specs.declared.left.Began.TheVariants as began;
 
 use crate::refusal::ending_of;
+use esm_journal_state::Says;
 use esm_model::{Entry, OutOfMemory};
 use esm_report::Ending;
 use esm_runner::MappingRun;
-use esm_said::Says;
 use std::alloc::Global;
 
 /// The devices of a run.
@@ -71,12 +72,13 @@ fn left_by<S, D, F>(alloc: Global, run: MappingRun<S, D, F>, registry: D) -> Lef
     ensures ended { IfOk result.end (IsEndingOf run.end) }
     ensures said { result.said ≡ run.said }
     ensures trace { result.trace ≡ run.trace }
-    ensures devices { result.devices ≡ record { input = run.input; journal = run.journal; spare = run.spare; failures = run.failures; registry = registry; callers = run.callers } }
+    ensures devices { result.devices ≡ devices_left run registry }
 {
     let MappingRun {
         end,
         trace,
         said,
+        reading: _,
         input,
         journal,
         spare,
@@ -107,7 +109,7 @@ pub fn stream_ran<S, D, F>(alloc: Global, run: MappingRun<S, D, F>, registry: D)
     ensures ended { IfOk result.end (IsEndingOf run.end) }
     ensures began { result.began ≡ began.Stream run.said }
     ensures trace { result.trace ≡ run.trace }
-    ensures devices { result.devices ≡ record { input = run.input; journal = run.journal; spare = run.spare; failures = run.failures; registry = registry; callers = run.callers } }
+    ensures devices { result.devices ≡ devices_left run registry }
 {
     let Left {
         end,
@@ -128,7 +130,7 @@ pub fn queue_ran<S, D, F>(alloc: Global, run: MappingRun<S, D, F>, registry: D) 
     ensures ended { IfOk result.end (IsEndingOf run.end) }
     ensures began { result.began ≡ began.Queue run.said }
     ensures trace { result.trace ≡ run.trace }
-    ensures devices { result.devices ≡ record { input = run.input; journal = run.journal; spare = run.spare; failures = run.failures; registry = registry; callers = run.callers } }
+    ensures devices { result.devices ≡ devices_left run registry }
 {
     let Left {
         end,

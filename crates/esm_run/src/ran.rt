@@ -6,7 +6,7 @@ ghost use Rattle.esm_model.specs.Valid.{is_stream};
 ghost use Rattle.esm_model.specs.declared.limits.TheConstants.{MAX_LANES};
 ghost use Rattle.esm_run.specs.Answers.{AreGoodFiles, HasNotBegun, IsCutOf, IsRegistryLeft};
 ghost use Rattle.esm_run.specs.Ran.{EndsWith};
-ghost use Rattle.esm_run.specs.World.{disks, run_tells, seen_of};
+ghost use Rattle.esm_run.specs.World.{disks, run_tells, seen_by, seen_of};
 ghost use Rattle.esm_run.specs.declared.left.Began.TheVariants as began;
 
 use crate::left::{Ran, RunDevices, not_begun, queue_ran, stream_ran};
@@ -49,11 +49,11 @@ fn closed<S, D: Disk, F>(
     ensures end { result.end ≡ end }
     ensures nothing { result.began ≡ began.Nothing }
     ensures registry { result.devices.registry ≡ opened.registry }
-    ensures good { (registry : D) → AreGoodFiles (meaning D.honest D.content D.image D.moment D.image_since D.faults) (disks opened.files.journal opened.files.spare opened.files.failures registry) }
-    ensures not_begun { (registry : D) → IsRegistryLeft (meaning D.honest D.content D.image D.moment D.image_since D.faults) words.now.which registry opened.registry
-        → HasNotBegun (meaning D.honest D.content D.image D.moment D.image_since D.faults) words.now (reverse result.trace.items)
+    ensures good { (registry : D) → AreGoodFiles (meaning D.Disk) (disks opened.files.journal opened.files.spare opened.files.failures registry) }
+    ensures not_begun { (registry : D) → IsRegistryLeft (meaning D.Disk) words.now.which registry opened.registry
+        → HasNotBegun (meaning D.Disk) words.now (reverse result.trace.items)
         (seen_of opened.input opened.files.journal opened.files.spare opened.files.failures registry opened.callers.items)
-        (seen_of result.devices.input result.devices.journal result.devices.spare result.devices.failures result.devices.registry result.devices.callers.items) }
+        (seen_by result.devices) }
 {
     let _ = words;
     let Opened {
@@ -94,17 +94,17 @@ fn run_mapping<
     requires may_run { MayRun mapping }
     requires callers { length opened.callers.items ≡ MAX_LANES }
     ensures ended { IfOk result.end (λ ending. (registry : D)
-        → IsNamed (meaning D.honest D.content D.image D.moment D.image_since D.faults) words.now.which registry mapping
-        → IsRegistryLeft (meaning D.honest D.content D.image D.moment D.image_since D.faults) words.now.which registry opened.registry
-        → EndsWith (run_tells C.gave F.sends F.log (meaning D.honest D.content D.image D.moment D.image_since D.faults) S.faults S.left) words.now (reverse result.trace.items)
+        → IsNamed (meaning D.Disk) words.now.which registry mapping
+        → IsRegistryLeft (meaning D.Disk) words.now.which registry opened.registry
+        → EndsWith (run_tells C.Clock F.Caller D.Disk S.Source) words.now (reverse result.trace.items)
         (seen_of opened.input opened.files.journal opened.files.spare opened.files.failures registry opened.callers.items)
-        (seen_of result.devices.input result.devices.journal result.devices.spare result.devices.failures result.devices.registry result.devices.callers.items) result.began ending) }
+        (seen_by result.devices) result.began ending) }
     ensures stopped { OnErr result.end ((registry : D)
-        → IsNamed (meaning D.honest D.content D.image D.moment D.image_since D.faults) words.now.which registry mapping
-        → IsRegistryLeft (meaning D.honest D.content D.image D.moment D.image_since D.faults) words.now.which registry opened.registry
-        → IsCutOf (run_tells C.gave F.sends F.log (meaning D.honest D.content D.image D.moment D.image_since D.faults) S.faults S.left) words.now (reverse result.trace.items)
+        → IsNamed (meaning D.Disk) words.now.which registry mapping
+        → IsRegistryLeft (meaning D.Disk) words.now.which registry opened.registry
+        → IsCutOf (run_tells C.Clock F.Caller D.Disk S.Source) words.now (reverse result.trace.items)
         (seen_of opened.input opened.files.journal opened.files.spare opened.files.failures registry opened.callers.items)
-        (seen_of result.devices.input result.devices.journal result.devices.spare result.devices.failures result.devices.registry result.devices.callers.items)) }
+        (seen_by result.devices)) }
     ensures registry { result.devices.registry ≡ opened.registry }
 {
     let Opened {
@@ -149,13 +149,13 @@ fn run_opened<
     F: Caller + Send,
 >(rt: &R, alloc: Global, words: &RunWords, opened: Opened<S, D, F>, clock: &C) -> Ran<S, D, F>
     requires callers { length opened.callers.items ≡ MAX_LANES }
-    ensures ended { IfOk result.end (EndsWith (run_tells C.gave F.sends F.log (meaning D.honest D.content D.image D.moment D.image_since D.faults) S.faults S.left) words.now (reverse result.trace.items)
+    ensures ended { IfOk result.end (EndsWith (run_tells C.Clock F.Caller D.Disk S.Source) words.now (reverse result.trace.items)
         (seen_of opened.input opened.files.journal opened.files.spare opened.files.failures opened.registry opened.callers.items)
-        (seen_of result.devices.input result.devices.journal result.devices.spare result.devices.failures result.devices.registry result.devices.callers.items) result.began) }
-    ensures stopped { OnErr result.end (IsCutOf (run_tells C.gave F.sends F.log (meaning D.honest D.content D.image D.moment D.image_since D.faults) S.faults S.left) words.now (reverse result.trace.items)
+        (seen_by result.devices) result.began) }
+    ensures stopped { OnErr result.end (IsCutOf (run_tells C.Clock F.Caller D.Disk S.Source) words.now (reverse result.trace.items)
         (seen_of opened.input opened.files.journal opened.files.spare opened.files.failures opened.registry opened.callers.items)
-        (seen_of result.devices.input result.devices.journal result.devices.spare result.devices.failures result.devices.registry result.devices.callers.items)) }
-    ensures registry { IsRegistryLeft (meaning D.honest D.content D.image D.moment D.image_since D.faults) words.now.which opened.registry result.devices.registry }
+        (seen_by result.devices)) }
+    ensures registry { IsRegistryLeft (meaning D.Disk) words.now.which opened.registry result.devices.registry }
 {
     let Opened {
         input,
@@ -185,13 +185,11 @@ pub fn run_words<
     F: Caller + Send,
 >(rt: &R, alloc: Global, words: RunWords, devices: RunDevices<S, D, F>, clock: &C) -> Ran<S, D, F>
     requires { length devices.callers.items ≡ MAX_LANES }
-    ensures ended { IfOk result.end (EndsWith (run_tells C.gave F.sends F.log (meaning D.honest D.content D.image D.moment D.image_since D.faults) S.faults S.left) words (reverse result.trace.items)
-        (seen_of devices.input devices.journal devices.spare devices.failures devices.registry devices.callers.items)
-        (seen_of result.devices.input result.devices.journal result.devices.spare result.devices.failures result.devices.registry result.devices.callers.items) result.began) }
-    ensures stopped { OnErr result.end (IsCutOf (run_tells C.gave F.sends F.log (meaning D.honest D.content D.image D.moment D.image_since D.faults) S.faults S.left) words (reverse result.trace.items)
-        (seen_of devices.input devices.journal devices.spare devices.failures devices.registry devices.callers.items)
-        (seen_of result.devices.input result.devices.journal result.devices.spare result.devices.failures result.devices.registry result.devices.callers.items)) }
-    ensures registry { IsRegistryLeft (meaning D.honest D.content D.image D.moment D.image_since D.faults) words.which devices.registry result.devices.registry }
+    ensures ended { IfOk result.end (EndsWith (run_tells C.Clock F.Caller D.Disk S.Source) words (reverse result.trace.items)
+        (seen_by devices) (seen_by result.devices) result.began) }
+    ensures stopped { OnErr result.end (IsCutOf (run_tells C.Clock F.Caller D.Disk S.Source) words (reverse result.trace.items)
+        (seen_by devices) (seen_by result.devices)) }
+    ensures registry { IsRegistryLeft (meaning D.Disk) words.which devices.registry result.devices.registry }
 {
     let RunDevices {
         input,

@@ -6,14 +6,13 @@ ghost use Rattle.esm_report.specs.declared.ending.Ending.TheVariants.{BadParamet
 ghost use Rattle.esm_run.specs.Endings.{why_text, ending_of, ending_of_reading, ending_of_files, ending_of_mapping, file_of};
 
 use esm_config::Param;
-use esm_init::FileName;
+use esm_folder::JournalFile;
 use esm_input::InputEnd;
 use esm_mapping::MappingError;
-use esm_model::{OutOfMemory, Text};
+use esm_model::{FileName, OutOfMemory, Text};
 use esm_record::LineError;
 use esm_report::Ending;
 use esm_runner::{FilesError, MappingEnd};
-use esm_upkeep::JournalFile;
 use std::alloc::Global;
 
 fn text_of(alloc: Global, text: &str) -> Result<Text, OutOfMemory>

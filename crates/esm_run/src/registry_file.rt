@@ -65,11 +65,11 @@ fn serve_registry<D: Disk, C: Clock, L: Door>(
     registry: Registry<D>,
 ) -> ServedFile<D>
     requires up { registry.journal.down ≡ false }
-    ensures end { IfOk result.end (λ end. (disk : D) → IsOpened (meaning D.honest D.content D.image D.moment D.image_since D.faults) disk registry
-        → IsServeEnd (serve_tells C.gave L.Conn.told L.Conn.faults (meaning D.honest D.content D.image D.moment D.image_since D.faults))
+    ensures end { IfOk result.end (λ end. (disk : D) → IsOpened (meaning D.Disk) disk registry
+        → IsServeEnd (serve_tells C.Clock L.Conn.Link D.Disk)
         disk result.disk (door_of L.faults L.closed door.old door.new) requests end) }
-    ensures cut { OnErr result.end ((disk : D) → IsOpened (meaning D.honest D.content D.image D.moment D.image_since D.faults) disk registry
-        → IsServeCut (serve_tells C.gave L.Conn.told L.Conn.faults (meaning D.honest D.content D.image D.moment D.image_since D.faults))
+    ensures cut { OnErr result.end ((disk : D) → IsOpened (meaning D.Disk) disk registry
+        → IsServeCut (serve_tells C.Clock L.Conn.Link D.Disk)
         disk result.disk (door_of L.faults L.closed door.old door.new)) }
 {
     let mut registry = registry;
@@ -95,9 +95,9 @@ pub fn serve_file<D: Disk, C: Clock, L: Door>(
     door: &mut L,
     disk: D,
 ) -> ServedFile<D>
-    ensures end { IfOk result.end (IsServeEnd (serve_tells C.gave L.Conn.told L.Conn.faults (meaning D.honest D.content D.image D.moment D.image_since D.faults))
+    ensures end { IfOk result.end (IsServeEnd (serve_tells C.Clock L.Conn.Link D.Disk)
         disk result.disk (door_of L.faults L.closed door.old door.new) requests) }
-    ensures cut { OnErr result.end (IsServeCut (serve_tells C.gave L.Conn.told L.Conn.faults (meaning D.honest D.content D.image D.moment D.image_since D.faults))
+    ensures cut { OnErr result.end (IsServeCut (serve_tells C.Clock L.Conn.Link D.Disk)
         disk result.disk (door_of L.faults L.closed door.old door.new)) }
 {
     let journal = match Journal::open(alloc, disk) {

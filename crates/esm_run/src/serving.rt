@@ -1,6 +1,5 @@
 // The command `serve`: its connections, the lines that it prints and its exit status.
 ghost use Rattle.std.specs.Prelude.{◌≡◌, ◌≢◌, Ok, IfOk};
-ghost use Rattle.esm_io.specs.Meanings.{disk as meaning};
 ghost use Rattle.esm_run.specs.Endings.{IsToldWith};
 ghost use Rattle.esm_run.specs.Serve.{IsServeCut, ServeOutcome, last_line, serve_status, serve_text, served_text, stop_status};
 ghost use Rattle.esm_run.specs.World.{door_of, serve_tells, written_of};
@@ -10,9 +9,8 @@ use crate::connections::Stop;
 use crate::output::{OUT_OF_MEMORY, OUTPUT_FAULT, write_all};
 use crate::registry_file::{ServeEnd, ServedFile, serve_file};
 use crate::world::{Ended, World};
-use esm_init::FileName;
 use esm_io::{Clock, Disk, Door, Sink};
-use esm_model::OutOfMemory;
+use esm_model::{FileName, OutOfMemory};
 use std::alloc::Global;
 
 /// A file is no journal, is damaged, or has a bad payload.
@@ -114,10 +112,10 @@ pub fn serve<S, K: Sink, D: Disk, C: Clock, F, L: Door>(
     requests: u32,
     world: World<S, K, D, C, F, L>,
 ) -> Ended<S, K, D, C, F, L>
-    ensures outcome { result.status ≢ 70 → ServeOutcome (serve_tells C.gave L.Conn.told L.Conn.faults (meaning D.honest D.content D.image D.moment D.image_since D.faults))
+    ensures outcome { result.status ≢ 70 → ServeOutcome (serve_tells C.Clock L.Conn.Link D.Disk)
         world.registry result.world.registry (door_of L.faults L.closed world.door result.world.door)
         (written_of K.faults K.written world.out result.world.out) requests result.status }
-    ensures want_of_memory { result.status ≡ 70 → IsServeCut (serve_tells C.gave L.Conn.told L.Conn.faults (meaning D.honest D.content D.image D.moment D.image_since D.faults))
+    ensures want_of_memory { result.status ≡ 70 → IsServeCut (serve_tells C.Clock L.Conn.Link D.Disk)
         world.registry result.world.registry (door_of L.faults L.closed world.door result.world.door) }
     ensures untold { result.status ≡ 70 → result.world.out ≡ world.out }
     ensures good_words { result.status ≢ 2 }

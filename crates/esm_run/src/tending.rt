@@ -1,9 +1,9 @@
 // The commands over a folder's files alone: `init`, `show`, `failures`, `compact` and `migrate`.
 ghost use Rattle.std.specs.Prelude.{◌≡◌, ◌≢◌, Ok, IfOk, OnErr};
 ghost use Rattle.esm_io.specs.Meanings.{disk as meaning};
-ghost use Rattle.esm_upkeep.specs.Text.{upkeep_status, upkeep_text};
-ghost use Rattle.esm_upkeep.specs.Upkeep.{AreOnlyRead};
-ghost use Rattle.esm_upkeep.specs.declared.ending.UpkeepEnd.{UpkeepEnd};
+ghost use Rattle.esm_folder.specs.UpkeepText.{upkeep_status, upkeep_text};
+ghost use Rattle.esm_folder.specs.Upkeep.{AreOnlyRead};
+ghost use Rattle.esm_folder.specs.declared.ending.UpkeepEnd.{UpkeepEnd};
 ghost use Rattle.esm_run.specs.declared.tending.FilesCommand.TheVariants as files;
 ghost use Rattle.esm_run.specs.declared.tending.Upkeep.TheVariants.{Compact};
 ghost use Rattle.esm_run.specs.Endings.{IsToldWith};
@@ -13,10 +13,9 @@ ghost use Rattle.esm_run.specs.World.{disks, written_of};
 use crate::initializing::initialize;
 use crate::output::{OUT_OF_MEMORY, OUTPUT_FAULT, write_all};
 use crate::world::{Ended, World};
-use esm_init::Disks;
+use esm_folder::{Disks, FileEnded, PairEnded, UpkeepEnd, compact, migrate, show, upkeep_text};
 use esm_io::{Disk, Sink};
 use esm_model::OutOfMemory;
-use esm_upkeep::{FileEnded, PairEnded, UpkeepEnd, compact, migrate, show, upkeep_text};
 use std::alloc::Global;
 
 /// A command that looks after a folder's journals.
@@ -65,9 +64,9 @@ fn beside<D>(pair: PairEnded<D>, failures: D, registry: D) -> Tended<D>
 
 /// Does what the command asks for over the disks.
 fn tend_disks<D: Disk>(alloc: Global, upkeep: Upkeep, disks: Disks<D>) -> Tended<D>
-    ensures end { IfOk result.end (IsUpkeepEnd (meaning D.honest D.content D.image D.moment D.image_since D.faults) upkeep disks result.disks) }
-    ensures left { IsLeft (meaning D.honest D.content D.image D.moment D.image_since D.faults) disks result.disks upkeep }
-    ensures unwritten { upkeep ≡ Compact → OnErr result.end (AreOnlyRead (meaning D.honest D.content D.image D.moment D.image_since D.faults) disks.journal disks.spare result.disks.journal result.disks.spare) }
+    ensures end { IfOk result.end (IsUpkeepEnd (meaning D.Disk) upkeep disks result.disks) }
+    ensures left { IsLeft (meaning D.Disk) disks result.disks upkeep }
+    ensures unwritten { upkeep ≡ Compact → OnErr result.end (AreOnlyRead (meaning D.Disk) disks.journal disks.spare result.disks.journal result.disks.spare) }
 {
     let Disks {
         journal,
@@ -78,7 +77,7 @@ fn tend_disks<D: Disk>(alloc: Global, upkeep: Upkeep, disks: Disks<D>) -> Tended
     match upkeep {
         Upkeep::Show => beside(show(alloc, journal, spare), failures, registry),
         Upkeep::Failures => {
-            let FileEnded { end, disk } = esm_upkeep::failures(alloc, failures);
+            let FileEnded { end, disk } = esm_folder::failures(alloc, failures);
             Tended {
                 end,
                 disks: Disks {
@@ -129,14 +128,14 @@ fn keep_up<S, K: Sink, D: Disk, C, F, L>(
     upkeep: Upkeep,
     world: World<S, K, D, C, F, L>,
 ) -> Ended<S, K, D, C, F, L>
-    ensures outcome { result.status ≢ 70 → UpkeepOutcome (meaning D.honest D.content D.image D.moment D.image_since D.faults)
+    ensures outcome { result.status ≢ 70 → UpkeepOutcome (meaning D.Disk)
         (disks world.journal world.spare world.failures world.registry)
         (disks result.world.journal result.world.spare result.world.failures result.world.registry)
         (written_of K.faults K.written world.out result.world.out) upkeep result.status }
-    ensures left { IsLeft (meaning D.honest D.content D.image D.moment D.image_since D.faults)
+    ensures left { IsLeft (meaning D.Disk)
         (disks world.journal world.spare world.failures world.registry)
         (disks result.world.journal result.world.spare result.world.failures result.world.registry) upkeep }
-    ensures compact_cut { result.status ≡ 70 → upkeep ≡ Compact → IsCompactCut (meaning D.honest D.content D.image D.moment D.image_since D.faults)
+    ensures compact_cut { result.status ≡ 70 → upkeep ≡ Compact → IsCompactCut (meaning D.Disk)
         (disks world.journal world.spare world.failures world.registry)
         (disks result.world.journal result.world.spare result.world.failures result.world.registry) }
     ensures untold { result.status ≡ 70 → result.world.out ≡ world.out }
@@ -193,14 +192,14 @@ pub fn tend<S, K: Sink, D: Disk, C, F, L>(
     command: FilesCommand,
     world: World<S, K, D, C, F, L>,
 ) -> Ended<S, K, D, C, F, L>
-    ensures outcome { result.status ≢ 70 → FilesOutcome (meaning D.honest D.content D.image D.moment D.image_since D.faults)
+    ensures outcome { result.status ≢ 70 → FilesOutcome (meaning D.Disk)
         (disks world.journal world.spare world.failures world.registry)
         (disks result.world.journal result.world.spare result.world.failures result.world.registry)
         (written_of K.faults K.written world.out result.world.out) command result.status }
-    ensures left { AreLeft (meaning D.honest D.content D.image D.moment D.image_since D.faults)
+    ensures left { AreLeft (meaning D.Disk)
         (disks world.journal world.spare world.failures world.registry)
         (disks result.world.journal result.world.spare result.world.failures result.world.registry) command }
-    ensures compact_cut { result.status ≡ 70 → command ≡ files.Upkeep Compact → IsCompactCut (meaning D.honest D.content D.image D.moment D.image_since D.faults)
+    ensures compact_cut { result.status ≡ 70 → command ≡ files.Upkeep Compact → IsCompactCut (meaning D.Disk)
         (disks world.journal world.spare world.failures world.registry)
         (disks result.world.journal result.world.spare result.world.failures result.world.registry) }
     ensures untold { result.status ≡ 70 → result.world.out ≡ world.out }

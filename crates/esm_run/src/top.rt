@@ -3,7 +3,6 @@ ghost use Rattle.std.specs.Prelude.{◌≡◌, ◌≢◌, ℕ, [], length, map};
 ghost use Rattle.std.specs.String.{string_bytes};
 ghost use Rattle.esm_model.specs.declared.limits.TheConstants.{MAX_LANES};
 ghost use Rattle.esm_cli.specs.declared.command.Command.{Command};
-ghost use Rattle.esm_io.specs.Meanings.{disk as meaning};
 ghost use Rattle.esm_run.specs.Built.{SpellsBuilt};
 ghost use Rattle.esm_run.specs.Commands.{IsLeft, IsStopped, NoneFailed, Outcome};
 ghost use Rattle.esm_run.specs.World.{devices};
@@ -16,9 +15,9 @@ use crate::tending::tend;
 use crate::world::{Ended, World};
 use esm_cli::laws::one_command;
 use esm_io::{Caller, Clock, Disk, Door, Sink, Source};
+use esm_journal_state::laws::same_told;
 use esm_mapping::laws::one_answer;
 use esm_record::laws::whole_goes_on;
-use esm_said::laws::same_told;
 use std::alloc::Global;
 use std::sync::Wait;
 use std::thread::Threads;
@@ -50,18 +49,20 @@ pub fn esm<
     requires callers { length world.callers.items ≡ MAX_LANES }
     requires trace { world.trace.items ≡ [] }
     // The command that the words spell ended so, and no other status tells of it where no device failed.
-    ensures outcome { result.status ≢ 70 → Outcome (devices C.gave F.sends F.log (meaning D.honest D.content D.image D.moment D.image_since D.faults) S.faults S.left K.faults K.written L.faults L.closed L.Conn.told L.Conn.faults)
+    ensures outcome { result.status ≢ 70 → Outcome (devices C.Clock F.Caller D.Disk S.Source K.Sink L.Door L.Conn.Link)
         (map string_bytes words.now) world result.world result.status }
-    ensures exact { result.status ≢ 70 → NoneFailed (devices C.gave F.sends F.log (meaning D.honest D.content D.image D.moment D.image_since D.faults) S.faults S.left K.faults K.written L.faults L.closed L.Conn.told L.Conn.faults) (map string_bytes words.now) world result.world
-        → (other : ℕ) → Outcome (devices C.gave F.sends F.log (meaning D.honest D.content D.image D.moment D.image_since D.faults) S.faults S.left K.faults K.written L.faults L.closed L.Conn.told L.Conn.faults)
+    ensures exact { result.status ≢ 70 → NoneFailed (devices C.Clock F.Caller D.Disk S.Source K.Sink L.Door L.Conn.Link)
+        (map string_bytes words.now) world result.world
+        → (other : ℕ) → Outcome (devices C.Clock F.Caller D.Disk S.Source K.Sink L.Door L.Conn.Link)
         (map string_bytes words.now) world result.world other → other ≡ result.status }
     ensures bad_words { result.status ≡ 2 → (c : Command) → ¬ SpellsBuilt (map string_bytes words.now) c }
     ensures spelled { result.status ≢ 2 → result.status ≢ 70 → (c : Command) × SpellsBuilt (map string_bytes words.now) c }
     // Want of memory.
-    ensures want_of_memory { result.status ≡ 70 → IsStopped (devices C.gave F.sends F.log (meaning D.honest D.content D.image D.moment D.image_since D.faults) S.faults S.left K.faults K.written L.faults L.closed L.Conn.told L.Conn.faults)
+    ensures want_of_memory { result.status ≡ 70 → IsStopped (devices C.Clock F.Caller D.Disk S.Source K.Sink L.Door L.Conn.Link)
         (map string_bytes words.now) world result.world }
     // What stays, whatever the status.
-    ensures left { (c : Command) → SpellsBuilt (map string_bytes words.now) c → IsLeft (devices C.gave F.sends F.log (meaning D.honest D.content D.image D.moment D.image_since D.faults) S.faults S.left K.faults K.written L.faults L.closed L.Conn.told L.Conn.faults) c world result.world }
+    ensures left { (c : Command) → SpellsBuilt (map string_bytes words.now) c →
+        IsLeft (devices C.Clock F.Caller D.Disk S.Source K.Sink L.Door L.Conn.Link) c world result.world }
     ensures untouched { ((c : Command) → ¬ SpellsBuilt (map string_bytes words.now) c) → result.world ≡ record world { out = result.world.out } }
     ensures clock { result.world.clock ≡ world.clock }
     ensures door { ((requests : ℕ) → ¬ SpellsBuilt (map string_bytes words.now) (Command.Serve requests)) → result.world.door ≡ world.door }

@@ -1,14 +1,14 @@
 -- A run that is to begin, over what its journal says.
 use Rattle.std.proofs.Common.{◌≡◌, ◌∙◌, ℕ, List, ap, refl, reverse}
 use Rattle.esm_model.specs.declared.config.Config.{Config}
-use Rattle.esm_payload.specs.declared.said.Said.{Said}
-use Rattle.esm_said.specs.Compact.{SameSaid}
-use Rattle.esm_said.specs.Meaning.{history}
-use Rattle.esm_said.specs.SaidLists.{SaidLists, IsInOrder}
-use Rattle.esm_said.specs.Tells.{Tells}
+use Rattle.esm_journal_record.specs.declared.said.Said.{Said}
+use Rattle.esm_journal_state.specs.Compact.{SameSaid}
+use Rattle.esm_journal_state.specs.Meaning.{history}
+use Rattle.esm_journal_state.specs.SaidLists.{SaidLists, IsInOrder}
+use Rattle.esm_journal_state.specs.Tells.{Tells}
 use Rattle.esm_ledger.specs.Ledger.{opened_with}
-use Rattle.esm_owing.specs.OwingView.{OwingView, new_view}
-use Rattle.esm_sbook.specs.Opening.{IsCoreOver}
+use Rattle.esm_stream_core.specs.OwingView.{OwingView, new_view}
+use Rattle.esm_stream_book.specs.Opening.{IsCoreOver}
 
 -- lists in order that tell of histories that say the same are equal
 abbrev pub SameTold : Type 0

@@ -12,18 +12,18 @@ use Rattle.esm_model.specs.Entries.{is_running, batcher}
 use Rattle.esm_model.specs.Calls.{calls}
 use Rattle.esm_model.specs.Books.{entries_told, setting_told}
 use Rattle.esm_model.proofs.TellingFacts.{entries_more}
-use Rattle.esm_pooled.specs.GoingOn.{AllGiven}
-use Rattle.esm_lasting.specs.Batchers.{calls_told, Rests, RunsJob}
-use Rattle.esm_batchers.specs.Working.{Outside}
-use Rattle.esm_batchers.specs.Working as working
-use Rattle.esm_hands.specs.Shared.{HaveCalled}
-use Rattle.esm_owing.specs.OwingView.{full_setting}
-use Rattle.esm_core.specs.Told.{told_entries, told_of}
-use Rattle.esm_sbook.specs.Books.{BookState}
+use Rattle.esm_model.specs.GoingOn.{AllGiven}
+use Rattle.esm_stream_book.specs.Batchers.{calls_told, Rests, RunsJob}
+use Rattle.esm_workers.specs.Working.{Outside}
+use Rattle.esm_workers.specs.Working as working
+use Rattle.esm_workers.specs.Shared.{HaveCalled}
+use Rattle.esm_stream_core.specs.OwingView.{full_setting}
+use Rattle.esm_stream_core.specs.Told.{told_entries, told_of}
+use Rattle.esm_stream_book.specs.Books.{BookState}
 use Rattle.esm_runner.specs.Given.{AreGiven}
 use Rattle.esm_runner.specs.Ran.{NoneRuns}
 use Rattle.esm_runner.specs.Stopping.{HasLogged}
-use Rattle.esm_sbook.proofs.Records.{entries_same}
+use Rattle.esm_stream_book.proofs.Records.{entries_same}
 
 -- the history
 

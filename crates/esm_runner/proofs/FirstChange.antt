@@ -16,13 +16,13 @@ use Rattle.esm_model.specs.Books.{entries_told, records_told, setting_told, IsOf
 use Rattle.esm_model.specs.Step.{Legal}
 use Rattle.esm_model.proofs.BookLaws.{count_told}
 use Rattle.esm_model.proofs.TellingFacts.{records-append}
-use Rattle.esm_arrival.specs.Coming.{of_shard}
-use Rattle.esm_arrival.specs.Changes.{first_change, first_change_from, change_at, change_of, place_after}
+use Rattle.esm_ingest.specs.Coming.{of_shard}
+use Rattle.esm_ingest.specs.Changes.{first_change, first_change_from, change_at, change_of, place_after}
 use Rattle.esm_input.specs.Reading.{InputState, handed}
-use Rattle.esm_lasting.specs.Items.{items_told, records_in_items, DiffersTold}
-use Rattle.esm_core.specs.Told.{told_of}
-use Rattle.esm_sbook.specs.Books.{BookState}
-use Rattle.esm_sbook.specs.Keeping.{IsSound}
+use Rattle.esm_stream_book.specs.Items.{items_told, records_in_items, DiffersTold}
+use Rattle.esm_stream_core.specs.Told.{told_of}
+use Rattle.esm_stream_book.specs.Books.{BookState}
+use Rattle.esm_stream_book.specs.Keeping.{IsSound}
 use Rattle.esm_pool.specs.Ran.{IsChangeOf}
 use Rattle.esm_runner.specs.Coming.{HaveCome, SomeCame}
 use Rattle.esm_runner.specs.Ran.{IsFirstChange}

@@ -9,9 +9,9 @@ use Rattle.esm_model.specs.Setting.{Setting}
 use Rattle.esm_model.specs.Entries.{is_beginning, batcher, CallsFollowShut}
 use Rattle.esm_model.specs.Books.{entries_told, setting_told, lane_of_entry, seat_of, author}
 use Rattle.esm_model.proofs.TellingFacts.{entries_more}
-use Rattle.esm_pooled.specs.GoingOn.{OwnFollowShut}
-use Rattle.esm_core.specs.Told.{told_of}
-use Rattle.esm_sbook.specs.Books.{BookState}
+use Rattle.esm_model.specs.GoingOn.{OwnFollowShut}
+use Rattle.esm_stream_core.specs.Told.{told_of}
+use Rattle.esm_stream_book.specs.Books.{BookState}
 use Rattle.esm_runner.proofs.Bridges.{past_is}
 
 -- batchers alone begin calls, and each entry of a batcher comes after the input's end

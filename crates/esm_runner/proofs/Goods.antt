@@ -2,9 +2,9 @@
 use Rattle.std.proofs.Common.{◌≡◌, ◌∙◌, ◌+◌, ℕ, Bool, true, false, List, [], ◌∷◌, ◌++◌, take, drop, ap, refl, subst, sym}
 use Rattle.std.specs.Prelude.{◌&&◌, reverse}
 use Rattle.std.proofs.lemmas.List.{reverse-append, take-append-drop}
-use Rattle.esm_said.specs.Bad.{IsFirstBad}
-use Rattle.esm_said.specs.Meaning.{are_good, history, is_good}
-use Rattle.esm_said.specs.declared.error.SaysError.TheVariants as judged
+use Rattle.esm_journal_state.specs.Bad.{IsFirstBad}
+use Rattle.esm_journal_state.specs.Meaning.{are_good, history, is_good}
+use Rattle.esm_journal_state.specs.declared.error.SaysError.TheVariants as judged
 
 first_true : (a b : Bool) → (a && b) ≡ true → a ≡ true
 first_true true b both = refl

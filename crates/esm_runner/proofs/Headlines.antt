@@ -16,13 +16,13 @@ use Rattle.esm_model.specs.Setting.{Setting}
 use Rattle.esm_model.specs.Calls.{calls, calls_since, last_event}
 use Rattle.esm_model.specs.Earned.{IsLogged}
 use Rattle.esm_model.specs.Entries.{batcher}
-use Rattle.esm_payload.specs.EntryPayload.{entry_payload}
+use Rattle.esm_journal_record.specs.EntryPayload.{entry_payload}
 use Rattle.esm_book.specs.State.{in_hand, is_dest, is_disk}
-use Rattle.esm_owing.specs.OwingView.{full_setting, lines_of}
-use Rattle.esm_upkeep.specs.Upkeep.{AreHonest, AreOnlyRead, OneRose, PairHolds}
-use Rattle.esm_upkeep.proofs.Disks.{are_honest, pair_holds}
-use Rattle.esm_sbook.specs.Books.{BookState, OpensToFirst, payloads_in}
-use Rattle.esm_sbook.specs.Keeping.{entries_left}
+use Rattle.esm_stream_core.specs.OwingView.{full_setting, lines_of}
+use Rattle.esm_folder.specs.Upkeep.{AreHonest, AreOnlyRead, OneRose, PairHolds}
+use Rattle.esm_folder.proofs.OpenedDisks.{are_honest, pair_holds}
+use Rattle.esm_stream_book.specs.Books.{BookState, OpensToFirst, payloads_in}
+use Rattle.esm_stream_book.specs.Keeping.{entries_left}
 use Rattle.esm_runner.specs.Given.{AreGiven}
 use Rattle.esm_runner.specs.Files.{FilesState}
 use Rattle.esm_runner.specs.Headline.{AnswersAreLogged, CrashKept, Devices, FailureLinesKept, Headline, IsInHand, JournalKept, JournalStopped, LinesKept, LinesStopped, OpensToFrontOf, PairStopped, Telling}

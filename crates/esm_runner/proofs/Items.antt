@@ -16,16 +16,16 @@ use Rattle.esm_model.specs.Entries.{came_count}
 use Rattle.esm_model.specs.Books.{entries_told, records_told, setting_told, IsOfStream}
 use Rattle.esm_model.proofs.BookLaws.{count_told}
 use Rattle.esm_model.proofs.TellingFacts.{records_in_told}
-use Rattle.esm_record.specs.declared.item.Item.{Item}
-use Rattle.esm_record.specs.declared.item.Item.TheVariants.{Queue, Stream as StreamItem}
-use Rattle.esm_arrival.specs.Coming.{of_shard}
-use Rattle.esm_arrival.specs.Changes.{first_change_from, change_at, change_of, place_after, kept_otherwise}
+use Rattle.esm_model.specs.declared.item.Item.{Item}
+use Rattle.esm_model.specs.declared.item.Item.TheVariants.{Queue, Stream as StreamItem}
+use Rattle.esm_ingest.specs.Coming.{of_shard}
+use Rattle.esm_ingest.specs.Changes.{first_change_from, change_at, change_of, place_after, kept_otherwise}
 use Rattle.esm_input.specs.Reading.{InputState, handed}
-use Rattle.esm_pooled.specs.Coming.{items_of, AreCome, AreSomeCome}
-use Rattle.esm_lasting.specs.Items.{item_of, items_told, records_in_items, DiffersTold}
-use Rattle.esm_core.specs.Told.{told_of}
-use Rattle.esm_sbook.specs.Books.{BookState}
-use Rattle.esm_sbook.specs.Keeping.{IsSound}
+use Rattle.esm_model.specs.Coming.{items_of, AreCome, AreSomeCome}
+use Rattle.esm_stream_book.specs.Items.{item_of, items_told, records_in_items, DiffersTold}
+use Rattle.esm_stream_core.specs.Told.{told_of}
+use Rattle.esm_stream_book.specs.Books.{BookState}
+use Rattle.esm_stream_book.specs.Keeping.{IsSound}
 use Rattle.esm_pool.specs.Ran.{IsChangeOf}
 use Rattle.esm_runner.specs.Coming.{HaveCome, SomeCame}
 use Rattle.esm_runner.specs.Ran.{IsOfRecord}

@@ -18,13 +18,13 @@ use Rattle.esm_model.specs.Windows.{has_windows, kept_state, is_outstanding}
 use Rattle.esm_model.specs.Step.{Legal}
 use Rattle.esm_model.proofs.Lists.{In, In-none, In-cases, In-append_left, In-append_right, In-append_cases, In-here, In-there, In-one, below-In, filter-In, apart, Distinct}
 use Rattle.esm_model.proofs.Sound.{open_In}
-use Rattle.esm_record.specs.declared.item.Item.{Item}
-use Rattle.esm_record.specs.declared.item.Item.TheVariants.{Stream, Queue}
+use Rattle.esm_model.specs.declared.item.Item.{Item}
+use Rattle.esm_model.specs.declared.item.Item.TheVariants.{Stream, Queue}
 use Rattle.esm_ledger.specs.Reading.{lane_of_batcher}
 use Rattle.esm_ledger.proofs.Ledgers.{shards_distinct}
-use Rattle.esm_lasting.specs.Finishing.{IsQuietLane, IsQuiet, HasWindow, IsWanting}
-use Rattle.esm_lasting.specs.Items.{records_in_items}
-use Rattle.esm_arrival.specs.Coming.{of_shard}
+use Rattle.esm_stream_core.specs.Quiet.{IsQuietLane, IsQuiet, HasWindow, IsWanting}
+use Rattle.esm_stream_book.specs.Items.{records_in_items}
+use Rattle.esm_ingest.specs.Coming.{of_shard}
 use Rattle.esm_input.specs.Limits.{shards_with, shards_in}
 use Rattle.esm_runner.specs.Ran.{AllFated, NoneOutstanding, HasOpen, HasOutstanding}
 

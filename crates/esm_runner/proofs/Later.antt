@@ -5,11 +5,11 @@ use Rattle.esm_model.specs.declared.entry.Entry.{Entry}
 use Rattle.esm_model.specs.declared.entry.Entry.TheVariants.{Came, Began, Ended, Gave, Tried, Closed, Replayed, Shut}
 use Rattle.esm_model.specs.Entries.{is_beginning, CallsFollowShut}
 use Rattle.esm_model.specs.Books.{lane_of_entry}
-use Rattle.esm_pooled.specs.GoingOn.{OwnFollowShut}
+use Rattle.esm_model.specs.GoingOn.{OwnFollowShut}
 use Rattle.esm_queue_model.specs.QueueBooks.{queue_seat, queue_author}
 use Rattle.esm_queue_core.specs.Told.{told_of}
-use Rattle.esm_qbook.specs.Books.{BookState}
-use Rattle.esm_qbook.proofs.Standing.{past_told}
+use Rattle.esm_queue_book.specs.Books.{BookState}
+use Rattle.esm_queue_book.proofs.Standing.{past_told}
 use Rattle.esm_runner.proofs.Following.{follow_shut}
 
 -- a batcher begins a call

@@ -17,9 +17,9 @@ use Rattle.esm_queue_model.specs.QueueStep.{LegalQueue}
 use Rattle.esm_queue_model.proofs.MoreMessages.{count_within}
 use Rattle.esm_queue_core.specs.Told.{told_entries}
 use Rattle.esm_queue_core.proofs.ToldMessages.{messages-append, told-append}
-use Rattle.esm_record.specs.declared.item.Item.{Item}
-use Rattle.esm_record.specs.declared.item.Item.TheVariants.{Queue, Stream}
-use Rattle.esm_qbook.specs.Books.{BookState}
+use Rattle.esm_model.specs.declared.item.Item.{Item}
+use Rattle.esm_model.specs.declared.item.Item.TheVariants.{Queue, Stream}
+use Rattle.esm_queue_book.specs.Books.{BookState}
 use Rattle.esm_runner.specs.QueueComing.{SomeCame, messages_in_items}
 
 -- those that the entries tell, oldest entry first

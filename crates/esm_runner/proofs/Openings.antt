@@ -8,11 +8,11 @@ use Rattle.esm_journal.specs.Reads.{IsOnlyRead, RefusedFor}
 use Rattle.esm_journal.specs.State.{JournalState, OpensTo, Keeps}
 use Rattle.esm_journal.specs.declared.error.OpenError.{OpenError}
 use Rattle.esm_journal.specs.declared.error.OpenError.TheVariants as open_error
-use Rattle.esm_said.specs.Bad.{IsFirstBad}
-use Rattle.esm_said.specs.SaidLists.{SaidLists}
-use Rattle.esm_said.specs.declared.error.SaysError.TheVariants as judged
-use Rattle.esm_upkeep.specs.Upkeep.{AreHonest, AreOnlyRead, found}
-use Rattle.esm_upkeep.specs.declared.ending.JournalFile.TheVariants as file
+use Rattle.esm_journal_state.specs.Bad.{IsFirstBad}
+use Rattle.esm_journal_state.specs.SaidLists.{SaidLists}
+use Rattle.esm_journal_state.specs.declared.error.SaysError.TheVariants as judged
+use Rattle.esm_folder.specs.Upkeep.{AreHonest, AreOnlyRead, found}
+use Rattle.esm_folder.specs.declared.ending.JournalFile.TheVariants as file
 use Rattle.esm_runner.specs.declared.files.FilesError.{FilesError}
 use Rattle.esm_runner.specs.declared.files.FilesError.TheVariants as error
 use Rattle.esm_runner.specs.Files.{IsOpenedFiles, AreRefused, AreGoodPayloads}

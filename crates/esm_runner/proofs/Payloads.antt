@@ -6,12 +6,12 @@ use Rattle.std.proofs.lemmas.List.Elements.{filter_map-append}
 use Rattle.esm_model.specs.declared.entry.Entry.{Entry}
 use Rattle.esm_model.specs.Setting.{Setting, Stream, Extends}
 use Rattle.esm_model.specs.Step.{Legal}
-use Rattle.esm_payload.specs.EntryPayload.{entry_payload, history_payloads}
+use Rattle.esm_journal_record.specs.EntryPayload.{entry_payload, history_payloads}
 use Rattle.esm_ledger.specs.Ledger.{LegalOver}
 use Rattle.esm_ledger.specs.Coming.{with_list}
 use Rattle.esm_ledger.proofs.Comes.{grown_extends}
-use Rattle.esm_owing.specs.OwingView.{OwingView, with_coming, full_setting}
-use Rattle.esm_sbook.specs.Books.{payloads_in}
+use Rattle.esm_stream_core.specs.OwingView.{OwingView, with_coming, full_setting}
+use Rattle.esm_stream_book.specs.Books.{payloads_in}
 use Rattle.esm_runner.specs.Laws.{PayloadsStay}
 
 pub coming_extends : (ts : List Stream) (parts : List Stream) → Extends ts (with_coming ts parts)

@@ -1,11 +1,11 @@
 -- A run that is to begin, over what its journal says.
 use Rattle.std.proofs.Common.{◌≡◌, ◌∙◌, ℕ, List, ap, reverse}
 use Rattle.esm_model.specs.declared.config.Config.{Config}
-use Rattle.esm_said.specs.Meaning.{history}
-use Rattle.esm_said.specs.SaidLists.{SaidLists, IsInOrder}
-use Rattle.esm_said.specs.Tells.{Tells}
+use Rattle.esm_journal_state.specs.Meaning.{history}
+use Rattle.esm_journal_state.specs.SaidLists.{SaidLists, IsInOrder}
+use Rattle.esm_journal_state.specs.Tells.{Tells}
 use Rattle.esm_queue_core.specs.CoreView.{CoreView, new_setting, new_view}
-use Rattle.esm_qbook.specs.Opening.{IsCoreOver}
+use Rattle.esm_queue_book.specs.Opening.{IsCoreOver}
 use Rattle.esm_runner.proofs.Begins.{SameTold, says_itself}
 
 -- the book's core is opened with what the journal was found to say

@@ -12,23 +12,23 @@ use Rattle.esm_model.specs.declared.entry.Entry.TheVariants.{Came, Began, Ended,
 use Rattle.esm_model.specs.Lane.{same_lane}
 use Rattle.esm_model.specs.Entries.{is_running}
 use Rattle.esm_model.specs.Books.{entries_told}
-use Rattle.esm_pooled.specs.GoingOn.{AllGiven}
-use Rattle.esm_batchers.specs.Working.{Outside}
-use Rattle.esm_batchers.specs.Working as working
-use Rattle.esm_hands.specs.Shared.{HaveCalled}
-use Rattle.esm_queue_lasting.specs.Batchers.{queue_calls_told, QueueRests, RunsQueueJob}
+use Rattle.esm_model.specs.GoingOn.{AllGiven}
+use Rattle.esm_workers.specs.Working.{Outside}
+use Rattle.esm_workers.specs.Working as working
+use Rattle.esm_workers.specs.Shared.{HaveCalled}
+use Rattle.esm_queue_book.specs.Batchers.{queue_calls_told, QueueRests, RunsQueueJob}
 use Rattle.esm_queue_model.specs.QueueSetting.{QueueSetting}
 use Rattle.esm_queue_model.specs.QueueEntries.{queue_lane}
 use Rattle.esm_queue_model.specs.QueueBatch.{queue_calls}
 use Rattle.esm_queue_model.specs.QueueBooks.{queue_setting_told}
 use Rattle.esm_queue_model.specs.QueueStep.{LegalQueue}
 use Rattle.esm_queue_core.specs.Told.{told_of}
-use Rattle.esm_qbook.specs.Books.{BookState}
-use Rattle.esm_qbook.specs.Keeping.{IsSound}
+use Rattle.esm_queue_book.specs.Books.{BookState}
+use Rattle.esm_queue_book.specs.Keeping.{IsSound}
 use Rattle.esm_runner.specs.Given.{AreGiven}
 use Rattle.esm_runner.specs.Ran.{NoneRuns}
 use Rattle.esm_runner.specs.QueueStopping.{HasLogged}
-use Rattle.esm_qbook.proofs.Standing.{past_told}
+use Rattle.esm_queue_book.proofs.Standing.{past_told}
 use Rattle.esm_runner.proofs.Bridges.{given_on}
 
 -- moments

@@ -16,14 +16,14 @@ use Rattle.esm_queue_model.specs.QueueBooks.{messages_told, queue_setting_told}
 use Rattle.esm_queue_model.specs.QueueEntries.{queue_count}
 use Rattle.esm_queue_model.specs.QueueSetting.{QueueSetting, message_at}
 use Rattle.esm_queue_model.specs.QueueStep.{LegalQueue}
-use Rattle.esm_queue_lasting.specs.Left.{queue_items}
+use Rattle.esm_queue_book.specs.Left.{queue_items}
 use Rattle.esm_queue_core.specs.Coming.{deletion_at, has_changed, NoneHasChanged}
 use Rattle.esm_queue_core.specs.CoreView.{all_messages}
 use Rattle.esm_queue_core.specs.Told.{told_of}
 use Rattle.esm_queue_core.proofs.ToldMessages.{messages-append}
-use Rattle.esm_qbook.specs.Books.{BookState}
-use Rattle.esm_qbook.specs.Coming.{QueueDiffers}
-use Rattle.esm_qbook.specs.Keeping.{IsSound}
+use Rattle.esm_queue_book.specs.Books.{BookState}
+use Rattle.esm_queue_book.specs.Coming.{QueueDiffers}
+use Rattle.esm_queue_book.specs.Keeping.{IsSound}
 use Rattle.esm_runner.specs.QueueComing.{messages_in_items}
 use Rattle.esm_runner.specs.QueueRan.{NoneDiffersBefore}
 use Rattle.esm_runner.proofs.QueueItems.{get_behind, get_front, handed_is}

@@ -13,14 +13,14 @@ use Rattle.esm_model.specs.declared.item.Message.{Message}
 use Rattle.esm_model.specs.declared.entry.Entry.{Entry}
 use Rattle.esm_model.specs.declared.entry.Entry.TheVariants.{Ended}
 use Rattle.esm_book.specs.State.{in_hand, is_disk}
-use Rattle.esm_payload.specs.EntryPayload.{queue_payload}
+use Rattle.esm_journal_record.specs.EntryPayload.{queue_payload}
 use Rattle.esm_queue_model.specs.QueueBatch.{last_queue_event, queue_calls, queue_calls_since}
 use Rattle.esm_queue_model.specs.QueueSetting.{QueueSetting}
 use Rattle.esm_queue_core.specs.CoreView.{all_messages}
-use Rattle.esm_upkeep.specs.Upkeep.{AreHonest, OneRose, PairHolds}
-use Rattle.esm_upkeep.proofs.Disks.{are_honest, pair_holds}
-use Rattle.esm_qbook.specs.Books.{BookState, OpensToFirst, payloads_in}
-use Rattle.esm_qbook.specs.Keeping.{entries_left}
+use Rattle.esm_folder.specs.Upkeep.{AreHonest, OneRose, PairHolds}
+use Rattle.esm_folder.proofs.OpenedDisks.{are_honest, pair_holds}
+use Rattle.esm_queue_book.specs.Books.{BookState, OpensToFirst, payloads_in}
+use Rattle.esm_queue_book.specs.Keeping.{entries_left}
 use Rattle.esm_runner.specs.Given.{AreGiven}
 use Rattle.esm_runner.specs.Files.{FilesState}
 use Rattle.esm_runner.specs.Headline.{Devices, PairStopped, Telling}

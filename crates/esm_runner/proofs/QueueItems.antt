@@ -6,17 +6,17 @@ use Rattle.esm_model.specs.declared.book.Change.{Change}
 use Rattle.esm_model.specs.declared.item.Message.{Message}
 use Rattle.esm_model.specs.declared.setup.Setup.{Setup}
 use Rattle.esm_model.specs.declared.setup.Told.{Told}
-use Rattle.esm_record.specs.declared.item.Item.{Item}
-use Rattle.esm_record.specs.declared.item.Item.TheVariants.{Stream, Queue}
+use Rattle.esm_model.specs.declared.item.Item.{Item}
+use Rattle.esm_model.specs.declared.item.Item.TheVariants.{Stream, Queue}
 use Rattle.esm_input.specs.Reading.{InputState, handed}
-use Rattle.esm_pooled.specs.Coming.{items_of, AreCome, AreSomeCome}
+use Rattle.esm_model.specs.Coming.{items_of, AreCome, AreSomeCome}
 use Rattle.esm_pool.specs.Ran as pool
 use Rattle.esm_queue_model.specs.QueueBooks.{messages_told}
-use Rattle.esm_queue_lasting.specs.Left.{queue_items}
+use Rattle.esm_queue_book.specs.Left.{queue_items}
 use Rattle.esm_queue_core.specs.Told.{told_of}
-use Rattle.esm_qbook.specs.Books.{BookState}
-use Rattle.esm_qbook.specs.Coming.{QueueDiffers}
-use Rattle.esm_qbook.specs.Keeping.{IsSound}
+use Rattle.esm_queue_book.specs.Books.{BookState}
+use Rattle.esm_queue_book.specs.Coming.{QueueDiffers}
+use Rattle.esm_queue_book.specs.Keeping.{IsSound}
 use Rattle.esm_runner.specs.QueueComing.{messages_in_items, HaveCome, SomeCame}
 use Rattle.esm_runner.specs.QueueRan.{IsOfMessage}
 

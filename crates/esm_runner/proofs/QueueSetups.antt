@@ -8,8 +8,8 @@ use Rattle.esm_model.specs.Setup.{no_setup}
 use Rattle.esm_queue_model.specs.QueueSetting.{QueueSetting, over_messages}
 use Rattle.esm_queue_model.specs.QueueBooks.{queue_setting_told}
 use Rattle.esm_queue_core.specs.Told.{told_of}
-use Rattle.esm_qbook.specs.Books.{BookState, setup_of}
-use Rattle.esm_qbook.specs.Keeping.{IsSound}
+use Rattle.esm_queue_book.specs.Books.{BookState, setup_of}
+use Rattle.esm_queue_book.specs.Keeping.{IsSound}
 
 -- the setting over these messages of a book that was opened with the setup
 abbrev setting_with : List Message → Setup → QueueSetting

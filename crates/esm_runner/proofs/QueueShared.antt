@@ -16,22 +16,22 @@ use Rattle.esm_model.specs.Books.{entries_told}
 use Rattle.esm_model.specs.Entries.{is_shut, calls_begun}
 use Rattle.esm_input.specs.Positions.{from_start}
 use Rattle.esm_input.specs.Reading.{InputState, IsInput, items_read, handed}
-use Rattle.esm_pooled.specs.GoingOn.{AllGiven}
-use Rattle.esm_batchers.specs.Working.{Outside}
-use Rattle.esm_hands.specs.Shared.{HaveCalled}
+use Rattle.esm_model.specs.GoingOn.{AllGiven}
+use Rattle.esm_workers.specs.Working.{Outside}
+use Rattle.esm_workers.specs.Shared.{HaveCalled}
 use Rattle.esm_pool.specs.declared.running.RunEnd.{RunEnd}
 use Rattle.esm_pool.specs.declared.running.RunEnd.TheVariants as ends
 use Rattle.esm_pool.specs.Ran as pool
 use Rattle.esm_queue_model.specs.QueueSetting.{QueueSetting}
 use Rattle.esm_queue_model.specs.QueueBooks.{queue_setting_told}
-use Rattle.esm_queue_lasting.specs.Batchers.{queue_calls_told, QueueRests, RunsQueueJob}
-use Rattle.esm_queue_lasting.specs.Left.{QueueFinished, QueueLeft, QueueSpent, queue_items}
+use Rattle.esm_queue_book.specs.Batchers.{queue_calls_told, QueueRests, RunsQueueJob}
+use Rattle.esm_queue_book.specs.Left.{QueueFinished, QueueLeft, QueueSpent, queue_items}
 use Rattle.esm_queue_core.specs.CoreView.{all_messages}
 use Rattle.esm_queue_core.specs.Told.{told_entries, told_of}
-use Rattle.esm_qbook.specs.Books.{BookState, setup_of, is_down}
-use Rattle.esm_qbook.specs.Coming.{QueueDiffers}
-use Rattle.esm_qbook.specs.Keeping.{IsSound}
-use Rattle.esm_qbook.proofs.Standing.{past_told}
+use Rattle.esm_queue_book.specs.Books.{BookState, setup_of, is_down}
+use Rattle.esm_queue_book.specs.Coming.{QueueDiffers}
+use Rattle.esm_queue_book.specs.Keeping.{IsSound}
+use Rattle.esm_queue_book.proofs.Standing.{past_told}
 use Rattle.esm_runner.specs.Number.{batchers_in}
 use Rattle.esm_runner.specs.QueueComing.{messages_in_items, SomeCame, AllCame}
 use Rattle.esm_runner.specs.QueueRan.{AllDeleted, HasWaiting, HasRun, HasStopped, EndsSo, CameSo, IsDownFor, IsUnfinished, IsOfMessage, NoneDiffersBefore, IsCutInput}

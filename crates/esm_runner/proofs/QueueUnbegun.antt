@@ -12,7 +12,7 @@ use Rattle.esm_model.specs.ValidMessage.{IsValidMessage}
 use Rattle.esm_queue_core.specs.CoreView.{new_setting, new_view}
 use Rattle.esm_input.specs.Positions.{from_start}
 use Rattle.esm_input.specs.Reading.{items_read}
-use Rattle.esm_qbook.specs.Books.{BookState}
+use Rattle.esm_queue_book.specs.Books.{BookState}
 use Rattle.esm_runner.specs.QueueComing.{messages_in_items}
 use Rattle.esm_runner.specs.Files.{FilesState, IsOpenedFiles}
 use Rattle.esm_runner.specs.Headline.{Devices, Telling}

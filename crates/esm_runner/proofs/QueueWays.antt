@@ -1,6 +1,6 @@
 -- How a run ended, from how its batchers did.
-use Rattle.std.proofs.Common.{◌≡◌, ◌∙◌, ◌<◌, ◌^◌, ℕ, Bool, false, List, [], ◌++◌, length, Result, Ok, Err, Option, Some, None, ap, inl, refl, subst, sym}
-use Rattle.std.specs.Prelude.{IfOk, OnErr, OnOk}
+use Rattle.std.proofs.Common.{◌≡◌, ◌∙◌, ◌<◌, ◌^◌, ℕ, Bool, true, false, List, [], ◌++◌, length, Result, Ok, Err, Option, Some, None, ap, refl, subst, sym}
+use Rattle.std.specs.Prelude.{IfOk, IsErr, OnErr, OnOk}
 use Rattle.std.proofs.lemmas.List.{append-nil}
 use Rattle.esm_io.specs.Faults.{Rose}
 use Rattle.esm_io.specs.Meanings.{DiskMeaning}
@@ -16,11 +16,11 @@ use Rattle.esm_book.specs.State.{in_hand}
 use Rattle.esm_queue_model.specs.QueueSetting.{QueueSetting, over_messages}
 use Rattle.esm_queue_core.specs.CoreView.{CoreView, new_setting, new_view}
 use Rattle.esm_queue_core.specs.Told.{IsChange, opened}
-use Rattle.esm_record.specs.declared.item.LineKind.{LineKind}
+use Rattle.esm_model.specs.declared.item.LineKind.{LineKind}
 use Rattle.esm_input.specs.Positions.{from_start}
 use Rattle.esm_input.specs.Reading.{InputState, IsInput, handed, items_read}
-use Rattle.esm_qbook.specs.Books.{BookState}
-use Rattle.esm_qbook.specs.Keeping.{IsCause}
+use Rattle.esm_queue_book.specs.Books.{BookState}
+use Rattle.esm_queue_book.specs.Keeping.{IsCause}
 use Rattle.esm_pool.specs.declared.running.RunEnd.{RunEnd}
 use Rattle.esm_pool.specs.declared.running.RunEnd.TheVariants as ran
 use Rattle.esm_runner.specs.QueueComing.{AllCame, SomeCame, messages_in_items}
@@ -136,10 +136,11 @@ pub ended : {S D F : Type 0} (t : Telling D F) (faults : S → ℕ) (left_in : S
     → IsCauseIn t.disk b b.trouble
     → IsMadeFor config old i → i.failed ≡ false → IsInput faults left_in i
     → HasRun t.callers before b callers new.callers → CameSo i b r → EndsSo left_in i b r → IsEndOf r b.trouble i.end e
-    → HasEnded t faults left_in config calls visibility f old i.source callers b.core.past new e
+    → HasEnded t faults left_in config calls visibility f old i.source i.end callers b.core.past new e
 ended t faults left_in config calls visibility f old i callers before b new r e laws stood left of cause made good read run came so is = record {
   input = i;
   is_input = record { kind = made.kind; factor = made.factor; start = made.start; found = made.found; source = refl; good = good; read = read };
+  read_to = refl;
   setting = b.core.setting;
   is_setting = record { opened = opened_so config calls visibility f before b stood run.opened; came = some_came i b r came };
   hand = in_hand b.trouble b.core.owed;
@@ -187,16 +188,6 @@ stopped {S} t left_in config calls visibility f old i callers before b new laws 
   others = others_of t config calls visibility f before b callers new.callers stood others;
 }
 
--- what was read to an end, as what was read at all
-read_as_cut : {S D : Type 0} (faults : S → ℕ) (left_in : S → Option (List ℕ)) (i : InputState S) (b : BookState D) → IsInput faults left_in i → SomeCame b (messages_in_items (handed i)) → IsCutInput left_in i b
-read_as_cut faults left_in i b read came = record {
-  bytes = i.bytes;
-  more = [];
-  whole = i.whole;
-  taken = subst (TakesFront (left_in i.found) (left_in i.source)) (sym (append-nil i.bytes)) read.taken;
-  came = came;
-}
-
 -- both
 
 -- how the batchers came to what they came to
@@ -213,21 +204,17 @@ pub ended_by : {S D F : Type 0} (t : Telling D F) (faults : S → ℕ) (left_in 
     → (before b : BookState D) (new : Devices D F) (r : Result RunEnd OutOfMemory) (e : MappingEnd) → AreLaws → StoodSo config calls visibility f before → IsLeft t.disk f b → AreOf f b new
     → IsCauseIn t.disk b b.trouble
     → IsMadeFor config old i → HasCome t faults left_in before b i callers new.callers r → EndsBy r b.trouble i.end e
-    → HasEnded t faults left_in config calls visibility f old i.source callers b.core.past new e
+    → HasEnded t faults left_in config calls visibility f old i.source i.end callers b.core.past new e
 ended_by t faults left_in config calls visibility f old i callers before b new (Ok r) e laws stood left of cause made come is =
     ended t faults left_in config calls visibility f old i callers before b new r e laws stood left of cause made come.good come.read come.run come.came come.ended is
 ended_by t faults left_in config calls visibility f old i callers before b new (Err none) e laws stood left of cause made come is = absurd is
 
 pub stopped_by : {S D F : Type 0} (t : Telling D F) (faults : S → ℕ) (left_in : S → Option (List ℕ)) (config : Config) (calls visibility : ℕ) (f : FilesState D) (old : S) (i : InputState S) (callers : List F)
     → (before b : BookState D) (new : Devices D F) (r : Result RunEnd OutOfMemory) → AreLaws → StoodSo config calls visibility f before → IsLeft t.disk f b → AreOf f b new → IsCauseIn t.disk b b.trouble
-    → IsMadeFor config old i → HasCome t faults left_in before b i callers new.callers r
+    → IsMadeFor config old i → HasCome t faults left_in before b i callers new.callers r → IsErr r
     → HasStoppedRun t left_in config calls visibility f old i.source callers b.core.past new
-stopped_by t faults left_in config calls visibility f old i callers before b new (Ok r) laws stood left of cause made come =
-    let run = come.run in
-    stopped t left_in config calls visibility f old i callers before b new laws stood left of cause made run.opened (headline t f b new laws left of run.moments)
-    (read_as_cut faults left_in i b come.read (some_came i b r come.came)) (λ k d within. inl (run.calls_made k d within))
-    (record { untouched = run.untouched; no_calls = run.no_calls })
-stopped_by t faults left_in config calls visibility f old i callers before b new (Err none) laws stood left of cause made come =
+stopped_by t faults left_in config calls visibility f old i callers before b new (Ok r) laws stood left of cause made come short = absurd (let clash : false ≡ true = short in cc)
+stopped_by t faults left_in config calls visibility f old i callers before b new (Err none) laws stood left of cause made come short =
     let stop = come.stopped in
     stopped t left_in config calls visibility f old i callers before b new laws stood left of cause made stop.opened (headline t f b new laws left of stop.moments) come.cut stop.calls_made
     (record { untouched = stop.untouched; no_calls = stop.no_calls })

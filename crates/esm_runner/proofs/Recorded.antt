@@ -15,12 +15,12 @@ use Rattle.esm_model.specs.declared.setup.FoundDeletion.{FoundDeletion}
 use Rattle.esm_model.specs.Entries.{holds}
 use Rattle.esm_model.specs.Fates.{given}
 use Rattle.esm_model.specs.ValidMessage.{IsValidMessage}
-use Rattle.esm_payload.specs.declared.said.Said.{Said}
-use Rattle.esm_payload.specs.EntryPayload.{ids_at, queue_said}
-use Rattle.esm_said.specs.declared.kept.KeptFate.{KeptFate}
-use Rattle.esm_said.specs.Meaning.{deletion_said, fate_kept, history, text_named}
-use Rattle.esm_said.specs.SaidLists.{SaidLists, deletion_told}
-use Rattle.esm_said.specs.Tells.{Tells, deletion_of_found}
+use Rattle.esm_journal_record.specs.declared.said.Said.{Said}
+use Rattle.esm_journal_record.specs.EntryPayload.{ids_at, queue_said}
+use Rattle.esm_journal_state.specs.declared.kept.KeptFate.{KeptFate}
+use Rattle.esm_journal_state.specs.Meaning.{deletion_said, fate_kept, history, text_named}
+use Rattle.esm_journal_state.specs.SaidLists.{SaidLists, deletion_told}
+use Rattle.esm_journal_state.specs.Tells.{Tells, deletion_of_found}
 use Rattle.esm_queue_model.specs.QueueEntries.{deletion_fate, is_deleted, queue_count, queue_of}
 use Rattle.esm_queue_model.specs.QueueSetting.{QueueSetting, found_deletion}
 use Rattle.esm_queue_model.specs.QueueStep.{LegalQueue}

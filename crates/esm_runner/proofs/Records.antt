@@ -12,16 +12,16 @@ use Rattle.esm_model.specs.Entries.{came_count}
 use Rattle.esm_model.specs.Books.{IsOfStream, entries_told, records_told, streams_told}
 use Rattle.esm_model.proofs.BookLaws.{count_told}
 use Rattle.esm_model.proofs.TellingFacts.{records_in_told}
-use Rattle.esm_payload.specs.EntryPayload.{AllMayBeSaid}
-use Rattle.esm_writable.specs.Bounds.{AreCountedInFourBytes, AreWithinBounds}
-use Rattle.esm_arrival.specs.Coming.{of_shard}
-use Rattle.esm_owing.specs.OwingView.{OwingView, full_setting}
-use Rattle.esm_core.specs.Told.{told_entries, told_of}
+use Rattle.esm_journal_record.specs.EntryPayload.{AllMayBeSaid}
+use Rattle.esm_record_bounds.specs.Bounds.{AreCountedInFourBytes, AreWithinBounds}
+use Rattle.esm_ingest.specs.Coming.{of_shard}
+use Rattle.esm_stream_core.specs.OwingView.{OwingView, full_setting}
+use Rattle.esm_stream_core.specs.Told.{told_entries, told_of}
 use Rattle.esm_journal.specs.State.{JournalState}
-use Rattle.esm_record.specs.declared.item.Item.{Item}
-use Rattle.esm_record.specs.declared.item.Item.TheVariants.{Queue, Stream as StreamItem}
-use Rattle.esm_sbook.specs.Books.{BookState}
-use Rattle.esm_sbook.specs.Keeping.{IsSound}
+use Rattle.esm_model.specs.declared.item.Item.{Item}
+use Rattle.esm_model.specs.declared.item.Item.TheVariants.{Queue, Stream as StreamItem}
+use Rattle.esm_stream_book.specs.Books.{BookState}
+use Rattle.esm_stream_book.specs.Keeping.{IsSound}
 use Rattle.esm_runner.specs.Coming.{SomeCame, records_in_items}
 use Rattle.esm_runner.specs.Laws.{AreLaws}
 use Rattle.esm_runner.proofs.Payloads.{coming_extends, own_legal}

@@ -18,12 +18,12 @@ use Rattle.esm_model.specs.Entries.{batch_of, came_count, last_call}
 use Rattle.esm_model.specs.Lane.{same_lane}
 use Rattle.esm_model.specs.QueueReading.{queue_reading}
 use Rattle.esm_model.specs.ValidMessage.{IsValidMessage, is_message_id}
-use Rattle.esm_payload.specs.declared.said.Said.{Said}
-use Rattle.esm_payload.specs.EntryPayload.{ids_at, queue_payload, queue_said}
-use Rattle.esm_payload.specs.Parsing.{said_of}
-use Rattle.esm_payload.specs.Payload.{IsSaid, is_deletion, is_place, payload_of, rises_from}
-use Rattle.esm_payload.proofs.EntryFacts.{reversed}
-use Rattle.esm_said.specs.Meaning.{history}
+use Rattle.esm_journal_record.specs.declared.said.Said.{Said}
+use Rattle.esm_journal_record.specs.EntryPayload.{ids_at, queue_payload, queue_said}
+use Rattle.esm_journal_record.specs.Parsing.{said_of}
+use Rattle.esm_journal_record.specs.Payload.{IsSaid, is_deletion, is_place, payload_of, rises_from}
+use Rattle.esm_journal_record.proofs.EntryFacts.{reversed}
+use Rattle.esm_journal_state.specs.Meaning.{history}
 use Rattle.esm_queue_model.specs.QueueEntries.{is_deleted, queue_count}
 use Rattle.esm_queue_model.specs.QueueSetting.{QueueSetting, ids_at as ids_in}
 use Rattle.esm_queue_model.specs.QueueStep.{LegalQueue, MayGiveQueue, is_unsorted_message, succeeded_places}
@@ -33,7 +33,7 @@ use Rattle.esm_queue_model.proofs.QueueBookLaws.{named_came}
 use Rattle.esm_queue_core.specs.Kept.{IsRisingFrom}
 use Rattle.esm_queue_core.proofs.Giving.{all_in}
 use Rattle.esm_queue_core.proofs.Named.{batch_rising, ids_long, rising-below, rising-filter, rising-succeeded, within_at}
-use Rattle.esm_qbook.specs.Books.{payloads_in}
+use Rattle.esm_queue_book.specs.Books.{payloads_in}
 use Rattle.esm_runner.specs.QueueLaws.{AreLaws}
 
 -- what a deletion of a legal history is of

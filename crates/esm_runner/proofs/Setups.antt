@@ -5,9 +5,9 @@ use Rattle.esm_journal.specs.Pair.{pair_code}
 use Rattle.esm_model.specs.declared.setup.Setup.{Setup}
 use Rattle.esm_model.specs.Setting.{Setting, Stream, over}
 use Rattle.esm_model.specs.Books.{setting_told}
-use Rattle.esm_core.specs.Told.{told_of}
-use Rattle.esm_sbook.specs.Books.{BookState, setup_of}
-use Rattle.esm_sbook.specs.Keeping.{IsSound}
+use Rattle.esm_stream_core.specs.Told.{told_of}
+use Rattle.esm_stream_book.specs.Books.{BookState, setup_of}
+use Rattle.esm_stream_book.specs.Keeping.{IsSound}
 
 module _ {D T : Type 0} (code : Coded D) (dest : Coded T) (lines : T → Option (List (List ℕ))) where
   module _ (v w : BookState D T) (same : setup_of code dest lines w ≡ setup_of code dest lines v) where

@@ -22,18 +22,19 @@ use Rattle.esm_input.specs.Limits.{shards_in}
 use Rattle.esm_input.specs.Positions.{from_start}
 use Rattle.esm_input.specs.Reading.{InputState, IsInput, items_read, handed}
 use Rattle.esm_input.specs.Within.{HandedWithin}
-use Rattle.esm_pooled.specs.GoingOn.{AllGiven}
-use Rattle.esm_batchers.specs.Working.{Outside}
-use Rattle.esm_hands.specs.Shared.{HaveCalled}
+use Rattle.esm_model.specs.GoingOn.{AllGiven}
+use Rattle.esm_workers.specs.Working.{Outside}
+use Rattle.esm_workers.specs.Shared.{HaveCalled}
 use Rattle.esm_pool.specs.declared.running.RunEnd.{RunEnd}
 use Rattle.esm_pool.specs.declared.running.RunEnd.TheVariants as ends
 use Rattle.esm_pool.specs.Ran as pool
-use Rattle.esm_lasting.specs.Batchers.{calls_told, Rests, RunsJob}
-use Rattle.esm_lasting.specs.Finishing.{IsQuiet, IsWanting, HasFinished, HasLeft, AreSpent}
-use Rattle.esm_lasting.specs.Items.{items_told, records_in_items, DiffersTold}
-use Rattle.esm_core.specs.Told.{told_of}
-use Rattle.esm_sbook.specs.Books.{BookState, setup_of, is_down}
-use Rattle.esm_sbook.specs.Keeping.{IsSound}
+use Rattle.esm_stream_book.specs.Batchers.{calls_told, Rests, RunsJob}
+use Rattle.esm_stream_core.specs.Quiet.{IsQuiet, IsWanting}
+use Rattle.esm_stream_book.specs.Finishing.{HasFinished, HasLeft, AreSpent}
+use Rattle.esm_stream_book.specs.Items.{items_told, records_in_items, DiffersTold}
+use Rattle.esm_stream_core.specs.Told.{told_of}
+use Rattle.esm_stream_book.specs.Books.{BookState, setup_of, is_down}
+use Rattle.esm_stream_book.specs.Keeping.{IsSound}
 use Rattle.esm_runner.specs.Coming.{SomeCame, HaveCome, AllCame}
 use Rattle.esm_runner.specs.Ran.{HasRun, HasStopped, EndsSo, CameSo, IsDownFor, IsUnfinished, IsOfRecord, IsFirstChange, IsCutInput}
 use Rattle.esm_runner.proofs.Setups.{setting_of_setup, found_of_setup, found_dest_of_setup, setting_is}

@@ -7,7 +7,7 @@ use Rattle.esm_io.specs.Meanings.{DiskMeaning}
 use Rattle.esm_journal.specs.File.{Holding, header_of}
 use Rattle.esm_journal.specs.Pair.{PairOpensTo, PairState, first_disk, second_disk}
 use Rattle.esm_journal.specs.Stopped.{PairKeepsWhileDown, PairStillOpens}
-use Rattle.esm_upkeep.specs.Upkeep.{AreHonest}
+use Rattle.esm_folder.specs.Upkeep.{AreHonest}
 use Rattle.esm_runner.specs.Files.{FilesState}
 use Rattle.esm_runner.specs.Headline.{PairStopped}
 use Rattle.esm_runner.proofs.Payloads.{split_one}

@@ -11,14 +11,14 @@ use Rattle.esm_journal.specs.Reads.{IsOnlyRead}
 use Rattle.esm_journal.specs.State.{JournalState}
 use Rattle.esm_model.specs.declared.config.Config.{Config}
 use Rattle.esm_model.specs.declared.config.Start.{Start}
-use Rattle.esm_arrival.specs.Coming.{of_shard}
+use Rattle.esm_ingest.specs.Coming.{of_shard}
 use Rattle.esm_ledger.specs.Ledger.{opened_with}
-use Rattle.esm_owing.specs.OwingView.{new_view}
-use Rattle.esm_record.specs.declared.item.LineKind.TheVariants as kinds
+use Rattle.esm_stream_core.specs.OwingView.{new_view}
+use Rattle.esm_model.specs.declared.item.LineKind.TheVariants as kinds
 use Rattle.esm_input.specs.Positions.{from_start}
 use Rattle.esm_input.specs.Reading.{items_read}
-use Rattle.esm_upkeep.proofs.Disks.{are_honest}
-use Rattle.esm_sbook.specs.Books.{BookState}
+use Rattle.esm_folder.proofs.OpenedDisks.{are_honest}
+use Rattle.esm_stream_book.specs.Books.{BookState}
 use Rattle.esm_runner.specs.Coming.{records_in_items}
 use Rattle.esm_runner.specs.Ended.{HasStoppedRun}
 use Rattle.esm_runner.specs.Files.{FilesState, IsOpenedFiles}

@@ -1,6 +1,6 @@
 -- How a run ended, from how its batchers did.
-use Rattle.std.proofs.Common.{◌≡◌, ◌∙◌, ℕ, Bool, false, List, [], ◌++◌, length, Result, Ok, Err, Option, Some, None, ap, inl, refl, subst, sym}
-use Rattle.std.specs.Prelude.{IfOk, OnErr, OnOk}
+use Rattle.std.proofs.Common.{◌≡◌, ◌∙◌, ℕ, Bool, true, false, List, [], ◌++◌, length, Result, Ok, Err, Option, Some, None, ap, refl, subst, sym}
+use Rattle.std.specs.Prelude.{IfOk, IsErr, OnErr, OnOk}
 use Rattle.std.proofs.lemmas.List.{append-nil}
 use Rattle.esm_io.specs.Faults.{Rose}
 use Rattle.esm_io.specs.Meanings.{DiskMeaning}
@@ -13,18 +13,18 @@ use Rattle.esm_model.specs.declared.config.Start.{Start}
 use Rattle.esm_model.specs.declared.item.Record.{Record}
 use Rattle.esm_model.specs.declared.memory.OutOfMemory.{OutOfMemory}
 use Rattle.esm_model.specs.Setting.{Setting, over}
-use Rattle.esm_payload.specs.EntryPayload.{AllMayBeSaid}
-use Rattle.esm_writable.specs.Bounds.{AreWithinBounds}
+use Rattle.esm_journal_record.specs.EntryPayload.{AllMayBeSaid}
+use Rattle.esm_record_bounds.specs.Bounds.{AreWithinBounds}
 use Rattle.esm_book.specs.State.{in_hand}
 use Rattle.esm_ledger.specs.Ledger.{opened_with}
-use Rattle.esm_owing.specs.OwingView.{OwingView, full_setting, new_view}
-use Rattle.esm_core.specs.Told.{opened}
-use Rattle.esm_record.specs.declared.item.LineKind.{LineKind}
-use Rattle.esm_record.specs.declared.item.LineKind.TheVariants as kinds
+use Rattle.esm_stream_core.specs.OwingView.{OwingView, full_setting, new_view}
+use Rattle.esm_stream_core.specs.Told.{opened}
+use Rattle.esm_model.specs.declared.item.LineKind.{LineKind}
+use Rattle.esm_model.specs.declared.item.LineKind.TheVariants as kinds
 use Rattle.esm_input.specs.Positions.{from_start}
 use Rattle.esm_input.specs.Reading.{InputState, IsInput, handed, items_read}
-use Rattle.esm_sbook.specs.Books.{BookState}
-use Rattle.esm_sbook.specs.Keeping.{IsCause, IsSound}
+use Rattle.esm_stream_book.specs.Books.{BookState}
+use Rattle.esm_stream_book.specs.Keeping.{IsCause, IsSound}
 use Rattle.esm_pool.specs.declared.running.RunEnd.{RunEnd}
 use Rattle.esm_pool.specs.declared.running.RunEnd.TheVariants as ran
 use Rattle.esm_runner.specs.Coming.{AllCame, SomeCame, records_in_items}
@@ -32,7 +32,7 @@ use Rattle.esm_runner.specs.Ran.{CameSo, EndsSo, HasRun, HasStopped, IsCutInput,
 use Rattle.esm_runner.specs.Ended.{AllCame as AllRecordsCame, HasEnded, HasStoppedRun, IsFaultOf, IsCauseOf, trouble_of}
 use Rattle.esm_runner.specs.Files.{FilesState}
 use Rattle.esm_runner.specs.Headline.{CallsMadeOrOneMore, Devices, Headline, Telling}
-use Rattle.esm_runner.specs.Ending.{EndsBy, IsEndOf}
+use Rattle.esm_runner.specs.Ending.{EndsBy, HasReason, IsEndOf}
 use Rattle.esm_runner.specs.Runs.{IsLeft, new_input}
 use Rattle.esm_runner.specs.declared.run.MappingEnd.{MappingEnd}
 use Rattle.esm_runner.specs.declared.run.MappingEnd.TheVariants as end
@@ -110,10 +110,11 @@ pub ended : {S D F : Type 0} (t : Telling D F) (faults : S → ℕ) (left_in : S
     → IsCauseIn t.disk b b.trouble
     → IsMadeFor config start old i → i.failed ≡ false → IsInput faults left_in i
     → HasRun t.callers before b callers new.callers → CameSo i b r → EndsSo left_in i b r → IsEndOf r b.trouble i.end e
-    → HasEnded t faults left_in config start calls f old i.source callers b.core.past new e
+    → HasEnded t faults left_in config start calls f old i.source i.end callers b.core.past new e
 ended t faults left_in config start calls f old i callers before b new r e laws stood left of sound cause made good read run came so is = record {
   input = i;
   is_input = record { kind = made.kind; factor = made.factor; start_is = made.start_is; found = made.found; source = refl; good = good; read = read };
+  read_to = refl;
   setting = b.core.setting;
   is_setting = record { opened = opened_so config calls f before b stood run.opened; came = some_came i b r came };
   hand = in_hand b.trouble b.core.owed;
@@ -157,16 +158,6 @@ stopped {S} t left_in config start calls f old i callers before b new laws stood
   calls_made = made_calls;
 }
 
--- what was read to an end, as what was read at all
-read_as_cut : {S D : Type 0} (faults : S → ℕ) (left_in : S → Option (List ℕ)) (i : InputState S) (b : BookState D (JournalState D)) → IsInput faults left_in i → SomeCame b (records_in_items (handed i)) → IsCutInput left_in i b
-read_as_cut faults left_in i b read came = record {
-  bytes = i.bytes;
-  more = [];
-  whole = i.whole;
-  taken = subst (TakesFront (left_in i.found) (left_in i.source)) (sym (append-nil i.bytes)) read.taken;
-  came = came;
-}
-
 -- both
 
 -- how the batchers came to what they came to
@@ -183,20 +174,17 @@ pub ended_by : {S D F : Type 0} (t : Telling D F) (faults : S → ℕ) (left_in 
     → (before b : BookState D (JournalState D)) (new : Devices D F) (r : Result RunEnd OutOfMemory) (e : MappingEnd) → AreLaws → StoodSo config calls f before → IsLeft t.disk f b → AreOf b new → IsSound b
     → IsCauseIn t.disk b b.trouble
     → IsMadeFor config start old i → HasCome t faults left_in before b i callers new.callers r → EndsBy r b.trouble i.end e
-    → HasEnded t faults left_in config start calls f old i.source callers b.core.past new e
+    → HasEnded t faults left_in config start calls f old i.source i.end callers b.core.past new e
 ended_by t faults left_in config start calls f old i callers before b new (Ok r) e laws stood left of sound cause made come is =
     ended t faults left_in config start calls f old i callers before b new r e laws stood left of sound cause made come.good come.read come.run come.came come.ended is
 ended_by t faults left_in config start calls f old i callers before b new (Err none) e laws stood left of sound cause made come is = absurd is
 
 pub stopped_by : {S D F : Type 0} (t : Telling D F) (faults : S → ℕ) (left_in : S → Option (List ℕ)) (config : Config) (start : Start) (calls : ℕ) (f : FilesState D) (old : S) (i : InputState S) (callers : List F)
     → (before b : BookState D (JournalState D)) (new : Devices D F) (r : Result RunEnd OutOfMemory) → AreLaws → StoodSo config calls f before → IsLeft t.disk f b → AreOf b new → IsCauseIn t.disk b b.trouble
-    → IsMadeFor config start old i → HasCome t faults left_in before b i callers new.callers r
+    → IsMadeFor config start old i → HasCome t faults left_in before b i callers new.callers r → IsErr r
     → HasStoppedRun t left_in config start calls f old i.source callers b.core.past new
-stopped_by t faults left_in config start calls f old i callers before b new (Ok r) laws stood left of cause made come =
-    let run = come.run in
-    stopped t left_in config start calls f old i callers before b new laws stood left of cause made run.opened (headline t f b new laws left of run.moments)
-    (read_as_cut faults left_in i b come.read (some_came i b r come.came)) (λ k d within. inl (run.calls_made k d within))
-stopped_by t faults left_in config start calls f old i callers before b new (Err none) laws stood left of cause made come =
+stopped_by t faults left_in config start calls f old i callers before b new (Ok r) laws stood left of cause made come short = absurd (let clash : false ≡ true = short in cc)
+stopped_by t faults left_in config start calls f old i callers before b new (Err none) laws stood left of cause made come short =
     let stop = come.stopped in
     stopped t left_in config start calls f old i callers before b new laws stood left of cause made stop.opened (headline t f b new laws left of stop.moments) come.cut stop.calls_made
 
@@ -239,3 +227,14 @@ pub said_so : {S D F : Type 0} (t : Telling D F) (faults : S → ℕ) (left_in :
     → AreLaws → IsSound b → AreWithinBounds (full_setting b.core) → HasCome t faults left_in before b i callers new_callers r → AllMayBeSaid b.core.setting b.core.past
 said_so t faults left_in before b i callers new_callers (Ok r) laws sound bounds come = said_within i b i.whole i.bytes laws sound bounds (some_came i b r come.came)
 said_so t faults left_in before b i callers new_callers (Err none) laws sound bounds come = said_within i b come.cut.whole come.cut.bytes laws sound bounds come.cut.came
+
+-- the reason of an end
+
+reason_for : {S D : Type 0} (left_in : S → Option (List ℕ)) (i : InputState S) (b : BookState D (JournalState D)) (r : RunEnd) → CameSo i b r → EndsSo left_in i b r → HasReason b.trouble i.end r
+reason_for left_in i b ran.Finished came so = came.1
+reason_for left_in i b ran.Spent came so = tt
+reason_for left_in i b ran.Down came so = so
+
+pub reason_of : {S D : Type 0} (left_in : S → Option (List ℕ)) (i : InputState S) (b : BookState D (JournalState D)) (r : Result RunEnd OutOfMemory) → IfOk r (CameSo i b) → IfOk r (EndsSo left_in i b) → IfOk r (HasReason b.trouble i.end)
+reason_of left_in i b (Ok r) came so = reason_for left_in i b r came so
+reason_of left_in i b (Err none) came so = tt

@@ -3,9 +3,9 @@ use Rattle.std.specs.Prelude.{◌≡◌, ◌++◌, ℕ, true, List}
 use Rattle.esm_model.specs.declared.item.Record.{Record}
 use Rattle.esm_model.specs.Setting.{records_in}
 use Rattle.esm_model.specs.Entries.{is_shut}
-use Rattle.esm_arrival.specs.Coming.{of_shard}
-pub use Rattle.esm_lasting.specs.Items.{records_in_items}
-use Rattle.esm_sbook.specs.Books.{BookState}
+use Rattle.esm_ingest.specs.Coming.{of_shard}
+pub use Rattle.esm_stream_book.specs.Items.{records_in_items}
+use Rattle.esm_stream_book.specs.Books.{BookState}
 
 -- of each shard those of the list came, in its order
 abbrev pub HaveCome : {D T : Type 0} → BookState D T → List Record → Type 0

@@ -10,13 +10,13 @@ use Rattle.esm_model.specs.declared.item.Record.{Record}
 use Rattle.esm_model.specs.declared.entry.Entry.{Entry}
 use Rattle.esm_model.specs.Setting.{Setting, records_of}
 use Rattle.esm_model.specs.Entries.{is_shut, came_count, calls_begun}
-use Rattle.esm_arrival.specs.Changes.{first_change, kept_otherwise}
-use Rattle.esm_arrival.specs.Coming.{of_shard}
-use Rattle.esm_record.specs.declared.item.LineKind.TheVariants as kinds
+use Rattle.esm_ingest.specs.Changes.{first_change, kept_otherwise}
+use Rattle.esm_ingest.specs.Coming.{of_shard}
+use Rattle.esm_model.specs.declared.item.LineKind.TheVariants as kinds
 use Rattle.esm_input.specs.declared.ending.InputEnd.{InputEnd}
 use Rattle.esm_input.specs.Positions.{from_start}
 use Rattle.esm_input.specs.Reading.{InputState, IsInput, items_read, handed}
-use Rattle.esm_upkeep.specs.Upkeep.{OneRose}
+use Rattle.esm_folder.specs.Upkeep.{OneRose}
 use Rattle.esm_runner.specs.Coming.{records_in_items}
 use Rattle.esm_runner.specs.Ran.{AllFated, NoneOutstanding, IsUnfinished, IsOfRecord, IsFirstChange, NoneRuns}
 use Rattle.esm_runner.specs.Files.{FilesState}
@@ -60,10 +60,12 @@ pub record IsInputOf {S : Type 0} (faults : S → ℕ) (left : S → Option (Lis
   pub good : i.failed ≡ false
   pub read : IsInput faults left i
 
--- the run of the configuration over these files and this input left this history, and it ended so
-pub record HasEnded {S D F : Type 0} (t : Telling D F) (faults : S → ℕ) (left : S → Option (List ℕ)) (config : Config) (start : Start) (calls : ℕ) (f : FilesState D) (old_input new_input : S) (old_callers : List F) (h : List Entry) (new : Devices D F) (e : MappingEnd) : Type 0 where
+-- the run of the configuration over these files and this input, the reading of which ended so or came to no end, left this
+-- history, and it ended so
+pub record HasEnded {S D F : Type 0} (t : Telling D F) (faults : S → ℕ) (left : S → Option (List ℕ)) (config : Config) (start : Start) (calls : ℕ) (f : FilesState D) (old_input new_input : S) (reading : Option InputEnd) (old_callers : List F) (h : List Entry) (new : Devices D F) (e : MappingEnd) : Type 0 where
   pub input : InputState S
   pub is_input : IsInputOf faults left config start old_input new_input input
+  pub read_to : input.end ≡ reading
   pub setting : Setting
   pub is_setting : IsSettingOf config calls f.said (records_in_items (handed input)) setting
   pub hand : List Entry
@@ -71,7 +73,7 @@ pub record HasEnded {S D F : Type 0} (t : Telling D F) (faults : S → ℕ) (lef
   -- caller k's log, where told, grew by the calls of batcher k, and no call is without its end
   pub calls_made : CallsMade t setting h old_callers new.callers
   pub rests : NoneRuns h
-  pub cause : IsCauseOf t f setting h (records_in_items (handed input)) input.end (left new_input) new e
+  pub cause : IsCauseOf t f setting h (records_in_items (handed input)) reading (left new_input) new e
 
 -- the faults of a disk of the journal rose, or those of the failure file, where the trouble says so
 abbrev pub IsFaultOf : {D F : Type 0} → Telling D F → FilesState D → Devices D F → Option Trouble → Type 0

@@ -2,7 +2,6 @@
 use Rattle.std.specs.Prelude.{◌≡◌, Result, Ok, Err, Option, Some, IsSome}
 use Rattle.esm_model.specs.declared.book.Trouble.{Trouble}
 use Rattle.esm_model.specs.declared.book.Trouble.TheVariants as trouble
-use Rattle.esm_model.specs.declared.book.Change.{Change}
 use Rattle.esm_model.specs.declared.memory.OutOfMemory.{OutOfMemory}
 use Rattle.esm_input.specs.declared.ending.InputEnd.{InputEnd}
 use Rattle.esm_pool.specs.declared.running.RunEnd.{RunEnd}
@@ -27,8 +26,3 @@ IsEndOf r why reading (end.Changed change) = (r ≡ ran.Down) × (why ≡ Some (
 abbrev pub EndsBy : Result RunEnd OutOfMemory → Option Trouble → Option InputEnd → MappingEnd → Type 0
 EndsBy (Ok r) why reading e = IsEndOf r why reading e
 EndsBy (Err none) why reading e = ⊥
-
--- want of memory stopped the batchers, or the telling of a change
-abbrev pub StopsBy : Result RunEnd OutOfMemory → Option Trouble → Type 0
-StopsBy (Ok r) why = (change : Change) × (r ≡ ran.Down) × (why ≡ Some (trouble.Changed change))
-StopsBy (Err none) why = Unit {0}

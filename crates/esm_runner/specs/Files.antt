@@ -6,13 +6,13 @@ use Rattle.esm_journal.specs.File.{header_of, opened, Opening, Holding, Foreign,
 use Rattle.esm_journal.specs.Pair.{PairState, PairKeepsWhileUp, first_disk, second_disk}
 use Rattle.esm_journal.specs.Reads.{IsOnlyRead}
 use Rattle.esm_journal.specs.State.{JournalState, KeepsWhileUp}
-use Rattle.esm_said.specs.Bad.{IsFirstBad}
-use Rattle.esm_said.specs.Meaning.{history, are_good}
-use Rattle.esm_said.specs.SaidLists.{SaidLists, IsInOrder}
-use Rattle.esm_said.specs.Tells.{Tells}
-use Rattle.esm_said.specs.declared.error.SaysError.TheVariants as judged
-use Rattle.esm_upkeep.specs.Upkeep.{AreHonest, AreOnlyRead, OneRose, AreFound, found}
-use Rattle.esm_upkeep.specs.declared.ending.JournalFile.TheVariants as file
+use Rattle.esm_journal_state.specs.Bad.{IsFirstBad}
+use Rattle.esm_journal_state.specs.Meaning.{history, are_good}
+use Rattle.esm_journal_state.specs.SaidLists.{SaidLists, IsInOrder}
+use Rattle.esm_journal_state.specs.Tells.{Tells}
+use Rattle.esm_journal_state.specs.declared.error.SaysError.TheVariants as judged
+use Rattle.esm_folder.specs.Upkeep.{AreHonest, AreOnlyRead, OneRose, AreFound, found}
+use Rattle.esm_folder.specs.declared.ending.JournalFile.TheVariants as file
 use Rattle.esm_runner.specs.declared.files.FilesError.{FilesError}
 use Rattle.esm_runner.specs.declared.files.FilesError.TheVariants as error
 

@@ -2,7 +2,7 @@
 use Rattle.std.specs.Prelude.{◌≡◌, ℕ, Bool, true, List, [], ◌∷◌, ⊤}
 use Rattle.esm_model.specs.declared.entry.Entry.{Entry}
 use Rattle.esm_model.specs.Entries.{moment_of}
-use Rattle.esm_core.specs.Calls.{moment_for}
+use Rattle.esm_stream_core.specs.Calls.{moment_for}
 
 -- the moment is one that the clock gave, or that of the entry before where that is later, and at most `MAX_MOMENT`
 abbrev pub IsGiven : (ℕ → Bool) → List Entry → ℕ → Type 0

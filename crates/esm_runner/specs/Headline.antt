@@ -19,17 +19,17 @@ use Rattle.esm_model.specs.Checkpoint.{checkpoint}
 use Rattle.esm_model.specs.Calls.{calls, last_event}
 use Rattle.esm_model.specs.Earned.{FateIsEarned, LastEnd}
 use Rattle.esm_model.specs.Laws.{OrderPerKey, OneFate, NoRepeat, EveryRecordCounted, CheckpointIsLongest}
-use Rattle.esm_arrival.specs.Coming.{of_shard}
+use Rattle.esm_ingest.specs.Coming.{of_shard}
 use Rattle.esm_ledger.specs.Ledger.{LegalOver, opened_with}
-use Rattle.esm_owing.specs.OwingView.{lines_of}
-use Rattle.esm_payload.specs.declared.said.Said.{Said}
-use Rattle.esm_said.specs.declared.kept.KeptFate.{KeptFate}
-use Rattle.esm_said.specs.Meaning.{fate_said, history}
-use Rattle.esm_said.specs.SaidLists.{SaidLists}
-use Rattle.esm_upkeep.specs.Upkeep.{AreHonest, AreSettled, PairHolds}
-use Rattle.esm_sbook.specs.Books.{payloads_in}
+use Rattle.esm_stream_core.specs.OwingView.{lines_of}
+use Rattle.esm_journal_record.specs.declared.said.Said.{Said}
+use Rattle.esm_journal_state.specs.declared.kept.KeptFate.{KeptFate}
+use Rattle.esm_journal_state.specs.Meaning.{fate_said, history}
+use Rattle.esm_journal_state.specs.SaidLists.{SaidLists}
+use Rattle.esm_folder.specs.Upkeep.{AreHonest, AreSettled, PairHolds}
+use Rattle.esm_stream_book.specs.Books.{payloads_in}
 use Rattle.esm_runner.specs.Given.{AreGiven}
-use Rattle.esm_batchers.specs.Working.{Outside}
+use Rattle.esm_workers.specs.Working.{Outside}
 use Rattle.esm_runner.specs.Stopping.{HasLogged}
 use Rattle.esm_runner.specs.Files.{FilesState}
 

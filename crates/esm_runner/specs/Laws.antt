@@ -8,12 +8,12 @@ use Rattle.esm_model.specs.Checkpoint.{checkpoint}
 use Rattle.esm_model.specs.Step.{Legal}
 use Rattle.esm_model.specs.Earned.{FateIsEarned, LastEnd, IsLogged}
 use Rattle.esm_model.specs.Laws.{OrderPerKey, OneFate, NoRepeat, EveryRecordCounted, CheckpointIsLongest, CallsKept}
-use Rattle.esm_payload.specs.EntryPayload.{history_payloads, AllMayBeSaid}
-use Rattle.esm_said.specs.declared.kept.KeptFate.{KeptFate}
-use Rattle.esm_said.specs.Meaning.{fate_said, history}
-use Rattle.esm_said.specs.SaidLists.{SaidLists}
-use Rattle.esm_said.specs.Tells.{Tells}
-use Rattle.esm_writable.specs.Bounds.{AreWithinBounds, AreCountedInFourBytes}
+use Rattle.esm_journal_record.specs.EntryPayload.{history_payloads, AllMayBeSaid}
+use Rattle.esm_journal_state.specs.declared.kept.KeptFate.{KeptFate}
+use Rattle.esm_journal_state.specs.Meaning.{fate_said, history}
+use Rattle.esm_journal_state.specs.SaidLists.{SaidLists}
+use Rattle.esm_journal_state.specs.Tells.{Tells}
+use Rattle.esm_record_bounds.specs.Bounds.{AreWithinBounds, AreCountedInFourBytes}
 use Rattle.esm_input.specs.Within.{HandedWithin}
 
 -- the payloads of a legal history stay when the lists of records go on

@@ -5,11 +5,11 @@ use Rattle.esm_journal.specs.File.{Holding}
 use Rattle.esm_journal.specs.Pair.{PairState, PairKeepsWhileUp, first_disk, second_disk}
 use Rattle.esm_journal.specs.declared.error.OpenError.{OpenError}
 use Rattle.esm_journal.specs.declared.error.OpenError.TheVariants as why
-use Rattle.esm_said.specs.Meaning.{history, are_good}
-use Rattle.esm_said.specs.SaidLists.{SaidLists, IsInOrder}
-use Rattle.esm_said.specs.Tells.{Tells}
-use Rattle.esm_upkeep.specs.Upkeep.{AreHonest, AreOnlyRead, found}
-use Rattle.esm_upkeep.specs.declared.ending.JournalFile.{JournalFile}
+use Rattle.esm_journal_state.specs.Meaning.{history, are_good}
+use Rattle.esm_journal_state.specs.SaidLists.{SaidLists, IsInOrder}
+use Rattle.esm_journal_state.specs.Tells.{Tells}
+use Rattle.esm_folder.specs.Upkeep.{AreHonest, AreOnlyRead, found}
+use Rattle.esm_folder.specs.declared.ending.JournalFile.{JournalFile}
 use Rattle.esm_runner.specs.declared.files.FilesError.{FilesError}
 use Rattle.esm_runner.specs.declared.files.FilesError.TheVariants as error
 use Rattle.esm_runner.specs.Files.{WhyRefused, StandsBefore}

@@ -2,8 +2,8 @@
 use Rattle.std.specs.Prelude.{◌≡◌, ◌++◌, true, List}
 use Rattle.esm_model.specs.declared.item.Message.{Message}
 use Rattle.esm_model.specs.Entries.{is_shut}
-use Rattle.esm_qbook.specs.Books.{BookState}
-pub use Rattle.esm_qbook.specs.Coming.{messages_in_items}
+use Rattle.esm_queue_book.specs.Books.{BookState}
+pub use Rattle.esm_queue_book.specs.Coming.{messages_in_items}
 
 -- those of the list came, in its order
 abbrev pub HaveCome : {D : Type 0} → BookState D → List Message → Type 0

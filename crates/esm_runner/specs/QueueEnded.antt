@@ -12,12 +12,12 @@ use Rattle.esm_model.specs.Entries.{is_shut, calls_begun}
 use Rattle.esm_queue_model.specs.QueueSetting.{QueueSetting, is_fifo, found_deletion}
 use Rattle.esm_queue_model.specs.QueueBatch.{queue_calls}
 use Rattle.esm_queue_model.specs.QueueEntries.{queue_count}
-use Rattle.esm_record.specs.declared.item.LineKind.{LineKind}
-use Rattle.esm_record.specs.declared.item.LineKind.TheVariants as kinds
+use Rattle.esm_model.specs.declared.item.LineKind.{LineKind}
+use Rattle.esm_model.specs.declared.item.LineKind.TheVariants as kinds
 use Rattle.esm_input.specs.declared.ending.InputEnd.{InputEnd}
 use Rattle.esm_input.specs.Positions.{from_start}
 use Rattle.esm_input.specs.Reading.{InputState, IsInput, items_read, handed}
-use Rattle.esm_upkeep.specs.Upkeep.{OneRose}
+use Rattle.esm_folder.specs.Upkeep.{OneRose}
 use Rattle.esm_runner.specs.Ran.{NoneRuns}
 use Rattle.esm_runner.specs.QueueComing.{messages_in_items}
 use Rattle.esm_runner.specs.Number.{batchers_in}
@@ -80,10 +80,12 @@ pub record OthersRest {D F : Type 0} (t : Telling D F) (config : Config) (s : Qu
   pub untouched : (k : ℕ) (d : F) → batchers_in config ≤ k → slice_index_or new k d ≡ slice_index_or old k d
   pub no_calls : (k : ℕ) → batchers_in config ≤ k → queue_calls s t.callers.sends h k ≡ []
 
--- the run of the configuration over these files and this input left this history, and it ended so
-pub record HasEnded {S D F : Type 0} (t : Telling D F) (faults : S → ℕ) (left : S → Option (List ℕ)) (config : Config) (calls visibility : ℕ) (f : FilesState D) (old_input new_input : S) (old_callers : List F) (h : List Entry) (new : Devices D F) (e : MappingEnd) : Type 0 where
+-- the run of the configuration over these files and this input, the reading of which ended so or came to no end, left this
+-- history, and it ended so
+pub record HasEnded {S D F : Type 0} (t : Telling D F) (faults : S → ℕ) (left : S → Option (List ℕ)) (config : Config) (calls visibility : ℕ) (f : FilesState D) (old_input new_input : S) (reading : Option InputEnd) (old_callers : List F) (h : List Entry) (new : Devices D F) (e : MappingEnd) : Type 0 where
   pub input : InputState S
   pub is_input : IsInputOf faults left config old_input new_input input
+  pub read_to : input.end ≡ reading
   pub setting : QueueSetting
   pub is_setting : IsSettingOf config calls visibility f.said (messages_in_items (handed input)) setting
   pub hand : List Entry
@@ -94,7 +96,7 @@ pub record HasEnded {S D F : Type 0} (t : Telling D F) (faults : S → ℕ) (lef
   pub calls_made : CallsMade t setting h old_callers new.callers
   pub rests : NoneRuns h
   pub others : OthersRest t config setting h old_callers new.callers
-  pub cause : IsCauseOf t f setting h (messages_in_items (handed input)) input.end (left new_input) new e
+  pub cause : IsCauseOf t f setting h (messages_in_items (handed input)) reading (left new_input) new e
 
 -- the faults of a disk of the journal rose, where the trouble says so; a queue delivers no lines
 abbrev pub IsFaultOf : {D F : Type 0} → Telling D F → FilesState D → Devices D F → Option Trouble → Type 0

@@ -17,12 +17,12 @@ use Rattle.esm_queue_model.specs.QueueBatch.{queue_calls, last_queue_event}
 use Rattle.esm_queue_model.specs.QueueStep.{LegalQueue}
 use Rattle.esm_queue_model.specs.HistoryLaws.{DeletedOnce, OrderPerGroup, EveryMessageCounted}
 use Rattle.esm_queue_core.specs.CoreView.{new_setting}
-use Rattle.esm_payload.specs.declared.said.Said.{Said}
-use Rattle.esm_said.specs.declared.kept.KeptFate.{KeptFate}
-use Rattle.esm_said.specs.Meaning.{deletion_said, history}
-use Rattle.esm_said.specs.SaidLists.{SaidLists}
-use Rattle.esm_upkeep.specs.Upkeep.{AreHonest, AreSettled, PairHolds}
-use Rattle.esm_qbook.specs.Books.{payloads_in, OpensToFirst}
+use Rattle.esm_journal_record.specs.declared.said.Said.{Said}
+use Rattle.esm_journal_state.specs.declared.kept.KeptFate.{KeptFate}
+use Rattle.esm_journal_state.specs.Meaning.{deletion_said, history}
+use Rattle.esm_journal_state.specs.SaidLists.{SaidLists}
+use Rattle.esm_folder.specs.Upkeep.{AreHonest, AreSettled, PairHolds}
+use Rattle.esm_queue_book.specs.Books.{payloads_in, OpensToFirst}
 use Rattle.esm_runner.specs.Given.{AreGiven}
 use Rattle.esm_runner.specs.QueueStopping.{HasLogged}
 use Rattle.esm_runner.specs.Files.{FilesState}

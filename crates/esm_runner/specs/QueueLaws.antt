@@ -5,9 +5,9 @@ use Rattle.esm_model.specs.declared.entry.Entry.{Entry}
 use Rattle.esm_queue_model.specs.QueueSetting.{QueueSetting, ExtendsMessages, over_messages}
 use Rattle.esm_queue_model.specs.QueueStep.{LegalQueue}
 use Rattle.esm_queue_model.specs.HistoryLaws.{DeletedOnce, OrderPerGroup, EveryMessageCounted, QueueCallsKept}
-use Rattle.esm_payload.specs.declared.said.Said.{Said}
-use Rattle.esm_payload.specs.Parsing.{said_of}
-use Rattle.esm_payload.specs.Payload.{payload_of, IsSaid}
+use Rattle.esm_journal_record.specs.declared.said.Said.{Said}
+use Rattle.esm_journal_record.specs.Parsing.{said_of}
+use Rattle.esm_journal_record.specs.Payload.{payload_of, IsSaid}
 use Rattle.esm_input.specs.Within.{HandedWithin}
 
 -- the laws of histories, of payloads, and of inputs

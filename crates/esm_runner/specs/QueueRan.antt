@@ -10,14 +10,14 @@ use Rattle.esm_model.specs.declared.setup.FoundDeletion.{FoundDeletion}
 use Rattle.esm_model.specs.Entries.{calls_begun}
 use Rattle.esm_queue_model.specs.QueueSetting.{QueueSetting, over_messages}
 use Rattle.esm_queue_model.specs.QueueBatch.{queue_calls}
-pub use Rattle.esm_queue_lasting.specs.Left.{AllDeleted, HasWaiting}
+pub use Rattle.esm_queue_book.specs.Left.{AllDeleted, HasWaiting}
 use Rattle.esm_queue_core.specs.Coming.{NoneHasChanged}
 use Rattle.esm_input.specs.declared.ending.InputEnd.{InputEnd}
 use Rattle.esm_input.specs.Positions.{from_start}
 use Rattle.esm_input.specs.Reading.{InputState, items_read, handed}
-use Rattle.esm_qbook.specs.Books.{BookState}
+use Rattle.esm_queue_book.specs.Books.{BookState}
 use Rattle.esm_runner.specs.Given.{AreGiven}
-use Rattle.esm_batchers.specs.Working.{Outside}
+use Rattle.esm_workers.specs.Working.{Outside}
 use Rattle.esm_runner.specs.Ran.{NoneRuns}
 use Rattle.esm_pool.specs.declared.running.RunEnd.{RunEnd}
 use Rattle.esm_pool.specs.declared.running.RunEnd.TheVariants.{Finished, Spent, Down}

@@ -14,9 +14,9 @@ use Rattle.esm_queue_model.specs.QueueStep.{LegalQueue, SettledQueue}
 use Rattle.esm_queue_model.specs.QueueEntries.{queue_count}
 use Rattle.esm_queue_core.specs.CoreView.{all_messages, new_setting, new_view}
 use Rattle.esm_input.specs.Reading.{InputState}
-use Rattle.esm_said.specs.SaidLists.{SaidLists}
-use Rattle.esm_qbook.specs.Books.{BookState, LeavesFirst, OpensToFirst, payloads_in}
-use Rattle.esm_qbook.specs.Keeping.{HasJournal, entries_left}
+use Rattle.esm_journal_state.specs.SaidLists.{SaidLists}
+use Rattle.esm_queue_book.specs.Books.{BookState, LeavesFirst, OpensToFirst, payloads_in}
+use Rattle.esm_queue_book.specs.Keeping.{HasJournal, entries_left}
 use Rattle.esm_runner.specs.Number.{batchers_in}
 use Rattle.esm_runner.specs.Files.{FilesState, IsOpenedFiles}
 use Rattle.esm_runner.specs.QueueEnded.{line_kind}

@@ -12,17 +12,17 @@ use Rattle.esm_model.specs.Entries.{came_count, calls_begun, is_running}
 use Rattle.esm_model.specs.Fates.{fate}
 use Rattle.esm_model.specs.Windows.{is_outstanding}
 use Rattle.esm_model.specs.Calls.{calls}
-use Rattle.esm_arrival.specs.Changes.{first_change}
-use Rattle.esm_arrival.specs.Coming.{of_shard}
+use Rattle.esm_ingest.specs.Changes.{first_change}
+use Rattle.esm_ingest.specs.Coming.{of_shard}
 use Rattle.esm_input.specs.declared.ending.InputEnd.{InputEnd}
 use Rattle.esm_input.specs.Positions.{from_start}
 use Rattle.esm_input.specs.Reading.{InputState, items_read, handed}
-use Rattle.esm_sbook.specs.Books.{BookState}
+use Rattle.esm_stream_book.specs.Books.{BookState}
 use Rattle.esm_pool.specs.declared.running.RunEnd.{RunEnd}
 use Rattle.esm_pool.specs.declared.running.RunEnd.TheVariants.{Finished, Spent, Down}
 use Rattle.esm_runner.specs.Given.{AreGiven}
 use Rattle.esm_runner.specs.Coming.{records_in_items, SomeCame, AllCame}
-use Rattle.esm_batchers.specs.Working.{Outside}
+use Rattle.esm_workers.specs.Working.{Outside}
 use Rattle.esm_runner.specs.Stopping.{HasLogged}
 
 -- no lane has a call that has not ended

@@ -1,22 +1,22 @@
 -- A run that is to begin, and what it leaves. Only this crate's proofs cite this.
 use Rattle.std.specs.Prelude.{◌≡◌, ℕ, true, false, List, [], Some, None}
 use Rattle.esm_io.specs.Images.{Only}
-use Rattle.esm_io.specs.Meanings.{DiskMeaning, DestMeaning, destination}
+use Rattle.esm_io.specs.Meanings.{DiskMeaning, DestMeaning}
 use Rattle.esm_journal.specs.Pair.{PairState, PairKeepsWhileUp, first_disk, second_disk}
 use Rattle.esm_journal.specs.State.{JournalState, KeepsWhileUp, KeepsWhileDown}
 use Rattle.esm_journal.specs.Stopped.{PairKeepsWhileDown}
 use Rattle.esm_model.specs.declared.book.Trouble.TheVariants as trouble
 use Rattle.esm_model.specs.declared.config.Config.{Config}
 use Rattle.esm_model.specs.declared.config.Start.{Start}
-use Rattle.esm_payload.specs.EntryPayload.{AllMayBeSaid}
+use Rattle.esm_journal_record.specs.EntryPayload.{AllMayBeSaid}
 use Rattle.esm_book.specs.State.{in_hand}
 use Rattle.esm_ledger.specs.Ledger.{opened_with, LegalOver}
-use Rattle.esm_owing.specs.OwingView.{new_view, full_setting}
-use Rattle.esm_record.specs.declared.item.LineKind.TheVariants as kinds
+use Rattle.esm_stream_core.specs.OwingView.{new_view, full_setting}
+use Rattle.esm_model.specs.declared.item.LineKind.TheVariants as kinds
 use Rattle.esm_input.specs.Reading.{InputState}
-use Rattle.esm_said.specs.SaidLists.{SaidLists}
-use Rattle.esm_sbook.specs.Books.{BookState, LeavesFirst, OpensToFirst, payloads_in}
-use Rattle.esm_sbook.specs.Keeping.{HasJournal, HasLines, entries_left}
+use Rattle.esm_journal_state.specs.SaidLists.{SaidLists}
+use Rattle.esm_stream_book.specs.Books.{BookState, LeavesFirst, OpensToFirst, payloads_in}
+use Rattle.esm_stream_book.specs.Keeping.{HasJournal, HasLines, entries_left}
 use Rattle.esm_runner.specs.Files.{FilesState, IsOpenedFiles}
 
 -- what begins
@@ -44,7 +44,7 @@ files_of journal spare failures said b = record { journal = journal; spare = spa
 
 -- a failure file as a destination
 abbrev pub file_dest : {D : Type 0} → DiskMeaning D → DestMeaning (JournalState D)
-file_dest m = destination (λ d. m.honest d.disk) (λ d. m.faults d.disk) (λ d. Some d.payloads) (λ line. line) (λ d. d.down)
+file_dest m = record { honest = λ d. m.honest d.disk; faults = λ d. m.faults d.disk; lines = λ d. Some d.payloads; sends = λ line. line; failed = λ d. d.down }
 
 -- what a crash leaves of the disks since they were handed in
 abbrev pub LeavesSince : {D : Type 0} → DiskMeaning D → FilesState D → BookState D (JournalState D) → Type 0

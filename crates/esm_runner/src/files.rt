@@ -4,11 +4,11 @@ ghost use Rattle.esm_io.specs.Meanings.{disk as meaning};
 ghost use Rattle.esm_runner.specs.Files.{FilesState, IsOpenedFiles, AreRefused, AreClosed};
 ghost use Rattle.esm_runner.specs.Openings.{refusal_of, IsPairOpened, IsPairRefused};
 
+use esm_folder::JournalFile;
 use esm_io::Disk;
 use esm_journal::{FileDest, Journal, OpenError, Pair};
+use esm_journal_state::{Says, SaysError, says};
 use esm_model::{OutOfMemory, Refused};
-use esm_said::{Says, SaysError, says};
-use esm_upkeep::JournalFile;
 use std::alloc::Global;
 use std::marker::Model;
 use std::snapshot::Snapshot;
@@ -33,7 +33,7 @@ impl<D: Disk> Model for Files<D> {
 
     ghost view = { λ f. record { journal = f.journal.value; spare = f.spare.value; failures = f.failures.value; pair = f.pair; said = f.said; dest = f.dest } };
 
-    ghost invariant = { λ f. AreOpen (meaning D.honest D.content D.image D.moment D.image_since D.faults)
+    ghost invariant = { λ f. AreOpen (meaning D.Disk)
         (record { journal = f.journal.value; spare = f.spare.value; failures = f.failures.value; pair = f.pair; said = f.said; dest = f.dest }) };
 }
 
@@ -73,7 +73,7 @@ impl From<OutOfMemory> for FilesError {
 impl<D: Disk> Files<D> {
     /// What is true of opened files. Does nothing.
     pub fn keeps(&self)
-        ensures { IsOpenedFiles (meaning D.honest D.content D.image D.moment D.image_since D.faults) self.now }
+        ensures { IsOpenedFiles (meaning D.Disk) self.now }
     {
         let _ = &self.said;
     }
@@ -84,7 +84,7 @@ impl<D: Disk> Files<D> {
         ensures said { result.said ≡ self.said }
         ensures dest { result.dest ≡ self.dest }
         ensures before { (result.journal.value ≡ self.journal) × (result.spare.value ≡ self.spare) × (result.failures.value ≡ self.failures) }
-        ensures opened { IsOpenedFiles (meaning D.honest D.content D.image D.moment D.image_since D.faults) self }
+        ensures opened { IsOpenedFiles (meaning D.Disk) self }
     {
         let Files {
             pair,
@@ -106,7 +106,7 @@ impl<D: Disk> Files<D> {
 
     /// The disks, as they were left: journal, spare and failure file. Nothing was written to them.
     pub fn close(self) -> (D, D, D)
-        ensures { AreClosed (meaning D.honest D.content D.image D.moment D.image_since D.faults) self result.0 result.1 result.2 }
+        ensures { AreClosed (meaning D.Disk) self result.0 result.1 result.2 }
     {
         let Files {
             pair,
@@ -149,8 +149,8 @@ fn open_pair<D: Disk>(
     spare: D,
 ) -> Result<OpenedPair<D>, Refused<FilesError, (D, D)>>
     ensures disks { IfOk result (λ opened. (opened.journal.value ≡ journal) × (opened.spare.value ≡ spare)) }
-    ensures opened { IfOk result (λ opened. IsPairOpened (meaning D.honest D.content D.image D.moment D.image_since D.faults) journal spare opened.pair opened.said) }
-    ensures refused { IfErr result (λ refused. IsPairRefused (meaning D.honest D.content D.image D.moment D.image_since D.faults)
+    ensures opened { IfOk result (λ opened. IsPairOpened (meaning D.Disk) journal spare opened.pair opened.said) }
+    ensures refused { IfErr result (λ refused. IsPairRefused (meaning D.Disk)
         journal spare refused.back.0 refused.back.1 refused.why) }
 {
     let before = Snapshot::of(&journal);
@@ -185,9 +185,9 @@ fn open_failures<D: Disk>(
     opened: OpenedPair<D>,
     failures: D,
 ) -> Result<Files<D>, Refused<FilesError, (D, D, D)>>
-    requires { IsPairOpened (meaning D.honest D.content D.image D.moment D.image_since D.faults) opened.journal.value opened.spare.value opened.pair opened.said }
+    requires { IsPairOpened (meaning D.Disk) opened.journal.value opened.spare.value opened.pair opened.said }
     ensures opened { IfOk result (λ files. (files.journal ≡ opened.journal.value) × (files.spare ≡ opened.spare.value) × (files.failures ≡ failures)) }
-    ensures refused { IfErr result (λ refused. AreRefused (meaning D.honest D.content D.image D.moment D.image_since D.faults)
+    ensures refused { IfErr result (λ refused. AreRefused (meaning D.Disk)
         opened.journal.value opened.spare.value failures refused.back.0 refused.back.1 refused.back.2 refused.why) }
 {
     let before = Snapshot::of(&failures);
@@ -225,7 +225,7 @@ pub fn open_files<D: Disk>(
     failures: D,
 ) -> Result<Files<D>, Refused<FilesError, (D, D, D)>>
     ensures opened { IfOk result (λ files. (files.journal ≡ journal) × (files.spare ≡ spare) × (files.failures ≡ failures)) }
-    ensures refused { IfErr result (λ refused. AreRefused (meaning D.honest D.content D.image D.moment D.image_since D.faults)
+    ensures refused { IfErr result (λ refused. AreRefused (meaning D.Disk)
         journal spare failures refused.back.0 refused.back.1 refused.back.2 refused.why) }
 {
     match open_pair(alloc, journal, spare) {

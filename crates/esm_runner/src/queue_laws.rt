@@ -2,7 +2,7 @@
 ghost use Rattle.esm_runner.specs.QueueLaws.{AreLaws};
 
 use esm_input::laws::handed_is_within;
-use esm_payload::laws::read_again;
+use esm_journal_record::laws::read_again;
 use esm_queue_model::history_laws::{
     deleted_once, every_message_counted, legal_over_more, order_per_group, queue_calls_kept,
 };

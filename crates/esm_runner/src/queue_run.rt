@@ -6,13 +6,13 @@ ghost use Rattle.esm_model.specs.Entries.{CallsFollowShut};
 ghost use Rattle.esm_model.specs.Pattern.{read_patterns};
 ghost use Rattle.esm_model.specs.QueueEvent.{IsQueueConfig};
 ghost use Rattle.esm_model.specs.Valid.{is_stream};
-ghost use Rattle.esm_record.specs.declared.item.LineKind.{LineKind};
-ghost use Rattle.esm_said.specs.Meaning.{history, are_good};
-ghost use Rattle.esm_said.specs.SaidLists.{IsInOrder};
-ghost use Rattle.esm_said.specs.Tells.{Tells};
+ghost use Rattle.esm_model.specs.declared.item.LineKind.{LineKind};
+ghost use Rattle.esm_journal_state.specs.Meaning.{history, are_good};
+ghost use Rattle.esm_journal_state.specs.SaidLists.{IsInOrder};
+ghost use Rattle.esm_journal_state.specs.Tells.{Tells};
 ghost use Rattle.esm_queue_model.specs.QueueSetting.{is_fifo};
-ghost use Rattle.esm_qbook.specs.Opening.{IsOpened};
-ghost use Rattle.esm_batchers.specs.Working.{outside};
+ghost use Rattle.esm_queue_book.specs.Opening.{IsOpened};
+ghost use Rattle.esm_workers.specs.Working.{outside};
 ghost use Rattle.esm_runner.specs.Files.{IsOpenedFiles};
 ghost use Rattle.esm_runner.specs.Headline.{telling};
 ghost use Rattle.esm_runner.specs.QueueEnded.{HasEnded, HasStoppedRun};
@@ -23,15 +23,15 @@ use crate::number::batchers_of;
 use crate::queue_laws::laws_hold;
 use crate::queue_running::{Ran, run_batchers};
 use crate::run::{Before, MappingRun, closed, end_of};
-use esm_input::Input;
+use esm_input::{Input, InputEnd};
 use esm_io::{Caller, Clock, Disk, Source};
 use esm_journal::{FileDest, Pair};
-use esm_model::{BookOpen, Config, Kind, OutOfMemory, Refused, Text};
-use esm_qbook::{QueueBook, QueueParts};
-use esm_record::LineKind;
-use esm_said::Says;
-use esm_said::laws::same_told;
+use esm_journal_state::Says;
+use esm_journal_state::laws::same_told;
+use esm_model::{BookOpen, Config, Kind, LineKind, OutOfMemory, Refused, Text};
+use esm_queue_book::{QueueBook, QueueParts};
 use std::alloc::Global;
+use std::snapshot::Snapshot;
 use std::sync::Wait;
 use std::thread::Threads;
 
@@ -147,16 +147,19 @@ fn run_opened<
     before: &Before<D>,
 ) -> MappingRun<S, D, F>
     requires config { IsQueueConfig run.book.core.setting.config }
-    requires begun { IsBegun run.book.core.setting.config run.book.core.setting.calls run.book.core.setting.visibility said run.book.pair run.input.source run.book run.input run.name run.batchers }
-    requires files { IsOpenedFiles (meaning D.honest D.content D.image D.moment D.image_since D.faults)
+    requires begun { IsBegun run.book.core.setting.config run.book.core.setting.calls run.book.core.setting.visibility
+        said run.book.pair run.input.source run.book run.input run.name run.batchers }
+    requires files { IsOpenedFiles (meaning D.Disk)
         (files_of before.now.journal.value before.now.spare.value before.now.failures.value said run.book dest) }
     requires callers { length callers.items ≡ MAX_LANES }
-    ensures ended { IfOk result.end (HasEnded (telling (outside C.gave F.sends F.log) (meaning D.honest D.content D.image D.moment D.image_since D.faults)) S.faults S.left
-        run.book.core.setting.config run.book.core.setting.calls run.book.core.setting.visibility (files_of before.now.journal.value before.now.spare.value before.now.failures.value said run.book dest)
-        run.input.source result.input callers.items (reverse result.trace.items)
+    ensures ended { IfOk result.end (HasEnded (telling (outside C.gave F.sends F.log) (meaning D.Disk)) S.faults S.left
+        run.book.core.setting.config run.book.core.setting.calls run.book.core.setting.visibility
+        (files_of before.now.journal.value before.now.spare.value before.now.failures.value said run.book dest)
+        run.input.source result.input result.reading.value callers.items (reverse result.trace.items)
         (record { journal = result.journal; spare = result.spare; failures = result.failures; callers = result.callers.items })) }
-    ensures stopped { OnErr result.end (HasStoppedRun (telling (outside C.gave F.sends F.log) (meaning D.honest D.content D.image D.moment D.image_since D.faults)) S.left
-        run.book.core.setting.config run.book.core.setting.calls run.book.core.setting.visibility (files_of before.now.journal.value before.now.spare.value before.now.failures.value said run.book dest)
+    ensures stopped { OnErr result.end (HasStoppedRun (telling (outside C.gave F.sends F.log) (meaning D.Disk)) S.left
+        run.book.core.setting.config run.book.core.setting.calls run.book.core.setting.visibility
+        (files_of before.now.journal.value before.now.spare.value before.now.failures.value said run.book dest)
         run.input.source result.input callers.items (reverse result.trace.items)
         (record { journal = result.journal; spare = result.spare; failures = result.failures; callers = result.callers.items })) }
     ensures read_first { read_first ≡ true → CallsFollowShut (reverse result.trace.items) }
@@ -187,10 +190,16 @@ fn run_opened<
     );
     laws_hold();
     book.since_before(&before.journal, &before.spare);
+    let _ = book.trouble();
     let (source, reading) = input.into_parts();
-    let end = end_of(alloc, ran, book.trouble(), reading);
-    let QueueParts { history, pair } = book.into_parts();
-    closed(end, history, pair, dest, said, source, callers)
+    let read_to = Snapshot::of(&reading);
+    let QueueParts {
+        history,
+        trouble,
+        pair,
+    } = book.into_parts();
+    let end = end_of(ran, trouble, reading);
+    closed(end, history, pair, dest, said, read_to, source, callers)
 }
 
 /// Runs the mapping, its reader and its batchers as threads; with `read_first` no call begins before the end of the input was
@@ -217,10 +226,10 @@ pub fn run_queue<
     requires config { IsQueueConfig config }
     requires patterns { is_ok (read_patterns (is_stream config.kind) config.filters) ≡ true }
     requires callers { length callers.items ≡ MAX_LANES }
-    ensures ended { IfOk result.end (HasEnded (telling (outside C.gave F.sends F.log) (meaning D.honest D.content D.image D.moment D.image_since D.faults)) S.faults S.left
-        config calls visibility_ms files input result.input callers.items (reverse result.trace.items)
+    ensures ended { IfOk result.end (HasEnded (telling (outside C.gave F.sends F.log) (meaning D.Disk)) S.faults S.left
+        config calls visibility_ms files input result.input result.reading.value callers.items (reverse result.trace.items)
         (record { journal = result.journal; spare = result.spare; failures = result.failures; callers = result.callers.items })) }
-    ensures stopped { OnErr result.end (HasStoppedRun (telling (outside C.gave F.sends F.log) (meaning D.honest D.content D.image D.moment D.image_since D.faults)) S.left
+    ensures stopped { OnErr result.end (HasStoppedRun (telling (outside C.gave F.sends F.log) (meaning D.Disk)) S.left
         config calls visibility_ms files input result.input callers.items (reverse result.trace.items)
         (record { journal = result.journal; spare = result.spare; failures = result.failures; callers = result.callers.items })) }
     ensures read_first { read_first ≡ true → CallsFollowShut (reverse result.trace.items) }
@@ -248,7 +257,18 @@ pub fn run_queue<
         Err(refused) => {
             let (pair, input) = refused.back;
             let stopped = Err(OutOfMemory);
-            closed(stopped, Vec::new(alloc), pair, dest, said, input, callers)
+            let none: Option<InputEnd> = None;
+            let read_to = Snapshot::of(&none);
+            closed(
+                stopped,
+                Vec::new(alloc),
+                pair,
+                dest,
+                said,
+                read_to,
+                input,
+                callers,
+            )
         }
     }
 }

@@ -3,11 +3,11 @@ ghost use Rattle.std.specs.Prelude.{◌≡◌, [], None, true, false, length, If
 ghost use Rattle.esm_model.specs.declared.limits.TheConstants.{MAX_LANES};
 ghost use Rattle.esm_model.specs.Entries.{CallsFollowShut};
 ghost use Rattle.esm_model.specs.QueueEvent.{IsQueueConfig};
-ghost use Rattle.esm_record.specs.declared.item.LineKind.{LineKind};
+ghost use Rattle.esm_model.specs.declared.item.LineKind.{LineKind};
 ghost use Rattle.esm_input.specs.Reading.{IsInput};
-ghost use Rattle.esm_batchers.specs.Working.{outside};
+ghost use Rattle.esm_workers.specs.Working.{outside};
 ghost use Rattle.esm_queue_model.specs.QueueSetting.{is_fifo};
-ghost use Rattle.esm_qbook.specs.Keeping.{IsSound};
+ghost use Rattle.esm_queue_book.specs.Keeping.{IsSound};
 ghost use Rattle.esm_runner.specs.Number.{batchers_in};
 ghost use Rattle.esm_runner.specs.QueueRan.{HasRun, HasStopped, EndsSo, CameSo, IsCutInput};
 
@@ -15,7 +15,7 @@ use esm_input::Input;
 use esm_io::{Caller, Clock, Disk, Source};
 use esm_model::OutOfMemory;
 use esm_pool::{RunEnd, run_book};
-use esm_qbook::QueueBook;
+use esm_queue_book::QueueBook;
 use std::alloc::Global;
 use std::sync::Wait;
 use std::thread::Threads;
@@ -74,7 +74,8 @@ pub(crate) fn run_batchers<
     ensures stopped { OnErr result.end (HasStopped (outside C.gave F.sends F.log) book result.book callers.items result.callers.items) }
     ensures cut { OnErr result.end (IsCutInput S.left result.input result.book) }
     ensures later { read_first ≡ true → CallsFollowShut result.book.core.past }
-    ensures input { (result.input.kind ≡ input.kind) × (result.input.factor ≡ input.factor) × (result.input.start ≡ input.start) × (result.input.found ≡ input.found) }
+    ensures input { (result.input.kind ≡ input.kind) × (result.input.factor ≡ input.factor) ×
+        (result.input.start ≡ input.start) × (result.input.found ≡ input.found) }
 {
     let esm_pool::Ran {
         end,

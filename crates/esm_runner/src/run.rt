@@ -1,19 +1,17 @@
 // What a run of a mapping leaves, how its end is told, and its devices taken apart.
-ghost use Rattle.std.specs.Prelude.{◌≡◌, None, Some, Ok, IfOk, OnErr};
-ghost use Rattle.std.specs.Option.{option_copied};
+ghost use Rattle.std.specs.Prelude.{◌≡◌, IfOk, OnErr, IsErr};
 ghost use Rattle.esm_io.specs.Meanings.{disk as meaning};
 ghost use Rattle.esm_journal.specs.Pair.{PairKeepsWhileUp, first_disk, second_disk};
 ghost use Rattle.esm_journal.specs.State.{KeepsWhileUp, KeepsWhileDown};
 ghost use Rattle.esm_journal.specs.Stopped.{PairKeepsWhileDown};
-ghost use Rattle.esm_runner.specs.Ending.{HasReason, IsEndOf, EndsBy, StopsBy};
+ghost use Rattle.esm_runner.specs.Ending.{HasReason, EndsBy};
 
 use esm_input::InputEnd;
 use esm_io::Disk;
 use esm_journal::{FileDest, Pair};
+use esm_journal_state::Says;
 use esm_model::{Change, Entry, OutOfMemory, Trouble};
 use esm_pool::RunEnd;
-use esm_said::Says;
-use std::alloc::Global;
 use std::snapshot::Snapshot;
 
 /// How the run of a mapping ended.
@@ -22,8 +20,8 @@ pub enum MappingEnd {
     /// Every record that came has its fate, and no tumbling window is outstanding, or every message that came is deleted; the
     /// reading of the input ended for this.
     Finished(InputEnd),
-    /// All calls allowed were made, and a record is open, or a window outstanding, or a message is not deleted, or the input had
-    /// not ended.
+    /// All calls allowed were made, and a record is open, or a window outstanding, or a message is not deleted, or the input,
+    /// which does not tell its bytes, had not ended.
     CallsSpent,
     /// A disk of the journal failed.
     DiskFault,
@@ -34,13 +32,15 @@ pub enum MappingEnd {
     Changed(Change),
 }
 
-/// A run of a mapping: how it ended, its history with the oldest entry first, what its journal said before, and
-/// the devices as it left them.
+/// A run of a mapping: how it ended, its history with the oldest entry first, what its journal said before, how the reading
+/// of its input ended, for the contracts alone, and the devices as it left them. Where the reading came to no end, the input was
+/// left before.
 #[derive(Drop)]
 pub struct MappingRun<S, D, F> {
     pub end: Result<MappingEnd, OutOfMemory>,
     pub trace: Vec<Entry>,
     pub said: Says,
+    pub reading: Snapshot<Option<InputEnd>>,
     pub input: S,
     pub journal: D,
     pub spare: D,
@@ -56,43 +56,16 @@ pub(crate) struct Before<D> {
     pub failures: Snapshot<D>,
 }
 
-/// The same change, in memory of its own.
-fn copied(alloc: Global, change: &Change) -> Result<Change, OutOfMemory>
-    ensures { IfOk result (λ copy. copy ≡ change.now) }
-{
-    Ok(Change {
-        shard: change.shard,
-        place: change.place,
-        kept: change.kept.copy(alloc)?,
-        given: change.given.copy(alloc)?,
-    })
-}
-
-/// Why a book is down, as the end of a run.
-fn end_down(alloc: Global, trouble: &Trouble) -> Result<MappingEnd, OutOfMemory>
-    ensures ended { IfOk result (IsEndOf RunEnd.Down (Some trouble.now) None) }
-    ensures stopped { OnErr result (StopsBy (Ok RunEnd.Down) (Some trouble.now)) }
-{
-    match trouble {
-        Trouble::Disk => Ok(MappingEnd::DiskFault),
-        Trouble::Dest => Ok(MappingEnd::DestFault),
-        Trouble::Changed(change) => match copied(alloc, change) {
-            Ok(change) => Ok(MappingEnd::Changed(change)),
-            Err(OutOfMemory) => Err(OutOfMemory),
-        },
-    }
-}
-
-/// How a run ended by which the batchers came to this, with this trouble of the book, and the reading to that.
+/// How a run ended by which the batchers came to this, with this trouble of the book, and the reading to that. Takes no memory:
+/// want of it ended the run only where it ended the batchers.
 pub(crate) fn end_of(
-    alloc: Global,
     ran: Result<RunEnd, OutOfMemory>,
-    trouble: Option<&Trouble>,
+    trouble: Option<Trouble>,
     reading: Option<InputEnd>,
 ) -> Result<MappingEnd, OutOfMemory>
-    requires reason { IfOk ran (HasReason (option_copied trouble) reading) }
-    ensures ended { IfOk result (EndsBy ran (option_copied trouble.entry) reading) }
-    ensures stopped { OnErr result (StopsBy ran (option_copied trouble.entry)) }
+    requires reason { IfOk ran (HasReason trouble reading) }
+    ensures ended { IfOk result (EndsBy ran trouble reading) }
+    ensures stopped { OnErr result (IsErr ran) }
 {
     match ran {
         Ok(RunEnd::Finished) => match reading {
@@ -101,7 +74,9 @@ pub(crate) fn end_of(
         },
         Ok(RunEnd::Spent) => Ok(MappingEnd::CallsSpent),
         Ok(RunEnd::Down) => match trouble {
-            Some(trouble) => end_down(alloc, trouble),
+            Some(Trouble::Disk) => Ok(MappingEnd::DiskFault),
+            Some(Trouble::Dest) => Ok(MappingEnd::DestFault),
+            Some(Trouble::Changed(change)) => Ok(MappingEnd::Changed(change)),
             None => unreachable!(),
         },
         Err(OutOfMemory) => Err(OutOfMemory),
@@ -115,21 +90,23 @@ pub(crate) fn closed<S, F, D: Disk>(
     pair: Pair<D>,
     dest: FileDest<D>,
     said: Says,
+    reading: Snapshot<Option<InputEnd>>,
     input: S,
     callers: Vec<F>,
 ) -> MappingRun<S, D, F>
     ensures end { result.end ≡ end }
     ensures trace { result.trace ≡ trace }
     ensures said { result.said ≡ said }
+    ensures reading { result.reading.value ≡ reading.value }
     ensures input { result.input ≡ input }
     ensures callers { result.callers ≡ callers }
     ensures journal { result.journal ≡ first_disk pair }
     ensures spare { result.spare ≡ second_disk pair }
     ensures failures { result.failures ≡ dest.disk }
-    ensures pair_kept { PairKeepsWhileUp (meaning D.honest D.content D.image D.moment D.image_since D.faults) pair }
-    ensures pair_stopped { PairKeepsWhileDown (meaning D.honest D.content D.image D.moment D.image_since D.faults) pair }
-    ensures dest_kept { KeepsWhileUp (meaning D.honest D.content D.image D.moment D.image_since D.faults) dest }
-    ensures dest_stopped { KeepsWhileDown (meaning D.honest D.content D.image D.moment D.image_since D.faults) dest }
+    ensures pair_kept { PairKeepsWhileUp (meaning D.Disk) pair }
+    ensures pair_stopped { PairKeepsWhileDown (meaning D.Disk) pair }
+    ensures dest_kept { KeepsWhileUp (meaning D.Disk) dest }
+    ensures dest_stopped { KeepsWhileDown (meaning D.Disk) dest }
 {
     let _ = pair.payloads();
     let (journal, spare) = pair.into_disks();
@@ -139,6 +116,7 @@ pub(crate) fn closed<S, F, D: Disk>(
         end,
         trace,
         said,
+        reading,
         input,
         journal,
         spare,

@@ -2,13 +2,13 @@
 ghost use Rattle.esm_runner.specs.Laws.{AreLaws};
 
 use esm_input::laws::handed_is_within;
+use esm_journal_record::laws::history_payloads_stay;
+use esm_journal_state::laws::{checkpoint_is_kept, fates_are_kept};
 use esm_model::laws::{
     answer_is_logged, calls_kept, checkpoint_is_longest, every_record_counted, fate_is_earned,
     no_repeat, one_fate, order_per_key,
 };
-use esm_payload::laws::history_payloads_stay;
-use esm_said::laws::{checkpoint_is_kept, fates_are_kept};
-use esm_writable::laws::legal_may_be_said;
+use esm_record_bounds::laws::legal_may_be_said;
 
 /// What holds of every history, of what its payloads say, and of every input. Does nothing.
 pub(crate) fn laws_hold()

@@ -5,11 +5,11 @@ ghost use Rattle.esm_model.specs.declared.limits.TheConstants.{MAX_LANES};
 ghost use Rattle.esm_model.specs.Entries.{CallsFollowShut};
 ghost use Rattle.esm_model.specs.Pattern.{read_patterns};
 ghost use Rattle.esm_model.specs.Valid.{IsStreamConfig, is_stream};
-ghost use Rattle.esm_said.specs.Meaning.{history, are_good};
-ghost use Rattle.esm_said.specs.SaidLists.{IsInOrder};
-ghost use Rattle.esm_said.specs.Tells.{Tells};
-ghost use Rattle.esm_sbook.specs.Opening.{IsOpened};
-ghost use Rattle.esm_batchers.specs.Working.{outside};
+ghost use Rattle.esm_journal_state.specs.Meaning.{history, are_good};
+ghost use Rattle.esm_journal_state.specs.SaidLists.{IsInOrder};
+ghost use Rattle.esm_journal_state.specs.Tells.{Tells};
+ghost use Rattle.esm_stream_book.specs.Opening.{IsOpened};
+ghost use Rattle.esm_workers.specs.Working.{outside};
 ghost use Rattle.esm_runner.specs.Files.{IsOpenedFiles};
 ghost use Rattle.esm_runner.specs.Headline.{telling, Devices};
 ghost use Rattle.esm_runner.specs.Ended.{HasEnded, HasStoppedRun};
@@ -19,15 +19,15 @@ use crate::files::Files;
 use crate::run::{Before, MappingRun, closed, end_of};
 use crate::stream_laws::laws_hold;
 use crate::stream_running::{Ran, run_lanes};
-use esm_input::Input;
+use esm_input::{Input, InputEnd};
 use esm_io::{Caller, Clock, Disk, Source};
 use esm_journal::{FileDest, Pair};
-use esm_model::{BookOpen, Config, OutOfMemory, Refused, Start, Text};
-use esm_record::LineKind;
-use esm_said::Says;
-use esm_said::laws::same_told;
-use esm_sbook::{Book, Parts};
+use esm_journal_state::Says;
+use esm_journal_state::laws::same_told;
+use esm_model::{BookOpen, Config, LineKind, OutOfMemory, Refused, Start, Text};
+use esm_stream_book::{Book, Parts};
 use std::alloc::Global;
+use std::snapshot::Snapshot;
 use std::sync::Wait;
 use std::thread::Threads;
 
@@ -130,16 +130,19 @@ fn run_opened<
     before: &Before<D>,
 ) -> MappingRun<S, D, F>
     requires config { IsStreamConfig run.book.core.setting.config }
-    requires begun { IsBegun run.book.core.setting.config run.input.start run.book.core.setting.calls said run.book.pair run.book.dest run.input.source run.book run.input run.name }
-    requires files { IsOpenedFiles (meaning D.honest D.content D.image D.moment D.image_since D.faults)
+    requires begun { IsBegun run.book.core.setting.config run.input.start run.book.core.setting.calls
+        said run.book.pair run.book.dest run.input.source run.book run.input run.name }
+    requires files { IsOpenedFiles (meaning D.Disk)
         (files_of before.now.journal.value before.now.spare.value before.now.failures.value said run.book) }
     requires callers { length callers.items ≡ MAX_LANES }
-    ensures ended { IfOk result.end (HasEnded (telling (outside C.gave F.sends F.log) (meaning D.honest D.content D.image D.moment D.image_since D.faults)) S.faults S.left
-        run.book.core.setting.config run.input.start run.book.core.setting.calls (files_of before.now.journal.value before.now.spare.value before.now.failures.value said run.book)
-        run.input.source result.input callers.items (reverse result.trace.items)
+    ensures ended { IfOk result.end (HasEnded (telling (outside C.gave F.sends F.log) (meaning D.Disk)) S.faults S.left
+        run.book.core.setting.config run.input.start run.book.core.setting.calls
+        (files_of before.now.journal.value before.now.spare.value before.now.failures.value said run.book)
+        run.input.source result.input result.reading.value callers.items (reverse result.trace.items)
         (record { journal = result.journal; spare = result.spare; failures = result.failures; callers = result.callers.items })) }
-    ensures stopped { OnErr result.end (HasStoppedRun (telling (outside C.gave F.sends F.log) (meaning D.honest D.content D.image D.moment D.image_since D.faults)) S.left
-        run.book.core.setting.config run.input.start run.book.core.setting.calls (files_of before.now.journal.value before.now.spare.value before.now.failures.value said run.book)
+    ensures stopped { OnErr result.end (HasStoppedRun (telling (outside C.gave F.sends F.log) (meaning D.Disk)) S.left
+        run.book.core.setting.config run.input.start run.book.core.setting.calls
+        (files_of before.now.journal.value before.now.spare.value before.now.failures.value said run.book)
         run.input.source result.input callers.items (reverse result.trace.items)
         (record { journal = result.journal; spare = result.spare; failures = result.failures; callers = result.callers.items })) }
     ensures read_first { read_first ≡ true → CallsFollowShut (reverse result.trace.items) }
@@ -164,14 +167,17 @@ fn run_opened<
     );
     laws_hold();
     book.since_before(&before.journal, &before.spare);
+    let _ = book.trouble();
     let (source, reading) = input.into_parts();
-    let end = end_of(alloc, ran, book.trouble(), reading);
+    let read_to = Snapshot::of(&reading);
     let Parts {
         history,
+        trouble,
         pair,
         dest,
     } = book.into_parts();
-    closed(end, history, pair, dest, said, source, callers)
+    let end = end_of(ran, trouble, reading);
+    closed(end, history, pair, dest, said, read_to, source, callers)
 }
 
 /// Runs the mapping from this starting position on, its reader and its batchers as threads; with `read_first` no call begins
@@ -198,10 +204,10 @@ pub fn run_stream<
     requires config { IsStreamConfig config }
     requires patterns { is_ok (read_patterns (is_stream config.kind) config.filters) ≡ true }
     requires callers { length callers.items ≡ MAX_LANES }
-    ensures ended { IfOk result.end (HasEnded (telling (outside C.gave F.sends F.log) (meaning D.honest D.content D.image D.moment D.image_since D.faults)) S.faults S.left
-        config start calls files input result.input callers.items (reverse result.trace.items)
+    ensures ended { IfOk result.end (HasEnded (telling (outside C.gave F.sends F.log) (meaning D.Disk)) S.faults S.left
+        config start calls files input result.input result.reading.value callers.items (reverse result.trace.items)
         (record { journal = result.journal; spare = result.spare; failures = result.failures; callers = result.callers.items })) }
-    ensures stopped { OnErr result.end (HasStoppedRun (telling (outside C.gave F.sends F.log) (meaning D.honest D.content D.image D.moment D.image_since D.faults)) S.left
+    ensures stopped { OnErr result.end (HasStoppedRun (telling (outside C.gave F.sends F.log) (meaning D.Disk)) S.left
         config start calls files input result.input callers.items (reverse result.trace.items)
         (record { journal = result.journal; spare = result.spare; failures = result.failures; callers = result.callers.items })) }
     ensures read_first { read_first ≡ true → CallsFollowShut (reverse result.trace.items) }
@@ -227,7 +233,18 @@ pub fn run_stream<
         Err(refused) => {
             let (pair, dest, input) = refused.back;
             let stopped = Err(OutOfMemory);
-            closed(stopped, Vec::new(alloc), pair, dest, said, input, callers)
+            let none: Option<InputEnd> = None;
+            let read_to = Snapshot::of(&none);
+            closed(
+                stopped,
+                Vec::new(alloc),
+                pair,
+                dest,
+                said,
+                read_to,
+                input,
+                callers,
+            )
         }
     }
 }

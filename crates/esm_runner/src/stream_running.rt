@@ -3,10 +3,10 @@ ghost use Rattle.std.specs.Prelude.{◌≡◌, ◌<◌, ◌≤◌, ◌*◌, [], 
 ghost use Rattle.esm_model.specs.declared.limits.TheConstants.{MAX_LANES, MAX_SHARDS};
 ghost use Rattle.esm_model.specs.Entries.{CallsFollowShut};
 ghost use Rattle.esm_model.specs.Valid.{IsStreamConfig};
-ghost use Rattle.esm_record.specs.declared.item.LineKind.{LineKind};
+ghost use Rattle.esm_model.specs.declared.item.LineKind.{LineKind};
 ghost use Rattle.esm_input.specs.Reading.{IsInput};
-ghost use Rattle.esm_batchers.specs.Working.{outside};
-ghost use Rattle.esm_sbook.specs.Keeping.{IsSound};
+ghost use Rattle.esm_workers.specs.Working.{outside};
+ghost use Rattle.esm_stream_book.specs.Keeping.{IsSound};
 ghost use Rattle.esm_runner.specs.Ran.{HasRun, HasStopped, EndsSo, CameSo, IsCutInput};
 
 use esm_input::Input;
@@ -14,7 +14,7 @@ use esm_input::laws::handed_is_within;
 use esm_io::{Caller, Clock, Dest, Disk, Source};
 use esm_model::{MAX_LANES, MAX_SHARDS, OutOfMemory};
 use esm_pool::{RunEnd, run_book};
-use esm_sbook::Book;
+use esm_stream_book::Book;
 use std::alloc::Global;
 use std::sync::Wait;
 use std::thread::Threads;
@@ -83,7 +83,8 @@ pub(crate) fn run_lanes<
     ensures stopped { OnErr result.end (HasStopped (outside C.gave F.sends F.log) book result.book callers.items result.callers.items) }
     ensures cut { OnErr result.end (IsCutInput S.left result.input result.book) }
     ensures later { read_first ≡ true → CallsFollowShut result.book.core.past }
-    ensures input { (result.input.kind ≡ input.kind) × (result.input.factor ≡ input.factor) × (result.input.start ≡ input.start) × (result.input.found ≡ input.found) }
+    ensures input { (result.input.kind ≡ input.kind) × (result.input.factor ≡ input.factor) ×
+        (result.input.start ≡ input.start) × (result.input.found ≡ input.found) }
 {
     let batchers = batchers_for(input.factor());
     let esm_pool::Ran {

@@ -17,7 +17,7 @@ impl<T: Kept> TableRule<Option<T>, LinkedList<Part>, Terms<T>> for Rule<T> {
     ghost use Rattle.esm_turn.specs.Rule.{IsKept};
     ghost use Rattle.esm_turn.specs.Parts.{begun_parts};
 
-    ghost holds = { λ key. IsKept (meaning T.setup T.history T.mark T.change T.author T.may_follow) (T.setup key.made.value) key.seats };
+    ghost holds = { λ key. IsKept (meaning T.Kept) (T.setup key.made.value) key.seats };
 
     ghost first = { λ key. begun_parts T.author (T.setup key.made.value) (T.history key.made.value) (T.change key.made.value) 0 key.seats };
 }
@@ -30,7 +30,7 @@ pub(crate) struct Takes<T> {
 impl<T: Kept> Play<Option<T>, LinkedList<Part>> for Takes<T> {
     ghost use Rattle.esm_turn.specs.Rule.{Took};
 
-    ghost then = { λ st m n after. Took (meaning T.setup T.history T.mark T.change T.author T.may_follow) st m n after };
+    ghost then = { λ st m n after. Took (meaning T.Kept) st m n after };
 }
 
 /// Gives the value back.
@@ -41,7 +41,7 @@ pub(crate) struct Gives<T> {
 impl<T: Kept> Play<Option<T>, LinkedList<Part>> for Gives<T> {
     ghost use Rattle.esm_turn.specs.Rule.{Gave};
 
-    ghost then = { λ st m n after. Gave (meaning T.setup T.history T.mark T.change T.author T.may_follow) m after };
+    ghost then = { λ st m n after. Gave (meaning T.Kept) m after };
 }
 
 /// Gives a new seat the first part.

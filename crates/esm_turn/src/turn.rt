@@ -172,7 +172,7 @@ impl<T: Kept> Turn<T> {
     fn try_take(&self, seat: &mut Seat<T>) -> Option<Held<T>>
         requires at { seat.old.at ≡ self.now.at }
         requires free { seat.old.holds ≡ false }
-        ensures taken { IfSome result (λ h. IsTaken (meaning T.setup T.history T.mark T.change T.author T.may_follow) (part_of seat.old) h.value) }
+        ensures taken { IfSome result (λ h. IsTaken (meaning T.Kept) (part_of seat.old) h.value) }
         ensures seat { IfSome result (λ h. seat.new ≡ record seat.old { seen = T.history h.value; mark = T.mark h.value; change = T.change h.value; holds = true }) }
         ensures none { IfNone result (seat.new ≡ seat.old) }
     {

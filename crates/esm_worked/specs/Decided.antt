@@ -14,7 +14,7 @@ use Rattle.esm_model.specs.Setting.{Setting}
 use Rattle.esm_model.specs.Entries.{last_moment, shards_that_came, batcher}
 use Rattle.esm_model.specs.Owed.{unsorted, same_places, owed}
 use Rattle.esm_model.specs.WorkedLegal.{same_entry, is_sorted}
-use Rattle.esm_arrival.specs.Entries.{filtered_at}
+use Rattle.esm_ingest.specs.Entries.{filtered_at}
 use Rattle.esm_next.specs.Following.{next_for, next_entries}
 
 -- the same entries in the same order, of the kinds that a lane may owe

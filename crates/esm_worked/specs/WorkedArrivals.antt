@@ -8,8 +8,8 @@ use Rattle.esm_model.specs.Setting.{Setting, records_of}
 use Rattle.esm_model.specs.Worked.{plain_mapping, setting_over, record_with, all_came, found_success}
 use Rattle.esm_model.specs.WorkedBatches.{filtering, on_data, on_key, filtered_history}
 use Rattle.esm_model.specs.WorkedRetries.{tried_twice}
-use Rattle.esm_arrival.specs.Changes.{first_change}
-use Rattle.esm_arrival.specs.Entries.{with_entries, arrival_entries}
+use Rattle.esm_ingest.specs.Changes.{first_change}
+use Rattle.esm_ingest.specs.Entries.{with_entries, arrival_entries}
 
 -- the records of shard 0 come at 0, and the input ends
 abbrev pub all_arrived : Setting → List Entry

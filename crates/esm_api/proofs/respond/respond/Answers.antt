@@ -12,7 +12,7 @@ use Rattle.esm_api.proofs.respond.respond.Goals as goal
 
 pub returns-in-Ok-clause-given : goal.returns-in-Ok-clause-given
 returns-in-Ok-clause-given g c =
-    let m = (meaning g.D.Disk.honest g.D.Disk.content g.D.Disk.image g.D.Disk.moment g.D.Disk.image_since g.D.Disk.faults) in
+    let m = (meaning g.D.Disk) in
     let old = c.args.registry.now in
     let new = c.apply.new.self in
     let done = c.in-Ok.ensures in
@@ -33,7 +33,7 @@ returns-in-Ok-clause-given g c =
 
 pub returns-in-Ok-clause-unanswered : goal.returns-in-Ok-clause-unanswered
 returns-in-Ok-clause-unanswered g c =
-    let m = (meaning g.D.Disk.honest g.D.Disk.content g.D.Disk.image g.D.Disk.moment g.D.Disk.image_since g.D.Disk.faults) in
+    let m = (meaning g.D.Disk) in
     let old = c.args.registry.now in
     let new = c.apply.new.self in
     let done = c.in-Ok.ensures in
@@ -52,7 +52,7 @@ returns-in-Ok-clause-unanswered g c =
 
 pub returns-in-Err-DiskFault-clause-given : goal.returns-in-Err-DiskFault-clause-given
 returns-in-Err-DiskFault-clause-given g c =
-    let m = (meaning g.D.Disk.honest g.D.Disk.content g.D.Disk.image g.D.Disk.moment g.D.Disk.image_since g.D.Disk.faults) in
+    let m = (meaning g.D.Disk) in
     let old = c.args.registry.now in
     let new = c.apply.new.self in
     let stopped = c.in-Err-DiskFault.ensures in
@@ -72,7 +72,7 @@ returns-in-Err-DiskFault-clause-given g c =
 
 pub returns-in-Err-DiskFault-clause-unanswered : goal.returns-in-Err-DiskFault-clause-unanswered
 returns-in-Err-DiskFault-clause-unanswered g c =
-    let m = (meaning g.D.Disk.honest g.D.Disk.content g.D.Disk.image g.D.Disk.moment g.D.Disk.image_since g.D.Disk.faults) in
+    let m = (meaning g.D.Disk) in
     let old = c.args.registry.now in
     let new = c.apply.new.self in
     let stopped = c.in-Err-DiskFault.ensures in

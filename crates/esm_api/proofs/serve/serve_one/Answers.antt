@@ -20,7 +20,7 @@ status_same a b e = cc
 
 pub returns-in_err-response-clause-unanswered : goal.returns-in_err-response-clause-unanswered
 returns-in_err-response-clause-unanswered g c =
-    let m = (meaning g.D.Disk.honest g.D.Disk.content g.D.Disk.image g.D.Disk.moment g.D.Disk.image_since g.D.Disk.faults) in
+    let m = (meaning g.D.Disk) in
     let head = c.in-Whole.head in
     let read = take c.in-Whole.filled c.receive.new.buffer.items in
     let received = subst (Receives (g.L.Link.told c.args.link.now) (g.L.Link.told c.receive.new.link) c.receive.new.buffer.items) c.in-Whole.is c.in_ok-head.ensures.received in
@@ -32,7 +32,7 @@ returns-in_err-response-clause-unanswered g c =
 
 pub returns-in-Ok-clause-answered : goal.returns-in-Ok-clause-answered
 returns-in-Ok-clause-answered g c =
-    let m = (meaning g.D.Disk.honest g.D.Disk.content g.D.Disk.image g.D.Disk.moment g.D.Disk.image_since g.D.Disk.faults) in
+    let m = (meaning g.D.Disk) in
     let head = c.in-Whole.head in
     let read = take c.in-Whole.filled c.receive.new.buffer.items in
     let received = subst (Receives (g.L.Link.told c.args.link.now) (g.L.Link.told c.receive.new.link) c.receive.new.buffer.items) c.in-Whole.is c.in_ok-head.ensures.received in
@@ -52,7 +52,7 @@ returns-in-Ok-clause-answered g c =
 
 pub returns-in-Ok-clause-disk_cause : goal.returns-in-Ok-clause-disk_cause
 returns-in-Ok-clause-disk_cause g c =
-    let m = (meaning g.D.Disk.honest g.D.Disk.content g.D.Disk.image g.D.Disk.moment g.D.Disk.image_since g.D.Disk.faults) in
+    let m = (meaning g.D.Disk) in
     let head = c.in-Whole.head in
     let read = take c.in-Whole.filled c.receive.new.buffer.items in
     let received = subst (Receives (g.L.Link.told c.args.link.now) (g.L.Link.told c.receive.new.link) c.receive.new.buffer.items) c.in-Whole.is c.in_ok-head.ensures.received in
@@ -72,7 +72,7 @@ returns-in-Ok-clause-disk_cause g c =
 
 pub returns-clause-fault : goal.returns-clause-fault
 returns-clause-fault g c =
-    let m = (meaning g.D.Disk.honest g.D.Disk.content g.D.Disk.image g.D.Disk.moment g.D.Disk.image_since g.D.Disk.faults) in
+    let m = (meaning g.D.Disk) in
     let head = c.in-Whole.head in
     let read = take c.in-Whole.filled c.receive.new.buffer.items in
     let received = subst (Receives (g.L.Link.told c.args.link.now) (g.L.Link.told c.receive.new.link) c.receive.new.buffer.items) c.in-Whole.is c.in_ok-head.ensures.received in

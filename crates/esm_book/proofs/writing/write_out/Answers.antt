@@ -1,6 +1,7 @@
 use Rattle.std.proofs.Common.{refl, sym, ◌∙◌, []}
 use Rattle.esm_io.specs.Meanings.{disk, destination}
-use Rattle.esm_book.specs.Decided.{decisions, added}
+use Rattle.esm_book.specs.Decided.{added}
+use Rattle.esm_book.specs.Meanings.{decisions}
 use Rattle.esm_book.proofs.Lists.{none_in}
 use Rattle.esm_book.proofs.Growing.{grown_none}
 use Rattle.esm_book.proofs.Writings.{writes_none, writes_named, writes_after}
@@ -8,9 +9,9 @@ use Rattle.esm_book.proofs.writing.write_out.Goals as goal
 
 pub returns-then-owed_count-eq0-clause-came : goal.returns-then-owed_count-eq0-clause-came
 returns-then-owed_count-eq0-clause-came g c =
-    let k = decisions g.C.Decisions.history g.C.Decisions.owed g.C.Decisions.payload g.C.Decisions.line in
-    let m = disk g.D.Disk.honest g.D.Disk.content g.D.Disk.image g.D.Disk.moment g.D.Disk.image_since g.D.Disk.faults in
-    let n = destination g.T.Dest.honest g.T.Dest.faults g.T.Dest.lines g.T.Dest.sends g.T.Dest.failed in
+    let k = decisions g.C.Decisions in
+    let m = disk g.D.Disk in
+    let n = destination g.T.Dest in
     let core = c.args.core.now in
     let pair = c.args.pair.now in
     let dest = c.args.dest.now in
@@ -25,9 +26,9 @@ returns-then-owed_count-eq0-clause-came g c =
 
 pub returns-in-Ok-clause-came : goal.returns-in-Ok-clause-came
 returns-in-Ok-clause-came g c =
-    let k = decisions g.C.Decisions.history g.C.Decisions.owed g.C.Decisions.payload g.C.Decisions.line in
-    let m = disk g.D.Disk.honest g.D.Disk.content g.D.Disk.image g.D.Disk.moment g.D.Disk.image_since g.D.Disk.faults in
-    let n = destination g.T.Dest.honest g.T.Dest.faults g.T.Dest.lines g.T.Dest.sends g.T.Dest.failed in
+    let k = decisions g.C.Decisions in
+    let m = disk g.D.Disk in
+    let n = destination g.T.Dest in
     let core = c.args.core.now in
     let new = c.write_owed.new in
     record {
@@ -41,9 +42,9 @@ returns-in-Ok-clause-came g c =
 
 pub returns-in-Err-Disk-clause-came : goal.returns-in-Err-Disk-clause-came
 returns-in-Err-Disk-clause-came g c =
-    let k = decisions g.C.Decisions.history g.C.Decisions.owed g.C.Decisions.payload g.C.Decisions.line in
-    let m = disk g.D.Disk.honest g.D.Disk.content g.D.Disk.image g.D.Disk.moment g.D.Disk.image_since g.D.Disk.faults in
-    let n = destination g.T.Dest.honest g.T.Dest.faults g.T.Dest.lines g.T.Dest.sends g.T.Dest.failed in
+    let k = decisions g.C.Decisions in
+    let m = disk g.D.Disk in
+    let n = destination g.T.Dest in
     let core = c.args.core.now in
     let new = c.write_owed.new in
     record {
@@ -57,9 +58,9 @@ returns-in-Err-Disk-clause-came g c =
 
 pub returns-in-Err-Dest-clause-came : goal.returns-in-Err-Dest-clause-came
 returns-in-Err-Dest-clause-came g c =
-    let k = decisions g.C.Decisions.history g.C.Decisions.owed g.C.Decisions.payload g.C.Decisions.line in
-    let m = disk g.D.Disk.honest g.D.Disk.content g.D.Disk.image g.D.Disk.moment g.D.Disk.image_since g.D.Disk.faults in
-    let n = destination g.T.Dest.honest g.T.Dest.faults g.T.Dest.lines g.T.Dest.sends g.T.Dest.failed in
+    let k = decisions g.C.Decisions in
+    let m = disk g.D.Disk in
+    let n = destination g.T.Dest in
     let core = c.args.core.now in
     let new = c.write_owed.new in
     record {

@@ -1,16 +1,17 @@
 use Rattle.std.proofs.Common.{refl, ◌∙◌, [], take}
 use Rattle.std.proofs.lemmas.Result.{err_from_is_err_and}
 use Rattle.esm_io.specs.Meanings.{disk, destination}
-use Rattle.esm_book.specs.Decided.{decisions, added}
+use Rattle.esm_book.specs.Decided.{added}
+use Rattle.esm_book.specs.Meanings.{decisions}
 use Rattle.esm_book.proofs.Growing.{grown_none}
 use Rattle.esm_book.proofs.Writings.{writes_none, writes_named, writes_then}
 use Rattle.esm_book.proofs.writing.write_owed.Goals as goal
 
 pub owed-init : goal.owed-init
 owed-init g c =
-    let k = decisions g.C.Decisions.history g.C.Decisions.owed g.C.Decisions.payload g.C.Decisions.line in
-    let m = disk g.D.Disk.honest g.D.Disk.content g.D.Disk.image g.D.Disk.moment g.D.Disk.image_since g.D.Disk.faults in
-    let n = destination g.T.Dest.honest g.T.Dest.faults g.T.Dest.lines g.T.Dest.sends g.T.Dest.failed in
+    let k = decisions g.C.Decisions in
+    let m = disk g.D.Disk in
+    let n = destination g.T.Dest in
     let core = c.args.core.now in
     let pair = c.args.pair.now in
     let dest = c.args.dest.now in
@@ -25,9 +26,9 @@ owed-init g c =
 
 pub owed-preserved : goal.owed-preserved
 owed-preserved g c =
-    let k = decisions g.C.Decisions.history g.C.Decisions.owed g.C.Decisions.payload g.C.Decisions.line in
-    let m = disk g.D.Disk.honest g.D.Disk.content g.D.Disk.image g.D.Disk.moment g.D.Disk.image_since g.D.Disk.faults in
-    let n = destination g.T.Dest.honest g.T.Dest.faults g.T.Dest.lines g.T.Dest.sends g.T.Dest.failed in
+    let k = decisions g.C.Decisions in
+    let m = disk g.D.Disk in
+    let n = destination g.T.Dest in
     let first = c.args.core.now in
     let mid = c.owed.core in
     let step = c.in_ok-write_first.ensures in
@@ -41,9 +42,9 @@ owed-preserved g c =
 
 pub returns-in_err-write_first-clause-stopped : goal.returns-in_err-write_first-clause-stopped
 returns-in_err-write_first-clause-stopped g c =
-    let k = decisions g.C.Decisions.history g.C.Decisions.owed g.C.Decisions.payload g.C.Decisions.line in
-    let m = disk g.D.Disk.honest g.D.Disk.content g.D.Disk.image g.D.Disk.moment g.D.Disk.image_since g.D.Disk.faults in
-    let n = destination g.T.Dest.honest g.T.Dest.faults g.T.Dest.lines g.T.Dest.sends g.T.Dest.failed in
+    let k = decisions g.C.Decisions in
+    let m = disk g.D.Disk in
+    let n = destination g.T.Dest in
     let first = c.args.core.now in
     let mid = c.owed.core in
     let p = err_from_is_err_and c.from_residual.result c.from_residual.ensures.1 in

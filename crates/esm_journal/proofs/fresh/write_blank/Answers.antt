@@ -15,19 +15,19 @@ returns-in_err-settle-clause-any_moment g c = λ h.
 pub returns-in_err-size-clause-any_moment : goal.returns-in_err-size-clause-any_moment
 returns-in_err-size-clause-any_moment g c = λ h.
     let before = g.D.Disk.image c.args.disk.now in
-    let read = reads_on (disk g.D.Disk.honest g.D.Disk.content g.D.Disk.image g.D.Disk.moment g.D.Disk.image_since g.D.Disk.faults) c.args.disk.now c.settle.new.disk c.size_of.new.disk c.settle.ensures.only_read c.size_of.ensures.only_read in
+    let read = reads_on (disk g.D.Disk) c.args.disk.now c.settle.new.disk c.size_of.new.disk c.settle.ensures.only_read c.size_of.ensures.only_read in
     weaker g.D.Disk.moment g.D.Disk.image_since c.args.disk.now c.size_of.new.disk before (WasOrHoldsNone before) (read.any_moment h) (λ image was. inl was)
 
 pub returns-then-size-ne0-clause-any_moment : goal.returns-then-size-ne0-clause-any_moment
 returns-then-size-ne0-clause-any_moment g c = λ h.
     let before = g.D.Disk.image c.args.disk.now in
-    let read = reads_on (disk g.D.Disk.honest g.D.Disk.content g.D.Disk.image g.D.Disk.moment g.D.Disk.image_since g.D.Disk.faults) c.args.disk.now c.settle.new.disk c.size_of.new.disk c.settle.ensures.only_read c.size_of.ensures.only_read in
+    let read = reads_on (disk g.D.Disk) c.args.disk.now c.settle.new.disk c.size_of.new.disk c.settle.ensures.only_read c.size_of.ensures.only_read in
     weaker g.D.Disk.moment g.D.Disk.image_since c.args.disk.now c.size_of.new.disk before (WasOrHoldsNone before) (read.any_moment h) (λ image was. inl was)
 
 pub returns-in_err-write_through-clause-any_moment : goal.returns-in_err-write_through-clause-any_moment
 returns-in_err-write_through-clause-any_moment g c = λ h.
     let before = g.D.Disk.image c.args.disk.now in
-    let read = reads_on (disk g.D.Disk.honest g.D.Disk.content g.D.Disk.image g.D.Disk.moment g.D.Disk.image_since g.D.Disk.faults) c.args.disk.now c.settle.new.disk c.size_of.new.disk c.settle.ensures.only_read c.size_of.ensures.only_read in
+    let read = reads_on (disk g.D.Disk) c.args.disk.now c.settle.new.disk c.size_of.new.disk c.settle.ensures.only_read c.size_of.ensures.only_read in
     let was = g.D.Disk.content c.size_of.new.disk in
     let settled = c.settle.ensures.only_read.honesty ∙ h in
     let empty : length was ≡ 0 = ap (λ (l : List ℕ). length l) (c.size_of.ensures.only_read.same settled) ∙ sym (c.in_ok-size.ensures.size settled) ∙ c.if-size-ne0.false in
@@ -37,7 +37,7 @@ returns-in_err-write_through-clause-any_moment g c = λ h.
 pub returns-clause-any_moment : goal.returns-clause-any_moment
 returns-clause-any_moment g c = λ h.
     let before = g.D.Disk.image c.args.disk.now in
-    let read = reads_on (disk g.D.Disk.honest g.D.Disk.content g.D.Disk.image g.D.Disk.moment g.D.Disk.image_since g.D.Disk.faults) c.args.disk.now c.settle.new.disk c.size_of.new.disk c.settle.ensures.only_read c.size_of.ensures.only_read in
+    let read = reads_on (disk g.D.Disk) c.args.disk.now c.settle.new.disk c.size_of.new.disk c.settle.ensures.only_read c.size_of.ensures.only_read in
     let was = g.D.Disk.content c.size_of.new.disk in
     let settled = c.settle.ensures.only_read.honesty ∙ h in
     let empty : length was ≡ 0 = ap (λ (l : List ℕ). length l) (c.size_of.ensures.only_read.same settled) ∙ sym (c.in_ok-size.ensures.size settled) ∙ c.if-size-ne0.false in

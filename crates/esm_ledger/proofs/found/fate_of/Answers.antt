@@ -1,4 +1,4 @@
-use Rattle.esm_said.specs.SaidLists.{fate_told}
+use Rattle.esm_journal_state.specs.SaidLists.{fate_told}
 use Rattle.esm_ledger.proofs.Founds.{fate_read}
 use Rattle.esm_ledger.proofs.found.fate_of.Goals as goal
 

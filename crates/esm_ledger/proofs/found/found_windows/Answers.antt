@@ -1,8 +1,8 @@
 use Rattle.std.proofs.Common.{◌≡◌, ℕ, List, Option, None, ap, sym, ◌∙◌}
 use Rattle.std.specs.Prelude.{option_map, find, ◌==◌, ◌&&◌}
 use Rattle.esm_model.specs.declared.setup.FoundState.{FoundState}
-use Rattle.esm_said.specs.declared.lookup.SaidWindowTries.{SaidWindowTries}
-use Rattle.esm_tables.specs.WindowEntries.{count_at, text_at}
+use Rattle.esm_journal_state.specs.declared.lookup.SaidWindowTries.{SaidWindowTries}
+use Rattle.esm_shard_index.specs.WindowEntries.{count_at, text_at}
 use Rattle.esm_ledger.specs.Measuring.{state_from, tries_from}
 use Rattle.esm_ledger.proofs.Founds.{state_is, window_tries_is}
 use Rattle.esm_ledger.proofs.found.found_windows.Goals as goal

@@ -1,5 +1,5 @@
 use Rattle.std.proofs.Common.{◌≡◌, ◌≤◌, ℕ, length, drop}
-use Rattle.esm_tables.specs.Windows.{state_in}
+use Rattle.esm_shard_index.specs.Windows.{state_in}
 use Rattle.esm_ledger.specs.Measuring.{state_from}
 use Rattle.esm_ledger.proofs.found.load_states.Given as goal
 

@@ -1,5 +1,5 @@
 use Rattle.std.proofs.Common.{◌∙◌, ap, Some}
-use Rattle.esm_said.specs.SaidLists.{tries_told}
+use Rattle.esm_journal_state.specs.SaidLists.{tries_told}
 use Rattle.esm_ledger.proofs.Founds.{tries_read}
 use Rattle.esm_ledger.proofs.found.tries_of.Goals as goal
 

@@ -1,5 +1,5 @@
 use Rattle.std.proofs.Common.{◌≡◌, ℕ, ◌<◌, ◌≤◌, length}
-use Rattle.esm_tables.specs.LaneView.{lane_in}
+use Rattle.esm_shard_index.specs.LaneView.{lane_in}
 use Rattle.esm_ledger.specs.Arriving.{landing_count}
 use Rattle.esm_ledger.proofs.preparing.reserve_lanes.Given as goal
 

@@ -1,6 +1,6 @@
 use Rattle.std.proofs.Common.{ℕ, ◌+◌, ◌<◌, ◌≤◌, length, get_or, drop, None, sym, ap, ◌∙◌, subst, refl, arith}
 use Rattle.esm_lanes.specs.Piece.{open_places}
-use Rattle.esm_tables.specs.LaneView.{LaneView, lane_in}
+use Rattle.esm_shard_index.specs.LaneView.{LaneView, lane_in}
 use Rattle.esm_ledger.specs.Arriving.{landed, landing_count, IsWithin}
 use Rattle.esm_ledger.proofs.Landings.{some_room, some_few, one_lands, room_left, few_left}
 use Rattle.esm_ledger.proofs.shard_steps.land.Goals as goal

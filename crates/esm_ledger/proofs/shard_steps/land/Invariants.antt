@@ -1,6 +1,6 @@
 use Rattle.std.proofs.Common.{◌≡◌, ℕ, ◌+◌, ◌<◌, ◌≤◌, length, drop}
 use Rattle.esm_lanes.specs.Piece.{open_places}
-use Rattle.esm_tables.specs.LaneView.{lane_in}
+use Rattle.esm_shard_index.specs.LaneView.{lane_in}
 use Rattle.esm_ledger.specs.Arriving.{landing_count, landed}
 use Rattle.esm_ledger.proofs.shard_steps.land.Given as goal
 

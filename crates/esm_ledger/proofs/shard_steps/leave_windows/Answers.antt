@@ -1,6 +1,6 @@
 use Rattle.std.proofs.Common.{◌∙◌}
-use Rattle.esm_tables.proofs.Places.{holds_at}
-use Rattle.esm_tables.specs.Windows.{open_in}
+use Rattle.esm_shard_index.proofs.Places.{holds_at}
+use Rattle.esm_shard_index.specs.Windows.{open_in}
 use Rattle.esm_ledger.specs.Shard.{measure_at}
 use Rattle.esm_ledger.proofs.Landings.{leave_more}
 use Rattle.esm_ledger.proofs.shard_steps.leave_windows.Goals as goal

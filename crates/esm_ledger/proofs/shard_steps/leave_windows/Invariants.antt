@@ -1,5 +1,5 @@
 use Rattle.std.proofs.Common.{◌≡◌, ℕ, ◌-◌, take}
-use Rattle.esm_tables.specs.Windows.{open_in, times}
+use Rattle.esm_shard_index.specs.Windows.{open_in, times}
 use Rattle.esm_ledger.specs.Shard.{windows_at}
 use Rattle.esm_ledger.proofs.shard_steps.leave_windows.Given as goal
 

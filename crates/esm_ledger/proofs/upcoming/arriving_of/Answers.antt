@@ -4,7 +4,7 @@ use Rattle.std.proofs.lemmas.Result.{IfOk-weaker}
 use Rattle.esm_model.specs.declared.config.Config.{Config}
 use Rattle.esm_model.specs.declared.item.Record.{Record}
 use Rattle.esm_model.specs.declared.entry.Fate.{Fate}
-use Rattle.esm_tables.specs.Progress.{AreFound}
+use Rattle.esm_shard_index.specs.Progress.{AreFound}
 use Rattle.esm_ledger.specs.declared.arriving.Landing.{Landing}
 use Rattle.esm_ledger.specs.Arriving.{IsLanding, IsWithin, landing_at}
 use Rattle.esm_ledger.specs.Measuring.{fates_from, landings_from}

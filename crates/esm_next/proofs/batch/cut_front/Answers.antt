@@ -8,9 +8,9 @@ use Rattle.esm_model.specs.Setting.{Setting, record_at}
 use Rattle.esm_model.specs.Entries.{came_count}
 use Rattle.esm_model.specs.Batches.{is_expired}
 use Rattle.esm_model.specs.Step.{Legal}
-use Rattle.esm_batch.specs.declared.piece.Piece1.{Piece1}
-use Rattle.esm_batch.specs.declared.piece.Limits.{Limits}
-use Rattle.esm_batch.specs.Cuts.{CanBegin}
+use Rattle.esm_next.specs.declared.piece.SizedItem.{SizedItem}
+use Rattle.esm_next.specs.declared.piece.Limits.{Limits}
+use Rattle.esm_next.specs.Cuts.{CanBegin}
 use Rattle.esm_ledger.specs.Ledger.{past_of, setting_of}
 use Rattle.esm_ledger.proofs.Ledgers.{own_legal}
 use Rattle.esm_next.specs.Gathering.{element_bytes, piece_of, limits_of}
@@ -42,7 +42,7 @@ cut-requires c =
     let w = option_copied c.args.window in
     let low : element_bytes s c.args.shard (slice_index few 0) ≤ 2000000 = subst (λ (k : ℕ). k ≤ 2000000) c.first_bytes-alone.ensures.value c.first_bytes-alone.ensures.bound in
     let begins = first_begins s h c.args.shard c.args.now few w (own_legal s h c.requires.kept.rests.legal) c.requires.some c.requires.came low c.requires.valid c.requires.young in
-    subst (λ (ps : List Piece1). CanBegin c.limits-limits.result c.args.now ps) (sym (c.as_slice.ensures.value ∙ c.in_ok-pieces.ensures))
+    subst (λ (ps : List SizedItem). CanBegin c.limits-limits.result c.args.now ps) (sym (c.as_slice.ensures.value ∙ c.in_ok-pieces.ensures))
     (subst (λ (l : Limits). CanBegin l c.args.now (map (piece_of s h c.args.shard) few)) (sym c.limits-limits.ensures) begins)
 
 pub returns-clause-framed : goal.returns-clause-framed

@@ -7,7 +7,7 @@ use Rattle.esm_model.specs.Entries.{came_count, came_moment}
 use Rattle.esm_model.specs.EventText.{record_text}
 use Rattle.esm_model.specs.FailureLine.{arrival_at}
 use Rattle.esm_model.specs.Step.{Legal}
-use Rattle.esm_batch.specs.declared.piece.Piece1.{Piece1}
+use Rattle.esm_next.specs.declared.piece.SizedItem.{SizedItem}
 use Rattle.esm_ledger.specs.Ledger.{past_of, setting_of}
 use Rattle.esm_ledger.proofs.Ledgers.{own_legal}
 use Rattle.esm_next.specs.Gathering.{element_bytes, window_in, piece_of}
@@ -21,7 +21,7 @@ bytes_are s n i bytes (Some r) is some each =
     let here : element_bytes s n i ≡ length (record_text s.config r) = rw is refl in
     each r refl ∙ sym here
 
-abbrev made : ℕ → ℕ → ℕ → ℕ → Piece1
+abbrev made : ℕ → ℕ → ℕ → ℕ → SizedItem
 made b k a w = record { bytes = b; came = k; arrival = a; window = w }
 
 piece_made : (s : Setting) (h : List Entry) (n i b k a w : ℕ) → Legal s h → i < came_count h n → ((r : Record) → record_at s n i ≡ Some r → b ≡ length (record_text s.config r)) → k ≡ came_moment h n i → a ≡ arrival_at s n i → w ≡ window_in s n i

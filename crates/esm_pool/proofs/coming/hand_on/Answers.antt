@@ -1,7 +1,7 @@
 use Rattle.std.proofs.Common.{[], sym, subst, append-nil}
 use Rattle.std.specs.List.{All}
 use Rattle.std.proofs.lemmas.List.Elements.{All-take, All-drop}
-use Rattle.esm_record.specs.Input.{IsValidItem}
+use Rattle.esm_model.specs.Items.{IsValidItem}
 use Rattle.esm_pool.specs.Readings.{IsStopFor}
 use Rattle.esm_pool.proofs.Arriving.{split_parts, fits, handing_on, handing_some, handing_stop, handing_stop_if, err_as, some_none}
 use Rattle.esm_pool.proofs.coming.hand_on.Goals as goal

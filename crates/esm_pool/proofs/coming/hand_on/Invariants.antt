@@ -2,8 +2,8 @@ use Rattle.std.proofs.Common.{◌≡◌, length, false, None}
 use Rattle.std.specs.List.{All}
 use Rattle.esm_model.specs.Books.{entries_told}
 use Rattle.esm_model.specs.Entries.{is_shut}
-use Rattle.esm_record.specs.Input.{IsValidItem}
-use Rattle.esm_batchers.specs.Seated.{IsSeated}
+use Rattle.esm_model.specs.Items.{IsValidItem}
+use Rattle.esm_workers.specs.Seated.{IsSeated}
 use Rattle.esm_pool.proofs.Arriving.{IsHanding}
 use Rattle.esm_pool.proofs.coming.hand_on.Given as goal
 

@@ -3,16 +3,16 @@ use Rattle.esm_model.specs.Books.{entries_told}
 use Rattle.esm_model.specs.Entries.{is_shut}
 use Rattle.esm_model.specs.Kept.{meaning}
 use Rattle.esm_turn.specs.Seats.{SeatView}
-use Rattle.esm_batchers.specs.Seated.{IsSeated}
+use Rattle.esm_workers.specs.Seated.{IsSeated}
 use Rattle.esm_model.specs.declared.limits.TheConstants.{MAX_RECORDS}
-use Rattle.esm_pooled.specs.Coming.{items_of}
+use Rattle.esm_model.specs.Coming.{items_of}
 use Rattle.esm_pool.proofs.Arriving.{ok_stop, err_stop, unchanged_stop}
 use Rattle.esm_pool.proofs.Seats.{found, gone_back, same_found, given}
 use Rattle.esm_pool.proofs.coming.note.Goals as goal
 
 pub bring-came-requires-clause-going : goal.bring-came-requires-clause-going
 bring-came-requires-clause-going g c =
-    let m = meaning g.B.Kept.setup g.B.Kept.history g.B.Kept.mark g.B.Kept.change g.B.Kept.author g.B.Kept.may_follow in
+    let m = meaning g.B.Kept in
     let gave = g.C.Clock.gave in
     let t = c.args.turn.now in
     let s : SeatView = c.args.seat.now in
@@ -22,7 +22,7 @@ bring-came-requires-clause-going g c =
 
 pub bring-came-requires-clause-within : goal.bring-came-requires-clause-within
 bring-came-requires-clause-within g c = λ n.
-    let m = meaning g.B.Kept.setup g.B.Kept.history g.B.Kept.mark g.B.Kept.change g.B.Kept.author g.B.Kept.may_follow in
+    let m = meaning g.B.Kept in
     let gave = g.C.Clock.gave in
     let t = c.args.turn.now in
     let s : SeatView = c.args.seat.now in
@@ -33,7 +33,7 @@ bring-came-requires-clause-within g c = λ n.
 
 pub returns-clause-seated : goal.returns-clause-seated
 returns-clause-seated g c =
-    let m = meaning g.B.Kept.setup g.B.Kept.history g.B.Kept.mark g.B.Kept.change g.B.Kept.author g.B.Kept.may_follow in
+    let m = meaning g.B.Kept in
     let gave = g.C.Clock.gave in
     let t = c.args.turn.now in
     let s : SeatView = c.args.seat.now in
@@ -44,7 +44,7 @@ returns-clause-seated g c =
 
 pub returns-clause-unchanged : goal.returns-clause-unchanged
 returns-clause-unchanged g c =
-    let m = meaning g.B.Kept.setup g.B.Kept.history g.B.Kept.mark g.B.Kept.change g.B.Kept.author g.B.Kept.may_follow in
+    let m = meaning g.B.Kept in
     let gave = g.C.Clock.gave in
     let t = c.args.turn.now in
     let s : SeatView = c.args.seat.now in
@@ -54,7 +54,7 @@ returns-clause-unchanged g c =
 
 pub returns-clause-came : goal.returns-clause-came
 returns-clause-came g c =
-    let m = meaning g.B.Kept.setup g.B.Kept.history g.B.Kept.mark g.B.Kept.change g.B.Kept.author g.B.Kept.may_follow in
+    let m = meaning g.B.Kept in
     let gave = g.C.Clock.gave in
     let t = c.args.turn.now in
     let s : SeatView = c.args.seat.now in
@@ -65,7 +65,7 @@ returns-clause-came g c =
 
 pub returns-clause-some : goal.returns-clause-some
 returns-clause-some g c = λ n.
-    let m = meaning g.B.Kept.setup g.B.Kept.history g.B.Kept.mark g.B.Kept.change g.B.Kept.author g.B.Kept.may_follow in
+    let m = meaning g.B.Kept in
     let gave = g.C.Clock.gave in
     let t = c.args.turn.now in
     let s : SeatView = c.args.seat.now in
@@ -77,7 +77,7 @@ returns-clause-some g c = λ n.
 
 pub returns-clause-stop : goal.returns-clause-stop
 returns-clause-stop g c =
-    let m = meaning g.B.Kept.setup g.B.Kept.history g.B.Kept.mark g.B.Kept.change g.B.Kept.author g.B.Kept.may_follow in
+    let m = meaning g.B.Kept in
     let gave = g.C.Clock.gave in
     let t = c.args.turn.now in
     let s : SeatView = c.args.seat.now in

@@ -3,13 +3,13 @@ use Rattle.esm_model.specs.Books.{entries_told}
 use Rattle.esm_model.specs.Entries.{is_shut}
 use Rattle.esm_model.specs.Kept.{meaning, added}
 use Rattle.esm_turn.specs.Seats.{SeatView}
-use Rattle.esm_batchers.specs.Seated.{IsSeated}
+use Rattle.esm_workers.specs.Seated.{IsSeated}
 use Rattle.esm_pool.proofs.Seats.{found, gone_back, holds_found, same_found, given, own_follow}
 use Rattle.esm_pool.proofs.coming.note_end.Goals as goal
 
 pub end_input-requires : goal.end_input-requires
 end_input-requires g c =
-    let m = meaning g.B.Kept.setup g.B.Kept.history g.B.Kept.mark g.B.Kept.change g.B.Kept.author g.B.Kept.may_follow in
+    let m = meaning g.B.Kept in
     let gave = g.C.Clock.gave in
     let t = c.args.turn.now in
     let s : SeatView = c.args.seat.now in
@@ -19,7 +19,7 @@ end_input-requires g c =
 
 pub returns-clause-seated : goal.returns-clause-seated
 returns-clause-seated g c =
-    let m = meaning g.B.Kept.setup g.B.Kept.history g.B.Kept.mark g.B.Kept.change g.B.Kept.author g.B.Kept.may_follow in
+    let m = meaning g.B.Kept in
     let gave = g.C.Clock.gave in
     let t = c.args.turn.now in
     let s : SeatView = c.args.seat.now in
@@ -30,7 +30,7 @@ returns-clause-seated g c =
 
 pub returns-clause-same : goal.returns-clause-same
 returns-clause-same g c = λ n.
-    let m = meaning g.B.Kept.setup g.B.Kept.history g.B.Kept.mark g.B.Kept.change g.B.Kept.author g.B.Kept.may_follow in
+    let m = meaning g.B.Kept in
     let gave = g.C.Clock.gave in
     let t = c.args.turn.now in
     let s : SeatView = c.args.seat.now in
@@ -41,7 +41,7 @@ returns-clause-same g c = λ n.
 
 pub returns-clause-unchanged : goal.returns-clause-unchanged
 returns-clause-unchanged g c =
-    let m = meaning g.B.Kept.setup g.B.Kept.history g.B.Kept.mark g.B.Kept.change g.B.Kept.author g.B.Kept.may_follow in
+    let m = meaning g.B.Kept in
     let gave = g.C.Clock.gave in
     let t = c.args.turn.now in
     let s : SeatView = c.args.seat.now in
@@ -51,7 +51,7 @@ returns-clause-unchanged g c =
 
 pub returns-clause-spent : goal.returns-clause-spent
 returns-clause-spent g c = λ was.
-    let m = meaning g.B.Kept.setup g.B.Kept.history g.B.Kept.mark g.B.Kept.change g.B.Kept.author g.B.Kept.may_follow in
+    let m = meaning g.B.Kept in
     let gave = g.C.Clock.gave in
     let t = c.args.turn.now in
     let s : SeatView = c.args.seat.now in

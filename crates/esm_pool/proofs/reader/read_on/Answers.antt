@@ -11,7 +11,7 @@ use Rattle.esm_pool.proofs.reader.read_on.Goals as goal
 
 pub loop-init : goal.loop-init
 loop-init g c =
-    let m = meaning g.B.Kept.setup g.B.Kept.history g.B.Kept.mark g.B.Kept.change g.B.Kept.author g.B.Kept.may_follow in
+    let m = meaning g.B.Kept in
     let s : SeatView = c.args.seat.now in
     let others = unused m g.C.Clock.gave c.args.turn.now s c.requires.seated c.requires.unused in (
       tt,

@@ -2,8 +2,8 @@ use Rattle.std.proofs.Common.{◌≡◌, false, None}
 use Rattle.esm_model.specs.Books.{entries_told}
 use Rattle.esm_model.specs.Entries.{is_shut}
 use Rattle.esm_input.specs.Reading.{handed}
-use Rattle.esm_pooled.specs.Coming.{AreCome}
-use Rattle.esm_batchers.specs.Seated.{IsSeated}
+use Rattle.esm_model.specs.Coming.{AreCome}
+use Rattle.esm_workers.specs.Seated.{IsSeated}
 use Rattle.esm_pool.specs.Ran.{IsSameInput}
 use Rattle.esm_pool.proofs.reader.read_on.Given as goal
 

@@ -1,8 +1,8 @@
 use Rattle.std.proofs.Common.{◌++◌, ◌≤◌, List, ℕ, length, vec_len, ap, ap₂, sym, ◌∙◌, arith}
 use Rattle.std.proofs.lemmas.Bool.{eqb-false}
-use Rattle.esm_payload.specs.declared.said.Said.TheVariants.{Deleted}
-use Rattle.esm_payload.specs.Payload.{payload_of}
-use Rattle.esm_payload.specs.EntryPayload.{ids_at}
+use Rattle.esm_journal_record.specs.declared.said.Said.TheVariants.{Deleted}
+use Rattle.esm_journal_record.specs.Payload.{payload_of}
+use Rattle.esm_journal_record.specs.EntryPayload.{ids_at}
 use Rattle.esm_queue_core.specs.Kept.{messages_stored}
 use Rattle.esm_queue_core.proofs.Named.{gift_from}
 use Rattle.esm_queue_core.proofs.gift.gift_of.Goals as goal

@@ -1,4 +1,4 @@
-use Rattle.esm_record.specs.declared.item.Item.TheVariants.{Queue}
+use Rattle.esm_model.specs.declared.item.Item.TheVariants.{Queue}
 use Rattle.esm_record.specs.Ids.{stood_in}
 use Rattle.esm_record.specs.Input.{has_stood, next_message}
 use Rattle.esm_record.proofs.Follows.{next_message_same, item_fails}

@@ -1,4 +1,4 @@
-use Rattle.esm_record.specs.declared.item.Item.TheVariants.{Stream}
+use Rattle.esm_model.specs.declared.item.Item.TheVariants.{Stream}
 use Rattle.esm_record.specs.Input.{last_number, next_record}
 use Rattle.esm_record.specs.Numbers.{number_in}
 use Rattle.esm_record.proofs.Follows.{next_same, item_fails}

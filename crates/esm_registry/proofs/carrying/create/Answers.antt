@@ -11,7 +11,7 @@ use Rattle.esm_registry.proofs.carrying.create.Goals as goal
 
 pub returns-then-is_err : goal.returns-then-is_err
 returns-then-is_err g c =
-    let m = (meaning g.D.Disk.honest g.D.Disk.content g.D.Disk.image g.D.Disk.moment g.D.Disk.image_since g.D.Disk.faults) in
+    let m = (meaning g.D.Disk) in
     let old = c.args.table.now in
     let j = c.args.journal.now in
     let same : c.add.new.self ≡ old = on_err_at c.add.result (sym c.is_err.ensures.value ∙ c.if-is_err.true) c.add.ensures.kept in
@@ -29,7 +29,7 @@ pub returns-in-Ok : goal.returns-in-Ok
 returns-in-Ok g c =
     let added = on_ok_at c.add.result (sym c.is_err.ensures.value ∙ c.if-is_err.false) c.add.ensures.added in
     let old = c.args.table.now in
-    obeys_done (meaning g.D.Disk.honest g.D.Disk.content g.D.Disk.image g.D.Disk.moment g.D.Disk.image_since g.D.Disk.faults) old c.count_creation.new.self c.args.journal.now c.write.new.journal c.deref.result.now c.args.creation.payload.items (after_creation old.mappings c.args.creation)
+    obeys_done (meaning g.D.Disk) old c.count_creation.new.self c.args.journal.now c.write.new.journal c.deref.result.now c.args.creation.payload.items (after_creation old.mappings c.args.creation)
     (One 202 c.args.creation.text) c.in-Ok.field-0 c.requires.ready c.requires.creation.payload c.deref.ensures.value c.in-Ok.ensures
     (created_after old c.add.new.self c.count_creation.new.self c.args.creation.mapping c.requires.ready.free added c.count_creation.ensures)
 
@@ -42,5 +42,5 @@ pub returns : goal.returns
 returns g c =
     let added = on_ok_at c.add.result (sym c.is_err.ensures.value ∙ c.if-is_err.false) c.add.ensures.added in
     let old = c.args.table.now in
-    obeys_failed (meaning g.D.Disk.honest g.D.Disk.content g.D.Disk.image g.D.Disk.moment g.D.Disk.image_since g.D.Disk.faults) old c.remove.new.self c.args.journal.now c.write.new.journal c.deref.result.now (creation_step old.mappings c.args.creation) c.in-Err.error c.requires.ready (ap Some c.deref.ensures.value) c.in-Err.ensures
+    obeys_failed (meaning g.D.Disk) old c.remove.new.self c.args.journal.now c.write.new.journal c.deref.result.now (creation_step old.mappings c.args.creation) c.in-Err.error c.requires.ready (ap Some c.deref.ensures.value) c.in-Err.ensures
     (taken_back old c.add.new.self c.remove.new.self c.args.creation.mapping c.requires.creation.is_new added c.remove.ensures)

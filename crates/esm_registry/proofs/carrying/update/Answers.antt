@@ -12,7 +12,7 @@ use Rattle.esm_registry.proofs.carrying.update.Goals as goal
 
 pub returns-then-is_err : goal.returns-then-is_err
 returns-then-is_err g c =
-    let m = (meaning g.D.Disk.honest g.D.Disk.content g.D.Disk.image g.D.Disk.moment g.D.Disk.image_since g.D.Disk.faults) in
+    let m = (meaning g.D.Disk) in
     let old = c.args.table.now in
     let j = c.args.journal.now in
     let same : c.promise.new.self ≡ old = on_err_at c.promise.result (sym c.is_err.ensures.value ∙ c.if-is_err.true) c.promise.ensures.kept in
@@ -34,7 +34,7 @@ pub returns-in-Ok : goal.returns-in-Ok
 returns-in-Ok g c =
     let promised = on_ok_at c.promise.result (sym c.is_err.ensures.value ∙ c.if-is_err.false) c.promise.ensures.promised in
     let old = c.args.table.now in
-    obeys_done (meaning g.D.Disk.honest g.D.Disk.content g.D.Disk.image g.D.Disk.moment g.D.Disk.image_since g.D.Disk.faults) old c.replace.new.self c.args.journal.now c.write.new.journal c.deref.result.now c.args.update.payload.items (after_update old.mappings c.args.update)
+    obeys_done (meaning g.D.Disk) old c.replace.new.self c.args.journal.now c.write.new.journal c.deref.result.now c.args.update.payload.items (after_update old.mappings c.args.update)
     (One 202 c.args.update.text) c.in-Ok.field-0 c.requires.ready c.requires.update.payload c.deref.ensures.value c.in-Ok.ensures
     (updated_after old c.promise.new.self c.replace.new.self c.args.update.mapping (arns c.args.update.pair) promised c.replace.ensures)
 
@@ -42,5 +42,5 @@ pub returns-in-Err : goal.returns-in-Err
 returns-in-Err g c =
     let promised = on_ok_at c.promise.result (sym c.is_err.ensures.value ∙ c.if-is_err.false) c.promise.ensures.promised in
     let old = c.args.table.now in
-    obeys_failed (meaning g.D.Disk.honest g.D.Disk.content g.D.Disk.image g.D.Disk.moment g.D.Disk.image_since g.D.Disk.faults) old c.release.new.self c.args.journal.now c.write.new.journal c.deref.result.now (update_step old.mappings c.args.update) c.in-Err.error c.requires.ready (ap Some c.deref.ensures.value) c.in-Err.ensures
+    obeys_failed (meaning g.D.Disk) old c.release.new.self c.args.journal.now c.write.new.journal c.deref.result.now (update_step old.mappings c.args.update) c.in-Err.error c.requires.ready (ap Some c.deref.ensures.value) c.in-Err.ensures
     (released_again old c.promise.new.self c.release.new.self (arns c.args.update.pair) c.requires.ready.free promised c.release.ensures)

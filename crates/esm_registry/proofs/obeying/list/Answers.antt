@@ -10,12 +10,12 @@ use Rattle.esm_registry.proofs.obeying.list.Goals as goal
 pub returns-in-Ok : goal.returns-in-Ok
 returns-in-Ok g c =
     let s = c.args.table.now.mappings in
-    obeys_answer (meaning g.D.Disk.honest g.D.Disk.content g.D.Disk.image g.D.Disk.moment g.D.Disk.image_since g.D.Disk.faults) c.args.table.now c.args.journal.now (answered s (Many (list_text s.list))) (Many c.from_vec.result) c.requires.ready
-    (λ honest payload. stays (meaning g.D.Disk.honest g.D.Disk.content g.D.Disk.image g.D.Disk.moment g.D.Disk.image_since g.D.Disk.faults) c.args.journal.now payload (λ left since. g.met.D.Disk.only_now c.args.journal.now.disk left honest since) (c.payloads.ensures.kept honest c.requires.ready.up))
+    obeys_answer (meaning g.D.Disk) c.args.table.now c.args.journal.now (answered s (Many (list_text s.list))) (Many c.from_vec.result) c.requires.ready
+    (λ honest payload. stays (meaning g.D.Disk) c.args.journal.now payload (λ left since. g.met.D.Disk.only_now c.args.journal.now.disk left honest since) (c.payloads.ensures.kept honest c.requires.ready.up))
     (ap (λ t. answered s (Many t)) (sym (c.from_vec.ensures ∙ c.in-Ok.ensures)))
 
 pub returns-in-Err : goal.returns-in-Err
 returns-in-Err g c =
     let s = c.args.table.now.mappings in
-    obeys_no_memory (meaning g.D.Disk.honest g.D.Disk.content g.D.Disk.image g.D.Disk.moment g.D.Disk.image_since g.D.Disk.faults) c.args.table.now c.args.journal.now (answered s (Many (list_text s.list))) c.requires.ready
-    (λ honest payload. stays (meaning g.D.Disk.honest g.D.Disk.content g.D.Disk.image g.D.Disk.moment g.D.Disk.image_since g.D.Disk.faults) c.args.journal.now payload (λ left since. g.met.D.Disk.only_now c.args.journal.now.disk left honest since) (c.payloads.ensures.kept honest c.requires.ready.up))
+    obeys_no_memory (meaning g.D.Disk) c.args.table.now c.args.journal.now (answered s (Many (list_text s.list))) c.requires.ready
+    (λ honest payload. stays (meaning g.D.Disk) c.args.journal.now payload (λ left since. g.met.D.Disk.only_now c.args.journal.now.disk left honest since) (c.payloads.ensures.kept honest c.requires.ready.up))

@@ -1,5 +1,4 @@
 use Rattle.std.proofs.Common.{None, Some, inl, inr}
-use Rattle.esm_io.specs.Meanings.{disk as meaning}
 use Rattle.esm_run.specs.Serving.{Connection, IsCutAt}
 use Rattle.esm_run.specs.World.{serve_tells}
 use Rattle.esm_run.proofs.Results.{on_err}
@@ -8,7 +7,7 @@ use Rattle.esm_run.proofs.connections.serve_connection.Goals as goal
 
 pub returns-in_err-close-clause-cut : goal.returns-in_err-close-clause-cut
 returns-in_err-close-clause-cut g c =
-    let o = serve_tells g.C.Clock.gave g.L.Conn.Link.told g.L.Conn.Link.faults (meaning g.D.Disk.honest g.D.Disk.content g.D.Disk.image g.D.Disk.moment g.D.Disk.image_since g.D.Disk.faults) in
+    let o = serve_tells g.C.Clock g.L.Conn.Link g.D.Disk in
     let e = c.serve_one-served.ensures in
     let one = is_visited o c.args.conn c.serve_one-served.new.link c.args.registry.now c.serve_one-served.new.registry c.now.result c.serve_one-served.result
     c.requires.fresh c.requires.faultless c.requires.up c.now.ensures e.answered e.cut e.fault e.link_cause e.unanswered e.honesty e.disk_never_falls in
@@ -18,7 +17,7 @@ returns-in_err-close-clause-cut g c =
 
 pub returns-in-Ok-clause-served : goal.returns-in-Ok-clause-served
 returns-in-Ok-clause-served g c =
-    let o = serve_tells g.C.Clock.gave g.L.Conn.Link.told g.L.Conn.Link.faults (meaning g.D.Disk.honest g.D.Disk.content g.D.Disk.image g.D.Disk.moment g.D.Disk.image_since g.D.Disk.faults) in
+    let o = serve_tells g.C.Clock g.L.Conn.Link g.D.Disk in
     let one = is_served o c.args.conn c.serve_one-served.new.link c.args.registry.now c.serve_one-served.new.registry c.now.result
     c.requires.fresh c.requires.faultless c.requires.up c.now.ensures
     (stands_served o (connection c.args.conn c.serve_one-served.new.link None) c.args.registry.now c.serve_one-served.new.registry c.now.result c.in-Ok.field-0 c.requires.faultless
@@ -28,7 +27,7 @@ returns-in-Ok-clause-served g c =
 
 pub returns-in-Err-clause-cut : goal.returns-in-Err-clause-cut
 returns-in-Err-clause-cut g c =
-    let o = serve_tells g.C.Clock.gave g.L.Conn.Link.told g.L.Conn.Link.faults (meaning g.D.Disk.honest g.D.Disk.content g.D.Disk.image g.D.Disk.moment g.D.Disk.image_since g.D.Disk.faults) in
+    let o = serve_tells g.C.Clock g.L.Conn.Link g.D.Disk in
     let one = is_dropped o c.args.conn c.serve_one-served.new.link c.args.registry.now c.serve_one-served.new.registry c.now.result
     c.requires.fresh c.requires.faultless c.requires.up c.now.ensures c.in-Err.ensures.unanswered
     c.serve_one-served.ensures.honesty c.serve_one-served.ensures.disk_never_falls in

@@ -1,12 +1,11 @@
 use Rattle.std.proofs.Common.{◌≡◌, ◌≤◌, false}
-use Rattle.esm_io.specs.Meanings.{disk as meaning}
 use Rattle.esm_run.specs.Serving.{HaveServed}
 use Rattle.esm_run.specs.World.{door_of, serve_tells}
 use Rattle.esm_run.proofs.connections.serve_connections.Given as goal
 
 abbrev pub invariant-loop-accepted : goal.invariant-loop-accepted
 invariant-loop-accepted g l = record {
-  served : HaveServed (serve_tells g.C.Clock.gave g.L.Conn.Link.told g.L.Conn.Link.faults (meaning g.D.Disk.honest g.D.Disk.content g.D.Disk.image g.D.Disk.moment g.D.Disk.image_since g.D.Disk.faults))
+  served : HaveServed (serve_tells g.C.Clock g.L.Conn.Link g.D.Disk)
       l.fn.registry l.registry (door_of g.L.Door.faults g.L.Door.closed l.fn.door l.door) l.accepted;
   up : l.registry.journal.down ≡ false;
   door : g.L.Door.faults l.fn.door ≤ g.L.Door.faults l.door;

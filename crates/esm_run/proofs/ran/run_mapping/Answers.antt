@@ -6,7 +6,7 @@ use Rattle.esm_run.proofs.ran.run_mapping.Goals as goal
 pub returns-then-is_stream-clause-ended : goal.returns-then-is_stream-clause-ended
 returns-then-is_stream-clause-ended g c =
     rw (c.stream_ran.ensures.began, c.stream_ran.ensures.trace, c.stream_ran.ensures.devices)
-    (if_ok c.stream_ran.result.end (λ e tells registry named left. stream_ends _ _ _ _ _ c.args.mapping c.args.opened.files (record {
+    (if_ok c.stream_ran.result.end (λ e tells registry named left. stream_ends _ _ _ _ _ c.args.mapping c.args.opened.files c.run_stream-run.result.reading.value (record {
       named = named;
       registry = left;
       journal = refl;
@@ -18,7 +18,7 @@ returns-then-is_stream-clause-ended g c =
 pub returns-then-is_stream-clause-stopped : goal.returns-then-is_stream-clause-stopped
 returns-then-is_stream-clause-stopped g c =
     rw (c.stream_ran.ensures.trace, c.stream_ran.ensures.devices)
-    (on_err c.stream_ran.result.end _ (λ registry named left. stream_cut _ _ _ _ _ c.args.mapping c.args.opened.files (record {
+    (on_err c.stream_ran.result.end _ (λ registry named left. stream_cut _ _ _ _ _ c.args.mapping c.args.opened.files c.run_stream-run.result.reading.value (record {
       named = named;
       registry = left;
       journal = refl;
@@ -30,7 +30,7 @@ returns-then-is_stream-clause-stopped g c =
 pub returns-else-is_stream-clause-ended : goal.returns-else-is_stream-clause-ended
 returns-else-is_stream-clause-ended g c =
     rw (c.queue_ran.ensures.began, c.queue_ran.ensures.trace, c.queue_ran.ensures.devices)
-    (if_ok c.queue_ran.result.end (λ e tells registry named left. queue_ends _ _ _ _ _ c.args.mapping c.args.opened.files (record {
+    (if_ok c.queue_ran.result.end (λ e tells registry named left. queue_ends _ _ _ _ _ c.args.mapping c.args.opened.files c.run_queue-run.result.reading.value (record {
       named = named;
       registry = left;
       journal = refl;
@@ -42,7 +42,7 @@ returns-else-is_stream-clause-ended g c =
 pub returns-else-is_stream-clause-stopped : goal.returns-else-is_stream-clause-stopped
 returns-else-is_stream-clause-stopped g c =
     rw (c.queue_ran.ensures.trace, c.queue_ran.ensures.devices)
-    (on_err c.queue_ran.result.end _ (λ registry named left. queue_cut _ _ _ _ _ c.args.mapping c.args.opened.files (record {
+    (on_err c.queue_ran.result.end _ (λ registry named left. queue_cut _ _ _ _ _ c.args.mapping c.args.opened.files c.run_queue-run.result.reading.value (record {
       named = named;
       registry = left;
       journal = refl;

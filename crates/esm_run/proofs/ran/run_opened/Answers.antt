@@ -6,7 +6,7 @@ use Rattle.esm_run.proofs.ran.run_opened.Goals as goal
 
 pub run_mapping-requires-clause-may_run : goal.run_mapping-requires-clause-may_run
 run_mapping-requires-clause-may_run g c κs within =
-    may_run (meaning g.D.Disk.honest g.D.Disk.content g.D.Disk.image g.D.Disk.moment g.D.Disk.image_since g.D.Disk.faults) c.args.words.now.which c.args.opened.registry c.in-Ok.mapping
+    may_run (meaning g.D.Disk) c.args.words.now.which c.args.opened.registry c.in-Ok.mapping
     (at_ok _ c.read_mapping-named.result.named c.in-Ok.mapping c.in-Ok.is c.read_mapping-named.ensures.named)
 
 pub returns-in-Ok-clause-ended : goal.returns-in-Ok-clause-ended

@@ -7,7 +7,7 @@ use Rattle.esm_run.proofs.ran.run_words.Goals as goal
 
 pub returns-in-Err-clause-ended : goal.returns-in-Err-clause-ended
 returns-in-Err-clause-ended g c =
-    let m = meaning g.D.Disk.honest g.D.Disk.content g.D.Disk.image g.D.Disk.moment g.D.Disk.image_since g.D.Disk.faults in
+    let m = meaning g.D.Disk in
     let disk = c.args.devices.registry in
     rw (c.not_begun.ensures.end, c.not_begun.ensures.nothing, c.not_begun.ensures.trace, c.not_begun.ensures.devices)
     (if_ok c.ending_of_files.result (λ e tells. refused_ends _ _ _ _ _ (record {
@@ -18,7 +18,7 @@ returns-in-Err-clause-ended g c =
 
 pub returns-in-Err-clause-stopped : goal.returns-in-Err-clause-stopped
 returns-in-Err-clause-stopped g c =
-    let m = meaning g.D.Disk.honest g.D.Disk.content g.D.Disk.image g.D.Disk.moment g.D.Disk.image_since g.D.Disk.faults in
+    let m = meaning g.D.Disk in
     let disk = c.args.devices.registry in
     rw (c.not_begun.ensures.trace, c.not_begun.ensures.devices)
     (on_err c.not_begun.result.end _ (inl (record {
@@ -29,7 +29,7 @@ returns-in-Err-clause-stopped g c =
 
 pub returns-in-Err-clause-registry : goal.returns-in-Err-clause-registry
 returns-in-Err-clause-registry g c =
-    let m = meaning g.D.Disk.honest g.D.Disk.content g.D.Disk.image g.D.Disk.moment g.D.Disk.image_since g.D.Disk.faults in
+    let m = meaning g.D.Disk in
     let disk = c.args.devices.registry in
     rw c.not_begun.ensures.devices (registry_unopened m c.args.words.which disk (only_read_same m disk (λ bytes. (g.met.D.Disk g.world.𝓛 g.world.𝓜 g.world.𝓡 ((λ s x. x), (λ x. x), (λ x. x), λ x. x)).only_now disk bytes)))
 

@@ -1,7 +1,6 @@
 use Rattle.std.proofs.Common.{◌∙◌, ap, refl, subst, sym}
 use Rattle.std.specs.Prelude.{IfOk}
 use Rattle.std.proofs.lemmas.Result.{IfOk-weaker, on_err_weaker}
-use Rattle.esm_io.specs.Meanings.{disk as meaning}
 use Rattle.esm_journal.specs.Reads.{IsOnlyRead}
 use Rattle.esm_journal.specs.State.{JournalState}
 use Rattle.esm_run.specs.Serve.{IsServeEnd}
@@ -11,7 +10,7 @@ use Rattle.esm_run.proofs.registry_file.serve_file.Goals as goal
 
 pub returns-in-Err-clause-end : goal.returns-in-Err-clause-end
 returns-in-Err-clause-end g c =
-    let o = serve_tells g.C.Clock.gave g.L.Conn.Link.told g.L.Conn.Link.faults (meaning g.D.Disk.honest g.D.Disk.content g.D.Disk.image g.D.Disk.moment g.D.Disk.image_since g.D.Disk.faults) in
+    let o = serve_tells g.C.Clock g.L.Conn.Link g.D.Disk in
     let door = door_of g.L.Door.faults g.L.Door.closed c.args.door.now c.args.door.now in
     subst (λ r. IfOk r (IsServeEnd o c.args.disk c.in-Err.refused.back door c.args.requests)) (sym c.end_of_file.ensures)
     (refused_file o c.args.disk c.in-Err.refused.back door c.args.requests c.in-Err.refused.why (unserved o.disk c.args.disk c.in-Err.refused.back door c.in-Err.ensures.back refl refl)
@@ -19,7 +18,7 @@ returns-in-Err-clause-end g c =
 
 pub returns-in-Err-open-clause-end : goal.returns-in-Err-open-clause-end
 returns-in-Err-open-clause-end g c =
-    let o = serve_tells g.C.Clock.gave g.L.Conn.Link.told g.L.Conn.Link.faults (meaning g.D.Disk.honest g.D.Disk.content g.D.Disk.image g.D.Disk.moment g.D.Disk.image_since g.D.Disk.faults) in
+    let o = serve_tells g.C.Clock g.L.Conn.Link g.D.Disk in
     let door = door_of g.L.Door.faults g.L.Door.closed c.args.door.now c.args.door.now in
     let back = c.into_disk.ensures ∙ ap (λ (j : JournalState g.row.D.Denot). j.disk) c.in-Err-open.ensures.back in
     subst (λ r. IfOk r (IsServeEnd o c.args.disk c.into_disk.result door c.args.requests)) (sym c.end_of_payloads.ensures)
@@ -29,7 +28,7 @@ returns-in-Err-open-clause-end g c =
 
 pub returns-in-Ok-open-clause-end : goal.returns-in-Ok-open-clause-end
 returns-in-Ok-open-clause-end g c =
-    let o = serve_tells g.C.Clock.gave g.L.Conn.Link.told g.L.Conn.Link.faults (meaning g.D.Disk.honest g.D.Disk.content g.D.Disk.image g.D.Disk.moment g.D.Disk.image_since g.D.Disk.faults) in
+    let o = serve_tells g.C.Clock g.L.Conn.Link g.D.Disk in
     let door = door_of g.L.Door.faults g.L.Door.closed c.args.door.now c.serve_registry.new.door in
     IfOk-weaker c.serve_registry.result.end _ (IsServeEnd o c.args.disk c.serve_registry.result.disk door c.args.requests)
     (λ e ends. ends c.args.disk (is_opened o.disk c.args.disk c.in-Ok.journal c.in-Ok-open.registry c.in-Ok-open.ensures.journal c.in-Ok-open.ensures.kept c.in-Ok.ensures.fresh.0
@@ -38,7 +37,7 @@ returns-in-Ok-open-clause-end g c =
 
 pub returns-in-Ok-open-clause-cut : goal.returns-in-Ok-open-clause-cut
 returns-in-Ok-open-clause-cut g c =
-    let o = serve_tells g.C.Clock.gave g.L.Conn.Link.told g.L.Conn.Link.faults (meaning g.D.Disk.honest g.D.Disk.content g.D.Disk.image g.D.Disk.moment g.D.Disk.image_since g.D.Disk.faults) in
+    let o = serve_tells g.C.Clock g.L.Conn.Link g.D.Disk in
     on_err_weaker c.serve_registry.result.end
     (λ cut. cut c.args.disk (is_opened o.disk c.args.disk c.in-Ok.journal c.in-Ok-open.registry c.in-Ok-open.ensures.journal c.in-Ok-open.ensures.kept c.in-Ok.ensures.fresh.0
     c.in-Ok.ensures.opened c.in-Ok.ensures.kept c.in-Ok.ensures.only_read))

@@ -2,8 +2,7 @@ use Rattle.std.proofs.Common.{◌∙◌, ap, inl, inr, reverse}
 use Rattle.std.specs.Prelude.{map}
 use Rattle.std.specs.String.{string_bytes}
 use Rattle.esm_cli.specs.declared.command.Command.TheVariants.{Gen, Run, Serve}
-use Rattle.esm_io.specs.Meanings.{disk as meaning}
-use Rattle.esm_said.specs.Meaning.{history}
+use Rattle.esm_journal_state.specs.Meaning.{history}
 use Rattle.esm_run.specs.Commands.{IsLeft}
 use Rattle.esm_run.specs.Tended.{command_of}
 use Rattle.esm_run.specs.World.{devices}
@@ -17,14 +16,12 @@ use Rattle.esm_run.proofs.top.esm.Goals as goal
 
 pub returns-in-Files-clause-outcome : goal.returns-in-Files-clause-outcome
 returns-in-Files-clause-outcome g c = λ known.
-    let t = devices g.C.Clock.gave g.F.Caller.sends g.F.Caller.log (meaning g.D.Disk.honest g.D.Disk.content g.D.Disk.image g.D.Disk.moment g.D.Disk.image_since g.D.Disk.faults)
-    g.S.Source.faults g.S.Source.left g.K.Sink.faults g.K.Sink.written g.L.Door.faults g.L.Door.closed g.L.Conn.Link.told g.L.Conn.Link.faults in
+    let t = devices g.C.Clock g.F.Caller g.D.Disk g.S.Source g.K.Sink g.L.Door g.L.Conn.Link in
     inl ((command_of c.in-Files.command), c.in-Files.ensures, files_ended t c.args.world c.tend.result.world c.in-Files.command c.tend.result.status (c.tend.ensures.outcome known))
 
 pub returns-in-Files-clause-exact : goal.returns-in-Files-clause-exact
 returns-in-Files-clause-exact g c = λ known sound other is.
-    let t = devices g.C.Clock.gave g.F.Caller.sends g.F.Caller.log (meaning g.D.Disk.honest g.D.Disk.content g.D.Disk.image g.D.Disk.moment g.D.Disk.image_since g.D.Disk.faults)
-    g.S.Source.faults g.S.Source.left g.K.Sink.faults g.K.Sink.written g.L.Door.faults g.L.Door.closed g.L.Conn.Link.told g.L.Conn.Link.faults in
+    let t = devices g.C.Clock g.F.Caller g.D.Disk g.S.Source g.K.Sink g.L.Door g.L.Conn.Link in
     one_outcome t (map string_bytes c.args.words.now) c.args.world c.tend.result.world other c.tend.result.status
     (record {
       one_command = c.one_command.ensures;
@@ -45,14 +42,12 @@ returns-in-Files-clause-spelled g c = λ good known. ((command_of c.in-Files.com
 
 pub returns-in-Files-clause-want_of_memory : goal.returns-in-Files-clause-want_of_memory
 returns-in-Files-clause-want_of_memory g c = λ short.
-    let t = devices g.C.Clock.gave g.F.Caller.sends g.F.Caller.log (meaning g.D.Disk.honest g.D.Disk.content g.D.Disk.image g.D.Disk.moment g.D.Disk.image_since g.D.Disk.faults)
-    g.S.Source.faults g.S.Source.left g.K.Sink.faults g.K.Sink.written g.L.Door.faults g.L.Door.closed g.L.Conn.Link.told g.L.Conn.Link.faults in
+    let t = devices g.C.Clock g.F.Caller g.D.Disk g.S.Source g.K.Sink g.L.Door g.L.Conn.Link in
     stopped_at t c.args.world c.tend.result.world (map string_bytes c.args.words.now) (command_of c.in-Files.command) c.one_command.ensures c.in-Files.ensures (c.tend.ensures.untold short) (files_cut t c.args.world c.tend.result.world c.in-Files.command (c.tend.ensures.compact_cut short))
 
 pub returns-in-Files-clause-left : goal.returns-in-Files-clause-left
 returns-in-Files-clause-left g c = λ d spelled.
-    let t = devices g.C.Clock.gave g.F.Caller.sends g.F.Caller.log (meaning g.D.Disk.honest g.D.Disk.content g.D.Disk.image g.D.Disk.moment g.D.Disk.image_since g.D.Disk.faults)
-    g.S.Source.faults g.S.Source.left g.K.Sink.faults g.K.Sink.written g.L.Door.faults g.L.Door.closed g.L.Conn.Link.told g.L.Conn.Link.faults in
+    let t = devices g.C.Clock g.F.Caller g.D.Disk g.S.Source g.K.Sink g.L.Door g.L.Conn.Link in
     by_command (λ d. IsLeft t d c.args.world c.tend.result.world) (map string_bytes c.args.words.now) (command_of c.in-Files.command) c.one_command.ensures c.in-Files.ensures (files_left t c.args.world c.tend.result.world c.in-Files.command (record { kept = c.tend.ensures.kept; files_left = c.tend.ensures.left })) d spelled
 
 pub returns-in-Files-clause-untouched : goal.returns-in-Files-clause-untouched
@@ -72,8 +67,7 @@ returns-in-Serve-clause-outcome g c = λ known.
 
 pub returns-in-Serve-clause-exact : goal.returns-in-Serve-clause-exact
 returns-in-Serve-clause-exact g c = λ known sound other is.
-    let t = devices g.C.Clock.gave g.F.Caller.sends g.F.Caller.log (meaning g.D.Disk.honest g.D.Disk.content g.D.Disk.image g.D.Disk.moment g.D.Disk.image_since g.D.Disk.faults)
-    g.S.Source.faults g.S.Source.left g.K.Sink.faults g.K.Sink.written g.L.Door.faults g.L.Door.closed g.L.Conn.Link.told g.L.Conn.Link.faults in
+    let t = devices g.C.Clock g.F.Caller g.D.Disk g.S.Source g.K.Sink g.L.Door g.L.Conn.Link in
     one_outcome t (map string_bytes c.args.words.now) c.args.world c.serve.result.world other c.serve.result.status
     (record {
       one_command = c.one_command.ensures;
@@ -94,14 +88,12 @@ returns-in-Serve-clause-spelled g c = λ good known. ((Serve c.in-Serve.requests
 
 pub returns-in-Serve-clause-want_of_memory : goal.returns-in-Serve-clause-want_of_memory
 returns-in-Serve-clause-want_of_memory g c = λ short.
-    let t = devices g.C.Clock.gave g.F.Caller.sends g.F.Caller.log (meaning g.D.Disk.honest g.D.Disk.content g.D.Disk.image g.D.Disk.moment g.D.Disk.image_since g.D.Disk.faults)
-    g.S.Source.faults g.S.Source.left g.K.Sink.faults g.K.Sink.written g.L.Door.faults g.L.Door.closed g.L.Conn.Link.told g.L.Conn.Link.faults in
+    let t = devices g.C.Clock g.F.Caller g.D.Disk g.S.Source g.K.Sink g.L.Door g.L.Conn.Link in
     stopped_at t c.args.world c.serve.result.world (map string_bytes c.args.words.now) (Serve c.in-Serve.requests) c.one_command.ensures c.in-Serve.ensures (c.serve.ensures.untold short) (c.serve.ensures.want_of_memory short)
 
 pub returns-in-Serve-clause-left : goal.returns-in-Serve-clause-left
 returns-in-Serve-clause-left g c = λ d spelled.
-    let t = devices g.C.Clock.gave g.F.Caller.sends g.F.Caller.log (meaning g.D.Disk.honest g.D.Disk.content g.D.Disk.image g.D.Disk.moment g.D.Disk.image_since g.D.Disk.faults)
-    g.S.Source.faults g.S.Source.left g.K.Sink.faults g.K.Sink.written g.L.Door.faults g.L.Door.closed g.L.Conn.Link.told g.L.Conn.Link.faults in
+    let t = devices g.C.Clock g.F.Caller g.D.Disk g.S.Source g.K.Sink g.L.Door g.L.Conn.Link in
     by_command (λ d. IsLeft t d c.args.world c.serve.result.world) (map string_bytes c.args.words.now) (Serve c.in-Serve.requests) c.one_command.ensures c.in-Serve.ensures (c.serve.ensures.kept) d spelled
 
 pub returns-in-Serve-clause-untouched : goal.returns-in-Serve-clause-untouched
@@ -121,8 +113,7 @@ returns-in-Gen-clause-outcome g c = λ known.
 
 pub returns-in-Gen-clause-exact : goal.returns-in-Gen-clause-exact
 returns-in-Gen-clause-exact g c = λ known sound other is.
-    let t = devices g.C.Clock.gave g.F.Caller.sends g.F.Caller.log (meaning g.D.Disk.honest g.D.Disk.content g.D.Disk.image g.D.Disk.moment g.D.Disk.image_since g.D.Disk.faults)
-    g.S.Source.faults g.S.Source.left g.K.Sink.faults g.K.Sink.written g.L.Door.faults g.L.Door.closed g.L.Conn.Link.told g.L.Conn.Link.faults in
+    let t = devices g.C.Clock g.F.Caller g.D.Disk g.S.Source g.K.Sink g.L.Door g.L.Conn.Link in
     one_outcome t (map string_bytes c.args.words.now) c.args.world c.generate.result.world other c.generate.result.status
     (record {
       one_command = c.one_command.ensures;
@@ -143,14 +134,12 @@ returns-in-Gen-clause-spelled g c = λ good known. ((Gen c.in-Gen.records), c.in
 
 pub returns-in-Gen-clause-want_of_memory : goal.returns-in-Gen-clause-want_of_memory
 returns-in-Gen-clause-want_of_memory g c = λ short.
-    let t = devices g.C.Clock.gave g.F.Caller.sends g.F.Caller.log (meaning g.D.Disk.honest g.D.Disk.content g.D.Disk.image g.D.Disk.moment g.D.Disk.image_since g.D.Disk.faults)
-    g.S.Source.faults g.S.Source.left g.K.Sink.faults g.K.Sink.written g.L.Door.faults g.L.Door.closed g.L.Conn.Link.told g.L.Conn.Link.faults in
+    let t = devices g.C.Clock g.F.Caller g.D.Disk g.S.Source g.K.Sink g.L.Door g.L.Conn.Link in
     stopped_at t c.args.world c.generate.result.world (map string_bytes c.args.words.now) (Gen c.in-Gen.records) c.one_command.ensures c.in-Gen.ensures (c.generate.ensures.untold short) (inr (c.generate.ensures.want_of_memory short))
 
 pub returns-in-Gen-clause-left : goal.returns-in-Gen-clause-left
 returns-in-Gen-clause-left g c = λ d spelled.
-    let t = devices g.C.Clock.gave g.F.Caller.sends g.F.Caller.log (meaning g.D.Disk.honest g.D.Disk.content g.D.Disk.image g.D.Disk.moment g.D.Disk.image_since g.D.Disk.faults)
-    g.S.Source.faults g.S.Source.left g.K.Sink.faults g.K.Sink.written g.L.Door.faults g.L.Door.closed g.L.Conn.Link.told g.L.Conn.Link.faults in
+    let t = devices g.C.Clock g.F.Caller g.D.Disk g.S.Source g.K.Sink g.L.Door g.L.Conn.Link in
     by_command (λ d. IsLeft t d c.args.world c.generate.result.world) (map string_bytes c.args.words.now) (Gen c.in-Gen.records) c.one_command.ensures c.in-Gen.ensures (c.generate.ensures.kept) d spelled
 
 pub returns-in-Gen-clause-untouched : goal.returns-in-Gen-clause-untouched
@@ -170,8 +159,7 @@ returns-in-Run-clause-outcome g c = λ known.
 
 pub returns-in-Run-clause-exact : goal.returns-in-Run-clause-exact
 returns-in-Run-clause-exact g c = λ known sound other is.
-    let t = devices g.C.Clock.gave g.F.Caller.sends g.F.Caller.log (meaning g.D.Disk.honest g.D.Disk.content g.D.Disk.image g.D.Disk.moment g.D.Disk.image_since g.D.Disk.faults)
-    g.S.Source.faults g.S.Source.left g.K.Sink.faults g.K.Sink.written g.L.Door.faults g.L.Door.closed g.L.Conn.Link.told g.L.Conn.Link.faults in
+    let t = devices g.C.Clock g.F.Caller g.D.Disk g.S.Source g.K.Sink g.L.Door g.L.Conn.Link in
     one_outcome t (map string_bytes c.args.words.now) c.args.world c.run.result.world other c.run.result.status
     (record {
       one_command = c.one_command.ensures;
@@ -192,14 +180,12 @@ returns-in-Run-clause-spelled g c = λ good known. ((Run c.in-Run.options), c.in
 
 pub returns-in-Run-clause-want_of_memory : goal.returns-in-Run-clause-want_of_memory
 returns-in-Run-clause-want_of_memory g c = λ short.
-    let t = devices g.C.Clock.gave g.F.Caller.sends g.F.Caller.log (meaning g.D.Disk.honest g.D.Disk.content g.D.Disk.image g.D.Disk.moment g.D.Disk.image_since g.D.Disk.faults)
-    g.S.Source.faults g.S.Source.left g.K.Sink.faults g.K.Sink.written g.L.Door.faults g.L.Door.closed g.L.Conn.Link.told g.L.Conn.Link.faults in
+    let t = devices g.C.Clock g.F.Caller g.D.Disk g.S.Source g.K.Sink g.L.Door g.L.Conn.Link in
     stopped_at t c.args.world c.run.result.world (map string_bytes c.args.words.now) (Run c.in-Run.options) c.one_command.ensures c.in-Run.ensures (c.run.ensures.untold short) (c.run.ensures.want_of_memory short)
 
 pub returns-in-Run-clause-left : goal.returns-in-Run-clause-left
 returns-in-Run-clause-left g c = λ d spelled.
-    let t = devices g.C.Clock.gave g.F.Caller.sends g.F.Caller.log (meaning g.D.Disk.honest g.D.Disk.content g.D.Disk.image g.D.Disk.moment g.D.Disk.image_since g.D.Disk.faults)
-    g.S.Source.faults g.S.Source.left g.K.Sink.faults g.K.Sink.written g.L.Door.faults g.L.Door.closed g.L.Conn.Link.told g.L.Conn.Link.faults in
+    let t = devices g.C.Clock g.F.Caller g.D.Disk g.S.Source g.K.Sink g.L.Door g.L.Conn.Link in
     by_command (λ d. IsLeft t d c.args.world c.run.result.world) (map string_bytes c.args.words.now) (Run c.in-Run.options) c.one_command.ensures c.in-Run.ensures (c.run.ensures.registry) d spelled
 
 pub returns-in-Run-clause-untouched : goal.returns-in-Run-clause-untouched
@@ -215,8 +201,7 @@ returns-in-Run-clause-door g c = λ none. ap (λ w. w.door) c.run.ensures.kept
 
 pub returns-in-Nothing-clause-outcome : goal.returns-in-Nothing-clause-outcome
 returns-in-Nothing-clause-outcome g c = λ known.
-    let t = devices g.C.Clock.gave g.F.Caller.sends g.F.Caller.log (meaning g.D.Disk.honest g.D.Disk.content g.D.Disk.image g.D.Disk.moment g.D.Disk.image_since g.D.Disk.faults)
-    g.S.Source.faults g.S.Source.left g.K.Sink.faults g.K.Sink.written g.L.Door.faults g.L.Door.closed g.L.Conn.Link.told g.L.Conn.Link.faults in
+    let t = devices g.C.Clock g.F.Caller g.D.Disk g.S.Source g.K.Sink g.L.Door g.L.Conn.Link in
     inr (record {
       none_spelled = c.in-Nothing.ensures (c.refuse.ensures.told known).0;
       untouched = untouched_alone t c.args.world c.refuse.result.world (λ disk bytes. (g.met.D.Disk g.world.𝓛 g.world.𝓜 g.world.𝓡 ((λ s x. x), (λ x. x), (λ x. x), λ x. x)).only_now disk bytes) c.refuse.ensures.same (ap (λ w. reverse w.trace.items) c.refuse.ensures.same ∙ ap reverse c.requires.trace);
@@ -225,8 +210,7 @@ returns-in-Nothing-clause-outcome g c = λ known.
 
 pub returns-in-Nothing-clause-exact : goal.returns-in-Nothing-clause-exact
 returns-in-Nothing-clause-exact g c = λ known sound other is.
-    let t = devices g.C.Clock.gave g.F.Caller.sends g.F.Caller.log (meaning g.D.Disk.honest g.D.Disk.content g.D.Disk.image g.D.Disk.moment g.D.Disk.image_since g.D.Disk.faults)
-    g.S.Source.faults g.S.Source.left g.K.Sink.faults g.K.Sink.written g.L.Door.faults g.L.Door.closed g.L.Conn.Link.told g.L.Conn.Link.faults in
+    let t = devices g.C.Clock g.F.Caller g.D.Disk g.S.Source g.K.Sink g.L.Door g.L.Conn.Link in
     one_outcome t (map string_bytes c.args.words.now) c.args.world c.refuse.result.world other c.refuse.result.status
     (record {
       one_command = c.one_command.ensures;
@@ -250,14 +234,12 @@ returns-in-Nothing-clause-spelled g c = λ good known.
 
 pub returns-in-Nothing-clause-want_of_memory : goal.returns-in-Nothing-clause-want_of_memory
 returns-in-Nothing-clause-want_of_memory g c = λ short.
-    let t = devices g.C.Clock.gave g.F.Caller.sends g.F.Caller.log (meaning g.D.Disk.honest g.D.Disk.content g.D.Disk.image g.D.Disk.moment g.D.Disk.image_since g.D.Disk.faults)
-    g.S.Source.faults g.S.Source.left g.K.Sink.faults g.K.Sink.written g.L.Door.faults g.L.Door.closed g.L.Conn.Link.told g.L.Conn.Link.faults in
+    let t = devices g.C.Clock g.F.Caller g.D.Disk g.S.Source g.K.Sink g.L.Door g.L.Conn.Link in
     stopped_alone t c.args.world c.refuse.result.world (λ disk bytes. (g.met.D.Disk g.world.𝓛 g.world.𝓜 g.world.𝓡 ((λ s x. x), (λ x. x), (λ x. x), λ x. x)).only_now disk bytes) c.refuse.ensures.same (ap (λ w. reverse w.trace.items) c.refuse.ensures.same ∙ ap reverse c.requires.trace) (map string_bytes c.args.words.now) (c.refuse.ensures.untold short)
 
 pub returns-in-Nothing-clause-left : goal.returns-in-Nothing-clause-left
 returns-in-Nothing-clause-left g c = λ d spelled.
-    let t = devices g.C.Clock.gave g.F.Caller.sends g.F.Caller.log (meaning g.D.Disk.honest g.D.Disk.content g.D.Disk.image g.D.Disk.moment g.D.Disk.image_since g.D.Disk.faults)
-    g.S.Source.faults g.S.Source.left g.K.Sink.faults g.K.Sink.written g.L.Door.faults g.L.Door.closed g.L.Conn.Link.told g.L.Conn.Link.faults in
+    let t = devices g.C.Clock g.F.Caller g.D.Disk g.S.Source g.K.Sink g.L.Door g.L.Conn.Link in
     left_alone t c.args.world c.refuse.result.world (λ disk bytes. (g.met.D.Disk g.world.𝓛 g.world.𝓜 g.world.𝓡 ((λ s x. x), (λ x. x), (λ x. x), λ x. x)).only_now disk bytes) c.refuse.ensures.same d
 
 pub returns-in-Nothing-clause-untouched : goal.returns-in-Nothing-clause-untouched

@@ -6,14 +6,14 @@ use Rattle.esm_runner.proofs.files.open_failures.Goals as goal
 
 pub invariant_of-result : goal.invariant_of-result
 invariant_of-result g c =
-    let m = meaning g.D.Disk.honest g.D.Disk.content g.D.Disk.image g.D.Disk.moment g.D.Disk.image_since g.D.Disk.faults in
+    let m = meaning g.D.Disk in
     let o = c.args.opened in
     opened_files m o.journal.value o.spare.value c.args.failures c.of-before.result.value o.pair o.said c.in-Ok.lines c.new.result
     c.requires c.of-before.ensures c.new.ensures c.in-Ok.ensures.opened c.in-Ok.ensures.fresh.0 c.in-Ok.ensures.only_read c.in-Ok.ensures.kept
 
 pub returns-in-Err-clause-refused : goal.returns-in-Err-clause-refused
 returns-in-Err-clause-refused g c =
-    let m = meaning g.D.Disk.honest g.D.Disk.content g.D.Disk.image g.D.Disk.moment g.D.Disk.image_since g.D.Disk.faults in
+    let m = meaning g.D.Disk in
     let o = c.args.opened in
     let one = c.into_disks-journal.result.0 in
     let other = c.into_disks-journal.result.1 in

@@ -4,7 +4,7 @@ use Rattle.esm_runner.proofs.files.open_files.Goals as goal
 
 pub returns-in-Err-clause-refused : goal.returns-in-Err-clause-refused
 returns-in-Err-clause-refused g c =
-    let m = meaning g.D.Disk.honest g.D.Disk.content g.D.Disk.image g.D.Disk.moment g.D.Disk.image_since g.D.Disk.faults in
+    let m = meaning g.D.Disk in
     let back = c.in-Err.refused.back in
     let lines = c.args.failures in
     refused_first m c.args.journal c.args.spare lines back.0 back.1 c.in-Err.refused.why

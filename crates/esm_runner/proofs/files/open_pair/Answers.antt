@@ -1,13 +1,13 @@
 use Rattle.std.proofs.Common.{subst}
 use Rattle.esm_io.specs.Meanings.{disk as meaning}
-use Rattle.esm_said.specs.Bad.{IsFirstBad}
-use Rattle.esm_said.specs.declared.error.SaysError.TheVariants as judged
+use Rattle.esm_journal_state.specs.Bad.{IsFirstBad}
+use Rattle.esm_journal_state.specs.declared.error.SaysError.TheVariants as judged
 use Rattle.esm_runner.proofs.Openings.{bad_refused, pair_read}
 use Rattle.esm_runner.proofs.files.open_pair.Goals as goal
 
 pub returns-in-Err-BadPayload-clause-refused : goal.returns-in-Err-BadPayload-clause-refused
 returns-in-Err-BadPayload-clause-refused g c =
-    let m = meaning g.D.Disk.honest g.D.Disk.content g.D.Disk.image g.D.Disk.moment g.D.Disk.image_since g.D.Disk.faults in
+    let m = meaning g.D.Disk in
     let p = c.in-Ok.pair in
     let index = c.in-Err-BadPayload.index in
     let bad : IsFirstBad c.payloads.result.now (judged.BadPayload index) = rw c.in-Err-BadPayload.field-0-is at c.in-Err-BadPayload.ensures.bad in

@@ -1,5 +1,5 @@
-use Rattle.esm_said.specs.Bad.{IsFirstBad}
-use Rattle.esm_said.specs.declared.error.SaysError.TheVariants as judged
+use Rattle.esm_journal_state.specs.Bad.{IsFirstBad}
+use Rattle.esm_journal_state.specs.declared.error.SaysError.TheVariants as judged
 use Rattle.esm_runner.proofs.Goods.{none_bad}
 use Rattle.esm_runner.proofs.queue_run.open_book.Goals as goal
 

@@ -1,7 +1,6 @@
 use Rattle.std.proofs.Common.{◌≡◌, ◌∙◌, List, Option, subst, sym}
 use Rattle.std.specs.Prelude.{IfOk, OnErr, reverse}
 use Rattle.std.specs.List.{All}
-use Rattle.std.specs.Option.{option_copied}
 use Rattle.std.proofs.lemmas.List.{reverse-reverse}
 use Rattle.std.proofs.lemmas.Result.{IfOk-weaker, on_err_weaker}
 use Rattle.esm_io.specs.Meanings.{DiskMeaning, disk as meaning}
@@ -13,10 +12,10 @@ use Rattle.esm_model.specs.Entries.{CallsFollowShut}
 use Rattle.esm_model.specs.ValidMessage.{IsValidMessage}
 use Rattle.esm_input.specs.declared.ending.InputEnd.{InputEnd}
 use Rattle.esm_input.specs.Reading.{InputState}
-use Rattle.esm_qbook.specs.Books.{BookState}
+use Rattle.esm_queue_book.specs.Books.{BookState}
 use Rattle.esm_queue_core.specs.CoreView.{all_messages}
 use Rattle.esm_queue_core.specs.Told.{told_of}
-use Rattle.esm_batchers.specs.Working.{outside}
+use Rattle.esm_workers.specs.Working.{outside}
 use Rattle.esm_runner.specs.Files.{FilesState}
 use Rattle.esm_runner.specs.Headline.{Devices, Telling, telling}
 use Rattle.esm_runner.specs.QueueEnded.{HasEnded, HasStoppedRun}
@@ -31,7 +30,7 @@ use Rattle.esm_runner.proofs.queue_run.run_opened.Goals as goal
 
 pub returns : goal.returns
 returns g c =
-    let m : DiskMeaning g.row.D.Denot = meaning g.D.Disk.honest g.D.Disk.content g.D.Disk.image g.D.Disk.moment g.D.Disk.image_since g.D.Disk.faults in
+    let m : DiskMeaning g.row.D.Denot = meaning g.D.Disk in
     let t : Telling g.row.D.Denot g.row.F.Denot = telling (outside g.C.Clock.gave g.F.Caller.sends g.F.Caller.log) m in
     let before : BookState g.row.D.Denot = c.args.run.book in
     let config = before.core.setting.config in
@@ -82,17 +81,19 @@ returns g c =
     let made : IsMadeFor config c.args.run.input.source i = made_for config c.args.run.input.source c.args.run.input i c.requires.begun.input c.run_batchers-ran.ensures.input in
     let trace : reverse out.trace.items ≡ b.core.past = rw (c.closed.ensures.trace, c.into_parts-history.ensures.history) (reverse-reverse b.core.past) in
     let source : out.input ≡ i.source = c.closed.ensures.input ∙ c.into_parts-source.ensures.source in
-    let P : MappingEnd → Type 0 = HasEnded t g.S.Source.faults g.S.Source.left config calls visibility files c.args.run.input.source out.input callers (reverse out.trace.items) new in
+    let reading : out.reading.value ≡ i.end = c.closed.ensures.reading ∙ (c.of-read_to.ensures ∙ c.into_parts-source.ensures.end) in
+    let P : MappingEnd → Type 0 = HasEnded t g.S.Source.faults g.S.Source.left config calls visibility files c.args.run.input.source out.input out.reading.value callers (reverse out.trace.items) new in
     let Q : Type 0 = HasStoppedRun t g.S.Source.left config calls visibility files c.args.run.input.source out.input callers (reverse out.trace.items) new in
     record {
       ended = subst (λ r. IfOk r P) (sym c.closed.ensures.end)
-          (IfOk-weaker c.end_of-end.result (EndsBy ran (option_copied c.trouble.result) c.into_parts-source.result.1) P
+          (IfOk-weaker c.end_of-end.result (EndsBy ran c.into_parts-history.result.trouble c.into_parts-source.result.1) P
           (λ e is.
           let by : EndsBy ran b.trouble i.end e =
-          subst (λ (w : Option Trouble). EndsBy ran w i.end e) c.trouble.ensures.value
-          (subst (λ (x : Option InputEnd). EndsBy ran (option_copied c.trouble.result) x e) c.into_parts-source.ensures.end is) in
-          subst (λ (x : g.row.S.Denot). HasEnded t g.S.Source.faults g.S.Source.left config calls visibility files c.args.run.input.source x callers (reverse out.trace.items) new e) (sym source)
-          (subst (λ (h : List Entry). HasEnded t g.S.Source.faults g.S.Source.left config calls visibility files c.args.run.input.source i.source callers h new e) (sym trace)
+          subst (λ (w : Option Trouble). EndsBy ran w i.end e) c.into_parts-history.ensures.trouble
+          (subst (λ (x : Option InputEnd). EndsBy ran c.into_parts-history.result.trouble x e) c.into_parts-source.ensures.end is) in
+          subst (λ (x : g.row.S.Denot × Option InputEnd). HasEnded t g.S.Source.faults g.S.Source.left config calls visibility files c.args.run.input.source x.0 x.1 callers (reverse out.trace.items) new e)
+          (λ k. (sym source k, sym reading k))
+          (subst (λ (h : List Entry). HasEnded t g.S.Source.faults g.S.Source.left config calls visibility files c.args.run.input.source i.source i.end callers h new e) (sym trace)
           (ended_by t g.S.Source.faults g.S.Source.left config calls visibility files c.args.run.input.source i callers before b new ran e laws stood left of c.trouble.ensures.cause made come by)))
           c.end_of-end.ensures.ended);
       stopped = subst (λ r. OnErr r Q) (sym c.closed.ensures.end)
@@ -100,7 +101,7 @@ returns g c =
           (λ is.
           subst (λ (x : g.row.S.Denot). HasStoppedRun t g.S.Source.left config calls visibility files c.args.run.input.source x callers (reverse out.trace.items) new) (sym source)
           (subst (λ (h : List Entry). HasStoppedRun t g.S.Source.left config calls visibility files c.args.run.input.source i.source callers h new) (sym trace)
-          (stopped_by t g.S.Source.faults g.S.Source.left config calls visibility files c.args.run.input.source i callers before b new ran laws stood left of c.trouble.ensures.cause made come)))
+          (stopped_by t g.S.Source.faults g.S.Source.left config calls visibility files c.args.run.input.source i callers before b new ran laws stood left of c.trouble.ensures.cause made come is)))
           c.end_of-end.ensures.stopped);
       read_first = λ first. subst CallsFollowShut (sym trace) (c.run_batchers-ran.ensures.later first);
       said = c.closed.ensures.said;
@@ -109,7 +110,7 @@ returns g c =
 
 pub since_before-requires-clause-first : goal.since_before-requires-clause-first
 since_before-requires-clause-first g c =
-    let m : DiskMeaning g.row.D.Denot = meaning g.D.Disk.honest g.D.Disk.content g.D.Disk.image g.D.Disk.moment g.D.Disk.image_since g.D.Disk.faults in
+    let m : DiskMeaning g.row.D.Denot = meaning g.D.Disk in
     let t : Telling g.row.D.Denot g.row.F.Denot = telling (outside g.C.Clock.gave g.F.Caller.sends g.F.Caller.log) m in
     let ran = c.run_batchers-ran in
     let found : ran.result.book.found ≡ c.args.run.book.pair = found_ran t c.args.run.book ran.result.book c.args.callers.items ran.result.callers.items ran.result.end ran.ensures.run ran.ensures.stopped ∙ c.requires.begun.found in
@@ -117,7 +118,7 @@ since_before-requires-clause-first g c =
 
 pub since_before-requires-clause-second : goal.since_before-requires-clause-second
 since_before-requires-clause-second g c =
-    let m : DiskMeaning g.row.D.Denot = meaning g.D.Disk.honest g.D.Disk.content g.D.Disk.image g.D.Disk.moment g.D.Disk.image_since g.D.Disk.faults in
+    let m : DiskMeaning g.row.D.Denot = meaning g.D.Disk in
     let t : Telling g.row.D.Denot g.row.F.Denot = telling (outside g.C.Clock.gave g.F.Caller.sends g.F.Caller.log) m in
     let ran = c.run_batchers-ran in
     let found : ran.result.book.found ≡ c.args.run.book.pair = found_ran t c.args.run.book ran.result.book c.args.callers.items ran.result.callers.items ran.result.end ran.ensures.run ran.ensures.stopped ∙ c.requires.begun.found in
@@ -128,7 +129,7 @@ end_of-end-requires g c =
     let ran = c.run_batchers-ran in
     let b : BookState g.row.D.Denot = ran.result.book in
     record {
-      reason = subst (λ (w : Option Trouble). IfOk ran.result.end (HasReason w c.into_parts-source.result.1)) (sym c.trouble.ensures.value)
+      reason = subst (λ (w : Option Trouble). IfOk ran.result.end (HasReason w c.into_parts-source.result.1)) (sym c.into_parts-history.ensures.trouble)
           (subst (λ (x : Option InputEnd). IfOk ran.result.end (HasReason b.trouble x)) (sym c.into_parts-source.ensures.end)
           (reason_of g.S.Source.left ran.result.input b ran.result.end ran.ensures.came ran.ensures.ended));
     }

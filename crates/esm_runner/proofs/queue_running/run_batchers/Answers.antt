@@ -4,11 +4,11 @@ use Rattle.std.specs.Coded.{Coded}
 use Rattle.esm_model.specs.declared.memory.OutOfMemory.{OutOfMemory}
 use Rattle.esm_model.specs.Kept.{change_of}
 use Rattle.esm_input.specs.Reading.{InputState}
-use Rattle.esm_batchers.specs.Working.{Outside, outside}
+use Rattle.esm_workers.specs.Working.{Outside, outside}
 use Rattle.esm_pool.specs.declared.running.RunEnd.{RunEnd}
-use Rattle.esm_qbook.specs.Books.{BookState, setup_of}
-use Rattle.esm_qbook.specs.Keeping.{IsSound}
-use Rattle.esm_qbook.proofs.Sent.{book_send}
+use Rattle.esm_queue_book.specs.Books.{BookState, setup_of}
+use Rattle.esm_queue_book.specs.Keeping.{IsSound}
+use Rattle.esm_queue_book.proofs.Sent.{book_send}
 use Rattle.esm_runner.specs.QueueRan.{HasRun, CameSo, EndsSo}
 use Rattle.esm_runner.proofs.Numbers.{some_batcher, few_batchers}
 use Rattle.esm_runner.proofs.Later.{calls_later}

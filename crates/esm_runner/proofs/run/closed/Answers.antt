@@ -5,5 +5,5 @@ use Rattle.esm_runner.proofs.run.closed.Goals as goal
 
 pub returns-clause-dest_stopped : goal.returns-clause-dest_stopped
 returns-clause-dest_stopped g c =
-    let m = meaning g.D.Disk.honest g.D.Disk.content g.D.Disk.image g.D.Disk.moment g.D.Disk.image_since g.D.Disk.faults in
+    let m = meaning g.D.Disk in
     subst (KeepsWhileDown m) c.into_journal-lines.ensures c.payloads-2.ensures.stopped

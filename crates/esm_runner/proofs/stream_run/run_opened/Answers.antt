@@ -1,6 +1,5 @@
 use Rattle.std.proofs.Common.{◌≡◌, ◌∙◌, List, Option, subst, sym}
 use Rattle.std.specs.Prelude.{IfOk, OnErr, reverse}
-use Rattle.std.specs.Option.{option_copied}
 use Rattle.std.proofs.lemmas.List.{reverse-reverse}
 use Rattle.std.proofs.lemmas.Result.{IfOk-weaker, on_err_weaker}
 use Rattle.esm_io.specs.Meanings.{DiskMeaning, disk as meaning}
@@ -13,22 +12,22 @@ use Rattle.esm_model.specs.declared.book.Trouble.{Trouble}
 use Rattle.esm_model.specs.Entries.{CallsFollowShut}
 use Rattle.esm_input.specs.declared.ending.InputEnd.{InputEnd}
 use Rattle.esm_input.specs.Reading.{InputState}
-use Rattle.esm_sbook.specs.Books.{BookState}
-use Rattle.esm_batchers.specs.Working.{outside}
+use Rattle.esm_stream_book.specs.Books.{BookState}
+use Rattle.esm_workers.specs.Working.{outside}
 use Rattle.esm_runner.specs.Ended.{HasEnded, HasStoppedRun}
 use Rattle.esm_runner.specs.Files.{FilesState}
 use Rattle.esm_runner.specs.Headline.{Devices, Telling, telling}
-use Rattle.esm_runner.specs.Ending.{EndsBy}
+use Rattle.esm_runner.specs.Ending.{EndsBy, HasReason}
 use Rattle.esm_runner.specs.Runs.{IsLeft, files_of}
 use Rattle.esm_runner.specs.declared.run.MappingEnd.{MappingEnd}
 use Rattle.esm_runner.specs.Laws.{AreLaws}
 use Rattle.esm_runner.proofs.Headlines.{AreOf}
-use Rattle.esm_runner.proofs.Ways.{HasCome, IsMadeFor, StoodSo, ended_by, fates_found, found_ran, found_stays, made_for, said_so, stopped_by}
+use Rattle.esm_runner.proofs.Ways.{HasCome, IsMadeFor, StoodSo, ended_by, fates_found, found_ran, found_stays, made_for, reason_of, said_so, stopped_by}
 use Rattle.esm_runner.proofs.stream_run.run_opened.Goals as goal
 
 pub returns : goal.returns
 returns g c =
-    let m : DiskMeaning g.row.D.Denot = meaning g.D.Disk.honest g.D.Disk.content g.D.Disk.image g.D.Disk.moment g.D.Disk.image_since g.D.Disk.faults in
+    let m : DiskMeaning g.row.D.Denot = meaning g.D.Disk in
     let t : Telling g.row.D.Denot g.row.F.Denot = telling (outside g.C.Clock.gave g.F.Caller.sends g.F.Caller.log) m in
     let before : BookState g.row.D.Denot (JournalState g.row.D.Denot) = c.args.run.book in
     let config = before.core.setting.config in
@@ -78,17 +77,19 @@ returns g c =
     let made : IsMadeFor config start c.args.run.input.source i = made_for config start c.args.run.input.source c.args.run.input i c.requires.begun.input c.run_lanes-ran.ensures.input in
     let trace : reverse out.trace.items ≡ b.core.past = rw (c.closed.ensures.trace, c.into_parts-history.ensures.history) (reverse-reverse b.core.past) in
     let source : out.input ≡ i.source = c.closed.ensures.input ∙ c.into_parts-source.ensures.source in
-    let P : MappingEnd → Type 0 = HasEnded t g.S.Source.faults g.S.Source.left config start calls files c.args.run.input.source out.input callers (reverse out.trace.items) new in
+    let reading : out.reading.value ≡ i.end = c.closed.ensures.reading ∙ (c.of-read_to.ensures ∙ c.into_parts-source.ensures.end) in
+    let P : MappingEnd → Type 0 = HasEnded t g.S.Source.faults g.S.Source.left config start calls files c.args.run.input.source out.input out.reading.value callers (reverse out.trace.items) new in
     let Q : Type 0 = HasStoppedRun t g.S.Source.left config start calls files c.args.run.input.source out.input callers (reverse out.trace.items) new in
     record {
       ended = subst (λ r. IfOk r P) (sym c.closed.ensures.end)
-          (IfOk-weaker c.end_of-end.result (EndsBy ran (option_copied c.trouble.result) c.into_parts-source.result.1) P
+          (IfOk-weaker c.end_of-end.result (EndsBy ran c.into_parts-history.result.trouble c.into_parts-source.result.1) P
           (λ e is.
           let by : EndsBy ran b.trouble i.end e =
-          subst (λ (w : Option Trouble). EndsBy ran w i.end e) c.trouble.ensures.value
-          (subst (λ (x : Option InputEnd). EndsBy ran (option_copied c.trouble.result) x e) c.into_parts-source.ensures.end is) in
-          subst (λ (x : g.row.S.Denot). HasEnded t g.S.Source.faults g.S.Source.left config start calls files c.args.run.input.source x callers (reverse out.trace.items) new e) (sym source)
-          (subst (λ (h : List Entry). HasEnded t g.S.Source.faults g.S.Source.left config start calls files c.args.run.input.source i.source callers h new e) (sym trace)
+          subst (λ (w : Option Trouble). EndsBy ran w i.end e) c.into_parts-history.ensures.trouble
+          (subst (λ (x : Option InputEnd). EndsBy ran c.into_parts-history.result.trouble x e) c.into_parts-source.ensures.end is) in
+          subst (λ (x : g.row.S.Denot × Option InputEnd). HasEnded t g.S.Source.faults g.S.Source.left config start calls files c.args.run.input.source x.0 x.1 callers (reverse out.trace.items) new e)
+          (λ k. (sym source k, sym reading k))
+          (subst (λ (h : List Entry). HasEnded t g.S.Source.faults g.S.Source.left config start calls files c.args.run.input.source i.source i.end callers h new e) (sym trace)
           (ended_by t g.S.Source.faults g.S.Source.left config start calls files c.args.run.input.source i callers before b new ran e laws stood left of c.trouble.ensures.sound c.trouble.ensures.cause made come by)))
           c.end_of-end.ensures.ended);
       stopped = subst (λ r. OnErr r Q) (sym c.closed.ensures.end)
@@ -96,7 +97,7 @@ returns g c =
           (λ is.
           subst (λ (x : g.row.S.Denot). HasStoppedRun t g.S.Source.left config start calls files c.args.run.input.source x callers (reverse out.trace.items) new) (sym source)
           (subst (λ (h : List Entry). HasStoppedRun t g.S.Source.left config start calls files c.args.run.input.source i.source callers h new) (sym trace)
-          (stopped_by t g.S.Source.faults g.S.Source.left config start calls files c.args.run.input.source i callers before b new ran laws stood left of c.trouble.ensures.cause made come)))
+          (stopped_by t g.S.Source.faults g.S.Source.left config start calls files c.args.run.input.source i callers before b new ran laws stood left of c.trouble.ensures.cause made come is)))
           c.end_of-end.ensures.stopped);
       read_first = λ first. subst CallsFollowShut (sym trace) (c.run_lanes-ran.ensures.later first);
       said = c.closed.ensures.said;
@@ -105,7 +106,7 @@ returns g c =
 
 pub since_before-requires-clause-first : goal.since_before-requires-clause-first
 since_before-requires-clause-first g c =
-    let m : DiskMeaning g.row.D.Denot = meaning g.D.Disk.honest g.D.Disk.content g.D.Disk.image g.D.Disk.moment g.D.Disk.image_since g.D.Disk.faults in
+    let m : DiskMeaning g.row.D.Denot = meaning g.D.Disk in
     let t : Telling g.row.D.Denot g.row.F.Denot = telling (outside g.C.Clock.gave g.F.Caller.sends g.F.Caller.log) m in
     let ran = c.run_lanes-ran in
     let found : ran.result.book.found ≡ c.args.run.book.pair = found_ran t c.args.run.book ran.result.book c.args.callers.items ran.result.callers.items ran.result.end ran.ensures.run ran.ensures.stopped ∙ c.requires.begun.found in
@@ -113,8 +114,18 @@ since_before-requires-clause-first g c =
 
 pub since_before-requires-clause-second : goal.since_before-requires-clause-second
 since_before-requires-clause-second g c =
-    let m : DiskMeaning g.row.D.Denot = meaning g.D.Disk.honest g.D.Disk.content g.D.Disk.image g.D.Disk.moment g.D.Disk.image_since g.D.Disk.faults in
+    let m : DiskMeaning g.row.D.Denot = meaning g.D.Disk in
     let t : Telling g.row.D.Denot g.row.F.Denot = telling (outside g.C.Clock.gave g.F.Caller.sends g.F.Caller.log) m in
     let ran = c.run_lanes-ran in
     let found : ran.result.book.found ≡ c.args.run.book.pair = found_ran t c.args.run.book ran.result.book c.args.callers.items ran.result.callers.items ran.result.end ran.ensures.run ran.ensures.stopped ∙ c.requires.begun.found in
     subst (λ (p : PairState g.row.D.Denot). IsOnlyRead m c.args.before.now.spare.value (second_disk p)) (sym found) c.requires.files.read.1
+
+pub end_of-end-requires : goal.end_of-end-requires
+end_of-end-requires g c =
+    let ran = c.run_lanes-ran in
+    let b : BookState g.row.D.Denot (JournalState g.row.D.Denot) = ran.result.book in
+    record {
+      reason = subst (λ (w : Option Trouble). IfOk ran.result.end (HasReason w c.into_parts-source.result.1)) (sym c.into_parts-history.ensures.trouble)
+          (subst (λ (x : Option InputEnd). IfOk ran.result.end (HasReason b.trouble x)) (sym c.into_parts-source.ensures.end)
+          (reason_of g.S.Source.left ran.result.input b ran.result.end ran.ensures.came ran.ensures.ended));
+    }

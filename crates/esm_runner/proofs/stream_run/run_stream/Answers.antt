@@ -5,7 +5,7 @@ use Rattle.esm_journal.specs.Pair.{PairState, first_disk, second_disk}
 use Rattle.esm_journal.specs.State.{JournalState}
 use Rattle.esm_model.specs.declared.entry.Entry.{Entry}
 use Rattle.esm_model.specs.Entries.{CallsFollowShut}
-use Rattle.esm_batchers.specs.Working.{outside}
+use Rattle.esm_workers.specs.Working.{outside}
 use Rattle.esm_runner.specs.Ended.{HasStoppedRun}
 use Rattle.esm_runner.specs.Files.{FilesState, IsOpenedFiles}
 use Rattle.esm_runner.specs.Headline.{Devices, Telling, telling}
@@ -15,7 +15,7 @@ use Rattle.esm_runner.proofs.stream_run.run_stream.Goals as goal
 
 pub returns-clause-stopped : goal.returns-clause-stopped
 returns-clause-stopped g c =
-    let m : DiskMeaning g.row.D.Denot = meaning g.D.Disk.honest g.D.Disk.content g.D.Disk.image g.D.Disk.moment g.D.Disk.image_since g.D.Disk.faults in
+    let m : DiskMeaning g.row.D.Denot = meaning g.D.Disk in
     let t : Telling g.row.D.Denot g.row.F.Denot = telling (outside g.C.Clock.gave g.F.Caller.sends g.F.Caller.log) m in
     let f : FilesState g.row.D.Denot = c.args.files in
     let out = c.closed.result in

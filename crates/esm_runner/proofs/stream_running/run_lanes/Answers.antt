@@ -5,11 +5,11 @@ use Rattle.std.specs.Coded.{Coded}
 use Rattle.esm_model.specs.declared.memory.OutOfMemory.{OutOfMemory}
 use Rattle.esm_model.specs.Kept.{change_of}
 use Rattle.esm_input.specs.Reading.{InputState}
-use Rattle.esm_batchers.specs.Working.{Outside, outside}
+use Rattle.esm_workers.specs.Working.{Outside, outside}
 use Rattle.esm_pool.specs.declared.running.RunEnd.{RunEnd}
-use Rattle.esm_sbook.specs.Books.{BookState, setup_of}
-use Rattle.esm_sbook.specs.Keeping.{IsSound}
-use Rattle.esm_sbook.proofs.Sent.{book_send}
+use Rattle.esm_stream_book.specs.Books.{BookState, setup_of}
+use Rattle.esm_stream_book.specs.Keeping.{IsSound}
+use Rattle.esm_stream_book.proofs.Sent.{book_send}
 use Rattle.esm_runner.specs.Ran.{HasRun, CameSo, EndsSo}
 use Rattle.esm_runner.proofs.Bridges.{told_new}
 use Rattle.esm_runner.proofs.Following.{left_follow}

@@ -10,7 +10,7 @@ use Rattle.esm_turn.proofs.turn.join_all.Goals as goal
 
 pub join_seat-requires : goal.join_seat-requires
 join_seat-requires g c =
-    let m = meaning g.T.Kept.setup g.T.Kept.history g.T.Kept.mark g.T.Kept.change g.T.Kept.author g.T.Kept.may_follow in
+    let m = meaning g.T.Kept in
     let shared = c.args.shared.now in
     let seat : SeatView = c.in-Some.seat in
     let more = c.loop-seat.invariant.3 in

@@ -9,7 +9,7 @@ use Rattle.esm_turn.proofs.turn.seat_all.Goals as goal
 
 pub split_seat-inner-requires : goal.split_seat-inner-requires
 split_seat-inner-requires g c =
-    let m = meaning g.T.Kept.setup g.T.Kept.history g.T.Kept.mark g.T.Kept.change g.T.Kept.author g.T.Kept.may_follow in
+    let m = meaning g.T.Kept in
     let shared = c.args.shared.now in (
       c.loop-i.invariant.0,
       (let h = c.requires.at.1 in omega arith),

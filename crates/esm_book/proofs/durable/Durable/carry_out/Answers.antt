@@ -2,7 +2,8 @@ use Rattle.std.proofs.Common.{rules, Option, Some, [], ◌++◌, ◌∙◌, take
 use Rattle.esm_io.specs.Meanings.{disk, destination}
 use Rattle.esm_model.specs.declared.book.Trouble.{Trouble}
 use Rattle.esm_model.specs.declared.book.Trouble.TheVariants.{Disk, Dest}
-use Rattle.esm_book.specs.Decided.{decisions, added}
+use Rattle.esm_book.specs.Decided.{added}
+use Rattle.esm_book.specs.Meanings.{decisions}
 use Rattle.esm_book.specs.Growth.{HasGrown}
 use Rattle.esm_book.specs.State.{IsReason}
 use Rattle.esm_book.proofs.Lists.{none_of}
@@ -13,9 +14,9 @@ use Rattle.esm_book.proofs.durable.Durable.carry_out.Goals as goal
 -- on a book that is down
 pub invariant_of-self : goal.invariant_of-self
 invariant_of-self g c =
-    let k = decisions g.C.Decisions.history g.C.Decisions.owed g.C.Decisions.payload g.C.Decisions.line in
-    let m = disk g.D.Disk.honest g.D.Disk.content g.D.Disk.image g.D.Disk.moment g.D.Disk.image_since g.D.Disk.faults in
-    let n = destination g.T.Dest.honest g.T.Dest.faults g.T.Dest.lines g.T.Dest.sends g.T.Dest.failed in
+    let k = decisions g.C.Decisions in
+    let m = disk g.D.Disk in
+    let n = destination g.T.Dest in
     let s = c.self.inside in
     let new = c.note.new.self in (
       kept_noted k m n s.core new s.pair s.found.value s.dest s.found_dest.value s.trouble (added (k.history s.core) (k.history new))
@@ -25,9 +26,9 @@ invariant_of-self g c =
 
 pub returns-then-is_some-clause-images : goal.returns-then-is_some-clause-images
 returns-then-is_some-clause-images g c =
-    let k = decisions g.C.Decisions.history g.C.Decisions.owed g.C.Decisions.payload g.C.Decisions.line in
-    let m = disk g.D.Disk.honest g.D.Disk.content g.D.Disk.image g.D.Disk.moment g.D.Disk.image_since g.D.Disk.faults in
-    let n = destination g.T.Dest.honest g.T.Dest.faults g.T.Dest.lines g.T.Dest.sends g.T.Dest.failed in
+    let k = decisions g.C.Decisions in
+    let m = disk g.D.Disk in
+    let n = destination g.T.Dest in
     rw (← c.self.view_is) (λ up.
     let s = c.self.inside in
     still_opens k m n c.file_beside_spare.ensures.opens g.met.D.Disk.only_now s.pair s.dest (added (k.history s.core) (k.history c.note.new.self) ++ []) up c.self.invariant.0.grown.appended.kept)
@@ -38,9 +39,9 @@ returns-then-is_some-clause-kept g c = c.self.invariant.0.grown.appended.kept
 -- all is written
 pub invariant_of-self-in-Written : goal.invariant_of-self-in-Written
 invariant_of-self-in-Written g c =
-    let k = decisions g.C.Decisions.history g.C.Decisions.owed g.C.Decisions.payload g.C.Decisions.line in
-    let m = disk g.D.Disk.honest g.D.Disk.content g.D.Disk.image g.D.Disk.moment g.D.Disk.image_since g.D.Disk.faults in
-    let n = destination g.T.Dest.honest g.T.Dest.faults g.T.Dest.lines g.T.Dest.sends g.T.Dest.failed in
+    let k = decisions g.C.Decisions in
+    let m = disk g.D.Disk in
+    let n = destination g.T.Dest in
     let s = c.self.inside in
     let new = c.write_out.new in
     let mid = c.decide.new.self in
@@ -54,9 +55,9 @@ invariant_of-self-in-Written g c =
 
 pub returns-in-Written-clause-images : goal.returns-in-Written-clause-images
 returns-in-Written-clause-images g c =
-    let k = decisions g.C.Decisions.history g.C.Decisions.owed g.C.Decisions.payload g.C.Decisions.line in
-    let m = disk g.D.Disk.honest g.D.Disk.content g.D.Disk.image g.D.Disk.moment g.D.Disk.image_since g.D.Disk.faults in
-    let n = destination g.T.Dest.honest g.T.Dest.faults g.T.Dest.lines g.T.Dest.sends g.T.Dest.failed in
+    let k = decisions g.C.Decisions in
+    let m = disk g.D.Disk in
+    let n = destination g.T.Dest in
     rw (← c.self.view_is) (λ up.
     let s = c.self.inside in
     let new = c.write_out.new in
@@ -69,9 +70,9 @@ returns-in-Written-clause-kept g c = c.in-Written.ensures.came.writes.grown.appe
 -- a disk failed
 pub invariant_of-self-in-DiskFault-1 : goal.invariant_of-self-in-DiskFault-1
 invariant_of-self-in-DiskFault-1 g c =
-    let k = decisions g.C.Decisions.history g.C.Decisions.owed g.C.Decisions.payload g.C.Decisions.line in
-    let m = disk g.D.Disk.honest g.D.Disk.content g.D.Disk.image g.D.Disk.moment g.D.Disk.image_since g.D.Disk.faults in
-    let n = destination g.T.Dest.honest g.T.Dest.faults g.T.Dest.lines g.T.Dest.sends g.T.Dest.failed in
+    let k = decisions g.C.Decisions in
+    let m = disk g.D.Disk in
+    let n = destination g.T.Dest in
     let s = c.self.inside in
     let new = c.write_out.new in
     let mid = c.decide.new.self in
@@ -86,9 +87,9 @@ invariant_of-self-in-DiskFault-1 g c =
 
 pub returns-in-DiskFault-clause-images : goal.returns-in-DiskFault-clause-images
 returns-in-DiskFault-clause-images g c =
-    let k = decisions g.C.Decisions.history g.C.Decisions.owed g.C.Decisions.payload g.C.Decisions.line in
-    let m = disk g.D.Disk.honest g.D.Disk.content g.D.Disk.image g.D.Disk.moment g.D.Disk.image_since g.D.Disk.faults in
-    let n = destination g.T.Dest.honest g.T.Dest.faults g.T.Dest.lines g.T.Dest.sends g.T.Dest.failed in
+    let k = decisions g.C.Decisions in
+    let m = disk g.D.Disk in
+    let n = destination g.T.Dest in
     rw (← c.self.view_is) (λ up.
     let s = c.self.inside in
     let new = c.write_out.new in
@@ -98,9 +99,9 @@ returns-in-DiskFault-clause-images g c =
 -- the destination failed
 pub invariant_of-self-in-DestFault-1 : goal.invariant_of-self-in-DestFault-1
 invariant_of-self-in-DestFault-1 g c =
-    let k = decisions g.C.Decisions.history g.C.Decisions.owed g.C.Decisions.payload g.C.Decisions.line in
-    let m = disk g.D.Disk.honest g.D.Disk.content g.D.Disk.image g.D.Disk.moment g.D.Disk.image_since g.D.Disk.faults in
-    let n = destination g.T.Dest.honest g.T.Dest.faults g.T.Dest.lines g.T.Dest.sends g.T.Dest.failed in
+    let k = decisions g.C.Decisions in
+    let m = disk g.D.Disk in
+    let n = destination g.T.Dest in
     let s = c.self.inside in
     let new = c.write_out.new in
     let mid = c.decide.new.self in
@@ -115,9 +116,9 @@ invariant_of-self-in-DestFault-1 g c =
 
 pub returns-in-DestFault-clause-images : goal.returns-in-DestFault-clause-images
 returns-in-DestFault-clause-images g c =
-    let k = decisions g.C.Decisions.history g.C.Decisions.owed g.C.Decisions.payload g.C.Decisions.line in
-    let m = disk g.D.Disk.honest g.D.Disk.content g.D.Disk.image g.D.Disk.moment g.D.Disk.image_since g.D.Disk.faults in
-    let n = destination g.T.Dest.honest g.T.Dest.faults g.T.Dest.lines g.T.Dest.sends g.T.Dest.failed in
+    let k = decisions g.C.Decisions in
+    let m = disk g.D.Disk in
+    let n = destination g.T.Dest in
     rw (← c.self.view_is) (λ up.
     let s = c.self.inside in
     let new = c.write_out.new in
@@ -130,18 +131,18 @@ returns-in-DestFault-clause-kept g c = c.in-DestFault.ensures.came.writes.grown.
 -- the core took nothing
 pub returns-in-Err-OutOfMemory-clause-grown : goal.returns-in-Err-OutOfMemory-clause-grown
 returns-in-Err-OutOfMemory-clause-grown g c =
-    let k = decisions g.C.Decisions.history g.C.Decisions.owed g.C.Decisions.payload g.C.Decisions.line in
-    let m = disk g.D.Disk.honest g.D.Disk.content g.D.Disk.image g.D.Disk.moment g.D.Disk.image_since g.D.Disk.faults in
-    let n = destination g.T.Dest.honest g.T.Dest.faults g.T.Dest.lines g.T.Dest.sends g.T.Dest.failed in
+    let k = decisions g.C.Decisions in
+    let m = disk g.D.Disk in
+    let n = destination g.T.Dest in
     rw (← c.self.view_is) (λ none.
     let s = c.self.inside in
     grown_still k m n s.core s.pair s.found.value s.dest s.found_dest.value s.trouble c.self.invariant.0 none g.met.D.Disk.only_now c.decide.new.self s.pair s.dest c.in-Err-OutOfMemory.ensures.unchanged refl (record { lines = refl; failed = refl; honesty = refl; faults = refl }))
 
 pub returns-in-Err-OutOfMemory-clause-images : goal.returns-in-Err-OutOfMemory-clause-images
 returns-in-Err-OutOfMemory-clause-images g c =
-    let k = decisions g.C.Decisions.history g.C.Decisions.owed g.C.Decisions.payload g.C.Decisions.line in
-    let m = disk g.D.Disk.honest g.D.Disk.content g.D.Disk.image g.D.Disk.moment g.D.Disk.image_since g.D.Disk.faults in
-    let n = destination g.T.Dest.honest g.T.Dest.faults g.T.Dest.lines g.T.Dest.sends g.T.Dest.failed in
+    let k = decisions g.C.Decisions in
+    let m = disk g.D.Disk in
+    let n = destination g.T.Dest in
     rw (← c.self.view_is) (λ up.
     let s = c.self.inside in
     still_opens k m n c.file_beside_spare.ensures.opens g.met.D.Disk.only_now s.pair s.dest (added (k.history s.core) (k.history c.decide.new.self) ++ []) up c.self.invariant.0.grown.appended.kept)
@@ -152,18 +153,18 @@ returns-in-Err-OutOfMemory-clause-kept g c = c.self.invariant.0.grown.appended.k
 -- the core found a change
 pub returns-in-Err-Changed-clause-grown : goal.returns-in-Err-Changed-clause-grown
 returns-in-Err-Changed-clause-grown g c =
-    let k = decisions g.C.Decisions.history g.C.Decisions.owed g.C.Decisions.payload g.C.Decisions.line in
-    let m = disk g.D.Disk.honest g.D.Disk.content g.D.Disk.image g.D.Disk.moment g.D.Disk.image_since g.D.Disk.faults in
-    let n = destination g.T.Dest.honest g.T.Dest.faults g.T.Dest.lines g.T.Dest.sends g.T.Dest.failed in
+    let k = decisions g.C.Decisions in
+    let m = disk g.D.Disk in
+    let n = destination g.T.Dest in
     rw (← c.self.view_is) (λ none.
     let s = c.self.inside in
     grown_still k m n s.core s.pair s.found.value s.dest s.found_dest.value s.trouble c.self.invariant.0 none g.met.D.Disk.only_now c.decide.new.self s.pair s.dest c.in-Err-Changed.ensures.unchanged refl (record { lines = refl; failed = refl; honesty = refl; faults = refl }))
 
 pub returns-in-Err-Changed-clause-images : goal.returns-in-Err-Changed-clause-images
 returns-in-Err-Changed-clause-images g c =
-    let k = decisions g.C.Decisions.history g.C.Decisions.owed g.C.Decisions.payload g.C.Decisions.line in
-    let m = disk g.D.Disk.honest g.D.Disk.content g.D.Disk.image g.D.Disk.moment g.D.Disk.image_since g.D.Disk.faults in
-    let n = destination g.T.Dest.honest g.T.Dest.faults g.T.Dest.lines g.T.Dest.sends g.T.Dest.failed in
+    let k = decisions g.C.Decisions in
+    let m = disk g.D.Disk in
+    let n = destination g.T.Dest in
     rw (← c.self.view_is) (λ up.
     let s = c.self.inside in
     still_opens k m n c.file_beside_spare.ensures.opens g.met.D.Disk.only_now s.pair s.dest (added (k.history s.core) (k.history c.decide.new.self) ++ []) up c.self.invariant.0.grown.appended.kept)
@@ -174,9 +175,9 @@ returns-in-Err-Changed-clause-kept g c = c.self.invariant.0.grown.appended.kept
 -- there was no room
 pub returns-in-OutOfMemory-clause-grown : goal.returns-in-OutOfMemory-clause-grown
 returns-in-OutOfMemory-clause-grown g c =
-    let k = decisions g.C.Decisions.history g.C.Decisions.owed g.C.Decisions.payload g.C.Decisions.line in
-    let m = disk g.D.Disk.honest g.D.Disk.content g.D.Disk.image g.D.Disk.moment g.D.Disk.image_since g.D.Disk.faults in
-    let n = destination g.T.Dest.honest g.T.Dest.faults g.T.Dest.lines g.T.Dest.sends g.T.Dest.failed in
+    let k = decisions g.C.Decisions in
+    let m = disk g.D.Disk in
+    let n = destination g.T.Dest in
     rw (← c.self.view_is) (λ none.
     let s = c.self.inside in
     let new = c.write_out.new in
@@ -185,9 +186,9 @@ returns-in-OutOfMemory-clause-grown g c =
 
 pub returns-in-OutOfMemory-clause-images : goal.returns-in-OutOfMemory-clause-images
 returns-in-OutOfMemory-clause-images g c =
-    let k = decisions g.C.Decisions.history g.C.Decisions.owed g.C.Decisions.payload g.C.Decisions.line in
-    let m = disk g.D.Disk.honest g.D.Disk.content g.D.Disk.image g.D.Disk.moment g.D.Disk.image_since g.D.Disk.faults in
-    let n = destination g.T.Dest.honest g.T.Dest.faults g.T.Dest.lines g.T.Dest.sends g.T.Dest.failed in
+    let k = decisions g.C.Decisions in
+    let m = disk g.D.Disk in
+    let n = destination g.T.Dest in
     rw (← c.self.view_is) (λ up.
     let s = c.self.inside in
     let new = c.write_out.new in
@@ -197,9 +198,9 @@ returns-in-OutOfMemory-clause-images g c =
 
 pub returns-in-OutOfMemory-clause-kept : goal.returns-in-OutOfMemory-clause-kept
 returns-in-OutOfMemory-clause-kept g c =
-    let k = decisions g.C.Decisions.history g.C.Decisions.owed g.C.Decisions.payload g.C.Decisions.line in
-    let m = disk g.D.Disk.honest g.D.Disk.content g.D.Disk.image g.D.Disk.moment g.D.Disk.image_since g.D.Disk.faults in
-    let n = destination g.T.Dest.honest g.T.Dest.faults g.T.Dest.lines g.T.Dest.sends g.T.Dest.failed in
+    let k = decisions g.C.Decisions in
+    let m = disk g.D.Disk in
+    let n = destination g.T.Dest in
     let s = c.self.inside in
     let new = c.write_out.new in
     let came = c.in-OutOfMemory.ensures.came in

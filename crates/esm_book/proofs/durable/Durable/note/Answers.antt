@@ -1,15 +1,16 @@
 use Rattle.std.proofs.Common.{subst, sym}
 use Rattle.esm_io.specs.Meanings.{disk, destination}
-use Rattle.esm_book.specs.Decided.{decisions, added}
+use Rattle.esm_book.specs.Decided.{added}
+use Rattle.esm_book.specs.Meanings.{decisions}
 use Rattle.esm_book.specs.State.{IsReason}
 use Rattle.esm_book.proofs.Keeping.{kept_noted}
 use Rattle.esm_book.proofs.durable.Durable.note.Goals as goal
 
 pub invariant_of-self : goal.invariant_of-self
 invariant_of-self g c =
-    let k = decisions g.C.Decisions.history g.C.Decisions.owed g.C.Decisions.payload g.C.Decisions.line in
-    let m = disk g.D.Disk.honest g.D.Disk.content g.D.Disk.image g.D.Disk.moment g.D.Disk.image_since g.D.Disk.faults in
-    let n = destination g.T.Dest.honest g.T.Dest.faults g.T.Dest.lines g.T.Dest.sends g.T.Dest.failed in
+    let k = decisions g.C.Decisions in
+    let m = disk g.D.Disk in
+    let n = destination g.T.Dest in
     let s = c.self.inside in
     let new = c.note.new.self in (
       kept_noted k m n s.core new s.pair s.found.value s.dest s.found_dest.value s.trouble (added (k.history s.core) (k.history new))

@@ -1,5 +1,5 @@
 use Rattle.std.proofs.Common.{List}
-use Rattle.esm_record.specs.declared.item.Item.{Item}
+use Rattle.esm_model.specs.declared.item.Item.{Item}
 use Rattle.esm_input.specs.Counting.{IsCountOf, IsWithin}
 use Rattle.esm_input.proofs.Counts.{IsSoFar}
 use Rattle.esm_input.proofs.counted.Counted.count_front.Given as goal

@@ -8,7 +8,7 @@ use Rattle.esm_journal.proofs.journal.Journal.append.Goals as goal
 
 pub returns-clause-kept : goal.returns-clause-kept
 returns-clause-kept g c =
-    keeps (disk g.D.Disk.honest g.D.Disk.content g.D.Disk.image g.D.Disk.moment g.D.Disk.image_since g.D.Disk.faults) (header_of 1) c.append.new.self (c.append.ensures.header ∙ c.self.invariant.1) c.append.ensures.log
+    keeps (disk g.D.Disk) (header_of 1) c.append.new.self (c.append.ensures.header ∙ c.self.invariant.1) c.append.ensures.log
 
 pub returns-clause-any_moment : goal.returns-clause-any_moment
 returns-clause-any_moment g c =
@@ -20,4 +20,4 @@ returns-clause-any_moment g c =
 
 pub returns-clause-stopped : goal.returns-clause-stopped
 returns-clause-stopped g c =
-    still_opens (disk g.D.Disk.honest g.D.Disk.content g.D.Disk.image g.D.Disk.moment g.D.Disk.image_since g.D.Disk.faults) (header_of 1) c.append.new.self (c.append.ensures.header ∙ c.self.invariant.1) c.append.ensures.log
+    still_opens (disk g.D.Disk) (header_of 1) c.append.new.self (c.append.ensures.header ∙ c.self.invariant.1) c.append.ensures.log

@@ -7,5 +7,5 @@ use Rattle.esm_journal.proofs.journal.Journal.init.Goals as goal
 
 pub returns-in-Ok-clause-kept : goal.returns-in-Ok-clause-kept
 returns-in-Ok-clause-kept g c = λ h.
-    keeps_file (disk g.D.Disk.honest g.D.Disk.content g.D.Disk.image g.D.Disk.moment g.D.Disk.image_since g.D.Disk.faults) (header_of 1) 1 [] c.write_fresh.new.disk refl
+    keeps_file (disk g.D.Disk) (header_of 1) 1 [] c.write_fresh.new.disk refl
     (fresh_is_file (header_of 1) (g.D.Disk.content c.write_fresh.new.disk) (c.in-Ok.ensures.made h)) (c.in-Ok.ensures.durable h)

@@ -10,5 +10,5 @@ returns-in-Ok-clause-opened g c = λ h.
 
 pub returns-in-Ok-clause-kept : goal.returns-in-Ok-clause-kept
 returns-in-Ok-clause-kept g c = λ h.
-    keeps_file (disk g.D.Disk.honest g.D.Disk.content g.D.Disk.image g.D.Disk.moment g.D.Disk.image_since g.D.Disk.faults) (header_of 1) c.in-Ok.found.epoch c.in-Ok.found.payloads.items c.read_file.new.disk refl
+    keeps_file (disk g.D.Disk) (header_of 1) c.in-Ok.found.epoch c.in-Ok.found.payloads.items c.read_file.new.disk refl
     (subst (IsFile (header_of 1) c.in-Ok.found.epoch c.in-Ok.found.payloads.items) (sym (c.read_file.ensures.only_read.same h)) (c.in-Ok.ensures.found h)) (c.in-Ok.ensures.durable h)

@@ -25,7 +25,7 @@ returns-clause-kept g c = λ h1 h2 up.
     let is_new = c.append.ensures.log in
     let was_up : c.self.inside.log.down ≡ false = not_true c.self.inside.log.down (λ was_down. let down = (c.append.ensures.down (c.append.ensures.is_down was_down)).0.down in clash (sym up ∙ down ∙ was_down)) in
     let content = g.D.Disk.content new.disk in
-    keeps_pair (disk g.D.Disk.honest g.D.Disk.content g.D.Disk.image g.D.Disk.moment g.D.Disk.image_since g.D.Disk.faults) (header_of 2) new.epoch new.payloads.items new.disk c.self.inside.spare refl
+    keeps_pair (disk g.D.Disk) (header_of 2) new.epoch new.payloads.items new.disk c.self.inside.spare refl
     (subst (λ l. IsFile l new.epoch new.payloads.items content) (c.append.ensures.header ∙ pair.header) (is_new.file h1 up)) (is_new.synced h1 up)
     (subst (λ n. IsSpare (header_of 2) n (g.D.Disk.content c.self.inside.spare)) (sym c.append.ensures.epoch) (pair.beside (sym c.append.ensures.honesty ∙ h1) h2 was_up)) (pair.settled h2 was_up)
 
@@ -33,7 +33,7 @@ pub invariant_of-self : goal.invariant_of-self
 invariant_of-self g c =
     let log = c.self.inside.log in (
       c.append.ensures.log,
-      is_pair_added (disk g.D.Disk.honest g.D.Disk.content g.D.Disk.image g.D.Disk.moment g.D.Disk.image_since g.D.Disk.faults) log c.self.inside.spare c.self.inside.spare_sealed c.self.invariant.0 c.self.invariant.1
+      is_pair_added (disk g.D.Disk) log c.self.inside.spare c.self.inside.spare_sealed c.self.invariant.0 c.self.invariant.1
           c.append.new.self c.append.ensures.log c.append.ensures.header c.append.ensures.epoch c.append.ensures.honesty
           (λ up. not_true log.down (λ was_down. let down = (c.append.ensures.down (c.append.ensures.is_down was_down)).0.down in clash (sym up ∙ down ∙ was_down)))
           (λ was_down. let same = (c.append.ensures.down (c.append.ensures.is_down was_down)).0 in (same.disk, same.payloads)),

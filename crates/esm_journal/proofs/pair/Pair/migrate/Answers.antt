@@ -14,7 +14,7 @@ returns-in-Ok-clause-found g c = rw (c.of.ensures.pair, c.of.ensures.was) (λ h1
     (c.in-Ok.pair.epoch, as_version_2 (g.D.Disk.content c.args.journal) (g.D.Disk.content c.args.spare) (sym (c.in-Ok-true.ensures.version h1 h2) ∙ c.in-Ok-true.field-0-test) ∙ same_pair (header_of 2) (g.D.Disk.content c.args.journal) (g.D.Disk.content c.args.spare) (g.D.Disk.content c.has_version_2.new.first) (g.D.Disk.content c.has_version_2.new.second) (read.same h1) (other_read.same h2) ∙ c.in-Ok.ensures.opened (read.honesty ∙ h1) (other_read.honesty ∙ h2), refl))
 
 pub returns-in-Ok-clause-first_read : goal.returns-in-Ok-clause-first_read
-returns-in-Ok-clause-first_read g c = rw c.of.ensures.pair (λ was. reads_on (disk g.D.Disk.honest g.D.Disk.content g.D.Disk.image g.D.Disk.moment g.D.Disk.image_since g.D.Disk.faults) c.args.journal c.has_version_2.new.first (first_disk c.in-Ok.pair) c.has_version_2.ensures.first_read c.in-Ok.ensures.first_read)
+returns-in-Ok-clause-first_read g c = rw c.of.ensures.pair (λ was. reads_on (disk g.D.Disk) c.args.journal c.has_version_2.new.first (first_disk c.in-Ok.pair) c.has_version_2.ensures.first_read c.in-Ok.ensures.first_read)
 
 pub returns-in-Err-open-clause-refused : goal.returns-in-Err-open-clause-refused
 returns-in-Err-open-clause-refused g c =
@@ -52,8 +52,8 @@ returns-in-Err-open_old-clause-images_back g c = c.in-Err-open_old.ensures.image
 pub returns-in-Err-clause-images_back : goal.returns-in-Err-clause-images_back
 returns-in-Err-clause-images_back g c = λ h1 h2 version only second_only epoch payloads opens one two was_one was_two.
     untouched epoch payloads one two (g.D.Disk.content c.args.journal) (g.D.Disk.content c.args.spare)
-    (read_since (disk g.D.Disk.honest g.D.Disk.content g.D.Disk.image g.D.Disk.moment g.D.Disk.image_since g.D.Disk.faults) c.args.journal c.has_version_2.new.first c.has_version_2.ensures.first_read h1 only one was_one)
-    (read_since (disk g.D.Disk.honest g.D.Disk.content g.D.Disk.image g.D.Disk.moment g.D.Disk.image_since g.D.Disk.faults) c.args.spare c.has_version_2.new.second c.has_version_2.ensures.second_read h2 second_only two was_two) version opens
+    (read_since (disk g.D.Disk) c.args.journal c.has_version_2.new.first c.has_version_2.ensures.first_read h1 only one was_one)
+    (read_since (disk g.D.Disk) c.args.spare c.has_version_2.new.second c.has_version_2.ensures.second_read h2 second_only two was_two) version opens
 
 pub returns-in-Ok-open_old-clause-bytes : goal.returns-in-Ok-open_old-clause-bytes
 returns-in-Ok-open_old-clause-bytes g c = rw c.of-in-Ok-open_old.ensures.pair (λ h1 h2 _.

@@ -33,7 +33,7 @@ returns-else-swapped-clause-kept g c = λ h1 h2.
     let taken = c.in-Ok.ensures.taken h1 h2 in
     let file = subst (λ (b : Bool). IsFile (header_of 2) found.epoch found.payloads.items (if b then two else one)) c.if-swapped.false taken.file in
     let beside = subst (λ (b : Bool). IsSpare (header_of 2) found.epoch (if b then one else two)) c.if-swapped.false taken.beside in
-    keeps_pair (disk g.D.Disk.honest g.D.Disk.content g.D.Disk.image g.D.Disk.moment g.D.Disk.image_since g.D.Disk.faults) (header_of 2) found.epoch found.payloads.items c.read_pair.new.first c.read_pair.new.second refl
+    keeps_pair (disk g.D.Disk) (header_of 2) found.epoch found.payloads.items c.read_pair.new.first c.read_pair.new.second refl
     (subst (IsFile (header_of 2) found.epoch found.payloads.items) (sym (c.read_pair.ensures.first_read.same h1)) file) (c.in-Ok.ensures.durable h1)
     (subst (IsSpare (header_of 2) found.epoch) (sym (c.read_pair.ensures.second_read.same h2)) beside) (c.in-Ok.ensures.spare_durable h2)
 
@@ -45,6 +45,6 @@ returns-then-swapped-clause-kept g c = λ h2 h1.
     let taken = c.in-Ok.ensures.taken h2 h1 in
     let file = subst (λ (b : Bool). IsFile (header_of 2) found.epoch found.payloads.items (if b then two else one)) c.if-swapped.true taken.file in
     let beside = subst (λ (b : Bool). IsSpare (header_of 2) found.epoch (if b then one else two)) c.if-swapped.true taken.beside in
-    keeps_pair (disk g.D.Disk.honest g.D.Disk.content g.D.Disk.image g.D.Disk.moment g.D.Disk.image_since g.D.Disk.faults) (header_of 2) found.epoch found.payloads.items c.read_pair.new.second c.read_pair.new.first refl
+    keeps_pair (disk g.D.Disk) (header_of 2) found.epoch found.payloads.items c.read_pair.new.second c.read_pair.new.first refl
     (subst (IsFile (header_of 2) found.epoch found.payloads.items) (sym (c.read_pair.ensures.second_read.same h1)) file) (c.in-Ok.ensures.spare_durable h1)
     (subst (IsSpare (header_of 2) found.epoch) (sym (c.read_pair.ensures.first_read.same h2)) beside) (c.in-Ok.ensures.durable h2)

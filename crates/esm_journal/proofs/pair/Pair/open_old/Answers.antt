@@ -11,7 +11,7 @@ pub returns-in-Ok-write_anew-clause-found : goal.returns-in-Ok-write_anew-clause
 returns-in-Ok-write_anew-clause-found g c = λ h1 h2.
     let found = c.in-Ok.field-0.taken.found in (
       found.epoch,
-      ap with_next_epoch (opened_before (disk g.D.Disk.honest g.D.Disk.content g.D.Disk.image g.D.Disk.moment g.D.Disk.image_since g.D.Disk.faults) c.args.journal c.args.spare c.read_old_pair.new.first c.read_old_pair.new.second c.args.journal c.in-Ok.field-0.taken c.in-Ok.ensures.read c.read_old_pair.ensures.first_read c.read_old_pair.ensures.second_read h1 h2)
+      ap with_next_epoch (opened_before (disk g.D.Disk) c.args.journal c.args.spare c.read_old_pair.new.first c.read_old_pair.new.second c.args.journal c.in-Ok.field-0.taken c.in-Ok.ensures.read c.read_old_pair.ensures.first_read c.read_old_pair.ensures.second_read h1 h2)
           ∙ lower_epoch found.epoch found.payloads.items c.in-Ok.ensures.below_greatest ∙ ap (Holding found.epoch) (sym c.in-Ok-write_anew.ensures.payloads),
       c.in-Ok-write_anew.ensures.epoch,
     )
@@ -20,7 +20,7 @@ pub returns-in-Ok-write_anew-2-clause-found : goal.returns-in-Ok-write_anew-2-cl
 returns-in-Ok-write_anew-2-clause-found g c = λ h1 h2.
     let found = c.in-Ok.field-0.taken.found in (
       found.epoch,
-      ap with_next_epoch (opened_before (disk g.D.Disk.honest g.D.Disk.content g.D.Disk.image g.D.Disk.moment g.D.Disk.image_since g.D.Disk.faults) c.args.journal c.args.spare c.read_old_pair.new.first c.read_old_pair.new.second c.args.journal c.in-Ok.field-0.taken c.in-Ok.ensures.read c.read_old_pair.ensures.first_read c.read_old_pair.ensures.second_read h1 h2)
+      ap with_next_epoch (opened_before (disk g.D.Disk) c.args.journal c.args.spare c.read_old_pair.new.first c.read_old_pair.new.second c.args.journal c.in-Ok.field-0.taken c.in-Ok.ensures.read c.read_old_pair.ensures.first_read c.read_old_pair.ensures.second_read h1 h2)
           ∙ lower_epoch found.epoch found.payloads.items c.in-Ok.ensures.below_greatest ∙ ap (Holding found.epoch) (sym c.in-Ok-write_anew-2.ensures.payloads),
       c.in-Ok-write_anew-2.ensures.epoch,
     )
@@ -30,12 +30,12 @@ returns-in-Ok-write_anew-clause-images g c = λ first second one_read two_read h
     let pair = c.in-Ok-write_anew.pair in
     let e1 : first_disk pair ≡ pair.used = ap (λ (b : Bool). if b then pair.spare else pair.used) c.in-Ok-write_anew.ensures.swapped in
     let e2 : second_disk pair ≡ c.read_old_pair.new.second = ap (λ (b : Bool). if b then pair.used else pair.spare) c.in-Ok-write_anew.ensures.swapped ∙ c.in-Ok-write_anew.ensures.spare in
-    moves_first (disk g.D.Disk.honest g.D.Disk.content g.D.Disk.image g.D.Disk.moment g.D.Disk.image_since g.D.Disk.faults) first second c.read_old_pair.new.first c.read_old_pair.new.second pair.used c.in-Ok.field-0.taken c.in-Ok.ensures.read (reads_on (disk g.D.Disk.honest g.D.Disk.content g.D.Disk.image g.D.Disk.moment g.D.Disk.image_since g.D.Disk.faults) first c.args.journal c.read_old_pair.new.first one_read c.read_old_pair.ensures.first_read) (reads_on (disk g.D.Disk.honest g.D.Disk.content g.D.Disk.image g.D.Disk.moment g.D.Disk.image_since g.D.Disk.faults) second c.args.spare c.read_old_pair.new.second two_read c.read_old_pair.ensures.second_read) h1 h2 version only second_only epoch payloads opens one two c.if-swapped.true c.in-Ok-write_anew.ensures.any_moment
+    moves_first (disk g.D.Disk) first second c.read_old_pair.new.first c.read_old_pair.new.second pair.used c.in-Ok.field-0.taken c.in-Ok.ensures.read (reads_on (disk g.D.Disk) first c.args.journal c.read_old_pair.new.first one_read c.read_old_pair.ensures.first_read) (reads_on (disk g.D.Disk) second c.args.spare c.read_old_pair.new.second two_read c.read_old_pair.ensures.second_read) h1 h2 version only second_only epoch payloads opens one two c.if-swapped.true c.in-Ok-write_anew.ensures.any_moment
     (subst (λ d. g.D.Disk.image_since d (g.D.Disk.moment first) one) e1 was_one) (subst (λ d. g.D.Disk.image_since d (g.D.Disk.moment second) two) e2 was_two)
 
 pub returns-in-Err-write_anew-clause-images_back : goal.returns-in-Err-write_anew-clause-images_back
 returns-in-Err-write_anew-clause-images_back g c = λ first second one_read two_read h1 h2 version only second_only epoch payloads opens one two was_one was_two.
-    moves_first (disk g.D.Disk.honest g.D.Disk.content g.D.Disk.image g.D.Disk.moment g.D.Disk.image_since g.D.Disk.faults) first second c.read_old_pair.new.first c.read_old_pair.new.second c.in-Err-write_anew.other c.in-Ok.field-0.taken c.in-Ok.ensures.read (reads_on (disk g.D.Disk.honest g.D.Disk.content g.D.Disk.image g.D.Disk.moment g.D.Disk.image_since g.D.Disk.faults) first c.args.journal c.read_old_pair.new.first one_read c.read_old_pair.ensures.first_read) (reads_on (disk g.D.Disk.honest g.D.Disk.content g.D.Disk.image g.D.Disk.moment g.D.Disk.image_since g.D.Disk.faults) second c.args.spare c.read_old_pair.new.second two_read c.read_old_pair.ensures.second_read) h1 h2 version only second_only epoch payloads opens one two c.if-swapped.true c.in-Err-write_anew.ensures.any_moment_err
+    moves_first (disk g.D.Disk) first second c.read_old_pair.new.first c.read_old_pair.new.second c.in-Err-write_anew.other c.in-Ok.field-0.taken c.in-Ok.ensures.read (reads_on (disk g.D.Disk) first c.args.journal c.read_old_pair.new.first one_read c.read_old_pair.ensures.first_read) (reads_on (disk g.D.Disk) second c.args.spare c.read_old_pair.new.second two_read c.read_old_pair.ensures.second_read) h1 h2 version only second_only epoch payloads opens one two c.if-swapped.true c.in-Err-write_anew.ensures.any_moment_err
     was_one (subst (λ d. g.D.Disk.image_since d (g.D.Disk.moment second) two) c.in-Err-write_anew.ensures.back was_two)
 
 pub returns-in-Ok-write_anew-2-clause-images : goal.returns-in-Ok-write_anew-2-clause-images
@@ -43,19 +43,19 @@ returns-in-Ok-write_anew-2-clause-images g c = λ first second one_read two_read
     let pair = c.in-Ok-write_anew-2.pair in
     let e1 : first_disk pair ≡ c.read_old_pair.new.first = ap (λ (b : Bool). if b then pair.spare else pair.used) c.in-Ok-write_anew-2.ensures.swapped ∙ c.in-Ok-write_anew-2.ensures.spare in
     let e2 : second_disk pair ≡ pair.used = ap (λ (b : Bool). if b then pair.used else pair.spare) c.in-Ok-write_anew-2.ensures.swapped in
-    moves_second (disk g.D.Disk.honest g.D.Disk.content g.D.Disk.image g.D.Disk.moment g.D.Disk.image_since g.D.Disk.faults) first second c.read_old_pair.new.first c.read_old_pair.new.second pair.used c.in-Ok.field-0.taken c.in-Ok.ensures.read (reads_on (disk g.D.Disk.honest g.D.Disk.content g.D.Disk.image g.D.Disk.moment g.D.Disk.image_since g.D.Disk.faults) first c.args.journal c.read_old_pair.new.first one_read c.read_old_pair.ensures.first_read) (reads_on (disk g.D.Disk.honest g.D.Disk.content g.D.Disk.image g.D.Disk.moment g.D.Disk.image_since g.D.Disk.faults) second c.args.spare c.read_old_pair.new.second two_read c.read_old_pair.ensures.second_read) h1 h2 version only second_only epoch payloads opens one two c.if-swapped.false c.in-Ok-write_anew-2.ensures.any_moment
+    moves_second (disk g.D.Disk) first second c.read_old_pair.new.first c.read_old_pair.new.second pair.used c.in-Ok.field-0.taken c.in-Ok.ensures.read (reads_on (disk g.D.Disk) first c.args.journal c.read_old_pair.new.first one_read c.read_old_pair.ensures.first_read) (reads_on (disk g.D.Disk) second c.args.spare c.read_old_pair.new.second two_read c.read_old_pair.ensures.second_read) h1 h2 version only second_only epoch payloads opens one two c.if-swapped.false c.in-Ok-write_anew-2.ensures.any_moment
     (subst (λ d. g.D.Disk.image_since d (g.D.Disk.moment first) one) e1 was_one) (subst (λ d. g.D.Disk.image_since d (g.D.Disk.moment second) two) e2 was_two)
 
 pub returns-in-Err-write_anew-2-clause-images_back : goal.returns-in-Err-write_anew-2-clause-images_back
 returns-in-Err-write_anew-2-clause-images_back g c = λ first second one_read two_read h1 h2 version only second_only epoch payloads opens one two was_one was_two.
-    moves_second (disk g.D.Disk.honest g.D.Disk.content g.D.Disk.image g.D.Disk.moment g.D.Disk.image_since g.D.Disk.faults) first second c.read_old_pair.new.first c.read_old_pair.new.second c.in-Err-write_anew-2.back.1 c.in-Ok.field-0.taken c.in-Ok.ensures.read (reads_on (disk g.D.Disk.honest g.D.Disk.content g.D.Disk.image g.D.Disk.moment g.D.Disk.image_since g.D.Disk.faults) first c.args.journal c.read_old_pair.new.first one_read c.read_old_pair.ensures.first_read) (reads_on (disk g.D.Disk.honest g.D.Disk.content g.D.Disk.image g.D.Disk.moment g.D.Disk.image_since g.D.Disk.faults) second c.args.spare c.read_old_pair.new.second two_read c.read_old_pair.ensures.second_read) h1 h2 version only second_only epoch payloads opens one two c.if-swapped.false c.in-Err-write_anew-2.ensures.any_moment_err
+    moves_second (disk g.D.Disk) first second c.read_old_pair.new.first c.read_old_pair.new.second c.in-Err-write_anew-2.back.1 c.in-Ok.field-0.taken c.in-Ok.ensures.read (reads_on (disk g.D.Disk) first c.args.journal c.read_old_pair.new.first one_read c.read_old_pair.ensures.first_read) (reads_on (disk g.D.Disk) second c.args.spare c.read_old_pair.new.second two_read c.read_old_pair.ensures.second_read) h1 h2 version only second_only epoch payloads opens one two c.if-swapped.false c.in-Err-write_anew-2.ensures.any_moment_err
     (subst (λ d. g.D.Disk.image_since d (g.D.Disk.moment first) one) c.in-Err-write_anew-2.ensures.back was_one) was_two
 
 pub returns-in-Err-clause-images_back : goal.returns-in-Err-clause-images_back
 returns-in-Err-clause-images_back g c = λ first second one_read two_read h1 h2 version only second_only epoch payloads opens one two was_one was_two.
     untouched epoch payloads one two (g.D.Disk.content first) (g.D.Disk.content second)
-    (read_since (disk g.D.Disk.honest g.D.Disk.content g.D.Disk.image g.D.Disk.moment g.D.Disk.image_since g.D.Disk.faults) first c.read_old_pair.new.first (reads_on (disk g.D.Disk.honest g.D.Disk.content g.D.Disk.image g.D.Disk.moment g.D.Disk.image_since g.D.Disk.faults) first c.args.journal c.read_old_pair.new.first one_read c.read_old_pair.ensures.first_read) h1 only one was_one)
-    (read_since (disk g.D.Disk.honest g.D.Disk.content g.D.Disk.image g.D.Disk.moment g.D.Disk.image_since g.D.Disk.faults) second c.read_old_pair.new.second (reads_on (disk g.D.Disk.honest g.D.Disk.content g.D.Disk.image g.D.Disk.moment g.D.Disk.image_since g.D.Disk.faults) second c.args.spare c.read_old_pair.new.second two_read c.read_old_pair.ensures.second_read) h2 second_only two was_two) version opens
+    (read_since (disk g.D.Disk) first c.read_old_pair.new.first (reads_on (disk g.D.Disk) first c.args.journal c.read_old_pair.new.first one_read c.read_old_pair.ensures.first_read) h1 only one was_one)
+    (read_since (disk g.D.Disk) second c.read_old_pair.new.second (reads_on (disk g.D.Disk) second c.args.spare c.read_old_pair.new.second two_read c.read_old_pair.ensures.second_read) h2 second_only two was_two) version opens
 
 pub returns-in-Ok-write_anew-clause-bytes : goal.returns-in-Ok-write_anew-clause-bytes
 returns-in-Ok-write_anew-clause-bytes g c = λ h1 h2.

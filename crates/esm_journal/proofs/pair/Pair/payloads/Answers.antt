@@ -6,10 +6,10 @@ use Rattle.esm_journal.proofs.pair.Pair.payloads.Goals as goal
 
 pub returns-clause-kept : goal.returns-clause-kept
 returns-clause-kept g c =
-    rw (← c.self.view_is) (pair_keeps (disk g.D.Disk.honest g.D.Disk.content g.D.Disk.image g.D.Disk.moment g.D.Disk.image_since g.D.Disk.faults) g.met.D.Disk.only_now
+    rw (← c.self.view_is) (pair_keeps (disk g.D.Disk) g.met.D.Disk.only_now
     c.self.inside.log c.self.inside.spare c.self.inside.spare_sealed c.self.invariant.0 c.self.invariant.1)
 
 pub returns-clause-stopped : goal.returns-clause-stopped
 returns-clause-stopped g c =
-    rw (← c.self.view_is) (λ h1 h2 down. in_places (disk g.D.Disk.honest g.D.Disk.content g.D.Disk.image g.D.Disk.moment g.D.Disk.image_since g.D.Disk.faults) (header_of 2) c.self.inside.log.epoch c.self.inside.log.payloads.items c.self.inside.log.disk c.self.inside.spare c.self.inside.swapped
+    rw (← c.self.view_is) (λ h1 h2 down. in_places (disk g.D.Disk) (header_of 2) c.self.inside.log.epoch c.self.inside.log.payloads.items c.self.inside.log.disk c.self.inside.spare c.self.inside.swapped
     (c.self.invariant.1.stopped h1 h2 down))

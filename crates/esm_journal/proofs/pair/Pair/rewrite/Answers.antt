@@ -9,14 +9,14 @@ use Rattle.esm_journal.proofs.pair.Pair.rewrite.Goals as goal
 
 pub returns-in-Some-clause-any_moment_err : goal.returns-in-Some-clause-any_moment_err
 returns-in-Some-clause-any_moment_err g c =
-    rw (← c.self.view_is) (λ h1 h2 up. resting (disk g.D.Disk.honest g.D.Disk.content g.D.Disk.image g.D.Disk.moment g.D.Disk.image_since g.D.Disk.faults) g.met.D.Disk.only_now
+    rw (← c.self.view_is) (λ h1 h2 up. resting (disk g.D.Disk) g.met.D.Disk.only_now
     c.self.inside.log c.self.inside.spare c.self.inside.spare_sealed c.self.invariant.0 c.self.invariant.1 h1 h2 up c.args.payloads.now)
 
 pub returns-in-Some-clause-pair_images : goal.returns-in-Some-clause-pair_images
 returns-in-Some-clause-pair_images g c =
-    rw (← c.self.view_is) (λ h1 h2 up. images_before (disk g.D.Disk.honest g.D.Disk.content g.D.Disk.image g.D.Disk.moment g.D.Disk.image_since g.D.Disk.faults) g.met.D.Disk.only_now
+    rw (← c.self.view_is) (λ h1 h2 up. images_before (disk g.D.Disk) g.met.D.Disk.only_now
     c.self.inside.log c.self.inside.spare c.self.inside.spare_sealed c.self.invariant.0 c.self.invariant.1 h1 h2 up c.args.payloads.now c.self.inside.swapped c.self.inside.spare
-    (resting (disk g.D.Disk.honest g.D.Disk.content g.D.Disk.image g.D.Disk.moment g.D.Disk.image_since g.D.Disk.faults) g.met.D.Disk.only_now
+    (resting (disk g.D.Disk) g.met.D.Disk.only_now
     c.self.inside.log c.self.inside.spare c.self.inside.spare_sealed c.self.invariant.0 c.self.invariant.1 h1 h2 up c.args.payloads.now))
 
 pub prepare-requires-clause-short : goal.prepare-requires-clause-short
@@ -24,14 +24,14 @@ prepare-requires-clause-short g c = all_short c.args.payloads.now (sym c.first_t
 
 pub returns-in_default-prepare-clause-any_moment_err : goal.returns-in_default-prepare-clause-any_moment_err
 returns-in_default-prepare-clause-any_moment_err g c =
-    rw (← c.self.view_is) (λ h1 h2 up. resting (disk g.D.Disk.honest g.D.Disk.content g.D.Disk.image g.D.Disk.moment g.D.Disk.image_since g.D.Disk.faults) g.met.D.Disk.only_now
+    rw (← c.self.view_is) (λ h1 h2 up. resting (disk g.D.Disk) g.met.D.Disk.only_now
     c.self.inside.log c.self.inside.spare c.self.inside.spare_sealed c.self.invariant.0 c.self.invariant.1 h1 h2 up c.args.payloads.now)
 
 pub returns-in_default-prepare-clause-pair_images : goal.returns-in_default-prepare-clause-pair_images
 returns-in_default-prepare-clause-pair_images g c =
-    rw (← c.self.view_is) (λ h1 h2 up. images_before (disk g.D.Disk.honest g.D.Disk.content g.D.Disk.image g.D.Disk.moment g.D.Disk.image_since g.D.Disk.faults) g.met.D.Disk.only_now
+    rw (← c.self.view_is) (λ h1 h2 up. images_before (disk g.D.Disk) g.met.D.Disk.only_now
     c.self.inside.log c.self.inside.spare c.self.inside.spare_sealed c.self.invariant.0 c.self.invariant.1 h1 h2 up c.args.payloads.now c.self.inside.swapped c.self.inside.spare
-    (resting (disk g.D.Disk.honest g.D.Disk.content g.D.Disk.image g.D.Disk.moment g.D.Disk.image_since g.D.Disk.faults) g.met.D.Disk.only_now
+    (resting (disk g.D.Disk) g.met.D.Disk.only_now
     c.self.inside.log c.self.inside.spare c.self.inside.spare_sealed c.self.invariant.0 c.self.invariant.1 h1 h2 up c.args.payloads.now))
 
 pub returns-then-is_err-clause-any_moment_err : goal.returns-then-is_err-clause-any_moment_err
@@ -41,7 +41,7 @@ returns-then-is_err-clause-any_moment_err g c =
 
 pub returns-then-is_err-clause-pair_images : goal.returns-then-is_err-clause-pair_images
 returns-then-is_err-clause-pair_images g c =
-    rw (← c.self.view_is) (λ h1 h2 up. images_before (disk g.D.Disk.honest g.D.Disk.content g.D.Disk.image g.D.Disk.moment g.D.Disk.image_since g.D.Disk.faults) g.met.D.Disk.only_now
+    rw (← c.self.view_is) (λ h1 h2 up. images_before (disk g.D.Disk) g.met.D.Disk.only_now
     c.self.inside.log c.self.inside.spare c.self.inside.spare_sealed c.self.invariant.0 c.self.invariant.1 h1 h2 up c.args.payloads.now c.self.inside.swapped c.replace_file.new.disk
     (c.replace_file.ensures.any_moment h2 c.args.payloads.now (all_short c.args.payloads.now (sym c.first_too_long.ensures ∙ c.in_default.is))
     (c.deref.ensures.value ∙ c.in-Ok.ensures.bytes) (header_of 2) c.self.inside.log.epoch (c.self.invariant.1.beside h1 h2 up)))
@@ -59,15 +59,15 @@ move_over-requires-clause-file g c = λ h.
 pub invariant_of-self-2 : goal.invariant_of-self-2
 invariant_of-self-2 g c = (
   c.move_over.ensures.log,
-  rw c.move_over.ensures.disk_before (is_pair_over (disk g.D.Disk.honest g.D.Disk.content g.D.Disk.image g.D.Disk.moment g.D.Disk.image_since g.D.Disk.faults) g.met.D.Disk.only_now
+  rw c.move_over.ensures.disk_before (is_pair_over (disk g.D.Disk) g.met.D.Disk.only_now
       c.self.inside.log c.self.inside.spare c.self.inside.spare_sealed c.self.invariant.0 c.self.invariant.1
       c.move_over.new.self c.move_over.ensures.log c.if-self.false c.move_over.ensures.down c.move_over.ensures.header c.move_over.ensures.epoch),
 )
 
 pub returns-clause-kept : goal.returns-clause-kept
 returns-clause-kept g c =
-    rw c.move_over.ensures.disk_before (pair_keeps (disk g.D.Disk.honest g.D.Disk.content g.D.Disk.image g.D.Disk.moment g.D.Disk.image_since g.D.Disk.faults) g.met.D.Disk.only_now
-    c.move_over.new.self c.self.inside.log.disk true c.move_over.ensures.log (is_pair_over (disk g.D.Disk.honest g.D.Disk.content g.D.Disk.image g.D.Disk.moment g.D.Disk.image_since g.D.Disk.faults) g.met.D.Disk.only_now
+    rw c.move_over.ensures.disk_before (pair_keeps (disk g.D.Disk) g.met.D.Disk.only_now
+    c.move_over.new.self c.self.inside.log.disk true c.move_over.ensures.log (is_pair_over (disk g.D.Disk) g.met.D.Disk.only_now
     c.self.inside.log c.self.inside.spare c.self.inside.spare_sealed c.self.invariant.0 c.self.invariant.1
     c.move_over.new.self c.move_over.ensures.log c.if-self.false c.move_over.ensures.down c.move_over.ensures.header c.move_over.ensures.epoch))
 
@@ -78,25 +78,25 @@ returns-clause-any_moment g c =
 
 pub returns-clause-pair_images : goal.returns-clause-pair_images
 returns-clause-pair_images g c =
-    rw (← c.self.view_is, c.move_over.ensures.disk, c.move_over.ensures.disk_before) (λ h1 h2 up. images_after (disk g.D.Disk.honest g.D.Disk.content g.D.Disk.image g.D.Disk.moment g.D.Disk.image_since g.D.Disk.faults) g.met.D.Disk.only_now
+    rw (← c.self.view_is, c.move_over.ensures.disk, c.move_over.ensures.disk_before) (λ h1 h2 up. images_after (disk g.D.Disk) g.met.D.Disk.only_now
     c.self.inside.log c.self.inside.spare c.self.inside.spare_sealed c.self.invariant.0 c.self.invariant.1 h1 h2 up c.args.payloads.now c.self.inside.swapped c.replace_file.new.disk
     (c.replace_file.ensures.any_moment h2 c.args.payloads.now (all_short c.args.payloads.now (sym c.first_too_long.ensures ∙ c.in_default.is))
     (c.deref.ensures.value ∙ c.in-Ok.ensures.bytes) (header_of 2) c.self.inside.log.epoch (c.self.invariant.1.beside h1 h2 up)))
 
 pub returns-in-Some-clause-kept : goal.returns-in-Some-clause-kept
 returns-in-Some-clause-kept g c =
-    rw (← c.self.view_is) (pair_keeps (disk g.D.Disk.honest g.D.Disk.content g.D.Disk.image g.D.Disk.moment g.D.Disk.image_since g.D.Disk.faults) g.met.D.Disk.only_now
+    rw (← c.self.view_is) (pair_keeps (disk g.D.Disk) g.met.D.Disk.only_now
     c.self.inside.log c.self.inside.spare c.self.inside.spare_sealed c.self.invariant.0 c.self.invariant.1)
 
 pub returns-in_default-prepare-clause-kept : goal.returns-in_default-prepare-clause-kept
 returns-in_default-prepare-clause-kept g c =
-    rw (← c.self.view_is) (pair_keeps (disk g.D.Disk.honest g.D.Disk.content g.D.Disk.image g.D.Disk.moment g.D.Disk.image_since g.D.Disk.faults) g.met.D.Disk.only_now
+    rw (← c.self.view_is) (pair_keeps (disk g.D.Disk) g.met.D.Disk.only_now
     c.self.inside.log c.self.inside.spare c.self.inside.spare_sealed c.self.invariant.0 c.self.invariant.1)
 
 pub invariant_of-self : goal.invariant_of-self
 invariant_of-self g c = (
-  is_log_stopped (disk g.D.Disk.honest g.D.Disk.content g.D.Disk.image g.D.Disk.moment g.D.Disk.image_since g.D.Disk.faults) c.self.inside.log c.self.inside.spare c.self.inside.spare_sealed c.self.invariant.0 c.self.invariant.1 c.if-self.false,
-  is_pair_stopped (disk g.D.Disk.honest g.D.Disk.content g.D.Disk.image g.D.Disk.moment g.D.Disk.image_since g.D.Disk.faults) c.self.inside.log c.self.inside.spare c.self.inside.spare_sealed c.self.invariant.0 c.self.invariant.1 c.if-self.false
+  is_log_stopped (disk g.D.Disk) c.self.inside.log c.self.inside.spare c.self.inside.spare_sealed c.self.invariant.0 c.self.invariant.1 c.if-self.false,
+  is_pair_stopped (disk g.D.Disk) c.self.inside.log c.self.inside.spare c.self.inside.spare_sealed c.self.invariant.0 c.self.invariant.1 c.if-self.false
       g.met.D.Disk.counts_now c.replace_file.new.disk c.replace_file.ensures.honesty c.replace_file.ensures.count.greatest c.args.payloads.now
       (λ h. c.replace_file.ensures.any_moment h c.args.payloads.now (all_short c.args.payloads.now (sym c.first_too_long.ensures ∙ c.in_default.is)) (c.deref.ensures.value ∙ c.in-Ok.ensures.bytes)),
 )

@@ -47,7 +47,7 @@ pub returns-clause-kept : goal.returns-clause-kept
 returns-clause-kept g c = λ h1 h2.
     let payloads = c.args.found.payloads.items in
     let went_well = sym c.is_err.ensures.value ∙ c.if-is_err.false in
-    keeps_pair (disk g.D.Disk.honest g.D.Disk.content g.D.Disk.image g.D.Disk.moment g.D.Disk.image_since g.D.Disk.faults) (header_of 2) (c.args.found.epoch + 1) payloads c.replace_file.new.disk c.args.used refl
+    keeps_pair (disk g.D.Disk) (header_of 2) (c.args.found.epoch + 1) payloads c.replace_file.new.disk c.args.used refl
     (on_ok_told c.replace_file.result went_well (c.replace_file.ensures.file (sym c.replace_file.ensures.honesty ∙ h1) payloads c.requires.short (c.deref.ensures.value ∙ c.requires.bytes)))
     (on_ok_told c.replace_file.result went_well (c.replace_file.ensures.durable (sym c.replace_file.ensures.honesty ∙ h1)))
     (old_beside c.args.found.epoch (c.args.found.epoch + 1) payloads (g.D.Disk.content c.args.used) (c.requires.file h2)) (c.requires.durable h2)

@@ -1,6 +1,6 @@
 use Rattle.std.proofs.Common.{◌∙◌, sym, ap}
 use Rattle.esm_model.specs.Entries.{is_running}
-use Rattle.esm_tables.specs.declared.lane_state.LaneState.{LaneState}
+use Rattle.esm_shard_index.specs.declared.lane_state.LaneState.{LaneState}
 use Rattle.esm_ledger.specs.Shard.{closing_in}
 use Rattle.esm_ledger.specs.Ledger.{past_of}
 use Rattle.esm_ledger.proofs.Readings.{lane_known, runs_low, runs_absent, closing_here, clash}

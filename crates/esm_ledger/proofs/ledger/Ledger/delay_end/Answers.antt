@@ -1,7 +1,7 @@
 use Rattle.std.proofs.Common.{◌∙◌, ◌≤◌, sym, ap, subst}
 use Rattle.esm_model.specs.declared.moment.TheConstants.{MAX_MOMENT}
 use Rattle.esm_model.specs.Batches.{delay_from}
-use Rattle.esm_tables.specs.declared.lane_state.LaneState.{LaneState}
+use Rattle.esm_shard_index.specs.declared.lane_state.LaneState.{LaneState}
 use Rattle.esm_ledger.proofs.Readings.{lane_known, lane_bounds, delay_absent, delay_here}
 use Rattle.esm_ledger.proofs.ledger.Ledger.delay_end.Goals as goal
 

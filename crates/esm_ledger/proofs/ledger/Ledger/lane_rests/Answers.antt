@@ -1,6 +1,6 @@
 use Rattle.std.proofs.Common.{refl, ap}
 use Rattle.std.specs.Vec.{with_item}
-use Rattle.esm_tables.specs.LaneView.{LaneView}
+use Rattle.esm_shard_index.specs.LaneView.{LaneView}
 use Rattle.esm_ledger.specs.declared.ledger.Ledger.{Ledger}
 use Rattle.esm_ledger.specs.declared.shard.ShardLedger.{ShardLedger}
 use Rattle.esm_ledger.specs.Adding.{RestsAt}

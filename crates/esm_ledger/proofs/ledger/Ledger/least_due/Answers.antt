@@ -1,5 +1,5 @@
 use Rattle.std.proofs.Common.{Bool, subst, arith}
-use Rattle.esm_tables.specs.Windows.{IsLeastDue}
+use Rattle.esm_shard_index.specs.Windows.{IsLeastDue}
 use Rattle.esm_ledger.specs.Ledger.{past_of, setting_of}
 use Rattle.esm_ledger.proofs.Readings.{no_records, windows_here, least_none, least_here}
 use Rattle.esm_ledger.proofs.ledger.Ledger.least_due.Goals as goal

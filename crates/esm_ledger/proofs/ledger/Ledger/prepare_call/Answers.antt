@@ -1,14 +1,14 @@
 use Rattle.std.proofs.Common.{◌≤◌, refl, ap}
 use Rattle.std.specs.Vec.{with_item}
 use Rattle.std.proofs.lemmas.Result.{on_ok_weaker}
-use Rattle.esm_tables.specs.LaneView.{lane_in}
+use Rattle.esm_shard_index.specs.LaneView.{lane_in}
 use Rattle.esm_ledger.specs.declared.ledger.Ledger.{Ledger}
 use Rattle.esm_ledger.specs.declared.shard.ShardLedger.{ShardLedger}
 use Rattle.esm_ledger.proofs.ShardChanges.{found_at, set_at, at_set, prepared, prepared_splits, changed_set, HasAsMany}
 use Rattle.esm_ledger.proofs.Readings.{lane_known}
 use Rattle.esm_ledger.proofs.Prepared.{others_set, others_none, prepared_elsewhere, splits_more, states_over}
 use Rattle.esm_ledger.specs.Adding.{KeepsStates}
-use Rattle.esm_tables.specs.Windows.{WindowTable}
+use Rattle.esm_shard_index.specs.Windows.{WindowTable}
 use Rattle.esm_ledger.proofs.ledger.Ledger.prepare_call.Goals as goal
 
 pub prepare_call-requires : goal.prepare_call-requires

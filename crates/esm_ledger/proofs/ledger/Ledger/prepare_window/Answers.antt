@@ -1,7 +1,7 @@
 use Rattle.std.proofs.Common.{◌≡◌, true, refl}
 use Rattle.std.specs.Vec.{with_item}
 use Rattle.std.proofs.lemmas.Result.{on_ok_weaker}
-use Rattle.esm_tables.specs.WindowEntries.{has_entry}
+use Rattle.esm_shard_index.specs.WindowEntries.{has_entry}
 use Rattle.esm_ledger.specs.declared.ledger.Ledger.{Ledger}
 use Rattle.esm_ledger.specs.declared.shard.ShardLedger.{ShardLedger}
 use Rattle.esm_ledger.proofs.ShardChanges.{found_at, set_at, at_set, prepared, same_splits, changed_set, HasAsMany}

@@ -7,7 +7,7 @@ use Rattle.esm_ledger.specs.Ledger.{past_of, setting_of}
 use Rattle.esm_ledger.specs.Adding.{KeepsSplits, KeepsStates}
 use Rattle.esm_ledger.proofs.ShardChanges.{found_at, set_at, changed_set, shards_set, shards_none, splits_stay, leaves_began, relabel, changed_none}
 use Rattle.esm_ledger.proofs.Prepared.{others_set, others_none}
-use Rattle.esm_tables.specs.Windows.{WindowTable}
+use Rattle.esm_shard_index.specs.Windows.{WindowTable}
 use Rattle.esm_ledger.proofs.ledger.Ledger.shard_began.Goals as goal
 
 pub began-requires-clause-came : goal.began-requires-clause-came

@@ -1,7 +1,7 @@
 use Rattle.std.proofs.Common.{refl, ap, ◌∷◌}
 use Rattle.std.specs.Vec.{with_item}
 use Rattle.esm_model.specs.declared.entry.Entry.TheVariants.{Closed}
-use Rattle.esm_tables.specs.LaneView.{Table, lane_in}
+use Rattle.esm_shard_index.specs.LaneView.{Table, lane_in}
 use Rattle.esm_ledger.specs.declared.ledger.Ledger.{Ledger}
 use Rattle.esm_ledger.specs.Shard.{lane_id}
 use Rattle.esm_ledger.specs.Ledger.{past_of, setting_of}

@@ -2,7 +2,7 @@ use Rattle.std.proofs.Common.{refl, ap, ◌∷◌, ◌≡◌}
 use Rattle.std.specs.Vec.{with_item}
 use Rattle.esm_model.specs.declared.entry.Entry.TheVariants.{Gave}
 use Rattle.std.proofs.lemmas.Option.{IfSome_then}
-use Rattle.esm_tables.specs.LaneView.{Table, lane_in}
+use Rattle.esm_shard_index.specs.LaneView.{Table, lane_in}
 use Rattle.esm_ledger.specs.declared.ledger.Ledger.{Ledger}
 use Rattle.esm_ledger.specs.Ledger.{past_of, setting_of}
 use Rattle.esm_ledger.specs.Adding.{KeepsSplits, KeepsStates, KeepsClosings}

@@ -1,5 +1,5 @@
 use Rattle.std.proofs.Common.{sym, ap, ◌∙◌}
-use Rattle.esm_tables.specs.Windows.{window_before}
+use Rattle.esm_shard_index.specs.Windows.{window_before}
 use Rattle.esm_ledger.specs.Ledger.{past_of, setting_of}
 use Rattle.esm_ledger.specs.Measuring.{last_window}
 use Rattle.esm_ledger.proofs.Ledgers.{nowhere_none}

@@ -1,9 +1,9 @@
 use Rattle.std.proofs.Common.{◌≡◌, ℕ, ◌+◌, List, ◌++◌, map, filter, length, is_some, vec_len, Option, Bool, cond, ap, ◌∙◌, arith, rules}
 use Rattle.esm_model.specs.declared.entry.Fate.{Fate}
 use Rattle.esm_model.specs.Fates.{is_fate}
-use Rattle.esm_tables.specs.FateCounts.{count_in}
-use Rattle.esm_tables.specs.LaneView.{LaneView, lane_in}
-use Rattle.esm_tables.specs.Windows.{open_in, times}
+use Rattle.esm_shard_index.specs.FateCounts.{count_in}
+use Rattle.esm_shard_index.specs.LaneView.{LaneView, lane_in}
+use Rattle.esm_shard_index.specs.Windows.{open_in, times}
 use Rattle.esm_ledger.specs.declared.arriving.Landing.{Landing}
 use Rattle.esm_ledger.specs.Arriving.{landed}
 use Rattle.esm_ledger.proofs.Landings.{shard_came, landed_splits, landed_state}

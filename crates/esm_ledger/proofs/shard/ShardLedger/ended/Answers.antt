@@ -3,9 +3,9 @@ use Rattle.std.specs.Prelude.{if◌then◌else◌}
 use Rattle.esm_model.specs.Entries.{holds}
 use Rattle.esm_model.specs.Ruling.{capped_tries, is_counted}
 use Rattle.esm_model.specs.Tries.{is_closed_by}
-use Rattle.esm_tables.specs.declared.lane_state.LaneState.{LaneState}
-use Rattle.esm_tables.specs.Callings.{response_at}
-use Rattle.esm_tables.specs.Windows.{tries_in}
+use Rattle.esm_shard_index.specs.declared.lane_state.LaneState.{LaneState}
+use Rattle.esm_shard_index.specs.Callings.{response_at}
+use Rattle.esm_shard_index.specs.Windows.{tries_in}
 use Rattle.esm_ledger.specs.Shard.{closing_in}
 use Rattle.esm_ledger.proofs.Shards.{shard_ended}
 use Rattle.esm_ledger.proofs.shard.ShardLedger.ended.Goals as goal

@@ -1,6 +1,6 @@
 use Rattle.std.proofs.Common.{ℕ, List, ◌-◌, Option, ap, ◌∙◌}
-use Rattle.esm_tables.specs.WindowEntries.{text_at}
-use Rattle.esm_tables.specs.Windows.{open_in, times}
+use Rattle.esm_shard_index.specs.WindowEntries.{text_at}
+use Rattle.esm_shard_index.specs.Windows.{open_in, times}
 use Rattle.esm_ledger.specs.declared.measure.Measure.{Measure}
 use Rattle.esm_ledger.specs.Shard.{windows_at}
 use Rattle.esm_ledger.proofs.Gifts.{shard_expired}

@@ -3,7 +3,7 @@ use Rattle.std.specs.Prelude.{All, filter}
 use Rattle.std.specs.Vec.{vec_capacity}
 use Rattle.esm_model.specs.declared.limits.TheConstants.{MAX_BATCH}
 use Rattle.esm_model.specs.QueueReading.{queue_reading}
-use Rattle.esm_payload.specs.EntryPayload.{ids_at}
+use Rattle.esm_journal_record.specs.EntryPayload.{ids_at}
 use Rattle.esm_queue_model.specs.Queue.{is_deleted_at}
 use Rattle.esm_queue_model.specs.QueueStep.{succeeded_by}
 use Rattle.esm_queue_core.specs.declared.standing.Standing.TheVariants.{Whole}

@@ -1,7 +1,8 @@
 use Rattle.std.proofs.Common.{rules, ◌≡◌, ◌∙◌, ℕ, List, false, sym, ap, subst}
-use Rattle.esm_record.specs.declared.item.LineKind.{LineKind}
+use Rattle.esm_model.specs.declared.item.LineKind.{LineKind}
 use Rattle.std.specs.List.{All}
-use Rattle.esm_record.specs.Input.{input_so_far, input_of, IsValidItem}
+use Rattle.esm_model.specs.Items.{IsValidItem}
+use Rattle.esm_record.specs.Input.{input_so_far, input_of}
 use Rattle.esm_record.proofs.Feeds.{fed_from}
 use Rattle.esm_record.proofs.Valid.{whole_valid}
 use Rattle.esm_record.proofs.lines.Lines.finish.Goals as goal

@@ -11,7 +11,7 @@ use Rattle.esm_turn.proofs.turn.Turn.give.Goals as goal
 pub store-requires : goal.store-requires
 store-requires g c =
     let T = g.row.T.Denot in
-    let m = meaning g.T.Kept.setup g.T.Kept.history g.T.Kept.mark g.T.Kept.change g.T.Kept.author g.T.Kept.may_follow in
+    let m = meaning g.T.Kept in
     let shared = c.self.inside.table.shared in
     let inner = c.seat.inside.inner in
     let seat = c.exchange-empty.new.seat in

@@ -9,7 +9,7 @@ use Rattle.esm_turn.proofs.turn.Turn.new.Goals as goal
 pub new-made-requires : goal.new-made-requires
 new-made-requires g c =
     let T = g.row.T.Denot in
-    let m = meaning g.T.Kept.setup g.T.Kept.history g.T.Kept.mark g.T.Kept.change g.T.Kept.author g.T.Kept.may_follow in
+    let m = meaning g.T.Kept in
     let value : T = c.args.value in
     let made : T = c.of.result.value in
     let same : value ≡ made = sym c.of.ensures in

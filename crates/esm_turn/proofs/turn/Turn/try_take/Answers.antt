@@ -13,7 +13,7 @@ use Rattle.esm_turn.proofs.turn.Turn.try_take.Goals as goal
 pub compare_exchange-found-requires : goal.compare_exchange-found-requires
 compare_exchange-found-requires g c =
     let T = g.row.T.Denot in
-    let m = meaning g.T.Kept.setup g.T.Kept.history g.T.Kept.mark g.T.Kept.change g.T.Kept.author g.T.Kept.may_follow in
+    let m = meaning g.T.Kept in
     let shared = c.self.inside.table.shared in
     let inner = c.seat.inside.inner in
     let setup = g.T.Kept.setup shared.key.made.value in

@@ -1,5 +1,0 @@
-use Rattle.esm_arrival.proofs.Counted.{all_counted}
-use Rattle.esm_arrival.proofs.laws.all_have_come.Goals as goal
-
-pub returns : goal.returns
-returns c ledger keeps n = all_counted ledger keeps n

@@ -1,0 +1,4 @@
+pub mod OpenedDisks
+pub mod Ends
+pub mod Rewrites
+pub mod Versions

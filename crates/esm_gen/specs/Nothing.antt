@@ -1,0 +1,10 @@
+-- A journal that says nothing. Only this crate's proofs cite this.
+use Rattle.std.specs.Prelude.{◌≡◌, []}
+use Rattle.esm_journal_state.specs.SaidLists.{SaidLists}
+
+-- of fates, tries and windows
+pub record SaysNothing (said : SaidLists) : Type 0 where
+  pub fates : said.fates ≡ []
+  pub tries : said.tries ≡ []
+  pub states : said.states ≡ []
+  pub window_tries : said.window_tries ≡ []

@@ -1,0 +1,92 @@
+// The function of a generated stream, as a caller of it.
+ghost use Rattle.std.specs.Prelude.{◌≡◌, Some, [], ◌∷◌, length, map, IfOk, OnErr};
+ghost use Rattle.std.specs.List.{All};
+ghost use Rattle.esm_model.specs.declared.limits.TheConstants.{MAX_LANES};
+ghost use Rattle.esm_model.specs.declared.called.Called.{Called};
+ghost use Rattle.esm_io.specs.Faults.{IsCount, Rose};
+ghost use Rattle.esm_io.specs.Told.{Grows};
+ghost use Rattle.esm_io.specs.Caller.{CallerState};
+ghost use Rattle.esm_gen.specs.Function.{IsFunction};
+
+use crate::mapping::poisoned_key;
+use esm_io::{Caller, Script, ScriptCaller};
+use esm_model::{MAX_LANES, OutOfMemory, Reply};
+use std::alloc::Global;
+use std::marker::Model;
+
+/// A caller of the function of a generated stream, in memory. It fails the events that hold a record of one key, none of its
+/// calls is lost, and contracts see them all.
+#[derive(Drop)]
+pub struct FunctionCaller {
+    caller: ScriptCaller,
+}
+
+impl Model for FunctionCaller {
+    ghost use Rattle.esm_io.specs.Caller.{CallerState};
+    ghost use Rattle.esm_gen.specs.Function.{IsFunction};
+
+    ghost Value = { CallerState };
+
+    ghost view = { λ f. f.caller };
+
+    ghost invariant = { λ f. IsFunction f.caller };
+}
+
+impl FunctionCaller {
+    /// A caller of which no call was made.
+    fn new(alloc: Global) -> Result<Self, OutOfMemory>
+        ensures { IfOk result (λ f. f.log ≡ []) }
+    {
+        let script = Script::Poison(poisoned_key(alloc)?);
+        Ok(FunctionCaller {
+            caller: ScriptCaller::new(alloc, script, Vec::new(alloc)),
+        })
+    }
+
+    /// What is true of every caller of the function. Does nothing.
+    fn keeps(&self)
+        ensures { IsFunction self.now }
+    {
+        let _ = &self.caller;
+    }
+}
+
+impl Caller for FunctionCaller {
+    ghost faults = { λ f. f.schedule.faults };
+
+    ghost sends = { λ event. event };
+
+    ghost log = { λ f. Some f.log };
+
+    fn call(&mut self, alloc: Global, name: &str, event: &[u8]) -> Result<Reply, OutOfMemory>
+        ensures logged { IfOk result (λ reply. Grows (Some self.old.log) (Some self.new.log)
+            (record { name = name.now; event = event.now; reply = reply } ∷ [])) }
+        ensures unlogged { OnErr result (Some self.new.log ≡ Some self.old.log) }
+        ensures count { IsCount self.old.schedule.faults self.new.schedule.faults }
+        ensures lost { IfOk result (λ reply. reply ≡ Reply.Lost → Rose self.old.schedule.faults self.new.schedule.faults) }
+    {
+        self.caller.call(alloc, name, event)
+    }
+}
+
+/// The callers of the function, one for each batcher. No call was made.
+pub fn function_callers(alloc: Global) -> Result<Vec<FunctionCaller>, OutOfMemory>
+    ensures count { IfOk result (λ callers. length callers.items ≡ MAX_LANES) }
+    ensures unused { IfOk result (λ callers. All (λ f. f.log ≡ []) callers.items) }
+{
+    let mut callers = Vec::with_capacity(alloc, MAX_LANES)?;
+    for batcher in 0..MAX_LANES {
+        let caller = FunctionCaller::new(alloc)?;
+        callers.push(caller)?;
+    }
+    Ok(callers)
+}
+
+/// What is true of callers of the function, whatever was called. Does nothing.
+pub fn all_keep(callers: &[FunctionCaller])
+    ensures { All IsFunction callers.now }
+{
+    for caller in callers {
+        caller.keeps();
+    }
+}

@@ -1,0 +1,34 @@
+// The report of a generated stream's run.
+ghost use Rattle.std.specs.Prelude.{◌≡◌, ◌++◌, reverse, IfOk};
+ghost use Rattle.esm_model.specs.Setting.{Setting};
+ghost use Rattle.esm_report.specs.Report.{calls_text, last_line, line};
+ghost use Rattle.esm_report.specs.declared.ending.Ending.TheVariants.{Done};
+ghost use Rattle.esm_gen.specs.Report as spec;
+
+use esm_journal_state::Says;
+use esm_model::{Entry, OutOfMemory};
+use esm_report::{Ending, push_calls_line, push_last_line, report};
+use std::alloc::Global;
+
+/// The line of the calls and the last line, of a run that is done.
+fn calls_and_end(alloc: Global, trace: &[Entry]) -> Result<Vec<u8>, OutOfMemory>
+    ensures { IfOk result (λ text. text.items ≡ line (calls_text (reverse trace.now)) ++ last_line Done) }
+{
+    let mut text = Vec::new(alloc);
+    push_calls_line(&mut text, trace)?;
+    push_last_line(&mut text, &Ending::Done)?;
+    Ok(text)
+}
+
+/// The report of a run that is done and whose history is `trace`, the oldest entry first, where the journal said `said` at
+/// its opening: a line for each shard that came, and the last line. How often the function was called is not told.
+pub fn generated_report(alloc: Global, said: &Says, trace: &[Entry]) -> Result<Vec<u8>, OutOfMemory>
+    ensures { IfOk result (λ text. (s : Setting) → s.fates ≡ said.now.fates
+        → text.items ≡ spec.generated_report s (reverse trace.now)) }
+{
+    let mut text = report(alloc, said, trace, &Ending::Done)?;
+    let calls = calls_and_end(alloc, trace)?;
+    text.truncate(text.len().saturating_sub(calls.len()));
+    push_last_line(&mut text, &Ending::Done)?;
+    Ok(text)
+}

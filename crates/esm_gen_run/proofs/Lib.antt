@@ -1,6 +1,0 @@
-mod Begun
-mod Fresh
-mod Limits
-mod Nothing
-mod Runs
-mod Told

@@ -1,5 +1,0 @@
-pub mod Function
-pub mod Nothing
-pub mod Prepared
-pub mod Report
-pub mod Run

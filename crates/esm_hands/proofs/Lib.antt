@@ -1,5 +1,0 @@
-mod Going
-mod Packed
-mod Closed
-mod Read
-mod Whole

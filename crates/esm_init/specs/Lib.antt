@@ -1,4 +1,0 @@
-pub mod Init
-pub mod Making
-pub mod Sizes
-pub mod Text

@@ -1,0 +1,72 @@
+// A list of payloads, read one after the other.
+ghost use Rattle.std.specs.Prelude.{◌≡◌, ℕ, List, ◌∷◌, true, reverse, IfOk, OnOk, IfErr};
+ghost use Rattle.esm_journal_record.specs.declared.said.Said.{Said};
+ghost use Rattle.esm_journal_state.specs.Bad.{IsFirstBad, IsAt};
+ghost use Rattle.esm_journal_state.specs.Meaning.{history, is_good, are_good};
+ghost use Rattle.esm_journal_state.specs.Table.{IsTable};
+ghost use Rattle.esm_journal_state.specs.Tells.{Tells};
+ghost use Rattle.esm_journal_state.specs.SaidLists.{IsInOrder};
+
+use crate::add::add;
+use crate::error::SaysError;
+use crate::gather::gathered;
+use crate::judge::is_bad;
+use crate::lookup::Says;
+use crate::table::{Table, empty_table};
+use esm_journal_record::read_said;
+use esm_model::{Bytes, OutOfMemory};
+use std::alloc::Global;
+
+/// Adds what one more payload says, where it is good.
+fn take(alloc: Global, table: &mut Table, payload: &[u8]) -> Result<bool, OutOfMemory>
+    ensures judged { IfOk result (λ good. (h : List Said) → IsTable table.old h → good ≡ is_good h payload.now) }
+    ensures added { IfOk result (λ good. good ≡ true → (payloads : List (List ℕ)) → IsTable table.old (history payloads)
+        → IsTable table.new (history (payload.now ∷ payloads))) }
+{
+    let Some(said) = read_said(alloc, payload)? else {
+        return Ok(false);
+    };
+    if is_bad(table, &said) {
+        return Ok(false);
+    }
+    add(alloc, table, &said)?;
+    Ok(true)
+}
+
+/// That the payload with this index is bad. No memory holds so many that 32 bits do not count them.
+fn bad_payload(index: usize) -> SaysError
+    ensures { IsAt index result }
+{
+    match u32::try_from(index) {
+        Ok(index) => SaysError::BadPayload(index),
+        Err(_) => SaysError::OutOfMemory,
+    }
+}
+
+/// What the payloads say, the oldest first.
+pub(crate) fn table_of(alloc: Global, payloads: &[Bytes]) -> Result<Table, SaysError>
+    ensures table { IfOk result (λ t. IsTable t (history (reverse payloads.now))) }
+    ensures good { OnOk result (are_good (reverse payloads.now) ≡ true) }
+    ensures bad { IfErr result (λ e. IsFirstBad payloads.now e) }
+{
+    let mut table = empty_table(alloc);
+    for (index, payload) in payloads.iter().enumerate() {
+        if !take(alloc, &mut table, payload.as_slice())? {
+            return Err(bad_payload(index));
+        }
+    }
+    Ok(table)
+}
+
+/// What the payloads say, the oldest first. Near-linear in their bytes: each place costs a logarithm.
+/// `BadPayload` exactly where a payload is none of a mapping's journal or is bad for a book after those before it, with
+/// the index of the first such one.
+pub fn says(alloc: Global, payloads: &[Bytes]) -> Result<Says, SaysError>
+    ensures told { IfOk result (λ s. Tells s (history (reverse payloads.now))) }
+    ensures order { IfOk result (λ s. IsInOrder s) }
+    ensures good { OnOk result (are_good (reverse payloads.now) ≡ true) }
+    ensures bad { IfErr result (λ e. IsFirstBad payloads.now e) }
+{
+    let table = table_of(alloc, payloads)?;
+    Ok(gathered(alloc, table)?)
+}

@@ -1,3 +1,0 @@
-pub mod Batchers
-pub mod Finishing
-pub mod Items

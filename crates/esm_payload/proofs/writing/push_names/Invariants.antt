@@ -1,6 +1,0 @@
-use Rattle.std.proofs.Common.{◌≡◌, ◌++◌, drop}
-use Rattle.esm_payload.specs.Payload.{names_bytes}
-use Rattle.esm_payload.proofs.writing.push_names.Given as goal
-
-abbrev pub invariant-loop-index : goal.invariant-loop-index
-invariant-loop-index l = l.out.items ++ names_bytes (drop l.index l.places) (drop l.index l.texts) ≡ l.initial.out.items ++ names_bytes l.places l.texts

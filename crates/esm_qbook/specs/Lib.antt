@@ -1,6 +1,0 @@
-pub mod Books
-pub mod Calls
-pub mod Keeping
-pub mod Opening
-pub mod Carried
-pub mod Coming

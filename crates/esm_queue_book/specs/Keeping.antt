@@ -1,0 +1,61 @@
+-- What is true of every queue's book, whoever made its calls. This product's own.
+use Rattle.std.specs.Prelude.{◌≡◌, ◌++◌, List, [], Option, Some, None, false, reverse}
+use Rattle.std.specs.List.{All}
+use Rattle.esm_io.specs.Meanings.{DiskMeaning}
+use Rattle.esm_model.specs.declared.book.Trouble.{Trouble}
+use Rattle.esm_model.specs.declared.book.Trouble.TheVariants.{Disk, Dest, Changed}
+use Rattle.esm_model.specs.declared.entry.Entry.{Entry}
+use Rattle.esm_model.specs.declared.setup.Setup.{Setup}
+use Rattle.esm_queue_model.specs.QueueBooks.{messages_told, IsOfQueue}
+use Rattle.esm_queue_model.specs.QueueStep.{LegalQueue, SettledQueue}
+use Rattle.esm_book.specs.State.{is_disk, in_hand}
+use Rattle.esm_queue_core.specs.declared.decisions.Opened.{Opened}
+use Rattle.esm_queue_core.specs.CoreView.{all_messages}
+use Rattle.esm_queue_core.specs.Told.{told_of, IsChange}
+use Rattle.esm_queue_book.specs.Books.{BookState, payloads_in}
+
+-- The history is legal over the messages that came, each `Came` stands with those that it covers, and where the book is not
+-- down the history is settled.
+pub record IsSound {D : Type 0} (b : BookState D) : Type 0 where
+  -- the messages that came are those that the history tells
+  pub messages : b.core.setting.messages ≡ messages_told (told_of b.core)
+  pub of_queue : All (IsOfQueue b.core.setting.config.kind) (told_of b.core)
+  pub legal : LegalQueue b.core.setting b.core.past
+  pub settled : b.trouble ≡ None → SettledQueue b.core.setting b.core.past
+  -- a book that is not down owes nothing
+  pub none_owed : b.trouble ≡ None → b.core.owed ≡ []
+  -- where nothing is owed no message is coming
+  pub none_coming : b.core.owed ≡ [] → b.core.coming ≡ []
+  -- the history has the same payloads over the messages that came alone
+  pub stays : payloads_in (all_messages b.core) (reverse b.core.past) ≡ payloads_in b.core.setting.messages (reverse b.core.past)
+  -- and so has the entry that was being written, where a disk failed
+  pub hand : payloads_in (all_messages b.core) (in_hand b.trouble b.core.owed) ≡ payloads_in b.core.setting.messages (in_hand b.trouble b.core.owed)
+
+-- the setup is that of the book, whatever it says of the journal
+pub record IsSetupOf {D : Type 0} (setup : Setup) (b : BookState D) : Type 0 where
+  pub config : setup.config ≡ b.core.setting.config
+  pub calls : setup.calls ≡ b.core.setting.calls
+  pub visibility : setup.visibility_ms ≡ b.core.setting.visibility
+  pub deletions : setup.deletions ≡ b.core.setting.deletions
+
+-- why a book is down: a disk failed since the opening, or a message was found deleted and came with another id
+abbrev pub IsCause : Type 0 → Opened → Option Trouble → Type 0
+IsCause disk_failed o None = Unit {0}
+IsCause disk_failed o (Some Disk) = disk_failed
+IsCause disk_failed o (Some Dest) = ⊥
+IsCause disk_failed o (Some (Changed change)) = IsChange o change
+
+-- The journal has what was found and then the payloads of the history. It is the pair that was opened, and down exactly where
+-- a disk failed.
+pub record HasJournal {D : Type 0} (m : DiskMeaning D) (b : BookState D) : Type 0 where
+  pub payloads : b.pair.payloads ≡ b.found.payloads ++ payloads_in (all_messages b.core) (reverse b.core.past)
+  pub down : b.pair.down ≡ is_disk b.trouble
+  pub found_up : b.found.down ≡ false
+  pub epoch : b.pair.epoch ≡ b.found.epoch
+  pub swapped : b.pair.swapped ≡ b.found.swapped
+  pub spare : b.pair.spare ≡ b.found.spare
+  pub honesty : m.honest b.pair.used ≡ m.honest b.found.used
+
+-- the entries whose payloads a crash may leave: those of the history, and where a disk failed the one that was being written
+abbrev pub entries_left : {D : Type 0} → BookState D → List Entry
+entries_left b = reverse b.core.past ++ in_hand b.trouble b.core.owed

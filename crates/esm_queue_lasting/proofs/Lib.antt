@@ -1,4 +1,0 @@
-pub mod Telling
-pub mod Lasting
-pub mod Ending
-pub mod Items

@@ -1,5 +1,0 @@
-use Rattle.esm_queue_lasting.proofs.Items.{none_first}
-use Rattle.esm_queue_lasting.proofs.queue_batchers_begin.Goals as goal
-
-pub returns-clause-items : goal.returns-clause-items
-returns-clause-items c = none_first

@@ -1,5 +1,0 @@
-use Rattle.esm_queue_lasting.proofs.Items.{items_last, shut_last}
-use Rattle.esm_queue_lasting.proofs.queue_items_last.Goals as goal
-
-pub returns : goal.returns
-returns c = record { items = items_last; shut = shut_last }

@@ -1,2 +1,0 @@
-pub mod Batchers
-pub mod Left

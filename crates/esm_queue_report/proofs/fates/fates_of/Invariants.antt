@@ -1,7 +1,0 @@
-use Rattle.std.proofs.Common.{take}
-use Rattle.std.specs.Prelude.{reverse}
-use Rattle.esm_queue_report.specs.Counts.{AreGiven}
-use Rattle.esm_queue_report.proofs.fates.fates_of.Given as goal
-
-abbrev pub invariant-loop-entry : goal.invariant-loop-entry
-invariant-loop-entry l = AreGiven l.fates (reverse (take l.entry-index l.trace))

@@ -1,3 +1,0 @@
-pub mod Queue
-pub mod Counts
-pub mod Worked

@@ -1,7 +1,0 @@
-use Rattle.std.proofs.Common.{◌≡◌, []}
-use Rattle.std.specs.Prelude.{reverse}
-use Rattle.esm_said.specs.Pieces.{pieces_after}
-use Rattle.esm_said.proofs.piece.pieces_of.Given as goal
-
-abbrev pub invariant-loop-group : goal.invariant-loop-group
-invariant-loop-group l = pieces_after (reverse l.pieces.items) l.group-iterator ≡ pieces_after [] l.fn.named.entries

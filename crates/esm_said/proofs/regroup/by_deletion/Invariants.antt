@@ -1,9 +1,0 @@
-use Rattle.std.proofs.Common.{◌≡◌, true, None}
-use Rattle.std.specs.BTreeMap as map
-use Rattle.esm_payload.specs.Payload.{fate_byte}
-use Rattle.esm_said.specs.Pieces.{Key, key_cmp}
-use Rattle.esm_said.proofs.Regrouping.{regrouped}
-use Rattle.esm_said.proofs.regroup.by_deletion.Given as goal
-
-abbrev pub invariant-loop-place : goal.invariant-loop-place
-invariant-loop-place l = (q : Key) → regrouped (λ e. true) (λ e. ((0, fate_byte e.1.fate), e.0)) (λ e. e.1.text) (map.get key_cmp l.named q) l.place-iterator q ≡ regrouped (λ e. true) (λ e. ((0, fate_byte e.1.fate), e.0)) (λ e. e.1.text) None l.deletions.entries q

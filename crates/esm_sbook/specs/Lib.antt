@@ -1,5 +1,0 @@
-pub mod Books
-pub mod Calls
-pub mod Keeping
-pub mod Opening
-pub mod Carried

@@ -1,0 +1,12 @@
+use Rattle.esm_book.specs.Decided.{added}
+use Rattle.esm_stream_core.specs.Told.{history_of}
+use Rattle.esm_stream_book.proofs.Noting.{noted_shut}
+use Rattle.esm_stream_book.proofs.carrying.note_shut.Goals as goal
+
+pub returns : goal.returns
+returns g c =
+    let old = c.args.durable.now in
+    let new = c.note.new.self in
+    let e = c.note.ensures in
+    noted_shut old new c.args.moment (added (history_of old.core) (history_of new.core)) c.requires.sound c.requires.up c.requires.going c.keeps.ensures.in_time
+    (record { history = e.history; origin = e.origin; entries = e.noted; owed = e.owed; rest = e.rest; records = c.keeps-2.ensures.records })

@@ -1,0 +1,65 @@
+-- What is true of every stream's book, whoever made its calls. This product's own.
+use Rattle.std.specs.Prelude.{◌≡◌, ◌++◌, List, Option, Some, None, false, reverse}
+use Rattle.std.specs.List.{All}
+use Rattle.esm_io.specs.Meanings.{DiskMeaning, DestMeaning}
+use Rattle.esm_io.specs.Told.{Grows}
+use Rattle.esm_model.specs.declared.book.Trouble.{Trouble}
+use Rattle.esm_model.specs.declared.book.Trouble.TheVariants.{Disk, Dest, Changed}
+use Rattle.esm_model.specs.declared.entry.Entry.{Entry}
+use Rattle.esm_model.specs.declared.setup.Setup.{Setup}
+use Rattle.esm_model.specs.Books.{IsOfStream, streams_told}
+use Rattle.esm_book.specs.State.{is_disk, is_dest, in_hand}
+use Rattle.esm_ledger.specs.Ledger.{LegalOver}
+use Rattle.esm_outcome.specs.Ending.{SettledOver}
+use Rattle.esm_stream_core.specs.OwingView.{full_setting}
+use Rattle.esm_stream_core.specs.declared.decisions.Opened.{Opened}
+use Rattle.esm_stream_core.specs.Told.{told_of, IsChange}
+use Rattle.esm_stream_book.specs.Books.{BookState, payloads_in, sent_of}
+
+-- The setting has the records that the history tells, each `Came` stands with those that it covers, and the history is
+-- legal over all lists of records that go on from them. Where the book is not down, nothing is called for over any of them.
+pub record IsSound {D T : Type 0} (b : BookState D T) : Type 0 where
+  pub records : b.core.setting.streams ≡ streams_told (told_of b.core)
+  pub of_stream : All IsOfStream (told_of b.core)
+  pub legal : LegalOver b.core.setting b.core.past
+  pub settled : b.trouble ≡ None → SettledOver b.core.setting b.core.past
+
+-- the setup is that of the book, whatever it says of the devices
+pub record IsSetupOf {D T : Type 0} (setup : Setup) (b : BookState D T) : Type 0 where
+  pub config : setup.config ≡ b.core.setting.config
+  pub calls : setup.calls ≡ b.core.setting.calls
+  pub fates : setup.fates ≡ b.core.setting.fates
+  pub tries : setup.tries ≡ b.core.setting.tries
+  pub states : setup.states ≡ b.core.setting.states
+  pub window_tries : setup.window_tries ≡ b.core.setting.window_tries
+
+-- why a book is down: a disk or the destination failed since the opening, or a record came with another sequence number
+-- than was kept of it
+abbrev pub IsCause : (disk_failed dest_failed : Type 0) → Opened → Option Trouble → Type 0
+IsCause disk_failed dest_failed o None = Unit {0}
+IsCause disk_failed dest_failed o (Some Disk) = disk_failed
+IsCause disk_failed dest_failed o (Some Dest) = dest_failed
+IsCause disk_failed dest_failed o (Some (Changed change)) = IsChange o change
+
+-- the entries whose payloads a crash may leave: those of the history, and where a disk failed the one that was being written
+abbrev pub entries_left : {D T : Type 0} → BookState D T → List Entry
+entries_left b = reverse b.core.past ++ in_hand b.trouble b.core.owed
+
+-- The journal has what was found and then the payloads of the history. It is the pair that was opened, and down exactly where
+-- a disk failed.
+pub record HasJournal {D T : Type 0} (m : DiskMeaning D) (b : BookState D T) : Type 0 where
+  pub payloads : b.pair.payloads ≡ b.found.payloads ++ payloads_in (full_setting b.core) (reverse b.core.past)
+  pub down : b.pair.down ≡ is_disk b.trouble
+  pub found_up : b.found.down ≡ false
+  pub epoch : b.pair.epoch ≡ b.found.epoch
+  pub swapped : b.pair.swapped ≡ b.found.swapped
+  pub spare : b.pair.spare ≡ b.found.spare
+  pub honesty : m.honest b.pair.used ≡ m.honest b.found.used
+
+-- The destination has what was found and then the lines of the history; where a disk failed, that of the entry that was
+-- being written may follow. It has failed exactly where the trouble says so.
+pub record HasLines {D T : Type 0} (n : DestMeaning T) (b : BookState D T) : Type 0 where
+  pub lines : Grows (n.lines b.found_dest) (n.lines b.dest) (sent_of n (entries_left b))
+  pub failed : n.failed b.dest ≡ is_dest b.trouble
+  pub found_usable : n.failed b.found_dest ≡ false
+  pub honesty : n.honest b.dest ≡ n.honest b.found_dest

@@ -1,0 +1,8 @@
+pub mod Books
+pub mod Calls
+pub mod Keeping
+pub mod Opening
+pub mod Carried
+pub mod Batchers
+pub mod Finishing
+pub mod Items

@@ -1,0 +1,6 @@
+use Rattle.std.proofs.Common.{rules}
+use Rattle.esm_stream_core.proofs.Keeping.{keeps_shut}
+use Rattle.esm_stream_core.proofs.stream_core.StreamCore.shut.Goals as goal
+
+pub invariant_of-self : goal.invariant_of-self
+invariant_of-self c = search (rules, keeps_shut c.self.inside)

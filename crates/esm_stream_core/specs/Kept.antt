@@ -1,0 +1,125 @@
+-- What is kept beside a ledger of what is owed. Only this crate's proofs cite this.
+use Rattle.std.specs.Prelude.{◌≡◌, ℕ, ◌+◌, ◌<◌, ◌≤◌, not, List, [], ◌∷◌, length, filter, vec_len, vec_capacity, if◌then◌else◌}
+use Rattle.esm_model.specs.declared.limits.TheConstants.{MAX_ENTRIES}
+use Rattle.esm_model.specs.declared.moment.TheConstants.{MAX_MOMENT}
+use Rattle.esm_model.specs.declared.lane.LaneId.{LaneId}
+use Rattle.esm_model.specs.declared.entry.Entry.{Entry}
+use Rattle.esm_model.specs.declared.entry.Entry.TheVariants as entry
+use Rattle.esm_model.specs.Lane.{same_lane}
+use Rattle.esm_model.specs.Entries.{moment_of, last_moment, is_shut, came_count, calls_begun}
+use Rattle.esm_shard_index.specs.Progress.{IsProgress}
+use Rattle.esm_ledger.specs.declared.ledger.Ledger.{Ledger}
+use Rattle.esm_ledger.specs.declared.coming.Coming.{Coming}
+use Rattle.esm_ledger.specs.declared.shard.ShardLedger.{ShardLedger}
+use Rattle.esm_ledger.specs.Ledger.{past_of, setting_of, LegalOver, IsAt, HasRoom, Keeps}
+use Rattle.esm_outcome.specs.Ending.{SettledOver}
+use Rattle.esm_record_bounds.specs.Bounds.{AreWithinBounds}
+use Rattle.esm_stream_core.specs.declared.owed.Act.{Act}
+use Rattle.esm_stream_core.specs.declared.owed.Owed.{Owed}
+use Rattle.esm_stream_core.specs.declared.standing.Standing.{Standing}
+use Rattle.esm_stream_core.specs.declared.standing.Standing.TheVariants.{Whole, Paying, Left}
+use Rattle.esm_stream_core.specs.OwingView.{MayAdd, setting_after, setting_with, lines_of}
+use Rattle.esm_stream_core.specs.Acts.{act_entry, cost_of, IsReady, entries_of, parts_of, costs, ArePayable, AreWritten}
+
+-- room
+
+-- the lanes whose last call has not ended
+abbrev pub lanes_after : List LaneId → Entry → List LaneId
+lanes_after before (entry.Began lane places closing moment) = lane ∷ before
+lanes_after before (entry.Ended lane reply moment) = filter (λ at. not (same_lane lane at)) before
+lanes_after before _ = before
+
+abbrev pub running_lanes : List Entry → List LaneId
+running_lanes [] = []
+running_lanes (e ∷ h) = lanes_after (running_lanes h) e
+
+-- the ends of the calls that run, and the end of the input
+abbrev pub ends_of : List Entry → ℕ
+ends_of h = length (running_lanes h) + (if is_shut h then 0 else 1)
+
+-- they have their places in the history
+pub record HasPlaces (c : Ledger) : Type 0 where
+  pub room : vec_len c.history + ends_of (past_of c) ≤ vec_capacity c.history
+  pub short : vec_len c.history + ends_of (past_of c) < MAX_ENTRIES
+
+-- the history alone went on by an entry
+pub record IsPushed (c d : Ledger) (e : Entry) : Type 0 where
+  pub past : past_of d ≡ e ∷ past_of c
+  pub shards : d.shards ≡ c.shards
+  pub setting : setting_of d ≡ setting_of c
+  pub last : d.last ≡ moment_of e
+  pub shut : c.shut ≡ is_shut (past_of c) → d.shut ≡ is_shut (past_of d)
+  pub begun : d.begun ≡ c.begun
+  pub len : vec_len d.history ≡ vec_len c.history + 1
+  pub capacity : vec_capacity d.history ≡ vec_capacity c.history
+
+-- how far more is decided
+
+-- the ledger keeps what the history says, and can add what is owed; then nothing is called for
+pub record Stands (c : Ledger) (xs : List Coming) (owed : List Owed) : Type 0 where
+  pub keeps : Keeps c
+  pub settles : MayAdd (setting_of c) (past_of c) (parts_of xs) (entries_of owed)
+  pub room : HasRoom c (costs owed)
+  pub payable : ArePayable c xs owed
+
+-- the shards that are kept came, no other did, and their fates are kept
+pub record AreCounted (c : Ledger) : Type 0 where
+  pub some : (n : ℕ) (x : ShardLedger) → IsAt c n x → 1 ≤ came_count (past_of c) n
+  pub none : (n : ℕ) → ((x : ShardLedger) → IsAt c n x → ⊥) → came_count (past_of c) n ≡ 0
+  pub each : (n : ℕ) (x : ShardLedger) → IsAt c n x → IsProgress (setting_of c) (past_of c) n x.progress
+
+pub record IsLeft (c : Ledger) : Type 0 where
+  pub places : HasPlaces c
+  pub shut : c.shut ≡ is_shut (past_of c)
+  pub begun : c.begun ≡ calls_begun (past_of c)
+  pub counted : AreCounted c
+
+abbrev pub StandsSo : Ledger → List Coming → List Owed → Standing → Type 0
+StandsSo c xs owed Whole = Stands c xs owed × SettledOver (setting_of c) (past_of c)
+StandsSo c xs owed Paying = Stands c xs owed
+StandsSo c xs owed Left = IsLeft c
+
+-- all is prepared for the entry
+pub record CanAdd (c : Ledger) (xs : List Coming) (a : Act) : Type 0 where
+  pub keeps : Keeps c
+  pub ready : IsReady c xs a
+  pub room : HasRoom c (cost_of a)
+  pub legal : LegalOver (setting_after (setting_of c) (parts_of xs)) (act_entry a ∷ past_of c)
+
+-- the input may end
+pub record CanShut (c : Ledger) (m : ℕ) : Type 0 where
+  pub keeps : Keeps c
+  pub legal : LegalOver (setting_of c) (entry.Shut m ∷ past_of c)
+
+-- the ledger's input ended
+pub record IsShut (c d : Ledger) (m : ℕ) : Type 0 where
+  pub keeps : Keeps d
+  pub past : past_of d ≡ entry.Shut m ∷ past_of c
+  pub setting : setting_of d ≡ setting_of c
+
+-- all that is kept; what is coming and what is owed stand oldest first
+pub record IsKept (c : Ledger) (xs : List Coming) (owed : List Owed) (standing : Standing) : Type 0 where
+  pub last : c.last ≡ last_moment (past_of c)
+  pub in_time : c.last ≤ MAX_MOMENT
+  pub written : AreWritten (setting_with (setting_of c) (parts_of xs)) owed
+  pub lines : length (lines_of (entries_of owed)) ≤ 1
+  pub bounds : AreWithinBounds (setting_with (setting_of c) (parts_of xs))
+  pub stands : StandsSo c xs owed standing
+
+-- what is decided, of a ledger that prepared it: the history and the setting are as before
+pub record Decides (c d : Ledger) (xs : List Coming) (owed : List Owed) : Type 0 where
+  pub keeps : Keeps d
+  pub past : past_of d ≡ past_of c
+  pub setting : setting_of d ≡ setting_of c
+  pub room : HasRoom d (costs owed)
+  pub payable : ArePayable d xs owed
+  pub may : MayAdd (setting_of c) (past_of c) (parts_of xs) (entries_of owed)
+  pub written : AreWritten (setting_with (setting_of c) (parts_of xs)) owed
+  pub lines : length (lines_of (entries_of owed)) ≤ 1
+  pub bounds : AreWithinBounds (setting_with (setting_of c) (parts_of xs))
+
+-- memory was taken, and no more
+pub record IsSame (c d : Ledger) : Type 0 where
+  pub keeps : Keeps d
+  pub past : past_of d ≡ past_of c
+  pub setting : setting_of d ≡ setting_of c

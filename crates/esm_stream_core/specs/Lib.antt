@@ -1,0 +1,12 @@
+pub mod Calls
+pub mod Inside
+pub mod Told
+pub mod Standing
+pub mod OwingView
+pub mod Arrival
+pub mod Acts
+pub mod Writing
+pub mod Kept
+pub mod OwingInside
+pub mod Gathered
+pub mod Quiet

@@ -1,0 +1,61 @@
+-- What may be written of entries that are to be owed. Only this crate's proofs cite this.
+use Rattle.std.specs.Prelude.{◌≡◌, ℕ, ◌≤◌, List, [], ◌∷◌, length, Some, IfSome, ⊤}
+use Rattle.esm_model.specs.declared.limits.TheConstants.{MAX_PAYLOAD}
+use Rattle.esm_model.specs.declared.moment.TheConstants.{MAX_MOMENT}
+use Rattle.esm_model.specs.declared.lane.LaneId.{LaneId}
+use Rattle.esm_model.specs.declared.entry.Entry.{Entry}
+use Rattle.esm_model.specs.Setting.{Setting}
+use Rattle.esm_model.specs.Entries.{moment_of}
+use Rattle.esm_model.specs.Step.{Legal}
+use Rattle.esm_model.specs.Books.{entry_line}
+use Rattle.esm_journal_record.specs.declared.said.Said.{Said}
+use Rattle.esm_journal_record.specs.Payload.{payload_of, IsSaid}
+use Rattle.esm_journal_record.specs.EntryPayload.{entry_said}
+use Rattle.esm_outcome.specs.declared.outcome.Due.{Due}
+use Rattle.esm_outcome.specs.declared.outcome.Due.TheVariants as due
+use Rattle.esm_record_bounds.specs.Bounds.{AreCountedInFourBytes, FiltersFew}
+use Rattle.esm_stream_core.specs.declared.owed.Act.{Act}
+use Rattle.esm_stream_core.specs.declared.owed.Act.TheVariants as act
+use Rattle.esm_stream_core.specs.declared.owed.Owed.{Owed}
+use Rattle.esm_stream_core.specs.Acts.{IsWritten}
+
+-- its payload and its line, where it has them, may be said and are short
+pub record IsWritable (s : Setting) (e : Entry) : Type 0 where
+  pub said : IfSome (entry_said s e) IsSaid
+  pub short : IfSome (entry_said s e) (λ (said : Said). length (payload_of said) ≤ MAX_PAYLOAD)
+  pub line : IfSome (entry_line e) (λ (bytes : List ℕ). length bytes ≤ MAX_PAYLOAD)
+  pub in_time : moment_of e ≤ MAX_MOMENT
+
+abbrev pub AreWritable : Setting → List Entry → Type 0
+AreWritable s [] = ⊤
+AreWritable s (e ∷ es) = IsWritable s e × AreWritable s es
+
+-- the entry may follow the history, in which places have four bytes
+pub record IsNext (s : Setting) (h : List Entry) (e : Entry) : Type 0 where
+  pub legal : Legal s (e ∷ h)
+  pub before : AreCountedInFourBytes h
+  pub after : AreCountedInFourBytes (e ∷ h)
+  pub few : FiltersFew e
+
+-- they may follow it one after another
+abbrev pub AreNext : Setting → List Entry → List Entry → Type 0
+AreNext s h [] = ⊤
+AreNext s h (e ∷ es) = IsNext s h e × AreNext s (e ∷ h) es
+
+-- what the end of a call calls for, as an act of its lane
+abbrev pub due_act : LaneId → ℕ → Due → Act
+due_act lane m (due.Gave places fate line state) = act.Gave (Some lane) lane.shard places fate line state state m
+due_act lane m (due.Tried places closing tries) = act.Tried lane places closing tries m
+due_act lane m (due.Closed window) = act.Closed lane window m
+
+-- it is owed, with what is written of it
+pub record IsDue (s : Setting) (lane : LaneId) (m : ℕ) (d : Due) (o : Owed) : Type 0 where
+  pub act : o.act ≡ due_act lane m d
+  pub written : IsWritten s o
+
+-- each of them is, in their order
+abbrev pub AreDue : Setting → LaneId → ℕ → List Due → List Owed → Type 0
+AreDue s lane m [] [] = ⊤
+AreDue s lane m [] (o ∷ owed) = ⊥
+AreDue s lane m (d ∷ dues) [] = ⊥
+AreDue s lane m (d ∷ dues) (o ∷ owed) = IsDue s lane m d o × AreDue s lane m dues owed

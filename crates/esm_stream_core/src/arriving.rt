@@ -1,0 +1,254 @@
+// Records that come to the ledger: the arrivals that are owed, part by part, and what the filter refuses of them.
+ghost use Rattle.std.specs.Prelude.{◌≡◌, ℕ, ◌+◌, ◌<◌, ◌++◌, ◌∷◌, [], All, not, false, map, length, reverse, slice_index_or, IfOk, OnOk, OnErr};
+ghost use Rattle.esm_model.specs.Entries.{holds};
+ghost use Rattle.esm_journal_record.specs.Payload.{IsSaid};
+ghost use Rattle.esm_ledger.specs.Ledger.{past_of, setting_of, HasRoom, HasShardRoom, Keeps};
+ghost use Rattle.esm_ledger.specs.Prepared.{StaysElsewhere};
+ghost use Rattle.esm_ingest.specs.Parts.{part};
+ghost use Rattle.esm_ingest.specs.Entries.{part_entries};
+ghost use Rattle.esm_stream_core.specs.Arrival.{MayCome, streams_of};
+ghost use Rattle.esm_stream_core.specs.OwingView.{LegalAhead, SettledAhead, owing, forgotten};
+ghost use Rattle.esm_record_bounds.specs.Bounds.{AreWithinBounds};
+ghost use Rattle.esm_stream_core.specs.Acts.{entries_of, parts_of};
+ghost use Rattle.esm_stream_core.specs.Kept.{Decides, IsSame};
+ghost use Rattle.esm_stream_core.specs.Gathered.{IsFrom, names_in, part_said, came_owed, filtered_owed, filtered_of, CanTake, IsGathered, IsTaken};
+
+use crate::owed::{Act, Owed};
+use crate::owing::OwingLedger;
+use esm_ingest::ShardRecords;
+use esm_journal_record::{Said, said_bytes};
+use esm_ledger::{Coming, Ledger};
+use esm_model::{Bytes, Fate, OutOfMemory, Places, Record, Text, Texts};
+use std::alloc::Global;
+use std::mem;
+
+/// Of so many records from the place `first` on whether each passes the filter: all but those at these places.
+fn passing_of(
+    alloc: Global,
+    first: u32,
+    count: usize,
+    refused: &[u32],
+) -> Result<Vec<bool>, OutOfMemory>
+    requires { All (IsFrom first count) refused.now }
+    ensures all { IfOk result (λ passing. length passing.items ≡ count) }
+    ensures each { IfOk result (λ passing. (k : ℕ) → k < count → slice_index_or passing.items k false ≡ not (holds refused.now (first + k))) }
+{
+    let mut passing = vec![in alloc; true; count]?;
+    for place in refused {
+        let at = (*place - first) as usize;
+        passing[at] = false;
+    }
+    Ok(passing)
+}
+
+/// Copies of the sequence numbers of the records at the places; the first record stands at the place `first`.
+fn names_from(
+    alloc: Global,
+    first: u32,
+    records: &[Record],
+    places: &[u32],
+) -> Result<Vec<Text>, OutOfMemory>
+    requires { All (IsFrom first (length records.now)) places.now }
+    ensures { IfOk result (λ names. names.items ≡ names_in first records.now places.now) }
+{
+    let mut names = Vec::with_capacity(alloc, places.len())?;
+    for place in places {
+        let name = String::from_str(alloc, records[(*place - first) as usize].seq.text())?;
+        names.push(Text::from_vec(name))?;
+    }
+    Ok(names)
+}
+
+/// The refused places of a part are filtered, with what is written of that.
+fn filtered(
+    alloc: Global,
+    shard: u64,
+    first: u32,
+    records: &[Record],
+    places: Places,
+    moment: u64,
+) -> Result<Owed, OutOfMemory>
+    requires within { All (IsFrom first (length records.now)) places }
+    requires said { IsSaid (part_said moment (record { shard = shard; first = first; records = records.now; refused = places })) }
+    ensures { IfOk result (λ owed. owed ≡ filtered_owed moment (record { shard = shard; first = first; records = records.now; refused = places })) }
+{
+    let names = names_from(alloc, first, records, places.as_slice())?;
+    let said = Said::Fates {
+        shard,
+        fate: Fate::Filtered,
+        moment,
+        state: None,
+        places: places.copy(alloc)?,
+        texts: Texts::from_vec(names),
+    };
+    let payload = said_bytes(alloc, &said)?;
+    let act = Act::Gave {
+        by: None,
+        shard,
+        places,
+        fate: Fate::Filtered,
+        line: None,
+        state: None,
+        copy: None,
+        moment,
+    };
+    Ok(Owed {
+        act,
+        payload: Some(Bytes::from_vec(payload)),
+    })
+}
+
+/// What a list of records brings, as it is gathered part by part: the records, the `Came` of each, and what is filtered.
+#[derive(Drop)]
+pub(crate) struct Gathered {
+    pub coming: Vec<Coming>,
+    pub came: Vec<Owed>,
+    pub filtered: Vec<Owed>,
+}
+
+impl Gathered {
+    /// The part is prepared, and all that it brings comes behind what was gathered. After `OutOfMemory` nothing has
+    /// changed of the ledger that contracts see.
+    fn take(
+        &mut self,
+        alloc: Global,
+        ledger: &mut Ledger,
+        next: ShardRecords,
+        moment: u64,
+    ) -> Result<(), OutOfMemory>
+        requires kept { Keeps ledger.old }
+        requires can { CanTake (setting_of ledger.old) (past_of ledger.old) moment (part next) }
+        ensures kept { Keeps ledger.new }
+        ensures past { past_of ledger.new ≡ past_of ledger.old }
+        ensures setting { setting_of ledger.new ≡ setting_of ledger.old }
+        ensures room { (n : ℕ) → HasRoom ledger.old n → HasRoom ledger.new n }
+        ensures shards { (n : ℕ) → HasShardRoom ledger.old n → HasShardRoom ledger.new n }
+        ensures elsewhere { OnOk result (StaysElsewhere ledger.old ledger.new next.shard) }
+        ensures coming { OnOk result (IsTaken ledger.new (part next) self.old.coming.items self.new.coming.items) }
+        ensures came { OnOk result (self.new.came.items ≡ self.old.came.items ++ came_owed moment (part next) ∷ []) }
+        ensures filtered { OnOk result (self.new.filtered.items ≡ self.old.filtered.items ++ filtered_of moment (part next)) }
+    {
+        let ShardRecords {
+            shard,
+            first,
+            records,
+            refused,
+        } = next;
+        let count = records.len();
+        let passing = passing_of(alloc, first, count, refused.as_slice())?;
+        if !refused.as_slice().is_empty() {
+            let gift = filtered(alloc, shard, first, records.as_slice(), refused, moment)?;
+            self.filtered.push(gift)?;
+        }
+        let coming = ledger.prepare_came(alloc, shard, records, passing.as_slice())?;
+        self.coming.push(coming)?;
+        let act = Act::Came {
+            shard,
+            first,
+            count: count as u32,
+            moment,
+        };
+        self.came.push(Owed { act, payload: None })?;
+        Ok(())
+    }
+}
+
+/// The entries of the first list and then those of the second, from the last to the first.
+fn turned(mut first: Vec<Owed>, mut second: Vec<Owed>) -> Result<Vec<Owed>, OutOfMemory>
+    ensures { IfOk result (λ out. out.items ≡ reverse (first.items ++ second.items)) }
+{
+    first.append(&mut second)?;
+    first.reverse();
+    Ok(first)
+}
+
+/// Each part is prepared, in the memory that the ledger has for so many entries and shards.
+fn gather(
+    alloc: Global,
+    ledger: &mut Ledger,
+    parts: Vec<ShardRecords>,
+    moment: u64,
+) -> Result<Gathered, OutOfMemory>
+    requires kept { Keeps ledger.old }
+    requires bounds { AreWithinBounds (setting_of ledger.old) }
+    requires may { MayCome (setting_of ledger.old) (past_of ledger.old) (map part parts.items) moment }
+    ensures kept { Keeps ledger.new }
+    ensures past { past_of ledger.new ≡ past_of ledger.old }
+    ensures setting { setting_of ledger.new ≡ setting_of ledger.old }
+    ensures room { (n : ℕ) → HasRoom ledger.old n → HasRoom ledger.new n }
+    ensures shards { (n : ℕ) → HasShardRoom ledger.old n → HasShardRoom ledger.new n }
+    ensures all { IfOk result (IsGathered ledger.new moment (map part parts.items)) }
+{
+    let mut gathered = Gathered {
+        coming: Vec::new(alloc),
+        came: Vec::new(alloc),
+        filtered: Vec::new(alloc),
+    };
+    for next in parts {
+        gathered.take(alloc, ledger, next, moment)?;
+    }
+    Ok(gathered)
+}
+
+/// What a list of records brings, the next ones last.
+#[derive(Drop)]
+pub(crate) struct Arrived {
+    pub coming: Vec<Coming>,
+    pub owed: Vec<Owed>,
+}
+
+/// All is prepared for the records of the parts and for what the filter refuses of them. After `OutOfMemory` nothing has
+/// changed that contracts see.
+fn prepare_arrival(
+    alloc: Global,
+    ledger: &mut Ledger,
+    parts: Vec<ShardRecords>,
+    moment: u64,
+) -> Result<Arrived, OutOfMemory>
+    requires kept { Keeps ledger.old }
+    requires bounds { AreWithinBounds (setting_of ledger.old) }
+    requires may { MayCome (setting_of ledger.old) (past_of ledger.old) (map part parts.items) moment }
+    ensures same { IsSame ledger.old ledger.new }
+    ensures decides { IfOk result (λ arrived. Decides ledger.old ledger.new (reverse arrived.coming.items) (reverse arrived.owed.items)) }
+    ensures coming { IfOk result (λ arrived. parts_of (reverse arrived.coming.items) ≡ streams_of (map part parts.items)) }
+    ensures owed { IfOk result (λ arrived. entries_of (reverse arrived.owed.items) ≡ part_entries moment (map part parts.items)) }
+{
+    let count = parts.len();
+    ledger.prepare_entries(count.saturating_mul(2))?;
+    ledger.prepare_shards(count)?;
+    let Gathered {
+        mut coming,
+        came,
+        filtered,
+    } = gather(alloc, ledger, parts, moment)?;
+    coming.reverse();
+    let owed = turned(came, filtered)?;
+    Ok(Arrived { coming, owed })
+}
+
+impl OwingLedger {
+    /// Records of several shards come, part by part: the `Came` of each part is owed, and then what the filter refuses of
+    /// each. After `OutOfMemory` nothing has changed, and the records are gone.
+    pub fn owe_records(
+        &mut self,
+        alloc: Global,
+        parts: Vec<ShardRecords>,
+        moment: u64,
+    ) -> Result<(), OutOfMemory>
+        requires settled { self.old.owed ≡ [] }
+        requires may { MayCome self.old.setting self.old.past (map part parts.items) moment }
+        ensures owes { OnOk result (self.new ≡ owing self.old (streams_of (map part parts.items)) (part_entries moment (map part parts.items))) }
+        ensures undone { OnOk result (forgotten self.new ≡ self.old) }
+        ensures legal { OnOk result (LegalAhead self.new) }
+        ensures settled { OnOk result (SettledAhead self.new) }
+        ensures unchanged { OnErr result (self.new ≡ self.old) }
+    {
+        if !self.standing.is_whole() {
+            return Err(OutOfMemory);
+        }
+        let arrived = prepare_arrival(alloc, &mut self.ledger, parts, moment)?;
+        let _ = mem::replace(&mut self.owed, arrived.owed);
+        let _ = mem::replace(&mut self.coming, arrived.coming);
+        Ok(())
+    }
+}

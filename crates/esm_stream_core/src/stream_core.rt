@@ -1,0 +1,346 @@
+// The core of a stream's book: it decides on records that come, the input's end, batchers' asks and replies.
+ghost use Rattle.std.specs.Prelude.{◌≡◌, ℕ, ◌<◌, ◌≤◌, ◌^◌, ◌∷◌, [], Some, true, false, min, max, All, IfOk, IfErr, IfSome, IfNone, OnOk, OnErr, length, take, reverse};
+ghost use Rattle.std.specs.List.{filter_map};
+ghost use Rattle.esm_model.specs.declared.limits.TheConstants.{MAX_BATCH, MAX_PAYLOAD};
+ghost use Rattle.esm_model.specs.declared.entry.Entry.{Entry};
+ghost use Rattle.esm_model.specs.Valid.{IsStreamConfig, IsValidRecord};
+ghost use Rattle.esm_model.specs.declared.moment.TheConstants.{MAX_MOMENT};
+ghost use Rattle.esm_model.specs.Books.{streams_told};
+ghost use Rattle.esm_model.specs.Entries.{is_shut, last_moment, calls_begun};
+ghost use Rattle.esm_filter.specs.Criteria.{JudgesRecords};
+ghost use Rattle.esm_journal_record.specs.EntryPayload.{entry_payload};
+ghost use Rattle.esm_shard_index.specs.LaneHistory.{HasFoundTries};
+ghost use Rattle.esm_ledger.specs.Ledger.{opened_with, LegalOver};
+ghost use Rattle.esm_ledger.specs.Reading.{checkpoint_of, spread_of};
+ghost use Rattle.esm_record_bounds.specs.Bounds.{AreStatesWithin, AreWithinBounds};
+ghost use Rattle.esm_book.specs.Decided.{IsRefused};
+ghost use Rattle.esm_stream_core.specs.Quiet.{IsQuiet, IsWanting};
+ghost use Rattle.esm_stream_core.specs.Standing.{can_pay};
+ghost use Rattle.esm_stream_core.specs.OwingView.{new_view, full_setting, payloads_of, lines_of, lengths_of, IsLineWithin, LegalAhead, SettledAhead, owing, paid, forgotten, noted, noted_shut};
+ghost use Rattle.esm_stream_core.specs.Calls.{moment_for, coming_lists, came_entries, Differs, NoneDiffers, IsResting, IsNextOver, next_adds, IsRunningJob, ended_entries, given_by_end};
+ghost use Rattle.esm_stream_core.specs.Told.{told_of};
+
+use crate::finishing::is_over;
+use crate::fitting::fit_places;
+use crate::owing::OwingLedger;
+use esm_book::Refusal;
+use esm_filter::Criteria;
+use esm_ingest::{by_shard, first_change};
+use esm_journal_state::Says;
+use esm_model::{Config, Entry, Job, MAX_MOMENT, Next, OutOfMemory, Record, Reply};
+use esm_next::{Decision, decide_next};
+use esm_outcome::outcome_of;
+use std::alloc::Global;
+use std::marker::Model;
+
+/// The decisions of a stream's book, seen as what its history is judged over, the history, what is coming and owed, and
+/// how far more can be decided.
+///
+/// Moments are in milliseconds since 1970; an entry has the moment that is handed in, or that of the last entry where
+/// that is later, and at most 9999-12-31T23:59:59.999Z. Places count a shard's records from 0.
+/// A history that would come to more than 2^40 entries is refused as want of memory, and so are a shard's records from
+/// the place 2^32 on, and each decision of a core that was left: of which a call of the function ended without what that
+/// calls for, whose input ended over what was owed, or of which what was owed was forgotten when half added.
+#[derive(Drop)]
+pub struct StreamCore {
+    owing: OwingLedger,
+    criteria: Criteria,
+}
+
+impl Model for StreamCore {
+    ghost use Rattle.esm_stream_core.specs.OwingView.{OwingView};
+
+    ghost Value = { OwingView };
+
+    ghost use Rattle.esm_stream_core.specs.Inside.{view_of, IsCore};
+
+    ghost view = { view_of };
+
+    ghost invariant = { IsCore };
+}
+
+/// The moment that is noted: not before the last one.
+fn raised_to(last: u64, moment: u64) -> u64
+    requires { last ≤ MAX_MOMENT }
+    ensures value { result ≡ min (max moment last) MAX_MOMENT }
+    ensures goes_on { last ≤ result }
+    ensures in_time { result ≤ MAX_MOMENT }
+{
+    moment.max(last).min(MAX_MOMENT)
+}
+
+impl StreamCore {
+    /// A core in which no record came, for so many calls in all, with what the journal told at opening.
+    pub fn new(
+        alloc: Global,
+        config: Config,
+        criteria: Criteria,
+        calls: u32,
+        found: Says,
+    ) -> Result<StreamCore, OutOfMemory>
+        requires config { IsStreamConfig config }
+        requires criteria { JudgesRecords config.kind config.filters criteria }
+        requires tries { (n : ℕ) → HasFoundTries (opened_with config calls found) n }
+        requires states { AreStatesWithin found.states }
+        ensures { IfOk result (λ core. core ≡ new_view (opened_with config calls found)) }
+    {
+        let owing = OwingLedger::new(alloc, config, calls, found)?;
+        Ok(StreamCore { owing, criteria })
+    }
+
+    /// Decides on records that come: one `Came` for each shard of the list, in the order of first appearance; then, for
+    /// each of them with records that fail the filter and have no found fate, their fate. A list with a record that stands
+    /// in the stream with another sequence number than was kept of it, with a fate or with tries, is refused whole, and
+    /// the first such record is told (Lambda Developer Guide, event filtering for Kinesis). After a refusal the core is as
+    /// before.
+    pub fn came(&mut self, alloc: Global, items: Vec<Record>, moment: u64) -> Result<(), Refusal>
+        requires settled { self.old.owed ≡ [] }
+        requires going { is_shut self.old.past ≡ false }
+        requires few { length items.items ≤ MAX_BATCH }
+        requires valid { All IsValidRecord items.items }
+        // what is owed
+        ensures owes { OnOk result (self.new ≡ owing self.old (coming_lists self.old items.items) (came_entries self.old items.items (moment_for self.old.past moment))) }
+        ensures same { OnOk result (NoneDiffers self.old items.items) }
+        // what stands after a refusal
+        ensures refused { IfErr result (IsRefused (Differs self.old items.items)) }
+        ensures unchanged { OnErr result (self.new ≡ self.old) }
+        // that it can be added
+        ensures undone { OnOk result (forgotten self.new ≡ self.old) }
+        ensures before { OnOk result (LegalOver self.old.setting self.old.past) }
+        ensures legal { OnOk result (LegalAhead self.new) }
+        ensures settled { OnOk result (SettledAhead self.new) }
+        ensures payable { OnOk result (can_pay self.new.standing ≡ true) }
+    {
+        let now = raised_to(self.owing.last_moment(), moment);
+        let Some(ledger) = self.owing.ledger() else {
+            return Err(Refusal::OutOfMemory);
+        };
+        if !fit_places(ledger, items.as_slice()) {
+            return Err(Refusal::OutOfMemory);
+        }
+        if let Some(told) = first_change(alloc, ledger, items.as_slice())? {
+            let kept = first_change(alloc, ledger, items.as_slice())?;
+            return match kept {
+                Some(kept) => Err(Refusal::Changed { told, kept }),
+                None => unreachable!(),
+            };
+        }
+        let parts = by_shard(alloc, ledger, &self.criteria, items)?;
+        self.owing.owe_records(alloc, parts, now)?;
+        Ok(())
+    }
+
+    /// What the batcher does next, by the first rule that holds; a call, or records that expire, are owed (Lambda
+    /// Developer Guide, event source mappings for Kinesis: batching behavior, tumbling windows, error handling). The
+    /// batcher's lane is not running. After `OutOfMemory` the core is as before.
+    pub fn next(&mut self, alloc: Global, batcher: u32, moment: u64) -> Result<Next, OutOfMemory>
+        requires settled { self.old.owed ≡ [] }
+        requires rests { IsResting self.old batcher }
+        ensures answer { IfOk result (IsNextOver self.old batcher (moment_for self.old.past moment)) }
+        ensures owes { IfOk result (λ next. self.new ≡ owing self.old [] (next_adds self.old batcher (moment_for self.old.past moment) next)) }
+        ensures unchanged { OnErr result (self.new ≡ self.old) }
+        ensures undone { OnOk result (forgotten self.new ≡ self.old) }
+        ensures legal { OnOk result (LegalAhead self.new) }
+        ensures settled { OnOk result (SettledAhead self.new) }
+        ensures payable { OnOk result (can_pay self.new.standing ≡ true) }
+    {
+        let now = raised_to(self.owing.last_moment(), moment);
+        let Some(ledger) = self.owing.ledger() else {
+            return Err(OutOfMemory);
+        };
+        match decide_next(alloc, ledger, batcher, now)? {
+            Decision::Call(job) => {
+                let places = job.places.copy(alloc)?;
+                self.owing
+                    .owe_call(alloc, job.lane, places, job.closing, now)?;
+                Ok(Next::Call(job))
+            }
+            Decision::Expire { lane, places, line } => {
+                let count = places.as_slice().len() as u32;
+                self.owing.owe_expiry(alloc, lane, places, line, now)?;
+                Ok(Next::Gave(count))
+            }
+            Decision::Idle { until } => Ok(Next::Idle { until }),
+            Decision::Spent => Ok(Next::Spent),
+            Decision::Finished => Ok(Next::Finished),
+        }
+    }
+
+    /// Decides what the end of the job calls for: its `Ended`, and then the fates, tries, states and closed windows that
+    /// the reply brings; answers how many records get a fate (Lambda Developer Guide, error handling for Kinesis). After
+    /// `OutOfMemory` the core is as before, and the job and the reply are dropped.
+    pub fn done(
+        &mut self,
+        alloc: Global,
+        job: Job,
+        reply: Reply,
+        moment: u64,
+    ) -> Result<u32, OutOfMemory>
+        requires settled { self.old.owed ≡ [] }
+        requires runs { IsRunningJob self.old.past job }
+        ensures owes { OnOk result (self.new ≡ owing self.old [] (ended_entries self.old job.lane reply (moment_for self.old.past moment))) }
+        ensures answer { IfOk result (λ count. count ≡ given_by_end self.old job.lane reply (moment_for self.old.past moment)) }
+        ensures unchanged { OnErr result (self.new ≡ self.old) }
+        ensures undone { OnOk result (forgotten self.new ≡ self.old) }
+        ensures legal { OnOk result (LegalAhead self.new) }
+        ensures settled { OnOk result (SettledAhead self.new) }
+        ensures payable { OnOk result (can_pay self.new.standing ≡ true) }
+    {
+        let now = raised_to(self.owing.last_moment(), moment);
+        let Some(ledger) = self.owing.ledger() else {
+            return Err(OutOfMemory);
+        };
+        let outcome = outcome_of(alloc, ledger, job.lane, &reply, now)?;
+        let given = outcome.given;
+        self.owing.owe_end(alloc, job.lane, reply, outcome, now)?;
+        Ok(given)
+    }
+
+    /// Gives up what is owed. Takes no memory.
+    pub fn forget(&mut self)
+        ensures { self.new ≡ forgotten self.old }
+    {
+        self.owing.forget();
+    }
+
+    /// Adds the first owed entry to the history. Takes no memory, and cannot fail.
+    pub fn pay(&mut self)
+        requires owes { 0 < length self.old.owed }
+        requires payable { can_pay self.old.standing ≡ true }
+        ensures { self.new ≡ paid self.old }
+    {
+        self.owing.pay();
+    }
+
+    /// Notes the end of the job's call, where nothing that this calls for is added any more. Takes no memory.
+    pub fn note_ended(&mut self, job: Job, reply: Reply, moment: u64)
+        requires runs { IsRunningJob self.old.past job }
+        ensures { self.new ≡ noted self.old (Entry.Ended job.lane reply (moment_for self.old.past moment)) }
+    {
+        let now = raised_to(self.owing.last_moment(), moment);
+        self.owing.note_ended(job.lane, reply, now);
+    }
+
+    /// Notes that the input ended. Takes no memory: there is always room for this entry.
+    pub fn shut(&mut self, moment: u64)
+        requires going { is_shut self.old.past ≡ false }
+        ensures { self.new ≡ noted_shut self.old (Entry.Shut (moment_for self.old.past moment)) }
+    {
+        let now = raised_to(self.owing.last_moment(), moment);
+        self.owing.note_shut(now);
+    }
+
+    /// How many entries are owed. Takes no memory.
+    pub fn owed_count(&self) -> usize
+        ensures { result ≡ length self.now.owed }
+    {
+        self.owing.owed_count()
+    }
+
+    /// The lengths in bytes of the owed payloads, in order.
+    pub fn owed_lengths(&self, alloc: Global) -> Result<Vec<u32>, OutOfMemory>
+        ensures { IfOk result (λ lengths. lengths.items ≡ lengths_of (payloads_of self.now self.now.owed)) }
+    {
+        self.owing.owed_lengths(alloc)
+    }
+
+    /// The number of bytes of the owed line, where an owed entry has one; no two of them have. Takes no memory.
+    pub fn owed_line_bound(&self) -> Option<u64>
+        ensures within { IfSome result (IsLineWithin (lines_of self.now.owed)) }
+        ensures none { IfNone result (lines_of self.now.owed ≡ []) }
+    {
+        self.owing.owed_line_bound()
+    }
+
+    /// The payload of the first owed entry, where it has one. Takes no memory.
+    pub fn first_payload(&self) -> Option<&[u8]>
+        requires { 0 < length self.now.owed }
+        ensures payload { IfSome result (λ bytes. payloads_of self.entry.now (take 1 self.entry.now.owed) ≡ bytes.now ∷ []) }
+        ensures short { IfSome result (λ bytes. length bytes.now ≤ MAX_PAYLOAD) }
+        ensures none { IfNone result (payloads_of self.entry.now (take 1 self.entry.now.owed) ≡ []) }
+    {
+        self.owing.first_payload()
+    }
+
+    /// The line of the first owed entry, where it has one. Takes no memory.
+    pub fn first_line(&self) -> Option<&[u8]>
+        requires { 0 < length self.now.owed }
+        ensures line { IfSome result (λ bytes. lines_of (take 1 self.entry.now.owed) ≡ bytes.now ∷ []) }
+        ensures short { IfSome result (λ bytes. length bytes.now ≤ MAX_PAYLOAD) }
+        ensures none { IfNone result (lines_of (take 1 self.entry.now.owed) ≡ []) }
+    {
+        self.owing.first_line()
+    }
+
+    /// Whether the input ended. Takes no memory.
+    pub fn is_shut(&self) -> bool
+        ensures { result ≡ is_shut self.now.past }
+    {
+        self.owing.is_shut()
+    }
+
+    /// Whether all calls allowed began. Takes no memory.
+    pub fn is_spent(&self) -> bool
+        ensures spent { result ≡ true → self.now.setting.calls ≤ calls_begun self.now.past }
+        ensures going { result ≡ false → calls_begun self.now.past < self.now.setting.calls }
+    {
+        self.owing.is_spent()
+    }
+
+    /// Whether nothing is left for the batchers below the number: no record of their lanes is open, and no window of their
+    /// shards is outstanding. `None` where nothing is decided any more. Takes no memory.
+    pub fn is_over(&self, batchers: u32) -> Option<bool>
+        requires settled { self.now.owed ≡ [] }
+        ensures over { result ≡ Some true → (k : ℕ) → k < batchers → IsQuiet self.now.setting self.now.past k }
+        ensures left { result ≡ Some false → (k : ℕ) × (k < batchers) × IsWanting self.now.setting self.now.past k }
+    {
+        let Some(ledger) = self.owing.ledger() else {
+            return None;
+        };
+        Some(is_over(ledger, batchers))
+    }
+
+    /// How many of the shard's first records all have a fate. `None` exactly where the shard has not come. Takes no
+    /// memory.
+    pub fn checkpoint(&self, shard: u64) -> Option<u32>
+        ensures { result ≡ checkpoint_of self.now.setting self.now.past shard }
+    {
+        self.owing.checkpoint(shard)
+    }
+
+    /// How many records have a fate and stand past the checkpoint. `None` exactly where the shard has not come. Takes no
+    /// memory.
+    pub fn spread(&self, shard: u64) -> Option<u32>
+        ensures { result ≡ spread_of self.now.setting self.now.past shard }
+    {
+        self.owing.spread(shard)
+    }
+
+    /// What is true of every core, whoever made its calls: the records that came are those that its history tells, none is
+    /// coming where nothing is owed, the payload of the first owed entry is one of records that came, no moment is past the
+    /// last one, and each record is valid, in the list of its shard. Does nothing.
+    pub fn keeps(&self)
+        ensures records { self.now.setting.streams ≡ streams_told (told_of self.now) }
+        ensures rests { self.now.owed ≡ [] → self.now.coming ≡ [] }
+        ensures first { payloads_of self.now (take 1 self.now.owed) ≡ filter_map (entry_payload self.now.setting) (take 1 self.now.owed) }
+        ensures in_time { last_moment self.now.past ≤ MAX_MOMENT }
+        ensures bounds { AreWithinBounds (full_setting self.now) }
+    {
+        self.owing.keeps();
+    }
+
+    /// The number of entries of the history. Takes no memory.
+    pub fn entries(&self) -> u64
+        ensures value { result ≡ length self.now.past }
+        ensures few { result ≤ 2 ^ 40 }
+    {
+        self.owing.entries()
+    }
+
+    /// The history, oldest entry first. Takes no memory.
+    pub fn into_history(self) -> Vec<Entry>
+        ensures { result.items ≡ reverse self.past }
+    {
+        self.owing.into_history()
+    }
+}

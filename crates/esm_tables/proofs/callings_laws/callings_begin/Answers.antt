@@ -1,5 +1,0 @@
-use Rattle.esm_tables.proofs.CallingSteps.{callings_begin}
-use Rattle.esm_tables.proofs.callings_laws.callings_begin.Goals as goal
-
-pub returns : goal.returns
-returns c = callings_begin

@@ -1,5 +1,0 @@
-use Rattle.esm_tables.proofs.LaneReads.{lane_call_tries}
-use Rattle.esm_tables.proofs.lane_laws.call_has_tries.Goals as goal
-
-pub returns : goal.returns
-returns c = lane_call_tries

@@ -1,5 +1,0 @@
-use Rattle.esm_tables.proofs.LaneOver.{entry_over}
-use Rattle.esm_tables.proofs.lane_laws.entry_over_more_records.Goals as goal
-
-pub returns : goal.returns
-returns c = entry_over

@@ -1,5 +1,0 @@
-use Rattle.esm_tables.proofs.LaneReads.{lane_bounded}
-use Rattle.esm_tables.proofs.lane_laws.lane_is_bounded.Goals as goal
-
-pub returns : goal.returns
-returns c = lane_bounded

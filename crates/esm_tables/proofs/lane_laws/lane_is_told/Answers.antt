@@ -1,5 +1,0 @@
-use Rattle.esm_tables.proofs.LaneSteps.{lane_from_start}
-use Rattle.esm_tables.proofs.lane_laws.lane_is_told.Goals as goal
-
-pub returns : goal.returns
-returns c = lane_from_start

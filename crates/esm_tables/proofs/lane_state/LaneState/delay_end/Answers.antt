@@ -1,6 +1,0 @@
-use Rattle.std.proofs.Common.{◌∙◌}
-use Rattle.esm_tables.proofs.LaneTables.{long_delay}
-use Rattle.esm_tables.proofs.lane_state.LaneState.delay_end.Goals as goal
-
-pub returns-then-self-ge9 : goal.returns-then-self-ge9
-returns-then-self-ge9 c = c.min.ensures ∙ long_delay c.args.self.failures c.args.self.last_end c.if-self-ge9.true

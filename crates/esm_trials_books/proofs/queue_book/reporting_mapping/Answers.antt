@@ -1,5 +1,0 @@
-use Rattle.esm_trials_books.proofs.Mappings.{is_reporting}
-use Rattle.esm_trials_books.proofs.queue_book.reporting_mapping.Goals as goal
-
-pub returns : goal.returns
-returns c = is_reporting _ c.in_ok-config.ensures.plain

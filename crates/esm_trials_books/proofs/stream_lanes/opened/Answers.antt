@@ -1,5 +1,0 @@
-use Rattle.esm_trials_books.proofs.Mappings.{is_stream_config}
-use Rattle.esm_trials_books.proofs.stream_lanes.opened.Goals as goal
-
-pub open-requires-clause-config : goal.open-requires-clause-config
-open-requires-clause-config c = is_stream_config _ c.in_ok-config.ensures

@@ -1,5 +1,0 @@
-use Rattle.std.proofs.Common.{◌≡◌, length}
-use Rattle.esm_trials_threads.proofs.gates.callers.Given as goal
-
-abbrev pub invariant-loop-batcher : goal.invariant-loop-batcher
-invariant-loop-batcher l = length l.callers.items ≡ l.batcher

@@ -1,4 +1,0 @@
-pub mod Disks
-pub mod Ends
-pub mod Rewrites
-pub mod Versions

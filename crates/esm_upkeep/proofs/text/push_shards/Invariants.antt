@@ -1,6 +1,0 @@
-use Rattle.std.proofs.Common.{◌≡◌, ◌++◌, drop}
-use Rattle.esm_upkeep.specs.Text.{shard_lines}
-use Rattle.esm_upkeep.proofs.text.push_shards.Given as goal
-
-abbrev pub invariant-loop-shard : goal.invariant-loop-shard
-invariant-loop-shard l = l.out.items ++ shard_lines (drop l.shard-index l.shards) ≡ l.initial.out.items ++ shard_lines l.shards

@@ -1,4 +1,0 @@
-pub mod Opened
-pub mod Shown
-pub mod Text
-pub mod Upkeep

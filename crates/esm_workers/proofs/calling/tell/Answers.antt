@@ -1,0 +1,90 @@
+use Rattle.std.proofs.Common.{◌+◌, [], ◌∷◌, ◌++◌, ap, sym, ◌∙◌, subst}
+use Rattle.esm_model.specs.Kept.{meaning}
+use Rattle.esm_model.specs.Batching.{call_of}
+use Rattle.esm_turn.specs.Seats.{SeatView}
+use Rattle.esm_workers.specs.Seated.{IsSeated}
+use Rattle.esm_workers.proofs.Turns.{found, given, gone_back, grown, holds_found, holds_still, comes_to, on_ok, on_err}
+use Rattle.esm_workers.proofs.calling.tell.Goals as goal
+
+pub end_and_ask-next-requires-clause-runs : goal.end_and_ask-next-requires-clause-runs
+end_and_ask-next-requires-clause-runs g c =
+    let m = meaning g.T.Kept in
+    let gave = g.C.Clock.gave in
+    let t = c.args.turn.now in
+    let s : SeatView = c.args.seat.now in
+    let k = c.args.batcher in
+    let x = c.take-value.result.value in
+    let f = found m gave t (k + 1) s (m.history x) c.requires.seated c.take-value.ensures.legal c.take-value.ensures.begins c.take-value.ensures.mine in
+    holds_found m gave t (k + 1) (λ u h. g.T.Pooled.runs u h k c.args.job) s x f (c.take-value.ensures.setup ∙ c.requires.seated.free.setup_is) (λ h es. c.stays.ensures.runs t.setup h es k c.args.job) c.requires.runs
+
+pub returns-clause-seated : goal.returns-clause-seated
+returns-clause-seated g c =
+    let m = meaning g.T.Kept in
+    let gave = g.C.Clock.gave in
+    let t = c.args.turn.now in
+    let s : SeatView = c.args.seat.now in
+    let n = c.args.batcher + 1 in
+    let x = c.take-value.result.value in
+    let y = c.end_and_ask-next.new.book in
+    let f = found m gave t n s (m.history x) c.requires.seated c.take-value.ensures.legal c.take-value.ensures.begins c.take-value.ensures.mine in
+    subst (IsSeated m.author m.may_follow gave t n) (sym (gone_back m gave t n s c.take-value.new.seat c.give.new.seat x y c.take-value.ensures.seat c.give.ensures))
+    (given m gave t n c.now-moment.result s x y c.requires.seated f (c.take-value.ensures.setup ∙ c.requires.seated.free.setup_is) c.end_and_ask-next.ensures.goes_on c.end_and_ask-next.ensures.moments c.now-moment.ensures)
+
+pub returns-clause-called : goal.returns-clause-called
+returns-clause-called g c =
+    let m = meaning g.T.Kept in
+    let gave = g.C.Clock.gave in
+    let t = c.args.turn.now in
+    let s : SeatView = c.args.seat.now in
+    let k = c.args.batcher in
+    let x = c.take-value.result.value in
+    let y = c.end_and_ask-next.new.book in
+    let f = found m gave t (k + 1) s (m.history x) c.requires.seated c.take-value.ensures.legal c.take-value.ensures.begins c.take-value.ensures.mine in
+    on_ok c.end_and_ask-next.result _ _ (λ called sends.
+    comes_to m gave t (k + 1) (λ u h. g.T.Pooled.calls u sends h k) (λ u l. l ++ call_of u sends c.args.job.event c.args.reply ∷ []) s c.give.new.seat x y f (c.take-value.ensures.setup ∙ c.requires.seated.free.setup_is)
+    (gone_back m gave t (k + 1) s c.take-value.new.seat c.give.new.seat x y c.take-value.ensures.seat c.give.ensures) (λ h es. c.stays.ensures.calls t.setup sends h es k) (called sends))
+    c.end_and_ask-next.ensures.called
+
+pub returns-clause-no_end : goal.returns-clause-no_end
+returns-clause-no_end g c =
+    let m = meaning g.T.Kept in
+    let gave = g.C.Clock.gave in
+    let t = c.args.turn.now in
+    let s : SeatView = c.args.seat.now in
+    let k = c.args.batcher in
+    let x = c.take-value.result.value in
+    let y = c.end_and_ask-next.new.book in
+    let f = found m gave t (k + 1) s (m.history x) c.requires.seated c.take-value.ensures.legal c.take-value.ensures.begins c.take-value.ensures.mine in
+    on_err c.end_and_ask-next.result _ _ (λ same sends.
+    comes_to m gave t (k + 1) (λ u h. g.T.Pooled.calls u sends h k) (λ u l. l) s c.give.new.seat x y f (c.take-value.ensures.setup ∙ c.requires.seated.free.setup_is)
+    (gone_back m gave t (k + 1) s c.take-value.new.seat c.give.new.seat x y c.take-value.ensures.seat c.give.ensures) (λ h es. c.stays.ensures.calls t.setup sends h es k)
+    (ap (λ h. g.T.Pooled.calls (m.setup x) sends h k) same))
+    c.end_and_ask-next.ensures.unchanged
+
+pub returns-clause-runs : goal.returns-clause-runs
+returns-clause-runs g c =
+    let m = meaning g.T.Kept in
+    let gave = g.C.Clock.gave in
+    let t = c.args.turn.now in
+    let s : SeatView = c.args.seat.now in
+    let k = c.args.batcher in
+    let x = c.take-value.result.value in
+    let y = c.end_and_ask-next.new.book in
+    let f = found m gave t (k + 1) s (m.history x) c.requires.seated c.take-value.ensures.legal c.take-value.ensures.begins c.take-value.ensures.mine in
+    on_err c.end_and_ask-next.result _ _ (λ same.
+    holds_still m gave t (k + 1) (λ u h. g.T.Pooled.runs u h k c.args.job) s c.give.new.seat x y f
+    (gone_back m gave t (k + 1) s c.take-value.new.seat c.give.new.seat x y c.take-value.ensures.seat c.give.ensures) same
+    (λ h es. c.stays.ensures.runs t.setup h es k c.args.job) c.requires.runs)
+    c.end_and_ask-next.ensures.unchanged
+
+pub returns-clause-grows : goal.returns-clause-grows
+returns-clause-grows g c =
+    let m = meaning g.T.Kept in
+    let gave = g.C.Clock.gave in
+    let t = c.args.turn.now in
+    let s : SeatView = c.args.seat.now in
+    let n = c.args.batcher + 1 in
+    let x = c.take-value.result.value in
+    let y = c.end_and_ask-next.new.book in
+    let f = found m gave t n s (m.history x) c.requires.seated c.take-value.ensures.legal c.take-value.ensures.begins c.take-value.ensures.mine in
+    grown m gave t n s c.give.new.seat x y f (gone_back m gave t n s c.take-value.new.seat c.give.new.seat x y c.take-value.ensures.seat c.give.ensures) c.end_and_ask-next.ensures.goes_on.history_is

@@ -1,0 +1,253 @@
+// A batcher's work, from its first question to its end.
+ghost use Rattle.std.specs.Prelude.{◌≡◌, ◌<◌, ◌+◌, ◌++◌, ◌∷◌, [], ℕ, List, Ok, IfOk, IfSome, IfNone, OnOk, OnErr, IsErrOf, true};
+ghost use mathlib.Core.List.{IsPrefix};
+ghost use Rattle.esm_io.specs.Told.{Grows};
+ghost use Rattle.esm_model.specs.declared.book.BookError.TheVariants as why;
+ghost use Rattle.esm_model.specs.declared.limits.TheConstants.{MAX_LANES};
+ghost use Rattle.esm_model.specs.Books.{entries_told};
+ghost use Rattle.esm_model.specs.Entries.{is_shut};
+ghost use Rattle.esm_model.specs.Kept.{meaning, added};
+ghost use Rattle.esm_model.specs.Batching.{Answers, call_of};
+ghost use Rattle.esm_model.specs.GoingOn.{AllAt, GoesOn, OwnFollowShut};
+ghost use Rattle.esm_workers.specs.Rounds.{GoesOnFrom, IsAnswer, StopsWork, answer_of};
+ghost use Rattle.esm_workers.specs.Seated.{IsSeated};
+ghost use Rattle.esm_workers.specs.Working.{HasLogged, HasEnded};
+
+use esm_io::{Caller, Clock};
+use esm_model::{BookError, Job, Next, OutOfMemory, Pooled, Reply};
+use esm_turn::{Held, Seat, Turn};
+use std::alloc::Global;
+use std::sync::Wait;
+
+/// The longest pause of a batcher, in milliseconds; then it asks again. This product's own.
+pub const MAX_PAUSE: u64 = 1_000;
+
+// What the batcher does next. The moment is read before the turn is taken.
+fn ask<R: Wait, T: Pooled, C: Clock>(
+    rt: &R,
+    alloc: Global,
+    turn: &Turn<T>,
+    seat: &mut Seat<T>,
+    clock: &C,
+    batcher: u32,
+) -> Result<Next, BookError>
+    requires number { batcher < MAX_LANES }
+    requires seated { IsSeated T.author T.may_follow C.gave turn.now (batcher + 1) seat.old }
+    requires rests { T.rests turn.now.setup seat.old.seen batcher }
+    ensures seated { IsSeated T.author T.may_follow C.gave turn.now (batcher + 1) seat.new }
+    ensures grows { IsPrefix seat.old.seen seat.new.seen }
+    ensures no_end { (sends : List ℕ → List ℕ) → T.calls turn.now.setup sends seat.new.seen batcher ≡ T.calls turn.now.setup sends seat.old.seen batcher }
+    ensures answer { IsAnswer T.rests T.runs T.finished T.spent turn.now.setup batcher seat.new.seen seat.new.mark result }
+{
+    T::stays();
+    let moment = clock.now();
+    let Held { mut value } = turn.take(rt, seat);
+    let next = value.ask(alloc, batcher, moment);
+    turn.give(seat, Held { value });
+    next
+}
+
+// Ends the batcher's call with this reply, and asks what the batcher does next. Without the memory to note the end nothing is
+// noted or asked.
+fn end_and_ask<T: Pooled>(
+    book: &mut T,
+    alloc: Global,
+    batcher: u32,
+    job: Job,
+    reply: Reply,
+    moment: u64,
+) -> Result<Result<Next, BookError>, OutOfMemory>
+    requires number { batcher < MAX_LANES }
+    requires runs { T.runs (T.setup book.old) (T.history book.old) batcher job }
+    ensures goes_on { GoesOn (meaning T.Kept) (batcher + 1) book.old book.new }
+    ensures moments { AllAt moment (T.history book.old) (added (T.history book.old) (T.history book.new)) }
+    ensures answer { IfOk result (IsAnswer T.rests T.runs T.finished T.spent (T.setup book.old) batcher (T.history book.new) (T.mark book.new)) }
+    ensures called { OnOk result ((sends : List ℕ → List ℕ) →
+        T.calls (T.setup book.old) sends (T.history book.new) batcher ≡
+        T.calls (T.setup book.old) sends (T.history book.old) batcher ++ call_of (T.setup book.old) sends job.event reply ∷ []) }
+    ensures unchanged { OnErr result (T.history book.new ≡ T.history book.old) }
+{
+    match book.end_call(alloc, batcher, job, reply, moment) {
+        Ok(_) => Ok(book.ask(alloc, batcher, moment)),
+        Err(BookError::OutOfMemory) => Err(OutOfMemory),
+        Err(why) => Ok(Err(why)),
+    }
+}
+
+// The batcher's call came to this reply; answers what the batcher does next. The moment is read before the turn is taken.
+fn tell<R: Wait, T: Pooled, C: Clock>(
+    rt: &R,
+    alloc: Global,
+    turn: &Turn<T>,
+    seat: &mut Seat<T>,
+    clock: &C,
+    batcher: u32,
+    job: Job,
+    reply: Reply,
+) -> Result<Result<Next, BookError>, OutOfMemory>
+    requires number { batcher < MAX_LANES }
+    requires seated { IsSeated T.author T.may_follow C.gave turn.now (batcher + 1) seat.old }
+    requires runs { T.runs turn.now.setup seat.old.seen batcher job }
+    ensures seated { IsSeated T.author T.may_follow C.gave turn.now (batcher + 1) seat.new }
+    ensures grows { IsPrefix seat.old.seen seat.new.seen }
+    // Where the end is noted.
+    ensures called { OnOk result ((sends : List ℕ → List ℕ) →
+        T.calls turn.now.setup sends seat.new.seen batcher ≡
+        T.calls turn.now.setup sends seat.old.seen batcher ++ call_of turn.now.setup sends job.event reply ∷ []) }
+    ensures answer { IfOk result (IsAnswer T.rests T.runs T.finished T.spent turn.now.setup batcher seat.new.seen seat.new.mark) }
+    // Where it is not.
+    ensures no_end { OnErr result ((sends : List ℕ → List ℕ) →
+        T.calls turn.now.setup sends seat.new.seen batcher ≡ T.calls turn.now.setup sends seat.old.seen batcher) }
+    ensures runs { OnErr result (T.runs turn.now.setup seat.new.seen batcher job) }
+{
+    T::stays();
+    let moment = clock.now();
+    let Held { mut value } = turn.take(rt, seat);
+    let next = end_and_ask(&mut value, alloc, batcher, job, reply, moment);
+    turn.give(seat, Held { value });
+    next
+}
+
+// Makes the call that began, tells its end, and answers what the batcher does next.
+fn make_call<R: Wait, T: Pooled, C: Clock, F: Caller>(
+    rt: &R,
+    alloc: Global,
+    turn: &Turn<T>,
+    seat: &mut Seat<T>,
+    caller: &mut F,
+    clock: &C,
+    name: &str,
+    batcher: u32,
+    job: Job,
+) -> Result<Result<Next, BookError>, OutOfMemory>
+    requires number { batcher < MAX_LANES }
+    requires name { name.now ≡ turn.now.setup.config.function }
+    requires seated { IsSeated T.author T.may_follow C.gave turn.now (batcher + 1) seat.old }
+    requires runs { T.runs turn.now.setup seat.old.seen batcher job }
+    ensures seated { IsSeated T.author T.may_follow C.gave turn.now (batcher + 1) seat.new }
+    ensures grows { IsPrefix seat.old.seen seat.new.seen }
+    ensures answer { IfOk result (IsAnswer T.rests T.runs T.finished T.spent turn.now.setup batcher seat.new.seen seat.new.mark) }
+    ensures called { OnOk result (GoesOnFrom (T.calls turn.now.setup F.sends seat.old.seen batcher) (F.log caller.old)
+        (λ first. Grows first (F.log caller.new) (T.calls turn.now.setup F.sends seat.new.seen batcher))) }
+    ensures stopped { OnErr result (GoesOnFrom (T.calls turn.now.setup F.sends seat.old.seen batcher) (F.log caller.old)
+        (λ first. HasLogged (T.runs turn.now.setup seat.new.seen batcher) turn.now.setup F.sends
+        (T.calls turn.now.setup F.sends seat.new.seen batcher) first (F.log caller.new))) }
+{
+    let reply = caller.call(alloc, name, job.event.as_slice())?;
+    tell(rt, alloc, turn, seat, clock, batcher, job, reply)
+}
+
+// Pauses until the moment, in milliseconds, but for `MAX_PAUSE` at most.
+fn pause<C: Clock>(clock: &C, until: u64) {
+    let latest = clock.now().saturating_add(MAX_PAUSE);
+    clock.pause(until.min(latest));
+}
+
+// What is left for a batcher to do. An answer that ends its work leaves none of these.
+enum Left {
+    // It makes this call.
+    Call(Job),
+    // It asks again: so many records got their fate.
+    Gave(u32),
+    // It pauses until this moment, in milliseconds, and asks again.
+    Idle { until: u64 },
+}
+
+// What is left to do after the answer; nothing where it ends the batcher's work or the book is down.
+fn left_after(answer: Result<Next, BookError>) -> Result<Option<Left>, OutOfMemory>
+    ensures goes { IfOk result (λ left. IfSome left (λ l. answer ≡ Ok (answer_of l))) }
+    ensures stops { IfOk result (λ left. IfNone left (StopsWork answer)) }
+    ensures memory { OnErr result (IsErrOf answer why.OutOfMemory) }
+{
+    match answer {
+        Ok(Next::Call(job)) => Ok(Some(Left::Call(job))),
+        Ok(Next::Gave(count)) => Ok(Some(Left::Gave(count))),
+        Ok(Next::Idle { until }) => Ok(Some(Left::Idle { until })),
+        Ok(Next::Spent | Next::Finished) => Ok(None),
+        Err(BookError::OutOfMemory) => Err(OutOfMemory),
+        Err(_) => Ok(None),
+    }
+}
+
+// Does what is left for the batcher, and answers what it does next.
+fn round<R: Wait, T: Pooled, C: Clock, F: Caller>(
+    rt: &R,
+    alloc: Global,
+    turn: &Turn<T>,
+    seat: &mut Seat<T>,
+    caller: &mut F,
+    clock: &C,
+    name: &str,
+    batcher: u32,
+    left: Left,
+) -> Result<Result<Next, BookError>, OutOfMemory>
+    requires number { batcher < MAX_LANES }
+    requires name { name.now ≡ turn.now.setup.config.function }
+    requires seated { IsSeated T.author T.may_follow C.gave turn.now (batcher + 1) seat.old }
+    requires answer { Answers T.rests T.runs turn.now.setup seat.old.seen batcher (answer_of left) }
+    ensures seated { IsSeated T.author T.may_follow C.gave turn.now (batcher + 1) seat.new }
+    ensures grows { IsPrefix seat.old.seen seat.new.seen }
+    ensures answer { IfOk result (IsAnswer T.rests T.runs T.finished T.spent turn.now.setup batcher seat.new.seen seat.new.mark) }
+    ensures called { OnOk result (GoesOnFrom (T.calls turn.now.setup F.sends seat.old.seen batcher) (F.log caller.old)
+        (λ first. Grows first (F.log caller.new) (T.calls turn.now.setup F.sends seat.new.seen batcher))) }
+    ensures stopped { OnErr result (GoesOnFrom (T.calls turn.now.setup F.sends seat.old.seen batcher) (F.log caller.old)
+        (λ first. HasLogged (T.runs turn.now.setup seat.new.seen batcher) turn.now.setup F.sends
+        (T.calls turn.now.setup F.sends seat.new.seen batcher) first (F.log caller.new))) }
+{
+    match left {
+        Left::Call(job) => make_call(rt, alloc, turn, seat, caller, clock, name, batcher, job),
+        Left::Gave(_) => Ok(ask(rt, alloc, turn, seat, clock, batcher)),
+        Left::Idle { until } => {
+            pause(clock, until);
+            let answer = ask(rt, alloc, turn, seat, clock, batcher);
+            Ok(answer)
+        }
+    }
+}
+
+// What holds of a batcher whose seat has added nothing. Does nothing.
+fn begin<T: Pooled, C: Clock>(turn: &Turn<T>, seat: &Seat<T>, clock: &C, batcher: u32)
+    requires seated { IsSeated T.author T.may_follow C.gave turn.now (batcher + 1) seat.now }
+    requires unused { seat.now.mine ≡ [] }
+    ensures calls { (sends : List ℕ → List ℕ) → T.calls turn.now.setup sends seat.now.seen batcher ≡ [] }
+    ensures rests { T.rests turn.now.setup seat.now.seen batcher }
+{
+    T::begins();
+    T::stays();
+}
+
+/// Asks for the batcher, calls the function `name` and pauses, for `MAX_PAUSE` at most, until it is answered that nothing is
+/// left or that all calls allowed were made, or the book is down. Want of memory ends it at any point.
+pub fn call_all<R: Wait, T: Pooled, C: Clock, F: Caller>(
+    rt: &R,
+    alloc: Global,
+    turn: &Turn<T>,
+    seat: &mut Seat<T>,
+    caller: &mut F,
+    clock: &C,
+    name: &str,
+    batcher: u32,
+) -> Result<(), OutOfMemory>
+    requires number { batcher < MAX_LANES }
+    requires name { name.now ≡ turn.now.setup.config.function }
+    requires seated { IsSeated T.author T.may_follow C.gave turn.now (batcher + 1) seat.old }
+    requires unused { seat.old.mine ≡ [] }
+    ensures seated { IsSeated T.author T.may_follow C.gave turn.now (batcher + 1) seat.new }
+    ensures later { is_shut (entries_told seat.old.seen) ≡ true → OwnFollowShut (T.author turn.now.setup) (batcher + 1) [] seat.new.seen }
+    // How it ends.
+    ensures ended { OnOk result (HasEnded T.finished T.spent turn.now.setup batcher seat.new) }
+    ensures rests { OnOk result (T.rests turn.now.setup seat.new.seen batcher) }
+    ensures called { OnOk result (Grows (F.log caller.old) (F.log caller.new) (T.calls turn.now.setup F.sends seat.new.seen batcher)) }
+    ensures stopped { OnErr result (HasLogged (T.runs turn.now.setup seat.new.seen batcher) turn.now.setup F.sends
+        (T.calls turn.now.setup F.sends seat.new.seen batcher) (F.log caller.old) (F.log caller.new)) }
+{
+    begin(turn, seat, clock, batcher);
+    let mut answer = ask(rt, alloc, turn, seat, clock, batcher);
+    for _ in rt.forever() {
+        let Some(left) = left_after(answer)? else {
+            return Ok(());
+        };
+        answer = round(rt, alloc, turn, seat, caller, clock, name, batcher, left)?;
+    }
+    unreachable!()
+}

@@ -1,5 +1,0 @@
-use Rattle.esm_writable.proofs.Saying.{all_said}
-use Rattle.esm_writable.proofs.laws.legal_may_be_said.Goals as goal
-
-pub returns : goal.returns
-returns c = all_said
