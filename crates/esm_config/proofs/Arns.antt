@@ -1,5 +1,5 @@
 -- What the parts of an ARN say of its text.
-use Rattle.std.proofs.Common.{◌≡◌, ◌∙◌, ◌<◌, ℕ, Bool, cond, true, false, ◌&&◌, refl, ap, subst, List, [], ◌∷◌, ◌++◌, append_assoc, drop, length, get_or, codes, Option, Some, None, option_map, option_and_then, nat_eq, nat_lt}
+use Rattle.std.proofs.Common.{◌≡◌, ◌∙◌, ◌<◌, ℕ, ◌==◌, Bool, cond, true, false, ◌&&◌, refl, ap, subst, List, [], ◌∷◌, ◌++◌, append_assoc, drop, length, get_or, codes, Option, Some, None, option_map, option_and_then, nat_eq, nat_lt}
 use Rattle.std.specs.List.{after_first, before_first, ends_with, position_or_len, starts_with}
 use Rattle.std.specs.Option.{option_or}
 use Rattle.std.proofs.lemmas.Bool.{and_parts, eqb-true, ltb-true}
@@ -8,11 +8,14 @@ use Rattle.std.proofs.lemmas.List.Sums.{passes_at_first, split_at_first}
 use Rattle.std.proofs.lemmas.Slice.Eq.{starts_is}
 use Rattle.serde_json.specs.Data.{Data}
 use Rattle.serde_json.specs.Find.{as_str}
-use Rattle.esm_model.specs.Valid.{IsFunctionArn, IsKinesisSource, arn_of, is_account, is_name_byte, is_queue_name, is_region, is_stream_byte, is_word}
-use Rattle.esm_model.specs.declared.config.Kind.TheVariants.{Standard, Fifo}
-use Rattle.esm_config.specs.Arn.{Owned, Source, cut, function_arn_of, is_colon, is_function, is_queue, is_stream, kept, owned, owned_account, owned_name, owned_region, owned_rest, queue_kind, queue_of, queue_source, source_of, stream_of, stream_source, strip}
+use Rattle.esm_model.specs.Valid.{IsFunctionArn, IsKinesisSource, IsTableSource, arn_of, is_account, is_label_byte, is_name_byte, is_queue_name, is_region, is_stream_byte, is_word}
+use Rattle.esm_model.specs.declared.config.Kind.{Kind}
+use Rattle.esm_model.specs.declared.config.Kind.TheVariants.{Stream, Standard, Fifo}
+use Rattle.esm_config.specs.Arn.{Owned, Source, cut, cut_at, function_arn_of, is_function, is_label, is_queue, is_slash, is_stream, is_table, is_table_path, kept, owned, owned_account, owned_name, owned_region, owned_rest, queue_kind, queue_of, queue_source, source_among, source_of, stream_of, stream_source, strip, table_of}
 use Rattle.esm_config.specs.Fields.{source_in}
 use Rattle.esm_config.specs.Given.{IsGivenSource}
+use Rattle.esm_config.specs.declared.sources.Sources.{Sources}
+use Rattle.esm_config.specs.declared.sources.Sources.TheVariants.{KinesisOrSqs, DynamoDb}
 
 pub inner : {X : Type 0} (a b : X) → Some a ≡ Some b → a ≡ b
 inner a b h = cc
@@ -28,16 +31,20 @@ prefix_then prefix text rest h =
     let t = some_of (starts_with nat_eq text prefix) (drop (length prefix) text) rest h in
     subst (λ (r : List ℕ). text ≡ prefix ++ r) t.1 ((starts_is Decides-eqb text prefix (starts_with nat_eq text prefix) refl).0 t.0)
 
+cut_then : (c : ℕ) (text a b : List ℕ) → cut_at (λ k. k == c) text ≡ Some (a, b) → text ≡ a ++ (c ∷ b)
+cut_then c text a b h =
+    let is_it : ℕ → Bool = λ k. k == c in
+    let t = some_of (nat_lt (position_or_len is_it text) (length text)) (before_first is_it text, after_first is_it text) (a, b) h in
+    let inside : position_or_len is_it text < length text = ltb-true (position_or_len is_it text) (length text) t.0 in
+    let colon : get_or text (position_or_len is_it text) 0 ≡ c = eqb-true (get_or text (position_or_len is_it text) 0) c (passes_at_first is_it text 0 inside) in
+    let before : before_first is_it text ≡ a = ap (λ (p : List ℕ × List ℕ). p.0) t.1 in
+    let after : after_first is_it text ≡ b = ap (λ (p : List ℕ × List ℕ). p.1) t.1 in
+    let split : text ≡ before_first is_it text ++ (get_or text (position_or_len is_it text) 0 ∷ after_first is_it text) = split_at_first is_it text 0 inside in
+    split ∙ (ap (λ (p : List ℕ). p ++ (get_or text (position_or_len is_it text) 0 ∷ after_first is_it text)) before
+    ∙ (ap (λ (k : ℕ). a ++ (k ∷ after_first is_it text)) colon ∙ ap (λ (q : List ℕ). a ++ (c ∷ q)) after))
+
 colon_then : (text a b : List ℕ) → cut text ≡ Some (a, b) → text ≡ a ++ (58 ∷ b)
-colon_then text a b h =
-    let t = some_of (nat_lt (position_or_len is_colon text) (length text)) (before_first is_colon text, after_first is_colon text) (a, b) h in
-    let inside : position_or_len is_colon text < length text = ltb-true (position_or_len is_colon text) (length text) t.0 in
-    let colon : get_or text (position_or_len is_colon text) 0 ≡ 58 = eqb-true (get_or text (position_or_len is_colon text) 0) 58 (passes_at_first is_colon text 0 inside) in
-    let before : before_first is_colon text ≡ a = ap (λ (p : List ℕ × List ℕ). p.0) t.1 in
-    let after : after_first is_colon text ≡ b = ap (λ (p : List ℕ × List ℕ). p.1) t.1 in
-    let split : text ≡ before_first is_colon text ++ (get_or text (position_or_len is_colon text) 0 ∷ after_first is_colon text) = split_at_first is_colon text 0 inside in
-    split ∙ (ap (λ (p : List ℕ). p ++ (get_or text (position_or_len is_colon text) 0 ∷ after_first is_colon text)) before
-    ∙ (ap (λ (c : ℕ). a ++ (c ∷ after_first is_colon text)) colon ∙ ap (λ (q : List ℕ). a ++ (58 ∷ q)) after))
+colon_then text a b h = cut_then 58 text a b h
 
 abbrev pub whole : List ℕ → Owned → List ℕ
 whole resource o = o.region ++ (58 ∷ (o.account ++ (58 ∷ (resource ++ o.name))))
@@ -107,14 +114,62 @@ queue_is text o h =
     let b = and_parts (is_account o.account) (is_queue_name (queue_kind o.name) o.name) a.1 in
     record { region = a.0; account = b.0; name = b.1; text = owned_is (codes "arn:aws:sqs:") [] text o k.0 ∙ queue_whole o }
 
--- a source is a stream, or a queue of its kind
+-- the stream of a table
 
-pub record IsFrom (s : Source) : Type 0 where
+label_is : (r : Option (List ℕ)) → is_label r ≡ true → (label : List ℕ) × (r ≡ Some label) × (is_word is_label_byte 1 64 label ≡ true)
+label_is None h = absurd (cc)
+label_is (Some label) h = (label, refl, h)
+
+record IsPath (path : List ℕ) : Type 0 where
+  name : List ℕ
+  label : List ℕ
+  is_name : is_word is_stream_byte 3 255 name ≡ true
+  is_label : is_word is_label_byte 1 64 label ≡ true
+  is : path ≡ name ++ (codes "/stream/" ++ label)
+
+path_is : (path : List ℕ) (p : Option (List ℕ × List ℕ)) → cut_at is_slash path ≡ p → is_table_path p ≡ true → IsPath path
+path_is path None e h = absurd (cc)
+path_is path (Some p) e h =
+    let parts = and_parts (is_word is_stream_byte 3 255 p.0) (is_label (strip (codes "stream/") p.1)) h in
+    let label = label_is (strip (codes "stream/") p.1) parts.1 in
+    record {
+      name = p.0;
+      label = label.0;
+      is_name = parts.0;
+      is_label = label.2;
+      is = cut_then 47 path p.0 p.1 e ∙ ap (λ (r : List ℕ). p.0 ++ (47 ∷ r)) (prefix_then (codes "stream/") p.1 label.0 label.1);
+    }
+
+table_whole : (o : Owned) → codes "arn:aws:dynamodb:" ++ whole (codes "table/") o ≡ arn_of (codes "dynamodb") o.region o.account (codes "table/" ++ o.name)
+table_whole o = simp append_assoc
+
+table_path : (name label : List ℕ) → codes "table/" ++ (name ++ (codes "/stream/" ++ label)) ≡ codes "table/" ++ name ++ codes "/stream/" ++ label
+table_path name label = simp append_assoc
+
+table_is : (text : List ℕ) (o : Owned) → table_of text ≡ Some o → (is_region o.region ≡ true) × (is_account o.account ≡ true) × IsTableSource o.region o.account text
+table_is text o h =
+    let k = kept_is is_table (owned (codes "arn:aws:dynamodb:") (codes "table/") text) o h in
+    let a = and_parts (is_region o.region) (is_account o.account && is_table_path (cut_at is_slash o.name)) k.1 in
+    let b = and_parts (is_account o.account) (is_table_path (cut_at is_slash o.name)) a.1 in
+    let p = path_is o.name (cut_at is_slash o.name) refl b.1 in
+    let path : codes "table/" ++ o.name ≡ codes "table/" ++ p.name ++ codes "/stream/" ++ p.label =
+    ap (λ (n : List ℕ). codes "table/" ++ n) p.is ∙ table_path p.name p.label in
+    let whole_is : text ≡ codes "arn:aws:dynamodb:" ++ whole (codes "table/") o = owned_is (codes "arn:aws:dynamodb:") (codes "table/") text o k.0 in
+    let arn_is = whole_is ∙ (table_whole o ∙ ap (λ (r : List ℕ). arn_of (codes "dynamodb") o.region o.account r) path) in
+    (a.0, b.0, (p.name, p.label, p.is_name, p.is_label, arn_is))
+
+-- a source is a stream, or a queue of its kind; or the stream of a table
+
+abbrev pub IsAmong : Sources → Kind → List ℕ → List ℕ → List ℕ → Type 0
+IsAmong KinesisOrSqs kind region account arn = IsGivenSource kind region account arn
+IsAmong DynamoDb kind region account arn = (kind ≡ Stream) × IsTableSource region account arn
+
+pub record IsFrom (sources : Sources) (s : Source) : Type 0 where
   pub region : is_region s.parts.region ≡ true
   pub account : is_account s.parts.account ≡ true
-  pub arn : IsGivenSource s.kind s.parts.region s.parts.account s.arn
+  pub arn : IsAmong sources s.kind s.parts.region s.parts.account s.arn
 
-from_stream : (text : List ℕ) (o : Owned) → stream_of text ≡ Some o → IsFrom (stream_source text o)
+from_stream : (text : List ℕ) (o : Owned) → stream_of text ≡ Some o → IsFrom KinesisOrSqs (stream_source text o)
 from_stream text o h = let s = stream_is text o h in record { region = s.0; account = s.1; arn = s.2 }
 
 queue_arn : (b : Bool) (region account name text : List ℕ) → is_queue_name (cond b Fifo Standard) name ≡ true → text ≡ arn_of (codes "sqs") region account name
@@ -122,21 +177,32 @@ queue_arn : (b : Bool) (region account name text : List ℕ) → is_queue_name (
 queue_arn true region account name text hn ht = (name, hn, ht)
 queue_arn false region account name text hn ht = (name, hn, ht)
 
-from_queue : (text : List ℕ) (o : Owned) → queue_of text ≡ Some o → IsFrom (queue_source text o)
+from_queue : (text : List ℕ) (o : Owned) → queue_of text ≡ Some o → IsFrom KinesisOrSqs (queue_source text o)
 from_queue text o h =
     let q = queue_is text o h in
     record { region = q.region; account = q.account; arn = queue_arn (ends_with nat_eq o.name (codes ".fifo")) o.region o.account o.name text q.name q.text }
 
 from_either : (text : List ℕ) (a b : Option Owned) (s : Source) → stream_of text ≡ a → queue_of text ≡ b
-    → option_or (option_map (stream_source text) a) (option_map (queue_source text) b) ≡ Some s → IsFrom s
+    → option_or (option_map (stream_source text) a) (option_map (queue_source text) b) ≡ Some s → IsFrom KinesisOrSqs s
 from_either text None None s ha hb h = absurd (cc)
-from_either text None (Some o) s ha hb h = subst (λ (r : Source). IsFrom r) (inner (queue_source text o) s h) (from_queue text o hb)
-from_either text (Some o) b s ha hb h = subst (λ (r : Source). IsFrom r) (inner (stream_source text o) s h) (from_stream text o ha)
+from_either text None (Some o) s ha hb h = subst (λ (r : Source). IsFrom KinesisOrSqs r) (inner (queue_source text o) s h) (from_queue text o hb)
+from_either text (Some o) b s ha hb h = subst (λ (r : Source). IsFrom KinesisOrSqs r) (inner (stream_source text o) s h) (from_stream text o ha)
 
-source_at : (t : Option (List ℕ)) (s : Source) → option_and_then source_of t ≡ Some s → IsFrom s
+source_at : (t : Option (List ℕ)) (s : Source) → option_and_then source_of t ≡ Some s → IsFrom KinesisOrSqs s
 source_at None s h = absurd (cc)
 source_at (Some text) s h = from_either text (stream_of text) (queue_of text) s refl refl h
 
-pub source_is : (d : Option Data) (s : Source) → source_in d ≡ Some s → IsFrom s
-source_is None s h = absurd (cc)
-source_is (Some d) s h = source_at (as_str d) s h
+from_table : (text : List ℕ) (r : Option Owned) (s : Source) → table_of text ≡ r → option_map (stream_source text) r ≡ Some s → IsFrom DynamoDb s
+from_table text None s e h = absurd (cc)
+from_table text (Some o) s e h =
+    let is = table_is text o e in
+    subst (λ (r : Source). IsFrom DynamoDb r) (inner (stream_source text o) s h) (record { region = is.0; account = is.1; arn = (refl, is.2) })
+
+table_at : (t : Option (List ℕ)) (s : Source) → option_and_then (source_among DynamoDb) t ≡ Some s → IsFrom DynamoDb s
+table_at None s h = absurd (cc)
+table_at (Some text) s h = from_table text (table_of text) s refl h
+
+pub source_is : (sources : Sources) (d : Option Data) (s : Source) → source_in sources d ≡ Some s → IsFrom sources s
+source_is sources None s h = absurd (cc)
+source_is KinesisOrSqs (Some d) s h = source_at (as_str d) s h
+source_is DynamoDb (Some d) s h = table_at (as_str d) s h

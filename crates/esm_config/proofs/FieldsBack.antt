@@ -10,10 +10,11 @@ use Rattle.esm_model.specs.declared.config.Start.TheVariants.{TrimHorizon, Lates
 use Rattle.esm_model.specs.Pattern.{read_patterns}
 use Rattle.esm_model.specs.Valid.{is_batch_size, is_between, is_destination, is_seconds, is_start, is_stream, is_window, none_or}
 use Rattle.esm_config.specs.Arn.{kept}
-use Rattle.esm_config.specs.Fields.{age_in, age_within, are_criteria, attempts_within, batch_size_in, concurrency_in, destination_in, factor_in, filters_in, is_tumbling_for, is_window_for, item_failures_in, last_second, limit_of, milliseconds, pattern_texts, position_in, retries_in, start_in, tumbling_in, whole_in, window_in}
+use Rattle.esm_config.specs.Fields.{age_in, age_within, are_criteria, attempts_within, batch_size_in, concurrency_in, destination_in, factor_in, filters_in, is_tumbling_for, is_window_for, item_failures_in, last_second, limit_of, milliseconds, pattern_texts, patterns_among, position_in, retries_in, start_in, tumbling_in, whole_in, window_in}
 use Rattle.esm_config.specs.Text.{criteria, on_failure, pattern_items, position, response_types, scaling, seconds, seconds_or_none, timestamp, whole, whole_or_none}
 use Rattle.esm_config.specs.declared.position.Position.{Position}
 use Rattle.esm_config.specs.declared.position.Position.TheVariants as place
+use Rattle.esm_config.specs.declared.sources.Sources.TheVariants.{KinesisOrSqs}
 
 whole_back : (low high n : ℕ) → is_between low high n ≡ true → whole_in low high (whole n) ≡ Some n
 whole_back low high n h = ap (λ b. cond b (Some n) None) h
@@ -57,10 +58,10 @@ texts_back : (ts : List (List ℕ)) → pattern_texts (pattern_items ts) ≡ Som
 texts_back [] = refl
 texts_back (t ∷ ts) = ap (λ o. option_map (λ us. t ∷ us) o) (texts_back ts)
 
-pub filters_back : (k : Kind) (ts : List (List ℕ)) → length ts ≤ MAX_FILTERS → is_ok (read_patterns (is_stream k) ts) ≡ true → filters_in k (criteria ts) ≡ Some ts
+pub filters_back : (k : Kind) (ts : List (List ℕ)) → length ts ≤ MAX_FILTERS → is_ok (read_patterns (is_stream k) ts) ≡ true → filters_in KinesisOrSqs k (criteria ts) ≡ Some ts
 filters_back k [] count patterns = refl
 filters_back k (t ∷ ts) count patterns =
-    ap (λ o. kept (are_criteria k) o) (texts_back (t ∷ ts))
+    ap (λ o. kept (are_criteria k) (option_and_then (patterns_among KinesisOrSqs) o)) (texts_back (t ∷ ts))
     ∙ ap (λ b. cond b (Some (t ∷ ts)) None)
     (and_from (nat_le (length (t ∷ ts)) MAX_FILTERS) (is_ok (read_patterns (is_stream k) (t ∷ ts))) (le-leb (length (t ∷ ts)) MAX_FILTERS count) patterns)
 
@@ -75,7 +76,7 @@ place_of TrimHorizon = place.TrimHorizon
 place_of Latest = place.Latest
 place_of (At ms) = place.AtTimestamp
 
-pub place_back : (s : Start) → position_in Stream (Some (position s)) ≡ Some (place_of s)
+pub place_back : (s : Start) → position_in KinesisOrSqs Stream (Some (position s)) ≡ Some (place_of s)
 place_back TrimHorizon = refl
 place_back Latest = refl
 place_back (At ms) = refl

@@ -6,7 +6,7 @@ use Rattle.serde_json.specs.Data.{string, Items, no_items, item}
 use Rattle.serde_json.specs.View.{view, items_view}
 use Rattle.serde_json.specs.Written.{comma_if, compact_text, has_float, members_have_float, members_text}
 use Rattle.serde_json.specs.declared.value.Value.{Value}
-use Rattle.esm_config.specs.Fields.{pattern_text, pattern_texts, reports_of}
+use Rattle.esm_config.specs.Fields.{data_pattern_of, data_patterns, pattern_text, pattern_texts, reports_of}
 use Rattle.esm_config.specs.Member.{members_of}
 use Rattle.esm_config.specs.Text.{one_member, pattern_items}
 use Rattle.esm_config.specs.declared.member.Member.{Member}
@@ -49,6 +49,25 @@ no_text vs i v ts within is e =
 
 pub all_texts : (vs : List Value) (i : ℕ) (ts : List (List ℕ)) → length vs ≤ i → after ts (pattern_texts (items_view (drop i vs))) ≡ Some ts
 all_texts vs i ts h = ap (λ ws. after ts (pattern_texts (items_view ws))) (none_left vs i h) ∙ ap Some (append-nil ts)
+
+-- keeping patterns over the data of a record
+
+abbrev joined_patterns : List (List ℕ) → Option (List ℕ) → List (List ℕ) → Option (List (List ℕ))
+joined_patterns ps o left = after ps (option_and_then (λ p. option_map (λ us. p ∷ us) (data_patterns left)) o)
+
+pub more_patterns : (ts : List (List ℕ)) (i : ℕ) (t : List ℕ) (ps : List (List ℕ)) (p : List ℕ) → i < length ts → t ≡ get_or ts i t → Some p ≡ data_pattern_of t
+    → after ps (data_patterns (drop i ts)) ≡ after (ps ++ p ∷ []) (data_patterns (drop (i + 1) ts))
+more_patterns ts i t ps p within is e =
+    ap (λ us. after ps (data_patterns us)) (next ts i t within is)
+    ∙ (ap (λ o. joined_patterns ps o (drop (i + 1) ts)) (sym e) ∙ one_after ps p (data_patterns (drop (i + 1) ts)))
+
+pub no_pattern : (ts : List (List ℕ)) (i : ℕ) (t : List ℕ) (ps : List (List ℕ)) → i < length ts → t ≡ get_or ts i t → None ≡ data_pattern_of t
+    → after ps (data_patterns (drop i ts)) ≡ None
+no_pattern ts i t ps within is e =
+    ap (λ us. after ps (data_patterns us)) (next ts i t within is) ∙ ap (λ o. joined_patterns ps o (drop (i + 1) ts)) (sym e)
+
+pub all_patterns : (ts : List (List ℕ)) (i : ℕ) (ps : List (List ℕ)) → length ts ≤ i → after ps (data_patterns (drop i ts)) ≡ Some ps
+all_patterns ts i ps h = ap (λ us. after ps (data_patterns us)) (none_left ts i h) ∙ ap Some (append-nil ps)
 
 pub two_reports : (vs : List Value) → 2 ≤ length vs → reports_of (items_view vs) ≡ None
 two_reports [] h = absurd (omega arith)

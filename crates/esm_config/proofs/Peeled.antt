@@ -30,13 +30,13 @@ not_barred true p r y h = absurd (cc)
 not_barred false p r y h = h
 
 pub record IsParties (fs : Fields) (p : Parties) : Type 0 where
-  pub source : source_in (fs.look param.EventSourceArn) ≡ Some p.source
+  pub source : source_in fs.sources (fs.look param.EventSourceArn) ≡ Some p.source
   pub function : function_in (fs.look param.FunctionName) ≡ Some p.function
 
 is_parties : (fs : Fields) (p : Parties) → parties_of fs ≡ Ok p → IsParties fs p
 is_parties fs p e =
     let open' = not_barred (fs.is_barred param.EventSourceArn) param.EventSourceArn _ p e in
-    let source = with_ok param.EventSourceArn (source_in (fs.look param.EventSourceArn)) _ p open' in
+    let source = with_ok param.EventSourceArn (source_in fs.sources (fs.look param.EventSourceArn)) _ p open' in
     let function = with_ok param.FunctionName (function_in (fs.look param.FunctionName)) _ p source.2 in
     let enabled = with_ok param.Enabled (enabled_in (fs.look param.Enabled)) _ p function.2 in
     subst (λ (k : Parties). IsParties fs k) (ok_inner _ p enabled.2) (record { source = source.1; function = function.1 })
@@ -44,27 +44,28 @@ is_parties fs p e =
 pub record IsBatching (kind : Kind) (fs : Fields) (b : Batching) : Type 0 where
   pub batch_size : batch_size_in kind (fs.look param.BatchSize) ≡ Some b.batch_size
   pub window : window_in kind b.batch_size (fs.look param.MaximumBatchingWindowInSeconds) ≡ Some b.window_ms
-  pub filters : filters_in kind (fs.look param.FilterCriteria) ≡ Some b.filters
+  pub filters : filters_in fs.sources kind (fs.look param.FilterCriteria) ≡ Some b.filters
 
 is_batching : (kind : Kind) (fs : Fields) (b : Batching) → batching_of kind fs ≡ Ok b → IsBatching kind fs b
 is_batching kind fs b e =
     let size = with_ok param.BatchSize (batch_size_in kind (fs.look param.BatchSize)) _ b e in
     let window = with_ok param.MaximumBatchingWindowInSeconds (window_in kind size.0 (fs.look param.MaximumBatchingWindowInSeconds)) _ b size.2 in
-    let filters = with_ok param.FilterCriteria (filters_in kind (fs.look param.FilterCriteria)) _ b window.2 in
+    let filters = with_ok param.FilterCriteria (filters_in fs.sources kind (fs.look param.FilterCriteria)) _ b window.2 in
     let failures = with_ok param.FunctionResponseTypes (item_failures_in (fs.look param.FunctionResponseTypes)) _ b filters.2 in
     subst (λ (k : Batching). IsBatching kind fs k) (ok_inner _ b failures.2) (record { batch_size = size.1; window = window.1; filters = filters.1 })
 
 pub record IsStart (kind : Kind) (fs : Fields) (s : Start) : Type 0 where
   pub position : Position
+  pub is_position : position_in fs.sources kind (fs.look param.StartingPosition) ≡ Some position
   pub start : start_in kind position (fs.look param.StartingPositionTimestamp) ≡ Some s
 
 is_start_field : (kind : Kind) (fs : Fields) (s : Start) → start_field kind fs ≡ Ok s → IsStart kind fs s
 is_start_field kind fs s e =
     let first = not_barred (fs.is_barred param.StartingPosition) param.StartingPosition _ s e in
-    let position = with_ok param.StartingPosition (position_in kind (fs.look param.StartingPosition)) _ s first in
+    let position = with_ok param.StartingPosition (position_in fs.sources kind (fs.look param.StartingPosition)) _ s first in
     let second = not_barred (fs.is_barred param.StartingPositionTimestamp) param.StartingPositionTimestamp _ s position.2 in
     let start = with_ok param.StartingPositionTimestamp (start_in kind position.0 (fs.look param.StartingPositionTimestamp)) _ s second in
-    record { position = position.0; start = start.1 ∙ ap Some (ok_inner start.0 s start.2) }
+    record { position = position.0; is_position = position.1; start = start.1 ∙ ap Some (ok_inner start.0 s start.2) }
 
 pub record IsPace (kind : Kind) (fs : Fields) (p : Pace) : Type 0 where
   pub factor : factor_in kind (fs.look param.ParallelizationFactor) ≡ Some p.factor

@@ -29,6 +29,7 @@ use Rattle.esm_config.specs.declared.param.Param.{Param}
 use Rattle.esm_config.specs.declared.param.Param.TheVariants as param
 use Rattle.esm_config.specs.declared.position.Position.{Position}
 use Rattle.esm_config.specs.declared.position.Position.TheVariants as place
+use Rattle.esm_config.specs.declared.sources.Sources.TheVariants.{KinesisOrSqs}
 use Rattle.esm_config.proofs.ArnsBack.{IsBack, function_arn_back, source_back}
 use Rattle.esm_config.proofs.FieldsBack.{age_back, concurrency_back, destination_back, factor_back, filters_back, place_back, place_of, retries_back, size_back, start_back, tumbling_back, types_back, window_back}
 use Rattle.esm_config.proofs.ReadBack.{get_last, last_of, put_all, reads_object}
@@ -151,27 +152,27 @@ then_is : {A B : Type 0} (r : Result A Param) (x : A) (go_on : A → Result B Pa
 then_is {A} r x go_on e = ap (λ (u : Result A Param). and_then u go_on) e
 
 module _ (d : Data) where
-  parties_are : (s : Source) (f : Named) (e : Bool) → source_in ((fields_of d).look param.EventSourceArn) ≡ Some s → function_in ((fields_of d).look param.FunctionName) ≡ Some f
+  parties_are : (s : Source) (f : Named) (e : Bool) → source_in KinesisOrSqs ((fields_of d).look param.EventSourceArn) ≡ Some s → function_in ((fields_of d).look param.FunctionName) ≡ Some f
       → enabled_in ((fields_of d).look param.Enabled) ≡ Some e → parties_of (fields_of d) ≡ Ok (record { source = s; function = f; enabled = e })
   parties_are s f e hs hf he =
-      with_is param.EventSourceArn (source_in ((fields_of d).look param.EventSourceArn)) s _ hs
+      with_is param.EventSourceArn (source_in KinesisOrSqs ((fields_of d).look param.EventSourceArn)) s _ hs
       ∙ (with_is param.FunctionName (function_in ((fields_of d).look param.FunctionName)) f _ hf
       ∙ with_is param.Enabled (enabled_in ((fields_of d).look param.Enabled)) e _ he)
 
   batching_are : (k : Kind) (n w : ℕ) (ts : List (List ℕ)) (b : Bool) → batch_size_in k ((fields_of d).look param.BatchSize) ≡ Some n
-      → window_in k n ((fields_of d).look param.MaximumBatchingWindowInSeconds) ≡ Some w → filters_in k ((fields_of d).look param.FilterCriteria) ≡ Some ts
+      → window_in k n ((fields_of d).look param.MaximumBatchingWindowInSeconds) ≡ Some w → filters_in KinesisOrSqs k ((fields_of d).look param.FilterCriteria) ≡ Some ts
       → item_failures_in ((fields_of d).look param.FunctionResponseTypes) ≡ Some b
       → batching_of k (fields_of d) ≡ Ok (record { batch_size = n; window_ms = w; filters = ts; item_failures = b })
   batching_are k n w ts b hn hw ht hb =
       with_is param.BatchSize (batch_size_in k ((fields_of d).look param.BatchSize)) n _ hn
       ∙ (with_is param.MaximumBatchingWindowInSeconds (window_in k n ((fields_of d).look param.MaximumBatchingWindowInSeconds)) w _ hw
-      ∙ (with_is param.FilterCriteria (filters_in k ((fields_of d).look param.FilterCriteria)) ts _ ht
+      ∙ (with_is param.FilterCriteria (filters_in KinesisOrSqs k ((fields_of d).look param.FilterCriteria)) ts _ ht
       ∙ with_is param.FunctionResponseTypes (item_failures_in ((fields_of d).look param.FunctionResponseTypes)) b _ hb))
 
-  start_is : (k : Kind) (p : Position) (s : Start) → position_in k ((fields_of d).look param.StartingPosition) ≡ Some p
+  start_is : (k : Kind) (p : Position) (s : Start) → position_in KinesisOrSqs k ((fields_of d).look param.StartingPosition) ≡ Some p
       → start_in k p ((fields_of d).look param.StartingPositionTimestamp) ≡ Some s → start_field k (fields_of d) ≡ Ok s
   start_is k p s hp hs =
-      with_is param.StartingPosition (position_in k ((fields_of d).look param.StartingPosition)) p _ hp
+      with_is param.StartingPosition (position_in KinesisOrSqs k ((fields_of d).look param.StartingPosition)) p _ hp
       ∙ with_is param.StartingPositionTimestamp (start_in k p ((fields_of d).look param.StartingPositionTimestamp)) s _ hs
 
   pace_are : (k : Kind) (n : ℕ) (r a : Option ℕ) → factor_in k ((fields_of d).look param.ParallelizationFactor) ≡ Some n → retries_in k ((fields_of d).look param.MaximumRetryAttempts) ≡ Some r
@@ -223,16 +224,16 @@ stream_round c g e =
     let patterns : is_ok (read_patterns (is_stream Stream) c.filters) ≡ true = subst (λ (k : Kind). is_ok (read_patterns (is_stream k) c.filters) ≡ true) e g.patterns in
     let s = source_back Stream c.region c.account c.source_arn g.valid.region g.valid.account arn in
     let parties = parties_are d s.source (record { name = c.function; arn = Some c.function_arn }) c.enabled
-    (ap source_in (stream_look param.EventSourceArn c) ∙ s.found)
+    (ap (source_in KinesisOrSqs) (stream_look param.EventSourceArn c) ∙ s.found)
     (ap function_in (stream_look param.FunctionName c) ∙ function_arn_back c.function c.function_arn g.valid.function g.valid.function_arn)
     (ap enabled_in (stream_look param.Enabled c)) in
     let batching = batching_are d Stream c.batch_size c.window_ms c.filters c.item_failures
     (ap (λ o. batch_size_in Stream o) (stream_look param.BatchSize c) ∙ size_back Stream c.batch_size size)
     (ap (λ o. window_in Stream c.batch_size o) (stream_look param.MaximumBatchingWindowInSeconds c) ∙ window_back Stream c.batch_size c.window_ms window)
-    (ap (λ o. filters_in Stream o) (stream_look param.FilterCriteria c ∙ criteria_there c.filters) ∙ filters_back Stream c.filters g.valid.filters patterns)
+    (ap (λ o. filters_in KinesisOrSqs Stream o) (stream_look param.FilterCriteria c ∙ criteria_there c.filters) ∙ filters_back Stream c.filters g.valid.filters patterns)
     (ap item_failures_in (stream_look param.FunctionResponseTypes c ∙ types_there c.item_failures) ∙ types_back c.item_failures) in
     let start = start_is d Stream (place_of c.start) c.start
-    (ap (λ o. position_in Stream o) (stream_look param.StartingPosition c ∙ place_there c.start) ∙ place_back c.start)
+    (ap (λ o. position_in KinesisOrSqs Stream o) (stream_look param.StartingPosition c ∙ place_there c.start) ∙ place_back c.start)
     (ap (λ o. start_in Stream (place_of c.start) o) (stream_look param.StartingPositionTimestamp c ∙ timestamp_there c.start) ∙ start_back c.start f.start) in
     let pace = pace_are d Stream c.factor c.retries c.age_ms
     (ap (λ o. factor_in Stream o) (stream_look param.ParallelizationFactor c) ∙ factor_back c.factor f.factor)
@@ -292,16 +293,16 @@ queue_round k c g e q =
     let patterns : is_ok (read_patterns (is_stream k) c.filters) ≡ true = subst (λ (j : Kind). is_ok (read_patterns (is_stream j) c.filters) ≡ true) e g.patterns in
     let s = source_back k c.region c.account c.source_arn g.valid.region g.valid.account arn in
     let parties = parties_are d s.source (record { name = c.function; arn = Some c.function_arn }) c.enabled
-    (ap source_in (queue_look param.EventSourceArn k c q) ∙ s.found)
+    (ap (source_in KinesisOrSqs) (queue_look param.EventSourceArn k c q) ∙ s.found)
     (ap function_in (queue_look param.FunctionName k c q) ∙ function_arn_back c.function c.function_arn g.valid.function g.valid.function_arn)
     (ap enabled_in (queue_look param.Enabled k c q)) in
     let batching = batching_are d k c.batch_size c.window_ms c.filters c.item_failures
     (ap (λ o. batch_size_in k o) (queue_look param.BatchSize k c q) ∙ size_back k c.batch_size size)
     (ap (λ o. window_in k c.batch_size o) (queue_look param.MaximumBatchingWindowInSeconds k c q) ∙ window_back k c.batch_size c.window_ms window)
-    (ap (λ o. filters_in k o) (queue_look param.FilterCriteria k c q ∙ criteria_there c.filters) ∙ filters_back k c.filters g.valid.filters patterns)
+    (ap (λ o. filters_in KinesisOrSqs k o) (queue_look param.FilterCriteria k c q ∙ criteria_there c.filters) ∙ filters_back k c.filters g.valid.filters patterns)
     (ap item_failures_in (queue_look param.FunctionResponseTypes k c q ∙ types_there c.item_failures) ∙ types_back c.item_failures) in
     let start = start_is d k place.TrimHorizon TrimHorizon
-    (ap (λ o. position_in k o) (queue_look param.StartingPosition k c q) ∙ left_out k place.TrimHorizon (λ p. option_and_then position_of (option_and_then as_str p)) q)
+    (ap (λ o. position_in KinesisOrSqs k o) (queue_look param.StartingPosition k c q) ∙ left_out k place.TrimHorizon (λ p. option_and_then position_of (option_and_then as_str p)) q)
     (ap (λ o. start_in k place.TrimHorizon o) (queue_look param.StartingPositionTimestamp k c q) ∙ left_out k TrimHorizon (start_of place.TrimHorizon) q) in
     let pace = pace_are d k 1 None None
     (ap (λ o. factor_in k o) (queue_look param.ParallelizationFactor k c q) ∙ left_out k 1 (or_missing 1 (whole_in 1 10)) q)

@@ -1,5 +1,6 @@
 -- A configuration of fields that are as they must be is valid.
-use Rattle.std.proofs.Common.{◌≡◌, ◌≤◌, ℕ, zero, suc, ◌*◌, ◌/◌, ◌%◌, ◌==◌, ℤ, pos, negsuc, Bool, cond, true, false, ◌||◌, refl, sym, subst, arith, inl, List, [], ◌++◌, length, codes, Option, Some, None, option_map, option_and_then, unwrap_or, nat_le, nat_lt, is_ok}
+use Rattle.std.proofs.Common.{◌≡◌, ◌∙◌, ◌≤◌, ℕ, zero, suc, ◌*◌, ◌/◌, ◌%◌, ◌==◌, ℤ, pos, negsuc, Bool, cond, true, false, ◌||◌, refl, sym, subst, ap, arith, inl, inr, List, [], ◌++◌, length, codes, Option, Some, None, option_map, option_and_then, unwrap_or, nat_le, nat_lt, is_ok}
+use Rattle.std.specs.Str.{bytes_eq}
 use Rattle.std.proofs.lemmas.Bool.{and_from, and_parts, eq-eqb, leb-true}
 use Rattle.std.proofs.lemmas.Bool.Decides.{nat_tests}
 use Rattle.serde_json.specs.Data.{Data}
@@ -11,15 +12,17 @@ use Rattle.esm_model.specs.declared.config.Kind.TheVariants.{Stream, Standard, F
 use Rattle.esm_model.specs.declared.config.Start.{Start}
 use Rattle.esm_model.specs.declared.config.Start.TheVariants.{TrimHorizon, Latest, At}
 use Rattle.esm_model.specs.Pattern.{read_patterns}
-use Rattle.esm_model.specs.Valid.{HasFieldsOf, HasQueueFields, HasStreamFields, IsFunctionArn, IsSource, arn_of, is_account, is_batch_size, is_between, is_destination, is_name_byte, is_region, is_seconds, is_start, is_stream, is_window, is_word, none_or}
+use Rattle.esm_model.specs.Valid.{HasFieldsOf, HasQueueFields, HasStreamFields, IsFunctionArn, IsSource, IsValidConfig, arn_of, is_account, is_batch_size, is_between, is_destination, is_name_byte, is_region, is_seconds, is_start, is_stream, is_window, is_word, none_or}
 use Rattle.esm_config.specs.Arn.{Owned, function_arn_of, kept}
-use Rattle.esm_config.specs.Fields.{Named, age_within, are_criteria, attempts_within, batch_size_in, concurrency_of, destination_of, filters_in, function_in, is_tumbling_for, is_window_for, last_second, limit_in, limit_of, milliseconds, named_by, named_by_arn, of_queue, of_stream, only_member, or_missing, pattern_texts, start_of, whole_in, window_in}
-use Rattle.esm_config.specs.Given.{IsGiven, IsGivenSource}
+use Rattle.esm_config.specs.Fields.{Named, age_within, are_criteria, attempts_within, batch_size_in, concurrency_of, destination_of, filters_in, first_position, function_in, is_tumbling_for, is_window_for, last_second, limit_in, limit_of, milliseconds, named_by, named_by_arn, of_queue, of_stream, only_member, or_missing, pattern_texts, patterns_among, position_in, start_in, start_of, whole_in, window_in}
+use Rattle.esm_config.specs.Given.{IsDynamoGiven, IsGiven}
 use Rattle.esm_config.specs.Judged.{Batching, Care, Fields, Pace, Parties, config}
 use Rattle.esm_config.specs.declared.param.Param.TheVariants as param
 use Rattle.esm_config.specs.declared.position.Position.{Position}
 use Rattle.esm_config.specs.declared.position.Position.TheVariants as position
-use Rattle.esm_config.proofs.Arns.{function_is, inner, kept_is, source_is}
+use Rattle.esm_config.specs.declared.sources.Sources.{Sources}
+use Rattle.esm_config.specs.declared.sources.Sources.TheVariants.{KinesisOrSqs, DynamoDb}
+use Rattle.esm_config.proofs.Arns.{function_is, inner, IsAmong, kept_is, source_is}
 use Rattle.esm_config.proofs.Peeled.{IsBatching, IsCare, IsMade, IsPace, IsParties, IsStart}
 
 -- the function
@@ -102,10 +105,10 @@ record AreFilters (kind : Kind) (ts : List (List ℕ)) : Type 0 where
   count : length ts ≤ MAX_FILTERS
   patterns : is_ok (read_patterns (is_stream kind) ts) ≡ true
 
-filters_are : (kind : Kind) (d : Option Data) (ts : List (List ℕ)) → filters_in kind d ≡ Some ts → AreFilters kind ts
-filters_are kind None ts h = subst (λ (us : List (List ℕ)). AreFilters kind us) (inner [] ts h) (record { count = omega arith; patterns = refl })
-filters_are kind (Some d) ts h =
-    let k = kept_is (are_criteria kind) (option_and_then pattern_texts (option_and_then as_array (only_member (codes "Filters") d))) ts h in
+filters_are : (sources : Sources) (kind : Kind) (d : Option Data) (ts : List (List ℕ)) → filters_in sources kind d ≡ Some ts → AreFilters kind ts
+filters_are sources kind None ts h = subst (λ (us : List (List ℕ)). AreFilters kind us) (inner [] ts h) (record { count = omega arith; patterns = refl })
+filters_are sources kind (Some d) ts h =
+    let k = kept_is (are_criteria kind) (option_and_then (patterns_among sources) (option_and_then pattern_texts (option_and_then as_array (only_member (codes "Filters") d)))) ts h in
     let p = and_parts (nat_le (length ts) MAX_FILTERS) (is_ok (read_patterns (is_stream kind) ts)) k.1 in
     record { count = leb-true (length ts) MAX_FILTERS p.0; patterns = p.1 }
 
@@ -239,22 +242,31 @@ fields_of_kind Fifo fs c start pace care = queue_fields Fifo fs c refl start pac
 
 -- the whole
 
-any_source : (kind : Kind) (region account arn : List ℕ) → IsGivenSource kind region account arn → IsSource kind region account arn
-any_source Stream region account arn h = inl h
-any_source Standard region account arn h = h
-any_source Fifo region account arn h = h
+any_source : (sources : Sources) (kind : Kind) (region account arn : List ℕ) → IsAmong sources kind region account arn → IsSource kind region account arn
+any_source KinesisOrSqs Stream region account arn h = inl h
+any_source KinesisOrSqs Standard region account arn h = h
+any_source KinesisOrSqs Fifo region account arn h = h
+any_source DynamoDb Stream region account arn h = inr h.1
+any_source DynamoDb Standard region account arn h = let e = h.0 in absurd (cc)
+any_source DynamoDb Fifo region account arn h = let e = h.0 in absurd (cc)
+
+-- of a mapping that names one of these sources
+pub record IsGivenOf (sources : Sources) (c : Config) : Type 0 where
+  pub valid : IsValidConfig c
+  pub source : IsAmong sources c.kind c.region c.account c.source_arn
+  pub patterns : is_ok (read_patterns (is_stream c.kind) c.filters) ≡ true
 
 made_is_given : (fs : Fields) (p : Parties) (b : Batching) (s : Start) (pace : Pace) (care : Care) → IsParties fs p → IsBatching p.source.kind fs b → IsStart p.source.kind fs s
-    → IsPace p.source.kind fs pace → IsCare p.source.kind pace.factor fs care → IsGiven (config p b s pace care)
+    → IsPace p.source.kind fs pace → IsCare p.source.kind pace.factor fs care → IsGivenOf fs.sources (config p b s pace care)
 made_is_given fs p b s pace care ip ib is ipace icare =
-    let from = source_is (fs.look param.EventSourceArn) p.source ip.source in
+    let from = source_is fs.sources (fs.look param.EventSourceArn) p.source ip.source in
     let f = function_is_named (fs.look param.FunctionName) p.function ip.function in
-    let filters = filters_are p.source.kind (fs.look param.FilterCriteria) b.filters ib.filters in
+    let filters = filters_are fs.sources p.source.kind (fs.look param.FilterCriteria) b.filters ib.filters in
     record {
       valid = record {
         region = from.region;
         account = from.account;
-        source = any_source p.source.kind p.source.parts.region p.source.parts.account p.source.arn from.arn;
+        source = any_source fs.sources p.source.kind p.source.parts.region p.source.parts.account p.source.arn from.arn;
         function = f.name;
         function_arn = arn_is p.function.name p.function.arn p.source.parts.region p.source.parts.account from.region from.account f.arn;
         batch_size = size_is p.source.kind (fs.look param.BatchSize) b.batch_size ib.batch_size;
@@ -266,7 +278,52 @@ made_is_given fs p b s pace care ip ib is ipace icare =
       patterns = filters.patterns;
     }
 
-pub is_given : (fs : Fields) (c : Config) → IsMade fs c → IsGiven c
-is_given fs c m =
-    subst (λ (k : Config). IsGiven k) m.is
+is_given_of : (fs : Fields) (c : Config) → IsMade fs c → IsGivenOf fs.sources c
+is_given_of fs c m =
+    subst (λ (k : Config). IsGivenOf fs.sources k) m.is
     (made_is_given fs m.parties m.batching m.start m.pace m.care m.is_parties m.is_batching m.is_start m.is_pace m.is_care)
+
+pub is_given : (fs : Fields) (c : Config) → fs.sources ≡ KinesisOrSqs → IsMade fs c → IsGiven c
+is_given fs c e m =
+    let g = subst (λ (s : Sources). IsGivenOf s c) e (is_given_of fs c m) in
+    record { valid = g.valid; source = g.source; patterns = g.patterns }
+
+-- the stream of a table is read from its first record
+
+at_first : (b : Bool) (p : Position) → cond b (Some position.TrimHorizon) None ≡ Some p → p ≡ position.TrimHorizon
+at_first true p h = sym (inner position.TrimHorizon p h)
+at_first false p h = absurd (cc)
+
+first_named : (t : Option (List ℕ)) (p : Position) → option_and_then first_position t ≡ Some p → p ≡ position.TrimHorizon
+first_named None p h = absurd (cc)
+first_named (Some text) p h = at_first (bytes_eq text (codes "TRIM_HORIZON")) p h
+
+first_in : (d : Option Data) (p : Position) → position_in DynamoDb Stream d ≡ Some p → p ≡ position.TrimHorizon
+first_in None p h = absurd (cc)
+first_in (Some d) p h = first_named (as_str d) p h
+
+no_moment : (d : Option Data) (s : Start) → start_in Stream position.TrimHorizon d ≡ Some s → s ≡ TrimHorizon
+no_moment None s h = sym (inner TrimHorizon s h)
+no_moment (Some d) s h = absurd (cc)
+
+first_start : (sources : Sources) (kind : Kind) (place : Option Data) (moment : Option Data) (p : Position) (s : Start) → sources ≡ DynamoDb → kind ≡ Stream
+    → position_in sources kind place ≡ Some p → start_in kind p moment ≡ Some s → s ≡ TrimHorizon
+first_start KinesisOrSqs kind place moment p s es ek hp hs = absurd (cc)
+first_start DynamoDb Standard place moment p s es ek hp hs = absurd (cc)
+first_start DynamoDb Fifo place moment p s es ek hp hs = absurd (cc)
+first_start DynamoDb Stream place moment p s es ek hp hs =
+    no_moment moment s (subst (λ (q : Position). start_in Stream q moment ≡ Some s) (first_in place p hp) hs)
+
+pub is_dynamo_given : (fs : Fields) (c : Config) → fs.sources ≡ DynamoDb → IsMade fs c → IsDynamoGiven c
+is_dynamo_given fs c e m =
+    let g = subst (λ (s : Sources). IsGivenOf s c) e (is_given_of fs c m) in
+    let kind : c.kind ≡ Stream = g.source.0 in
+    let made : m.parties.source.kind ≡ c.kind = ap (λ (k : Config). k.kind) m.is in
+    let start : m.start ≡ c.start = ap (λ (k : Config). k.start) m.is in
+    record {
+      stream = record { kind = kind; valid = g.valid };
+      source = g.source.1;
+      start = sym start ∙ first_start fs.sources m.parties.source.kind (fs.look param.StartingPosition) (fs.look param.StartingPositionTimestamp)
+          m.is_start.position m.start e (made ∙ kind) m.is_start.is_position m.is_start.start;
+      patterns = subst (λ (k : Kind). is_ok (read_patterns (is_stream k) c.filters) ≡ true) kind g.patterns;
+    }

@@ -1,11 +1,13 @@
 -- The parts of an ARN. Source: the AWS General Reference, Amazon Resource Names
 -- (`arn:partition:service:region:account-id:resource`).
-use Rattle.std.specs.Prelude.{ℕ, ◌==◌, ◌&&◌, Bool, List, [], length, drop, codes, Option, Some, None, option_map, nat_eq, nat_lt, if◌then◌else◌}
+use Rattle.std.specs.Prelude.{ℕ, ◌==◌, ◌&&◌, Bool, false, List, [], length, drop, codes, Option, Some, None, option_map, nat_eq, nat_lt, if◌then◌else◌}
 use Rattle.std.specs.List.{after_first, before_first, ends_with, position_or_len, starts_with}
 use Rattle.std.specs.Option.{option_or}
-use Rattle.esm_model.specs.Valid.{is_account, is_name_byte, is_queue_name, is_region, is_stream_byte, is_word}
+use Rattle.esm_model.specs.Valid.{is_account, is_label_byte, is_name_byte, is_queue_name, is_region, is_stream_byte, is_word}
 use Rattle.esm_model.specs.declared.config.Kind.{Kind}
 use Rattle.esm_model.specs.declared.config.Kind.TheVariants.{Stream, Standard, Fifo}
+use Rattle.esm_config.specs.declared.sources.Sources.{Sources}
+use Rattle.esm_config.specs.declared.sources.Sources.TheVariants.{KinesisOrSqs, DynamoDb}
 
 -- what stands after the prefix, where the text begins with it
 abbrev pub strip : List ℕ → List ℕ → Option (List ℕ)
@@ -14,10 +16,17 @@ strip prefix text = if starts_with nat_eq text prefix then Some (drop (length pr
 abbrev pub is_colon : ℕ → Bool
 is_colon b = b == 58
 
+abbrev pub is_slash : ℕ → Bool
+is_slash b = b == 47
+
+-- what stands before and after the first byte that passes
+abbrev pub cut_at : (ℕ → Bool) → List ℕ → Option (List ℕ × List ℕ)
+cut_at passes text =
+    if nat_lt (position_or_len passes text) (length text) then Some (before_first passes text, after_first passes text) else None
+
 -- what stands before and after the first colon
 abbrev pub cut : List ℕ → Option (List ℕ × List ℕ)
-cut text =
-    if nat_lt (position_or_len is_colon text) (length text) then Some (before_first is_colon text, after_first is_colon text) else None
+cut text = cut_at is_colon text
 
 -- the parts of `PREFIX REGION:ACCOUNT:RESOURCE NAME`
 pub record Owned : Type 0 where
@@ -58,6 +67,19 @@ is_queue o = is_region o.region && (is_account o.account && is_queue_name (queue
 abbrev pub is_function : Owned → Bool
 is_function o = is_region o.region && (is_account o.account && is_word is_name_byte 1 64 o.name)
 
+abbrev pub is_label : Option (List ℕ) → Bool
+is_label None = false
+is_label (Some label) = is_word is_label_byte 1 64 label
+
+-- NAME, and `stream/LABEL`
+abbrev pub is_table_path : Option (List ℕ × List ℕ) → Bool
+is_table_path None = false
+is_table_path (Some p) = is_word is_stream_byte 3 255 p.0 && is_label (strip (codes "stream/") p.1)
+
+-- the stream of a DynamoDB table, whose name here is `NAME/stream/LABEL`
+abbrev pub is_table : Owned → Bool
+is_table o = is_region o.region && (is_account o.account && is_table_path (cut_at is_slash o.name))
+
 -- the value, where it passes
 abbrev pub kept : {A : Type 0} → (A → Bool) → Option A → Option A
 kept passes None = None
@@ -68,6 +90,9 @@ stream_of text = kept is_stream (owned (codes "arn:aws:kinesis:") (codes "stream
 
 abbrev pub queue_of : List ℕ → Option Owned
 queue_of text = kept is_queue (owned (codes "arn:aws:sqs:") [] text)
+
+abbrev pub table_of : List ℕ → Option Owned
+table_of text = kept is_table (owned (codes "arn:aws:dynamodb:") (codes "table/") text)
 
 abbrev pub function_arn_of : List ℕ → Option Owned
 function_arn_of text = kept is_function (owned (codes "arn:aws:lambda:") (codes "function:") text)
@@ -87,3 +112,8 @@ queue_source text o = record { arn = text; kind = queue_kind o.name; parts = o }
 -- a stream, or a queue
 abbrev pub source_of : List ℕ → Option Source
 source_of text = option_or (option_map (stream_source text) (stream_of text)) (option_map (queue_source text) (queue_of text))
+
+-- among the sources that a table of fields reads
+abbrev pub source_among : Sources → (List ℕ → Option Source)
+source_among KinesisOrSqs = source_of
+source_among DynamoDb = λ text. option_map (stream_source text) (table_of text)

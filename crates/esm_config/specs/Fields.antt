@@ -1,10 +1,12 @@
 -- The fields of a mapping, each by its own rule: what its value means, where it may have it. Times are in milliseconds.
--- Source: the Lambda API reference, `CreateEventSourceMapping`; that a field which is `null` counts as absent is this
--- product's own.
-use Rattle.std.specs.Prelude.{ℕ, zero, ◌*◌, ◌/◌, ◌==◌, ℤ, pos, negsuc, Bool, true, false, ◌&&◌, ◌||◌, List, [], ◌∷◌, codes, length, Option, Some, None, option_and_then, option_map, nat_le, nat_lt, if◌then◌else◌, is_some, is_ok}
+-- A source, a pattern and a starting position depend on which sources the table reads.
+-- Source: the Lambda API reference, `CreateEventSourceMapping`; that a field which is `null` counts as absent, and that a
+-- pattern over an item of a DynamoDB table is kept as one over the data of a record, is this product's own.
+use Rattle.std.specs.Prelude.{ℕ, zero, ◌*◌, ◌/◌, ◌==◌, ℤ, pos, negsuc, Bool, true, false, ◌&&◌, ◌||◌, List, [], ◌∷◌, ◌++◌, codes, length, Option, Some, None, option_and_then, option_map, nat_le, nat_lt, if◌then◌else◌, is_some, is_ok}
 use Rattle.std.specs.Str.{bytes_eq}
 use Rattle.serde_json.specs.Data.{Data, Items, no_items, item, Members, no_members, member}
 use Rattle.serde_json.specs.Find.{get, as_array, as_bool, as_i64, as_null, as_number, as_object, as_str, as_u64}
+use Rattle.serde_json.specs.Read.{read}
 use Rattle.esm_model.specs.declared.limits.TheConstants.{MAX_FILTERS, MAX_RETRIES}
 use Rattle.esm_model.specs.declared.moment.TheConstants.{MAX_MOMENT}
 use Rattle.esm_model.specs.declared.config.Kind.{Kind}
@@ -13,9 +15,11 @@ use Rattle.esm_model.specs.declared.config.Start.{Start}
 use Rattle.esm_model.specs.declared.config.Start.TheVariants.{TrimHorizon, Latest, At}
 use Rattle.esm_model.specs.Pattern.{read_patterns}
 use Rattle.esm_model.specs.Valid.{is_batch_size, is_between, is_destination, is_name_byte, is_stream, is_word}
-use Rattle.esm_config.specs.Arn.{Owned, Source, function_arn_of, kept, source_of}
+use Rattle.esm_config.specs.Arn.{Owned, Source, function_arn_of, kept, source_among}
 use Rattle.esm_config.specs.declared.position.Position.{Position}
 use Rattle.esm_config.specs.declared.position.Position.TheVariants as position
+use Rattle.esm_config.specs.declared.sources.Sources.{Sources}
+use Rattle.esm_config.specs.declared.sources.Sources.TheVariants.{KinesisOrSqs, DynamoDb}
 
 -- looking for fields
 
@@ -72,8 +76,8 @@ of_queue _ otherwise means o = means o
 
 -- the fields of every mapping
 
-abbrev pub source_in : Option Data → Option Source
-source_in o = option_and_then source_of (option_and_then as_str o)
+abbrev pub source_in : Sources → Option Data → Option Source
+source_in sources o = option_and_then (source_among sources) (option_and_then as_str o)
 
 -- a function by its plain name, and by its ARN where that is given
 pub record Named : Type 0 where
@@ -121,11 +125,33 @@ pattern_texts (item d more) = option_and_then (λ t. option_map (λ ts. t ∷ ts
 abbrev pub are_criteria : Kind → List (List ℕ) → Bool
 are_criteria kind texts = nat_le (length texts) MAX_FILTERS && is_ok (read_patterns (is_stream kind) texts)
 
-abbrev pub criteria_of : Kind → Data → Option (List (List ℕ))
-criteria_of kind d = kept (are_criteria kind) (option_and_then pattern_texts (option_and_then as_array (only_member (codes "Filters") d)))
+abbrev pub is_object_text : List ℕ → Bool
+is_object_text text = is_some (option_and_then as_object (read text))
 
-abbrev pub filters_in : Kind → Option Data → Option (List (List ℕ))
-filters_in kind o = or_missing [] (criteria_of kind) o
+-- a pattern over an item's element, which is the data of its record
+abbrev pub data_pattern : List ℕ → List ℕ
+data_pattern text = codes "{\"data\":" ++ (text ++ codes "}")
+
+-- where it reads as a JSON object by itself
+abbrev pub data_pattern_of : List ℕ → Option (List ℕ)
+data_pattern_of text = if is_object_text text then Some (data_pattern text) else None
+
+abbrev pub data_patterns : List (List ℕ) → Option (List (List ℕ))
+data_patterns [] = Some []
+data_patterns (t ∷ ts) = option_and_then (λ p. option_map (λ ps. p ∷ ps) (data_patterns ts)) (data_pattern_of t)
+
+-- the patterns as they are kept
+abbrev pub patterns_among : Sources → List (List ℕ) → Option (List (List ℕ))
+patterns_among KinesisOrSqs texts = Some texts
+patterns_among DynamoDb texts = data_patterns texts
+
+abbrev pub criteria_of : Sources → Kind → Data → Option (List (List ℕ))
+criteria_of sources kind d =
+    kept (are_criteria kind)
+    (option_and_then (patterns_among sources) (option_and_then pattern_texts (option_and_then as_array (only_member (codes "Filters") d))))
+
+abbrev pub filters_in : Sources → Kind → Option Data → Option (List (List ℕ))
+filters_in sources kind o = or_missing [] (criteria_of sources kind) o
 
 -- whether `ReportBatchItemFailures` is listed
 abbrev pub reports_of : Items → Option Bool
@@ -144,8 +170,16 @@ position_of text =
     else (if bytes_eq text (codes "LATEST") then Some position.Latest
     else (if bytes_eq text (codes "AT_TIMESTAMP") then Some position.AtTimestamp else None))
 
-abbrev pub position_in : Kind → Option Data → Option Position
-position_in kind o = of_stream kind position.TrimHorizon (λ p. option_and_then position_of (option_and_then as_str p)) o
+abbrev pub first_position : List ℕ → Option Position
+first_position text = if bytes_eq text (codes "TRIM_HORIZON") then Some position.TrimHorizon else None
+
+-- an item's stream is read from its first record
+abbrev pub position_among : Sources → (List ℕ → Option Position)
+position_among KinesisOrSqs = position_of
+position_among DynamoDb = first_position
+
+abbrev pub position_in : Sources → Kind → Option Data → Option Position
+position_in sources kind o = of_stream kind position.TrimHorizon (λ p. option_and_then (position_among sources) (option_and_then as_str p)) o
 
 abbrev pub last_second : ℕ
 last_second = MAX_MOMENT / 1000

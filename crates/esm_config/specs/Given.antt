@@ -2,10 +2,11 @@
 -- are patterns.
 use Rattle.std.specs.Prelude.{◌≡◌, ℕ, List, is_ok, true}
 use Rattle.esm_model.specs.Pattern.{read_patterns}
-use Rattle.esm_model.specs.Valid.{IsKinesisSource, IsQueueSource, IsValidConfig, is_stream}
+use Rattle.esm_model.specs.Valid.{IsKinesisSource, IsQueueSource, IsStreamConfig, IsTableSource, IsValidConfig, is_stream}
 use Rattle.esm_model.specs.declared.config.Config.{Config}
 use Rattle.esm_model.specs.declared.config.Kind.{Kind}
 use Rattle.esm_model.specs.declared.config.Kind.TheVariants.{Stream, Standard, Fifo}
+use Rattle.esm_model.specs.declared.config.Start.TheVariants.{TrimHorizon}
 
 -- an ARN that a mapping's object may name
 abbrev pub IsGivenSource : Kind → List ℕ → List ℕ → List ℕ → Type 0
@@ -17,3 +18,11 @@ pub record IsGiven (c : Config) : Type 0 where
   pub valid : IsValidConfig c
   pub source : IsGivenSource c.kind c.region c.account c.source_arn
   pub patterns : is_ok (read_patterns (is_stream c.kind) c.filters) ≡ true
+
+-- What `read_dynamo` gives: a valid configuration of the stream of a DynamoDB table, read from its first record, whose filters
+-- are patterns.
+pub record IsDynamoGiven (c : Config) : Type 0 where
+  pub stream : IsStreamConfig c
+  pub source : IsTableSource c.region c.account c.source_arn
+  pub start : c.start ≡ TrimHorizon
+  pub patterns : is_ok (read_patterns true c.filters) ≡ true

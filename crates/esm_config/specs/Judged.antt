@@ -11,9 +11,11 @@ use Rattle.esm_config.specs.Fields.{Named, age_in, batch_size_in, bisect_in, con
 use Rattle.esm_config.specs.Names.{only_listed}
 use Rattle.esm_config.specs.declared.param.Param.{Param}
 use Rattle.esm_config.specs.declared.param.Param.TheVariants as param
+use Rattle.esm_config.specs.declared.sources.Sources.{Sources}
 
--- what a mapping gives: the value of each field, and which fields it may not give
+-- what a mapping gives: the value of each field, and which fields it may not give; and which sources it may name
 pub record Fields : Type 0 where
+  pub sources : Sources
   pub look : Param → Option Data
   pub is_barred : Param → Bool
 
@@ -59,7 +61,7 @@ and_then (Ok x) go_on = go_on x
 abbrev pub parties_of : Fields → Result Parties Param
 parties_of fs =
     unless_barred fs param.EventSourceArn (
-    with param.EventSourceArn (source_in (fs.look param.EventSourceArn)) (λ source.
+    with param.EventSourceArn (source_in fs.sources (fs.look param.EventSourceArn)) (λ source.
     with param.FunctionName (function_in (fs.look param.FunctionName)) (λ function.
     with param.Enabled (enabled_in (fs.look param.Enabled)) (λ enabled.
     Ok (record { source = source; function = function; enabled = enabled })))))
@@ -68,14 +70,14 @@ abbrev pub batching_of : Kind → Fields → Result Batching Param
 batching_of kind fs =
     with param.BatchSize (batch_size_in kind (fs.look param.BatchSize)) (λ size.
     with param.MaximumBatchingWindowInSeconds (window_in kind size (fs.look param.MaximumBatchingWindowInSeconds)) (λ window.
-    with param.FilterCriteria (filters_in kind (fs.look param.FilterCriteria)) (λ filters.
+    with param.FilterCriteria (filters_in fs.sources kind (fs.look param.FilterCriteria)) (λ filters.
     with param.FunctionResponseTypes (item_failures_in (fs.look param.FunctionResponseTypes)) (λ failures.
     Ok (record { batch_size = size; window_ms = window; filters = filters; item_failures = failures })))))
 
 abbrev pub start_field : Kind → Fields → Result Start Param
 start_field kind fs =
     unless_barred fs param.StartingPosition (
-    with param.StartingPosition (position_in kind (fs.look param.StartingPosition)) (λ position.
+    with param.StartingPosition (position_in fs.sources kind (fs.look param.StartingPosition)) (λ position.
     unless_barred fs param.StartingPositionTimestamp (
     with param.StartingPositionTimestamp (start_in kind position (fs.look param.StartingPositionTimestamp)) (λ start. Ok start))))
 

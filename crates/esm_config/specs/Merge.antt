@@ -14,6 +14,7 @@ use Rattle.esm_config.specs.Names.{name_of}
 use Rattle.esm_config.specs.Text.{config_value}
 use Rattle.esm_config.specs.declared.param.Param.{Param}
 use Rattle.esm_config.specs.declared.param.Param.TheVariants as param
+use Rattle.esm_config.specs.declared.sources.Sources.TheVariants.{KinesisOrSqs}
 
 -- the fields that no update may give
 abbrev pub is_fixed : Param → Bool
@@ -25,6 +26,7 @@ is_fixed _ = false
 -- the update's fields, and the old object's where it gives none
 abbrev pub updated_fields : Data → Data → Fields
 updated_fields old d = record {
+  sources = KinesisOrSqs;
   look = λ p. option_or (field (name_of p) d) (field (name_of p) old);
   is_barred = λ p. is_fixed p && is_some (field (name_of p) d);
 }

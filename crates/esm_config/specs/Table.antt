@@ -3,8 +3,12 @@
 use Rattle.std.specs.Prelude.{Option}
 use Rattle.std.specs.Result.{result_err}
 use Rattle.serde_json.specs.Data.{Data}
-use Rattle.esm_config.specs.Mapping.{judge}
+use Rattle.esm_config.specs.Mapping.{judge, judge_dynamo}
 use Rattle.esm_config.specs.declared.param.Param.{Param}
 
 abbrev pub refused : Data → Option Param
 refused d = result_err (judge d)
+
+-- of the stream of a DynamoDB table
+abbrev pub dynamo_refused : Data → Option Param
+dynamo_refused d = result_err (judge_dynamo d)

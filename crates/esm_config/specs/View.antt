@@ -6,7 +6,7 @@ use Rattle.serde_json.specs.View.{view}
 use Rattle.serde_json.specs.declared.value.Value.{Value}
 use Rattle.esm_config.specs.FunctionParts.{named_of}
 use Rattle.esm_config.specs.Judged as spec
-use Rattle.esm_config.specs.Mapping.{fields_of}
+use Rattle.esm_config.specs.Mapping.{fields_among}
 use Rattle.esm_config.specs.Member.{members_of}
 use Rattle.esm_config.specs.Merge.{updated_fields}
 use Rattle.esm_config.specs.Parts.{source_view}
@@ -21,7 +21,7 @@ abbrev pub data_of : Option (Bor Value) → Option Data
 data_of o = option_map (λ v. view v.now) o
 
 abbrev pub fields_view : Fields → spec.Fields
-fields_view (New value) = fields_of (view value.now)
+fields_view (New sources value) = fields_among sources (view value.now)
 fields_view (Update value old) = updated_fields (object (members_of old.now)) (view value.now)
 
 abbrev pub parties_view : Parties → spec.Parties

@@ -1,10 +1,10 @@
-// The parts of an ARN: regions, accounts, and the names of functions, streams and queues.
+// The parts of an ARN: regions, accounts, and the names of functions, streams, tables and queues.
 ghost use Rattle.std.specs.Prelude.{◌≡◌, ◌≤◌, codes, nat_eq, option_map, IsTrue};
 ghost use Rattle.std.specs.Char.{is_ascii_digit};
 ghost use Rattle.std.specs.List.{ends_with, list_all};
-ghost use Rattle.esm_model.specs.Valid.{is_account, is_between, is_name_byte, is_queue_name, is_region, is_region_byte, is_stream_byte, is_word};
+ghost use Rattle.esm_model.specs.Valid.{is_account, is_between, is_label_byte, is_name_byte, is_queue_name, is_region, is_region_byte, is_stream_byte, is_word};
 ghost use Rattle.std.specs.Prelude.{length};
-ghost use Rattle.esm_config.specs.Arn.{cut, queue_kind, strip};
+ghost use Rattle.esm_config.specs.Arn.{cut, cut_at, is_label, is_slash, is_table_path, queue_kind, strip};
 
 use esm_model::config::Kind;
 use esm_model::spelling::{are_digits, are_name_bytes, is_name_byte};
@@ -23,6 +23,13 @@ pub fn cut(text: &str) -> Option<(&str, &str)>
     text.split_once(':')
 }
 
+/// The texts before and after the first slash.
+fn cut_path(text: &str) -> Option<(&str, &str)>
+    ensures { option_map (λ p. (p.0.now, p.1.now)) result ≡ cut_at is_slash text.entry.now }
+{
+    text.split_once('/')
+}
+
 fn is_region_byte(b: u8) -> bool
     ensures { result ≡ is_region_byte b }
 {
@@ -33,6 +40,12 @@ fn is_stream_byte(b: u8) -> bool
     ensures { result ≡ is_stream_byte b }
 {
     is_name_byte(b) || b == b'.'
+}
+
+fn is_label_byte(b: u8) -> bool
+    ensures { result ≡ is_label_byte b }
+{
+    is_stream_byte(b) || b == b':'
 }
 
 fn has_length(text: &[u8], low: usize, high: usize) -> bool
@@ -51,6 +64,12 @@ fn are_stream_bytes(text: &[u8]) -> bool
     ensures { result ≡ list_all is_stream_byte text.now }
 {
     text.iter().all(|b| is_stream_byte(*b))
+}
+
+fn are_label_bytes(text: &[u8]) -> bool
+    ensures { result ≡ list_all is_label_byte text.now }
+{
+    text.iter().all(|b| is_label_byte(*b))
 }
 
 /// Whether the text is a region: 1 to 32 lower-case letters, digits and `-`.
@@ -79,6 +98,38 @@ pub fn is_stream_name(text: &[u8]) -> bool
     ensures { result ≡ is_word is_stream_byte 1 128 text.now }
 {
     has_length(text, 1, 128) && are_stream_bytes(text)
+}
+
+fn is_table_name(text: &[u8]) -> bool
+    ensures { result ≡ is_word is_stream_byte 3 255 text.now }
+{
+    has_length(text, 3, 255) && are_stream_bytes(text)
+}
+
+fn is_label(text: &[u8]) -> bool
+    ensures { result ≡ is_word is_label_byte 1 64 text.now }
+{
+    has_length(text, 1, 64) && are_label_bytes(text)
+}
+
+fn is_labelled(text: &str) -> bool
+    ensures { result ≡ is_label (strip (codes "stream/") text.now) }
+{
+    match strip(text, "stream/") {
+        Some(label) => is_label(label.as_bytes()),
+        None => false,
+    }
+}
+
+/// Whether the text is `NAME/stream/LABEL`, a table's name of 3 to 255 letters, digits, `_`, `-`
+/// and `.`, and a stream's label of 1 to 64 of these and `:`.
+pub fn is_table_path(text: &str) -> bool
+    ensures { result ≡ is_table_path (cut_at is_slash text.now) }
+{
+    match cut_path(text) {
+        Some((name, rest)) => is_table_name(name.as_bytes()) && is_labelled(rest),
+        None => false,
+    }
 }
 
 fn is_fifo_name(text: &[u8]) -> bool

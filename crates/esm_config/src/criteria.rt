@@ -3,14 +3,15 @@ ghost use Rattle.std.specs.Prelude.{◌≡◌, codes, IfOk, option_and_then, opt
 ghost use Rattle.serde_json.specs.Find.{as_array};
 ghost use Rattle.serde_json.specs.View.{items_view, view};
 ghost use Rattle.esm_config.specs.Arn.{kept};
-ghost use Rattle.esm_config.specs.Fields.{are_criteria, criteria_of, filters_in, only_member, pattern_text, pattern_texts};
+ghost use Rattle.esm_config.specs.Fields.{are_criteria, criteria_of, data_pattern, data_pattern_of, data_patterns, filters_in, is_object_text, only_member, pattern_text, pattern_texts, patterns_among};
 ghost use Rattle.esm_config.specs.View.{data_of};
 
+use crate::sources::Sources;
 use crate::value::{only_member, only_text};
 use esm_filter::{Criteria, FilterError};
 use esm_model::config::Kind;
 use esm_model::text::{Text, Texts};
-use esm_model::{MAX_FILTERS, OutOfMemory};
+use esm_model::{MAX_FILTERS, OutOfMemory, parse_json_text};
 use serde_json::Value;
 use std::alloc::{AllocError, Global};
 
@@ -50,10 +51,86 @@ fn are_criteria(alloc: Global, kind: Kind, texts: &[Text]) -> Result<bool, OutOf
     }
 }
 
-fn criteria_in(alloc: Global, kind: Kind, items: &[Value]) -> Result<Option<Texts>, OutOfMemory>
-    ensures { IfOk result (λ o. o ≡ kept (are_criteria kind) (pattern_texts (items_view items.now))) }
+fn is_object_text(alloc: Global, text: &str) -> Result<bool, OutOfMemory>
+    ensures { IfOk result (λ b. b ≡ is_object_text text.now) }
+{
+    match parse_json_text(alloc, text)? {
+        Some(value) => Ok(value.is_object()),
+        None => Ok(false),
+    }
+}
+
+fn data_pattern(alloc: Global, text: &str) -> Result<Text, AllocError>
+    ensures { IfOk result (λ t. t ≡ data_pattern text.now) }
+{
+    let mut kept = String::from_str(alloc, "{\"data\":")?;
+    kept.push_str(text)?;
+    kept.push_str("}")?;
+    Ok(Text::from_vec(kept))
+}
+
+/// The pattern over the data of a record, where the text reads as a JSON object by itself.
+fn data_pattern_of(alloc: Global, text: &Text) -> Result<Option<Text>, OutOfMemory>
+    ensures { IfOk result (λ o. o ≡ data_pattern_of text.now) }
+{
+    if is_object_text(alloc, text.as_str())? {
+        Ok(Some(data_pattern(alloc, text.as_str())?))
+    } else {
+        Ok(None)
+    }
+}
+
+/// The patterns over the data of a record, where each text reads as a JSON object by itself.
+fn data_patterns(alloc: Global, texts: &[Text]) -> Result<Option<Vec<Text>>, OutOfMemory>
+    ensures { IfOk result (λ o. option_map (λ v. v.items) o ≡ data_patterns texts.now) }
+{
+    let mut kept = Vec::new(alloc);
+    for text in texts {
+        match data_pattern_of(alloc, text)? {
+            Some(pattern) => kept.push(pattern)?,
+            None => return Ok(None),
+        }
+    }
+    Ok(Some(kept))
+}
+
+/// The patterns as they are kept.
+fn patterns_among(
+    alloc: Global,
+    sources: Sources,
+    texts: Vec<Text>,
+) -> Result<Option<Vec<Text>>, OutOfMemory>
+    ensures { IfOk result (λ o. option_map (λ v. v.items) o ≡ patterns_among sources texts.items) }
+{
+    match sources {
+        Sources::KinesisOrSqs => Ok(Some(texts)),
+        Sources::DynamoDb => data_patterns(alloc, texts.as_slice()),
+    }
+}
+
+/// The patterns of the items as they are kept.
+fn patterns_in(
+    alloc: Global,
+    sources: Sources,
+    items: &[Value],
+) -> Result<Option<Vec<Text>>, OutOfMemory>
+    ensures { IfOk result (λ o. option_map (λ v. v.items) o ≡ option_and_then (patterns_among sources) (pattern_texts (items_view items.now))) }
 {
     match pattern_texts(alloc, items)? {
+        Some(texts) => patterns_among(alloc, sources, texts),
+        None => Ok(None),
+    }
+}
+
+fn criteria_in(
+    alloc: Global,
+    sources: Sources,
+    kind: Kind,
+    items: &[Value],
+) -> Result<Option<Texts>, OutOfMemory>
+    ensures { IfOk result (λ o. o ≡ kept (are_criteria kind) (option_and_then (patterns_among sources) (pattern_texts (items_view items.now)))) }
+{
+    match patterns_in(alloc, sources, items)? {
         Some(texts) => {
             if are_criteria(alloc, kind, texts.as_slice())? {
                 Ok(Some(Texts::from_vec(texts)))
@@ -77,11 +154,16 @@ fn filters_of(value: &Value) -> Option<&[Value]>
     }
 }
 
-fn criteria_of(alloc: Global, kind: Kind, value: &Value) -> Result<Option<Texts>, OutOfMemory>
-    ensures { IfOk result (λ o. o ≡ criteria_of kind (view value.now)) }
+fn criteria_of(
+    alloc: Global,
+    sources: Sources,
+    kind: Kind,
+    value: &Value,
+) -> Result<Option<Texts>, OutOfMemory>
+    ensures { IfOk result (λ o. o ≡ criteria_of sources kind (view value.now)) }
 {
     match filters_of(value) {
-        Some(items) => criteria_in(alloc, kind, items),
+        Some(items) => criteria_in(alloc, sources, kind, items),
         None => Ok(None),
     }
 }
@@ -89,13 +171,14 @@ fn criteria_of(alloc: Global, kind: Kind, value: &Value) -> Result<Option<Texts>
 /// The filter patterns, of which there are none where none are said.
 pub fn filters_in(
     alloc: Global,
+    sources: Sources,
     kind: Kind,
     field: Option<&Value>,
 ) -> Result<Option<Texts>, OutOfMemory>
-    ensures { IfOk result (λ o. o ≡ filters_in kind (data_of field.entry)) }
+    ensures { IfOk result (λ o. o ≡ filters_in sources kind (data_of field.entry)) }
 {
     match field {
-        Some(found) => criteria_of(alloc, kind, found),
+        Some(found) => criteria_of(alloc, sources, kind, found),
         None => Ok(Some(Texts::from_vec(Vec::new(alloc)))),
     }
 }

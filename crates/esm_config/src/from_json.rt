@@ -2,13 +2,14 @@
 ghost use Rattle.std.specs.Prelude.{◌≡◌, Some, IfOk};
 ghost use Rattle.serde_json.specs.View.{view};
 ghost use Rattle.esm_config.specs.Answer.{IfBad};
-ghost use Rattle.esm_config.specs.Given.{IsGiven};
-ghost use Rattle.esm_config.specs.Mapping.{config_of};
-ghost use Rattle.esm_config.specs.Table.{refused};
+ghost use Rattle.esm_config.specs.Given.{IsDynamoGiven, IsGiven};
+ghost use Rattle.esm_config.specs.Mapping.{config_of, dynamo_config_of};
+ghost use Rattle.esm_config.specs.Table.{dynamo_refused, refused};
 
 use crate::given::Fields;
 use crate::judged::judged;
 use crate::param::{ConfigError, Param};
+use crate::sources::Sources;
 use esm_model::config::Config;
 use serde_json::Value;
 use std::alloc::Global;
@@ -26,5 +27,20 @@ pub fn read(alloc: Global, value: &Value) -> Result<Config, ConfigError>
     let Some(members) = value.as_object() else {
         return Err(ConfigError::BadParam(Param::Body));
     };
-    judged(alloc, Fields::New(value), members)
+    judged(alloc, Fields::New(Sources::KinesisOrSqs, value), members)
+}
+
+/// The configuration of a mapping's object whose source is the stream of a DynamoDB table,
+/// `arn:aws:dynamodb:REGION:ACCOUNT:table/NAME/stream/LABEL`, in the same fields. Its
+/// `StartingPosition` is `TRIM_HORIZON`; a pattern has at most 4,087 characters, reads as a JSON
+/// object by itself, and is kept as `{"data":PATTERN}`. `BadParam` and `OutOfMemory` as in `read`.
+pub fn read_dynamo(alloc: Global, value: &Value) -> Result<Config, ConfigError>
+    ensures ok { IfOk result (λ c. dynamo_config_of (view value.now) ≡ Some c) }
+    ensures given { IfOk result (λ c. IsDynamoGiven c) }
+    ensures bad { IfBad result (λ param. dynamo_refused (view value.now) ≡ Some param) }
+{
+    let Some(members) = value.as_object() else {
+        return Err(ConfigError::BadParam(Param::Body));
+    };
+    judged(alloc, Fields::New(Sources::DynamoDb, value), members)
 }

@@ -9,14 +9,15 @@ ghost use Rattle.esm_config.specs.View.{data_of, fields_view};
 
 use crate::member::Member;
 use crate::param::Param;
+use crate::sources::Sources;
 use crate::value::{field, not_null};
 use serde_json::Value;
 
 /// What a mapping gives for its fields.
 #[derive(Clone, Copy, Debug)]
 pub enum Fields<'a> {
-    /// A new mapping's object.
-    New(&'a Value),
+    /// A new mapping's object, and the sources of which it may name one.
+    New(Sources, &'a Value),
     /// An update's object, and the members of the old mapping's.
     Update(&'a Value, &'a [Member]),
 }
@@ -57,13 +58,23 @@ fn is_fixed(param: Param) -> bool
 }
 
 impl<'a> Fields<'a> {
+    /// The sources of which the mapping may name one.
+    pub fn sources(self) -> Sources
+        ensures { result ≡ (fields_view self.entry).sources }
+    {
+        match self {
+            Fields::New(sources, _) => sources,
+            Fields::Update(_, _) => Sources::KinesisOrSqs,
+        }
+    }
+
     /// The field's value, where it is there and not `null`.
     pub fn look(self, param: Param) -> Option<&'a Value>
         ensures { data_of result ≡ (fields_view self.entry).look param }
     {
         let name = param.name();
         match self {
-            Fields::New(value) => field(value, name),
+            Fields::New(_, value) => field(value, name),
             Fields::Update(value, old) => match field(value, name) {
                 Some(found) => Some(found),
                 None => member_field(old, name),
@@ -76,7 +87,7 @@ impl<'a> Fields<'a> {
         ensures { result ≡ (fields_view self.entry).is_barred param }
     {
         match self {
-            Fields::New(_) => false,
+            Fields::New(_, _) => false,
             Fields::Update(value, _) => is_fixed(param) && field(value, param.name()).is_some(),
         }
     }

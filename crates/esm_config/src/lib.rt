@@ -19,13 +19,14 @@ mod param;
 mod position;
 mod rows;
 mod source;
+mod sources;
 mod stream;
 mod to_json;
 mod update;
 mod value;
 mod values;
 
-pub use from_json::read;
+pub use from_json::{read, read_dynamo};
 pub use laws::text_is_read;
 pub use member::Member;
 pub use object::{object_string, object_text};

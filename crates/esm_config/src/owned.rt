@@ -1,10 +1,11 @@
 // Splitting the ARN of a stream, a queue or a function into region, account and name.
 ghost use Rattle.std.specs.Prelude.{◌≡◌, option_map};
-ghost use Rattle.esm_config.specs.Arn.{function_arn_of, is_function, is_queue, is_stream, owned, owned_region, cut, queue_of, stream_of};
+ghost use Rattle.esm_config.specs.Arn.{function_arn_of, is_function, is_queue, is_stream, is_table, owned, owned_region, cut, queue_of, stream_of, table_of};
 ghost use Rattle.esm_config.specs.Parts.{parts_of};
 
 use crate::arn::{
-    cut, is_account, is_function_name, is_queue_name, is_region, is_stream_name, queue_kind, strip,
+    cut, is_account, is_function_name, is_queue_name, is_region, is_stream_name, is_table_path,
+    queue_kind, strip,
 };
 
 /// The parts of the ARN of a stream, a queue or a function.
@@ -64,6 +65,16 @@ pub fn queue_of(text: &str) -> Option<Owned<'_>>
     }
 }
 
+/// The parts of the ARN of the stream of a DynamoDB table, whose name is `NAME/stream/LABEL`.
+pub fn table_of(text: &str) -> Option<Owned<'_>>
+    ensures { option_map parts_of result ≡ table_of text.entry.now }
+{
+    match owned_by(text, "arn:aws:dynamodb:", "table/") {
+        Some(parts) => { if is_table(&parts) { Some(parts) } else { None } }
+        None => None,
+    }
+}
+
 /// The parts of the ARN of a function.
 pub fn function_arn_of(text: &str) -> Option<Owned<'_>>
     ensures { option_map parts_of result ≡ function_arn_of text.entry.now }
@@ -95,6 +106,14 @@ fn is_queue(parts: &Owned) -> bool
     is_region(parts.region.as_bytes())
         && is_account(parts.account.as_bytes())
         && is_queue_name(queue_kind(name), name)
+}
+
+fn is_table(parts: &Owned) -> bool
+    ensures { result ≡ is_table (parts_of parts.now) }
+{
+    is_region(parts.region.as_bytes())
+        && is_account(parts.account.as_bytes())
+        && is_table_path(parts.name)
 }
 
 fn is_function(parts: &Owned) -> bool

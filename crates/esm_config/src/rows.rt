@@ -60,7 +60,7 @@ pub fn parties_of<'a>(fields: Fields<'a>) -> Result<Parties<'a>, Param>
     if fields.is_barred(Param::EventSourceArn) {
         return Err(Param::EventSourceArn);
     }
-    let Some(source) = source_in(fields.look(Param::EventSourceArn)) else {
+    let Some(source) = source_in(fields.sources(), fields.look(Param::EventSourceArn)) else {
         return Err(Param::EventSourceArn);
     };
     let Some(function) = function_in(fields.look(Param::FunctionName)) else {
@@ -88,7 +88,8 @@ pub fn batching_of(alloc: Global, kind: Kind, fields: Fields<'_>) -> Result<Batc
     let Some(window_ms) = window_in(kind, batch_size, window) else {
         return Err(ConfigError::BadParam(Param::MaximumBatchingWindowInSeconds));
     };
-    let Some(filters) = filters_in(alloc, kind, fields.look(Param::FilterCriteria))? else {
+    let patterns = fields.look(Param::FilterCriteria);
+    let Some(filters) = filters_in(alloc, fields.sources(), kind, patterns)? else {
         return Err(ConfigError::BadParam(Param::FilterCriteria));
     };
     match item_failures_in(fields.look(Param::FunctionResponseTypes)) {
@@ -109,7 +110,8 @@ pub fn start_field(kind: Kind, fields: Fields<'_>) -> Result<Start, Param>
     if fields.is_barred(Param::StartingPosition) {
         return Err(Param::StartingPosition);
     }
-    let Some(position) = position_in(kind, fields.look(Param::StartingPosition)) else {
+    let place = fields.look(Param::StartingPosition);
+    let Some(position) = position_in(fields.sources(), kind, place) else {
         return Err(Param::StartingPosition);
     };
     if fields.is_barred(Param::StartingPositionTimestamp) {

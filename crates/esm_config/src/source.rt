@@ -1,12 +1,13 @@
-// The source of a mapping, a stream or a queue, by its ARN.
+// The source of a mapping, a stream, a queue or the stream of a table, by its ARN.
 ghost use Rattle.std.specs.Prelude.{◌≡◌, option_map};
-ghost use Rattle.esm_config.specs.Arn.{source_of};
+ghost use Rattle.esm_config.specs.Arn.{source_among, source_of, stream_source, table_of};
 ghost use Rattle.esm_config.specs.Fields.{source_in};
 ghost use Rattle.esm_config.specs.Parts.{source_view};
 ghost use Rattle.esm_config.specs.View.{data_of};
 
 use crate::arn::queue_kind;
-use crate::owned::{Owned, queue_of, stream_of};
+use crate::owned::{Owned, queue_of, stream_of, table_of};
+use crate::sources::Sources;
 use esm_model::config::Kind;
 use serde_json::Value;
 
@@ -39,13 +40,36 @@ fn source_of(text: &str) -> Option<Source<'_>>
     }
 }
 
-/// What is read, by its ARN.
-pub fn source_in(field: Option<&Value>) -> Option<Source<'_>>
-    ensures { option_map source_view result ≡ source_in (data_of field.entry) }
+/// The stream of the DynamoDB table of this ARN.
+fn table_source(text: &str) -> Option<Source<'_>>
+    ensures { option_map source_view result ≡ option_map (stream_source text.entry.now) (table_of text.entry.now) }
+{
+    match table_of(text) {
+        Some(parts) => Some(Source {
+            arn: text,
+            kind: Kind::Stream,
+            parts,
+        }),
+        None => None,
+    }
+}
+
+fn source_among(sources: Sources, text: &str) -> Option<Source<'_>>
+    ensures { option_map source_view result ≡ source_among sources text.entry.now }
+{
+    match sources {
+        Sources::KinesisOrSqs => source_of(text),
+        Sources::DynamoDb => table_source(text),
+    }
+}
+
+/// What is read, by its ARN, of these sources.
+pub fn source_in(sources: Sources, field: Option<&Value>) -> Option<Source<'_>>
+    ensures { option_map source_view result ≡ source_in sources (data_of field.entry) }
 {
     match field {
         Some(found) => match found.as_str() {
-            Some(text) => source_of(text),
+            Some(text) => source_among(sources, text),
             None => None,
         },
         None => None,

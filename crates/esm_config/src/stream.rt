@@ -2,12 +2,13 @@
 ghost use Rattle.std.specs.Prelude.{◌≡◌, codes, option_and_then, option_map};
 ghost use Rattle.serde_json.specs.Find.{as_str};
 ghost use Rattle.serde_json.specs.View.{view};
-ghost use Rattle.esm_config.specs.Fields.{age_in, age_within, attempts_within, bisect_in, concurrency_in, concurrency_of, destination_in, destination_of, factor_in, is_tumbling_for, limit_in, milliseconds, only_member, or_missing, position_in, position_of, retries_in, start_in, start_of, tumbling_in, whole_in};
+ghost use Rattle.esm_config.specs.Fields.{age_in, age_within, attempts_within, bisect_in, concurrency_in, concurrency_of, destination_in, destination_of, factor_in, first_position, is_tumbling_for, limit_in, milliseconds, only_member, or_missing, position_among, position_in, position_of, retries_in, start_in, start_of, tumbling_in, whole_in};
 ghost use Rattle.esm_model.specs.Valid.{is_destination};
 ghost use Rattle.esm_config.specs.Arn.{kept};
 ghost use Rattle.esm_config.specs.View.{data_of};
 
 use crate::position::Position;
+use crate::sources::Sources;
 use crate::value::{only_member, only_text, truth_or, whole_in, whole_or};
 use esm_model::config::{Kind, Start};
 use esm_model::{MAX_MOMENT, MAX_RETRIES};
@@ -27,13 +28,32 @@ fn position_of(text: &str) -> Option<Position>
     }
 }
 
-/// Where a stream's mapping begins to read.
-pub fn position_in(kind: Kind, field: Option<&Value>) -> Option<Position>
-    ensures { result ≡ position_in kind (data_of field.entry) }
+fn first_position(text: &str) -> Option<Position>
+    ensures { result ≡ first_position text.now }
+{
+    if text == "TRIM_HORIZON" {
+        Some(Position::TrimHorizon)
+    } else {
+        None
+    }
+}
+
+fn position_among(sources: Sources, text: &str) -> Option<Position>
+    ensures { result ≡ position_among sources text.now }
+{
+    match sources {
+        Sources::KinesisOrSqs => position_of(text),
+        Sources::DynamoDb => first_position(text),
+    }
+}
+
+/// Where a stream's mapping begins to read: that of a table's stream at its first record alone.
+pub fn position_in(sources: Sources, kind: Kind, field: Option<&Value>) -> Option<Position>
+    ensures { result ≡ position_in sources kind (data_of field.entry) }
 {
     match (kind, field) {
         (Kind::Stream, Some(found)) => match found.as_str() {
-            Some(text) => position_of(text),
+            Some(text) => position_among(sources, text),
             None => None,
         },
         (Kind::Stream, None) => None,

@@ -11,4 +11,6 @@ mod filter;
 #[cfg(test)]
 mod queue;
 #[cfg(test)]
+mod table_stream;
+#[cfg(test)]
 mod window;

@@ -1,7 +1,8 @@
 use Rattle.std.proofs.Common.{lit<}
 use Rattle.std.proofs.lemmas.Str.Pattern.{split_once_first}
+use Rattle.esm_config.specs.Arn.{is_colon}
 use Rattle.esm_config.proofs.Cuts.{cut_is}
 use Rattle.esm_config.proofs.arn.cut.Goals as goal
 
 pub returns : goal.returns
-returns c = cut_is c.args.text.now c.split_once.result (split_once_first 58 c.args.text.now c.split_once.result c.split_once.ensures.cases (lit< tt))
+returns c = cut_is is_colon c.args.text.now c.split_once.result (split_once_first 58 c.args.text.now c.split_once.result c.split_once.ensures.cases (lit< tt))

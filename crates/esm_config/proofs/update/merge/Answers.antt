@@ -1,4 +1,4 @@
-use Rattle.std.proofs.Common.{◌∙◌, ap}
+use Rattle.std.proofs.Common.{◌∙◌, ap, refl}
 use Rattle.serde_json.specs.Data.{object}
 use Rattle.serde_json.specs.View.{members_view, view}
 use Rattle.esm_config.specs.Member.{members_of}
@@ -14,7 +14,7 @@ returns-clause-ok c =
 
 pub returns-clause-given : goal.returns-clause-given
 returns-clause-given c =
-    tells_given c.judged.result (updated_fields (object (members_of c.as_slice.result.now)) (view c.args.value.now)) (members_view c.in-Some.members.now.entries) c.judged.ensures
+    tells_given c.judged.result (updated_fields (object (members_of c.as_slice.result.now)) (view c.args.value.now)) (members_view c.in-Some.members.now.entries) refl c.judged.ensures
 
 pub returns-clause-bad : goal.returns-clause-bad
 returns-clause-bad c =
