@@ -7,7 +7,7 @@ use Rattle.esm_journal_state.specs.Meaning.{history}
 use Rattle.esm_journal_state.specs.SaidLists.{SaidLists, IsInOrder}
 use Rattle.esm_journal_state.specs.Tells.{Tells}
 use Rattle.esm_ledger.specs.Ledger.{opened_with}
-use Rattle.esm_stream_core.specs.OwingView.{OwingView, new_view}
+use Rattle.esm_stream_core.specs.CoreView.{CoreView, new_view}
 use Rattle.esm_stream_book.specs.Opening.{IsCoreOver}
 
 -- lists in order that tell of histories that say the same are equal
@@ -25,7 +25,7 @@ says_itself h = record {
 }
 
 -- the book's core is opened with what the journal was found to say
-pub core_begun : (config : Config) (calls : ℕ) (said : SaidLists) (payloads : List (List ℕ)) (v : OwingView) → SameTold → Tells said (history (reverse payloads)) → IsInOrder said
+pub core_begun : (config : Config) (calls : ℕ) (said : SaidLists) (payloads : List (List ℕ)) (v : CoreView) → SameTold → Tells said (history (reverse payloads)) → IsInOrder said
     → IsCoreOver config calls payloads v → v ≡ new_view (opened_with config calls said)
 core_begun config calls said payloads v told tells order core =
     let h = history (reverse payloads) in

@@ -17,7 +17,7 @@ use Rattle.esm_stream_book.specs.Batchers.{calls_told, Rests, RunsJob}
 use Rattle.esm_workers.specs.Working.{Outside}
 use Rattle.esm_workers.specs.Working as working
 use Rattle.esm_workers.specs.Shared.{HaveCalled}
-use Rattle.esm_stream_core.specs.OwingView.{full_setting}
+use Rattle.esm_stream_core.specs.CoreView.{full_setting}
 use Rattle.esm_stream_core.specs.Told.{told_entries, told_of}
 use Rattle.esm_stream_book.specs.Books.{BookState}
 use Rattle.esm_runner.specs.Given.{AreGiven}

@@ -18,7 +18,7 @@ use Rattle.esm_model.specs.Earned.{IsLogged}
 use Rattle.esm_model.specs.Entries.{batcher}
 use Rattle.esm_journal_record.specs.EntryPayload.{entry_payload}
 use Rattle.esm_book.specs.State.{in_hand, is_dest, is_disk}
-use Rattle.esm_stream_core.specs.OwingView.{full_setting, lines_of}
+use Rattle.esm_stream_core.specs.CoreView.{full_setting, lines_of}
 use Rattle.esm_folder.specs.Upkeep.{AreHonest, AreOnlyRead, OneRose, PairHolds}
 use Rattle.esm_folder.proofs.OpenedDisks.{are_honest, pair_holds}
 use Rattle.esm_stream_book.specs.Books.{BookState, OpensToFirst, payloads_in}

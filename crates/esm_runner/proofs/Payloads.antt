@@ -10,7 +10,7 @@ use Rattle.esm_journal_record.specs.EntryPayload.{entry_payload, history_payload
 use Rattle.esm_ledger.specs.Ledger.{LegalOver}
 use Rattle.esm_ledger.specs.Coming.{with_list}
 use Rattle.esm_ledger.proofs.Comes.{grown_extends}
-use Rattle.esm_stream_core.specs.OwingView.{OwingView, with_coming, full_setting}
+use Rattle.esm_stream_core.specs.CoreView.{CoreView, with_coming, full_setting}
 use Rattle.esm_stream_book.specs.Books.{payloads_in}
 use Rattle.esm_runner.specs.Laws.{PayloadsStay}
 
@@ -26,7 +26,7 @@ legal_rest s [] before legal = legal
 legal_rest s (e ∷ later) before legal = legal_rest s later before legal.0
 
 -- of the first entries of a history
-pub front_stays : PayloadsStay → (v : OwingView) → LegalOver v.setting v.past → (front rest : List Entry) → front ++ rest ≡ reverse v.past → payloads_in (full_setting v) front ≡ payloads_in v.setting front
+pub front_stays : PayloadsStay → (v : CoreView) → LegalOver v.setting v.past → (front rest : List Entry) → front ++ rest ≡ reverse v.past → payloads_in (full_setting v) front ≡ payloads_in v.setting front
 front_stays stay v legal front rest split =
     let turned : v.past ≡ reverse rest ++ reverse front = sym (reverse-reverse v.past) ∙ (ap reverse (sym split) ∙ reverse-append front rest) in
     let before : Legal v.setting (reverse front) = legal_rest v.setting (reverse rest) (reverse front) (subst (Legal v.setting) turned (own_legal v.setting v.past legal)) in
@@ -34,7 +34,7 @@ front_stays stay v legal front rest split =
     stay v.setting (with_coming v.setting.streams v.coming) (reverse front) (coming_extends v.setting.streams v.coming) before in
     subst (λ (es : List Entry). payloads_in (full_setting v) es ≡ payloads_in v.setting es) (reverse-reverse front) same
 
-pub all_stay : PayloadsStay → (v : OwingView) → LegalOver v.setting v.past → payloads_in (full_setting v) (reverse v.past) ≡ payloads_in v.setting (reverse v.past)
+pub all_stay : PayloadsStay → (v : CoreView) → LegalOver v.setting v.past → payloads_in (full_setting v) (reverse v.past) ≡ payloads_in v.setting (reverse v.past)
 all_stay stay v legal = front_stays stay v legal (reverse v.past) [] (append-nil (reverse v.past))
 
 -- the first ones of a list with at most one more behind it are first ones of the list, or all
@@ -56,7 +56,7 @@ split_one {A} (x ∷ front) rest (y ∷ es) hand few split =
     ]
 
 -- of the first entries of a history and what is in hand
-pub left_stays : PayloadsStay → (v : OwingView) → LegalOver v.setting v.past → (hand front rest : List Entry) → length hand ≤ 1 → payloads_in (full_setting v) hand ≡ payloads_in v.setting hand
+pub left_stays : PayloadsStay → (v : CoreView) → LegalOver v.setting v.past → (hand front rest : List Entry) → length hand ≤ 1 → payloads_in (full_setting v) hand ≡ payloads_in v.setting hand
     → front ++ rest ≡ reverse v.past ++ hand → payloads_in (full_setting v) front ≡ payloads_in v.setting front
 left_stays stay v legal hand front rest few same split =
     elim (split_one front rest (reverse v.past) hand few split) [

@@ -15,7 +15,7 @@ use Rattle.esm_model.proofs.TellingFacts.{records_in_told}
 use Rattle.esm_journal_record.specs.EntryPayload.{AllMayBeSaid}
 use Rattle.esm_record_bounds.specs.Bounds.{AreCountedInFourBytes, AreWithinBounds}
 use Rattle.esm_ingest.specs.Coming.{of_shard}
-use Rattle.esm_stream_core.specs.OwingView.{OwingView, full_setting}
+use Rattle.esm_stream_core.specs.CoreView.{CoreView, full_setting}
 use Rattle.esm_stream_core.specs.Told.{told_entries, told_of}
 use Rattle.esm_journal.specs.State.{JournalState}
 use Rattle.esm_model.specs.declared.item.Item.{Item}
@@ -30,10 +30,10 @@ entries_same : (s : Setting) (es : List Entry) → map (λ (t : Told). t.entry) 
 entries_same s [] = refl
 entries_same s (e ∷ es) = ap (λ (xs : List Entry). e ∷ xs) (entries_same s es)
 
-entries_of : (v : OwingView) → entries_told (told_of v) ≡ v.past
+entries_of : (v : CoreView) → entries_told (told_of v) ≡ v.past
 entries_of v = ap reverse (entries_same (full_setting v) (reverse v.past)) ∙ reverse-reverse v.past
 
-pub came_all : (v : OwingView) → v.setting.streams ≡ streams_told (told_of v) → All IsOfStream (told_of v) → (n : ℕ) → came_count v.past n ≡ length (records_of v.setting n)
+pub came_all : (v : CoreView) → v.setting.streams ≡ streams_told (told_of v) → All IsOfStream (told_of v) → (n : ℕ) → came_count v.past n ≡ length (records_of v.setting n)
 came_all v records of_stream n =
     let counted : came_count (entries_told (told_of v)) n ≡ length (records_told n (told_of v)) = count_told (told_of v) n of_stream in
     let stand : records_in v.setting.streams n ≡ records_told n (told_of v) = ap (λ (ts : List Stream). records_in ts n) records ∙ records_in_told (told_of v) n in
@@ -68,7 +68,7 @@ counted b xs sound few came n =
     omega (arith, all, some, few)
 
 -- the bounds of all that came or is coming are those of what came
-own_bounds : (v : OwingView) → AreWithinBounds (full_setting v) → AreWithinBounds v.setting
+own_bounds : (v : CoreView) → AreWithinBounds (full_setting v) → AreWithinBounds v.setting
 own_bounds v all = record {
   own_shard = λ n i r at. all.own_shard n i r (coming_extends v.setting.streams v.coming n i r at);
   valid = λ n i r at. all.valid n i r (coming_extends v.setting.streams v.coming n i r at);

@@ -13,7 +13,7 @@ use Rattle.esm_model.specs.declared.config.Config.{Config}
 use Rattle.esm_model.specs.declared.config.Start.{Start}
 use Rattle.esm_ingest.specs.Coming.{of_shard}
 use Rattle.esm_ledger.specs.Ledger.{opened_with}
-use Rattle.esm_stream_core.specs.OwingView.{new_view}
+use Rattle.esm_stream_core.specs.CoreView.{new_view}
 use Rattle.esm_model.specs.declared.item.LineKind.TheVariants as kinds
 use Rattle.esm_input.specs.Positions.{from_start}
 use Rattle.esm_input.specs.Reading.{items_read}

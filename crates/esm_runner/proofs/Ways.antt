@@ -17,7 +17,7 @@ use Rattle.esm_journal_record.specs.EntryPayload.{AllMayBeSaid}
 use Rattle.esm_record_bounds.specs.Bounds.{AreWithinBounds}
 use Rattle.esm_book.specs.State.{in_hand}
 use Rattle.esm_ledger.specs.Ledger.{opened_with}
-use Rattle.esm_stream_core.specs.OwingView.{OwingView, full_setting, new_view}
+use Rattle.esm_stream_core.specs.CoreView.{CoreView, full_setting, new_view}
 use Rattle.esm_stream_core.specs.Told.{opened}
 use Rattle.esm_model.specs.declared.item.LineKind.{LineKind}
 use Rattle.esm_model.specs.declared.item.LineKind.TheVariants as kinds
@@ -57,7 +57,7 @@ pub record IsMadeFor {S : Type 0} (config : Config) (start : Start) (old : S) (i
 opened_so : {D : Type 0} (config : Config) (calls : ℕ) (f : FilesState D) (before b : BookState D (JournalState D)) → StoodSo config calls f before → b.core.setting ≡ over before.core.setting b.core.setting.streams
     → b.core.setting ≡ over (opened_with config calls f.said) b.core.setting.streams
 opened_so {D} config calls f before b stood is =
-    is ∙ ap (λ (s : Setting). over s b.core.setting.streams) (ap (λ (v : OwingView). v.setting) stood.core)
+    is ∙ ap (λ (s : Setting). over s b.core.setting.streams) (ap (λ (v : CoreView). v.setting) stood.core)
 
 some_of_all : {D : Type 0} (b : BookState D (JournalState D)) (records : List Record) → AllCame b records → SomeCame b records
 some_of_all b records all n = ([], sym (all.came n) ∙ sym (append-nil _))

@@ -21,7 +21,7 @@ use Rattle.esm_model.specs.Earned.{FateIsEarned, LastEnd}
 use Rattle.esm_model.specs.Laws.{OrderPerKey, OneFate, NoRepeat, EveryRecordCounted, CheckpointIsLongest}
 use Rattle.esm_ingest.specs.Coming.{of_shard}
 use Rattle.esm_ledger.specs.Ledger.{LegalOver, opened_with}
-use Rattle.esm_stream_core.specs.OwingView.{lines_of}
+use Rattle.esm_stream_core.specs.CoreView.{lines_of}
 use Rattle.esm_journal_record.specs.declared.said.Said.{Said}
 use Rattle.esm_journal_state.specs.declared.kept.KeptFate.{KeptFate}
 use Rattle.esm_journal_state.specs.Meaning.{fate_said, history}

@@ -11,7 +11,7 @@ use Rattle.esm_model.specs.declared.config.Start.{Start}
 use Rattle.esm_journal_record.specs.EntryPayload.{AllMayBeSaid}
 use Rattle.esm_book.specs.State.{in_hand}
 use Rattle.esm_ledger.specs.Ledger.{opened_with, LegalOver}
-use Rattle.esm_stream_core.specs.OwingView.{new_view, full_setting}
+use Rattle.esm_stream_core.specs.CoreView.{new_view, full_setting}
 use Rattle.esm_model.specs.declared.item.LineKind.TheVariants as kinds
 use Rattle.esm_input.specs.Reading.{InputState}
 use Rattle.esm_journal_state.specs.SaidLists.{SaidLists}

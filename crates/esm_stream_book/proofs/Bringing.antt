@@ -20,8 +20,8 @@ use Rattle.esm_ingest.specs.Entries.{came_part, came_parts, filtered_at, filtere
 use Rattle.esm_ingest.specs.Parts.{Part, parts_of}
 use Rattle.esm_ingest.proofs.Places.{shards, Every, every_map, in_list, IsPartOf, parts_are, parts_distinct}
 use Rattle.esm_next.specs.Following.{expiry_entries, next_entries}
-use Rattle.esm_stream_core.specs.Arrival.{streams_of}
-use Rattle.esm_stream_core.specs.OwingView.{setting_with, lines_of}
+use Rattle.esm_stream_core.specs.Calls.{streams_of}
+use Rattle.esm_stream_core.specs.CoreView.{setting_with, lines_of}
 use Rattle.esm_stream_book.proofs.Records.{names, AllCame}
 
 -- the entry is no `Came`

@@ -20,7 +20,7 @@ use Rattle.esm_ledger.specs.Ledger.{LegalOver}
 use Rattle.esm_ledger.specs.Reading.{lane_of_batcher}
 use Rattle.esm_next.specs.Following.{outstanding, due_windows, least, is_nothing, next_call, next_allowed, next_quiet, next_in}
 use Rattle.esm_outcome.specs.Ending.{SettledOver}
-use Rattle.esm_stream_core.specs.OwingView.{OwingView}
+use Rattle.esm_stream_core.specs.CoreView.{CoreView}
 use Rattle.esm_stream_core.specs.declared.decisions.StreamEntry.{StreamEntry}
 use Rattle.esm_stream_core.specs.declared.decisions.StreamCall.{StreamCall}
 use Rattle.esm_stream_core.specs.declared.decisions.StreamCall.TheVariants as call
@@ -33,7 +33,7 @@ use Rattle.esm_stream_book.specs.Carried.{coming_by, setting_by, entries_by, IsA
 use Rattle.esm_stream_book.proofs.Bringing.{BringAll, list_brings, next_none, debts_none}
 
 -- these entries are decided, with the records that come: with both the history is legal, and settled
-pub record HasDecided (v : OwingView) (asked : StreamCall) (given : StreamAnswer) (entries : List StreamEntry) : Type 0 where
+pub record HasDecided (v : CoreView) (asked : StreamCall) (given : StreamAnswer) (entries : List StreamEntry) : Type 0 where
   pub entries_are : entries ≡ stream_entries (setting_by v asked) (entries_by v asked)
   pub legal : LegalOver (setting_by v asked) (reverse (entries_by v asked) ++ v.past)
   pub settled : SettledOver (setting_by v asked) (reverse (entries_by v asked) ++ v.past)
@@ -44,7 +44,7 @@ pub record HasDecided (v : OwingView) (asked : StreamCall) (given : StreamAnswer
 not_both : {A : Type 0} (o : Option A) (x : A) → o ≡ None → o ≡ Some x → ⊥
 not_both o x none some = absurd (cc)
 
-pub decided_so : (v : OwingView) (asked : StreamCall) (given : StreamAnswer) (entries : List StreamEntry) → Decides v asked given entries → HasDecided v asked given entries
+pub decided_so : (v : CoreView) (asked : StreamCall) (given : StreamAnswer) (entries : List StreamEntry) → Decides v asked given entries → HasDecided v asked given entries
 decided_so v (call.Came items moment) answer.Taken entries d = record {
   entries_are = d.1.entries_are;
   legal = d.1.legal;
@@ -115,7 +115,7 @@ in_lane s h m None = either_of None (is_shut h) next.Finished (next.Idle (moment
 in_lane s h m (Some lane) =
     either_of (Some lane) (is_front_expired s h lane m) _ (next_quiet s h lane m (open_places s h lane)) tt (quiet_of_lane s h lane m (open_places s h lane))
 
-runs_of : (v w : OwingView) (batcher m : ℕ) (n : Next) → w.past ≡ reverse (next_adds v batcher m n) ++ v.past → IsOfLane (lane_of_batcher v.setting v.past batcher) n → RunsCall batcher v w n
+runs_of : (v w : CoreView) (batcher m : ℕ) (n : Next) → w.past ≡ reverse (next_adds v batcher m n) ++ v.past → IsOfLane (lane_of_batcher v.setting v.past batcher) n → RunsCall batcher v w n
 runs_of v w batcher m (next.Call job) is own =
     (own, subst (λ (past : List Entry). IsRunningJob past job) (sym is) (record { runs = rw (same_lane-refl job.lane) refl; places = rw (same_lane-refl job.lane) refl }))
 runs_of v w batcher m (next.Gave count) is own = tt
@@ -123,7 +123,7 @@ runs_of v w batcher m (next.Idle until) is own = tt
 runs_of v w batcher m next.Spent is own = tt
 runs_of v w batcher m next.Finished is own = tt
 
-pub runs_call : (v w : OwingView) (batcher moment : ℕ) (n : Next) → IsNextOver v batcher (moment_for v.past moment) n → w.past ≡ reverse (next_adds v batcher (moment_for v.past moment) (next_now v batcher moment)) ++ v.past → RunsCall batcher v w n
+pub runs_call : (v w : CoreView) (batcher moment : ℕ) (n : Next) → IsNextOver v batcher (moment_for v.past moment) n → w.past ≡ reverse (next_adds v batcher (moment_for v.past moment) (next_now v batcher moment)) ++ v.past → RunsCall batcher v w n
 runs_call v w batcher moment n over is =
     let m = moment_for v.past moment in
     let same : n ≡ next_now v batcher moment = over v.setting.streams (λ k i r at. at) in

@@ -20,7 +20,7 @@ use Rattle.esm_stream_core.specs.declared.decisions.StreamAnswer.{StreamAnswer}
 use Rattle.esm_stream_core.specs.declared.decisions.StreamEntry.{StreamEntry}
 use Rattle.esm_stream_core.specs.Calls.{moment_for}
 use Rattle.esm_stream_core.specs.Told.{stream_entry, stream_entries, owed_of, Decides}
-use Rattle.esm_stream_core.specs.OwingView.{full_setting, lines_of}
+use Rattle.esm_stream_core.specs.CoreView.{full_setting, lines_of}
 use Rattle.esm_stream_book.specs.Books.{BookState, sent_of}
 use Rattle.esm_stream_book.specs.Calls.{AddedSome, IsSame, WasWriting, hand_of}
 use Rattle.esm_stream_book.specs.Keeping.{IsSound}

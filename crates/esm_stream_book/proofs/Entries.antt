@@ -5,7 +5,7 @@ use Rattle.esm_model.specs.Setting.{Setting}
 use Rattle.esm_model.specs.declared.entry.Entry.{Entry}
 use Rattle.esm_model.specs.declared.setup.Told.{Told}
 use Rattle.esm_stream_core.specs.declared.decisions.StreamEntry.{StreamEntry}
-use Rattle.esm_stream_core.specs.OwingView.{OwingView, full_setting}
+use Rattle.esm_stream_core.specs.CoreView.{CoreView, full_setting}
 use Rattle.esm_stream_core.specs.Told.{stream_entry, stream_entries, history_of, owed_of, told_entries, told_of}
 
 -- lists
@@ -46,11 +46,11 @@ entries_in s [] = refl
 entries_in s (e ∷ es) = ap (λ (xs : List Entry). e ∷ xs) (entries_in s es)
 
 -- the history of a core, oldest entry first
-told_reversed : (v : OwingView) → told_of v ≡ map told_in (reverse (history_of v))
+told_reversed : (v : CoreView) → told_of v ≡ map told_in (reverse (history_of v))
 told_reversed v = ap (map told_in) (map-reverse (stream_entry (full_setting v)) v.past)
 
 -- entries that were put before a history
-pub past_grows : (old new : OwingView) (s : Setting) (es : List Entry) (X : List StreamEntry) → history_of new ≡ reverse X ++ history_of old → X ≡ stream_entries s es → new.past ≡ reverse es ++ old.past
+pub past_grows : (old new : CoreView) (s : Setting) (es : List Entry) (X : List StreamEntry) → history_of new ≡ reverse X ++ history_of old → X ≡ stream_entries s es → new.past ≡ reverse es ++ old.past
 past_grows old new s es X is added =
     sym (entries_in (full_setting new) new.past)
     ∙ (ap (map entry_in) is
@@ -66,7 +66,7 @@ reversed_back {A} (x ∷ xs) =
     ∙ (reverse-append (reverse xs) (x ∷ [])
     ∙ ap (λ (ys : List A). x ∷ ys) (reversed_back xs))
 
-pub told_grows : (old new : OwingView) (s : Setting) (es : List Entry) (X : List StreamEntry) → history_of new ≡ reverse X ++ history_of old → X ≡ stream_entries s es → told_of new ≡ told_of old ++ told_entries s es
+pub told_grows : (old new : CoreView) (s : Setting) (es : List Entry) (X : List StreamEntry) → history_of new ≡ reverse X ++ history_of old → X ≡ stream_entries s es → told_of new ≡ told_of old ++ told_entries s es
 told_grows old new s es X is added =
     told_reversed new
     ∙ (ap (λ (h : List StreamEntry). map told_in (reverse h)) is
@@ -76,7 +76,7 @@ told_grows old new s es X is added =
     (ap (map told_in) (reversed_back X ∙ added)))))
 
 -- what is owed
-pub owed_entries : (v : OwingView) → map entry_in (owed_of v) ≡ v.owed
+pub owed_entries : (v : CoreView) → map entry_in (owed_of v) ≡ v.owed
 owed_entries v = entries_in (full_setting v) v.owed
 
 -- a list of entries in two parts

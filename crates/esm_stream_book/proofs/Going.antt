@@ -21,7 +21,7 @@ use Rattle.esm_book.specs.Growth.{LeavesFronts, OpensToFront, AreTold}
 use Rattle.esm_ledger.specs.Ledger.{LegalOver}
 use Rattle.esm_outcome.specs.Ending.{SettledOver}
 use Rattle.esm_record_bounds.specs.Bounds.{AreWithinBounds}
-use Rattle.esm_stream_core.specs.OwingView.{OwingView, with_coming, setting_with, full_setting}
+use Rattle.esm_stream_core.specs.CoreView.{CoreView, with_coming, setting_with, full_setting}
 use Rattle.esm_stream_core.proofs.Settling.{coming_extends}
 use Rattle.esm_stream_core.specs.declared.decisions.Opened.{Opened}
 use Rattle.esm_stream_core.specs.declared.decisions.StreamEntry.{StreamEntry}
@@ -35,7 +35,7 @@ use Rattle.esm_stream_book.proofs.Records.{entries_same, told_front, AllCame, to
 use Rattle.esm_stream_book.proofs.Bringing.{BringAll, all_brought}
 
 -- how a core means its history and what it owes
-abbrev pub stream_meaning : CoreMeaning OwingView StreamEntry
+abbrev pub stream_meaning : CoreMeaning CoreView StreamEntry
 stream_meaning = record { history = history_of; owed = owed_of; payload = payload_in; line = line_in }
 
 -- these entries went to the history, and their payloads to the journal
@@ -50,7 +50,7 @@ pub record Went {D T : Type 0} (old new : BookState D T) (X : List StreamEntry) 
 
 -- the setting is as it was opened
 
-pub opened_so : (v w : OwingView) → opened v ≡ opened w → v.setting ≡ over w.setting v.setting.streams
+pub opened_so : (v w : CoreView) → opened v ≡ opened w → v.setting ≡ over w.setting v.setting.streams
 opened_so v w is =
     ap (λ (o : Opened). record { config = o.config; calls = o.calls; streams = v.setting.streams; fates = o.fates; tries = o.tries; states = o.states; window_tries = o.window_tries }) is
 
@@ -88,7 +88,7 @@ added_so old new X s es w is = record {
 -- the history that a core tells is legal
 
 -- what such a core was opened with
-abbrev setup_for : OwingView → Setup
+abbrev setup_for : CoreView → Setup
 setup_for v = record no_setup {
   config = v.setting.config;
   calls = v.setting.calls;
@@ -99,7 +99,7 @@ setup_for v = record no_setup {
 }
 
 -- where it is over lists that go on from the core's own
-pub legal_onward : (v : OwingView) (streams : List Stream) → v.setting.streams ≡ streams_told (told_of v) → All IsOfStream (told_of v) → Extends (streams_told (told_of v)) streams → Legal (over v.setting streams) v.past → LegalOver v.setting v.past
+pub legal_onward : (v : CoreView) (streams : List Stream) → v.setting.streams ≡ streams_told (told_of v) → All IsOfStream (told_of v) → Extends (streams_told (told_of v)) streams → Legal (over v.setting streams) v.past → LegalOver v.setting v.past
 legal_onward v streams records all goes legal after onward =
     let history = told_of v in
     let entries : entries_told history ≡ v.past = entries_same (full_setting v) v.past in

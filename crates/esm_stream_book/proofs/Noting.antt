@@ -16,7 +16,7 @@ use Rattle.esm_model.specs.Books.{entries_told, came_with, records_told, stream_
 use Rattle.esm_model.proofs.TellingFacts.{entries_more, records-append}
 use Rattle.esm_ledger.specs.Ledger.{LegalOver}
 use Rattle.esm_outcome.specs.Ending.{SettledOver}
-use Rattle.esm_stream_core.specs.OwingView.{full_setting}
+use Rattle.esm_stream_core.specs.CoreView.{full_setting}
 use Rattle.esm_stream_core.proofs.Settling.{shut_legal, shut_settled}
 use Rattle.esm_stream_core.specs.Calls.{moment_for, IsRunningJob}
 use Rattle.esm_stream_core.specs.declared.decisions.StreamEntry.{StreamEntry}

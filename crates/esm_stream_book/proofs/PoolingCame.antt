@@ -30,9 +30,8 @@ use Rattle.esm_ingest.specs.Parts.{Part, part_in, parts_of, grown_by}
 use Rattle.esm_ingest.specs.Entries.{came_part, came_parts, filtered_at, filtered_parts, part_entries}
 use Rattle.esm_ingest.proofs.Shards.{of_none, shards_distinct}
 use Rattle.esm_ingest.proofs.Streams.{grown_parts}
-use Rattle.esm_stream_core.specs.Arrival.{streams_of}
-use Rattle.esm_stream_core.specs.OwingView.{OwingView, full_setting, with_coming, setting_with}
-use Rattle.esm_stream_core.specs.Calls.{moment_for, coming_lists, came_entries, Differs}
+use Rattle.esm_stream_core.specs.Calls.{streams_of, moment_for, coming_lists, came_entries, Differs}
+use Rattle.esm_stream_core.specs.CoreView.{CoreView, full_setting, with_coming, setting_with}
 use Rattle.esm_stream_core.specs.Told.{covered, stream_entry, told_entries, told_of}
 use Rattle.esm_model.specs.GoingOn.{AllAt, change_told}
 use Rattle.esm_stream_book.specs.Books.{BookState, is_down}
@@ -218,7 +217,7 @@ brought_still moment v w core found found_dest down = record {
   told = ap told_of core ∙ sym (append-nil (told_of v.core));
   own = tt;
   moments = tt;
-  setting = ap (λ (x : OwingView). x.setting) core ∙ ap (λ (x : OwingView). over v.core.setting x.setting.streams) (sym core);
+  setting = ap (λ (x : CoreView). x.setting) core ∙ ap (λ (x : CoreView). over v.core.setting x.setting.streams) (sym core);
   found = found;
   found_dest = found_dest;
   down = down;
@@ -251,7 +250,7 @@ open_some d n list moment trouble v w some going =
     ap is_shut some.added.past ∙ open_at m some.front v.core.past (at_front m some.front some.rest (subst (AreAt m) (sym some.split) (at_parts m (parts_of v.core.setting v.core.past list)))) going
 
 open_still : {D T : Type 0} (v w : BookState D T) → w.core ≡ v.core → is_shut v.core.past ≡ false → is_shut w.core.past ≡ false
-open_still v w core going = ap (λ (x : OwingView). is_shut x.past) core ∙ going
+open_still v w core going = ap (λ (x : CoreView). is_shut x.past) core ∙ going
 
 -- the records of each shard
 
@@ -282,7 +281,7 @@ in_records ts (r ∷ rs) n = in_records (with_record ts r) rs n ∙ ap (λ l. l 
     of_first false = refl
 
 -- with the list
-in_coming : (v : OwingView) (list : List Record) (n : ℕ) → records_of (setting_with v.setting (coming_lists v list)) n ≡ records_in v.setting.streams n ++ of_shard n list
+in_coming : (v : CoreView) (list : List Record) (n : ℕ) → records_of (setting_with v.setting (coming_lists v list)) n ≡ records_in v.setting.streams n ++ of_shard n list
 in_coming v list n =
     ap (λ (ts : List Stream). records_in ts n) (grown_by_lists (parts_of v.setting v.past list) v.setting.streams ∙ grown_parts v.setting v.past list v.setting.streams)
     ∙ in_records v.setting.streams list n
@@ -296,7 +295,7 @@ counted v sound n =
 
 -- what the told entries of a list tell of each shard
 
-covered_is : (v : OwingView) (list : List Record) (k m : ℕ) → came_count v.past k ≡ length (records_in v.setting.streams k)
+covered_is : (v : CoreView) (list : List Record) (k m : ℕ) → came_count v.past k ≡ length (records_in v.setting.streams k)
     → covered (setting_with v.setting (coming_lists v list)) (came_part m (part_in v.setting v.past list k)) ≡ of_shard k list
 covered_is v list k m count =
     ap (λ l. take (length (of_shard k list)) (drop (came_count v.past k) l)) (in_coming v list k)
@@ -304,7 +303,7 @@ covered_is v list k m count =
     ∙ ap (λ l. take (length (of_shard k list)) l) (drop-append_seam (records_in v.setting.streams k) (of_shard k list))
     ∙ take-length (of_shard k list)
 
-came_told : (v : OwingView) (list : List Record) (n m : ℕ) (ns : List ℕ) → ((k : ℕ) → came_count v.past k ≡ length (records_in v.setting.streams k)) → Distinct ns
+came_told : (v : CoreView) (list : List Record) (n m : ℕ) (ns : List ℕ) → ((k : ℕ) → came_count v.past k ≡ length (records_in v.setting.streams k)) → Distinct ns
     → records_told n (told_entries (setting_with v.setting (coming_lists v list)) (came_parts m (map (part_in v.setting v.past list) ns))) ≡ (if holds ns n then of_shard n list else [])
 came_told v list n m [] count d = refl
 came_told v list n m (k ∷ ns) count d =
@@ -336,7 +335,7 @@ told_both : (s : Setting) (xs ys : List Entry) → told_entries s (xs ++ ys) ≡
 told_both s [] ys = refl
 told_both s (e ∷ xs) ys = ap (λ l. (stream_entry s e).told ∷ l) (told_both s xs ys)
 
-list_told : (v : OwingView) (list : List Record) (n m : ℕ) → ((k : ℕ) → came_count v.past k ≡ length (records_in v.setting.streams k))
+list_told : (v : CoreView) (list : List Record) (n m : ℕ) → ((k : ℕ) → came_count v.past k ≡ length (records_in v.setting.streams k))
     → records_told n (told_entries (setting_with v.setting (coming_lists v list)) (came_entries v list m)) ≡ of_shard n list
 list_told v list n m count =
     let s : Setting = setting_with v.setting (coming_lists v list) in
@@ -374,7 +373,7 @@ added_some d e list t trouble v w sound some n =
     (rest, ap (λ l. old ++ l) parts ∙ sym (append_assoc old front rest) ∙ ap (λ l. l ++ rest) (sym (told_more s v w some.front n some.added)))
 
 added_none : {D T : Type 0} (v w : BookState D T) (list : List Record) → w.core ≡ v.core → SomeAdded (come_by (told_of v.core)) (come_by (told_of w.core)) list
-added_none v w list core n = (of_shard n list, ap (λ (x : OwingView). come_by (told_of x) n ++ of_shard n list) (sym core))
+added_none v w list core n = (of_shard n list, ap (λ (x : CoreView). come_by (told_of x) n ++ of_shard n list) (sym core))
 
 added_so : (v w : ℕ → List Record) (list : List Record) → AreAdded v w list → SomeAdded v w list
 added_so v w list added n = ([], sym (added n) ∙ sym (append-nil _))

@@ -19,7 +19,7 @@ use Rattle.esm_model.specs.Books.{entries_told, streams_told, setting_told, auth
 use Rattle.esm_model.specs.GoingOn.{GoesOn, AllAt}
 use Rattle.esm_stream_book.specs.Batchers.{calls_told, Rests, RunsJob}
 use Rattle.esm_stream_book.proofs.OneMore.{AllRest}
-use Rattle.esm_stream_core.specs.OwingView.{full_setting}
+use Rattle.esm_stream_core.specs.CoreView.{full_setting}
 use Rattle.esm_stream_core.specs.Calls.{moment_for}
 use Rattle.esm_stream_core.specs.Told.{told_entries, told_of}
 use Rattle.esm_stream_book.specs.Books.{BookState, setup_of, is_down}

@@ -33,8 +33,6 @@ use Rattle.esm_model.specs.contracts.entry.PastReply.TheInside as PastInside
 use Rattle.esm_stream_core.proofs.owed.Owed.TheSendSync as owed
 use Rattle.esm_stream_core.proofs.standing.Standing.TheSendSync as standing
 use Rattle.esm_stream_core.specs.contracts.owed.Owed as Owed
-use Rattle.esm_stream_core.specs.contracts.owing.OwingLedger as OwingLedger
-use Rattle.esm_stream_core.specs.contracts.owing.OwingLedger.TheInside as OwingInside
 use Rattle.esm_stream_core.specs.contracts.standing.Standing as Standing
 use Rattle.esm_journal_state.proofs.lookup.Says.TheSendSync as says
 use Rattle.esm_journal_state.specs.contracts.lookup.Says as Says
@@ -101,23 +99,23 @@ ledger = declared_send Ledger.the_type (
   ),
 )
 
-owing_fields : IsSend OwingInside.the_row
-owing_fields = declared_send OwingInside.the_type (
+core_fields : IsSend CoreInside.the_row
+core_fields = declared_send CoreInside.the_type (
   ledger,
   (
-    listed Coming.the_row coming.the_send,
+    criteria,
     (
-      listed Owed.the_row owed.the_send,
-      (as_row_send Standing.the_field standing.the_field_send, tt),
+      listed Coming.the_row coming.the_send,
+      (
+        listed Owed.the_row owed.the_send,
+        (as_row_send Standing.the_field standing.the_field_send, tt),
+      ),
     ),
   ),
 )
 
-owing : IsSend OwingLedger.the_row
-owing = view_send OwingInside.the_row _ _ _ _ owing_fields
-
 pub core_send : IsSend StreamCore.the_row
-core_send = view_send CoreInside.the_row _ _ _ _ (declared_send CoreInside.the_type (as_row_send OwingLedger.the_field owing, (criteria, tt)))
+core_send = view_send CoreInside.the_row _ _ _ _ core_fields
 
 -- a core over devices does where all three do
 module _ (C D T Origin Entry Call Answer : RattleType) (c : Decisions.Ghosts C.Denot Origin.Denot Entry.Denot Call.Denot Answer.Denot) (d : Disk.Ghosts D.Denot) (t : Dest.Ghosts T.Denot) where

@@ -20,7 +20,7 @@ use Rattle.esm_model.specs.Kept.{IsLegal}
 use Rattle.esm_model.specs.Books.{streams_told, setting_told, entries_told, IsOfStream, stream_may_follow}
 use Rattle.esm_book.specs.Decided.{written_of}
 use Rattle.esm_book.specs.State.{in_hand, IsKept}
-use Rattle.esm_stream_core.specs.OwingView.{OwingView, new_view, full_setting}
+use Rattle.esm_stream_core.specs.CoreView.{CoreView, new_view, full_setting}
 use Rattle.esm_stream_core.proofs.Settling.{none_settled}
 use Rattle.esm_stream_core.specs.declared.decisions.StreamEntry.{StreamEntry}
 use Rattle.esm_stream_core.specs.Told.{stream_entry, stream_entries, history_of, owed_of, told_of}
@@ -37,11 +37,11 @@ pub sound_new : {D T : Type 0} (b : BookState D T) (s : Setting) → s.streams �
 sound_new {D} {T} b s none is =
     let fresh : BookState D T = record b { core = new_view s } in
     let sound : IsSound fresh = record { records = none; of_stream = All-nil IsOfStream; legal = λ streams goes. tt; settled = λ up. none_settled s } in
-    subst (λ (v : OwingView). IsSound (record b { core = v })) (sym is) sound
+    subst (λ (v : CoreView). IsSound (record b { core = v })) (sym is) sound
 
 -- the devices
 
-oldest_first : (v : OwingView) → reverse (history_of v) ≡ stream_entries (full_setting v) (reverse v.past)
+oldest_first : (v : CoreView) → reverse (history_of v) ≡ stream_entries (full_setting v) (reverse v.past)
 oldest_first v = sym (map-reverse (stream_entry (full_setting v)) v.past)
 
 hand_so : (t : Option Trouble) (s : Setting) (owed : List Entry) → in_hand t (stream_entries s owed) ≡ stream_entries s (in_hand t owed)
@@ -99,7 +99,7 @@ legal_told b law sound setup is =
     (subst (λ (s : Setting). Legal s (entries_told history)) (sym (setting_for setup b is)) (subst (Legal b.core.setting) (sym (entries_same (full_setting b.core) b.core.past)) own))
 
 -- the payload that was being written is the same without the records that are coming
-pub hand_alone : (why : Option Trouble) (v : OwingView) → payloads_in (full_setting v) (take 1 v.owed) ≡ payloads_in v.setting (take 1 v.owed) → payloads_in (full_setting v) (in_hand why v.owed) ≡ payloads_in v.setting (in_hand why v.owed)
+pub hand_alone : (why : Option Trouble) (v : CoreView) → payloads_in (full_setting v) (take 1 v.owed) ≡ payloads_in v.setting (take 1 v.owed) → payloads_in (full_setting v) (in_hand why v.owed) ≡ payloads_in v.setting (in_hand why v.owed)
 hand_alone None v first = refl
 hand_alone (Some Disk) v first = first
 hand_alone (Some Dest) v first = refl

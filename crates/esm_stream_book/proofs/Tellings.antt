@@ -12,7 +12,7 @@ use Rattle.esm_model.specs.Step.{Legal}
 use Rattle.esm_model.specs.Books.{entry_line}
 use Rattle.esm_journal_record.specs.EntryPayload.{entry_payload}
 use Rattle.esm_book.specs.Decided.{written_of}
-use Rattle.esm_stream_core.specs.OwingView.{lines_of}
+use Rattle.esm_stream_core.specs.CoreView.{lines_of}
 use Rattle.esm_stream_core.specs.declared.decisions.StreamEntry.{StreamEntry}
 use Rattle.esm_stream_core.specs.Told.{covered, stream_entry, stream_entries, told_entries}
 

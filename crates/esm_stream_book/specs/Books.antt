@@ -12,13 +12,13 @@ use Rattle.esm_model.specs.Setup.{no_setup}
 use Rattle.esm_journal_record.specs.EntryPayload.{entry_payload}
 use Rattle.esm_book.specs.Growth.{AreTold}
 use Rattle.esm_book.specs.State.{DurableState}
-use Rattle.esm_stream_core.specs.OwingView.{OwingView, lines_of}
+use Rattle.esm_stream_core.specs.CoreView.{CoreView, lines_of}
 
 -- The core has what the history is judged over, the history with its newest entry first, and what was decided and is not
 -- yet added. Beside it stand the journal and the destination as they are and as they were at opening, and why the book is
 -- down, where it is.
 abbrev pub BookState : Type 0 → Type 0 → Type 0
-BookState D T = DurableState OwingView D T
+BookState D T = DurableState CoreView D T
 
 -- what a book was opened with; the pair of its journal and its destination are named by their codes
 abbrev pub setup_of : {D T : Type 0} → Coded D → Coded T → (T → Option (List (List ℕ))) → BookState D T → Setup

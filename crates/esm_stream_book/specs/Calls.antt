@@ -12,7 +12,7 @@ use Rattle.esm_model.specs.declared.book.Next.TheVariants as next
 use Rattle.esm_book.specs.Answers.{IsSameDest}
 use Rattle.esm_ledger.specs.Reading.{lane_of_batcher}
 use Rattle.esm_next.specs.Following.{next_for}
-use Rattle.esm_stream_core.specs.OwingView.{OwingView, lines_of}
+use Rattle.esm_stream_core.specs.CoreView.{CoreView, lines_of}
 use Rattle.esm_stream_core.specs.Calls.{moment_for, next_adds, IsRunningJob}
 use Rattle.esm_stream_core.specs.Told.{told_entries, told_of}
 use Rattle.esm_stream_book.specs.Books.{BookState, payloads_in, sent_of, LeavesFirst}
@@ -75,14 +75,14 @@ pub record AddedOne {D T : Type 0} (old new : BookState D T) (e : Entry) : Type 
   pub rest : new ≡ record old { core = new.core }
 
 -- what a batcher that asks is answered, and what it adds, over the records that came
-abbrev pub next_now : OwingView → ℕ → ℕ → Next
+abbrev pub next_now : CoreView → ℕ → ℕ → Next
 next_now v batcher moment = next_for v.setting v.past batcher (moment_for v.past moment)
 
-abbrev pub next_entries_now : OwingView → ℕ → ℕ → List Entry
+abbrev pub next_entries_now : CoreView → ℕ → ℕ → List Entry
 next_entries_now v batcher moment = next_adds v batcher (moment_for v.past moment) (next_now v batcher moment)
 
 -- a call that is answered is of the batcher's lane, and has begun: its lane is running it
-abbrev pub RunsCall : ℕ → OwingView → OwingView → Next → Type 0
+abbrev pub RunsCall : ℕ → CoreView → CoreView → Next → Type 0
 RunsCall batcher before after (next.Call job) = (lane_of_batcher before.setting before.past batcher ≡ Some job.lane) × IsRunningJob after.past job
 RunsCall batcher before after _ = Unit {0}
 

@@ -6,7 +6,7 @@ use Rattle.esm_model.specs.Setting.{Setting, Stream}
 use Rattle.esm_model.specs.declared.book.Change.{Change}
 use Rattle.esm_model.specs.declared.book.Trouble.TheVariants as trouble
 use Rattle.esm_model.specs.declared.entry.Entry.{Entry}
-use Rattle.esm_stream_core.specs.OwingView.{OwingView, setting_with}
+use Rattle.esm_stream_core.specs.CoreView.{CoreView, setting_with}
 use Rattle.esm_stream_core.specs.declared.decisions.StreamCall.{StreamCall}
 use Rattle.esm_stream_core.specs.declared.decisions.StreamCall.TheVariants as call
 use Rattle.esm_stream_core.specs.declared.decisions.StreamAnswer.{StreamAnswer}
@@ -20,23 +20,23 @@ use Rattle.esm_stream_book.specs.Calls.{AddedAll, AddedSome, AddedOne, IsSame, n
 use Rattle.esm_stream_book.specs.Keeping.{IsSound}
 
 -- the records that come with a call, shard by shard
-abbrev pub coming_by : OwingView → StreamCall → List Stream
+abbrev pub coming_by : CoreView → StreamCall → List Stream
 coming_by v (call.Came items moment) = coming_lists v items.items
 coming_by v _ = []
 
 -- the setting with them
-abbrev pub setting_by : OwingView → StreamCall → Setting
+abbrev pub setting_by : CoreView → StreamCall → Setting
 setting_by v asked = setting_with v.setting (coming_by v asked)
 
 -- the entries that it decides, oldest first
-abbrev pub entries_by : OwingView → StreamCall → List Entry
+abbrev pub entries_by : CoreView → StreamCall → List Entry
 entries_by v (call.Came items moment) = came_entries v items.items (moment_for v.past moment)
 entries_by v (call.Shut moment) = []
 entries_by v (call.Next batcher moment) = next_entries_now v batcher moment
 entries_by v (call.Done job reply moment) = ended_entries v job.lane reply (moment_for v.past moment)
 
 -- it is answered so
-abbrev pub IsAnswer : OwingView → StreamCall → StreamAnswer → Type 0
+abbrev pub IsAnswer : CoreView → StreamCall → StreamAnswer → Type 0
 IsAnswer v (call.Came items moment) answer.Taken = Unit {0}
 IsAnswer v (call.Next batcher moment) (answer.Next next) = IsNextOver v batcher (moment_for v.past moment) next
 IsAnswer v (call.Done job reply moment) (answer.Given count) = count ≡ given_by_end v job.lane reply (moment_for v.past moment)

@@ -11,7 +11,7 @@ use Rattle.esm_model.specs.Books.{IsOfStream, streams_told}
 use Rattle.esm_book.specs.State.{is_disk, is_dest, in_hand}
 use Rattle.esm_ledger.specs.Ledger.{LegalOver}
 use Rattle.esm_outcome.specs.Ending.{SettledOver}
-use Rattle.esm_stream_core.specs.OwingView.{full_setting}
+use Rattle.esm_stream_core.specs.CoreView.{full_setting}
 use Rattle.esm_stream_core.specs.declared.decisions.Opened.{Opened}
 use Rattle.esm_stream_core.specs.Told.{told_of, IsChange}
 use Rattle.esm_stream_book.specs.Books.{BookState, payloads_in, sent_of}

@@ -10,12 +10,12 @@ use Rattle.esm_journal_state.specs.Bad.{IsFirstBad}
 use Rattle.esm_journal_state.specs.Meaning.{history, are_good}
 use Rattle.esm_journal_state.specs.SaidLists.{SaidLists, IsInOrder}
 use Rattle.esm_journal_state.specs.Tells.{Tells}
-use Rattle.esm_stream_core.specs.OwingView.{OwingView, new_view}
+use Rattle.esm_stream_core.specs.CoreView.{CoreView, new_view}
 use Rattle.esm_stream_book.specs.Books.{BookState}
 
 -- A core in which no record came. No payload is bad, and the found fates, tries, states and window tries are those that the
 -- payloads name, in rising order.
-pub record IsCoreOver (config : Config) (calls : ℕ) (payloads : List (List ℕ)) (v : OwingView) : Type 0 where
+pub record IsCoreOver (config : Config) (calls : ℕ) (payloads : List (List ℕ)) (v : CoreView) : Type 0 where
   pub good : are_good (reverse payloads) ≡ true
   pub said : SaidLists
   pub tells : Tells said (history (reverse payloads))

@@ -6,7 +6,7 @@ ghost use Rattle.esm_model.specs.declared.entry.Entry.TheVariants.{Ended, Shut};
 ghost use Rattle.esm_model.specs.Books.{streams_told};
 ghost use Rattle.esm_model.specs.Entries.{is_shut, last_moment};
 ghost use Rattle.esm_record_bounds.specs.Bounds.{AreWithinBounds};
-ghost use Rattle.esm_stream_core.specs.OwingView.{full_setting};
+ghost use Rattle.esm_stream_core.specs.CoreView.{full_setting};
 ghost use Rattle.esm_stream_core.specs.Calls.{moment_for, IsRunningJob};
 ghost use Rattle.esm_stream_core.specs.Told.{told_of, MayAsk};
 ghost use Rattle.esm_stream_book.specs.Books.{payloads_in};

@@ -18,7 +18,7 @@ ghost use Rattle.esm_model.specs.Pattern.{read_patterns};
 ghost use Rattle.esm_model.specs.Valid.{IsStreamConfig, is_stream};
 ghost use Rattle.esm_record_bounds.specs.Bounds.{AreWithinBounds};
 ghost use Rattle.esm_stream_core.specs.Quiet.{IsQuiet, IsWanting};
-ghost use Rattle.esm_stream_core.specs.OwingView.{full_setting, setting_with};
+ghost use Rattle.esm_stream_core.specs.CoreView.{full_setting, setting_with};
 ghost use Rattle.esm_stream_core.specs.Calls.{moment_for, coming_lists, came_entries, Differs, IsResting, IsNextOver, IsRunningJob, ended_entries, given_by_end};
 ghost use Rattle.esm_stream_core.specs.Told.{opened, told_of, MayCome};
 ghost use Rattle.esm_book.specs.State.{in_hand};

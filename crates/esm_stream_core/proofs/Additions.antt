@@ -8,8 +8,8 @@ use Rattle.esm_ledger.specs.declared.ledger.Ledger.{Ledger}
 use Rattle.esm_ledger.specs.declared.coming.Coming.{Coming}
 use Rattle.esm_ledger.specs.Ledger.{past_of, setting_of, LegalOver, HasRoom}
 use Rattle.esm_stream_core.specs.declared.owed.Act.{Act}
-use Rattle.esm_stream_core.specs.Acts.{act_entry, IsArriving, IsAdded}
-use Rattle.esm_stream_core.specs.Kept.{CanAdd}
+use Rattle.esm_stream_core.specs.Acts.{act_entry}
+use Rattle.esm_stream_core.specs.Adding.{IsArriving, IsAdded, CanAdd}
 
 -- the records of the shard come next to those that it has
 abbrev pub next_came : Ledger → Coming → ℕ → Entry

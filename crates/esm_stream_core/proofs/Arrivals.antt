@@ -1,5 +1,5 @@
 -- Records of several shards that a ledger takes one part after the other, and then what is filtered of them.
-use Rattle.std.proofs.Common.{◌≡◌, ℕ, suc, ◌+◌, ◌-◌, ◌*◌, ◌^◌, min, ◌<◌, ◌≤◌, true, false, List, [], ◌∷◌, ◌++◌, length, drop, reverse, refl, sym, ap, ap₂, ◌∙◌, subst, append_assoc, append-nil, arith, None}
+use Rattle.std.proofs.Common.{◌≡◌, ℕ, suc, ◌+◌, ◌-◌, ◌*◌, ◌^◌, min, ◌<◌, ◌≤◌, false, List, [], ◌∷◌, ◌++◌, length, drop, reverse, refl, sym, ap, ap₂, ◌∙◌, subst, append_assoc, append-nil, arith, None, Vec, Global}
 use Rattle.std.specs.Prelude.{◌==◌}
 use Rattle.std.proofs.lemmas.Bool.{eqb-true, false_from_ne_true}
 use Rattle.std.proofs.lemmas.List.{map-append}
@@ -14,7 +14,7 @@ use Rattle.esm_model.specs.Entries.{holds, came_count}
 use Rattle.esm_model.proofs.Lists.{In, apart, Distinct}
 use Rattle.esm_ledger.specs.declared.ledger.Ledger.{Ledger}
 use Rattle.esm_ledger.specs.declared.coming.Coming.{Coming}
-use Rattle.esm_ledger.specs.Ledger.{past_of, setting_of, HasRoom, HasShardRoom, Keeps}
+use Rattle.esm_ledger.specs.Ledger.{past_of, setting_of, HasRoom, HasShardRoom}
 use Rattle.esm_ledger.specs.Coming.{with_list}
 use Rattle.esm_outcome.specs.Ending.{SettledOver}
 use Rattle.esm_ingest.specs.Parts.{Part, parts_of as parts_in, grown_by}
@@ -28,15 +28,16 @@ use Rattle.esm_ingest.proofs.Soundness.{comes_next, arrives_legally, arrives_set
 use Rattle.esm_record_bounds.specs.Bounds.{AreWithinBounds}
 use Rattle.esm_stream_core.specs.declared.owed.Owed.{Owed}
 use Rattle.esm_stream_core.specs.declared.arriving.Gathered.{Gathered}
-use Rattle.esm_stream_core.specs.declared.standing.Standing.{Standing}
-use Rattle.esm_stream_core.specs.Standing.{is_whole}
-use Rattle.esm_stream_core.specs.OwingView.{OwingView, with_coming, setting_with, MayAdd, lines_of}
-use Rattle.esm_stream_core.specs.Arrival.{MayCome, stream_of, streams_of}
-use Rattle.esm_stream_core.specs.Acts.{owed_entry, entries_of, part_of, parts_of, costs, ArePayable, AreWritten}
-use Rattle.esm_stream_core.specs.Kept.{IsKept, Decides}
-use Rattle.esm_stream_core.specs.Gathered.{filtered_if_any, filtered_of, all_came, all_filtered, AreComing, IsGathered}
-use Rattle.esm_stream_core.proofs.Deciding.{Decided, decided}
-use Rattle.esm_stream_core.proofs.Paying.{seen}
+use Rattle.esm_stream_core.specs.declared.stream_core.StreamCore.TheInside.{Inside}
+use Rattle.esm_stream_core.specs.Inside.{BringAll}
+use Rattle.esm_stream_core.specs.CoreView.{CoreView, with_coming, setting_with, lines_of}
+use Rattle.esm_stream_core.specs.Kept.{MayAdd, Decides, IsSame}
+use Rattle.esm_stream_core.specs.Gathered.{MayBring, filtered_if_any, filtered_of, all_came, all_filtered, AreComing, IsGathered}
+use Rattle.esm_stream_core.specs.Calls.{stream_of, streams_of}
+use Rattle.esm_stream_core.specs.Acts.{owed_entry, entries_of, part_of, parts_of, AreWritten}
+use Rattle.esm_stream_core.specs.Adding.{costs, ArePayable}
+use Rattle.esm_stream_core.proofs.Deciding.{Begins, Decided, decided}
+use Rattle.esm_stream_core.proofs.Keeping.{brought_arrival}
 use Rattle.esm_stream_core.proofs.Parts.{moved_coming, names_of}
 use Rattle.esm_stream_core.proofs.Sayable.{bounds_all, all_written}
 
@@ -197,7 +198,7 @@ next_parts : (c d : Ledger) (rs : List Record) (s : Setting) (ps : List Part) �
 next_parts c d rs s [] past are = tt
 next_parts c d rs s (p ∷ ps) past are = (are.0.first ∙ ap (λ (h : List Entry). came_count h p.shard) (sym past), next_parts c d rs s ps past are.1)
 
-module _ (c d : Ledger) (m : ℕ) (ps : List Part) (g : Gathered) (coming : List Coming) (owed : List Owed) (may : MayCome (setting_of c) (past_of c) ps m) (gathered : IsGathered d m ps g) (is_coming : coming ≡ g.coming.items) (is_owed : owed ≡ g.came.items ++ g.filtered.items) where
+module _ (c d : Ledger) (m : ℕ) (ps : List Part) (g : Gathered) (coming : List Coming) (owed : List Owed) (may : MayBring (setting_of c) (past_of c) ps m) (gathered : IsGathered d m ps g) (is_coming : coming ≡ g.coming.items) (is_owed : owed ≡ g.came.items ++ g.filtered.items) where
   all_owed : owed ≡ all_came m ps ++ all_filtered m ps
   all_owed = is_owed ∙ ap₂ (λ (xs ys : List Owed). xs ++ ys) gathered.came gathered.filtered
 
@@ -210,19 +211,17 @@ module _ (c d : Ledger) (m : ℕ) (ps : List Part) (g : Gathered) (coming : List
   full : setting_with (setting_of c) (parts_of coming) ≡ with_all (setting_of c) may.items
   full = ap (setting_with (setting_of c)) (coming_is ∙ ap streams_of may.parts) ∙ all_with (setting_of c) (past_of c) may.items m may.may
 
-  pub arrival_decides : (n : ℕ) → AreWithinBounds (setting_of c) → IsStreamConfig c.config → Keeps d → past_of d ≡ past_of c → setting_of d ≡ setting_of c → length ps + length ps ≤ n → HasRoom d n → HasShardRoom d (length ps) → Decides c d coming owed
-  arrival_decides n bounds config keeps past setting enough room shard_room =
+  pub arrival_decides : (n : ℕ) → AreWithinBounds (setting_of c) → IsStreamConfig c.config → IsSame c d → length ps + length ps ≤ n → HasRoom d n → HasShardRoom d (length ps) → Decides c d coming owed
+  arrival_decides n bounds config same enough room shard_room =
       let s = setting_of c in
       let h = past_of c in
       record {
-        keeps = keeps;
-        past = past;
-        setting = setting;
+        same = same;
         room = subst (λ (os : List Owed). HasRoom d (costs os)) (sym all_owed) (room_all d m n ps enough room);
         payable = subst (ArePayable d coming) (sym all_owed) (subst (λ (xs : List Coming). ArePayable d xs (all_came m ps ++ all_filtered m ps)) (sym is_coming)
             (all_payable d m g.coming.items ps ps gathered.coming gathered.prepared
             (subst (λ (qs : List Part). Distinct (shards qs)) (sym may.parts) (parts_distinct s h may.items))
-            (next_parts c d may.items s ps past (subst (Every (IsPartOf s h may.items)) (sym may.parts) (parts_are s h may.items))) shard_room));
+            (next_parts c d may.items s ps same.past (subst (Every (IsPartOf s h may.items)) (sym may.parts) (parts_are s h may.items))) shard_room));
         may = subst (λ (ts : List Stream). MayAdd s h ts (entries_of owed)) (sym coming_is) (subst (MayAdd s h (streams_of ps)) (sym owed_is)
             (subst (λ (qs : List Part). MayAdd s h (streams_of qs) (part_entries m qs)) (sym may.parts) (all_add s h may.items m may.may)));
         written = subst (λ (t : Setting). AreWritten t owed) (sym full) (subst (AreWritten (with_all s may.items)) (sym (all_owed ∙ ap (λ (qs : List Part). all_came m qs ++ all_filtered m qs) may.parts))
@@ -237,14 +236,12 @@ doubled n k is low = omega (arith, is, low)
 
 -- what a decision promises then
 
-pub come_own : (v : OwingView) (c : Ledger) (xs : List Coming) (owed : List Owed) (st : Standing) (ps : List Part) (m : ℕ) → seen c xs owed st ≡ v → MayCome v.setting v.past ps m → MayCome (setting_of c) (past_of c) ps m
-come_own v c xs owed st ps m is may = subst (λ (w : OwingView). MayCome w.setting w.past ps m) (sym is) may
-
-pub arrival_decided : (v : OwingView) (c d : Ledger) (us zs : List Coming) (xs ys : List Owed) (st : Standing) (ps : List Part) (m : ℕ) (coming : List Coming) (owed : List Owed)
-    → seen c (reverse us) (reverse xs) st ≡ v → v.owed ≡ [] → IsKept c (reverse us) (reverse xs) st → is_whole st ≡ true
-    → zs ≡ coming → ys ≡ owed → Decides c d (reverse coming) (reverse owed) → parts_of (reverse coming) ≡ streams_of ps → entries_of (reverse owed) ≡ part_entries m ps
-    → Decided v d zs ys st (streams_of ps) (part_entries m ps)
-arrival_decided v c d us zs xs ys st ps m coming owed is none k whole same_coming same_owed decides streams entries =
-    subst (λ (ts : List Stream). Decided v d zs ys st ts (part_entries m ps)) streams
-    (subst (λ (es : List Entry). Decided v d zs ys st (parts_of (reverse coming)) es) entries
-    (decided v c d us zs xs ys st (reverse coming) (reverse owed) is none k whole (ap reverse same_coming) (ap reverse same_owed) decides))
+pub arrival_decided : (v : CoreView) (x : Inside) (d : Ledger) (zs : Vec Coming Global) (ys : Vec Owed Global) (ps : List Part) (m : ℕ) → Begins v x → MayBring v.setting v.past ps m
+    → Decides x.ledger d (reverse zs.items) (reverse ys.items) → parts_of (reverse zs.items) ≡ streams_of ps → entries_of (reverse ys.items) ≡ part_entries m ps
+    → Decided v (record x { ledger = d; coming = zs; owed = ys }) (streams_of ps) (part_entries m ps)
+arrival_decided v x d zs ys ps m b may decides streams entries =
+    let y : Inside = record x { ledger = d; coming = zs; owed = ys } in
+    let brought : BringAll v.past (parts_of (reverse zs.items)) (entries_of (reverse ys.items)) =
+    subst (λ (ts : List Stream). BringAll v.past ts (entries_of (reverse ys.items))) (sym streams) (subst (BringAll v.past (streams_of ps)) (sym entries) (brought_arrival v.setting v.past ps m may)) in
+    subst (λ (ts : List Stream). Decided v y ts (part_entries m ps)) streams
+    (subst (Decided v y (parts_of (reverse zs.items))) entries (decided v x d zs ys (reverse zs.items) (reverse ys.items) b refl refl decides brought))

@@ -17,8 +17,8 @@ use Rattle.esm_ingest.proofs.Places.{shards, Every, every_map, in_list}
 use Rattle.esm_outcome.specs.declared.outcome.Due.{Due}
 use Rattle.esm_outcome.specs.declared.outcome.Due.TheVariants.{Gave, Tried, Closed}
 use Rattle.esm_outcome.specs.Dues.{due_entry}
-use Rattle.esm_stream_core.specs.Arrival.{streams_of}
-use Rattle.esm_stream_core.specs.OwingView.{setting_after, setting_with}
+use Rattle.esm_stream_core.specs.Calls.{streams_of}
+use Rattle.esm_stream_core.specs.CoreView.{setting_after, setting_with}
 use Rattle.esm_journal_record.specs.EntryPayload.{entry_payload}
 use Rattle.esm_stream_core.specs.Inside.{GoesOn, AreTold, BringsNone, BringNone, Brings, BringAll}
 

@@ -11,7 +11,7 @@ use Rattle.esm_ingest.specs.Changes.{change_of, change_at, place_after, first_ch
 use Rattle.esm_book.specs.Decided.{IsRefused}
 use Rattle.esm_book.specs.declared.error.Refusal.TheVariants.{Changed, OutOfMemory}
 use Rattle.esm_book.specs.declared.error.Refusal.{Refusal}
-use Rattle.esm_stream_core.specs.OwingView.{OwingView}
+use Rattle.esm_stream_core.specs.CoreView.{CoreView}
 use Rattle.esm_stream_core.specs.Calls.{Differs}
 use Rattle.esm_stream_core.specs.Told.{opened, IsChange}
 
@@ -33,11 +33,11 @@ found_from s h before (r ∷ rs) change is =
     (λ here. kept_in s r (place_after h before r) (kept_otherwise s r.shard (place_after h before r) r.seq) change refl here)
     (λ later. found_from s h (before ++ r ∷ []) rs change later)
 
-pub is_change : (v : OwingView) (items : List Record) (change : Change) → Differs v items change → IsChange (opened v) change
+pub is_change : (v : CoreView) (items : List Record) (change : Change) → Differs v items change → IsChange (opened v) change
 is_change v items change differs = found_from v.setting v.past [] items change differs
 
 -- why records are refused
-pub refused_so : (v : OwingView) (items : List Record) (r : Refusal) → IsRefused (Differs v items) r → IsRefused (λ change. Differs v items change × IsChange (opened v) change) r
+pub refused_so : (v : CoreView) (items : List Record) (r : Refusal) → IsRefused (Differs v items) r → IsRefused (λ change. Differs v items change × IsChange (opened v) change) r
 refused_so v items (Changed told kept) is = ((is.0, is_change v items told is.0), is.1)
 refused_so v items OutOfMemory is = tt
 

@@ -16,9 +16,10 @@ use Rattle.esm_ledger.proofs.Ledgers.{nowhere_none, somewhere_some}
 use Rattle.esm_stream_core.specs.declared.owed.Owed.{Owed}
 use Rattle.esm_stream_core.specs.declared.standing.Standing.{Standing}
 use Rattle.esm_stream_core.specs.declared.standing.Standing.TheVariants.{Whole, Paying, Left}
-use Rattle.esm_stream_core.specs.OwingView.{setting_with}
-use Rattle.esm_stream_core.specs.Acts.{parts_of, costs, AreWritten}
-use Rattle.esm_stream_core.specs.Kept.{ends_of, IsPushed, AreCounted, IsLeft, StandsSo, IsKept}
+use Rattle.esm_stream_core.specs.CoreView.{setting_with}
+use Rattle.esm_stream_core.specs.Acts.{parts_of, AreWritten}
+use Rattle.esm_stream_core.specs.Adding.{costs, IsPushed}
+use Rattle.esm_stream_core.specs.Kept.{ends_of, AreCounted, IsLeft, StandsSo, IsKept}
 use Rattle.esm_stream_core.proofs.Rooms.{places_of, pushed_places}
 
 -- what is kept says so

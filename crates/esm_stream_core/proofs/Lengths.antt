@@ -8,7 +8,7 @@ use Rattle.std.proofs.lemmas.List.Elements.{All-nil, All-cons, filter_map-append
 use Rattle.esm_model.specs.Setting.{Setting}
 use Rattle.esm_journal_record.specs.EntryPayload.{entry_payload}
 use Rattle.esm_stream_core.specs.declared.owed.Owed.{Owed}
-use Rattle.esm_stream_core.specs.OwingView.{lengths_of}
+use Rattle.esm_book.specs.Decided.{lengths_of}
 use Rattle.esm_stream_core.specs.Acts.{entries_of, payloads_in, HasShortPayload, AreWritten}
 
 -- what is written of the owed entries is their payloads

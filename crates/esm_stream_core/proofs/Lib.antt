@@ -1,5 +1,4 @@
 pub mod Ledgers
-pub mod Idle
 pub mod Endings
 pub mod Tellings
 pub mod Changes
@@ -15,7 +14,6 @@ pub mod Paying
 pub mod Deciding
 pub mod Shutting
 pub mod Payloads
-pub mod OwingEndings
 pub mod Calls
 pub mod Lengths
 pub mod LineBounds

@@ -6,7 +6,8 @@ use Rattle.std.proofs.lemmas.List.{reverse-append, map-append, take-append-drop,
 use Rattle.std.proofs.lemmas.List.Elements.{filter_map-append}
 use Rattle.esm_model.specs.Books.{entry_line}
 use Rattle.esm_stream_core.specs.declared.owed.Owed.{Owed}
-use Rattle.esm_stream_core.specs.OwingView.{lines_of, IsLineWithin}
+use Rattle.esm_stream_core.specs.CoreView.{lines_of}
+use Rattle.esm_book.specs.Decided.{IsLineWithin}
 use Rattle.esm_stream_core.specs.Acts.{owed_entry, entries_of}
 
 -- of entries of which the first stands last

@@ -19,9 +19,9 @@ use Rattle.esm_ingest.proofs.Streams.{names}
 use Rattle.esm_record_bounds.specs.Bounds.{AreWithinBounds}
 use Rattle.esm_stream_core.specs.declared.owed.Owed.{Owed}
 use Rattle.esm_stream_core.specs.declared.arriving.Gathered.{Gathered}
-use Rattle.esm_stream_core.specs.Arrival.{MayCome, stream_of, streams_of}
+use Rattle.esm_stream_core.specs.Gathered.{MayBring, came_owed, filtered_owed, filtered_if_any, filtered_of, all_filtered, CanTake, AreComing, IsGathered, IsTaken}
+use Rattle.esm_stream_core.specs.Calls.{stream_of, streams_of}
 use Rattle.esm_stream_core.specs.Acts.{part_of, parts_of}
-use Rattle.esm_stream_core.specs.Gathered.{came_owed, filtered_owed, filtered_if_any, filtered_of, all_filtered, CanTake, AreComing, IsGathered, IsTaken}
 use Rattle.esm_stream_core.proofs.Sayable.{can_take}
 
 if_some : (m : ℕ) (p : Part) (xs : List ℕ) → (length xs == 0) ≡ false → filtered_if_any m p xs ≡ filtered_owed m p ∷ []
@@ -107,10 +107,10 @@ half_done c m all left g none half =
 
 -- of a list of records that may come
 
-pub parts_taken : (s : Setting) (h : List Entry) (ps : List Part) (m : ℕ) → MayCome s h ps m → AreWithinBounds s → IsStreamConfig s.config → Every (CanTake s h m) ps
+pub parts_taken : (s : Setting) (h : List Entry) (ps : List Part) (m : ℕ) → MayBring s h ps m → AreWithinBounds s → IsStreamConfig s.config → Every (CanTake s h m) ps
 parts_taken s h ps m may bounds config = subst (Every (CanTake s h m)) (sym may.parts) (can_take s h may.items m may.may may.valid may.few may.places bounds config)
 
-pub parts_apart : (s : Setting) (h : List Entry) (ps : List Part) (m : ℕ) → MayCome s h ps m → Distinct (shards ps)
+pub parts_apart : (s : Setting) (h : List Entry) (ps : List Part) (m : ℕ) → MayBring s h ps m → Distinct (shards ps)
 parts_apart s h ps m may = subst (λ (qs : List Part). Distinct (shards qs)) (sym may.parts) (parts_distinct s h may.items)
 
 pub next_taken : (s : Setting) (h : List Entry) (m : ℕ) (c : Ledger) (all : List Part) (p : Part) (left : List Part) (g : Gathered) → Every (CanTake s h m) all → IsHalf c m all (p ∷ left) g → CanTake s h m p

@@ -1,5 +1,5 @@
 -- What is kept stays true where an owed entry is added, is given up, or an entry is noted.
-use Rattle.std.proofs.Common.{◌≡◌, ℕ, ◌≤◌, Bool, true, false, not, List, [], ◌∷◌, ◌++◌, drop, reverse, length, refl, sym, ap, ap₂, ◌∙◌, subst, Option, Some, None, arith}
+use Rattle.std.proofs.Common.{◌≡◌, ℕ, ◌<◌, ◌≤◌, Bool, true, false, not, List, [], ◌∷◌, ◌++◌, drop, reverse, length, refl, sym, ap, ap₂, ◌∙◌, subst, Option, Some, None, arith, Vec, Global}
 use Rattle.std.proofs.lemmas.Bool.{not-false, eqb-true, false_from_ne_true}
 use Rattle.std.proofs.lemmas.List.{reverse-append, length-reverse, length-map}
 use Rattle.std.specs.Prelude.{◌==◌}
@@ -17,15 +17,19 @@ use Rattle.esm_stream_core.specs.declared.owed.Act.{Act}
 use Rattle.esm_stream_core.specs.declared.owed.Owed.{Owed}
 use Rattle.esm_stream_core.specs.declared.standing.Standing.{Standing}
 use Rattle.esm_stream_core.specs.declared.standing.Standing.TheVariants.{Whole, Paying, Left}
-use Rattle.esm_stream_core.specs.OwingView.{OwingView, MayAdd, setting_after, setting_with, lines_of, is_none_left, are_left, paid}
+use Rattle.esm_stream_core.specs.CoreView.{CoreView, setting_after, setting_with, lines_of, is_none_left, are_left, paid, forgotten}
+use Rattle.esm_stream_core.specs.Kept.{MayAdd, Stands, StandsSo, IsKept}
 use Rattle.esm_stream_core.specs.Standing.{standing_paid, standing_forgotten, can_pay}
-use Rattle.esm_stream_core.specs.Acts.{owed_entry, entries_of, parts_of, costs, IsAdded, AreWritten}
-use Rattle.esm_stream_core.specs.Kept.{CanAdd, Stands, StandsSo, IsKept}
+use Rattle.esm_stream_core.specs.Acts.{owed_entry, entries_of, parts_of, AreWritten}
+use Rattle.esm_stream_core.specs.Adding.{costs, IsAdded, CanAdd}
+use Rattle.esm_stream_core.specs.declared.stream_core.StreamCore.TheInside.{Inside}
+use Rattle.esm_stream_core.specs.Inside.{view_of, IsCore}
+use Rattle.esm_stream_core.proofs.Keeping.{accounts_paid, accounts_forgotten, IsCoreOf, core_of}
 use Rattle.esm_stream_core.proofs.Settling.{full_after, bounds_before}
 use Rattle.esm_stream_core.proofs.Leaving.{left_of}
 
 -- as it is seen
-abbrev pub seen : Ledger → List Coming → List Owed → Standing → OwingView
+abbrev pub seen : Ledger → List Coming → List Owed → Standing → CoreView
 seen c xs owed st = record { setting = setting_of c; past = past_of c; coming = parts_of xs; owed = entries_of owed; standing = st }
 
 pub stands_of : (c : Ledger) (xs : List Coming) (owed : List Owed) (st : Standing) → StandsSo c xs owed st → can_pay st ≡ true → Stands c xs owed
@@ -139,33 +143,50 @@ no_more [] none = refl
 no_more (x ∷ xs) none = absurd (omega (arith, eqb-true (length (x ∷ xs)) 0 (not-false (length (x ∷ xs) == 0) none)))
 
 -- the next one is taken from the end of the lists
-pub record Pays (c d : Ledger) (us vs : List Coming) (xs ys : List Owed) (st : Standing) (o : Owed) (more : Bool) : Type 0 where
-  pub kept : IsKept c (reverse us) (reverse xs) st
-  pub can : can_pay st ≡ true
-  pub owed : xs ≡ ys ++ o ∷ []
-  pub coming : reverse vs ≡ drop 1 (reverse us)
-  pub added : IsAdded c d (reverse us) o.act
+pub record Pays (x : Inside) (d : Ledger) (vs : List Coming) (ys : List Owed) (o : Owed) (more : Bool) : Type 0 where
+  pub core : IsCore x
+  pub can : can_pay x.standing ≡ true
+  pub owed : x.owed.items ≡ ys ++ o ∷ []
+  pub coming : reverse vs ≡ drop 1 (reverse x.coming.items)
+  pub added : IsAdded x.ledger d (reverse x.coming.items) o.act
   pub more_is : more ≡ not (length ys == 0)
 
-pub kept_pays : (c d : Ledger) (us vs : List Coming) (xs ys : List Owed) (st : Standing) (o : Owed) (more : Bool) → Pays c d us vs xs ys st o more → IsKept d (reverse vs) (reverse ys) (standing_paid st more)
-kept_pays c d us vs xs ys st o more p =
+kept_pays : (x : Inside) (d : Ledger) (vs : List Coming) (ys : List Owed) (o : Owed) (more : Bool) → Pays x d vs ys o more → IsKept d (reverse vs) (reverse ys) (standing_paid x.standing more)
+kept_pays x d vs ys o more p =
+    let c = x.ledger in
+    let us = reverse x.coming.items in
+    let st = x.standing in
     subst (λ (ps : List Coming). IsKept d ps (reverse ys) (standing_paid st more)) (sym p.coming)
-    (kept_paid c d (reverse us) o (reverse ys) st more (λ none. no_more ys (sym p.more_is ∙ none)) (subst (λ (os : List Owed). IsKept c (reverse us) os st) (popped xs ys o p.owed) p.kept) p.can p.added)
+    (kept_paid c d us o (reverse ys) st more (λ none. no_more ys (sym p.more_is ∙ none)) (subst (λ (os : List Owed). IsKept c us os st) (popped x.owed.items ys o p.owed) p.core.kept) p.can p.added)
 
-pub seen_pays : (c d : Ledger) (us vs : List Coming) (xs ys : List Owed) (st : Standing) (o : Owed) (more : Bool) → Pays c d us vs xs ys st o more → seen d (reverse vs) (reverse ys) (standing_paid st more) ≡ paid (seen c (reverse us) (reverse xs) st)
-seen_pays c d us vs xs ys st o more p =
-    ap₂ (λ (s : Setting) (h : List Entry). let v : OwingView = record (seen d (reverse vs) (reverse ys) (standing_paid st more)) { setting = s; past = h } in v) p.added.setting p.added.past
-    ∙ ap₂ (λ (ps : List Stream) (b : Bool). paid_to c us ys st o ps b) (ap parts_of p.coming ∙ parts_left (reverse us)) (p.more_is ∙ more_left ys)
-    ∙ ap (λ (os : List Owed). paid (seen c (reverse us) os st)) (sym (popped xs ys o p.owed))
+seen_pays : (x : Inside) (d : Ledger) (vs : List Coming) (ys : List Owed) (o : Owed) (more : Bool) → Pays x d vs ys o more → seen d (reverse vs) (reverse ys) (standing_paid x.standing more) ≡ paid (view_of x)
+seen_pays x d vs ys o more p =
+    let c = x.ledger in
+    let us = reverse x.coming.items in
+    let st = x.standing in
+    ap₂ (λ (s : Setting) (h : List Entry). let v : CoreView = record (seen d (reverse vs) (reverse ys) (standing_paid st more)) { setting = s; past = h } in v) p.added.setting p.added.past
+    ∙ ap₂ (λ (ps : List Stream) (b : Bool). paid_to c us ps b) (ap parts_of p.coming ∙ parts_left us) (p.more_is ∙ more_left ys)
+    ∙ ap (λ (os : List Owed). paid (seen c us os st)) (sym (popped x.owed.items ys o p.owed))
   where
-    paid_to : Ledger → List Coming → List Owed → Standing → Owed → List Stream → Bool → OwingView
-    paid_to c us ys st o ps b = record {
-      setting = setting_after (setting_of c) (parts_of (reverse us));
+    paid_to : Ledger → List Coming → List Stream → Bool → CoreView
+    paid_to c us ps b = record {
+      setting = setting_after (setting_of c) (parts_of us);
       past = owed_entry o ∷ past_of c;
       coming = ps;
       owed = entries_of (reverse ys);
-      standing = standing_paid st b;
+      standing = standing_paid x.standing b;
     }
+
+some_owed : (x : Inside) (ys : List Owed) (o : Owed) → x.owed.items ≡ ys ++ o ∷ [] → 0 < length (entries_of (reverse x.owed.items))
+some_owed x ys o is = subst (λ (os : List Owed). 0 < length (entries_of os)) (sym (popped x.owed.items ys o is)) (omega arith)
+
+pub core_paid : (x : Inside) (d : Ledger) (vs : Vec Coming Global) (ys : Vec Owed Global) (o : Owed) (more : Bool) (to : Standing) → Pays x d vs.items ys.items o more → to ≡ standing_paid x.standing more
+    → IsCoreOf (paid (view_of x)) (record x { ledger = d; coming = vs; owed = ys; standing = to })
+core_paid x d vs ys o more to p is =
+    subst (λ (st : Standing). IsCoreOf (paid (view_of x)) (record x { ledger = d; coming = vs; owed = ys; standing = st })) (sym is)
+    (core_of (paid (view_of x)) (record x { ledger = d; coming = vs; owed = ys; standing = standing_paid x.standing more })
+    (kept_pays x d vs.items ys.items o more p) (seen_pays x d vs.items ys.items o more p)
+    (accounts_paid x.criteria (view_of x) (some_owed x ys.items o p.owed) p.core.seen))
 
 -- what is owed is given up
 
@@ -174,7 +195,7 @@ stands_forgotten c xs owed Whole s = (record { keeps = s.0.keeps; settles = s.1;
 stands_forgotten c xs owed Paying s = left_of c (costs owed) s.keeps s.room
 stands_forgotten c xs owed Left s = s
 
-pub kept_forgotten : (c : Ledger) (xs : List Coming) (owed : List Owed) (st : Standing) → IsKept c xs owed st → IsKept c [] [] (standing_forgotten st)
+kept_forgotten : (c : Ledger) (xs : List Coming) (owed : List Owed) (st : Standing) → IsKept c xs owed st → IsKept c [] [] (standing_forgotten st)
 kept_forgotten c xs owed st k = record {
   last = k.last;
   in_time = k.in_time;
@@ -183,3 +204,15 @@ kept_forgotten c xs owed st k = record {
   bounds = bounds_before (setting_of c) (parts_of xs) k.bounds;
   stands = stands_forgotten c xs owed st k.stands;
 }
+
+pub core_forgotten : (x : Inside) (vs : Vec Coming Global) (ys : Vec Owed Global) (to : Standing) → IsCore x → vs.items ≡ [] → ys.items ≡ [] → to ≡ standing_forgotten x.standing
+    → IsCoreOf (forgotten (view_of x)) (record x { coming = vs; owed = ys; standing = to })
+core_forgotten x vs ys to core no_coming no_owed is =
+    let c = x.ledger in
+    let kept : IsKept c [] [] (standing_forgotten x.standing) = kept_forgotten c (reverse x.coming.items) (reverse x.owed.items) x.standing core.kept in
+    core_of (forgotten (view_of x)) (record x { coming = vs; owed = ys; standing = to })
+    (subst (λ (st : Standing). IsKept c (reverse vs.items) (reverse ys.items) st) (sym is)
+    (subst (λ (us : List Coming). IsKept c (reverse us) (reverse ys.items) (standing_forgotten x.standing)) (sym no_coming)
+    (subst (λ (xs : List Owed). IsKept c [] (reverse xs) (standing_forgotten x.standing)) (sym no_owed) kept)))
+    (ap₂ (λ (us : List Coming) (xs : List Owed). seen c (reverse us) (reverse xs) to) no_coming no_owed ∙ ap (λ (st : Standing). seen c [] [] st) is)
+    (accounts_forgotten x.criteria (view_of x) core.seen)

@@ -23,8 +23,7 @@ use Rattle.esm_outcome.specs.declared.outcome.Due.TheVariants as due
 use Rattle.esm_outcome.specs.Dues.{due_entry}
 use Rattle.esm_stream_core.specs.declared.owed.Act.{Act}
 use Rattle.esm_stream_core.specs.declared.owed.Owed.{Owed}
-use Rattle.esm_stream_core.specs.Acts.{act_entry, IsWritten}
-use Rattle.esm_stream_core.specs.Writing.{IsWritable, AreWritable, AreNext, due_act}
+use Rattle.esm_stream_core.specs.Acts.{act_entry, IsWritten, IsWritable, AreWritable, AreNext, due_act}
 
 -- entries that may follow a history
 

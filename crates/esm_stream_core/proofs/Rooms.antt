@@ -13,7 +13,8 @@ use Rattle.esm_model.specs.Setting.{Setting}
 use Rattle.esm_model.specs.Step.{Legal}
 use Rattle.esm_ledger.specs.declared.ledger.Ledger.{Ledger}
 use Rattle.esm_ledger.specs.Ledger.{past_of, setting_of, LegalOver, HasRoom, Keeps, unended}
-use Rattle.esm_stream_core.specs.Kept.{running_lanes, ends_of, HasPlaces, IsPushed}
+use Rattle.esm_stream_core.specs.Kept.{running_lanes, ends_of, HasPlaces}
+use Rattle.esm_stream_core.specs.Adding.{IsPushed}
 
 -- a filter keeps no more
 pub filter_fewer : (p : LaneId → Bool) (xs : List LaneId) → length (filter p xs) ≤ length xs

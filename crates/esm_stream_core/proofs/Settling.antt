@@ -13,7 +13,8 @@ use Rattle.esm_ledger.specs.Coming.{with_list}
 use Rattle.esm_ledger.proofs.Comes.{grown_extends}
 use Rattle.esm_outcome.specs.Ending.{SettledOver, MaySettle}
 use Rattle.esm_record_bounds.specs.Bounds.{AreWithinBounds}
-use Rattle.esm_stream_core.specs.OwingView.{with_coming, setting_with, setting_after, MayAdd}
+use Rattle.esm_stream_core.specs.CoreView.{with_coming, setting_with, setting_after}
+use Rattle.esm_stream_core.specs.Kept.{MayAdd}
 use Rattle.esm_stream_core.proofs.Rooms.{own_legal}
 
 -- the history with all of them on it

@@ -1,6 +1,6 @@
 -- A core's entries as they are told: the same over more records; and what its calls decide by what is told.
 use Rattle.std.proofs.Common.{◌≡◌, ℕ, zero, suc, ◌+◌, ◌<◌, ◌≤◌, List, [], ◌∷◌, length, take, drop, refl, sym, ap, ap₂, ◌∙◌, subst, arith, Option, Some, None}
-use Rattle.std.specs.Prelude.{filter_map, slice_get, slice_index_or, IfSome}
+use Rattle.std.specs.Prelude.{filter_map, slice_get, slice_index_or}
 use Rattle.std.specs.List.{cons_option}
 use Rattle.esm_model.specs.declared.item.Record.{Record}
 use Rattle.esm_model.specs.declared.entry.Entry.{Entry}
@@ -15,12 +15,11 @@ use Rattle.esm_model.proofs.NamedPlaces.{names_came}
 use Rattle.esm_journal_record.specs.EntryPayload.{entry_payload, StandIn, NamesStand}
 use Rattle.esm_journal_record.proofs.EntryFacts.{payload_stays}
 use Rattle.esm_ledger.specs.Ledger.{LegalOver}
-use Rattle.esm_ledger.specs.Coming.{with_list}
-use Rattle.esm_ledger.proofs.Comes.{grown_extends}
-use Rattle.esm_book.specs.Decided.{written_of, lengths_of as written_lengths, IsLineWithin as IsWrittenWithin}
-use Rattle.esm_stream_core.specs.OwingView.{OwingView, with_coming, setting_with, LegalAhead, SettledAhead, lines_of, lengths_of, IsLineWithin, owing, forgotten}
+use Rattle.esm_book.specs.Decided.{written_of}
+use Rattle.esm_stream_core.specs.CoreView.{CoreView, with_coming, setting_with, LegalAhead, SettledAhead, lines_of, owing, forgotten}
 use Rattle.esm_stream_core.specs.declared.decisions.StreamEntry.{StreamEntry}
 use Rattle.esm_stream_core.specs.Told.{covered, stream_entry, stream_entries, history_of, owed_of, Adds}
+use Rattle.esm_stream_core.proofs.Settling.{coming_extends}
 
 -- over more records
 
@@ -75,29 +74,25 @@ entries_stay : (s : Setting) (after : List Stream) (h : List Entry) → Extends 
 entries_stay s after [] extends legal = refl
 entries_stay s after (e ∷ h) extends legal = ap₂ (λ (x : StreamEntry) (xs : List StreamEntry). x ∷ xs) (entry_stays s after h e extends legal) (entries_stay s after h extends legal.0)
 
-coming_extends : (ts : List Stream) (parts : List Stream) → Extends ts (with_coming ts parts)
-coming_extends ts [] n i r at = at
-coming_extends ts (p ∷ parts) n i r at = coming_extends (with_list ts p.shard p.records) parts n i r (grown_extends ts p.shard p.records n i r at)
-
 -- the history is told as before
 
-none_was : (v w : OwingView) → forgotten w ≡ v → v.coming ≡ []
-none_was v w undone = sym (ap (λ (u : OwingView). u.coming) undone)
+none_was : (v w : CoreView) → forgotten w ≡ v → v.coming ≡ []
+none_was v w undone = sym (ap (λ (u : CoreView). u.coming) undone)
 
 -- where records come
-pub told_coming : (v w : OwingView) (coming : List Stream) (es : List Entry) → w ≡ owing v coming es → forgotten w ≡ v → LegalOver v.setting v.past → history_of w ≡ history_of v
+pub told_coming : (v w : CoreView) (coming : List Stream) (es : List Entry) → w ≡ owing v coming es → forgotten w ≡ v → LegalOver v.setting v.past → history_of w ≡ history_of v
 told_coming v w coming es is undone legal =
     ap history_of is
     ∙ (entries_stay v.setting (with_coming v.setting.streams coming) v.past (coming_extends v.setting.streams coming) (legal v.setting.streams (λ n i r at. at))
     ∙ ap (λ (parts : List Stream). stream_entries (setting_with v.setting parts) v.past) (sym (none_was v w undone)))
 
 -- where none come
-pub told_alone : (v w : OwingView) (es : List Entry) → w ≡ owing v [] es → forgotten w ≡ v → history_of w ≡ history_of v
+pub told_alone : (v w : CoreView) (es : List Entry) → w ≡ owing v [] es → forgotten w ≡ v → history_of w ≡ history_of v
 told_alone v w es is undone = ap history_of is ∙ ap (λ (parts : List Stream). stream_entries (setting_with v.setting parts) v.past) (sym (none_was v w undone))
 
 -- what is added
 
-pub adds_of : (v w : OwingView) (coming : List Stream) (es : List Entry) → w ≡ owing v coming es → LegalAhead w → SettledAhead w → Adds v coming es (owed_of w)
+pub adds_of : (v w : CoreView) (coming : List Stream) (es : List Entry) → w ≡ owing v coming es → LegalAhead w → SettledAhead w → Adds v coming es (owed_of w)
 adds_of v w coming es is legal settled = record { entries_are = ap owed_of is; legal = subst LegalAhead is legal; settled = subst SettledAhead is settled }
 
 -- where nothing is told nothing is owed
@@ -120,15 +115,3 @@ payloads_told s (e ∷ es) = ap (λ (bytes : List (List ℕ)). cons_option (entr
 pub lines_told : (s : Setting) (es : List Entry) → written_of line_in (stream_entries s es) ≡ lines_of es
 lines_told s [] = refl
 lines_told s (e ∷ es) = ap (λ (bytes : List (List ℕ)). cons_option (entry_line e) bytes) (lines_told s es)
-
-pub lengths_same : (texts : List (List ℕ)) → lengths_of texts ≡ written_lengths texts
-lengths_same [] = refl
-lengths_same (text ∷ texts) = ap (λ (ns : List ℕ). length text ∷ ns) (lengths_same texts)
-
-within_same : (texts : List (List ℕ)) (bound : ℕ) → IsLineWithin texts bound → IsWrittenWithin texts bound
-within_same [] bound within = tt
-within_same (text ∷ texts) bound within = within
-
-pub bound_told : (texts : List (List ℕ)) (bound : Option ℕ) → IfSome bound (IsLineWithin texts) → IfSome bound (IsWrittenWithin texts)
-bound_told texts None within = tt
-bound_told texts (Some bound) within = within_same texts bound within

@@ -17,7 +17,7 @@ use Rattle.esm_ledger.specs.Coming.{with_list}
 use Rattle.esm_ledger.proofs.Ledgers.{shards_distinct}
 use Rattle.esm_ingest.proofs.Shards.{or_off}
 use Rattle.esm_ingest.proofs.Places.{in_list}
-use Rattle.esm_stream_core.specs.OwingView.{OwingView, with_coming, full_setting}
+use Rattle.esm_stream_core.specs.CoreView.{CoreView, with_coming, full_setting}
 use Rattle.esm_stream_core.specs.declared.decisions.StreamEntry.{StreamEntry}
 use Rattle.esm_stream_core.specs.Told.{covered, stream_entry, stream_entries, told_entries, told_of}
 use Rattle.esm_stream_core.specs.Inside.{GoOn, AreTold}
@@ -125,23 +125,23 @@ behind_coming ts (p ∷ parts) n =
 
 -- the records of a core
 
-told_records : (v : OwingView) → AreTold v.setting v.past → (n : ℕ) → records_told n (told_of v) ≡ records_of v.setting n
+told_records : (v : CoreView) → AreTold v.setting v.past → (n : ℕ) → records_told n (told_of v) ≡ records_of v.setting n
 told_records v told n =
     let behind = behind_coming v.setting.streams v.coming n in
     records_first (full_setting v) v.past n told.go_on
     ∙ (ap₂ (λ (i : ℕ) (rs : List Record). take i rs) (told.counted n) behind.is
     ∙ take-append_seam (records_of v.setting n) behind.more)
 
-entries_of : (v : OwingView) → entries_told (told_of v) ≡ v.past
+entries_of : (v : CoreView) → entries_told (told_of v) ≡ v.past
 entries_of v = ap reverse (entries_same (full_setting v) (reverse v.past)) ∙ reverse-reverse v.past
 
-streams_same : (v : OwingView) → AreTold v.setting v.past → (ns : List ℕ) → map (stream_told (told_of v)) ns ≡ map (list_of v.setting.streams) ns
+streams_same : (v : CoreView) → AreTold v.setting v.past → (ns : List ℕ) → map (stream_told (told_of v)) ns ≡ map (list_of v.setting.streams) ns
 streams_same v told [] = refl
 streams_same v told (n ∷ ns) =
     let first : stream_told (told_of v) n ≡ list_of v.setting.streams n = ap (λ (rs : List Record). record { shard = n; records = rs }) (told_records v told n) in
     ap₂ (λ (x : Stream) (xs : List Stream). x ∷ xs) first (streams_same v told ns)
 
-pub streams_kept : (v : OwingView) → AreTold v.setting v.past → v.setting.streams ≡ streams_told (told_of v)
+pub streams_kept : (v : CoreView) → AreTold v.setting v.past → v.setting.streams ≡ streams_told (told_of v)
 streams_kept v told =
     let ts = v.setting.streams in
     sym (ap (λ (h : List Entry). map (stream_told (told_of v)) (shards_that_came h)) (entries_of v)

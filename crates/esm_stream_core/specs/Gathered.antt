@@ -1,6 +1,7 @@
 -- What a list of records brings, as it is gathered part by part. Only this crate's proofs cite this.
 use Rattle.std.specs.Prelude.{◌≡◌, ℕ, ◌+◌, ◌-◌, ◌<◌, ◌≤◌, List, [], ◌∷◌, ◌++◌, length, map, filter_map, slice_get, Some, None, ⊤}
 use Rattle.std.specs.List.{All}
+use Rattle.esm_model.specs.declared.limits.TheConstants.{MAX_BATCH}
 use Rattle.esm_model.specs.declared.item.Record.{Record}
 use Rattle.esm_model.specs.declared.entry.Fate.TheVariants.{Filtered}
 use Rattle.esm_model.specs.declared.entry.Entry.{Entry}
@@ -12,11 +13,13 @@ use Rattle.esm_journal_record.specs.Payload.{payload_of, IsSaid}
 use Rattle.esm_ledger.specs.declared.ledger.Ledger.{Ledger}
 use Rattle.esm_ledger.specs.declared.coming.Coming.{Coming}
 use Rattle.esm_ledger.specs.Coming.{IsComing}
-use Rattle.esm_ingest.specs.Parts.{Part, refused_from, CanCome}
+use Rattle.esm_ingest.specs.Coming.{FitPlaces}
+use Rattle.esm_ingest.specs.Parts.{Part, parts_of as parts_in, refused_from, CanCome}
+use Rattle.esm_ingest.specs.Sound.{MayArrive}
 use Rattle.esm_stream_core.specs.declared.owed.Owed.{Owed}
 use Rattle.esm_stream_core.specs.declared.owed.Act.TheVariants as act
 use Rattle.esm_stream_core.specs.declared.arriving.Gathered.{Gathered}
-use Rattle.esm_stream_core.specs.Arrival.{stream_of, streams_of}
+use Rattle.esm_stream_core.specs.Calls.{stream_of, streams_of}
 use Rattle.esm_stream_core.specs.Acts.{part_of, parts_of}
 
 -- the place is one of so many from `first` on
@@ -53,6 +56,15 @@ all_came m ps = map (came_owed m) ps
 abbrev pub all_filtered : ℕ → List Part → List Owed
 all_filtered m [] = []
 all_filtered m (p ∷ ps) = filtered_of m p ++ all_filtered m ps
+
+-- the parts are those of a list of valid records, not more than a batch has, which may come at the moment
+pub record MayBring (s : Setting) (h : List Entry) (ps : List Part) (m : ℕ) : Type 0 where
+  pub items : List Record
+  pub parts : ps ≡ parts_in s h items
+  pub may : MayArrive s h items m
+  pub valid : All IsValidRecord items
+  pub few : length items ≤ MAX_BATCH
+  pub places : FitPlaces h items
 
 -- a ledger can prepare the records of the part, and what is refused of them can be said
 pub record CanTake (s : Setting) (h : List Entry) (m : ℕ) (p : Part) : Type 0 where

@@ -1,15 +1,19 @@
 -- The view of a core, and what is true of each. Only this crate's proofs cite this.
-use Rattle.std.specs.Prelude.{◌≡◌, ℕ, List, [], ◌∷◌, length, map, ⊤}
+use Rattle.std.specs.Prelude.{◌≡◌, ℕ, List, [], ◌∷◌, length, map, reverse, ⊤}
 use Rattle.esm_model.specs.declared.entry.Entry.{Entry}
 use Rattle.esm_model.specs.declared.entry.Entry.TheVariants.{Came}
 use Rattle.esm_model.specs.Setting.{Setting, Stream, records_of}
 use Rattle.esm_model.specs.Entries.{came_count, shards_that_came}
 use Rattle.esm_filter.specs.Criteria.{JudgesRecords}
-use Rattle.esm_stream_core.specs.OwingView.{OwingView}
+use Rattle.esm_filter.specs.declared.criteria.Criteria.{Criteria}
+use Rattle.esm_ledger.specs.Ledger.{past_of, setting_of}
 use Rattle.esm_stream_core.specs.declared.stream_core.StreamCore.TheInside.{Inside}
+use Rattle.esm_stream_core.specs.CoreView.{CoreView}
+use Rattle.esm_stream_core.specs.Acts.{entries_of, parts_of}
+use Rattle.esm_stream_core.specs.Kept.{IsKept}
 
-abbrev pub view_of : Inside → OwingView
-view_of c = c.owing
+abbrev pub view_of : Inside → CoreView
+view_of c = record { setting = setting_of c.ledger; past = past_of c.ledger; coming = parts_of (reverse c.coming.items); owed = entries_of (reverse c.owed.items); standing = c.standing }
 
 -- the records that came
 
@@ -52,7 +56,12 @@ BringAll h (p ∷ parts) (e ∷ es) = Brings h p e × BringAll (e ∷ h) parts e
 
 -- the criteria are those of the mapping's filters, the records are those that came by the history, and those that are
 -- coming are brought by what is owed
+pub record IsAccounted (q : Criteria) (v : CoreView) : Type 0 where
+  pub judges : JudgesRecords v.setting.config.kind v.setting.config.filters q
+  pub told : AreTold v.setting v.past
+  pub brought : BringAll v.past v.coming v.owed
+
+-- and the ledger keeps what the history says, and can add what is owed
 pub record IsCore (c : Inside) : Type 0 where
-  pub judges : JudgesRecords c.owing.setting.config.kind c.owing.setting.config.filters c.criteria
-  pub told : AreTold c.owing.setting c.owing.past
-  pub brought : BringAll c.owing.past c.owing.coming c.owing.owed
+  pub kept : IsKept c.ledger (reverse c.coming.items) (reverse c.owed.items) c.standing
+  pub seen : IsAccounted c.criteria (view_of c)

@@ -1,12 +1,13 @@
--- What is kept beside a ledger of what is owed. Only this crate's proofs cite this.
-use Rattle.std.specs.Prelude.{◌≡◌, ℕ, ◌+◌, ◌<◌, ◌≤◌, not, List, [], ◌∷◌, length, filter, vec_len, vec_capacity, if◌then◌else◌}
+-- What is kept of a stream's history and of what is owed, and what a decision leaves. Only this crate's proofs cite this.
+use Rattle.std.specs.Prelude.{◌≡◌, ℕ, ◌+◌, ◌<◌, ◌≤◌, not, List, [], ◌∷◌, length, filter, drop, vec_len, vec_capacity, if◌then◌else◌}
 use Rattle.esm_model.specs.declared.limits.TheConstants.{MAX_ENTRIES}
 use Rattle.esm_model.specs.declared.moment.TheConstants.{MAX_MOMENT}
 use Rattle.esm_model.specs.declared.lane.LaneId.{LaneId}
 use Rattle.esm_model.specs.declared.entry.Entry.{Entry}
 use Rattle.esm_model.specs.declared.entry.Entry.TheVariants as entry
+use Rattle.esm_model.specs.Setting.{Setting, Stream}
 use Rattle.esm_model.specs.Lane.{same_lane}
-use Rattle.esm_model.specs.Entries.{moment_of, last_moment, is_shut, came_count, calls_begun}
+use Rattle.esm_model.specs.Entries.{last_moment, is_shut, came_count, calls_begun}
 use Rattle.esm_shard_index.specs.Progress.{IsProgress}
 use Rattle.esm_ledger.specs.declared.ledger.Ledger.{Ledger}
 use Rattle.esm_ledger.specs.declared.coming.Coming.{Coming}
@@ -14,12 +15,12 @@ use Rattle.esm_ledger.specs.declared.shard.ShardLedger.{ShardLedger}
 use Rattle.esm_ledger.specs.Ledger.{past_of, setting_of, LegalOver, IsAt, HasRoom, Keeps}
 use Rattle.esm_outcome.specs.Ending.{SettledOver}
 use Rattle.esm_record_bounds.specs.Bounds.{AreWithinBounds}
-use Rattle.esm_stream_core.specs.declared.owed.Act.{Act}
 use Rattle.esm_stream_core.specs.declared.owed.Owed.{Owed}
 use Rattle.esm_stream_core.specs.declared.standing.Standing.{Standing}
 use Rattle.esm_stream_core.specs.declared.standing.Standing.TheVariants.{Whole, Paying, Left}
-use Rattle.esm_stream_core.specs.OwingView.{MayAdd, setting_after, setting_with, lines_of}
-use Rattle.esm_stream_core.specs.Acts.{act_entry, cost_of, IsReady, entries_of, parts_of, costs, ArePayable, AreWritten}
+use Rattle.esm_stream_core.specs.CoreView.{CoreView, setting_after, setting_with, lines_of}
+use Rattle.esm_stream_core.specs.Acts.{entries_of, parts_of, AreWritten}
+use Rattle.esm_stream_core.specs.Adding.{costs, ArePayable}
 
 -- room
 
@@ -42,18 +43,12 @@ pub record HasPlaces (c : Ledger) : Type 0 where
   pub room : vec_len c.history + ends_of (past_of c) ≤ vec_capacity c.history
   pub short : vec_len c.history + ends_of (past_of c) < MAX_ENTRIES
 
--- the history alone went on by an entry
-pub record IsPushed (c d : Ledger) (e : Entry) : Type 0 where
-  pub past : past_of d ≡ e ∷ past_of c
-  pub shards : d.shards ≡ c.shards
-  pub setting : setting_of d ≡ setting_of c
-  pub last : d.last ≡ moment_of e
-  pub shut : c.shut ≡ is_shut (past_of c) → d.shut ≡ is_shut (past_of d)
-  pub begun : d.begun ≡ c.begun
-  pub len : vec_len d.history ≡ vec_len c.history + 1
-  pub capacity : vec_capacity d.history ≡ vec_capacity c.history
-
 -- how far more is decided
+
+-- the entries may be added one after another, each with the part that comes with it, and then nothing is called for
+abbrev pub MayAdd : Setting → List Entry → List Stream → List Entry → Type 0
+MayAdd s h parts [] = SettledOver s h
+MayAdd s h parts (e ∷ es) = LegalOver (setting_after s parts) (e ∷ h) × MayAdd (setting_after s parts) (e ∷ h) (drop 1 parts) es
 
 -- the ledger keeps what the history says, and can add what is owed; then nothing is called for
 pub record Stands (c : Ledger) (xs : List Coming) (owed : List Owed) : Type 0 where
@@ -79,24 +74,6 @@ StandsSo c xs owed Whole = Stands c xs owed × SettledOver (setting_of c) (past_
 StandsSo c xs owed Paying = Stands c xs owed
 StandsSo c xs owed Left = IsLeft c
 
--- all is prepared for the entry
-pub record CanAdd (c : Ledger) (xs : List Coming) (a : Act) : Type 0 where
-  pub keeps : Keeps c
-  pub ready : IsReady c xs a
-  pub room : HasRoom c (cost_of a)
-  pub legal : LegalOver (setting_after (setting_of c) (parts_of xs)) (act_entry a ∷ past_of c)
-
--- the input may end
-pub record CanShut (c : Ledger) (m : ℕ) : Type 0 where
-  pub keeps : Keeps c
-  pub legal : LegalOver (setting_of c) (entry.Shut m ∷ past_of c)
-
--- the ledger's input ended
-pub record IsShut (c d : Ledger) (m : ℕ) : Type 0 where
-  pub keeps : Keeps d
-  pub past : past_of d ≡ entry.Shut m ∷ past_of c
-  pub setting : setting_of d ≡ setting_of c
-
 -- all that is kept; what is coming and what is owed stand oldest first
 pub record IsKept (c : Ledger) (xs : List Coming) (owed : List Owed) (standing : Standing) : Type 0 where
   pub last : c.last ≡ last_moment (past_of c)
@@ -106,11 +83,17 @@ pub record IsKept (c : Ledger) (xs : List Coming) (owed : List Owed) (standing :
   pub bounds : AreWithinBounds (setting_with (setting_of c) (parts_of xs))
   pub stands : StandsSo c xs owed standing
 
--- what is decided, of a ledger that prepared it: the history and the setting are as before
-pub record Decides (c d : Ledger) (xs : List Coming) (owed : List Owed) : Type 0 where
+-- what a decision leaves
+
+-- memory was taken, and no more
+pub record IsSame (c d : Ledger) : Type 0 where
   pub keeps : Keeps d
   pub past : past_of d ≡ past_of c
   pub setting : setting_of d ≡ setting_of c
+
+-- what is decided, of a ledger that prepared it
+pub record Decides (c d : Ledger) (xs : List Coming) (owed : List Owed) : Type 0 where
+  pub same : IsSame c d
   pub room : HasRoom d (costs owed)
   pub payable : ArePayable d xs owed
   pub may : MayAdd (setting_of c) (past_of c) (parts_of xs) (entries_of owed)
@@ -118,8 +101,14 @@ pub record Decides (c d : Ledger) (xs : List Coming) (owed : List Owed) : Type 0
   pub lines : length (lines_of (entries_of owed)) ≤ 1
   pub bounds : AreWithinBounds (setting_with (setting_of c) (parts_of xs))
 
--- memory was taken, and no more
-pub record IsSame (c d : Ledger) : Type 0 where
-  pub keeps : Keeps d
-  pub past : past_of d ≡ past_of c
-  pub setting : setting_of d ≡ setting_of c
+-- what is decided by
+
+-- the ledger keeps the setting and the history, nothing is called for, and nothing was left
+pub record IsLedgerOf (v : CoreView) (c : Ledger) : Type 0 where
+  pub whole : v.standing ≡ Whole
+  pub keeps : Keeps c
+  pub setting : setting_of c ≡ v.setting
+  pub past : past_of c ≡ v.past
+  pub legal : LegalOver v.setting v.past
+  pub settled : SettledOver v.setting v.past
+  pub bounds : AreWithinBounds v.setting

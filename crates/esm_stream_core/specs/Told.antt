@@ -16,7 +16,7 @@ use Rattle.esm_model.specs.Books.{entry_line}
 use Rattle.esm_journal_record.specs.EntryPayload.{entry_payload}
 use Rattle.esm_ingest.specs.Changes.{kept_otherwise}
 use Rattle.esm_stream_core.specs.Standing.{can_pay}
-use Rattle.esm_stream_core.specs.OwingView.{OwingView, full_setting, setting_with, LegalAhead, SettledAhead, owing}
+use Rattle.esm_stream_core.specs.CoreView.{CoreView, full_setting, setting_with, LegalAhead, SettledAhead, owing}
 use Rattle.esm_stream_core.specs.declared.decisions.Opened.{Opened}
 use Rattle.esm_stream_core.specs.declared.decisions.StreamEntry.{StreamEntry}
 use Rattle.esm_stream_core.specs.declared.decisions.StreamCall.{StreamCall}
@@ -39,10 +39,10 @@ stream_entry s e = record { told = record { entry = e; records = covered s e; me
 abbrev pub stream_entries : Setting → List Entry → List StreamEntry
 stream_entries s es = map (stream_entry s) es
 
-abbrev pub history_of : OwingView → List StreamEntry
+abbrev pub history_of : CoreView → List StreamEntry
 history_of v = stream_entries (full_setting v) v.past
 
-abbrev pub owed_of : OwingView → List StreamEntry
+abbrev pub owed_of : CoreView → List StreamEntry
 owed_of v = stream_entries (full_setting v) v.owed
 
 -- as threads hand them on
@@ -50,10 +50,10 @@ abbrev pub told_entries : Setting → List Entry → List Told
 told_entries s es = map (λ (x : StreamEntry). x.told) (stream_entries s es)
 
 -- the whole history so, its oldest entry first
-abbrev pub told_of : OwingView → List Told
+abbrev pub told_of : CoreView → List Told
 told_of v = told_entries (full_setting v) (reverse v.past)
 
-abbrev pub opened : OwingView → Opened
+abbrev pub opened : CoreView → Opened
 opened v = record {
   config = v.setting.config;
   calls = v.setting.calls;
@@ -64,50 +64,50 @@ opened v = record {
 }
 
 -- what is owed can be added
-abbrev pub IsPayable : OwingView → Type 0
+abbrev pub IsPayable : CoreView → Type 0
 IsPayable v = can_pay v.standing ≡ true
 
 -- calls
 
 -- records may come to a book that is not shut
-pub record MayCome (v : OwingView) (items : List Record) : Type 0 where
+pub record MayCome (v : CoreView) (items : List Record) : Type 0 where
   pub going : is_shut v.past ≡ false
   pub few : length items ≤ MAX_BATCH
   pub valid : All IsValidRecord items
 
-abbrev pub MayAsk : OwingView → StreamCall → Type 0
+abbrev pub MayAsk : CoreView → StreamCall → Type 0
 MayAsk v (call.Came items moment) = MayCome v items.items
 MayAsk v (call.Shut moment) = is_shut v.past ≡ false
 MayAsk v (call.Next batcher moment) = IsResting v batcher
 MayAsk v (call.Done job reply moment) = IsRunningJob v.past job
 
 -- these entries are added, and records come with them: with them the history is legal, and settled
-pub record Adds (v : OwingView) (coming : List Stream) (es : List Entry) (entries : List StreamEntry) : Type 0 where
+pub record Adds (v : CoreView) (coming : List Stream) (es : List Entry) (entries : List StreamEntry) : Type 0 where
   pub entries_are : entries ≡ stream_entries (setting_with v.setting coming) es
   pub legal : LegalAhead (owing v coming es)
   pub settled : SettledAhead (owing v coming es)
 
-abbrev pub DecidesCame : OwingView → List Record → ℕ → StreamAnswer → List StreamEntry → Type 0
+abbrev pub DecidesCame : CoreView → List Record → ℕ → StreamAnswer → List StreamEntry → Type 0
 DecidesCame v items m answer.Taken entries = NoneDiffers v items × Adds v (coming_lists v items) (came_entries v items m) entries
 DecidesCame v items m _ entries = ⊥
 
 -- of the batcher at the moment
-abbrev pub DecidesNext : OwingView → ℕ → ℕ → StreamAnswer → List StreamEntry → Type 0
+abbrev pub DecidesNext : CoreView → ℕ → ℕ → StreamAnswer → List StreamEntry → Type 0
 DecidesNext v k m (answer.Next next) entries = IsNextOver v k m next × Adds v [] (next_adds v k m next) entries
 DecidesNext v k m _ entries = ⊥
 
-abbrev pub DecidesDone : OwingView → Job → Reply → ℕ → StreamAnswer → List StreamEntry → Type 0
+abbrev pub DecidesDone : CoreView → Job → Reply → ℕ → StreamAnswer → List StreamEntry → Type 0
 DecidesDone v job reply m (answer.Given count) entries = (count ≡ given_by_end v job.lane reply m) × Adds v [] (ended_entries v job.lane reply m) entries
 DecidesDone v job reply m _ entries = ⊥
 
 -- the end of the input is noted, and not decided
-abbrev pub Decides : OwingView → StreamCall → StreamAnswer → List StreamEntry → Type 0
+abbrev pub Decides : CoreView → StreamCall → StreamAnswer → List StreamEntry → Type 0
 Decides v (call.Came items moment) a entries = DecidesCame v items.items (moment_for v.past moment) a entries
 Decides v (call.Shut moment) a entries = ⊥
 Decides v (call.Next batcher moment) a entries = DecidesNext v batcher (moment_for v.past moment) a entries
 Decides v (call.Done job reply moment) a entries = DecidesDone v job reply (moment_for v.past moment) a entries
 
-abbrev pub Refuses : OwingView → StreamCall → Change → Type 0
+abbrev pub Refuses : CoreView → StreamCall → Change → Type 0
 Refuses v (call.Came items moment) change = Differs v items.items change
 Refuses v _ change = ⊥
 
@@ -128,11 +128,11 @@ abbrev pub IsChange : Opened → Change → Type 0
 IsChange o change = kept_otherwise (setting_opened o) change.shard change.place change.given ≡ Some change.kept
 
 -- what is noted of a call: the end of a call of the function, or of the input
-abbrev pub noted_entries : OwingView → StreamCall → List Entry
+abbrev pub noted_entries : CoreView → StreamCall → List Entry
 noted_entries v (call.Came items moment) = []
 noted_entries v (call.Shut moment) = Shut (moment_for v.past moment) ∷ []
 noted_entries v (call.Next batcher moment) = []
 noted_entries v (call.Done job reply moment) = Ended job.lane reply (moment_for v.past moment) ∷ []
 
-abbrev pub Notes : OwingView → StreamCall → List StreamEntry → Type 0
+abbrev pub Notes : CoreView → StreamCall → List StreamEntry → Type 0
 Notes v asked entries = entries ≡ stream_entries (full_setting v) (noted_entries v asked)

@@ -2,8 +2,7 @@
 ghost use Rattle.std.specs.Prelude.{◌≡◌, ◌<◌, [], ◌∷◌, true, false, reverse, drop, vec_len, vec_capacity};
 ghost use Rattle.esm_model.specs.Entries.{moment_of as entry_moment, is_shut_entry};
 ghost use Rattle.esm_model.specs.declared.entry.Entry.{Entry};
-ghost use Rattle.esm_stream_core.specs.Kept.{IsPushed, IsShut, CanAdd, CanShut};
-ghost use Rattle.esm_stream_core.specs.Acts.{IsAdded};
+ghost use Rattle.esm_stream_core.specs.Adding.{IsPushed, IsShut, CanAdd, CanShut, IsAdded};
 
 use crate::owed::Act;
 use esm_ledger::{Coming, Ledger};

@@ -1,20 +1,21 @@
 // Records that come to the ledger: the arrivals that are owed, part by part, and what the filter refuses of them.
-ghost use Rattle.std.specs.Prelude.{◌≡◌, ℕ, ◌+◌, ◌<◌, ◌++◌, ◌∷◌, [], All, not, false, map, length, reverse, slice_index_or, IfOk, OnOk, OnErr};
+ghost use Rattle.std.specs.Prelude.{◌≡◌, ℕ, ◌+◌, ◌<◌, ◌++◌, ◌∷◌, [], All, not, true, false, map, length, reverse, slice_index_or, IfOk, OnOk, OnErr};
 ghost use Rattle.esm_model.specs.Entries.{holds};
 ghost use Rattle.esm_journal_record.specs.Payload.{IsSaid};
 ghost use Rattle.esm_ledger.specs.Ledger.{past_of, setting_of, HasRoom, HasShardRoom, Keeps};
 ghost use Rattle.esm_ledger.specs.Prepared.{StaysElsewhere};
 ghost use Rattle.esm_ingest.specs.Parts.{part};
 ghost use Rattle.esm_ingest.specs.Entries.{part_entries};
-ghost use Rattle.esm_stream_core.specs.Arrival.{MayCome, streams_of};
-ghost use Rattle.esm_stream_core.specs.OwingView.{LegalAhead, SettledAhead, owing, forgotten};
+ghost use Rattle.esm_stream_core.specs.Gathered.{MayBring, IsFrom, names_in, part_said, came_owed, filtered_owed, filtered_of, CanTake, IsGathered, IsTaken};
+ghost use Rattle.esm_stream_core.specs.Calls.{streams_of};
+ghost use Rattle.esm_stream_core.specs.Standing.{is_whole};
+ghost use Rattle.esm_stream_core.specs.CoreView.{LegalAhead, SettledAhead, owing, forgotten};
 ghost use Rattle.esm_record_bounds.specs.Bounds.{AreWithinBounds};
 ghost use Rattle.esm_stream_core.specs.Acts.{entries_of, parts_of};
 ghost use Rattle.esm_stream_core.specs.Kept.{Decides, IsSame};
-ghost use Rattle.esm_stream_core.specs.Gathered.{IsFrom, names_in, part_said, came_owed, filtered_owed, filtered_of, CanTake, IsGathered, IsTaken};
 
 use crate::owed::{Act, Owed};
-use crate::owing::OwingLedger;
+use crate::stream_core::StreamCore;
 use esm_ingest::ShardRecords;
 use esm_journal_record::{Said, said_bytes};
 use esm_ledger::{Coming, Ledger};
@@ -118,9 +119,7 @@ impl Gathered {
     ) -> Result<(), OutOfMemory>
         requires kept { Keeps ledger.old }
         requires can { CanTake (setting_of ledger.old) (past_of ledger.old) moment (part next) }
-        ensures kept { Keeps ledger.new }
-        ensures past { past_of ledger.new ≡ past_of ledger.old }
-        ensures setting { setting_of ledger.new ≡ setting_of ledger.old }
+        ensures same { IsSame ledger.old ledger.new }
         ensures room { (n : ℕ) → HasRoom ledger.old n → HasRoom ledger.new n }
         ensures shards { (n : ℕ) → HasShardRoom ledger.old n → HasShardRoom ledger.new n }
         ensures elsewhere { OnOk result (StaysElsewhere ledger.old ledger.new next.shard) }
@@ -171,10 +170,8 @@ fn gather(
 ) -> Result<Gathered, OutOfMemory>
     requires kept { Keeps ledger.old }
     requires bounds { AreWithinBounds (setting_of ledger.old) }
-    requires may { MayCome (setting_of ledger.old) (past_of ledger.old) (map part parts.items) moment }
-    ensures kept { Keeps ledger.new }
-    ensures past { past_of ledger.new ≡ past_of ledger.old }
-    ensures setting { setting_of ledger.new ≡ setting_of ledger.old }
+    requires may { MayBring (setting_of ledger.old) (past_of ledger.old) (map part parts.items) moment }
+    ensures same { IsSame ledger.old ledger.new }
     ensures room { (n : ℕ) → HasRoom ledger.old n → HasRoom ledger.new n }
     ensures shards { (n : ℕ) → HasShardRoom ledger.old n → HasShardRoom ledger.new n }
     ensures all { IfOk result (IsGathered ledger.new moment (map part parts.items)) }
@@ -207,7 +204,7 @@ fn prepare_arrival(
 ) -> Result<Arrived, OutOfMemory>
     requires kept { Keeps ledger.old }
     requires bounds { AreWithinBounds (setting_of ledger.old) }
-    requires may { MayCome (setting_of ledger.old) (past_of ledger.old) (map part parts.items) moment }
+    requires may { MayBring (setting_of ledger.old) (past_of ledger.old) (map part parts.items) moment }
     ensures same { IsSame ledger.old ledger.new }
     ensures decides { IfOk result (λ arrived. Decides ledger.old ledger.new (reverse arrived.coming.items) (reverse arrived.owed.items)) }
     ensures coming { IfOk result (λ arrived. parts_of (reverse arrived.coming.items) ≡ streams_of (map part parts.items)) }
@@ -226,26 +223,24 @@ fn prepare_arrival(
     Ok(Arrived { coming, owed })
 }
 
-impl OwingLedger {
+impl StreamCore {
     /// Records of several shards come, part by part: the `Came` of each part is owed, and then what the filter refuses of
     /// each. After `OutOfMemory` nothing has changed, and the records are gone.
-    pub fn owe_records(
+    pub(crate) fn owe_records(
         &mut self,
         alloc: Global,
         parts: Vec<ShardRecords>,
         moment: u64,
     ) -> Result<(), OutOfMemory>
         requires settled { self.old.owed ≡ [] }
-        requires may { MayCome self.old.setting self.old.past (map part parts.items) moment }
+        requires whole { is_whole self.old.standing ≡ true }
+        requires may { MayBring self.old.setting self.old.past (map part parts.items) moment }
         ensures owes { OnOk result (self.new ≡ owing self.old (streams_of (map part parts.items)) (part_entries moment (map part parts.items))) }
         ensures undone { OnOk result (forgotten self.new ≡ self.old) }
         ensures legal { OnOk result (LegalAhead self.new) }
         ensures settled { OnOk result (SettledAhead self.new) }
         ensures unchanged { OnErr result (self.new ≡ self.old) }
     {
-        if !self.standing.is_whole() {
-            return Err(OutOfMemory);
-        }
         let arrived = prepare_arrival(alloc, &mut self.ledger, parts, moment)?;
         let _ = mem::replace(&mut self.owed, arrived.owed);
         let _ = mem::replace(&mut self.coming, arrived.coming);

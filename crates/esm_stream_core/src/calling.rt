@@ -1,14 +1,16 @@
 // Owing the start of a call of the function, or the expiry of records, with the memory for its end.
-ghost use Rattle.std.specs.Prelude.{◌≡◌, ◌<◌, ◌∷◌, [], Some, None, OnOk, OnErr};
+ghost use Rattle.std.specs.Prelude.{◌≡◌, ◌<◌, ◌∷◌, [], Some, None, true, OnOk, OnErr};
 ghost use Rattle.esm_model.specs.declared.entry.Entry.{Entry};
 ghost use Rattle.esm_model.specs.declared.entry.Fate.{Fate};
-ghost use Rattle.esm_ledger.specs.Ledger.{past_of, setting_of, HasRoom, HasSplits, Keeps};
+ghost use Rattle.esm_ledger.specs.Ledger.{HasRoom, HasSplits, Keeps};
 ghost use Rattle.esm_outcome.specs.Ending.{MaySettle};
-ghost use Rattle.esm_stream_core.specs.OwingView.{LegalAhead, SettledAhead, owing, forgotten};
+ghost use Rattle.esm_stream_core.specs.Kept.{IsSame};
+ghost use Rattle.esm_stream_core.specs.Standing.{is_whole};
+ghost use Rattle.esm_stream_core.specs.CoreView.{LegalAhead, SettledAhead, owing, forgotten};
 
 use crate::owed::{Act, Owed};
-use crate::owing::OwingLedger;
 use crate::payload::{expired, next_may_be_written};
+use crate::stream_core::StreamCore;
 use esm_ledger::Ledger;
 use esm_model::{LaneId, OutOfMemory, Places, Text};
 use std::alloc::Global;
@@ -17,9 +19,7 @@ use std::alloc::Global;
 fn prepare_call(ledger: &mut Ledger, alloc: Global, lane: LaneId) -> Result<(), OutOfMemory>
     requires kept { Keeps ledger.old }
     requires known { lane.lane < ledger.old.config.factor }
-    ensures kept { Keeps ledger.new }
-    ensures past { past_of ledger.new ≡ past_of ledger.old }
-    ensures setting { setting_of ledger.new ≡ setting_of ledger.old }
+    ensures same { IsSame ledger.old ledger.new }
     ensures splits { OnOk result (HasSplits ledger.new lane) }
     ensures room { OnOk result (HasRoom ledger.new 2) }
 {
@@ -28,10 +28,10 @@ fn prepare_call(ledger: &mut Ledger, alloc: Global, lane: LaneId) -> Result<(), 
     Ok(())
 }
 
-impl OwingLedger {
+impl StreamCore {
     /// A call of the function is owed: of these places, or a final call of the window `closing` with none. The memory for
     /// its end is taken too. After `OutOfMemory` nothing has changed.
-    pub fn owe_call(
+    pub(crate) fn owe_call(
         &mut self,
         alloc: Global,
         lane: LaneId,
@@ -40,6 +40,7 @@ impl OwingLedger {
         moment: u64,
     ) -> Result<(), OutOfMemory>
         requires settled { self.old.owed ≡ [] }
+        requires whole { is_whole self.old.standing ≡ true }
         requires may { MaySettle self.old.setting self.old.past (Entry.Began lane places closing moment ∷ []) }
         ensures owes { OnOk result (self.new ≡ owing self.old [] (Entry.Began lane places closing moment ∷ [])) }
         ensures undone { OnOk result (forgotten self.new ≡ self.old) }
@@ -47,9 +48,6 @@ impl OwingLedger {
         ensures settled { OnOk result (SettledAhead self.new) }
         ensures unchanged { OnErr result (self.new ≡ self.old) }
     {
-        if !self.standing.is_whole() {
-            return Err(OutOfMemory);
-        }
         prepare_call(&mut self.ledger, alloc, lane)?;
         let act = Act::Began {
             lane,
@@ -63,7 +61,7 @@ impl OwingLedger {
 
     /// Records of the lane expire: their fate is owed, with the line for the failure destination, where one is set. After
     /// `OutOfMemory` nothing has changed.
-    pub fn owe_expiry(
+    pub(crate) fn owe_expiry(
         &mut self,
         alloc: Global,
         lane: LaneId,
@@ -72,6 +70,7 @@ impl OwingLedger {
         moment: u64,
     ) -> Result<(), OutOfMemory>
         requires settled { self.old.owed ≡ [] }
+        requires whole { is_whole self.old.standing ≡ true }
         requires known { lane.lane < self.old.setting.config.factor }
         requires may { MaySettle self.old.setting self.old.past (Entry.Gave (Some lane) lane.shard places Fate.Expired line None moment ∷ []) }
         ensures owes { OnOk result (self.new ≡ owing self.old [] (Entry.Gave (Some lane) lane.shard places Fate.Expired line None moment ∷ [])) }
@@ -80,9 +79,6 @@ impl OwingLedger {
         ensures settled { OnOk result (SettledAhead self.new) }
         ensures unchanged { OnErr result (self.new ≡ self.old) }
     {
-        if !self.standing.is_whole() {
-            return Err(OutOfMemory);
-        }
         self.ledger.prepare_entries(1)?;
         next_may_be_written();
         let owed = expired(alloc, &self.ledger, lane, places, line, moment)?;

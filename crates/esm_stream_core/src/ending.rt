@@ -1,5 +1,5 @@
 // Owing the end of a lane's call, and then the entries that this end calls for.
-ghost use Rattle.std.specs.Prelude.{◌≡◌, ◌+◌, ◌≤◌, ◌∷◌, [], length, map, OnOk, OnErr, IfSome, vec_len};
+ghost use Rattle.std.specs.Prelude.{◌≡◌, ◌+◌, ◌≤◌, ◌∷◌, [], true, length, map, OnOk, OnErr, IfSome, vec_len};
 ghost use Rattle.esm_model.specs.declared.entry.Entry.{Entry};
 ghost use Rattle.esm_model.specs.Tries.{verdict_after};
 ghost use Rattle.esm_outcome.specs.Dues.{due_entry};
@@ -7,11 +7,12 @@ ghost use Rattle.esm_outcome.specs.Ending.{MaySettle};
 ghost use Rattle.esm_ledger.specs.Ledger.{HasRoom, Keeps};
 ghost use Rattle.esm_outcome.specs.Preparing.{IsPrepared, PreparesEnd, AreOfWindow};
 ghost use Rattle.esm_stream_core.specs.Kept.{IsSame};
-ghost use Rattle.esm_stream_core.specs.OwingView.{lines_of, LegalAhead, SettledAhead, owing, forgotten};
+ghost use Rattle.esm_stream_core.specs.Standing.{is_whole};
+ghost use Rattle.esm_stream_core.specs.CoreView.{lines_of, LegalAhead, SettledAhead, owing, forgotten};
 
 use crate::owed::{Act, Owed};
-use crate::owing::OwingLedger;
 use crate::payload::{dues_owed, next_may_be_written};
+use crate::stream_core::StreamCore;
 use esm_ledger::Ledger;
 use esm_model::{LaneId, OutOfMemory, Reply};
 use esm_outcome::Outcome;
@@ -39,10 +40,10 @@ fn prepare_end(
     Ok(())
 }
 
-impl OwingLedger {
+impl StreamCore {
     /// The end of the lane's call is owed, and then what it calls for, in its order. After `OutOfMemory` nothing has
     /// changed.
-    pub fn owe_end(
+    pub(crate) fn owe_end(
         &mut self,
         alloc: Global,
         lane: LaneId,
@@ -51,6 +52,7 @@ impl OwingLedger {
         moment: u64,
     ) -> Result<(), OutOfMemory>
         requires settled { self.old.owed ≡ [] }
+        requires whole { is_whole self.old.standing ≡ true }
         requires verdict { outcome.verdict ≡ verdict_after self.old.setting self.old.past lane reply }
         requires few { vec_len outcome.dues ≤ 2 }
         requires may { MaySettle self.old.setting self.old.past (Entry.Ended lane reply moment ∷ map (due_entry lane moment) outcome.dues.items) }
@@ -63,9 +65,6 @@ impl OwingLedger {
         ensures settled { OnOk result (SettledAhead self.new) }
         ensures unchanged { OnErr result (self.new ≡ self.old) }
     {
-        if !self.standing.is_whole() {
-            return Err(OutOfMemory);
-        }
         let Outcome {
             verdict,
             dues,

@@ -1,6 +1,6 @@
 //! The decisions of a stream's book over every valid configuration: what records that come, a batcher that asks and the
 //! end of a call add to its history, each decided at once and then owed entry by entry, for a layer over devices to write.
-//! Below them a ledger with the entries that are decided and not yet added: they are owed, and then paid one by one.
+//! One value holds the ledger, what is coming and what is owed.
 //! Pure: values in, values out. No device, clock or thread.
 #![tactic(auto)]
 
@@ -12,13 +12,11 @@ mod ending;
 mod finishing;
 mod fitting;
 mod owed;
-mod owing;
 mod payload;
 mod reading;
 mod standing;
 mod stream_core;
 
 pub use decisions::{Opened, StreamAnswer, StreamCall, StreamEntry};
-pub use owing::OwingLedger;
 pub use standing::Standing;
 pub use stream_core::StreamCore;

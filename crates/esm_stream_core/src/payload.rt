@@ -12,8 +12,7 @@ ghost use Rattle.esm_ledger.specs.Ledger.{setting_of, Keeps};
 ghost use Rattle.esm_outcome.specs.Dues.{due_entry};
 ghost use Rattle.esm_record_bounds.specs.Bounds.{AreWithinBounds};
 ghost use Rattle.esm_stream_core.specs.declared.owed.Act.{Act};
-ghost use Rattle.esm_stream_core.specs.Acts.{IsWritten};
-ghost use Rattle.esm_stream_core.specs.Writing.{IsWritable, AreWritable, AreNext, AreDue, due_act};
+ghost use Rattle.esm_stream_core.specs.Acts.{IsWritten, IsWritable, AreWritable, AreNext, AreDue, due_act};
 
 use crate::owed::{Act, Owed};
 use esm_journal_record::{Said, said_bytes};

@@ -5,7 +5,8 @@ ghost use Rattle.esm_model.specs.declared.limits.TheConstants.{MAX_PAYLOAD};
 ghost use Rattle.esm_model.specs.Books.{entry_line};
 ghost use Rattle.esm_ledger.specs.declared.shard.ShardLedger.{ShardLedger};
 ghost use Rattle.esm_ledger.specs.Ledger.{IsAt};
-ghost use Rattle.esm_stream_core.specs.OwingView.{lengths_of, lines_of, IsLineWithin};
+ghost use Rattle.esm_book.specs.Decided.{lengths_of, IsLineWithin};
+ghost use Rattle.esm_stream_core.specs.CoreView.{lines_of};
 ghost use Rattle.esm_stream_core.specs.Acts.{act_entry, entries_of, payloads_in, HasShortPayload};
 
 use crate::owed::{Act, Owed};

@@ -13,23 +13,30 @@ ghost use Rattle.esm_shard_index.specs.LaneHistory.{HasFoundTries};
 ghost use Rattle.esm_ledger.specs.Ledger.{opened_with, LegalOver};
 ghost use Rattle.esm_ledger.specs.Reading.{checkpoint_of, spread_of};
 ghost use Rattle.esm_record_bounds.specs.Bounds.{AreStatesWithin, AreWithinBounds};
-ghost use Rattle.esm_book.specs.Decided.{IsRefused};
+ghost use Rattle.esm_book.specs.Decided.{IsRefused, lengths_of, IsLineWithin};
 ghost use Rattle.esm_stream_core.specs.Quiet.{IsQuiet, IsWanting};
 ghost use Rattle.esm_stream_core.specs.Standing.{can_pay};
-ghost use Rattle.esm_stream_core.specs.OwingView.{new_view, full_setting, payloads_of, lines_of, lengths_of, IsLineWithin, LegalAhead, SettledAhead, owing, paid, forgotten, noted, noted_shut};
+ghost use Rattle.esm_stream_core.specs.CoreView.{new_view, full_setting, payloads_of, lines_of, LegalAhead, SettledAhead, owing, paid, forgotten, noted, noted_shut};
 ghost use Rattle.esm_stream_core.specs.Calls.{moment_for, coming_lists, came_entries, Differs, NoneDiffers, IsResting, IsNextOver, next_adds, IsRunningJob, ended_entries, given_by_end};
 ghost use Rattle.esm_stream_core.specs.Told.{told_of};
 
+use crate::adding::{add_next, push, shut};
 use crate::finishing::is_over;
 use crate::fitting::fit_places;
-use crate::owing::OwingLedger;
+use crate::owed::Owed;
+use crate::reading::{kept_in, lengths_in, line_bound, line_in};
+use crate::standing::Standing;
 use esm_book::Refusal;
 use esm_filter::Criteria;
 use esm_ingest::{by_shard, first_change};
 use esm_journal_state::Says;
-use esm_model::{Config, Entry, Job, MAX_MOMENT, Next, OutOfMemory, Record, Reply};
+use esm_ledger::{Coming, Ledger};
+use esm_model::{
+    Change, Config, Entry, Job, MAX_MOMENT, Next, OutOfMemory, PastReply, Record, Reply,
+};
 use esm_next::{Decision, decide_next};
 use esm_outcome::outcome_of;
+use esm_shard_index::progress_laws::{progress_stays, progress_tells};
 use std::alloc::Global;
 use std::marker::Model;
 
@@ -43,14 +50,19 @@ use std::marker::Model;
 /// calls for, whose input ended over what was owed, or of which what was owed was forgotten when half added.
 #[derive(Drop)]
 pub struct StreamCore {
-    owing: OwingLedger,
-    criteria: Criteria,
+    pub(crate) ledger: Ledger,
+    pub(crate) criteria: Criteria,
+    /// The records whose `Came` is owed, shard by shard, the next ones last.
+    pub(crate) coming: Vec<Coming>,
+    /// The owed entries, the next one last.
+    pub(crate) owed: Vec<Owed>,
+    pub(crate) standing: Standing,
 }
 
 impl Model for StreamCore {
-    ghost use Rattle.esm_stream_core.specs.OwingView.{OwingView};
+    ghost use Rattle.esm_stream_core.specs.CoreView.{CoreView};
 
-    ghost Value = { OwingView };
+    ghost Value = { CoreView };
 
     ghost use Rattle.esm_stream_core.specs.Inside.{view_of, IsCore};
 
@@ -69,6 +81,20 @@ fn raised_to(last: u64, moment: u64) -> u64
     moment.max(last).min(MAX_MOMENT)
 }
 
+/// A copy of the change.
+fn change_copy(alloc: Global, change: &Change) -> Result<Change, OutOfMemory>
+    ensures { IfOk result (λ copy. copy ≡ change.now) }
+{
+    let kept = change.kept.copy(alloc)?;
+    let given = change.given.copy(alloc)?;
+    Ok(Change {
+        shard: change.shard,
+        place: change.place,
+        kept,
+        given,
+    })
+}
+
 impl StreamCore {
     /// A core in which no record came, for so many calls in all, with what the journal told at opening.
     pub fn new(
@@ -84,8 +110,14 @@ impl StreamCore {
         requires states { AreStatesWithin found.states }
         ensures { IfOk result (λ core. core ≡ new_view (opened_with config calls found)) }
     {
-        let owing = OwingLedger::new(alloc, config, calls, found)?;
-        Ok(StreamCore { owing, criteria })
+        let ledger = Ledger::new(alloc, config, calls, found)?;
+        Ok(StreamCore {
+            ledger,
+            criteria,
+            coming: Vec::new(alloc),
+            owed: Vec::new(alloc),
+            standing: Standing::Whole,
+        })
     }
 
     /// Decides on records that come: one `Came` for each shard of the list, in the order of first appearance; then, for
@@ -111,22 +143,19 @@ impl StreamCore {
         ensures settled { OnOk result (SettledAhead self.new) }
         ensures payable { OnOk result (can_pay self.new.standing ≡ true) }
     {
-        let now = raised_to(self.owing.last_moment(), moment);
-        let Some(ledger) = self.owing.ledger() else {
-            return Err(Refusal::OutOfMemory);
-        };
-        if !fit_places(ledger, items.as_slice()) {
+        if !self.standing.is_whole() {
             return Err(Refusal::OutOfMemory);
         }
-        if let Some(told) = first_change(alloc, ledger, items.as_slice())? {
-            let kept = first_change(alloc, ledger, items.as_slice())?;
-            return match kept {
-                Some(kept) => Err(Refusal::Changed { told, kept }),
-                None => unreachable!(),
-            };
+        if !fit_places(&self.ledger, items.as_slice()) {
+            return Err(Refusal::OutOfMemory);
         }
-        let parts = by_shard(alloc, ledger, &self.criteria, items)?;
-        self.owing.owe_records(alloc, parts, now)?;
+        if let Some(told) = first_change(alloc, &self.ledger, items.as_slice())? {
+            let kept = change_copy(alloc, &told)?;
+            return Err(Refusal::Changed { told, kept });
+        }
+        let now = raised_to(self.ledger.last, moment);
+        let parts = by_shard(alloc, &self.ledger, &self.criteria, items)?;
+        self.owe_records(alloc, parts, now)?;
         Ok(())
     }
 
@@ -144,20 +173,19 @@ impl StreamCore {
         ensures settled { OnOk result (SettledAhead self.new) }
         ensures payable { OnOk result (can_pay self.new.standing ≡ true) }
     {
-        let now = raised_to(self.owing.last_moment(), moment);
-        let Some(ledger) = self.owing.ledger() else {
+        if !self.standing.is_whole() {
             return Err(OutOfMemory);
-        };
-        match decide_next(alloc, ledger, batcher, now)? {
+        }
+        let now = raised_to(self.ledger.last, moment);
+        match decide_next(alloc, &self.ledger, batcher, now)? {
             Decision::Call(job) => {
                 let places = job.places.copy(alloc)?;
-                self.owing
-                    .owe_call(alloc, job.lane, places, job.closing, now)?;
+                self.owe_call(alloc, job.lane, places, job.closing, now)?;
                 Ok(Next::Call(job))
             }
             Decision::Expire { lane, places, line } => {
                 let count = places.as_slice().len() as u32;
-                self.owing.owe_expiry(alloc, lane, places, line, now)?;
+                self.owe_expiry(alloc, lane, places, line, now)?;
                 Ok(Next::Gave(count))
             }
             Decision::Idle { until } => Ok(Next::Idle { until }),
@@ -186,13 +214,13 @@ impl StreamCore {
         ensures settled { OnOk result (SettledAhead self.new) }
         ensures payable { OnOk result (can_pay self.new.standing ≡ true) }
     {
-        let now = raised_to(self.owing.last_moment(), moment);
-        let Some(ledger) = self.owing.ledger() else {
+        if !self.standing.is_whole() {
             return Err(OutOfMemory);
-        };
-        let outcome = outcome_of(alloc, ledger, job.lane, &reply, now)?;
+        }
+        let now = raised_to(self.ledger.last, moment);
+        let outcome = outcome_of(alloc, &self.ledger, job.lane, &reply, now)?;
         let given = outcome.given;
-        self.owing.owe_end(alloc, job.lane, reply, outcome, now)?;
+        self.owe_end(alloc, job.lane, reply, outcome, now)?;
         Ok(given)
     }
 
@@ -200,7 +228,9 @@ impl StreamCore {
     pub fn forget(&mut self)
         ensures { self.new ≡ forgotten self.old }
     {
-        self.owing.forget();
+        self.coming.clear();
+        self.owed.clear();
+        self.standing = self.standing.forgotten();
     }
 
     /// Adds the first owed entry to the history. Takes no memory, and cannot fail.
@@ -209,39 +239,56 @@ impl StreamCore {
         requires payable { can_pay self.old.standing ≡ true }
         ensures { self.new ≡ paid self.old }
     {
-        self.owing.pay();
+        let alloc = *self.ledger.history.allocator();
+        let Some(owed) = self.owed.pop() else {
+            unreachable!()
+        };
+        add_next(&mut self.ledger, alloc, &mut self.coming, owed.act);
+        self.standing = self.standing.paid(!self.owed.as_slice().is_empty());
     }
 
-    /// Notes the end of the job's call, where nothing that this calls for is added any more. Takes no memory.
+    /// Notes the end of the job's call, where nothing that this calls for is added any more. Takes no memory: the
+    /// room was kept since the call began.
     pub fn note_ended(&mut self, job: Job, reply: Reply, moment: u64)
         requires runs { IsRunningJob self.old.past job }
         ensures { self.new ≡ noted self.old (Entry.Ended job.lane reply (moment_for self.old.past moment)) }
     {
-        let now = raised_to(self.owing.last_moment(), moment);
-        self.owing.note_ended(job.lane, reply, now);
+        let now = raised_to(self.ledger.last, moment);
+        let entry = Entry::Ended {
+            lane: job.lane,
+            reply: PastReply::of(&reply),
+            moment: now,
+        };
+        progress_stays();
+        push(&mut self.ledger, entry, now);
+        self.standing = Standing::Left;
     }
 
-    /// Notes that the input ended. Takes no memory: there is always room for this entry.
+    /// Notes that the input ended: what is owed then is left. Takes no memory: there is always room for this entry.
     pub fn shut(&mut self, moment: u64)
         requires going { is_shut self.old.past ≡ false }
         ensures { self.new ≡ noted_shut self.old (Entry.Shut (moment_for self.old.past moment)) }
     {
-        let now = raised_to(self.owing.last_moment(), moment);
-        self.owing.note_shut(now);
+        let now = raised_to(self.ledger.last, moment);
+        progress_stays();
+        let standing = self.standing.shut(self.owed.as_slice().is_empty());
+        shut(&mut self.ledger, standing.is_whole(), now);
+        self.standing = standing;
     }
 
     /// How many entries are owed. Takes no memory.
     pub fn owed_count(&self) -> usize
         ensures { result ≡ length self.now.owed }
     {
-        self.owing.owed_count()
+        self.owed.len()
     }
 
     /// The lengths in bytes of the owed payloads, in order.
     pub fn owed_lengths(&self, alloc: Global) -> Result<Vec<u32>, OutOfMemory>
         ensures { IfOk result (λ lengths. lengths.items ≡ lengths_of (payloads_of self.now self.now.owed)) }
     {
-        self.owing.owed_lengths(alloc)
+        let lengths = lengths_in(alloc, self.owed.as_slice())?;
+        Ok(lengths)
     }
 
     /// The number of bytes of the owed line, where an owed entry has one; no two of them have. Takes no memory.
@@ -249,7 +296,7 @@ impl StreamCore {
         ensures within { IfSome result (IsLineWithin (lines_of self.now.owed)) }
         ensures none { IfNone result (lines_of self.now.owed ≡ []) }
     {
-        self.owing.owed_line_bound()
+        line_bound(self.owed.as_slice())
     }
 
     /// The payload of the first owed entry, where it has one. Takes no memory.
@@ -259,7 +306,13 @@ impl StreamCore {
         ensures short { IfSome result (λ bytes. length bytes.now ≤ MAX_PAYLOAD) }
         ensures none { IfNone result (payloads_of self.entry.now (take 1 self.entry.now.owed) ≡ []) }
     {
-        self.owing.first_payload()
+        match self.owed.last() {
+            None => None,
+            Some(owed) => match &owed.payload {
+                None => None,
+                Some(payload) => Some(payload.as_slice()),
+            },
+        }
     }
 
     /// The line of the first owed entry, where it has one. Takes no memory.
@@ -269,14 +322,17 @@ impl StreamCore {
         ensures short { IfSome result (λ bytes. length bytes.now ≤ MAX_PAYLOAD) }
         ensures none { IfNone result (lines_of (take 1 self.entry.now.owed) ≡ []) }
     {
-        self.owing.first_line()
+        match self.owed.last() {
+            None => None,
+            Some(owed) => line_in(&owed.act),
+        }
     }
 
     /// Whether the input ended. Takes no memory.
     pub fn is_shut(&self) -> bool
         ensures { result ≡ is_shut self.now.past }
     {
-        self.owing.is_shut()
+        self.ledger.shut
     }
 
     /// Whether all calls allowed began. Takes no memory.
@@ -284,7 +340,7 @@ impl StreamCore {
         ensures spent { result ≡ true → self.now.setting.calls ≤ calls_begun self.now.past }
         ensures going { result ≡ false → calls_begun self.now.past < self.now.setting.calls }
     {
-        self.owing.is_spent()
+        self.ledger.begun >= u64::from(self.ledger.calls)
     }
 
     /// Whether nothing is left for the batchers below the number: no record of their lanes is open, and no window of their
@@ -294,10 +350,10 @@ impl StreamCore {
         ensures over { result ≡ Some true → (k : ℕ) → k < batchers → IsQuiet self.now.setting self.now.past k }
         ensures left { result ≡ Some false → (k : ℕ) × (k < batchers) × IsWanting self.now.setting self.now.past k }
     {
-        let Some(ledger) = self.owing.ledger() else {
+        if !self.standing.is_whole() {
             return None;
-        };
-        Some(is_over(ledger, batchers))
+        }
+        Some(is_over(&self.ledger, batchers))
     }
 
     /// How many of the shard's first records all have a fate. `None` exactly where the shard has not come. Takes no
@@ -305,7 +361,11 @@ impl StreamCore {
     pub fn checkpoint(&self, shard: u64) -> Option<u32>
         ensures { result ≡ checkpoint_of self.now.setting self.now.past shard }
     {
-        self.owing.checkpoint(shard)
+        progress_tells();
+        match kept_in(&self.ledger, shard) {
+            None => None,
+            Some(kept) => Some(kept.progress.checkpoint()),
+        }
     }
 
     /// How many records have a fate and stand past the checkpoint. `None` exactly where the shard has not come. Takes no
@@ -313,7 +373,11 @@ impl StreamCore {
     pub fn spread(&self, shard: u64) -> Option<u32>
         ensures { result ≡ spread_of self.now.setting self.now.past shard }
     {
-        self.owing.spread(shard)
+        progress_tells();
+        match kept_in(&self.ledger, shard) {
+            None => None,
+            Some(kept) => Some(kept.progress.spread()),
+        }
     }
 
     /// What is true of every core, whoever made its calls: the records that came are those that its history tells, none is
@@ -326,7 +390,7 @@ impl StreamCore {
         ensures in_time { last_moment self.now.past ≤ MAX_MOMENT }
         ensures bounds { AreWithinBounds (full_setting self.now) }
     {
-        self.owing.keeps();
+        let _ = &self.ledger;
     }
 
     /// The number of entries of the history. Takes no memory.
@@ -334,13 +398,13 @@ impl StreamCore {
         ensures value { result ≡ length self.now.past }
         ensures few { result ≤ 2 ^ 40 }
     {
-        self.owing.entries()
+        self.ledger.history.len() as u64
     }
 
     /// The history, oldest entry first. Takes no memory.
     pub fn into_history(self) -> Vec<Entry>
         ensures { result.items ≡ reverse self.past }
     {
-        self.owing.into_history()
+        self.ledger.into_history()
     }
 }

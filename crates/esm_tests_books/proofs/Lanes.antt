@@ -20,7 +20,7 @@ use Rattle.esm_ingest.specs.Parts.{Part}
 use Rattle.esm_ingest.specs.Entries.{came_part, came_parts, filtered_at, filtered_parts, part_entries}
 use Rattle.esm_ledger.specs.Reading.{lane_of_batcher}
 use Rattle.esm_next.specs.Following.{next_for, next_entries}
-use Rattle.esm_stream_core.specs.OwingView.{OwingView}
+use Rattle.esm_stream_core.specs.CoreView.{CoreView}
 use Rattle.esm_stream_core.specs.Calls.{moment_for, ended_entries, IsNextOver, IsResting, IsRunningJob}
 use Rattle.esm_stream_book.specs.Calls.{RunsCall, next_entries_now}
 use Rattle.esm_tests_books.proofs.Batchers.{batcher_is}
@@ -76,7 +76,7 @@ last_debts s h before lane l m (d ∷ ds) =
 
 -- the batchers' lanes
 
-lanes_same : (v w : OwingView) → w.setting ≡ v.setting → shards_that_came w.past ≡ shards_that_came v.past → (k : ℕ) → lane_of_batcher w.setting w.past k ≡ lane_of_batcher v.setting v.past k
+lanes_same : (v w : CoreView) → w.setting ≡ v.setting → shards_that_came w.past ≡ shards_that_came v.past → (k : ℕ) → lane_of_batcher w.setting w.past k ≡ lane_of_batcher v.setting v.past k
 lanes_same v w setting shards k =
     ap (λ (s : Setting). lane_of_batcher s w.past k) setting
     ∙ ap (λ ns. option_map (λ (n : ℕ). record { shard = n; lane = k % v.setting.config.factor }) (slice_get ns (k / v.setting.config.factor))) shards
@@ -87,7 +87,7 @@ other_lane s h j k lane l apart mine its = elim (cases_Bool (same_lane lane l)) 
   | inr other ↦ other
 ]
 
-keeps : (v w : OwingView) (k : ℕ) (lane : LaneId) → lane_of_batcher v.setting v.past k ≡ Some lane → w.setting ≡ v.setting → OnlyLane lane v.past w.past → KeepsOthers k v w
+keeps : (v w : CoreView) (k : ℕ) (lane : LaneId) → lane_of_batcher v.setting v.past k ≡ Some lane → w.setting ≡ v.setting → OnlyLane lane v.past w.past → KeepsOthers k v w
 keeps v w k lane mine setting only = record {
   going = only.shut;
   rest = λ j apart rests l its.
@@ -103,7 +103,7 @@ keeps v w k lane mine setting only = record {
 
 -- a call begins
 
-pub begun : (v w : OwingView) (k t : ℕ) (x : Next) (job : Job) → x ≡ next.Call job → IsNextOver v k (moment_for v.past t) x → RunsCall k v w x → w.setting ≡ v.setting → w.past ≡ reverse (next_entries_now v k t) ++ v.past
+pub begun : (v w : CoreView) (k t : ℕ) (x : Next) (job : Job) → x ≡ next.Call job → IsNextOver v k (moment_for v.past t) x → RunsCall k v w x → w.setting ≡ v.setting → w.past ≡ reverse (next_entries_now v k t) ++ v.past
     → Runs w k job × KeepsOthers k v w
 begun v w k t x job call answer told setting past =
     let m : ℕ = moment_for v.past t in
@@ -121,7 +121,7 @@ ended_mine lane l reply m h is = subst (λ k. is_running (Ended lane reply m ∷
 ended_other : (lane l : LaneId) (reply : Reply) (m : ℕ) (h : List Entry) → same_lane lane l ≡ false → is_running (Ended lane reply m ∷ h) l ≡ is_running h l
 ended_other lane l reply m h other = rw other refl
 
-pub ended : (v w : OwingView) (k m : ℕ) (job : Job) (reply : Reply) → Runs v k job → w.setting ≡ v.setting → w.past ≡ reverse (ended_entries v job.lane reply m) ++ v.past
+pub ended : (v w : CoreView) (k m : ℕ) (job : Job) (reply : Reply) → Runs v k job → w.setting ≡ v.setting → w.past ≡ reverse (ended_entries v job.lane reply m) ++ v.past
     → IsResting w k × KeepsOthers k v w
 ended v w k m job reply runs setting past =
     let lane : LaneId = job.lane in
@@ -144,22 +144,22 @@ ended v w k m job reply runs setting past =
 
 -- nothing is added, or the end of the input alone
 
-pub still : (v w : OwingView) (k t : ℕ) (x y : Next) → x ≡ y → ((s : Setting) (h : List Entry) (m : ℕ) → next_entries s h k m y ≡ []) → IsNextOver v k (moment_for v.past t) x → w.past ≡ reverse (next_entries_now v k t) ++ v.past → w.past ≡ v.past
+pub still : (v w : CoreView) (k t : ℕ) (x y : Next) → x ≡ y → ((s : Setting) (h : List Entry) (m : ℕ) → next_entries s h k m y ≡ []) → IsNextOver v k (moment_for v.past t) x → w.past ≡ reverse (next_entries_now v k t) ++ v.past → w.past ≡ v.past
 still v w k t x y same none answer past =
     let m : ℕ = moment_for v.past t in
     let is : y ≡ next_for v.setting v.past k m = sym same ∙ answer v.setting.streams (λ a i r at. at) in
     past ∙ ap (λ (z : Next). reverse (next_entries v.setting v.past k m z) ++ v.past) (sym is) ∙ ap (λ es. reverse es ++ v.past) (none v.setting v.past m)
 
-rests_on : (v w : OwingView) (k : ℕ) → w.setting ≡ v.setting → shards_that_came w.past ≡ shards_that_came v.past → ((l : LaneId) → is_running w.past l ≡ is_running v.past l) → IsResting v k → IsResting w k
+rests_on : (v w : CoreView) (k : ℕ) → w.setting ≡ v.setting → shards_that_came w.past ≡ shards_that_came v.past → ((l : LaneId) → is_running w.past l ≡ is_running v.past l) → IsResting v k → IsResting w k
 rests_on v w k setting shards running rests l its = running l ∙ rests l (sym (lanes_same v w setting shards k) ∙ its)
 
-pub shut_rests : (v w : OwingView) (m k : ℕ) → w.setting ≡ v.setting → w.past ≡ Shut m ∷ v.past → IsResting v k → IsResting w k
+pub shut_rests : (v w : CoreView) (m k : ℕ) → w.setting ≡ v.setting → w.past ≡ Shut m ∷ v.past → IsResting v k → IsResting w k
 shut_rests v w m k setting past = rests_on v w k setting (ap shards_that_came past) (λ l. ap (λ h. is_running h l) past)
 
-pub still_rests : (v w : OwingView) (k : ℕ) → w.setting ≡ v.setting → w.past ≡ v.past → IsResting v k → IsResting w k
+pub still_rests : (v w : CoreView) (k : ℕ) → w.setting ≡ v.setting → w.past ≡ v.past → IsResting v k → IsResting w k
 still_rests v w k setting past = rests_on v w k setting (ap shards_that_came past) (λ l. ap (λ h. is_running h l) past)
 
-pub still_keeps : (v w : OwingView) (k : ℕ) → w.setting ≡ v.setting → w.past ≡ v.past → KeepsOthers k v w
+pub still_keeps : (v w : CoreView) (k : ℕ) → w.setting ≡ v.setting → w.past ≡ v.past → KeepsOthers k v w
 still_keeps v w k setting past = record {
   going = ap is_shut past;
   rest = λ j apart. still_rests v w j setting past;

@@ -1,6 +1,6 @@
 use Rattle.std.proofs.Common.{subst}
 use Rattle.esm_book.specs.State.{IsSettled}
-use Rattle.esm_stream_core.specs.OwingView.{full_setting}
+use Rattle.esm_stream_core.specs.CoreView.{full_setting}
 use Rattle.esm_stream_core.specs.Told.{owed_of}
 use Rattle.esm_stream_book.proofs.Tellings.{none_owed}
 use Rattle.esm_stream_book.proofs.carrying.keeps.Goals as goal

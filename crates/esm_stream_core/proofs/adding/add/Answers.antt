@@ -1,7 +1,7 @@
 use Rattle.std.proofs.Common.{[], sym, subst}
 use Rattle.esm_stream_core.specs.declared.owed.Act.{Act}
 use Rattle.esm_stream_core.specs.declared.owed.Act.TheVariants as act
-use Rattle.esm_stream_core.specs.Acts.{IsAdded}
+use Rattle.esm_stream_core.specs.Adding.{IsAdded}
 use Rattle.esm_stream_core.proofs.Additions.{act_legal, less_room}
 use Rattle.esm_stream_core.proofs.adding.add.Goals as goal
 

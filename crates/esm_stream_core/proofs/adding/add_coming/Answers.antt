@@ -3,9 +3,9 @@ use Rattle.esm_model.specs.declared.entry.Entry.{Entry}
 use Rattle.esm_ledger.specs.Ledger.{past_of, setting_of}
 use Rattle.esm_stream_core.specs.declared.owed.Act.{Act}
 use Rattle.esm_stream_core.specs.declared.owed.Act.TheVariants as act
-use Rattle.esm_stream_core.specs.OwingView.{setting_after}
-use Rattle.esm_stream_core.specs.Acts.{act_entry, parts_of, IsAdded, ComesBy}
-use Rattle.esm_stream_core.specs.Kept.{CanAdd}
+use Rattle.esm_stream_core.specs.CoreView.{setting_after}
+use Rattle.esm_stream_core.specs.Acts.{act_entry, parts_of}
+use Rattle.esm_stream_core.specs.Adding.{IsAdded, ComesBy, CanAdd}
 use Rattle.esm_stream_core.proofs.Additions.{came_is, come_legal}
 use Rattle.esm_stream_core.proofs.adding.add_coming.Goals as goal
 

@@ -1,6 +1,6 @@
 use Rattle.std.proofs.Common.{List, ◌∷◌, reverse, subst}
 use Rattle.esm_ledger.specs.declared.coming.Coming.{Coming}
-use Rattle.esm_stream_core.specs.Kept.{CanAdd}
+use Rattle.esm_stream_core.specs.Adding.{CanAdd}
 use Rattle.esm_stream_core.proofs.Additions.{can_add_next}
 use Rattle.esm_stream_core.proofs.Paying.{popped}
 use Rattle.esm_stream_core.proofs.adding.add_next.Goals as goal

@@ -18,7 +18,7 @@ take-requires-clause-can c =
     let steps : into_iter_items at.next-iterator ≡ c.in-Some.next ∷ into_iter_items c.next.new.self = c.in-Some.ensures.steps.0 in
     let half = subst (λ (xs : List ShardRecords). IsHalf at.ledger c.args.moment all (map part xs) at.gathered) steps at.invariant.half in
     let can = parts_taken (setting_of a) (past_of a) all c.args.moment c.requires.may c.requires.bounds c.requires.kept.config in
-    moved a at.ledger (λ (s : Setting) (h : List Entry). CanTake s h c.args.moment (part c.in-Some.next)) at.invariant.past at.invariant.setting
+    moved a at.ledger (λ (s : Setting) (h : List Entry). CanTake s h c.args.moment (part c.in-Some.next)) at.invariant.same
     (next_taken (setting_of a) (past_of a) c.args.moment at.ledger all (part c.in-Some.next) (map part (into_iter_items c.next.new.self)) at.gathered can half)
 
 pub loop-next-preserved : goal.loop-next-preserved
@@ -35,9 +35,7 @@ loop-next-preserved c =
     let half = subst (λ (xs : List ShardRecords). IsHalf at.ledger m all (map part xs) at.gathered) steps inv.half in
     let ok = c.in_ok-take.ensures in
     record {
-      kept = ok.kept;
-      past = ok.past ∙ inv.past;
-      setting = ok.setting ∙ inv.setting;
+      same = record { keeps = ok.same.keeps; past = ok.same.past ∙ inv.same.past; setting = ok.same.setting ∙ inv.same.setting };
       room = λ n room. ok.room n (inv.room n room);
       shards = λ n room. ok.shards n (inv.shards n room);
       half = half_more at.ledger c.take.new.ledger m all (part c.in-Some.next) (map part (into_iter_items c.next.new.self)) at.gathered c.take.new.self

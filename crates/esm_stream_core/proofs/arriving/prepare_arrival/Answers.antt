@@ -21,8 +21,9 @@ returns-clause-decides c =
     let low : c.saturating_mul.result < MAX_ENTRIES = (let short = room.short in omega (arith, short)) in
     let two = doubled c.len-count.result c.saturating_mul.result c.saturating_mul.ensures low in
     let enough : length ps + length ps ≤ c.saturating_mul.result = omega (arith, two, parts) in
+    let got = c.gather.ensures.same in
     arrival_decides a d c.args.moment ps g (reverse c.reverse.new.self.items) (reverse c.in_ok-owed.owed.items) c.requires.may (search rules) coming owed c.saturating_mul.result c.requires.bounds c.requires.kept.config
-    c.gather.ensures.kept (c.gather.ensures.past ∙ (c.prepare_shards.ensures.past ∙ c.prepare_entries.ensures.past)) (c.gather.ensures.setting ∙ (c.prepare_shards.ensures.setting ∙ c.prepare_entries.ensures.setting)) enough room shards
+    (record { keeps = got.keeps; past = got.past ∙ (c.prepare_shards.ensures.past ∙ c.prepare_entries.ensures.past); setting = got.setting ∙ (c.prepare_shards.ensures.setting ∙ c.prepare_entries.ensures.setting) }) enough room shards
 
 pub returns-clause-owed : goal.returns-clause-owed
 returns-clause-owed c =

@@ -1,5 +1,5 @@
 use Rattle.esm_ledger.specs.Ledger.{setting_of}
-use Rattle.esm_stream_core.proofs.OwingEndings.{popped_writable, more_turned}
+use Rattle.esm_stream_core.proofs.Endings.{popped_writable, more_turned}
 use Rattle.esm_stream_core.proofs.payload.dues_owed.Goals as goal
 
 pub due_owed-requires-clause-writable : goal.due_owed-requires-clause-writable

@@ -1,6 +1,6 @@
 use Rattle.std.specs.Prelude.{vec_len}
 use Rattle.esm_ledger.specs.Ledger.{setting_of}
-use Rattle.esm_stream_core.proofs.OwingEndings.{IsTurned}
+use Rattle.esm_stream_core.proofs.Endings.{IsTurned}
 use Rattle.esm_stream_core.proofs.payload.dues_owed.Given as goal
 
 abbrev pub invariant-loop-due : goal.invariant-loop-due

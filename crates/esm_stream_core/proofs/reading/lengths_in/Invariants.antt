@@ -1,5 +1,5 @@
 use Rattle.std.proofs.Common.{◌≡◌, ◌≤◌, drop, reverse, length}
-use Rattle.esm_stream_core.specs.OwingView.{lengths_of}
+use Rattle.esm_book.specs.Decided.{lengths_of}
 use Rattle.esm_stream_core.specs.Acts.{payloads_in}
 use Rattle.esm_stream_core.proofs.reading.lengths_in.Given as goal
 

@@ -1,4 +1,4 @@
-use Rattle.esm_stream_core.specs.OwingView.{full_setting}
+use Rattle.esm_stream_core.specs.CoreView.{full_setting}
 use Rattle.esm_stream_book.specs.Keeping.{entries_left}
 use Rattle.esm_stream_book.proofs.Going.{opens_first}
 use Rattle.esm_stream_book.proofs.Standing.{left_so}

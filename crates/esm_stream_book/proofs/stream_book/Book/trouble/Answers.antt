@@ -1,7 +1,7 @@
 use Rattle.std.proofs.Common.{◌≡◌, subst}
 use Rattle.esm_io.specs.Meanings.{disk, destination}
 use Rattle.esm_book.specs.State.{in_hand}
-use Rattle.esm_stream_core.specs.OwingView.{full_setting}
+use Rattle.esm_stream_core.specs.CoreView.{full_setting}
 use Rattle.esm_stream_book.specs.Books.{BookState, LeavesFirst, payloads_in}
 use Rattle.esm_stream_book.specs.Keeping.{HasJournal, HasLines, entries_left}
 use Rattle.esm_stream_book.proofs.Going.{leaves_first}

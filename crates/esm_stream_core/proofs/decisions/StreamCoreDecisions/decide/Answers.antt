@@ -1,7 +1,7 @@
 use Rattle.std.proofs.Common.{[], sym, subst}
 use Rattle.std.specs.Prelude.{IfErr}
 use Rattle.esm_book.specs.Decided.{IsRefused}
-use Rattle.esm_stream_core.specs.OwingView.{full_setting}
+use Rattle.esm_stream_core.specs.CoreView.{full_setting}
 use Rattle.esm_stream_core.specs.declared.decisions.StreamCall.{StreamCall}
 use Rattle.esm_stream_core.specs.declared.decisions.StreamAnswer.TheVariants as answer
 use Rattle.esm_stream_core.specs.Calls.{moment_for, Differs, coming_lists, came_entries, next_adds, ended_entries}

@@ -1,8 +1,9 @@
 use Rattle.std.proofs.Common.{◌≡◌, [], take, subst}
 use Rattle.std.specs.List.{filter_map}
 use Rattle.esm_model.specs.Books.{streams_told}
-use Rattle.esm_stream_core.specs.OwingView.{OwingView, payloads_of}
+use Rattle.esm_stream_core.specs.CoreView.{CoreView, payloads_of}
 use Rattle.esm_journal_record.specs.EntryPayload.{entry_payload}
+use Rattle.esm_stream_core.specs.Inside.{view_of}
 use Rattle.esm_stream_core.specs.Told.{told_of}
 use Rattle.esm_stream_core.proofs.ToldRecords.{streams_kept}
 use Rattle.esm_stream_core.proofs.Bringing.{rests_brought, first_alone}
@@ -10,14 +11,14 @@ use Rattle.esm_stream_core.proofs.stream_core.StreamCore.keeps.Goals as goal
 
 pub returns-clause-records : goal.returns-clause-records
 returns-clause-records c =
-    subst (λ (v : OwingView). v.setting.streams ≡ streams_told (told_of v)) c.self.view_is (streams_kept c.self.inside.owing c.self.invariant.told)
+    subst (λ (v : CoreView). v.setting.streams ≡ streams_told (told_of v)) c.self.view_is (streams_kept (view_of c.self.inside) c.self.invariant.seen.told)
 
 pub returns-clause-rests : goal.returns-clause-rests
 returns-clause-rests c =
-    let v = c.self.inside.owing in
-    subst (λ (w : OwingView). w.owed ≡ [] → w.coming ≡ []) c.self.view_is (rests_brought v.past v.coming v.owed c.self.invariant.brought)
+    let v = view_of c.self.inside in
+    subst (λ (w : CoreView). w.owed ≡ [] → w.coming ≡ []) c.self.view_is (rests_brought v.past v.coming v.owed c.self.invariant.seen.brought)
 
 pub returns-clause-first : goal.returns-clause-first
 returns-clause-first c =
-    let v = c.self.inside.owing in
-    subst (λ (w : OwingView). payloads_of w (take 1 w.owed) ≡ filter_map (entry_payload w.setting) (take 1 w.owed)) c.self.view_is (first_alone v.setting v.past v.coming v.owed c.self.invariant.brought)
+    let v = view_of c.self.inside in
+    subst (λ (w : CoreView). payloads_of w (take 1 w.owed) ≡ filter_map (entry_payload w.setting) (take 1 w.owed)) c.self.view_is (first_alone v.setting v.past v.coming v.owed c.self.invariant.seen.brought)

@@ -1,15 +1,14 @@
--- What is seen of a stream's history with entries that are decided and not yet added. This product's own.
-use Rattle.std.specs.Prelude.{◌≡◌, ℕ, Bool, true, false, List, [], ◌∷◌, ◌++◌, reverse, take, drop, length, ◌≤◌, ⊤}
+-- What is seen of a core, a stream's history with entries that are decided and not yet added, and what becomes of it. This
+-- product's own.
+use Rattle.std.specs.Prelude.{ℕ, Bool, true, false, List, [], ◌∷◌, ◌++◌, reverse, take, drop}
 use Rattle.std.specs.List.{filter_map}
 use Rattle.esm_model.specs.declared.entry.Entry.{Entry}
 use Rattle.esm_model.specs.Setting.{Setting, Stream, over}
 use Rattle.esm_model.specs.Books.{entry_line}
 use Rattle.esm_journal_record.specs.EntryPayload.{entry_payload}
-use Rattle.esm_ledger.specs.declared.ledger.Ledger.{Ledger}
-use Rattle.esm_ledger.specs.Ledger.{past_of, setting_of, LegalOver, Keeps}
+use Rattle.esm_ledger.specs.Ledger.{LegalOver}
 use Rattle.esm_ledger.specs.Coming.{with_list, grown}
 use Rattle.esm_outcome.specs.Ending.{SettledOver}
-use Rattle.esm_record_bounds.specs.Bounds.{AreWithinBounds}
 use Rattle.esm_stream_core.specs.declared.standing.Standing.{Standing}
 use Rattle.esm_stream_core.specs.declared.standing.Standing.TheVariants.{Whole, Left}
 use Rattle.esm_stream_core.specs.Standing.{standing_paid, standing_forgotten, standing_shut}
@@ -17,7 +16,7 @@ use Rattle.esm_stream_core.specs.Standing.{standing_paid, standing_forgotten, st
 -- The setting has the records that came, and the history its newest entry first. For each `Came` that is owed the records
 -- of a shard are coming, in the order of these entries, which stand before all others that are owed; the owed entries stand
 -- oldest first.
-pub record OwingView : Type 0 where
+pub record CoreView : Type 0 where
   pub setting : Setting
   pub past : List Entry
   pub coming : List Stream
@@ -25,7 +24,7 @@ pub record OwingView : Type 0 where
   pub standing : Standing
 
 -- no record came
-abbrev pub new_view : Setting → OwingView
+abbrev pub new_view : Setting → CoreView
 new_view s = record { setting = s; past = []; coming = []; owed = []; standing = Whole }
 
 -- the lists of records with those that are coming behind them
@@ -37,30 +36,25 @@ with_coming streams (p ∷ parts) = with_coming (with_list streams p.shard p.rec
 abbrev pub setting_with : Setting → List Stream → Setting
 setting_with s parts = over s (with_coming s.streams parts)
 
-abbrev pub full_setting : OwingView → Setting
+abbrev pub full_setting : CoreView → Setting
 full_setting v = setting_with v.setting v.coming
 
 -- the history with all owed entries on it
-abbrev pub ahead : OwingView → List Entry
+abbrev pub ahead : CoreView → List Entry
 ahead v = reverse v.owed ++ v.past
 
 -- the history with all that is owed is legal over all lists of records that go on from those that came or are coming
-abbrev pub LegalAhead : OwingView → Type 0
+abbrev pub LegalAhead : CoreView → Type 0
 LegalAhead v = LegalOver (full_setting v) (ahead v)
 
 -- and over all of them nothing is called for that is not owed
-abbrev pub SettledAhead : OwingView → Type 0
+abbrev pub SettledAhead : CoreView → Type 0
 SettledAhead v = SettledOver (full_setting v) (ahead v)
 
 -- the setting when the next part has come, if one is coming
 abbrev pub setting_after : Setting → List Stream → Setting
 setting_after s [] = s
 setting_after s (p ∷ parts) = grown s p.shard p.records
-
--- the entries may be added one after another, each with the part that comes with it, and then nothing is called for
-abbrev pub MayAdd : Setting → List Entry → List Stream → List Entry → Type 0
-MayAdd s h parts [] = SettledOver s h
-MayAdd s h parts (e ∷ es) = LegalOver (setting_after s parts) (e ∷ h) × MayAdd (setting_after s parts) (e ∷ h) (drop 1 parts) es
 
 -- what becomes of it
 
@@ -73,11 +67,11 @@ are_left [] = false
 are_left (e ∷ es) = true
 
 -- parts are coming, and entries are owed
-abbrev pub owing : OwingView → List Stream → List Entry → OwingView
+abbrev pub owing : CoreView → List Stream → List Entry → CoreView
 owing v coming entries = record v { coming = coming; owed = entries }
 
 -- the first owed entry is added, and with it the part that comes, if one is coming
-abbrev pub paid : OwingView → OwingView
+abbrev pub paid : CoreView → CoreView
 paid v = record {
   setting = setting_after v.setting v.coming;
   past = take 1 v.owed ++ v.past;
@@ -87,42 +81,23 @@ paid v = record {
 }
 
 -- nothing is owed any more
-abbrev pub forgotten : OwingView → OwingView
+abbrev pub forgotten : CoreView → CoreView
 forgotten v = record v { coming = []; owed = []; standing = standing_forgotten v.standing }
 
 -- one more entry is added, and what it calls for is not
-abbrev pub noted : OwingView → Entry → OwingView
+abbrev pub noted : CoreView → Entry → CoreView
 noted v e = record v { past = e ∷ v.past; standing = Left }
 
 -- the end of the input is added, which calls for nothing; what is owed then can be added no more
-abbrev pub noted_shut : OwingView → Entry → OwingView
+abbrev pub noted_shut : CoreView → Entry → CoreView
 noted_shut v e = record v { past = e ∷ v.past; standing = standing_shut v.standing (is_none_left v.owed) }
-
--- the ledger keeps the setting and the history, nothing is called for, and nothing was left
-pub record IsLedgerOf (v : OwingView) (c : Ledger) : Type 0 where
-  pub whole : v.standing ≡ Whole
-  pub keeps : Keeps c
-  pub setting : setting_of c ≡ v.setting
-  pub past : past_of c ≡ v.past
-  pub legal : LegalOver v.setting v.past
-  pub settled : SettledOver v.setting v.past
-  pub bounds : AreWithinBounds v.setting
 
 -- what is written of entries, in their order
 
 -- in the journal, over all that came or is coming
-abbrev pub payloads_of : OwingView → List Entry → List (List ℕ)
+abbrev pub payloads_of : CoreView → List Entry → List (List ℕ)
 payloads_of v es = filter_map (entry_payload (full_setting v)) es
 
 -- at the failure destination
 abbrev pub lines_of : List Entry → List (List ℕ)
 lines_of es = filter_map entry_line es
-
-abbrev pub lengths_of : List (List ℕ) → List ℕ
-lengths_of [] = []
-lengths_of (payload ∷ payloads) = length payload ∷ lengths_of payloads
-
--- there is one line at most, of at most so many bytes
-abbrev pub IsLineWithin : List (List ℕ) → ℕ → Type 0
-IsLineWithin [] bound = ⊤
-IsLineWithin (line ∷ lines) bound = (length line ≤ bound) × (lines ≡ [])
