@@ -60,7 +60,7 @@ module _ (items : List Told → ℕ → List Item) (differs : Setup → List Tol
       subst (λ u. differs u x list other) same_setup (changed other (ap (λ (z : Change). Err (refusal.StreamChanged z)) the_same)))
   stop_as (Err refusal.DiskFault) same_setup goes same is is_mark tells down changed = down_as refusal.DiskFault (λ e. absurd (let h = e in cc)) goes same is is_mark down (λ other is_other. absurd (let h = tells in let i = is_other in cc))
   stop_as (Err refusal.Down) same_setup goes same is is_mark tells down changed = down_as refusal.Down (λ e. absurd (let h = e in cc)) goes same is is_mark down (λ other is_other. absurd (let h = tells in let i = is_other in cc))
-  stop_as (Err refusal.OutOfMemory) same_setup goes same is is_mark tells down changed = tt
+  stop_as (Err refusal.OutOfMemory) same_setup goes same is is_mark tells down changed = tells
 
 pub err_stop : (items : List Told → ℕ → List Item) (differs : Setup → List Told → List Item → Change → Type 0) (setup setup' : Setup) (x y seen now : List Told) (list : List Item) (marked mark : Bool) (before told told' : Option Change)
     (r : Result (Unit {0}) CameError) (q : Result (Unit {0}) Stop) → q ≡ stop_of r → setup ≡ setup' → y ≡ x ++ added x y → ((n : ℕ) → items x n ≡ items seen n) → now ≡ y → mark ≡ marked
@@ -149,7 +149,7 @@ module _ (items : List Told → ℕ → List Item) (differs : Setup → List Tol
     },
   )
   handing_stop Spent stop = stop
-  handing_stop OutOfMemory stop = tt
+  handing_stop OutOfMemory stop = stop
 
   pub handing_stop_if : (r : Result (Unit {0}) Stop) → IfErr r (IsStopFor items differs setup mid list now mark told) → IfErr r (IsStopFor items differs setup seen all now mark told)
   handing_stop_if (Ok u) stop = tt

@@ -58,7 +58,7 @@ module _ {S : Type 0} (author : Setup → List Told → Told → ℕ) (may : Set
   change_of long change is = change_as items differs setup was.seen h after change (was.rest, sym was.whole) (was.did.changed (was.long long) change is)
 
   cut_seen : (b : Bool) → was.was_short ≡ b → IsCut left after (items was.seen)
-  cut_seen true is = was.did.cut is
+  cut_seen true is = (was.did.cut is).1
   cut_seen false is = cut_coming faults left after (items was.seen) (was.did.read is) (was.did.some is)
 
   pub cut_of : IsCut left after (items h)

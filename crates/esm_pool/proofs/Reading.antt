@@ -79,7 +79,7 @@ module _ {S : Type 0} (left : S → Option (List ℕ)) (items : List Told → �
     },
   )
   come_stop i j seen new list marked told Spent is come short stop = absurd stop
-  come_stop i j seen new list marked told OutOfMemory is come short stop = short
+  come_stop i j seen new list marked told OutOfMemory is come short stop = (stop, short)
 
   -- while more was awaited
   pub wait_stop : (i : InputState S) (seen : List Told) (marked : Bool) (told : Option Change) (t : Stop)

@@ -52,11 +52,13 @@ module _ {S : Type 0} (left : S → Option (List ℕ)) (items : List Told → �
   changed_so (Err Spent) other none stop is begins change is_change = absurd (let h = stop.0 in let j = is in let k = is_change in cc)
   changed_so (Err OutOfMemory) other none stop is begins change is_change = absurd (other refl)
 
-  pub cut_so : (r : Result (Unit {0}) Stop) → IsErrOf r OutOfMemory → IfErr r (IsStopOf left items differs spent setup i seen marked told) → IsCut left i (items new)
-  cut_so (Ok u) short stop = absurd (let h = short in cc)
-  cut_so (Err t) short stop =
+  pub cut_so : (r : Result (Unit {0}) Stop) → IsErrOf r OutOfMemory → IfErr r (IsStopOf left items differs spent setup i seen marked told)
+      → told' ≡ told → (told' ≡ None) × IsCut left i (items new)
+  cut_so (Ok u) short stop told_is = absurd (let h = short in cc)
+  cut_so (Err t) short stop told_is =
       let is : t ≡ OutOfMemory = (let h = short in cc) in
-      cut_as (items seen) (items new) same left i (subst (IsStopOf left items differs spent setup i seen marked told) is stop)
+      let both : (told ≡ None) × IsCut left i (items seen) = subst (IsStopOf left items differs spent setup i seen marked told) is stop in
+      (told_is ∙ both.0, cut_as (items seen) (items new) same left i both.1)
 
 pub on_ok : {A E : Type 0} (r : Result A E) (P Q : Type 0) → (P → Q) → OnOk r P → OnOk r Q
 on_ok (Ok a) P Q step holds = step holds

@@ -41,11 +41,11 @@ stop_of (Err refusal.Down) = Err Down
 stop_of (Err refusal.OutOfMemory) = Err OutOfMemory
 
 -- Why the reader hands on no more of the list: the book is down, and a change that it was told is of one of its items; or
--- memory was wanting.
+-- memory was wanting, and it was told none.
 abbrev pub IsStopFor : (items : List Told → ℕ → List Item) (differs : Setup → List Told → List Item → Change → Type 0) → Setup → (seen : List Told) → List Item → (now : List Told) → (marked : Bool) → (told : Option Change) → Stop → Type 0
 IsStopFor items differs setup seen list now marked told Down = (marked ≡ true) × ((change : Change) → told ≡ Some change → IsNextChange items differs setup seen list now change)
 IsStopFor items differs setup seen list now marked told Spent = ⊥
-IsStopFor items differs setup seen list now marked told OutOfMemory = Unit {0}
+IsStopFor items differs setup seen list now marked told OutOfMemory = told ≡ None
 
 -- why the reader that waits for more hands on no more: the book is down, or all calls allowed were made
 abbrev pub IsStopAt : (spent : Setup → List Told → Type 0) → Setup → (seen : List Told) → (marked : Bool) → Stop → Type 0
@@ -65,11 +65,11 @@ pub record HasLeft {S : Type 0} (left : S → Option (List ℕ)) (items : List T
   pub untold : left i.source ≡ None
 
 -- Why reading stopped: the book is down, and a change that it was told is of one of the items that were handed out; all calls
--- allowed were made; or memory was wanting.
+-- allowed were made; or memory was wanting, and it was told no change.
 abbrev pub IsStopOf : {S : Type 0} → (left : S → Option (List ℕ)) → (items : List Told → ℕ → List Item) (differs : Setup → List Told → List Item → Change → Type 0) (spent : Setup → List Told → Type 0) → Setup → InputState S → (seen : List Told) → (marked : Bool) → (told : Option Change) → Stop → Type 0
 IsStopOf left items differs spent setup i seen marked told Down = (marked ≡ true) × ((change : Change) → told ≡ Some change → IsChangeOf items differs setup seen i change)
 IsStopOf left items differs spent setup i seen marked told Spent = (told ≡ None) × HasLeft left items spent setup i seen
-IsStopOf left items differs spent setup i seen marked told OutOfMemory = IsCut left i (items seen)
+IsStopOf left items differs spent setup i seen marked told OutOfMemory = (told ≡ None) × IsCut left i (items seen)
 
 -- it was left before its end, since all calls allowed were made
 pub record IsReadInPart {S : Type 0} (left : S → Option (List ℕ)) (items : List Told → ℕ → List Item) (spent : Setup → List Told → Type 0) (setup : Setup) (i : InputState S) (seen : List Told) : Type 0 where
@@ -85,4 +85,4 @@ pub record HasRead {S : Type 0} (faults : S → ℕ) (left : S → Option (List 
   pub some : short ≡ false → AreSomeCome (items seen) (handed after)
   pub whole : short ≡ false → marked ≡ false → AllCame after (items seen) seen ⊎ IsReadInPart left items spent setup after seen
   pub changed : short ≡ false → (change : Change) → told ≡ Some change → IsChangeOf items differs setup seen after change
-  pub cut : short ≡ true → IsCut left after (items seen)
+  pub cut : short ≡ true → (told ≡ None) × IsCut left after (items seen)

@@ -18,7 +18,7 @@ use esm_workers::Reading;
 use std::alloc::Global;
 use std::sync::Wait;
 
-/// How long the reader waits for more of the input before it looks whether it goes on, in milliseconds. This product's own.
+/// How long the reader waits for more of the input before it looks again whether it goes on, in milliseconds. This product's own.
 const PATIENCE: u64 = 1_000;
 
 /// What reads a book's input.
@@ -34,7 +34,8 @@ fn stands<S: Source>(input: &Input<S>)
     let _end = input.end();
 }
 
-/// Reads the input to its end and hands its items on, piece by piece. While more is awaited it looks whether it goes on.
+/// Reads the input to its end and hands its items on, piece by piece. Where no more of it is there it looks whether it goes on,
+/// and then waits for a second at most: so it looks between pieces, and once a second while none comes.
 fn read_on<R: Wait, B: Pooled, S: Source, C: Clock>(
     rt: &R,
     alloc: Global,
@@ -70,13 +71,14 @@ fn read_on<R: Wait, B: Pooled, S: Source, C: Clock>(
         if input.end().is_some() {
             return Ok(());
         }
-        if input.is_ready(PATIENCE) {
+        if input.is_ready(0) {
             let items = input.read(alloc)?;
             stands(input);
             hand_on(rt, alloc, turn, seat, items, clock)?;
         } else {
             stands(input);
             look(rt, turn, seat, clock)?;
+            let _more = input.is_ready(PATIENCE);
         }
     }
     unreachable!()

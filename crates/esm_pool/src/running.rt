@@ -50,6 +50,7 @@ fn end_of<B: Pooled>(book: &B, batchers: u32, left_off: bool) -> Result<RunEnd, 
     ensures spent { result ≡ Ok RunEnd.Spent → (B.mark book.now ≡ false) ×
         (HasLeftOne B.left (B.setup book.now) (B.history book.now) batchers ⊎ (left_off ≡ true)) }
     ensures down { result ≡ Ok RunEnd.Down → B.mark book.now ≡ true }
+    ensures short { OnErr result ((B.mark book.now ≡ false) × (left_off ≡ false)) }
 {
     if book.marked() {
         return Ok(RunEnd::Down);

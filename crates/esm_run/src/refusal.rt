@@ -1,6 +1,7 @@
 // Why a run refused its lines, files or mapping, as the ending that its report tells.
 ghost use Rattle.std.specs.Prelude.{◌≡◌, ◌++◌, Some, IfOk, OnErr};
 ghost use Rattle.esm_config.specs.Names.{name_of};
+ghost use Rattle.esm_input.specs.declared.ending.InputEnd.{InputEnd};
 ghost use Rattle.esm_record.specs.declared.error.LineError.TheVariants.{Backwards};
 ghost use Rattle.esm_report.specs.declared.ending.Ending.TheVariants.{BadParameter};
 ghost use Rattle.esm_run.specs.Endings.{why_text, ending_of, ending_of_reading, ending_of_files, ending_of_mapping, file_of};
@@ -81,9 +82,10 @@ fn ending_of_reading(alloc: Global, end: InputEnd) -> Result<Ending, OutOfMemory
     }
 }
 
-/// The ending of a mapping's run.
+/// The ending of a mapping's run. Memory is taken for the text of a bad line alone.
 pub fn ending_of(alloc: Global, end: MappingEnd) -> Result<Ending, OutOfMemory>
-    ensures { IfOk result (λ ending. ending ≡ ending_of end) }
+    ensures told { IfOk result (λ ending. ending ≡ ending_of end) }
+    ensures memory { OnErr result ((why : InputEnd) × (end ≡ MappingEnd.Finished why)) }
 {
     match end {
         MappingEnd::Finished(why) => ending_of_reading(alloc, why),

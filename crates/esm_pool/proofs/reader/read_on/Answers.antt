@@ -26,7 +26,7 @@ loop-init g c =
 
 pub returns-in_err-items-clause-stop : goal.returns-in_err-items-clause-stop
 returns-in_err-items-clause-stop g c = err_as c.from_residual.result stop.OutOfMemory (IsStopOf g.S.Source.left g.B.Pooled.items g.B.Pooled.differs g.B.Pooled.spent c.args.turn.now.setup c.read.new.self c.loop.seat.seen c.loop.seat.mark c.loop.seat.change) c.from_residual.ensures.1
-    (cut_reading g.S.Source.faults g.S.Source.left c.loop.input c.read.new.self (g.B.Pooled.items c.loop.seat.seen) (c.end.ensures.keeps c.loop.invariant.6) c.read.ensures.kept c.read.ensures.found c.read.ensures.taken c.loop.invariant.5)
+    (c.loop.invariant.4, cut_reading g.S.Source.faults g.S.Source.left c.loop.input c.read.new.self (g.B.Pooled.items c.loop.seat.seen) (c.end.ensures.keeps c.loop.invariant.6) c.read.ensures.kept c.read.ensures.found c.read.ensures.taken c.loop.invariant.5)
 
 pub hand_on-requires-clause-within : goal.hand_on-requires-clause-within
 hand_on-requires-clause-within g c = next_fits c.handed_is_within.ensures (g.B.Pooled.items c.loop.seat.seen) c.loop.input c.read.new.self c.in_ok-items.items.items c.in_ok-items.ensures.handed c.loop.invariant.5

@@ -37,5 +37,5 @@ returns-clause-stopped g c =
       some = λ long. absurd (cc);
       whole = λ long. absurd (cc);
       changed = λ long. absurd (cc);
-      cut = λ _. cut_so g.S.Source.left items g.B.Pooled.differs g.B.Pooled.spent c.args.turn.now.setup i old.seen new.seen old.mark new.mark old.change new.change end.same c.read_on-read.result short read.stop;
+      cut = λ _. cut_so g.S.Source.left items g.B.Pooled.differs g.B.Pooled.spent c.args.turn.now.setup i old.seen new.seen old.mark new.mark old.change new.change end.same c.read_on-read.result short read.stop end.unchanged;
     }) c.memory_of.ensures.short
