@@ -1,5 +1,6 @@
 // The descriptors of the standard streams, which no file and no socket of this program works on.
-ghost use Rattle.std.specs.Prelude.{◌≡◌, IfOk, OnErr, IsSome};
+ghost use Rattle.std.specs.Prelude.{◌≡◌, None, IfOk, IfErr, OnErr, IsSome};
+ghost use Rattle.std.specs.IoError.{raw_os_error};
 ghost use Rattle.esm_host.specs.Streams.{IsOther};
 
 use std::fs::{File, OpenOptions};
@@ -40,9 +41,10 @@ pub fn above_streams<F: AsRawFd + Drop>(file: F) -> io::Result<F>
     ensures same { IfOk result (λ kept. kept ≡ file) }
     ensures above { IfOk result (λ kept. IsOther (F.raw_fd kept)) }
     ensures refused { OnErr result (IsSome (F.raw_fd file) → ¬ IsOther (F.raw_fd file)) }
+    ensures not_os { IfErr result (λ e. raw_os_error e ≡ None) }
 {
     if file.as_raw_fd() < FIRST_OTHER {
-        return Err(io::Error::from(io::ErrorKind::Other));
+        return Err(io::Error::other("a standard stream's descriptor"));
     }
     Ok(file)
 }

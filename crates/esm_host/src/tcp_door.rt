@@ -1,6 +1,8 @@
 // A port of 127.0.0.1 as a door, where connections over TCP come in.
-ghost use Rattle.std.specs.Prelude.{◌≡◌, ◌*◌, true, None, IsSome, IfNone, IfOk, OnErr};
+ghost use Rattle.std.specs.Prelude.{◌≡◌, ◌*◌, true, false, None, IsSome, IfNone, IfOk, IfErr, OnErr};
+ghost use Rattle.std.specs.IoError.{raw_os_error};
 ghost use Rattle.esm_io.specs.Faults.{IsCount, Rose};
+ghost use Rattle.esm_host.specs.Errors.{is_passing};
 ghost use Rattle.esm_host.specs.Streams.{IsOther};
 
 use crate::no_connection::is_passing;
@@ -71,9 +73,10 @@ fn listening<R: Net>(rt: &R, port: u16, listener: Option<R::Listener>) -> io::Re
 }
 
 /// Waits for a connection, for ever if none comes. Where one cannot be taken for want of a descriptor or a buffer, or was
-/// gone before it was taken, it waits a little and goes on.
+/// gone before it was taken, it waits a little and goes on: no such error is told.
 fn accept_patiently<R: Net + Clock>(rt: &R, listener: &R::Listener) -> io::Result<R::Stream>
     ensures above { IfOk result (λ stream. IsOther (R.Stream.raw_fd stream)) }
+    ensures patient { IfErr result (λ e. is_passing (raw_os_error e) ≡ false) }
 {
     let mut pause = FIRST_PAUSE;
     for _ in 0..u64::MAX {
@@ -84,7 +87,7 @@ fn accept_patiently<R: Net + Clock>(rt: &R, listener: &R::Listener) -> io::Resul
         }
         pause = pause.saturating_mul(2).min(LONGEST_PAUSE);
     }
-    Err(io::Error::from(io::ErrorKind::TimedOut))
+    Err(io::Error::new(io::ErrorKind::TimedOut, "no connection"))
 }
 
 impl<R: Net + Clock + Clone> Door for TcpDoor<R> {

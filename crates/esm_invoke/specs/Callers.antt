@@ -1,5 +1,6 @@
 -- What a caller over HTTP tells of itself. This product's own.
-use Rattle.std.specs.Prelude.{ℕ}
+use Rattle.std.specs.Prelude.{ℕ, ◌+◌, ◌<◌}
+use Rattle.esm_io.specs.Faults.{MAX_FAULTS}
 
 -- the port of 127.0.0.1 that it calls, the limit of time of a call in nanoseconds, its count of faults, and the bytes
 -- of memory that its work area takes
@@ -8,3 +9,7 @@ pub record HttpState : Type 0 where
   pub limit : ℕ
   pub faults : ℕ
   pub room : ℕ
+
+-- the count rose by two at least, or stands at its last value
+abbrev pub RoseTwice : ℕ → ℕ → Type 0
+RoseTwice before now = now < MAX_FAULTS → before + 1 < now

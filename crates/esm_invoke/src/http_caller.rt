@@ -1,7 +1,8 @@
 // Calls of functions that a server on this machine runs.
-ghost use Rattle.std.specs.Prelude.{◌≡◌, true, None, IfOk, OnOk, OnErr};
+ghost use Rattle.std.specs.Prelude.{◌≡◌, true, None, IsSome, IfOk, IfErr, OnOk, OnErr};
 ghost use Rattle.std.specs.Duration.{as_nanos};
 ghost use Rattle.esm_io.specs.Faults.{IsCount, Rose};
+ghost use Rattle.esm_invoke.specs.Callers.{RoseTwice};
 
 use crate::call::call_over;
 use esm_host::{NoConnection, TcpLink};
@@ -68,20 +69,43 @@ impl<R: Net + Clock + Clone> HttpCaller<R> {
             faults: 0,
         })
     }
+
+    /// Calls over a connection that keeps the caller's limit of time.
+    fn call_in_time(
+        &mut self,
+        alloc: Global,
+        link: &mut TcpLink<R>,
+        name: &str,
+        event: &[u8],
+    ) -> Result<Reply, OutOfMemory>
+        requires connected { link.old.connected ≡ true }
+        requires limit { link.old.limit ≡ self.old.limit }
+        requires running { IsSome link.old.begun }
+        ensures port { self.new.port ≡ self.old.port }
+        ensures limit { self.new.limit ≡ self.old.limit }
+        ensures count { IsCount self.old.faults self.new.faults }
+        ensures lost { IfOk result (λ reply. reply ≡ Reply.Lost → Rose self.old.faults self.new.faults) }
+    {
+        call_over(alloc, link, name, event, &mut self.buffer, &mut self.faults)
+    }
 }
 
 /// Connects the link. For want of a local port, a descriptor or a buffer nothing was asked of the function: it pauses
-/// and tries again, for `PATIENCE` in all. `Err` only where the link's count of faults rose.
+/// and tries again, once at least, and for `PATIENCE` in all. `Err` only where the link's count of faults rose; a want is
+/// told only where two tries failed.
 fn connect<R: Net + Clock + Clone>(rt: &R, link: &mut TcpLink<R>) -> Result<(), NoConnection>
     ensures connected { OnOk result (link.new.connected ≡ true) }
+    ensures running { OnOk result (IsSome link.new.begun) }
+    ensures limit { link.new.limit ≡ link.old.limit }
+    ensures wanting { IfErr result (λ cause. cause ≡ NoConnection.Wanting → RoseTwice link.old.faults link.new.faults) }
     ensures count { IsCount link.old.faults link.new.faults }
     ensures cause { OnErr result (Rose link.old.faults link.new.faults) }
 {
     let start = rt.monotonic().ok();
     let mut pause = FIRST_PAUSE;
-    for _ in 0..PAUSES {
+    for pauses in 0..PAUSES {
         match link.connect() {
-            Err(NoConnection::Wanting) if has_time(rt, start, pause) => {}
+            Err(NoConnection::Wanting) if pauses == 0 || has_time(rt, start, pause) => {}
             made => return made,
         }
         rt.sleep(Duration::from_millis(pause));
@@ -111,19 +135,17 @@ impl<R: Net + Clock + Clone> Caller for HttpCaller<R> {
 
     /// `Lost` where the connection cannot be made, where no answer came within the limit of time, where a read fails
     /// before a whole answer came, and where a write fails and no answer came whose own length shows that it is whole.
-    fn call(&mut self, alloc: Global, name: &str, event: &[u8]) -> Result<Reply, OutOfMemory> {
+    fn call(&mut self, alloc: Global, name: &str, event: &[u8]) -> Result<Reply, OutOfMemory>
+        ensures port { self.new.port ≡ self.old.port }
+        ensures limit { self.new.limit ≡ self.old.limit }
+        ensures count { IsCount self.old.faults self.new.faults }
+        ensures lost { IfOk result (λ reply. reply ≡ Reply.Lost → Rose self.old.faults self.new.faults) }
+    {
         let mut link = TcpLink::new(&self.rt, self.port, self.limit)?;
         if connect(&self.rt, &mut link).is_err() {
             self.faults = self.faults.saturating_add(1);
             return Ok(Reply::Lost);
         }
-        call_over(
-            alloc,
-            &mut link,
-            name,
-            event,
-            &mut self.buffer,
-            &mut self.faults,
-        )
+        self.call_in_time(alloc, &mut link, name, event)
     }
 }
