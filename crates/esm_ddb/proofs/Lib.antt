@@ -1,0 +1,11 @@
+pub mod Feeds
+pub mod Finding
+pub mod Inputs
+pub mod Lengths
+pub mod LineLaws
+pub mod Loops
+pub mod Places
+pub mod ReadBack
+pub mod Sizes
+pub mod Steps
+pub mod Told

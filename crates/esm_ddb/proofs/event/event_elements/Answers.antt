@@ -1,0 +1,18 @@
+use Rattle.std.proofs.Common.{◌≡◌, Bool, true, false, List, refl, Option, None, if◌then◌else◌}
+use Rattle.std.specs.Prelude.{is_some}
+use Rattle.std.specs.Str.{is_utf8}
+use Rattle.std.proofs.lemmas.Str.{IsUtf8-from_is_utf8}
+use Rattle.serde_json.specs.Data.{Data}
+use Rattle.serde_json.specs.Read.{read}
+use Rattle.esm_ddb.specs.Event.{read_elements}
+use Rattle.esm_ddb.specs.declared.elements.Element.{Element}
+use Rattle.esm_ddb.proofs.event.event_elements.Goals as goal
+
+no_elements : (is : Bool) (o : Option Data) (es : Option (List Element)) → (is ≡ true → ⊥) → None ≡ (if is_some (if is then o else None) then es else None)
+no_elements true o es h = absurd (h refl)
+no_elements false o es h = refl
+
+pub returns-in-Err : goal.returns-in-Err
+returns-in-Err c =
+    no_elements (is_utf8 c.args.event.now) (read c.args.event.now) (read_elements c.args.event.now)
+    (λ is. c.in-Err.ensures.cases.0 (IsUtf8-from_is_utf8 c.args.event.now is))

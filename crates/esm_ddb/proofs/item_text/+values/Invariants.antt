@@ -1,0 +1,12 @@
+use Rattle.std.proofs.Common.{◌≡◌, ◌++◌, drop, false, codes}
+use Rattle.serde_json.specs.View.{items_view, members_view}
+use Rattle.esm_ddb.specs.ItemText.{items_text, members_text}
+use Rattle.esm_ddb.proofs.item_text.+values.Given as goal
+
+abbrev pub invariant-push_items-loop-item : goal.invariant-push_items-loop-item
+invariant-push_items-loop-item l =
+    l.out.items ++ items_text l.later (items_view (drop l.item-index l.item-items)) ≡ l.fn.out.items ++ (codes "[" ++ items_text false (items_view l.item-items))
+
+abbrev pub invariant-push_members-loop-name : goal.invariant-push_members-loop-name
+invariant-push_members-loop-name l =
+    l.out.items ++ members_text l.later (members_view l.name-iterator) ≡ l.fn.out.items ++ (codes "{" ++ members_text false (members_view l.members.entries))

@@ -1,0 +1,10 @@
+use Rattle.std.proofs.Common.{◌≡◌, true}
+use Rattle.std.specs.Prelude.{is_some}
+use Rattle.esm_ddb.specs.States.{state_of}
+use Rattle.esm_ddb.proofs.Steps.{bad_more}
+use Rattle.esm_ddb.proofs.splitter.Splitter.read_more.Goals as goal
+
+pub returns-then-is_some-clause-read : goal.returns-then-is_some-clause-read
+returns-then-is_some-clause-read c = λ bytes before read.
+    let some : is_some c.args.self.now.bad ≡ true = cc in
+    bad_more bytes c.args.piece.now before c.args.out.now.items (state_of c.args.self.now) read some

@@ -1,0 +1,14 @@
+pub mod Attribute
+pub mod Change
+pub mod Element
+pub mod Event
+pub mod FailureLine
+pub mod Gives
+pub mod ItemText
+pub mod Lexemes
+pub mod ReadsBack
+pub mod Said
+pub mod States
+pub mod Translating
+pub mod Translation
+pub mod Turned

@@ -1,0 +1,29 @@
+-- A line that is turned reads back as the record of its change.
+use Rattle.std.specs.Prelude.{◌≡◌, ℕ, nat_lt, List, Bool, true, false, Result, Ok}
+use Rattle.std.specs.List.{list_all}
+use Rattle.std.specs.Option.{ok_or}
+use Rattle.esm_model.specs.Json.{read_json}
+use Rattle.esm_record.specs.Input.{is_blank}
+use Rattle.esm_record.specs.Line.{line_of, only_object, record_of}
+use Rattle.esm_ddb.specs.Change.{◌>>=◌, Change, change_of}
+use Rattle.esm_ddb.specs.Element.{element}
+use Rattle.esm_ddb.specs.Turned.{turned, turned_record}
+use Rattle.esm_ddb.specs.declared.error.DdbError.{DdbError}
+use Rattle.esm_ddb.specs.declared.error.DdbError.TheVariants.{NotJson}
+use Rattle.esm_ddb.specs.declared.source.Source.{Source}
+
+abbrev pub is_byte : ℕ → Bool
+is_byte b = nat_lt b 256
+
+-- the change that a line tells
+abbrev pub change_in : List ℕ → Result Change DdbError
+change_in line = ok_or (only_object (read_json line)) NotJson >>= change_of
+
+-- of a line that is not blank: it tells a change, and what it became is the line of that change's record
+pub record ReadsBack (s : Source) (line text : List ℕ) : Type 0 where
+  pub change : Change
+  pub told : change_in line ≡ Ok change
+  pub reads : list_all is_byte (element s change) ≡ true → line_of record_of text ≡ Ok (turned_record s change)
+
+abbrev pub IsReadBack : Type 0
+IsReadBack = (s : Source) (line text : List ℕ) → is_blank line ≡ false → turned s line ≡ Ok text → ReadsBack s line text

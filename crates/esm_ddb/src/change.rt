@@ -1,0 +1,302 @@
+//! The change of an item that a line of a DynamoDB stream tells.
+ghost use Rattle.std.specs.Prelude.{◌≡◌, codes, option_and_then, option_map};
+ghost use Rattle.std.specs.List.{list_all};
+ghost use Rattle.std.specs.Result.{result_map_both};
+ghost use Rattle.serde_json.specs.Find.{get};
+ghost use Rattle.serde_json.specs.View.{view};
+ghost use Rattle.esm_model.specs.Valid.{is_word};
+ghost use Rattle.esm_record.specs.Line.{moment, of_text, sequence_number, shard_number};
+ghost use Rattle.esm_ddb.specs.Change as spec;
+ghost use Rattle.esm_ddb.specs.Said.{change_view, data_of, record_view};
+
+use crate::attribute::{are_keys, is_item};
+use crate::error::{DdbError, DdbField};
+use esm_model::MAX_MOMENT;
+use esm_model::spelling::is_sequence;
+use esm_record::shard_number;
+use serde_json::Value;
+
+/// The greatest size of an item in bytes that a line may tell.
+const MAX_SIZE: u64 = 9_007_199_254_740_992;
+
+/// What the table's stream says of the item.
+#[derive(Clone, Copy)]
+pub struct StreamRecord<'a> {
+    pub keys: &'a Value,
+    pub new_image: Option<&'a Value>,
+    pub old_image: Option<&'a Value>,
+    pub seq: &'a str,
+    /// In bytes.
+    pub size: u64,
+    pub view: &'a str,
+}
+
+/// The change of an item.
+#[derive(Clone, Copy)]
+pub struct Change<'a> {
+    pub shard: u64,
+    /// Milliseconds since 1970.
+    pub arrival: u64,
+    pub id: &'a str,
+    pub name: &'a str,
+    pub item: StreamRecord<'a>,
+}
+
+fn are_visible(text: &[u8]) -> bool
+    ensures { result ≡ list_all spec.is_visible text.now }
+{
+    text.iter().all(|b| 33 <= *b && *b <= 126)
+}
+
+fn is_event_id(text: &[u8]) -> bool
+    ensures { result ≡ is_word spec.is_visible 1 100 text.now }
+{
+    1 <= text.len() && text.len() <= 100 && are_visible(text)
+}
+
+fn is_event_name(text: &str) -> bool
+    ensures { result ≡ spec.is_event_name text.now }
+{
+    text == "INSERT" || text == "MODIFY" || text == "REMOVE"
+}
+
+fn is_view_type(text: &str) -> bool
+    ensures { result ≡ spec.is_view_type text.now }
+{
+    text == "KEYS_ONLY"
+        || text == "NEW_IMAGE"
+        || text == "OLD_IMAGE"
+        || text == "NEW_AND_OLD_IMAGES"
+}
+
+fn shard_in(value: &Value) -> Option<u64>
+    ensures { result ≡ of_text shard_number (view value.now) }
+{
+    match value.as_str() {
+        Some(text) => shard_number(text.as_bytes()),
+        None => None,
+    }
+}
+
+fn moment_in(value: &Value) -> Option<u64>
+    ensures { result ≡ moment (view value.now) }
+{
+    match value.as_u64() {
+        Some(moment) => {
+            if moment <= MAX_MOMENT {
+                Some(moment)
+            } else {
+                None
+            }
+        }
+        None => None,
+    }
+}
+
+fn event_id_in(value: &Value) -> Option<&str>
+    ensures { option_map (λ s. s.now) result ≡ of_text spec.event_id (view value.entry.now) }
+{
+    match value.as_str() {
+        Some(text) => {
+            if is_event_id(text.as_bytes()) {
+                Some(text)
+            } else {
+                None
+            }
+        }
+        None => None,
+    }
+}
+
+fn event_name_in(value: &Value) -> Option<&str>
+    ensures { option_map (λ s. s.now) result ≡ of_text spec.event_name (view value.entry.now) }
+{
+    match value.as_str() {
+        Some(text) => {
+            if is_event_name(text) {
+                Some(text)
+            } else {
+                None
+            }
+        }
+        None => None,
+    }
+}
+
+fn view_type_in(field: Option<&Value>) -> Option<&str>
+    ensures { option_map (λ s. s.now) result ≡ option_and_then (of_text spec.view_type) (data_of field.entry) }
+{
+    match field {
+        Some(value) => match value.as_str() {
+            Some(text) => { if is_view_type(text) { Some(text) } else { None } }
+            None => None,
+        },
+        None => None,
+    }
+}
+
+fn sequence_number_in(field: Option<&Value>) -> Option<&str>
+    ensures { option_map (λ s. s.now) result ≡ option_and_then (of_text sequence_number) (data_of field.entry) }
+{
+    match field {
+        Some(value) => match value.as_str() {
+            Some(text) => {
+                if is_sequence(text.as_bytes()) {
+                    Some(text)
+                } else {
+                    None
+                }
+            }
+            None => None,
+        },
+        None => None,
+    }
+}
+
+fn size_in(field: Option<&Value>) -> Option<u64>
+    ensures { result ≡ option_and_then spec.size_of (data_of field.entry) }
+{
+    match field {
+        Some(value) => match value.as_u64() {
+            Some(size) => { if size <= MAX_SIZE { Some(size) } else { None } }
+            None => None,
+        },
+        None => None,
+    }
+}
+
+fn keys_in(field: Option<&Value>) -> Option<&Value>
+    ensures { data_of result ≡ option_and_then spec.keys_of (data_of field.entry) }
+{
+    match field {
+        Some(value) => match value.as_object() {
+            Some(members) => { if are_keys(members) { Some(value) } else { None } }
+            None => None,
+        },
+        None => None,
+    }
+}
+
+/// An image, which may be absent.
+fn image_in(field: Option<&Value>) -> Option<Option<&Value>>
+    ensures { option_map data_of result ≡ spec.image_of (data_of field.entry) }
+{
+    match field {
+        Some(value) => match value.as_object() {
+            Some(members) => {
+                if is_item(members) {
+                    Some(Some(value))
+                } else {
+                    None
+                }
+            }
+            None => None,
+        },
+        None => Some(None),
+    }
+}
+
+/// What the member `dynamodb` says.
+fn stream_record(value: &Value) -> Option<StreamRecord<'_>>
+    ensures { option_map record_view result ≡ spec.stream_record (view value.entry.now) }
+{
+    let Some(keys) = keys_in(value.get("Keys")) else {
+        return None;
+    };
+    let Some(new_image) = image_in(value.get("NewImage")) else {
+        return None;
+    };
+    let Some(old_image) = image_in(value.get("OldImage")) else {
+        return None;
+    };
+    let Some(seq) = sequence_number_in(value.get("SequenceNumber")) else {
+        return None;
+    };
+    let Some(size) = size_in(value.get("SizeBytes")) else {
+        return None;
+    };
+    match view_type_in(value.get("StreamViewType")) {
+        Some(view) => Some(StreamRecord {
+            keys,
+            new_image,
+            old_image,
+            seq,
+            size,
+            view,
+        }),
+        None => None,
+    }
+}
+
+fn shard_of(line: &Value) -> Result<u64, DdbError>
+    ensures { result ≡ spec.field_of DdbField.ShardId (of_text shard_number) (view line.now) }
+{
+    match line.get("shardId") {
+        Some(value) => shard_in(value).ok_or(DdbError::BadField(DdbField::ShardId)),
+        None => Err(DdbError::Missing(DdbField::ShardId)),
+    }
+}
+
+fn arrival_of(line: &Value) -> Result<u64, DdbError>
+    ensures { result ≡ spec.field_of DdbField.ApproximateArrivalTimestamp moment (view line.now) }
+{
+    let field = DdbField::ApproximateArrivalTimestamp;
+    match line.get("approximateArrivalTimestamp") {
+        Some(value) => moment_in(value).ok_or(DdbError::BadField(field)),
+        None => Err(DdbError::Missing(field)),
+    }
+}
+
+fn event_id_of(line: &Value) -> Result<&str, DdbError>
+    ensures { result_map_both (λ s. s.now) (λ e. e) result ≡ spec.field_of DdbField.EventId (of_text spec.event_id) (view line.entry.now) }
+{
+    match line.get("eventID") {
+        Some(value) => match event_id_in(value) {
+            Some(id) => Ok(id),
+            None => Err(DdbError::BadField(DdbField::EventId)),
+        },
+        None => Err(DdbError::Missing(DdbField::EventId)),
+    }
+}
+
+fn event_name_of(line: &Value) -> Result<&str, DdbError>
+    ensures { result_map_both (λ s. s.now) (λ e. e) result ≡ spec.field_of DdbField.EventName (of_text spec.event_name) (view line.entry.now) }
+{
+    match line.get("eventName") {
+        Some(value) => match event_name_in(value) {
+            Some(name) => Ok(name),
+            None => Err(DdbError::BadField(DdbField::EventName)),
+        },
+        None => Err(DdbError::Missing(DdbField::EventName)),
+    }
+}
+
+fn item_of(line: &Value) -> Result<StreamRecord<'_>, DdbError>
+    ensures { result_map_both record_view (λ e. e) result ≡ spec.field_of DdbField.Dynamodb spec.stream_record (view line.entry.now) }
+{
+    match line.get("dynamodb") {
+        Some(value) => match stream_record(value) {
+            Some(item) => Ok(item),
+            None => Err(DdbError::BadField(DdbField::Dynamodb)),
+        },
+        None => Err(DdbError::Missing(DdbField::Dynamodb)),
+    }
+}
+
+/// The change that the object tells; the first of its fields that is absent or wrong.
+pub fn change_of(line: &Value) -> Result<Change<'_>, DdbError>
+    ensures { result_map_both change_view (λ e. e) result ≡ spec.change_of (view line.entry.now) }
+{
+    let shard = shard_of(line)?;
+    let arrival = arrival_of(line)?;
+    let id = event_id_of(line)?;
+    let name = event_name_of(line)?;
+    let item = item_of(line)?;
+    Ok(Change {
+        shard,
+        arrival,
+        id,
+        name,
+        item,
+    })
+}

@@ -1,0 +1,32 @@
+//! DynamoDB streams as the streams that the engine runs: a line becomes the line of a record, whose data is the element of an
+//! event; an event gets these elements; a failure line gets the stream's name; and the mapping of such a stream.
+//! Pure values, and a caller and a destination over another; no device, clock or thread.
+#![tactic(auto)]
+
+mod attribute;
+mod caller;
+mod change;
+mod config;
+mod dest;
+mod element;
+mod elements;
+mod error;
+mod event;
+mod failure_line;
+mod item_text;
+pub mod laws;
+mod lexeme;
+mod size;
+mod source;
+mod splitter;
+mod translator;
+mod turned;
+
+pub use caller::DdbCaller;
+pub use config::read_config;
+pub use dest::DdbDest;
+pub use error::{DdbError, DdbField, DdbLine};
+pub use event::ddb_event;
+pub use failure_line::ddb_line;
+pub use source::Source;
+pub use translator::{Translator, Turned};

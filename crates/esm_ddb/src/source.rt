@@ -1,0 +1,24 @@
+// Where the elements of a mapping's events come from.
+ghost use Rattle.std.specs.Prelude.{◌≡◌, IfOk};
+
+use esm_model::{Config, OutOfMemory, Text};
+use std::alloc::Global;
+
+/// The stream of a DynamoDB table, by its region and its ARN.
+#[derive(Drop, Debug)]
+pub struct Source {
+    pub region: Text,
+    pub arn: Text,
+}
+
+impl Source {
+    /// The source of the mapping.
+    pub fn of(alloc: Global, config: &Config) -> Result<Source, OutOfMemory>
+        ensures { IfOk result (λ s. s ≡ record { region = config.now.region; arn = config.now.source_arn }) }
+    {
+        Ok(Source {
+            region: config.region.copy(alloc)?,
+            arn: config.source_arn.copy(alloc)?,
+        })
+    }
+}

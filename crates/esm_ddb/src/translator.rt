@@ -1,0 +1,143 @@
+// The translator of an input's lines, which takes the input in pieces of any size.
+ghost use Rattle.std.specs.Prelude.{◌≡◌, ℕ, List, ◌++◌, [], true, false, None, IsErr, OnOk, IfOk, OnErr};
+ghost use Rattle.esm_ddb.specs.States.{state_of};
+ghost use Rattle.esm_ddb.specs.Translating.{HasRead, IsFed, Stands, source_of};
+ghost use Rattle.esm_ddb.specs.Translation.{translation_of, translation_so_far};
+
+use crate::error::DdbLine;
+use crate::source::Source;
+use crate::splitter::Splitter;
+use esm_model::{Bytes, Config, OutOfMemory};
+use std::alloc::Global;
+use std::marker::Model;
+
+/// What a call of `Translator` gives: what the lines that it completes became, in their order, and the first bad line of all
+/// the input so far, if there is one.
+#[derive(Drop, Debug)]
+pub struct Turned {
+    pub bytes: Bytes,
+    pub bad: Option<DdbLine>,
+}
+
+/// A translator of lines of a DynamoDB stream into lines of a stream's input, in any pieces of bytes.
+/// Contracts see what it keeps, whether it failed for want of memory and whether it finished.
+#[derive(Drop)]
+pub struct Translator {
+    alloc: Global,
+    reading: Splitter,
+    failed: bool,
+    finished: bool,
+}
+
+impl Model for Translator {
+    ghost use Rattle.esm_ddb.specs.States.{state_of};
+    ghost use Rattle.esm_ddb.specs.Translating.{Translating};
+
+    ghost Value = { Translating };
+
+    ghost view = { λ t. record { state = state_of t.reading; failed = t.failed; finished = t.finished } };
+}
+
+fn feed_piece(alloc: Global, reading: &mut Splitter, piece: &[u8]) -> Result<Turned, OutOfMemory>
+    ensures read { IfOk result (λ turned. (bytes before : List ℕ) → HasRead bytes before [] (state_of reading.old)
+        → HasRead (bytes ++ piece.now) before turned.bytes (state_of reading.new)) }
+    ensures bad { IfOk result (λ turned. turned.bad ≡ reading.new.bad) }
+    ensures source { reading.new.source ≡ reading.old.source }
+{
+    let mut out = Vec::new(alloc);
+    reading.read_more(alloc, &mut out, piece)?;
+    Ok(Turned {
+        bytes: Bytes::from_vec(out),
+        bad: reading.bad,
+    })
+}
+
+fn read_end(alloc: Global, reading: &mut Splitter) -> Result<Turned, OutOfMemory>
+    ensures read { IfOk result (λ turned. (bytes before : List ℕ) → HasRead bytes before [] (state_of reading.old)
+        → Stands (translation_of reading.old.source bytes) before turned.bytes (state_of reading.new)) }
+    ensures bad { IfOk result (λ turned. turned.bad ≡ reading.new.bad) }
+    ensures source { reading.new.source ≡ reading.old.source }
+{
+    let mut out = Vec::new(alloc);
+    reading.read_end(alloc, &mut out)?;
+    Ok(Turned {
+        bytes: Bytes::from_vec(out),
+        bad: reading.bad,
+    })
+}
+
+impl Translator {
+    /// A translator for the mapping's stream that was fed nothing. It copies the stream's region and ARN.
+    #[tactic(auto, using(crate::proofs::Feeds::fed_nothing))]
+    pub fn new(alloc: Global, config: &Config) -> Result<Translator, OutOfMemory>
+        ensures fed { IfOk result (λ t. IsFed [] t.state) }
+        ensures source { IfOk result (λ t. t.state.source ≡ source_of config.now) }
+        ensures good { IfOk result (λ t. t.failed ≡ false) }
+        ensures going { IfOk result (λ t. t.finished ≡ false) }
+    {
+        let source = Source::of(alloc, config)?;
+        Ok(Translator {
+            alloc,
+            reading: Splitter {
+                source,
+                good: 0,
+                begun: Vec::new(alloc),
+                bad: None,
+            },
+            failed: false,
+            finished: false,
+        })
+    }
+
+    /// Takes the next piece of the input. Gives what the lines that it ends became, each with its line feed, up to the first
+    /// bad line, and that line; after a bad line each call gives no bytes and the same bad line. A line of more than
+    /// 8,388,608 bytes is bad as soon as they came. After `OutOfMemory` each call answers `OutOfMemory`.
+    pub fn feed(&mut self, piece: &[u8]) -> Result<Turned, OutOfMemory>
+        requires { self.old.finished ≡ false }
+        ensures text { IfOk result (λ turned. (bytes : List ℕ) → IsFed bytes self.old.state
+            → (translation_so_far self.old.state.source bytes).text ++ turned.bytes
+            ≡ (translation_so_far self.old.state.source (bytes ++ piece.now)).text) }
+        ensures bad { IfOk result (λ turned. (bytes : List ℕ) → IsFed bytes self.old.state
+            → turned.bad ≡ (translation_so_far self.old.state.source (bytes ++ piece.now)).bad) }
+        ensures fed { OnOk result ((bytes : List ℕ) → IsFed bytes self.old.state → IsFed (bytes ++ piece.now) self.new.state) }
+        ensures good { OnOk result (self.new.failed ≡ false) }
+        ensures memory { OnErr result (self.new.failed ≡ true) }
+        ensures for_ever { self.old.failed ≡ true → IsErr result }
+        ensures source { self.new.state.source ≡ self.old.state.source }
+        ensures going { self.new.finished ≡ false }
+    {
+        if self.failed {
+            return Err(OutOfMemory);
+        }
+        self.failed = true;
+        let turned = feed_piece(self.alloc, &mut self.reading, piece)?;
+        self.failed = false;
+        Ok(turned)
+    }
+
+    /// Ends the input: what stands after the last line feed is a line of its own. Gives what it became, without a line feed,
+    /// or the first bad line of the whole input.
+    pub fn finish(&mut self) -> Result<Turned, OutOfMemory>
+        requires { self.old.finished ≡ false }
+        ensures text { IfOk result (λ turned. (bytes : List ℕ) → IsFed bytes self.old.state
+            → (translation_so_far self.old.state.source bytes).text ++ turned.bytes
+            ≡ (translation_of self.old.state.source bytes).text) }
+        ensures bad { IfOk result (λ turned. (bytes : List ℕ) → IsFed bytes self.old.state
+            → turned.bad ≡ (translation_of self.old.state.source bytes).bad) }
+        ensures finished { OnOk result (self.new.finished ≡ true) }
+        ensures good { OnOk result (self.new.failed ≡ false) }
+        ensures memory { OnErr result (self.new.failed ≡ true) }
+        ensures for_ever { self.old.failed ≡ true → IsErr result }
+        ensures source { self.new.state.source ≡ self.old.state.source }
+        ensures going { OnErr result (self.new.finished ≡ false) }
+    {
+        if self.failed {
+            return Err(OutOfMemory);
+        }
+        self.failed = true;
+        let turned = read_end(self.alloc, &mut self.reading)?;
+        self.failed = false;
+        self.finished = true;
+        Ok(turned)
+    }
+}

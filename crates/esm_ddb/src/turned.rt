@@ -1,0 +1,168 @@
+//! The line of a stream's input that a line of a DynamoDB stream becomes.
+ghost use Rattle.std.specs.Prelude.{◌≡◌, ◌++◌, Some, OnOk, IfOk};
+ghost use Rattle.serde_json.specs.View.{view};
+ghost use Rattle.md5.specs.Md5.{md5};
+ghost use Rattle.esm_model.specs.QueueEvent.{hexadecimal};
+ghost use Rattle.esm_record.specs.Input.{is_blank};
+ghost use Rattle.esm_ddb.specs.Element.{element};
+ghost use Rattle.esm_ddb.specs.Gives.{Gives};
+ghost use Rattle.esm_ddb.specs.ItemText.{value_text};
+ghost use Rattle.esm_ddb.specs.Said.{change_view};
+ghost use Rattle.esm_ddb.specs.Turned.{content_part, place_part, record_line, turned, turned_change, turned_object, turned_record, turned_value};
+
+use crate::change::{Change, change_of};
+use crate::element::element;
+use crate::error::{DdbError, DdbField, Refusal};
+use crate::item_text::push_value;
+use crate::source::Source;
+use esm_event::bytes::push_bytes;
+use esm_event::digits::{push_decimal, push_hexadecimal};
+use esm_event::record::{push_base64, push_shard_id};
+use esm_model::{MAX_DATA, MAX_LINE, OutOfMemory, parse_json};
+use md5::{Digest, Md5};
+use serde_json::Value;
+use std::alloc::Global;
+
+/// Appends each byte by two lower-case hexadecimal digits.
+#[tactic(auto, unfolding(esm_model::specs::QueueEvent::hexadecimal))]
+fn push_hexadecimal_bytes(out: &mut Vec<u8>, bytes: &[u8]) -> Result<(), OutOfMemory>
+    ensures { OnOk result (out.new.items ≡ out.old.items ++ hexadecimal bytes.now) }
+{
+    for byte in bytes {
+        push_hexadecimal(out, 2, *byte as u64)?;
+    }
+    Ok(())
+}
+
+fn push_digest(out: &mut Vec<u8>, keys: &[u8]) -> Result<(), OutOfMemory>
+    ensures { OnOk result (out.new.items ≡ out.old.items ++ hexadecimal (md5 keys.now)) }
+{
+    let digest = Md5::digest(keys);
+    push_hexadecimal_bytes(out, &digest)?;
+    Ok(())
+}
+
+/// Appends shard and sequence number of the line.
+fn push_place(out: &mut Vec<u8>, change: &Change) -> Result<(), OutOfMemory>
+    ensures { OnOk result (out.new.items ≡ out.old.items ++ place_part change.now.shard change.now.item.seq.now) }
+{
+    push_bytes(out, b"{\"shardId\":\"")?;
+    push_shard_id(out, change.shard)?;
+    push_bytes(out, b"\",\"sequenceNumber\":\"")?;
+    push_bytes(out, change.item.seq.as_bytes())?;
+    Ok(())
+}
+
+/// Appends partition key, data and moment of arrival of the line.
+fn push_content(
+    out: &mut Vec<u8>,
+    keys: &[u8],
+    payload: &[u8],
+    arrival: u64,
+) -> Result<(), OutOfMemory>
+    ensures { OnOk result (out.new.items ≡ out.old.items ++ content_part (hexadecimal (md5 keys.now)) payload.now arrival) }
+{
+    push_bytes(out, b"\",\"partitionKey\":\"")?;
+    push_digest(out, keys)?;
+    push_bytes(out, b"\",\"data\":\"")?;
+    push_base64(out, payload)?;
+    push_bytes(out, b"\",\"approximateArrivalTimestamp\":")?;
+    push_decimal(out, arrival)?;
+    push_bytes(out, b"}")?;
+    Ok(())
+}
+
+/// Appends the line of the change's record, whose keys and whose element have these texts.
+fn push_record(
+    out: &mut Vec<u8>,
+    source: &Source,
+    change: &Change,
+    keys: &[u8],
+    payload: &[u8],
+) -> Result<(), OutOfMemory>
+    requires keys { keys.now ≡ value_text (view change.now.item.keys.now) }
+    requires payload { payload.now ≡ element source.now (change_view change.now) }
+    ensures { OnOk result (out.new.items ≡ out.old.items ++ record_line (turned_record source.now (change_view change.now))) }
+{
+    push_place(out, change)?;
+    push_content(out, keys, payload, change.arrival)?;
+    Ok(())
+}
+
+fn record_line(
+    alloc: Global,
+    source: &Source,
+    change: &Change,
+    keys: &[u8],
+    payload: &[u8],
+) -> Result<Vec<u8>, OutOfMemory>
+    requires keys { keys.now ≡ value_text (view change.now.item.keys.now) }
+    requires payload { payload.now ≡ element source.now (change_view change.now) }
+    ensures { IfOk result (λ text. text.items ≡ record_line (turned_record source.now (change_view change.now))) }
+{
+    let mut out = Vec::new(alloc);
+    push_record(&mut out, source, change, keys, payload)?;
+    Ok(out)
+}
+
+/// The text of the item's keys.
+fn keys_text(alloc: Global, keys: &Value) -> Result<Vec<u8>, OutOfMemory>
+    ensures { IfOk result (λ text. text.items ≡ value_text (view keys.now)) }
+{
+    let mut text = Vec::new(alloc);
+    push_value(&mut text, keys)?;
+    Ok(text)
+}
+
+/// The line of the change's record; `BadField` where its element has too many bytes.
+fn turned_change(alloc: Global, source: &Source, change: &Change) -> Result<Vec<u8>, Refusal>
+    ensures { Gives (λ v. v.items) result (turned_change source.now (change_view change.now)) }
+{
+    let keys = keys_text(alloc, change.item.keys)?;
+    let payload = element(alloc, source, change, keys.as_slice())?;
+    if payload.len() > MAX_DATA {
+        return Err(Refusal::Line(DdbError::BadField(DdbField::Dynamodb)));
+    }
+    Ok(record_line(alloc, source, change, keys.as_slice(), payload.as_slice())?)
+}
+
+fn turned_value(alloc: Global, source: &Source, value: &Value) -> Result<Vec<u8>, Refusal>
+    ensures { Gives (λ v. v.items) result (turned_value source.now (Some (view value.now))) }
+{
+    if !value.is_object() {
+        return Err(Refusal::Line(DdbError::NotJson));
+    }
+    match change_of(value) {
+        Ok(change) => turned_change(alloc, source, &change),
+        Err(why) => Err(Refusal::Line(why)),
+    }
+}
+
+fn turned_object(alloc: Global, source: &Source, line: &[u8]) -> Result<Vec<u8>, Refusal>
+    ensures { Gives (λ v. v.items) result (turned_object source.now line.now) }
+{
+    match parse_json(alloc, line)? {
+        Some(value) => turned_value(alloc, source, &value),
+        None => Err(Refusal::Line(DdbError::NotJson)),
+    }
+}
+
+fn is_blank(line: &[u8]) -> bool
+    ensures { result ≡ is_blank line.now }
+{
+    line.iter()
+        .all(|b| *b == b' ' || *b == b'\t' || *b == b'\r')
+}
+
+/// What the line becomes, which stands without its line feed: nothing where it is blank.
+pub fn turned(alloc: Global, source: &Source, line: &[u8]) -> Result<Vec<u8>, Refusal>
+    ensures { Gives (λ v. v.items) result (turned source.now line.now) }
+{
+    if line.len() > MAX_LINE {
+        return Err(Refusal::Line(DdbError::LineTooLong));
+    }
+    if is_blank(line) {
+        return Ok(Vec::new(alloc));
+    }
+    turned_object(alloc, source, line)
+}
