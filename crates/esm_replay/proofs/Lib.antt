@@ -1,0 +1,9 @@
+pub mod Orders
+pub mod Reaching
+pub mod Finding
+pub mod Gathering
+pub mod FirstPieces
+pub mod Gathered
+pub mod Ends
+pub mod Fronts
+pub mod Saying

@@ -1,0 +1,47 @@
+-- The records of the next call, by where they stand among the records that came. This product's own.
+use Rattle.std.specs.Prelude.{◌≡◌, ℕ, ◌<◌, ◌≤◌, Bool, List, [], length, filter_map, slice_get, Option, Some, None, option_and_then}
+use Rattle.std.specs.List.{All}
+use Rattle.esm_model.specs.declared.config.Config.{Config}
+use Rattle.esm_model.specs.declared.item.Record.{Record}
+use Rattle.esm_model.specs.Setting.{records_at}
+use Rattle.esm_model.specs.Batches.{longest}
+use Rattle.esm_replay_model.specs.ReplaySetting.{ReplaySetting, config_of}
+use Rattle.esm_replay_model.specs.Pieces.{piece, replay_fits, next_call}
+use Rattle.esm_replay.specs.declared.rows.Named.{Named}
+use Rattle.esm_replay.specs.declared.batch.Batch.{Batch}
+use Rattle.esm_replay.specs.Rows.{places_of, Stands}
+use Rattle.esm_replay.specs.Waiting.{NamedPiece, seen_pieces}
+
+abbrev pub records_named : List Record → List Named → List Record
+records_named rs ds = filter_map (λ (d : Named). slice_get rs d.at) ds
+
+-- the record of the one at the position
+abbrev pub record_named : List Record → List Named → ℕ → Option Record
+record_named rs ds i = option_and_then (λ (d : Named). slice_get rs d.at) (slice_get ds i)
+
+-- the two limits of a call of the shard's records at the places
+abbrev pub fits_for : ReplaySetting → ℕ → List ℕ → Bool
+fits_for s n places = replay_fits s (piece n places)
+
+-- the named records stand where they say, among the records that came
+pub record IsPlacedIn (s : ReplaySetting) (config : Config) (rs : List Record) (n : ℕ) (ds : List Named) : Type 0 where
+  pub config_is : config_of s ≡ config
+  pub stand : All (Stands s rs n) ds
+
+-- the next call of a piece of these records of the shard, with copies of its records
+abbrev pub IsBatchOf : ReplaySetting → ℕ → List Named → Batch → Type 0
+IsBatchOf s n ds batch =
+    (batch.shard ≡ n) × (batch.places ≡ longest (fits_for s n) [] (places_of ds)) × (batch.records.items ≡ records_at s.base n batch.places) × (1 ≤ length batch.places)
+
+-- of the first piece, where something waits
+abbrev pub IsNextBatch : ReplaySetting → List NamedPiece → Option Batch → Type 0
+IsNextBatch s pieces None = pieces ≡ []
+IsNextBatch s pieces (Some batch) =
+    (piece batch.shard batch.places ≡ next_call s (seen_pieces pieces)) × (batch.records.items ≡ records_at s.base batch.shard batch.places) × (1 ≤ length batch.places)
+
+-- each record stands among so many
+abbrev pub AreWithin : ℕ → List Named → Type 0
+AreWithin n ds = All (λ (d : Named). d.at < n) ds
+
+abbrev pub StandWithin : ℕ → List NamedPiece → Type 0
+StandWithin n pieces = All (λ (p : NamedPiece). AreWithin n p.named) pieces

@@ -1,0 +1,50 @@
+-- The setting of a replay by the records that came. This product's own.
+use Rattle.std.specs.Prelude.{ℕ, ◌==◌, Bool, false, not, ◌&&◌, List, [], ◌∷◌, map, filter, option_map, unwrap_or}
+use Rattle.esm_model.specs.declared.config.Config.{Config}
+use Rattle.esm_model.specs.declared.item.Record.{Record}
+use Rattle.esm_model.specs.declared.setup.FoundFate.{FoundFate}
+use Rattle.esm_model.specs.Setting.{Stream}
+use Rattle.esm_journal_state.specs.Meaning.{is_failure}
+use Rattle.esm_journal_state.specs.SaidLists.{SaidLists, fate_told, is_replay_told}
+use Rattle.esm_replay_model.specs.declared.range.Range.{Range}
+use Rattle.esm_replay_model.specs.ReplaySetting.{ReplaySetting, is_in_ranges}
+use Rattle.esm_replay_model.specs.Pieces.{inserted}
+
+-- the shards of the records, by rising number
+abbrev pub shards_of : List Record → List ℕ
+shards_of [] = []
+shards_of (r ∷ rs) = inserted r.shard (shards_of rs)
+
+-- those of the records that are of the shard, in order
+abbrev pub of_shard : ℕ → List Record → List Record
+of_shard n rs = filter (λ (r : Record). r.shard == n) rs
+
+abbrev pub stream_of : List Record → ℕ → Stream
+stream_of rs n = record { shard = n; records = of_shard n rs }
+
+abbrev pub streams_of : List Record → List Stream
+streams_of rs = map (stream_of rs) (shards_of rs)
+
+-- a mapping and the calls allowed, what the journal and the failure file told of at opening, and the records that came
+abbrev pub setting_with : Config → ℕ → SaidLists → List Range → List Record → ReplaySetting
+setting_with config calls told ranges rs = record {
+  base = record {
+    config = config;
+    calls = calls;
+    streams = streams_of rs;
+    fates = told.fates;
+    tries = told.tries;
+    states = told.states;
+    window_tries = told.window_tries;
+  };
+  ranges = ranges;
+  replays = told.replays;
+}
+
+-- the journal tells that the record at the place failed for good
+abbrev pub is_told_failed : SaidLists → ℕ → ℕ → Bool
+is_told_failed told n i = unwrap_or (option_map (λ (f : FoundFate). is_failure f.fate) (fate_told told n i)) false
+
+-- the record is named, where it stands at the place
+abbrev pub names : SaidLists → List Range → Record → ℕ → Bool
+names told ranges r i = is_told_failed told r.shard i && (is_in_ranges ranges r.shard r.seq && not (is_replay_told told r.shard i))

@@ -1,0 +1,7 @@
+-- What holds of the payloads of a replay's run. This product's own.
+use Rattle.std.specs.Prelude.{ℕ, ◌<◌, ◌^◌, length}
+use Rattle.esm_model.specs.Setting.{Setting, records_of}
+
+-- a place of a record has four bytes
+abbrev pub HaveFewRecords : Setting → Type 0
+HaveFewRecords s = (n : ℕ) → length (records_of s n) < 2 ^ 32

@@ -1,0 +1,53 @@
+-- The pieces that are still to be called, with where their records stand. This product's own.
+use Rattle.std.specs.Prelude.{ℕ, ◌≤◌, List, [], ◌∷◌, map, drop, length}
+use Rattle.std.specs.List.{All}
+use Rattle.esm_model.specs.declared.item.Record.{Record}
+use Rattle.esm_replay_model.specs.ReplaySetting.{ReplaySetting}
+use Rattle.esm_replay_model.specs.Pieces.{ReplayPiece, piece}
+use Rattle.esm_replay.specs.declared.rows.Named.{Named}
+use Rattle.esm_replay.specs.declared.rows.Row.{Row}
+use Rattle.esm_replay.specs.Rows.{places_of, Stands}
+
+-- named records of a shard that are called together
+pub record NamedPiece : Type 0 where
+  pub shard : ℕ
+  pub named : List Named
+
+abbrev pub seen_piece : NamedPiece → ReplayPiece
+seen_piece p = piece p.shard (places_of p.named)
+
+abbrev pub seen_pieces : List NamedPiece → List ReplayPiece
+seen_pieces ps = map seen_piece ps
+
+-- before the others, where it has any record
+abbrev pub put_ahead : ℕ → List Named → List NamedPiece → List NamedPiece
+put_ahead n [] others = others
+put_ahead n (d ∷ ds) others = record { shard = n; named = d ∷ ds } ∷ others
+
+-- the rows of shards as pieces
+abbrev pub pieces_in : List (ℕ × Row) → List NamedPiece
+pieces_in [] = []
+pieces_in (e ∷ es) = put_ahead e.0 e.1.named.items (pieces_in es)
+
+-- the records of the piece stand where it says
+abbrev pub IsPlaced : ReplaySetting → List Record → NamedPiece → Type 0
+IsPlaced s rs p = All (Stands s rs p.shard) p.named
+
+-- the first piece without its first records
+abbrev pub without_front : ℕ → List NamedPiece → List NamedPiece
+without_front count [] = []
+without_front count (p ∷ others) = put_ahead p.shard (drop count p.named) others
+
+-- the records of the first piece
+abbrev pub front_of : List NamedPiece → List Named
+front_of [] = []
+front_of (p ∷ others) = p.named
+
+-- each piece has a record
+abbrev pub HasNamed : NamedPiece → Type 0
+HasNamed p = 1 ≤ length p.named
+
+-- what waits: the pieces, and how many more find room
+pub record Waiting : Type 0 where
+  pub pieces : List NamedPiece
+  pub room : ℕ

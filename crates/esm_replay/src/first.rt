@@ -1,0 +1,43 @@
+// The pieces that a replay begins with: of each shard its named records.
+ghost use Rattle.std.specs.Prelude.{◌≡◌, ℕ, ◌<◌, ◌^◌, All, IfOk, length};
+ghost use Rattle.esm_model.specs.declared.config.Config.{Config};
+ghost use Rattle.esm_replay_model.specs.Pieces.{first_pieces};
+ghost use Rattle.esm_replay.specs.Records.{setting_with};
+ghost use Rattle.esm_replay.specs.Waiting.{seen_pieces, pieces_in, IsPlaced};
+
+use crate::piece::Piece;
+use crate::ranges::Ranges;
+use crate::rows::{Row, rows_of};
+use crate::waiting::Waiting;
+use esm_journal_state::Says;
+use esm_model::{OutOfMemory, Record};
+use std::alloc::Global;
+use std::collections::BTreeMap;
+
+fn pieces_in(alloc: Global, rows: &BTreeMap<u64, Row>) -> Result<Waiting, OutOfMemory>
+    ensures { IfOk result (λ waiting. waiting.pieces ≡ pieces_in rows.now.entries) }
+{
+    let mut waiting = Waiting::new(alloc);
+    for (shard, row) in rows {
+        let piece = Piece::of(alloc, *shard, row.named.as_slice())?;
+        waiting.add_last(piece)?;
+    }
+    Ok(waiting)
+}
+
+/// What is to be called first, where these records came: linear in the records, but for the logarithm of the shards, the
+/// failure lines and what the journal told.
+pub fn first_waiting(
+    alloc: Global,
+    said: &Says,
+    ranges: &Ranges,
+    records: &[Record],
+) -> Result<Waiting, OutOfMemory>
+    requires { length records.now < 2 ^ 32 }
+    ensures pieces { IfOk result (λ waiting. (config : Config) (calls : ℕ) → seen_pieces waiting.pieces ≡ first_pieces (setting_with config calls said.now ranges.now records.now)) }
+    ensures placed { IfOk result (λ waiting. (config : Config) (calls : ℕ) → All (IsPlaced (setting_with config calls said.now ranges.now records.now) records.now) waiting.pieces) }
+{
+    let rows = rows_of(alloc, said, ranges, records)?;
+    let _ = rows.len();
+    pieces_in(alloc, &rows)
+}

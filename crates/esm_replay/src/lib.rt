@@ -1,0 +1,23 @@
+//! What a replay reads of the failure file, and what waits to be called again: the records that each line names, the pieces
+//! of named records, the next call, and what the end of a call leaves.
+//! Pure: values in, values out. No device, clock or thread.
+#![tactic(auto)]
+
+mod batch;
+mod failure;
+mod first;
+pub mod laws;
+mod named;
+mod parts;
+mod piece;
+mod ranges;
+mod rows;
+mod waiting;
+
+pub use batch::Batch;
+pub use failure::read_failure;
+pub use first::first_waiting;
+pub use parts::Parts;
+pub use ranges::Ranges;
+pub use rows::Named;
+pub use waiting::Waiting;

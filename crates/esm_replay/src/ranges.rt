@@ -1,0 +1,136 @@
+// Ranges of sequence numbers, by which a record is found in the logarithm of their number.
+ghost use Rattle.std.specs.Prelude.{◌≡◌, ◌≤◌, ◌==◌, ◌&&◌, not, ℕ, List, None, IfOk, length, true, false, option_copied};
+ghost use Rattle.std.specs.List.Sorted.{IsPermutation, IsSortedBy, IsPartitionPoint};
+ghost use Rattle.esm_replay_model.specs.declared.range.Range.{Range};
+ghost use Rattle.esm_replay_model.specs.ReplaySetting.{is_up_to, is_in_ranges};
+ghost use Rattle.esm_replay.specs.Ranges.{start_of, start_cmp, starts_before, starts_by, reaching, all_reaching, last_range, AllLead};
+
+use esm_model::{OutOfMemory, Seq};
+use esm_replay_model::Range;
+use std::alloc::Global;
+use std::cmp::Ordering;
+use std::marker::Model;
+use std::snapshot::Snapshot;
+
+/// Ranges of sequence numbers, seen as the list that they were made of.
+/// They stand by their starts, and each reaches as far as those before it in its shard, so the last one that starts at a
+/// record or before it tells whether any holds the record.
+#[derive(Drop)]
+pub struct Ranges {
+    ranges: Vec<Range>,
+    /// The list that they were made of, for the contracts alone.
+    given: Snapshot<Vec<Range>>,
+}
+
+impl Model for Ranges {
+    ghost use Rattle.std.specs.Prelude.{List};
+    ghost use Rattle.esm_replay_model.specs.declared.range.Range.{Range};
+    ghost use Rattle.esm_replay.specs.Ranges.{AllLead, HoldAlike};
+
+    ghost Value = { List Range };
+
+    ghost view = { λ r. r.given.value.items };
+
+    ghost invariant = { λ r. AllLead r.ranges.items × HoldAlike r.ranges.items r.given.value.items };
+}
+
+fn order(a: &Range, shard: u64, number: &Seq) -> Ordering
+    ensures { result ≡ start_cmp (start_of a.now) (shard, number.now) }
+{
+    a.shard.cmp(&shard).then(a.first.order(number))
+}
+
+fn sort(ranges: &mut Vec<Range>)
+    ensures permutation { IsPermutation ranges.old.items ranges.new.items }
+    ensures sorted { IsSortedBy starts_before ranges.new.items }
+{
+    ranges.sort_unstable_by(|a, b| order(a, b.shard, &b.first));
+}
+
+/// Whether the range ends before the one before it in its shard does.
+fn falls_short(before: &Range, range: &Range) -> bool
+    ensures { result ≡ ((before.now.shard == range.now.shard) && not (is_up_to before.now.last range.now.last)) }
+{
+    before.shard == range.shard && !before.last.order(&range.last).is_le()
+}
+
+/// The range, so that it reaches as far as the one before it in its shard.
+fn reaching(alloc: Global, before: Option<&Range>, range: Range) -> Result<Range, OutOfMemory>
+    ensures { IfOk result (λ r. r ≡ reaching (option_copied before.entry) range) }
+{
+    match before {
+        None => Ok(range),
+        Some(before) => {
+            if falls_short(before, &range) {
+                Ok(Range {
+                    shard: range.shard,
+                    first: range.first,
+                    last: before.last.copy(alloc)?,
+                })
+            } else {
+                Ok(range)
+            }
+        }
+    }
+}
+
+fn last_of(ranges: &[Range]) -> Option<&Range>
+    ensures { option_copied result ≡ last_range ranges.now }
+{
+    ranges.last()
+}
+
+/// The ranges, each so that it reaches as far as the one before it in its shard.
+fn all_reaching(alloc: Global, ranges: Vec<Range>) -> Result<Vec<Range>, OutOfMemory>
+    ensures { IfOk result (λ v. v.items ≡ all_reaching None ranges.items) }
+{
+    let mut all = Vec::new(alloc);
+    for range in ranges {
+        let next = reaching(alloc, last_of(all.as_slice()), range)?;
+        all.push(next)?;
+    }
+    Ok(all)
+}
+
+/// The number of ranges that start at the number of the shard or before it, by binary search.
+fn started_by(ranges: &[Range], shard: u64, number: &Seq) -> usize
+    requires lead { AllLead ranges.now }
+    ensures bound { result ≤ length ranges.now }
+    ensures point { IsPartitionPoint (λ (r : Range). starts_by (shard, number.now) r ≡ true) (λ (r : Range). starts_by (shard, number.now) r ≡ false) ranges.now result }
+{
+    ranges.partition_point(|range| !order(range, shard, number).is_gt())
+}
+
+/// Whether the range is of the shard and does not end before the number.
+fn reaches(range: &Range, shard: u64, number: &Seq) -> bool
+    ensures { result ≡ ((range.now.shard == shard) && is_up_to number.now range.now.last) }
+{
+    range.shard == shard && number.order(&range.last).is_le()
+}
+
+impl Ranges {
+    /// An index of the ranges, made in the time of sorting them.
+    pub fn new(alloc: Global, ranges: Vec<Range>) -> Result<Ranges, OutOfMemory>
+        ensures { IfOk result (λ index. index ≡ ranges.items) }
+    {
+        let given = Snapshot::of(&ranges);
+        let mut sorted = ranges;
+        sort(&mut sorted);
+        let reaching = all_reaching(alloc, sorted)?;
+        Ok(Ranges {
+            ranges: reaching,
+            given,
+        })
+    }
+
+    /// Whether a range holds the sequence number of the shard, found in the logarithm of the ranges. Takes no memory.
+    pub fn hold(&self, shard: u64, number: &Seq) -> bool
+        ensures { result ≡ is_in_ranges self.now shard number.now }
+    {
+        let count = started_by(self.ranges.as_slice(), shard, number);
+        if count == 0 {
+            return false;
+        }
+        reaches(&self.ranges[count - 1], shard, number)
+    }
+}

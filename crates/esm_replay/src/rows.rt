@@ -1,0 +1,102 @@
+// The named records of each shard, gathered from the records in the order in which they came.
+ghost use Rattle.std.specs.Prelude.{◌≡◌, ℕ, ◌==◌, ◌<◌, ◌^◌, false, IfOk, OnOk, length};
+ghost use Rattle.std.specs.Ordering.{nat_cmp};
+ghost use Rattle.std.specs.BTreeMap.{get};
+ghost use Rattle.esm_model.specs.declared.config.Config.{Config};
+ghost use Rattle.esm_replay.specs.Records.{names, setting_with};
+ghost use Rattle.esm_replay.specs.Rows.{came_in, named_in, count_in, IsGrown, IsGrownAt, IsRowAt};
+
+use crate::named::names;
+use crate::ranges::Ranges;
+use esm_journal_state::Says;
+use esm_model::{OutOfMemory, Record};
+use std::alloc::Global;
+use std::collections::BTreeMap;
+
+/// A named record: its place in its shard, and where it stands among the records that came.
+#[derive(Clone, Copy, Debug)]
+pub struct Named {
+    pub place: u32,
+    pub at: u32,
+}
+
+/// How many records of a shard came, and those of them that are named, by place.
+#[derive(Drop, Debug)]
+pub struct Row {
+    pub came: u32,
+    pub named: Vec<Named>,
+}
+
+fn came_in(row: &Option<Row>) -> u32
+    ensures { result ≡ came_in row.now }
+{
+    match row {
+        None => 0,
+        Some(row) => row.came,
+    }
+}
+
+fn row_or_new(alloc: Global, row: Option<Row>) -> Row
+    ensures came { result.came ≡ came_in row }
+    ensures named { result.named.items ≡ named_in row }
+{
+    match row {
+        Some(row) => row,
+        None => Row {
+            came: 0,
+            named: Vec::new(alloc),
+        },
+    }
+}
+
+/// The row with one more record, which is named or not and stands at `at` among all.
+fn grown(alloc: Global, row: Option<Row>, is_named: bool, at: u32) -> Result<Row, OutOfMemory>
+    requires { came_in row < u32.MAX }
+    ensures { IfOk result (IsGrown is_named at row) }
+{
+    let mut row = row_or_new(alloc, row);
+    let place = row.came;
+    if is_named {
+        row.named.push(Named { place, at })?;
+    }
+    row.came += 1;
+    Ok(row)
+}
+
+/// One more record comes, which stands at `at` among all.
+fn add(
+    alloc: Global,
+    said: &Says,
+    ranges: &Ranges,
+    rows: &mut BTreeMap<u64, Row>,
+    item: &Record,
+    at: u32,
+) -> Result<(), OutOfMemory>
+    requires { came_in (get nat_cmp rows.old item.now.shard) < u32.MAX }
+    ensures here { OnOk result (IsGrownAt (names said.now ranges.now item.now (came_in (get nat_cmp rows.old item.now.shard))) at (get nat_cmp rows.old item.now.shard) (get nat_cmp rows.new item.now.shard)) }
+    ensures others { OnOk result ((q : ℕ) → (item.now.shard == q) ≡ false → get nat_cmp rows.new q ≡ get nat_cmp rows.old q) }
+{
+    let row = rows.remove(&item.shard);
+    let is_named = names(said, ranges, item, came_in(&row));
+    let row = grown(alloc, row, is_named, at)?;
+    rows.insert(item.shard, row)?;
+    Ok(())
+}
+
+/// The rows of all records, by shard.
+pub(crate) fn rows_of(
+    alloc: Global,
+    said: &Says,
+    ranges: &Ranges,
+    records: &[Record],
+) -> Result<BTreeMap<u64, Row>, OutOfMemory>
+    requires { length records.now < 2 ^ 32 }
+    ensures { IfOk result (λ rows. (config : Config) (calls : ℕ) (q : ℕ) →
+        IsRowAt (setting_with config calls said.now ranges.now records.now) records.now q (count_in q records.now (length records.now)) (get nat_cmp rows q)) }
+{
+    let mut rows = BTreeMap::new(alloc);
+    for (i, item) in records.iter().enumerate() {
+        add(alloc, said, ranges, &mut rows, item, i as u32)?;
+    }
+    Ok(rows)
+}

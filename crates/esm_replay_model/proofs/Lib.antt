@@ -1,0 +1,5 @@
+pub mod ReplayTests
+pub mod WorkedReplays
+pub mod Counting
+pub mod Weighing
+pub mod Runs
