@@ -1,7 +1,6 @@
 -- What the messages of a history are, where each `Came` brings the next ones, each `Began` receives eligible ones, and
 -- each `Gave` deletes messages that came and wait.
-use Rattle.std.proofs.Common.{◌≡◌, ℕ, zero, suc, ◌+◌, ◌<◌, ◌≤◌, Bool, false, cond, List, [], ◌∷◌, ◌++◌, length, take, drop, refl, sym, ap, ◌∙◌, subst, inl, inr, arith, length-append, Option, Some, None}
-use Rattle.std.specs.Prelude.{◌==◌}
+use Rattle.std.proofs.Common.{◌≡◌, ℕ, suc, ◌+◌, ◌<◌, ◌≤◌, false, List, [], ◌∷◌, ◌++◌, length, take, drop, refl, ap, ◌∙◌, subst, inl, inr, arith, length-append}
 use Rattle.std.proofs.lemmas.List.{length-take, length-drop}
 use Rattle.std.proofs.lemmas.Bool.{cases_Bool}
 use Rattle.esm_model.specs.declared.item.Message.{Message}
@@ -58,7 +57,7 @@ count_within s (Closed lane window m ∷ h) built = count_within s h built.0
 count_within s (Replayed shard places m ∷ h) built = count_within s h built.0
 count_within s (Shut m ∷ h) built = count_within s h built.0
 
-length-changed : (f : Stored → Stored) (places : List ℕ) (k : ℕ) (xs : List Stored) → length (changed_from f places k xs) ≡ length xs
+pub length-changed : (f : Stored → Stored) (places : List ℕ) (k : ℕ) (xs : List Stored) → length (changed_from f places k xs) ≡ length xs
 length-changed f places k [] = refl
 length-changed f places k (x ∷ xs) = ap suc (length-changed f places (k + 1) xs)
 

@@ -2,7 +2,7 @@
 use Rattle.std.proofs.Common.{◌≡◌, ℕ, zero, suc, ◌+◌, ◌-◌, ◌<◌, ◌≤◌, Bool, true, false, cond, ◌||◌, List, [], ◌∷◌, ◌++◌, length, take, drop, refl, sym, ap, ◌∙◌, inl, inr, arith, length-append, Option, Some, None}
 use Rattle.std.specs.Prelude.{◌==◌, ◌&&◌, slice_get, option_map, unwrap_or, is_some, filter}
 use Rattle.std.specs.Option.{option_or}
-use Rattle.std.proofs.lemmas.Bool.{cases_Bool, cases_lt, and_parts, eqb-true, eq-eqb, both_ways}
+use Rattle.std.proofs.lemmas.Bool.{cases_Bool, cases_lt, and_parts, eq-eqb, both_ways}
 use Rattle.std.proofs.lemmas.Option.{none-some, same_Some}
 use Rattle.esm_model.specs.declared.item.Message.{Message}
 use Rattle.esm_model.specs.declared.lane.LaneId.{LaneId}
@@ -28,23 +28,23 @@ use Rattle.esm_redrive_model.proofs.Named.{built_of}
 
 -- what is deleted of a list of messages
 
-abbrev gone : Stored → Bool
+abbrev pub gone : Stored → Bool
 gone x = x.deleted
 
-abbrev gone_in : List Stored → ℕ → Bool
+abbrev pub gone_in : List Stored → ℕ → Bool
 gone_in xs i = unwrap_or (option_map gone (slice_get xs i)) false
 
-gone_left : (xs ys : List Stored) (i : ℕ) → i < length xs → gone_in (xs ++ ys) i ≡ gone_in xs i
+pub gone_left : (xs ys : List Stored) (i : ℕ) → i < length xs → gone_in (xs ++ ys) i ≡ gone_in xs i
 gone_left [] ys i low = absurd (omega arith)
 gone_left (x ∷ xs) ys zero low = refl
 gone_left (x ∷ xs) ys (suc i) low = gone_left xs ys i (omega arith)
 
-gone_right : (xs ys : List Stored) (i : ℕ) → gone_in (xs ++ ys) (length xs + i) ≡ gone_in ys i
+pub gone_right : (xs ys : List Stored) (i : ℕ) → gone_in (xs ++ ys) (length xs + i) ≡ gone_in ys i
 gone_right [] ys i = let e : 0 + i ≡ i = omega arith in rw e refl
 gone_right (x ∷ xs) ys i = let e : suc (length xs) + i ≡ suc (length xs + i) = omega arith in rw e (gone_right xs ys i)
 
 -- a change that deletes none
-gone_same : (f : Stored → Stored) → ((x : Stored) → (f x).deleted ≡ x.deleted) → (places : List ℕ) (k : ℕ) (xs : List Stored) (i : ℕ) → gone_in (changed_from f places k xs) i ≡ gone_in xs i
+pub gone_same : (f : Stored → Stored) → ((x : Stored) → (f x).deleted ≡ x.deleted) → (places : List ℕ) (k : ℕ) (xs : List Stored) (i : ℕ) → gone_in (changed_from f places k xs) i ≡ gone_in xs i
 gone_same f same places k [] i = refl
 gone_same f same places k (x ∷ xs) zero = elim (cases_Bool (holds places k)) [ inl is ↦ rw is (same x) | inr other ↦ rw other refl ]
 gone_same f same places k (x ∷ xs) (suc i) = gone_same f same places (k + 1) xs i
@@ -60,13 +60,13 @@ marked true x = either x.deleted true
 marked false x = either x.deleted false
 
 -- the messages at the places are deleted
-gone_more : (places : List ℕ) (k : ℕ) (xs : List Stored) (i : ℕ) → i < length xs → gone_in (changed_from deleted_once places k xs) i ≡ (gone_in xs i || holds places (k + i))
+pub gone_more : (places : List ℕ) (k : ℕ) (xs : List Stored) (i : ℕ) → i < length xs → gone_in (changed_from deleted_once places k xs) i ≡ (gone_in xs i || holds places (k + i))
 gone_more places k [] i low = absurd (omega arith)
 gone_more places k (x ∷ xs) zero low = let e : k + 0 ≡ k = omega arith in rw e (marked (holds places k) x)
 gone_more places k (x ∷ xs) (suc i) low = let e : k + suc i ≡ (k + 1) + i = omega arith in rw e (gone_more places (k + 1) xs i (omega arith))
 
 -- messages that come are deleted where they were found so
-gone_coming : (s : QueueSetting) (m k : ℕ) (xs : List Message) (i : ℕ) → i < length (coming_from s m k xs) → gone_in (coming_from s m k xs) i ≡ is_found s (k + i)
+pub gone_coming : (s : QueueSetting) (m k : ℕ) (xs : List Message) (i : ℕ) → i < length (coming_from s m k xs) → gone_in (coming_from s m k xs) i ≡ is_found s (k + i)
 gone_coming s m k [] i low = absurd (omega arith)
 gone_coming s m k (x ∷ xs) zero low = let e : k + 0 ≡ k = omega arith in rw e refl
 gone_coming s m k (x ∷ xs) (suc i) low = let e : k + suc i ≡ (k + 1) + i = omega arith in rw e (gone_coming s m (k + 1) xs i (omega arith))

@@ -3,3 +3,7 @@ pub mod Named
 pub mod Ends
 pub mod Moves
 pub mod WorkedRedrives
+pub mod Counted
+pub mod MoreRedrive
+pub mod SameIds
+pub mod Calls

@@ -1,14 +1,14 @@
 -- Moves of a legal history of a redrive: receives, lines and ids.
-use Rattle.std.proofs.Common.{◌≡◌, ℕ, zero, suc, ◌+◌, ◌<◌, ◌≤◌, Bool, true, false, not, cond, ◌&&◌, ◌||◌, List, [], ◌∷◌, ◌++◌, length, take, map, refl, sym, ap, ap₂, ◌∙◌, subst, ◌⊎◌, inl, inr, arith, length-append, Option, Some, None}
-use Rattle.std.specs.Prelude.{◌==◌, nat_le, filter, filter_map, slice_get, reverse, option_map, unwrap_or, is_some}
+use Rattle.std.proofs.Common.{◌≡◌, ℕ, zero, suc, ◌<◌, Bool, true, false, not, cond, ◌&&◌, ◌||◌, List, [], ◌∷◌, ◌++◌, length, map, refl, sym, ap, ap₂, ◌∙◌, subst, ◌⊎◌, inl, inr, arith, Option, Some, None}
+use Rattle.std.specs.Prelude.{◌==◌, filter_map, slice_get, reverse, option_map, unwrap_or, is_some}
 use Rattle.std.specs.Option.{option_or}
-use Rattle.std.specs.List.{list_any, cons_option}
+use Rattle.std.specs.List.{cons_option}
 use Rattle.std.specs.Str.{bytes_eq}
 use Rattle.std.proofs.lemmas.List.{append-nil, map-append, reverse-append}
 use Rattle.std.proofs.lemmas.List.Elements.{filter_map-append}
 use Rattle.std.proofs.lemmas.List.Folds.{list_any-append}
-use Rattle.std.proofs.lemmas.Bool.{cases_Bool, cases_lt, and_parts, and_from, and_cases, or_cases, both_ways, leb-true, le-leb, eq-eqb, false_from_ne_true, not_from_false}
-use Rattle.std.proofs.lemmas.Option.{none-some, same_Some, slice_get_within, slice_get-map}
+use Rattle.std.proofs.lemmas.Bool.{cases_Bool, cases_lt, and_from, and_cases, both_ways, leb-true, le-leb, eq-eqb, false_from_ne_true, not_from_false}
+use Rattle.std.proofs.lemmas.Option.{none-some, same_Some, slice_get-map}
 use Rattle.esm_model.specs.declared.item.Message.{Message}
 use Rattle.esm_model.specs.declared.lane.LaneId.{LaneId}
 use Rattle.esm_model.specs.declared.entry.Fate.{Fate}
@@ -20,20 +20,19 @@ use Rattle.esm_model.specs.declared.setup.FoundDeletion.{FoundDeletion}
 use Rattle.esm_model.specs.Entries.{holds}
 use Rattle.esm_model.specs.Books.{entry_line, lines_of}
 use Rattle.esm_model.specs.Fates.{below, given}
-use Rattle.esm_queue_model.specs.Queue.{eligible}
 use Rattle.esm_queue_model.specs.QueueSetting.{QueueSetting, message_at, found_deletion}
-use Rattle.esm_queue_model.specs.QueueEntries.{queue_of, queue_count, is_deleted, deletion_fate}
+use Rattle.esm_queue_model.specs.QueueEntries.{queue_count, is_deleted}
 use Rattle.esm_queue_model.specs.QueueBatch.{queue_fits, eligible_after}
-use Rattle.esm_queue_model.proofs.Places.{In, In-here, In-there, In-cases, In-none, In-one, In-filter, filter-In, In-take, In-append_cases, below-In}
+use Rattle.esm_queue_model.proofs.Places.{In, In-here, In-there, In-none, In-filter, filter-In, In-take, In-append_cases, below-In}
 use Rattle.esm_queue_model.proofs.Groups.{bytes_eq-true}
 use Rattle.esm_queue_model.proofs.QueueHistories.{longest_front}
 use Rattle.esm_queue_model.proofs.MoreMessages.{count_grows}
 use Rattle.esm_redrive_model.specs.RedriveSetting.{RedriveSetting, stands_among, has_dead_id}
 use Rattle.esm_redrive_model.specs.DeadLetter.{dead_letter}
-use Rattle.esm_redrive_model.specs.Due.{receives, is_at_limit, due, is_known, known, lined_places, moved_places, moved_messages, moved_ids}
-use Rattle.esm_redrive_model.specs.RedriveStep.{MayMove, MayGiveRedrive, RedriveMayFollow, LegalRedrive}
+use Rattle.esm_redrive_model.specs.Due.{receives, is_at_limit, is_known, lined_places, moved_places, moved_messages, moved_ids}
+use Rattle.esm_redrive_model.specs.RedriveStep.{MayGiveRedrive, RedriveMayFollow, LegalRedrive}
 use Rattle.esm_redrive_model.specs.RedriveLaws.{EachOnce, HaveDifferentIds, MovedOnce, MovedAfterReceives, ReceivedAtMost}
-use Rattle.esm_redrive_model.proofs.Built.{NamesWaiting, Built, eligible_came}
+use Rattle.esm_redrive_model.proofs.Built.{Built, eligible_came}
 use Rattle.esm_redrive_model.proofs.Named.{follows_at, eligible_waits, moved_due, moved_eligible, moved_place, built_of}
 use Rattle.esm_redrive_model.proofs.Ends.{deleted_is}
 
@@ -47,7 +46,7 @@ moved_after_receives_in s h legal later before lane shard places line state m sp
     leb-true s.max_receives (receives before i) passes
 
 -- a call receives messages that may be received once more
-once_more : (s : RedriveSetting) (h : List Entry) (lane : LaneId) (places : List ℕ) (m i : ℕ) → RedriveMayFollow s h (Began lane places None m) → In places i → receives h i < s.max_receives
+pub once_more : (s : RedriveSetting) (h : List Entry) (lane : LaneId) (places : List ℕ) (m i : ℕ) → RedriveMayFollow s h (Began lane places None m) → In places i → receives h i < s.max_receives
 once_more s h lane places m i may member =
     let all = eligible_after s.queue h m in
     let front = longest_front (queue_fits s.queue h m) [] all in

@@ -1,5 +1,5 @@
 -- A legal history of a redrive names messages that came and wait.
-use Rattle.std.proofs.Common.{◌≡◌, ℕ, ◌<◌, ◌≤◌, Bool, true, false, not, ◌&&◌, List, [], ◌∷◌, ◌++◌, length, take, refl, sym, ap, ◌∙◌, subst, inl, inr, arith, Option, Some, None}
+use Rattle.std.proofs.Common.{◌≡◌, ℕ, Bool, true, false, not, ◌&&◌, List, [], ◌∷◌, ◌++◌, length, refl, sym, ap, ◌∙◌, subst, Option, Some, None}
 use Rattle.std.specs.Prelude.{filter, option_map, unwrap_or}
 use Rattle.std.proofs.lemmas.Bool.{and_parts, not-true}
 use Rattle.esm_model.specs.declared.lane.LaneId.{LaneId}
@@ -21,7 +21,7 @@ use Rattle.esm_queue_model.proofs.EligibleFacts.{eligible_is, shown_of}
 use Rattle.esm_redrive_model.specs.RedriveSetting.{RedriveSetting, has_dead_id}
 use Rattle.esm_redrive_model.specs.Due.{is_at_limit, due}
 use Rattle.esm_redrive_model.specs.RedriveStep.{MayMove, MayGiveRedrive, RedriveMayFollow, LegalRedrive}
-use Rattle.esm_redrive_model.proofs.Built.{NamesWaiting, AreEligible, Builds, Built, stored_count, eligible_came, succeeded_came}
+use Rattle.esm_redrive_model.proofs.Built.{NamesWaiting, Builds, Built, eligible_came, succeeded_came}
 
 -- what stands before an entry
 

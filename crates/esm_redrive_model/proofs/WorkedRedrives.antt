@@ -1,5 +1,5 @@
 -- Worked examples of redrives, computed.
-use Rattle.std.proofs.Common.{◌≡◌, ℕ, ◌≤◌, Bool, true, false, List, [], ◌∷◌, length, take, refl, sym, ap, ◌∙◌, arith, Option, Some, None}
+use Rattle.std.proofs.Common.{◌≡◌, ℕ, true, false, List, [], ◌∷◌, length, take, refl, sym, ap, ◌∙◌, arith, Some, None}
 use Rattle.std.specs.Prelude.{◌==◌, codes, nat_le, nat_lt, find}
 use Rattle.std.specs.Str.{bytes_eq}
 use Rattle.std.specs.Fmt.{digits}
@@ -11,7 +11,6 @@ use Rattle.serde_json.proofs.OnLiterals.{serde_json_on_literals}
 use Rattle.esm_model.specs.declared.moment.TheConstants.{MAX_MOMENT}
 use Rattle.esm_model.specs.declared.item.Message.{Message}
 use Rattle.esm_model.specs.declared.entry.Fate.TheVariants.{Succeeded, Exhausted}
-use Rattle.esm_model.specs.declared.entry.Reply.{Reply}
 use Rattle.esm_model.specs.declared.entry.Entry.{Entry}
 use Rattle.esm_model.specs.declared.entry.Entry.TheVariants.{Came, Gave, Shut}
 use Rattle.esm_model.specs.declared.setup.FoundDeletion.{FoundDeletion}
@@ -22,16 +21,16 @@ use Rattle.esm_model.specs.Filter.{passes_message}
 use Rattle.esm_model.specs.Entries.{moment_of, last_moment, is_shut, calls_begun, is_running}
 use Rattle.esm_model.specs.QueueEvent.{hexadecimal, queue_record_text, queue_event_text}
 use Rattle.esm_model.specs.QueueReading.{queue_item_reading}
-use Rattle.esm_model.specs.Worked.{lane_0, began, ended, gave, fails, succeeds, failed_call, good_call, all_came}
+use Rattle.esm_model.specs.Worked.{lane_0, began, ended, gave, fails, succeeds, good_call, all_came}
 use Rattle.esm_queue_model.specs.QueueSetting.{message_at}
-use Rattle.esm_queue_model.specs.QueueEntries.{queue_lane, queue_count}
+use Rattle.esm_queue_model.specs.QueueEntries.{queue_lane}
 use Rattle.esm_queue_model.specs.QueueBatch.{queue_batch, is_queue_ready}
 use Rattle.esm_queue_model.specs.QueueStep.{unsorted_messages, owed_places}
 use Rattle.esm_queue_model.specs.WorkedHistories.{plain_message}
 use Rattle.esm_redrive_model.specs.RedriveSetting.{RedriveSetting}
 use Rattle.esm_redrive_model.specs.DeadLetter.{dead_letter}
 use Rattle.esm_redrive_model.specs.Due.{due, known}
-use Rattle.esm_redrive_model.specs.RedriveStep.{SettledRedrive, MayBeginRedrive, MayEndRedrive, MayMove, MayDeleteRedrive, RedriveMayFollow, LegalRedrive}
+use Rattle.esm_redrive_model.specs.RedriveStep.{SettledRedrive, MayBeginRedrive, MayEndRedrive, MayMove, RedriveMayFollow, LegalRedrive}
 use Rattle.esm_redrive_model.specs.WorkedRedrives.{moved, twice, line_a, failed_once, failed_twice, RedriveOne, two_calls, RedriveSpent, NearRedriveOne, found_a, came_known, recorded, RedriveFound, NearRedriveFound, of_group, once, grouped_line, first_failed, first_moved, RedriveFifo, NearRedriveFifo}
 
 -- the rows, of tests that compute

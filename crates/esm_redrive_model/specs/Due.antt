@@ -1,7 +1,7 @@
 -- Which messages a redrive moves, and which it only records. Source: the Amazon SQS Developer Guide, "Using dead-letter
 -- queues"; that receives are those of this history, and that a line which stands in the dead-letter file already counts,
 -- is this product's own.
-use Rattle.std.specs.Prelude.{ℕ, suc, nat_le, Bool, false, not, ◌&&◌, List, [], ◌∷◌, ◌++◌, filter, filter_map, map, Option, Some, None, option_map, unwrap_or, if◌then◌else◌}
+use Rattle.std.specs.Prelude.{ℕ, suc, nat_le, Bool, false, not, ◌&&◌, List, [], ◌∷◌, ◌++◌, filter, filter_map, Some, option_map, unwrap_or, if◌then◌else◌}
 use Rattle.esm_model.specs.declared.item.Message.{Message}
 use Rattle.esm_model.specs.declared.entry.Entry.{Entry}
 use Rattle.esm_model.specs.declared.entry.Entry.TheVariants.{Began, Gave}

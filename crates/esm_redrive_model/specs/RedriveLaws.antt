@@ -1,5 +1,5 @@
 -- What holds of every legal history of a redrive (newest entry first).
-use Rattle.std.specs.Prelude.{◌≡◌, ℕ, ◌+◌, ◌<◌, ◌≤◌, Bool, true, false, IsTrue, List, ◌∷◌, ◌++◌, length, map, Option, Some, is_some, slice_get}
+use Rattle.std.specs.Prelude.{◌≡◌, ℕ, ◌+◌, ◌*◌, ◌<◌, ◌≤◌, Bool, true, false, IsTrue, List, ◌∷◌, ◌++◌, length, map, Option, Some, is_some, slice_get}
 use Rattle.esm_model.specs.declared.item.Message.{Message}
 use Rattle.esm_model.specs.declared.lane.LaneId.{LaneId}
 use Rattle.esm_model.specs.declared.entry.Fate.{Fate}
@@ -8,13 +8,15 @@ use Rattle.esm_model.specs.declared.entry.WindowState.{WindowState}
 use Rattle.esm_model.specs.declared.entry.Entry.{Entry}
 use Rattle.esm_model.specs.declared.entry.Entry.TheVariants.{Gave}
 use Rattle.esm_model.specs.declared.setup.FoundDeletion.{FoundDeletion}
-use Rattle.esm_model.specs.Entries.{holds}
+use Rattle.esm_model.specs.Entries.{holds, calls_begun}
 use Rattle.esm_model.specs.Books.{lines_of}
+use Rattle.esm_queue_model.specs.Queue.{count_at}
 use Rattle.esm_queue_model.specs.QueueSetting.{found_deletion}
-use Rattle.esm_queue_model.specs.QueueEntries.{queue_count, is_deleted, waiting, deletion_fate, deleted_with}
-use Rattle.esm_redrive_model.specs.RedriveSetting.{RedriveSetting, stands_among}
+use Rattle.esm_queue_model.specs.QueueEntries.{queue_of, queue_count, is_deleted, waiting, deletion_fate, deleted_with}
+use Rattle.esm_redrive_model.specs.RedriveSetting.{RedriveSetting, stands_among, with_dead_ids}
 use Rattle.esm_redrive_model.specs.DeadLetter.{dead_letter}
-use Rattle.esm_redrive_model.specs.Due.{receives, moved_messages, moved_ids}
+use Rattle.esm_redrive_model.specs.Due.{receives, known, moved_messages, moved_ids}
+use Rattle.esm_redrive_model.specs.RedriveStep.{LegalRedrive}
 
 -- what becomes of a message
 
@@ -67,3 +69,18 @@ MovedAfterReceives s h =
 -- and none is received more often
 abbrev pub ReceivedAtMost : RedriveSetting → List Entry → Type 0
 ReceivedAtMost s h = (i : ℕ) → receives h i ≤ s.max_receives
+
+-- no more calls began than the messages that came may be received
+abbrev pub CallsAreFew : RedriveSetting → List Entry → Type 0
+CallsAreFew s h = calls_begun h ≤ queue_count h * s.max_receives
+
+-- the queue counts the receives of each message
+abbrev pub ReceivesAreCounted : RedriveSetting → List Entry → Type 0
+ReceivesAreCounted s h = (i : ℕ) → count_at (queue_of s.queue h) i ≡ receives h i
+
+-- dead letters that were found
+
+-- over the other ids the same messages are known, and the history is legal too
+pub record IsSameOver (s : RedriveSetting) (ids : List (List ℕ)) (h : List Entry) : Type 0 where
+  pub same_known : known (with_dead_ids s ids) h ≡ known s h
+  pub legal : LegalRedrive s h → LegalRedrive (with_dead_ids s ids) h

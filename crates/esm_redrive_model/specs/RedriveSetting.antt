@@ -1,6 +1,6 @@
 -- What a history of a redrive is judged over: a queue's setting, and the limit and the dead-letter file that a redrive has
 -- besides. Source: the Amazon SQS Developer Guide, "Using dead-letter queues" (`maxReceiveCount`).
-use Rattle.std.specs.Prelude.{ℕ, Bool, List}
+use Rattle.std.specs.Prelude.{◌≡◌, ℕ, Bool, List}
 use Rattle.std.specs.List.{list_any}
 use Rattle.std.specs.Str.{bytes_eq}
 use Rattle.esm_model.specs.declared.item.Message.{Message}
@@ -24,3 +24,13 @@ has_dead_id s m = stands_among s.dead_ids m.id
 -- the same setting over another list of messages
 abbrev pub redrive_over : RedriveSetting → List Message → RedriveSetting
 redrive_over s messages = record s { queue = over_messages s.queue messages }
+
+-- other lines
+
+-- the same ids stand in both, however often and in which order
+abbrev pub HaveSameIds : List (List ℕ) → List (List ℕ) → Type 0
+HaveSameIds ids others = (id : List ℕ) → stands_among ids id ≡ stands_among others id
+
+-- the same setting over another list of ids
+abbrev pub with_dead_ids : RedriveSetting → List (List ℕ) → RedriveSetting
+with_dead_ids s ids = record s { dead_ids = ids }

@@ -1,10 +1,13 @@
 //! What holds of every legal history of a redrive, each as the contract of a function that does nothing.
 //! A history is written newest entry first.
-ghost use Rattle.std.specs.Prelude.{List};
+ghost use Rattle.std.specs.Prelude.{ℕ, ◌≤◌, List};
+ghost use Rattle.esm_model.specs.declared.item.Message.{Message};
 ghost use Rattle.esm_model.specs.declared.entry.Entry.{Entry};
-ghost use Rattle.esm_redrive_model.specs.RedriveSetting.{RedriveSetting};
+ghost use Rattle.esm_queue_model.specs.declared.stored.TheConstants.{MAX_COUNT};
+ghost use Rattle.esm_queue_model.specs.QueueSetting.{ExtendsMessages};
+ghost use Rattle.esm_redrive_model.specs.RedriveSetting.{RedriveSetting, HaveSameIds, redrive_over};
 ghost use Rattle.esm_redrive_model.specs.RedriveStep.{LegalRedrive};
-ghost use Rattle.esm_redrive_model.specs.RedriveLaws.{FoundForThese, EachHasOneEnd, MovedOnce, MovedAfterReceives, ReceivedAtMost};
+ghost use Rattle.esm_redrive_model.specs.RedriveLaws.{FoundForThese, EachHasOneEnd, MovedOnce, MovedAfterReceives, ReceivedAtMost, CallsAreFew, ReceivesAreCounted, IsSameOver};
 
 /// Each message that came is exactly one of waiting, succeeded, filtered and moved, where the journal tells of deletions
 /// for these reasons alone.
@@ -26,4 +29,25 @@ pub fn moved_after_receives()
 /// No message is received more often than it may be.
 pub fn received_at_most()
     ensures { (s : RedriveSetting) (h : List Entry) → LegalRedrive s h → ReceivedAtMost s h }
+{}
+
+/// No more calls begin than the messages that came may be received, so where more are allowed they are never spent.
+pub fn calls_are_few()
+    ensures { (s : RedriveSetting) (h : List Entry) → LegalRedrive s h → CallsAreFew s h }
+{}
+
+/// The queue counts the receives of each message, where they may not pass the limit of its counts.
+pub fn receives_are_counted()
+    ensures { (s : RedriveSetting) (h : List Entry) → s.max_receives ≤ MAX_COUNT → LegalRedrive s h → ReceivesAreCounted s h }
+{}
+
+/// What is legal over a list of messages is legal over each list that goes on from it.
+pub fn redrive_over_more()
+    ensures { (s : RedriveSetting) (h : List Entry) (after : List Message) → ExtendsMessages s.queue.messages after → LegalRedrive s h → LegalRedrive (redrive_over s after) h }
+{}
+
+/// Which messages are known, and which histories are legal, depends on which ids stood in the dead-letter file alone, and
+/// not on how often they stood there or in which order.
+pub fn same_over_same_ids()
+    ensures { (s : RedriveSetting) (ids : List (List ℕ)) (h : List Entry) → HaveSameIds s.dead_ids ids → IsSameOver s ids h }
 {}

@@ -1,0 +1,6 @@
+pub mod Escapes
+pub mod Letters
+pub mod ReadingBack
+pub mod Limits
+pub mod DeadLines
+pub mod PayloadIds

@@ -1,0 +1,4 @@
+pub mod ReadsBack
+pub mod Limited
+pub mod Spent
+pub mod DeadFile

@@ -1,0 +1,61 @@
+// The line of a message that is moved to the dead-letter file.
+ghost use Rattle.std.specs.Prelude.{◌≡◌, ◌++◌, IfOk, OnOk};
+ghost use Rattle.std.specs.Str.{IsUtf8};
+ghost use Rattle.esm_model.specs.JsonText.{quoted};
+ghost use Rattle.esm_redrive_model.specs.DeadLetter.{group_member, dead_letter};
+ghost use Rattle.esm_redrive.specs.ReadsBack.{IsUtf8Group, IsUtf8Message, ReadsBack};
+
+use esm_event::bytes::push_bytes;
+use esm_event::digits::push_decimal;
+use esm_event::json::push_quoted;
+use esm_model::{Message, OutOfMemory, Text};
+use std::alloc::Global;
+
+/// Appends the text between quotation marks. After an `Err` a part of it may stand there.
+fn push_text(out: &mut Vec<u8>, text: &Text) -> Result<(), OutOfMemory>
+    ensures text { OnOk result (out.new.items ≡ out.old.items ++ quoted text.now) }
+    ensures utf8 { IsUtf8 text.now }
+{
+    push_quoted(out, text.as_str().as_bytes())
+}
+
+/// Appends the member of the group, where there is one. After an `Err` a part of it may stand there.
+fn push_group(out: &mut Vec<u8>, group: &Option<Text>) -> Result<(), OutOfMemory>
+    ensures text { OnOk result (out.new.items ≡ out.old.items ++ group_member group.now) }
+    ensures utf8 { OnOk result (IsUtf8Group group.now) }
+{
+    match group {
+        None => Ok(()),
+        Some(text) => {
+            push_bytes(out, b",\"messageGroupId\":")?;
+            push_text(out, text)?;
+            Ok(())
+        }
+    }
+}
+
+/// Appends the line. After an `Err` a part of it may stand there.
+fn push_letter(out: &mut Vec<u8>, message: &Message) -> Result<(), OutOfMemory>
+    ensures text { OnOk result (out.new.items ≡ out.old.items ++ dead_letter message.now) }
+    ensures utf8 { OnOk result (IsUtf8Message message.now) }
+{
+    push_bytes(out, b"{\"messageId\":")?;
+    push_text(out, &message.id)?;
+    push_bytes(out, b",\"body\":")?;
+    push_text(out, &message.body)?;
+    push_bytes(out, b",\"sentTimestamp\":")?;
+    push_decimal(out, message.sent)?;
+    push_group(out, &message.group)?;
+    push_bytes(out, b"}")?;
+    Ok(())
+}
+
+/// The line of a dead letter, without its line feed: an input line of the message's queue, so that it can be fed again.
+pub fn dead_line(alloc: Global, message: &Message) -> Result<Vec<u8>, OutOfMemory>
+    ensures text { IfOk result (λ line. line.items ≡ dead_letter message.now) }
+    ensures reads_back { IfOk result (λ line. ReadsBack message.now line.items) }
+{
+    let mut out = Vec::new(alloc);
+    push_letter(&mut out, message)?;
+    Ok(out)
+}

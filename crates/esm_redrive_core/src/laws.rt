@@ -1,0 +1,39 @@
+//! What decisions leave of a legal history, each as the contract of a function that does nothing. A history is written
+//! newest entry first; it is settled where it calls for nothing more.
+ghost use Rattle.std.specs.Prelude.{List};
+ghost use Rattle.esm_model.specs.declared.item.Message.{Message};
+ghost use Rattle.esm_model.specs.declared.entry.Entry.{Entry};
+ghost use Rattle.esm_queue_model.specs.QueueSetting.{ExtendsMessages};
+ghost use Rattle.esm_redrive_model.specs.RedriveSetting.{RedriveSetting, redrive_over};
+ghost use Rattle.esm_redrive_core.specs.Sound.{Sound, MessagesAreSound, MoveIsSound, CallIsSound, EndIsSound, ShutIsSound};
+
+/// What is legal and settled over a list of messages is so over each list that goes on from it.
+pub fn sound_over_more()
+    ensures { (s : RedriveSetting) (h : List Entry) (after : List Message) → ExtendsMessages s.queue.messages after → Sound s h → Sound (redrive_over s after) h }
+{}
+
+/// Messages come; those whose line was found are recorded as moved, and those of the others that fail the filter and were
+/// not found deleted are deleted: then nothing more is called for.
+pub fn messages_are_sound()
+    ensures { (s : RedriveSetting) (h : List Entry) → Sound s h → MessagesAreSound s h }
+{}
+
+/// The first message that is due is moved: nothing more is called for.
+pub fn move_is_sound()
+    ensures { (s : RedriveSetting) (h : List Entry) → Sound s h → MoveIsSound s h }
+{}
+
+/// A call of the function begins, of the batch that is due: nothing more is called for.
+pub fn call_is_sound()
+    ensures { (s : RedriveSetting) (h : List Entry) → Sound s h → CallIsSound s h }
+{}
+
+/// The call ends, and the messages that succeeded and are not deleted are deleted: then nothing more is called for.
+pub fn end_is_sound()
+    ensures { (s : RedriveSetting) (h : List Entry) → Sound s h → EndIsSound s h }
+{}
+
+/// The input ends: nothing more is called for.
+pub fn shut_is_sound()
+    ensures { (s : RedriveSetting) (h : List Entry) → Sound s h → ShutIsSound s h }
+{}
