@@ -232,6 +232,26 @@ def spent_with_open_input(t):
     t.same("status", 1, run.returncode)
 
 
+def spent_with_dripping_input(t):
+    """And so where a record comes three times a second."""
+    t.in_folder([])
+    (t.folder / "input.jsonl").unlink()
+    os.mkfifo(t.folder / "input.jsonl")
+    run = t.begin(["run", "--config", json.dumps(STREAM | {"BatchSize": 1}), "--calls", "2"], stdout=subprocess.PIPE)
+    feed = os.open(t.folder / "input.jsonl", os.O_WRONLY)
+    begun = time.monotonic()
+    with contextlib.suppress(BrokenPipeError):
+        for number in range(1, 100):
+            os.write(feed, text_of([record(number)]).encode())
+            time.sleep(0.3)
+            if run.poll() is not None:
+                break
+    t.between("seconds until it ends", 0, 10, time.monotonic() - begun)
+    os.close(feed)
+    t.same("output", ["calls 2", "calls spent"], run.communicate(timeout=60)[0].splitlines()[1:])
+    t.same("status", 1, run.returncode)
+
+
 def full_pipe(t):
     """The report waits for the reader of a pipe that is full."""
     ours, theirs = os.pipe()
@@ -436,5 +456,5 @@ SLOW = [slow_client]
 CASES = [
     closed_by_run, closed_by_others, closed_by_serve, closed_input, early_answers, no_answer, no_connection,
     trickling_answer, large_replies, few_descriptors, no_reader, fault_with_open_input, spent_with_open_input,
-    full_pipe, foreign_requests, stopped_serve, no_threads, moved_date, small_stack, *SLOW,
+    spent_with_dripping_input, full_pipe, foreign_requests, stopped_serve, no_threads, moved_date, small_stack, *SLOW,
 ]
