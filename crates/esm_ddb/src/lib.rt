@@ -19,6 +19,8 @@ mod lexeme;
 mod size;
 mod source;
 mod splitter;
+#[cfg(test)]
+mod tests;
 mod translator;
 mod turned;
 
