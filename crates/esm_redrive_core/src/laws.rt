@@ -9,7 +9,8 @@ ghost use Rattle.esm_redrive_core.specs.Sound.{Sound, MessagesAreSound, MoveIsSo
 
 /// What is legal and settled over a list of messages is so over each list that goes on from it.
 pub fn sound_over_more()
-    ensures { (s : RedriveSetting) (h : List Entry) (after : List Message) → ExtendsMessages s.queue.messages after → Sound s h → Sound (redrive_over s after) h }
+    ensures { (s : RedriveSetting) (h : List Entry) (after : List Message) → ExtendsMessages s.queue.messages after →
+        Sound s h → Sound (redrive_over s after) h }
 {}
 
 /// Messages come; those whose line was found are recorded as moved, and those of the others that fail the filter and were

@@ -43,7 +43,8 @@ pub fn receives_are_counted()
 
 /// What is legal over a list of messages is legal over each list that goes on from it.
 pub fn redrive_over_more()
-    ensures { (s : RedriveSetting) (h : List Entry) (after : List Message) → ExtendsMessages s.queue.messages after → LegalRedrive s h → LegalRedrive (redrive_over s after) h }
+    ensures { (s : RedriveSetting) (h : List Entry) (after : List Message) → ExtendsMessages s.queue.messages after →
+        LegalRedrive s h → LegalRedrive (redrive_over s after) h }
 {}
 
 /// Which messages are known, and which histories are legal, depends on which ids stood in the dead-letter file alone, and

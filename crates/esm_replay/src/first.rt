@@ -34,8 +34,10 @@ pub fn first_waiting(
     records: &[Record],
 ) -> Result<Waiting, OutOfMemory>
     requires { length records.now < 2 ^ 32 }
-    ensures pieces { IfOk result (λ waiting. (config : Config) (calls : ℕ) → seen_pieces waiting.pieces ≡ first_pieces (setting_with config calls said.now ranges.now records.now)) }
-    ensures placed { IfOk result (λ waiting. (config : Config) (calls : ℕ) → All (IsPlaced (setting_with config calls said.now ranges.now records.now) records.now) waiting.pieces) }
+    ensures pieces { IfOk result (λ waiting. (config : Config) (calls : ℕ) → seen_pieces waiting.pieces ≡
+        first_pieces (setting_with config calls said.now ranges.now records.now)) }
+    ensures placed { IfOk result (λ waiting. (config : Config) (calls : ℕ) →
+        All (IsPlaced (setting_with config calls said.now ranges.now records.now) records.now) waiting.pieces) }
 {
     let rows = rows_of(alloc, said, ranges, records)?;
     let _ = rows.len();

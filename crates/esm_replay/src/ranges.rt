@@ -96,7 +96,8 @@ fn all_reaching(alloc: Global, ranges: Vec<Range>) -> Result<Vec<Range>, OutOfMe
 fn started_by(ranges: &[Range], shard: u64, number: &Seq) -> usize
     requires lead { AllLead ranges.now }
     ensures bound { result ≤ length ranges.now }
-    ensures point { IsPartitionPoint (λ (r : Range). starts_by (shard, number.now) r ≡ true) (λ (r : Range). starts_by (shard, number.now) r ≡ false) ranges.now result }
+    ensures point { IsPartitionPoint (λ (r : Range). starts_by (shard, number.now) r ≡ true)
+        (λ (r : Range). starts_by (shard, number.now) r ≡ false) ranges.now result }
 {
     ranges.partition_point(|range| !order(range, shard, number).is_gt())
 }

@@ -73,7 +73,8 @@ fn add(
     at: u32,
 ) -> Result<(), OutOfMemory>
     requires { came_in (get nat_cmp rows.old item.now.shard) < u32.MAX }
-    ensures here { OnOk result (IsGrownAt (names said.now ranges.now item.now (came_in (get nat_cmp rows.old item.now.shard))) at (get nat_cmp rows.old item.now.shard) (get nat_cmp rows.new item.now.shard)) }
+    ensures here { OnOk result (IsGrownAt (names said.now ranges.now item.now (came_in (get nat_cmp rows.old item.now.shard))) at
+        (get nat_cmp rows.old item.now.shard) (get nat_cmp rows.new item.now.shard)) }
     ensures others { OnOk result ((q : ℕ) → (item.now.shard == q) ≡ false → get nat_cmp rows.new q ≡ get nat_cmp rows.old q) }
 {
     let row = rows.remove(&item.shard);

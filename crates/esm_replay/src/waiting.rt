@@ -107,7 +107,8 @@ impl Waiting {
         requires config { IsStreamConfig config.now }
         requires valid { All IsValidRecord records.now }
         requires stand { StandWithin (length records.now) self.now.pieces }
-        ensures { IfOk result (λ batch. (s : ReplaySetting) → config_of s ≡ config.now → All (IsPlaced s records.now) self.now.pieces → IsNextBatch s self.now.pieces batch) }
+        ensures { IfOk result (λ batch. (s : ReplaySetting) → config_of s ≡ config.now →
+            All (IsPlaced s records.now) self.now.pieces → IsNextBatch s self.now.pieces batch) }
     {
         match self.front() {
             None => Ok(None),
