@@ -252,6 +252,20 @@ def spent_with_dripping_input(t):
     t.same("status", 1, run.returncode)
 
 
+def spent_before_the_input(t):
+    """And so where none is allowed, though no writer has opened the FIFO, or none has written."""
+    for written in (False, True):
+        t.in_folder([])
+        (t.folder / "input.jsonl").unlink()
+        os.mkfifo(t.folder / "input.jsonl")
+        feed = os.open(t.folder / "input.jsonl", os.O_RDWR) if written else None
+        begun = time.monotonic()
+        t.run(STREAM, 1, ["calls 0", "calls spent"], options=["--calls", "0"])
+        t.between("seconds until it ends", 0, 10, time.monotonic() - begun)
+        if written:
+            os.close(feed)
+
+
 def full_pipe(t):
     """The report waits for the reader of a pipe that is full."""
     ours, theirs = os.pipe()
@@ -335,6 +349,35 @@ def slow_client(t):
     t.same("answer", NO_MAPPINGS, asked(port, LIST))
     slow.close()
     t.same("output", "served 2\ndone\n", serving.communicate(timeout=60)[0])
+
+
+def slow_reader(t):
+    """An answer that is not taken within 30 seconds is given up, whether none of it is read or a little, and the next client
+    is served."""
+    filters = [{"Pattern": json.dumps({"partitionKey": [str(n) * 4000]})} for n in range(5)]
+    mapping = STREAM | {"FilterCriteria": {"Filters": filters}}
+    count = 500  # the list of as many has 10 MB, more than the buffers between two sockets take
+    t.in_folder([])
+    port = free_port()
+    serving = t.begin(["serve", "--requests", str(count + 4)], door=port, stdout=subprocess.PIPE)
+    for number in range(count):
+        body = json.dumps(mapping | {"FunctionName": f"f{number}"}).encode()
+        created = asked(port, request([f"POST {PATH} HTTP/1.1"], body))
+        t.same("status", b"HTTP/1.1 202 Accepted", created.split(b"\r\n")[0])
+    for reads in (False, True):
+        with socket.socket() as slow:
+            slow.setsockopt(socket.SOL_SOCKET, socket.SO_RCVBUF, 4096)
+            slow.connect(("127.0.0.1", port))
+            slow.sendall(LIST)
+            begun = time.monotonic()
+            with connected(port) as other:
+                other.sendall(LIST)
+                while not select.select([other], [], [], 0.2)[0] and time.monotonic() - begun < 90:
+                    if reads:
+                        slow.recv(1000)
+                t.between("seconds until the next is served", 29, 33, time.monotonic() - begun)
+                t.same("mappings", count, read_out(other).count(b'"UUID"'))
+    t.same("output", f"served {count + 4}\ndone\n", serving.communicate(timeout=60)[0])
 
 
 # the machine
@@ -452,9 +495,10 @@ def small_stack(t):
     t.same("output of serve", "served 1\ndone\n", serving.communicate(timeout=60)[0])
 
 
-SLOW = [slow_client]
+SLOW = [slow_client, slow_reader]
 CASES = [
     closed_by_run, closed_by_others, closed_by_serve, closed_input, early_answers, no_answer, no_connection,
     trickling_answer, large_replies, few_descriptors, no_reader, fault_with_open_input, spent_with_open_input,
-    spent_with_dripping_input, full_pipe, foreign_requests, stopped_serve, no_threads, moved_date, small_stack, *SLOW,
+    spent_with_dripping_input, spent_before_the_input, full_pipe, foreign_requests, stopped_serve, no_threads, moved_date,
+    small_stack, *SLOW,
 ]

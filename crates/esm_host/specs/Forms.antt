@@ -1,6 +1,8 @@
 -- What the devices of the host hold. This product's own.
 use Rattle.std.specs.Prelude.{ℕ, Bool, Option}
+use Rattle.std.specs.Duration.{as_nanos}
 use Rattle.std.specs.declared.time.Duration.{Duration}
+use Rattle.esm_host.specs.declared.deadline.Deadline.{Deadline}
 
 -- a real form: its count of faults
 pub record RealState : Type 0 where
@@ -11,12 +13,21 @@ pub record FileDiskState : Type 0 where
   pub down : Bool
   pub faults : ℕ
 
+-- a limit of time, in nanoseconds, and what the steady clock read when it began, none before
+pub record TimeLimit : Type 0 where
+  pub limit : ℕ
+  pub begun : Option Duration
+
+abbrev pub writing_of : Deadline → TimeLimit
+writing_of d = record { limit = as_nanos d.limit; begun = d.begun }
+
 -- a connection over TCP: whether it is there; its limit of time, in nanoseconds, and what the steady clock read when that
--- began, none before; its count of faults
+-- began, none before; that of its writes, where they have one of their own; its count of faults
 pub record TcpLinkState : Type 0 where
   pub connected : Bool
   pub limit : ℕ
   pub begun : Option Duration
+  pub writing : Option TimeLimit
   pub faults : ℕ
 
 -- the host's clock: the date, in milliseconds since 1970, when it was made

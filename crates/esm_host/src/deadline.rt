@@ -59,27 +59,27 @@ impl Deadline {
         self.begun = None;
     }
 
-    /// What is left of it, but `grace` at least; a millisecond at least where anything is left. A limit that has not begun
-    /// counts as whole. An error where nothing is left, and where the steady clock cannot be read.
-    pub fn left<R: Clock>(&self, rt: &R, grace: Duration) -> io::Result<Duration>
+    /// What is left of it; a millisecond at least where anything is left. A limit that has not begun counts as whole. An error
+    /// where nothing is left, and where the steady clock cannot be read.
+    pub fn left<R: Clock>(&self, rt: &R) -> io::Result<Duration>
         ensures some { IfOk result (λ left. 0 < as_nanos left) }
-        ensures bounded { IfOk result (λ left. as_nanos left ≤ max (max (as_nanos self.now.limit) (as_nanos grace)) 1_000_000) }
+        ensures bounded { IfOk result (λ left. as_nanos left ≤ max (as_nanos self.now.limit) 1_000_000) }
     {
         let now = rt.monotonic()?;
         let gone = now.saturating_sub(self.begun.unwrap_or(now));
-        match time_left(self.limit, gone, grace) {
+        match time_left(self.limit, gone) {
             Some(left) => Ok(left),
             None => Err(io::Error::from(ErrorKind::TimedOut)),
         }
     }
 }
 
-/// What is left of a limit, but `grace` at least; a millisecond at least where anything is left.
-fn time_left(limit: Duration, gone: Duration, grace: Duration) -> Option<Duration>
-    ensures none { IsNone result ↔ (max (as_nanos limit - as_nanos gone) (as_nanos grace) ≡ 0) }
-    ensures some { IfSome result (λ left. as_nanos left ≡ max (max (as_nanos limit - as_nanos gone) (as_nanos grace)) 1_000_000) }
+/// What is left of a limit; a millisecond at least where anything is left.
+fn time_left(limit: Duration, gone: Duration) -> Option<Duration>
+    ensures none { IsNone result ↔ (as_nanos limit - as_nanos gone ≡ 0) }
+    ensures some { IfSome result (λ left. as_nanos left ≡ max (as_nanos limit - as_nanos gone) 1_000_000) }
 {
-    let left = longer(limit.saturating_sub(gone), grace);
+    let left = limit.saturating_sub(gone);
     if left.is_zero() {
         return None;
     }

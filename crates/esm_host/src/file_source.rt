@@ -14,8 +14,8 @@ use std::os::fd::AsRawFd;
 use std::rt::Files;
 use std::{fs, io};
 
-/// A file that is read from its front. A missing one is a fault of the first read. It reads from none of the descriptors
-/// of the standard streams: an open that gave one is a fault.
+/// A file that is read from its front. It is opened by the first call that may wait; a missing one is a fault of the first
+/// read. It reads from none of the descriptors of the standard streams: an open that gave one is a fault.
 #[derive(Drop)]
 pub struct FileSource<R: Files<File = File> + Clone> {
     rt: R,
@@ -43,6 +43,14 @@ fn open_above<R: Files<File = File>>(rt: &R, path: &str) -> io::Result<File>
     above_streams(fs::open(rt, path)?)
 }
 
+/// Whether to open what stands at this path, or to read it, may wait for others, as a FIFO or a device does.
+fn may_wait<R: Files<File = File>>(rt: &R, path: &str) -> bool {
+    match fs::metadata(rt, path) {
+        Ok(found) => !found.is_file(),
+        Err(_) => false,
+    }
+}
+
 impl<R: Files<File = File> + Clone> FileSource<R> {
     /// The bytes of the file at this path. It opens nothing. `OutOfMemory` where the runtime's handle cannot be copied.
     pub fn new(rt: &R, path: Text) -> Result<Self, OutOfMemory>
@@ -62,9 +70,16 @@ impl<R: Files<File = File> + Clone> Source for FileSource<R> {
 
     ghost left = { λ s. None };
 
-    /// Asks of its descriptor, where the file is open: a file is always ready, and a FIFO or a device may not be. True also
-    /// at its end and where it cannot be polled; false where the time passed or a signal interrupted it.
-    fn is_ready(&self, patience: u64) -> bool {
+    /// A file is always ready, and a FIFO or a device may not be. With some patience it is opened, and a FIFO waits there for
+    /// its first writer, however long. True also at its end, and where it cannot be opened or polled; false where the time
+    /// passed or a signal interrupted it.
+    fn is_ready(&mut self, patience: u64) -> bool {
+        if self.file.is_none() {
+            if patience == 0 {
+                return !may_wait(&self.rt, self.path.as_str());
+            }
+            self.file = open_above(&self.rt, self.path.as_str()).ok();
+        }
         match &self.file {
             Some(file) => is_readable(file.as_raw_fd(), patience),
             None => true,

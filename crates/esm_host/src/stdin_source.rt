@@ -47,7 +47,7 @@ impl<R: Input + Clone> Source for StdinSource<R> {
 
     /// Asks of the host's descriptor 0. True also at its end and where it cannot be polled; false where the time passed or a
     /// signal interrupted it.
-    fn is_ready(&self, patience: u64) -> bool {
+    fn is_ready(&mut self, patience: u64) -> bool {
         is_readable(libc::STDIN_FILENO, patience)
     }
 

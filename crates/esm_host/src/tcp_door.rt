@@ -1,5 +1,5 @@
 // A port of 127.0.0.1 as a door, where connections over TCP come in.
-ghost use Rattle.std.specs.Prelude.{◌≡◌, ◌*◌, true, false, None, IsSome, IfNone, IfOk, IfErr, OnErr};
+ghost use Rattle.std.specs.Prelude.{◌≡◌, ◌*◌, true, false, Some, None, IsSome, IfNone, IfOk, IfErr, OnErr};
 ghost use Rattle.std.specs.IoError.{raw_os_error};
 ghost use Rattle.esm_io.specs.Faults.{IsCount, Rose};
 ghost use Rattle.esm_host.specs.Errors.{is_passing};
@@ -28,8 +28,8 @@ const FIRST_PAUSE: u64 = 10;
 const LONGEST_PAUSE: u64 = 1000;
 
 /// A port of 127.0.0.1 where connections over TCP come in. The first `accept` listens there; where that fails, as at
-/// a port that another process has, the next one tries again. All reads of an accepted connection have 30 seconds, and
-/// are faults afterwards; a write waits for its peer for ten seconds at least. It works on none of the descriptors of the
+/// a port that another process has, the next one tries again. All reads of an accepted connection have 30 seconds, and so
+/// have all its writes, from the first of them on; afterwards each is a fault. It works on none of the descriptors of the
 /// standard streams: a socket that got one is closed, which is a fault. `close` drops the connection, which ends it, and
 /// keeps no list.
 #[derive(Drop)]
@@ -103,6 +103,7 @@ impl<R: Net + Clock + Clone> Door for TcpDoor<R> {
         ensures connected { IfOk result (λ link. link.connected ≡ true) }
         ensures limit { IfOk result (λ link. link.limit ≡ LIMIT * 1_000_000_000) }
         ensures running { IfOk result (λ link. IsSome link.begun) }
+        ensures apart { IfOk result (λ link. link.writing ≡ Some (record { limit = LIMIT * 1_000_000_000; begun = None })) }
         ensures faultless { IfOk result (λ link. link.faults ≡ 0) }
         ensures count { IsCount self.old.faults self.new.faults }
         ensures cause { OnErr result (Rose self.old.faults self.new.faults) }

@@ -1,10 +1,11 @@
 // A connection over TCP as a link, made to a local port or accepted by a door.
-ghost use Rattle.std.specs.Prelude.{◌≡◌, ◌<◌, ◌≤◌, true, false, length, None, IsSome, IfOk, IfErr, IsOk, OnOk, OnErr};
+ghost use Rattle.std.specs.Prelude.{◌≡◌, ◌⊎◌, ◌<◌, ◌≤◌, true, false, length, Some, None, option_map, IsSome, IfOk, IfErr, IsOk, OnOk, OnErr};
 ghost use Rattle.std.specs.Duration.{as_nanos};
 ghost use Rattle.std.specs.IoError.{error_kind, raw_os_error};
 ghost use Rattle.esm_io.specs.Faults.{IsCount, Rose};
 ghost use Rattle.esm_host.specs.Errors.{is_wanting};
-ghost use Rattle.esm_host.specs.Limits.{GoesOn};
+ghost use Rattle.esm_host.specs.Forms.{writing_of};
+ghost use Rattle.esm_host.specs.Limits.{GoesOn, HasBegunOnce};
 ghost use Rattle.esm_host.specs.Streams.{IsOther};
 
 use crate::again::{is_interrupted, read_again, write_again};
@@ -22,12 +23,9 @@ use std::net::{Ipv4Addr, Net, OpenStream, SocketAddr, TcpStream};
 use std::rt::Clock;
 use std::time::Duration;
 
-/// How many seconds a write of an accepted connection may wait for its peer in any case.
-const GRACE: u64 = 10;
-
-/// A connection over TCP, with a limit of time for all of it by the steady clock: once nothing is left of it, each read is
-/// a fault, and each write past its grace, and so is either where that clock cannot be read. A call that a signal
-/// interrupted is made again.
+/// A connection over TCP, with a limit of time for all of it by the steady clock: once nothing is left of it each read and
+/// each write is a fault, and so is either where that clock cannot be read. A call that a signal interrupted is made again.
+/// The writes of a connection that a door accepted have a limit of their own, as long as that of its reads.
 ///
 /// One to a port of 127.0.0.1 is made by its first `connect`, read or write, which begins the limit. Where that fails, the
 /// next call tries again, within the same limit; after `NoConnection::Wanting` it begins the limit anew. A connection that
@@ -40,18 +38,25 @@ pub struct TcpLink<R: Net + Clock + Clone> {
     port: Option<u16>,
     stream: Option<R::Stream>,
     deadline: Deadline,
-    grace: Duration,
+    /// That of the writes, where it is their own; the first of them begins it.
+    writing: Option<Deadline>,
     faults: u64,
 }
 
 impl<R: Net + Clock + Clone> Model for TcpLink<R> {
-    ghost use Rattle.std.specs.Prelude.{is_some, IsSome};
+    ghost use Rattle.std.specs.Prelude.{is_some, option_map, IsSome};
     ghost use Rattle.std.specs.Duration.{as_nanos};
-    ghost use Rattle.esm_host.specs.Forms.{TcpLinkState};
+    ghost use Rattle.esm_host.specs.Forms.{TcpLinkState, writing_of};
 
     ghost Value = { TcpLinkState };
 
-    ghost view = { λ s. record { connected = is_some s.stream; limit = as_nanos s.deadline.limit; begun = s.deadline.begun; faults = s.faults } };
+    ghost view = { λ s. record {
+      connected = is_some s.stream;
+      limit = as_nanos s.deadline.limit;
+      begun = s.deadline.begun;
+      writing = option_map writing_of s.writing;
+      faults = s.faults;
+    } };
 
     ghost invariant = { λ s. IsSome s.stream → IsSome s.deadline.begun };
 }
@@ -63,6 +68,7 @@ impl<R: Net + Clock + Clone> TcpLink<R> {
         ensures unconnected { IfOk result (λ link. link.connected ≡ false) }
         ensures limit { IfOk result (λ link. link.limit ≡ as_nanos limit) }
         ensures unbegun { IfOk result (λ link. link.begun ≡ None) }
+        ensures together { IfOk result (λ link. link.writing ≡ None) }
         ensures faultless { IfOk result (λ link. link.faults ≡ 0) }
     {
         Ok(TcpLink {
@@ -70,18 +76,19 @@ impl<R: Net + Clock + Clone> TcpLink<R> {
             port: Some(port),
             stream: None,
             deadline: Deadline::new(limit),
-            grace: Duration::ZERO,
+            writing: None,
             faults: 0,
         })
     }
 
-    /// A connection that a listener has accepted, whose reads have this limit of time from now on, or from the steady
-    /// clock's zero where that cannot be read. A write waits for its peer for what is left of it, but for ten seconds at
-    /// least. `OutOfMemory` where the runtime's handle cannot be copied.
+    /// A connection that a listener has accepted, whose reads have this limit of time from now on, and whose writes have it
+    /// from the first of them on; either from the steady clock's zero where that cannot be read. `OutOfMemory` where the
+    /// runtime's handle cannot be copied.
     pub fn accepted(rt: &R, stream: R::Stream, limit: Duration) -> Result<Self, OutOfMemory>
         ensures connected { IfOk result (λ link. link.connected ≡ true) }
         ensures limit { IfOk result (λ link. link.limit ≡ as_nanos limit) }
         ensures running { IfOk result (λ link. IsSome link.begun) }
+        ensures apart { IfOk result (λ link. link.writing ≡ Some (record { limit = as_nanos limit; begun = None })) }
         ensures faultless { IfOk result (λ link. link.faults ≡ 0) }
     {
         Ok(TcpLink {
@@ -89,7 +96,7 @@ impl<R: Net + Clock + Clone> TcpLink<R> {
             port: None,
             stream: Some(stream),
             deadline: Deadline::from_now(rt, limit),
-            grace: Duration::from_secs(GRACE),
+            writing: Some(Deadline::new(limit)),
             faults: 0,
         })
     }
@@ -100,6 +107,7 @@ impl<R: Net + Clock + Clone> TcpLink<R> {
         ensures ready { self.old.connected ≡ true → IsOk result }
         ensures kept { self.old.connected ≡ true → self.new ≡ self.old }
         ensures limit { self.new.limit ≡ self.old.limit }
+        ensures writing { self.new.writing ≡ self.old.writing }
         ensures running { OnOk result (IsSome self.new.begun) }
         ensures begun { OnOk result (GoesOn self.old.begun self.new.begun) }
         ensures refused { IfErr result (λ cause. cause ≡ NoConnection.Refused → GoesOn self.old.begun self.new.begun) }
@@ -120,6 +128,7 @@ impl<R: Net + Clock + Clone> TcpLink<R> {
         ensures there { self.old.connected ≡ true → IsOk result }
         ensures untouched { self.old.connected ≡ true → self.new.begun ≡ self.old.begun }
         ensures limit { self.new.limit ≡ self.old.limit }
+        ensures writing { self.new.writing ≡ self.old.writing }
         ensures running { OnOk result (IsSome self.new.begun) }
         ensures begun { OnOk result (GoesOn self.old.begun self.new.begun) }
         ensures refused { IfErr result (λ cause. cause ≡ NoConnection.Refused → GoesOn self.old.begun self.new.begun) }
@@ -193,7 +202,7 @@ fn try_connect<R: Net + Clock>(
 ) -> io::Result<R::Stream>
     ensures above { IfOk result (λ stream. IsOther (R.Stream.raw_fd stream)) }
 {
-    let left = deadline.left(rt, Duration::ZERO)?;
+    let left = deadline.left(rt)?;
     let stream = above_streams(TcpStream::connect_timeout(rt, &peer, left)?)?;
     to_another(stream, peer)
 }
@@ -211,6 +220,26 @@ fn to_another<S: OpenStream + Drop>(stream: S, peer: SocketAddr) -> io::Result<S
     }
 }
 
+/// The limit of time of the writes: that of the whole connection, or their own, which begins now where it has not begun, or
+/// at the steady clock's zero where that cannot be read.
+fn limit_of_writes<R: Clock>(rt: &R, whole: Deadline, writing: &mut Option<Deadline>) -> Deadline
+    ensures begun { HasBegunOnce (option_map writing_of writing.old) (option_map writing_of writing.new) }
+    ensures together { writing.old ≡ None → result ≡ whole }
+    ensures apart { writing.old ≡ None ⊎ writing.new ≡ Some result }
+{
+    match *writing {
+        None => whole,
+        Some(own) => {
+            let begun = match own.begun {
+                Some(_) => own,
+                None => Deadline::from_now(rt, own.limit),
+            };
+            *writing = Some(begun);
+            begun
+        }
+    }
+}
+
 impl<R: Net + Clock + Clone> Link for TcpLink<R> {
     ghost faults = { λ s. s.faults };
 
@@ -221,6 +250,7 @@ impl<R: Net + Clock + Clone> Link for TcpLink<R> {
         ensures connected { OnOk result (self.new.connected ≡ true) }
         ensures stays { self.old.connected ≡ true → self.new.connected ≡ true }
         ensures limit { self.new.limit ≡ self.old.limit }
+        ensures writing { self.new.writing ≡ self.old.writing }
         ensures running { OnOk result (IsSome self.new.begun) }
         ensures begun { self.old.connected ≡ true → self.new.begun ≡ self.old.begun }
         ensures count { IsCount self.old.faults self.new.faults }
@@ -232,7 +262,6 @@ impl<R: Net + Clock + Clone> Link for TcpLink<R> {
             rt: &self.rt,
             stream,
             deadline: self.deadline,
-            grace: self.grace,
         };
         let count = counted(&mut self.faults, read_again(&mut timed, into));
         self.stream = Some(timed.stream);
@@ -246,6 +275,7 @@ impl<R: Net + Clock + Clone> Link for TcpLink<R> {
         ensures connected { OnOk result (self.new.connected ≡ true) }
         ensures stays { self.old.connected ≡ true → self.new.connected ≡ true }
         ensures limit { self.new.limit ≡ self.old.limit }
+        ensures writing { HasBegunOnce self.old.writing self.new.writing }
         ensures running { OnOk result (IsSome self.new.begun) }
         ensures begun { self.old.connected ≡ true → self.new.begun ≡ self.old.begun }
         ensures count { IsCount self.old.faults self.new.faults }
@@ -253,11 +283,11 @@ impl<R: Net + Clock + Clone> Link for TcpLink<R> {
     {
         let stream = self.connected();
         let stream = counted(&mut self.faults, stream)?;
+        let deadline = limit_of_writes(&self.rt, self.deadline, &mut self.writing);
         let mut timed = Timed {
             rt: &self.rt,
             stream,
-            deadline: self.deadline,
-            grace: self.grace,
+            deadline,
         };
         let count = counted(&mut self.faults, write_again(&mut timed, from));
         self.stream = Some(timed.stream);

@@ -4,7 +4,6 @@ use std::io;
 use std::io::{Read, Write};
 use std::net::OpenStream;
 use std::rt::Clock;
-use std::time::Duration;
 
 /// A connection whose reads and writes wait no longer than a deadline lets them.
 #[derive(Drop)]
@@ -12,13 +11,11 @@ pub struct Timed<'a, R: Clock, S: OpenStream + Drop> {
     pub rt: &'a R,
     pub stream: S,
     pub deadline: Deadline,
-    /// How long a write may wait for its peer in any case.
-    pub grace: Duration,
 }
 
 impl<'a, R: Clock, S: OpenStream + Read + Drop> Read for Timed<'a, R, S> {
     fn read(&mut self, into: &mut [u8]) -> io::Result<usize> {
-        let left = self.deadline.left(self.rt, Duration::ZERO)?;
+        let left = self.deadline.left(self.rt)?;
         self.stream.set_read_timeout(Some(left))?;
         self.stream.read(into)
     }
@@ -26,7 +23,7 @@ impl<'a, R: Clock, S: OpenStream + Read + Drop> Read for Timed<'a, R, S> {
 
 impl<'a, R: Clock, S: OpenStream + Write + Drop> Write for Timed<'a, R, S> {
     fn write(&mut self, from: &[u8]) -> io::Result<usize> {
-        let left = self.deadline.left(self.rt, self.grace)?;
+        let left = self.deadline.left(self.rt)?;
         self.stream.set_write_timeout(Some(left))?;
         self.stream.write(from)
     }

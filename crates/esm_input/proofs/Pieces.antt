@@ -45,6 +45,22 @@ takes_then (Some a) (Some b) c x y first second =
 pub taken_same : (a b : Option (List ℕ)) → b ≡ a → TakesFront a b []
 taken_same a b same = subst (λ o. TakesFront a o []) (sym same) (taken_none a)
 
+-- whether a read would not wait
+
+-- a source that was asked whether a read would wait is read on as before
+pub asked : {S : Type 0} (faults : S → ℕ) (left : S → Option (List ℕ)) (i : InputState S) (finished : Bool) (c : Counted) (begun : List ℕ) (room : ℕ) (now : S)
+    → left now ≡ left i.source → faults now ≡ faults i.source → IsReading faults left i finished c begun room → IsReading faults left (record i { source = now }) finished c begun room
+asked faults left i finished c begun room now left_is faults_is reading = record {
+  few = reading.few;
+  input = record {
+    taken = subst (λ o. TakesFront (left i.found) o i.bytes) (sym left_is) reading.input.taken;
+    at_end = λ whole. subst IsAtEnd (sym left_is) (reading.input.at_end whole);
+    stands = λ good. subst (λ n. StandsSo i.kind i.factor (faults i.found) n i.whole i.bytes i.end) (sym faults_is) (reading.input.stands good);
+  };
+  count = subst (λ n. faults i.found ≤ n) (sym faults_is) reading.count;
+  going = λ none. (let g = reading.going none in record { going = g.going; within = g.within; counted = g.counted; shards = g.shards; some = g.some });
+}
+
 -- why the reading ends
 
 stands_by : (kind : LineKind) (factor before now : ℕ) (whole : Bool) (bytes : List ℕ) (limit : Option LimitName) (bad : Option BadLine)

@@ -144,8 +144,10 @@ impl<S: Source> Input<S> {
     }
 
     /// Whether a read would not wait. It waits for that itself, for `patience` milliseconds at most. Takes no memory.
-    pub fn is_ready(&self, patience: u64) -> bool
-        ensures { IsSome (S.left self.now.source) → result ≡ true }
+    pub fn is_ready(&mut self, patience: u64) -> bool
+        ensures ready { IsSome (S.left self.old.source) → result ≡ true }
+        ensures left { S.left self.new.source ≡ S.left self.old.source }
+        ensures same { self.new ≡ record self.old { source = self.new.source } }
     {
         self.source.is_ready(patience)
     }

@@ -52,7 +52,10 @@ impl Source for MemSource {
 
     ghost left = { λ s. Some s.left };
 
-    fn is_ready(&self, _patience: u64) -> bool {
+    fn is_ready(&mut self, _patience: u64) -> bool
+        ensures ready { result ≡ true }
+        ensures same { self.new ≡ self.old }
+    {
         true
     }
 

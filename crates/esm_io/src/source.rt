@@ -13,10 +13,13 @@ pub trait Source {
     /// The bytes that are left to read, where it tells them.
     ghost left: { Self → Option (List ℕ) };
 
-    /// Whether a read would not wait. It waits for that itself, for `patience` milliseconds at most. True also where
-    /// that cannot be told, and where it tells its bytes.
-    fn is_ready(&self, patience: u64) -> bool
-        ensures { IsSome (left self.now) → result ≡ true };
+    /// Whether a read would not wait. It waits for that itself, for `patience` milliseconds at most; it may open what is
+    /// read, or read ahead, and gives nothing of it. True also where that cannot be told, where the next read fails, and
+    /// where it tells its bytes.
+    fn is_ready(&mut self, patience: u64) -> bool
+        ensures ready { IsSome (left self.old) → result ≡ true }
+        ensures left { left self.new ≡ left self.old }
+        ensures faultless { faults self.new ≡ faults self.old };
 
     /// Puts bytes at the front of `into` and answers how many. For an `into` that is not empty 0 is the end.
     /// `Failed` only where the count of faults rose; it has taken nothing then.

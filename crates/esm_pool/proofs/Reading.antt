@@ -32,6 +32,10 @@ filter_shorter p (x ∷ xs) = elim (cases_Bool (p x)) [
 pub come_none : (came : ℕ → List Item) (items : List Item) → ((n : ℕ) → came n ≡ []) → items ≡ [] → AreCome came items
 come_none came items none empty n = none n ∙ ap (items_of n) (sym empty)
 
+-- an input that was asked whether a read would wait handed out what it had
+pub asked_come : {S : Type 0} (came : ℕ → List Item) (i j : InputState S) → j ≡ record i { source = j.source } → AreCome came (handed i) → AreCome came (handed j)
+asked_come came i j same come = (let is : handed j ≡ handed i = ap handed same in subst (λ l. AreCome came l) (sym is) come)
+
 with_more : (came : ℕ → List Item) (before items all : List Item) (n : ℕ) → all ≡ before ++ items → AreCome came before → items_of n all ≡ came n ++ items_of n items
 with_more came before items all n is come = ap (items_of n) is ∙ (items_both n before items ∙ ap (λ l. l ++ items_of n items) (sym (come n)))
 

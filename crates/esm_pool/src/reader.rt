@@ -71,12 +71,13 @@ fn read_on<R: Wait, B: Pooled, S: Source, C: Clock>(
         if input.end().is_some() {
             return Ok(());
         }
-        if input.is_ready(0) {
+        let ready = input.is_ready(0);
+        stands(input);
+        if ready {
             let items = input.read(alloc)?;
             stands(input);
             hand_on(rt, alloc, turn, seat, items, clock)?;
         } else {
-            stands(input);
             look(rt, turn, seat, clock)?;
             let _more = input.is_ready(PATIENCE);
         }
