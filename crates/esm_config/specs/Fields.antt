@@ -173,7 +173,7 @@ position_of text =
 abbrev pub first_position : List ℕ → Option Position
 first_position text = if bytes_eq text (codes "TRIM_HORIZON") then Some position.TrimHorizon else None
 
--- an item's stream is read from its first record
+-- a table's stream is read from its first record
 abbrev pub position_among : Sources → (List ℕ → Option Position)
 position_among KinesisOrSqs = position_of
 position_among DynamoDb = first_position
