@@ -153,7 +153,7 @@ same_deleted : (b : Bool) (m : ℕ) (x : Stored) → (cond b (received_once m x)
 same_deleted true m x = refl
 same_deleted false m x = refl
 
-received_counts : (m : ℕ) (places : List ℕ) (k : ℕ) (xs : List Stored) → count_by (λ (x : Stored). x.deleted) (changed_from (received_once m) places k xs) ≡ count_by (λ (x : Stored). x.deleted) xs
+pub received_counts : (m : ℕ) (places : List ℕ) (k : ℕ) (xs : List Stored) → count_by (λ (x : Stored). x.deleted) (changed_from (received_once m) places k xs) ≡ count_by (λ (x : Stored). x.deleted) xs
 received_counts m places k [] = refl
 received_counts m places k (x ∷ xs) =
     sum_by-cons (λ (y : Stored). cond y.deleted 1 0) (cond (holds places k) (received_once m x) x) (changed_from (received_once m) places (k + 1) xs)

@@ -16,7 +16,7 @@ use Rattle.esm_queue_model.proofs.MoreMessages.{stored_count}
 use Rattle.esm_queue_core.proofs.ByPlace.{changed_at, joined_at, coming_at}
 
 -- a change leaves the moments
-kept_came : (f : Stored → Stored) → ((y : Stored) → (f y).came ≡ y.came) → (places : List ℕ) (xs : List Stored) (i n : ℕ) (x : Stored) → slice_get (changed_from f places 0 xs) i ≡ Some x → ((y : Stored) → slice_get xs i ≡ Some y → y.came ≡ n) → x.came ≡ n
+pub kept_came : (f : Stored → Stored) → ((y : Stored) → (f y).came ≡ y.came) → (places : List ℕ) (xs : List Stored) (i n : ℕ) (x : Stored) → slice_get (changed_from f places 0 xs) i ≡ Some x → ((y : Stored) → slice_get xs i ≡ Some y → y.came ≡ n) → x.came ≡ n
 kept_came f keeps places xs i n x at before =
     let old = changed_at f places 0 xs i x at in
     elim old.2 [

@@ -48,7 +48,7 @@ rising-filter p low (x ∷ xs) rising =
       | inr fails ↦ rw fails (rising_lower low (x + 1) (filter p xs) (let l = rising.0 in omega arith) (rising-filter p (x + 1) xs rising.1))
     ]
 
-rising_of : (low high : ℕ) (xs : List ℕ) → Rises low high xs → IsRisingFrom low xs
+pub rising_of : (low high : ℕ) (xs : List ℕ) → Rises low high xs → IsRisingFrom low xs
 rising_of low high [] h = tt
 rising_of low high (x ∷ xs) h = (h.0, rising_of (x + 1) high xs h.1)
 
@@ -102,7 +102,7 @@ batch_rising s (Closed at w m ∷ h) lane legal = batch_rising s h lane legal.0
 batch_rising s (Replayed shard places m ∷ h) lane legal = batch_rising s h lane legal.0
 batch_rising s (Shut m ∷ h) lane legal = batch_rising s h lane legal.0
 
-longest_few : (p : List ℕ → Bool) (n : ℕ) (seen xs : List ℕ) → ((ys : List ℕ) → p ys ≡ true → length ys ≤ n) → length seen ≤ n → length (longest p seen xs) ≤ n
+pub longest_few : (p : List ℕ → Bool) (n : ℕ) (seen xs : List ℕ) → ((ys : List ℕ) → p ys ≡ true → length ys ≤ n) → length seen ≤ n → length (longest p seen xs) ≤ n
 longest_few p n seen [] bound few = few
 longest_few p n seen (x ∷ xs) bound few =
     elim (cases_Bool (p (seen ++ x ∷ []))) [

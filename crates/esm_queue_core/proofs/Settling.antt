@@ -140,7 +140,7 @@ In-not_failed failed k (x ∷ places) i member =
       ]
     ]
 
-In-succeeded : (r : QueueReading) (places : List ℕ) (i : ℕ) → In (succeeded_by r places) i → In places i
+pub In-succeeded : (r : QueueReading) (places : List ℕ) (i : ℕ) → In (succeeded_by r places) i → In places i
 In-succeeded NotRun places i member = absurd (In-none i member)
 In-succeeded Failed places i member = absurd (In-none i member)
 In-succeeded (Done failed) places i member = In-not_failed failed 0 places i member

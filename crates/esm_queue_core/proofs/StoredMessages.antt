@@ -18,7 +18,7 @@ use Rattle.esm_queue_model.specs.QueueEntries.{coming_from, queue_of}
 use Rattle.esm_queue_model.specs.QueueStep.{LegalQueue}
 use Rattle.esm_queue_core.specs.Next.{IsValidStored}
 
-all_changed : (P : Stored → Type 0) (f : Stored → Stored) → ((x : Stored) → P x → P (f x)) → (places : List ℕ) (k : ℕ) (xs : List Stored) → All P xs → All P (changed_from f places k xs)
+pub all_changed : (P : Stored → Type 0) (f : Stored → Stored) → ((x : Stored) → P x → P (f x)) → (places : List ℕ) (k : ℕ) (xs : List Stored) → All P xs → All P (changed_from f places k xs)
 all_changed P f keeps places k [] all = All-nil P
 all_changed P f keeps places k (x ∷ xs) all =
     let here : P x = All-head P x xs all in
@@ -26,7 +26,7 @@ all_changed P f keeps places k (x ∷ xs) all =
     All-cons P (cond (holds places k) (f x) x) (changed_from f places (k + 1) xs)
     (elim (cases_Bool (holds places k)) [ inl is ↦ rw is (keeps x here) | inr not' ↦ rw not' here ]) rest
 
-coming_stored : (s : QueueSetting) (kind : Kind) (m k : ℕ) → m ≤ MAX_MOMENT → (xs : List Message) → All (IsValidMessage kind) xs → All (IsValidStored kind) (coming_from s m k xs)
+pub coming_stored : (s : QueueSetting) (kind : Kind) (m k : ℕ) → m ≤ MAX_MOMENT → (xs : List Message) → All (IsValidMessage kind) xs → All (IsValidStored kind) (coming_from s m k xs)
 coming_stored s kind m k early [] all = All-nil (IsValidStored kind)
 coming_stored s kind m k early (x ∷ xs) all =
     All-cons (IsValidStored kind) _ (coming_from s m (k + 1) xs)
@@ -37,10 +37,10 @@ first_stored : (o : Option ℕ) (m : ℕ) → m ≤ MAX_MOMENT → IfSome o (λ 
 first_stored None m early before = early
 first_stored (Some n) m early before = before
 
-received_stored : (kind : Kind) (m : ℕ) → m ≤ MAX_MOMENT → (x : Stored) → IsValidStored kind x → IsValidStored kind (received_once m x)
+pub received_stored : (kind : Kind) (m : ℕ) → m ≤ MAX_MOMENT → (x : Stored) → IsValidStored kind x → IsValidStored kind (received_once m x)
 received_stored kind m early x is = record { message = is.message; came = is.came; first = first_stored x.first m early is.first }
 
-deleted_stored : (kind : Kind) (x : Stored) → IsValidStored kind x → IsValidStored kind (deleted_once x)
+pub deleted_stored : (kind : Kind) (x : Stored) → IsValidStored kind x → IsValidStored kind (deleted_once x)
 deleted_stored kind x is = record { message = is.message; came = is.came; first = is.first }
 
 -- each message that the queue keeps is valid, and the moments of its arrival and its first receipt are moments

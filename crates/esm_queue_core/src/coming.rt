@@ -61,7 +61,7 @@ fn differs(said: &Says, item: &Message, place: u32) -> bool
 
 /// The position of the first message of the list, from the place `from` on, that was found deleted with another id.
 /// Takes no memory.
-pub(crate) fn first_changed(said: &Says, items: &[Message], from: u32) -> Option<usize>
+pub fn first_changed(said: &Says, items: &[Message], from: u32) -> Option<usize>
     requires { from + length items.now < 2 ^ 32 }
     ensures some { IfSome result (λ j. j < length items.now) }
     ensures found { IfSome result (λ j. HasChangedFirst said.now.deletions from items.now j) }
@@ -76,7 +76,7 @@ pub(crate) fn first_changed(said: &Says, items: &[Message], from: u32) -> Option
 }
 
 /// What differs at the place.
-pub(crate) fn change_at(
+pub fn change_at(
     alloc: Global,
     said: &Says,
     item: &Message,

@@ -33,7 +33,7 @@ fn kept_places(
 }
 
 /// The places of a batch that the reading of its answer counts as succeeded, and whose messages are not deleted.
-pub(crate) fn succeeded(
+pub fn succeeded(
     alloc: Global,
     queue: &Queue,
     reading: &QueueReading,

@@ -22,7 +22,7 @@ fn message_for<'a>(queue: &'a Queue, coming: &'a [Message], place: u32) -> &'a M
 }
 
 /// Copies of the ids of the messages at the places, in order.
-pub(crate) fn ids_at(
+pub fn ids_at(
     alloc: Global,
     queue: &Queue,
     coming: &[Message],

@@ -3,14 +3,14 @@
 //! Pure: values in, values out. No device, clock or thread.
 #![tactic(auto)]
 
-mod coming;
+pub mod coming;
 mod decisions;
-mod ending;
+pub mod ending;
 mod gather;
-mod gift;
+pub mod gift;
 pub mod laws;
-mod next;
-mod owed;
+pub mod next;
+pub mod owed;
 mod paying;
 mod queue_core;
 mod standing;

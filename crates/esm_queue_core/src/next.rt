@@ -22,7 +22,7 @@ use std::alloc::Global;
 /// What a decision looks at beside the queue: the calls allowed, those that began, the messages that are deleted, and
 /// whether the input ended.
 #[derive(Clone, Copy, Debug)]
-pub(crate) struct Counts {
+pub struct Counts {
     pub calls: u32,
     pub begun: u64,
     pub deleted: u32,
@@ -30,7 +30,7 @@ pub(crate) struct Counts {
 }
 
 /// What the batcher does next, by the first rule that holds. It looks at one eligible message more than a batch takes.
-pub(crate) fn decide_next(
+pub fn decide_next(
     alloc: Global,
     config: &Config,
     queue: &Queue,
@@ -193,11 +193,7 @@ fn lesser(one: Option<u64>, other: Option<u64>) -> Option<u64>
 }
 
 /// The call that begins by the answer, where one does.
-pub(crate) fn began_by(
-    alloc: Global,
-    next: &Next,
-    moment: u64,
-) -> Result<Option<First>, OutOfMemory>
+pub fn began_by(alloc: Global, next: &Next, moment: u64) -> Result<Option<First>, OutOfMemory>
     ensures { IfOk result (λ first. IsBegunBy next.now moment first) }
 {
     match next {

@@ -3,7 +3,7 @@ use esm_model::{Fate, LaneId, Places, Reply};
 
 /// The first entry that a call owes.
 #[derive(Drop, Debug)]
-pub(crate) enum First {
+pub enum First {
     /// Messages come: `count` of them, from the place `from` on.
     Came {
         from: u32,
