@@ -20,7 +20,7 @@ use esm_folder::Disks;
 use esm_input::InputEnd;
 use esm_io::{MemDisk, MemSource, StepClock};
 use esm_model::{Config, Entry, OutOfMemory, Start};
-use esm_runner::{Files, MappingEnd, MappingRun, open_files, run_stream};
+use esm_runner::{Files, MappingEnd, MappingRun, Plain, open_files, run_stream};
 use std::alloc::Global;
 use std::sync::Wait;
 use std::thread::Threads;
@@ -101,7 +101,7 @@ fn run_prepared<R: Threads + Wait + Sync>(
     let clock = StepClock::new(0);
     let start = Start::TrimHorizon;
     let read_first = true;
-    let run = run_stream(
+    let run = run_stream::<_, _, _, _, _, Plain>(
         rt, alloc, config, start, CALLS, files, input, callers, &clock, read_first,
     );
     all_keep(&run.callers);

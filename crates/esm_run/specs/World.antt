@@ -60,14 +60,15 @@ devices clock caller disk source sink door link = record {
   link_faults = link.faults;
 }
 
--- what those of a run tell: of the clock, the callers and the disks, and of the input
+-- what those of a run tell: of the clock, the callers and the disks, and of the input; its failure lines are delivered as they
+-- are
 pub record RunTells (S D F : Type 0) : Type 1 where
   pub run : Telling D F
   pub faults : S → ℕ
   pub left : S → Option (List ℕ)
 
 abbrev pub run_tells : {S D C F : Type 0} → Clock C → Caller F → Disk D → Source S → RunTells S D F
-run_tells clock caller disk source = record { run = telling (outside clock.gave caller.sends caller.log) (meaning disk); faults = source.faults; left = source.left }
+run_tells clock caller disk source = record { run = telling (outside clock.gave caller.sends caller.log) (meaning disk) (λ line. line); faults = source.faults; left = source.left }
 
 -- what those of `serve` tell: which moments the clock gave, what connections tell, how often they failed, and what the
 -- registry's disk means
@@ -81,7 +82,7 @@ abbrev pub serve_tells : {C D N : Type 0} → Clock C → Link N → Disk D → 
 serve_tells clock link disk = record { gave = clock.gave; told = link.told; faults = link.faults; disk = meaning disk }
 
 abbrev pub of_run : {S K D F L N : Type 0} → DevicesTell S K D F L N → RunTells S D F
-of_run t = record { run = telling (outside t.gave t.sends t.log) t.disk; faults = t.input_faults; left = t.left }
+of_run t = record { run = telling (outside t.gave t.sends t.log) t.disk (λ line. line); faults = t.input_faults; left = t.left }
 
 abbrev pub of_serve : {S K D F L N : Type 0} → DevicesTell S K D F L N → ServeTells N D
 of_serve t = record { gave = t.gave; told = t.talk; faults = t.link_faults; disk = t.disk }

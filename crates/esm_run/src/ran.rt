@@ -16,7 +16,7 @@ use esm_io::{Caller, Clock, Disk, Source};
 use esm_mapping::{MappingRead, NamedMapping, read_mapping};
 use esm_model::{Kind, OutOfMemory};
 use esm_report::Ending;
-use esm_runner::{Files, open_files, run_queue, run_stream};
+use esm_runner::{Files, Plain, open_files, run_queue, run_stream};
 use std::alloc::Global;
 use std::sync::Wait;
 use std::thread::Threads;
@@ -118,7 +118,7 @@ fn run_mapping<
     let read_first = words.read_first;
     files.keeps();
     if is_stream(config.kind) {
-        let run = run_stream(
+        let run = run_stream::<_, _, _, _, _, Plain>(
             rt, alloc, config, start, calls, files, input, callers, clock, read_first,
         );
         stream_ran(alloc, run, registry)

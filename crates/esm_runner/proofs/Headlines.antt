@@ -1,7 +1,7 @@
 -- The headline, from what is left of a run.
 use Rattle.std.proofs.Common.{◌≡◌, ◌∙◌, ◌≤◌, ℕ, Bool, true, false, List, [], ◌∷◌, ◌++◌, length, map, take, Option, Some, None, ap, ap₂, arith, inl, inr, refl, subst, sym}
 use Rattle.std.specs.Prelude.{reverse, if◌then◌else◌}
-use Rattle.std.proofs.lemmas.List.{append-nil, append_assoc, map-id}
+use Rattle.std.proofs.lemmas.List.{append-nil, append_assoc}
 use Rattle.std.proofs.lemmas.List.Elements.{filter_map-append}
 use Rattle.esm_io.specs.Faults.{Rose}
 use Rattle.esm_io.specs.Meanings.{DiskMeaning}
@@ -60,18 +60,18 @@ not_disk (Some (Changed change)) not = refl
 
 -- the journal
 
-honest_found : {D : Type 0} (m : DiskMeaning D) (f : FilesState D) (b : BookState D (JournalState D)) → IsLeft m f b → AreHonest m f.journal f.spare → (m.honest b.pair.used ≡ true) × (m.honest b.pair.spare ≡ true)
+honest_found : {D : Type 0} {line : List ℕ → List ℕ} (m : DiskMeaning D) (f : FilesState D) (b : BookState D (JournalState D)) → IsLeft m line f b → AreHonest m f.journal f.spare → (m.honest b.pair.used ≡ true) × (m.honest b.pair.spare ≡ true)
 honest_found {D} m f b left honest =
     let was = are_honest m f.pair.swapped f.journal f.spare f.pair.used f.pair.spare left.files.read honest in
     let used : m.honest b.found.used ≡ true = subst (λ (p : PairState D). m.honest p.used ≡ true) (sym left.found) was.0 in
     let spare : m.honest b.found.spare ≡ true = subst (λ (p : PairState D). m.honest p.spare ≡ true) (sym left.found) was.1 in
     (left.journal.honesty ∙ used, subst (λ (d : D). m.honest d ≡ true) (sym left.journal.spare) spare)
 
-all_payloads : {D : Type 0} (m : DiskMeaning D) (f : FilesState D) (b : BookState D (JournalState D)) → PayloadsStay → IsLeft m f b → b.pair.payloads ≡ f.pair.payloads ++ payloads_in b.core.setting (reverse b.core.past)
+all_payloads : {D : Type 0} {line : List ℕ → List ℕ} (m : DiskMeaning D) (f : FilesState D) (b : BookState D (JournalState D)) → PayloadsStay → IsLeft m line f b → b.pair.payloads ≡ f.pair.payloads ++ payloads_in b.core.setting (reverse b.core.past)
 all_payloads {D} m f b stay left =
     left.journal.payloads ∙ ap₂ (λ (xs ys : List (List ℕ)). xs ++ ys) (ap (λ (p : PairState D). p.payloads) left.found) (all_stay stay b.core left.legal)
 
-holds_all : {D : Type 0} (m : DiskMeaning D) (f : FilesState D) (b : BookState D (JournalState D)) → PayloadsStay → IsLeft m f b → is_disk b.trouble ≡ false → AreHonest m f.journal f.spare
+holds_all : {D : Type 0} {line : List ℕ → List ℕ} (m : DiskMeaning D) (f : FilesState D) (b : BookState D (JournalState D)) → PayloadsStay → IsLeft m line f b → is_disk b.trouble ≡ false → AreHonest m f.journal f.spare
     → PairHolds m f.pair.epoch (f.pair.payloads ++ payloads_in b.core.setting (reverse b.core.past)) (first_disk b.pair) (second_disk b.pair)
 holds_all {D} m f b stay left up honest =
     let both = honest_found m f b left honest in
@@ -82,7 +82,7 @@ holds_all {D} m f b stay left up honest =
     subst (λ (n : ℕ). PairHolds m n (f.pair.payloads ++ payloads_in b.core.setting (reverse b.core.past)) (first_disk b.pair) (second_disk b.pair)) epoch
     (subst (λ (list : List (List ℕ)). PairHolds m b.pair.epoch list (first_disk b.pair) (second_disk b.pair)) payloads now)
 
-journal_kept : {D F : Type 0} (t : Telling D F) (f : FilesState D) (b : BookState D (JournalState D)) (new : Devices D F) → PayloadsStay → IsLeft t.disk f b → AreOf b new
+journal_kept : {D F : Type 0} (t : Telling D F) (f : FilesState D) (b : BookState D (JournalState D)) (new : Devices D F) → PayloadsStay → IsLeft t.disk t.line f b → AreOf b new
     → (b.trouble ≡ Some Disk → ⊥) → JournalKept t f b.core.setting b.core.past new
 journal_kept {D} t f b new stay left of not honest =
     let list = f.pair.payloads ++ payloads_in b.core.setting (reverse b.core.past) in
@@ -93,14 +93,14 @@ journal_kept {D} t f b new stay left of not honest =
 -- the failure lines
 
 -- the destination has these lines behind those that were found
-lines_grown : {D : Type 0} (m : DiskMeaning D) (f : FilesState D) (b : BookState D (JournalState D)) → IsLeft m f b → b.dest.payloads ≡ f.dest.payloads ++ lines_of (entries_left b)
-lines_grown {D} m f b left =
-    let lines = lines_of (entries_left b) in
-    let grown : ◌≡◌ {A = Option (List (List ℕ))} (Some b.dest.payloads) (Some (b.found_dest.payloads ++ map (λ (line : List ℕ). line) lines)) = left.lines.lines in
-    let told : b.dest.payloads ≡ b.found_dest.payloads ++ map (λ (line : List ℕ). line) lines = cc in
-    told ∙ ap₂ (λ (xs ys : List (List ℕ)). xs ++ ys) (ap (λ (d : JournalState D). d.payloads) left.found_dest) (map-id lines)
+lines_grown : {D : Type 0} {line : List ℕ → List ℕ} (m : DiskMeaning D) (f : FilesState D) (b : BookState D (JournalState D)) → IsLeft m line f b → b.dest.payloads ≡ f.dest.payloads ++ map line (lines_of (entries_left b))
+lines_grown {D} {line} m f b left =
+    let lines = map line (lines_of (entries_left b)) in
+    let grown : ◌≡◌ {A = Option (List (List ℕ))} (Some b.dest.payloads) (Some (b.found_dest.payloads ++ lines)) = left.lines.lines in
+    let told : b.dest.payloads ≡ b.found_dest.payloads ++ lines = cc in
+    told ∙ ap (λ (d : JournalState D). d.payloads ++ lines) left.found_dest
 
-dest_honest : {D : Type 0} (m : DiskMeaning D) (f : FilesState D) (b : BookState D (JournalState D)) → IsLeft m f b → m.honest f.failures ≡ true → m.honest b.dest.disk ≡ true
+dest_honest : {D : Type 0} {line : List ℕ → List ℕ} (m : DiskMeaning D) (f : FilesState D) (b : BookState D (JournalState D)) → IsLeft m line f b → m.honest f.failures ≡ true → m.honest b.dest.disk ≡ true
 dest_honest {D} m f b left honest =
     left.lines.honesty ∙ (ap (λ (d : JournalState D). m.honest d.disk) left.found_dest ∙ (left.files.lines_read.honesty ∙ honest))
 
@@ -117,20 +117,20 @@ lines_down {D} t f d lines new grown down still stopped is honest =
     (subst (λ (list : List (List ℕ)). StillOpens t.disk (header_of 1) list d.disk) grown (stopped (still honest) down))
 
 lines_kept : {D F : Type 0} (t : Telling D F) (f : FilesState D) (d : JournalState D) (why : Option Trouble) (h owed : List Entry) (new : Devices D F)
-    → d.payloads ≡ f.dest.payloads ++ lines_of (reverse h ++ in_hand why owed) → d.down ≡ is_dest why
+    → d.payloads ≡ f.dest.payloads ++ map t.line (lines_of (reverse h ++ in_hand why owed)) → d.down ≡ is_dest why
     → (t.disk.honest f.failures ≡ true → t.disk.honest d.disk ≡ true) → KeepsWhileUp t.disk d → KeepsWhileDown t.disk d → new.failures ≡ d.disk
     → FailureLinesKept t f why h (in_hand why owed) new
-lines_kept t f d None h owed new grown failed still kept stopped is = lines_up t f d (lines_of (reverse h ++ [])) new grown failed still kept is
-lines_kept t f d (Some Disk) h owed new grown failed still kept stopped is = lines_up t f d (lines_of (reverse h ++ take 1 owed)) new grown failed still kept is
+lines_kept t f d None h owed new grown failed still kept stopped is = lines_up t f d (map t.line (lines_of (reverse h ++ []))) new grown failed still kept is
+lines_kept t f d (Some Disk) h owed new grown failed still kept stopped is = lines_up t f d (map t.line (lines_of (reverse h ++ take 1 owed))) new grown failed still kept is
 lines_kept t f d (Some Dest) h owed new grown failed still kept stopped is =
-    let all : d.payloads ≡ f.dest.payloads ++ lines_of (reverse h) = grown ∙ ap (λ (es : List Entry). f.dest.payloads ++ lines_of es) (append-nil (reverse h)) in
-    lines_down t f d (lines_of (reverse h)) new all failed still stopped is
-lines_kept t f d (Some (Changed change)) h owed new grown failed still kept stopped is = lines_up t f d (lines_of (reverse h ++ [])) new grown failed still kept is
+    let all : d.payloads ≡ f.dest.payloads ++ map t.line (lines_of (reverse h)) = grown ∙ ap (λ (es : List Entry). f.dest.payloads ++ map t.line (lines_of es)) (append-nil (reverse h)) in
+    lines_down t f d (map t.line (lines_of (reverse h))) new all failed still stopped is
+lines_kept t f d (Some (Changed change)) h owed new grown failed still kept stopped is = lines_up t f d (map t.line (lines_of (reverse h ++ []))) new grown failed still kept is
 
 -- a crash
 
-opens_to_front : {D : Type 0} (m : DiskMeaning D) (f : FilesState D) (b : BookState D (JournalState D)) (one other : List ℕ) → PayloadsStay → IsLeft m f b
-    → OpensToFirst (file_dest m) (full_setting b.core) b.found.epoch b.found.payloads b.found_dest b.dest (entries_left b) one other
+opens_to_front : {D : Type 0} {line : List ℕ → List ℕ} (m : DiskMeaning D) (f : FilesState D) (b : BookState D (JournalState D)) (one other : List ℕ) → PayloadsStay → IsLeft m line f b
+    → OpensToFirst (file_dest m line) (full_setting b.core) b.found.epoch b.found.payloads b.found_dest b.dest (entries_left b) one other
     → OpensToFrontOf b.core.setting f.pair.epoch f.pair.payloads (entries_left b) one other
 opens_to_front {D} m f b one other stay left o =
     let hand = in_hand b.trouble b.core.owed in
@@ -144,7 +144,7 @@ opens_to_front {D} m f b one other stay left o =
           (subst (λ (list : List (List ℕ)). PairOpensTo (header_of 2) b.found.epoch (b.found.payloads ++ list) one other) same o.opens);
     }
 
-crash_kept : {D F : Type 0} (t : Telling D F) (f : FilesState D) (b : BookState D (JournalState D)) (new : Devices D F) → PayloadsStay → IsLeft t.disk f b → AreOf b new
+crash_kept : {D F : Type 0} (t : Telling D F) (f : FilesState D) (b : BookState D (JournalState D)) (new : Devices D F) → PayloadsStay → IsLeft t.disk t.line f b → AreOf b new
     → CrashKept t f b.core.setting b.core.past (in_hand b.trouble b.core.owed) new
 crash_kept {D} t f b new stay left of honest settled one other since other_since =
     opens_to_front t.disk f b one other stay left
@@ -158,7 +158,7 @@ parts_left : (s : Setting) (front rest es hand : List Entry) → front ++ rest �
 parts_left s front rest es hand split =
     sym (filter_map-append (entry_payload s) front rest) ∙ (ap (payloads_in s) split ∙ filter_map-append (entry_payload s) es hand)
 
-gone_down : {D : Type 0} (m : DiskMeaning D) (f : FilesState D) (b : BookState D (JournalState D)) → PayloadsStay → IsLeft m f b → b.trouble ≡ Some Disk
+gone_down : {D : Type 0} {line : List ℕ → List ℕ} (m : DiskMeaning D) (f : FilesState D) (b : BookState D (JournalState D)) → PayloadsStay → IsLeft m line f b → b.trouble ≡ Some Disk
     → HasGoneDown m f b.pair (payloads_in b.core.setting (reverse b.core.past)) (payloads_in b.core.setting (in_hand b.trouble b.core.owed))
 gone_down {D} m f b stay left disk =
     let s = b.core.setting in
@@ -187,7 +187,7 @@ gone_down {D} m f b stay left disk =
           };
     }
 
-journal_stopped : {D F : Type 0} (t : Telling D F) (f : FilesState D) (b : BookState D (JournalState D)) (new : Devices D F) → PayloadsStay → IsLeft t.disk f b → AreOf b new
+journal_stopped : {D F : Type 0} (t : Telling D F) (f : FilesState D) (b : BookState D (JournalState D)) (new : Devices D F) → PayloadsStay → IsLeft t.disk t.line f b → AreOf b new
     → b.trouble ≡ Some Disk → JournalStopped t f b.core.setting b.core.past (in_hand b.trouble b.core.owed) new
 journal_stopped {D} t f b new stay left of disk =
     let s = b.core.setting in
@@ -214,7 +214,7 @@ answers_logged t s h laws later before lane split end =
     )
 
 -- all of it
-pub headline : {D F : Type 0} (t : Telling D F) (f : FilesState D) (b : BookState D (JournalState D)) (new : Devices D F) → AreLaws → IsLeft t.disk f b → AreOf b new → AreGiven t.callers.gave b.core.past
+pub headline : {D F : Type 0} (t : Telling D F) (f : FilesState D) (b : BookState D (JournalState D)) (new : Devices D F) → AreLaws → IsLeft t.disk t.line f b → AreOf b new → AreGiven t.callers.gave b.core.past
     → Headline t f b.core.setting b.core.past b.trouble (in_hand b.trouble b.core.owed) new
 headline t f b new laws left of given =
     let own = own_legal b.core.setting b.core.past left.legal in
@@ -247,7 +247,7 @@ pub used_rose : {D : Type 0} (m : DiskMeaning D) (swapped : Bool) (journal spare
 used_rose m false journal spare used other used' other' read rose = inl (rose_before _ _ _ read.0.never_falls rose)
 used_rose m true journal spare used other used' other' read rose = inr (rose_before _ _ _ read.1.never_falls rose)
 
-pub disk_rose : {D F : Type 0} (m : DiskMeaning D) (f : FilesState D) (b : BookState D (JournalState D)) (new : Devices D F) → IsLeft m f b → AreOf b new
+pub disk_rose : {D F : Type 0} {line : List ℕ → List ℕ} (m : DiskMeaning D) (f : FilesState D) (b : BookState D (JournalState D)) (new : Devices D F) → IsLeft m line f b → AreOf b new
     → Rose (m.faults b.found.used) (m.faults b.pair.used) → OneRose m f.journal f.spare new.journal new.spare
 disk_rose {D} m f b new left of rose =
     let swapped : b.pair.swapped ≡ f.pair.swapped = left.journal.swapped ∙ ap (λ (p : PairState D). p.swapped) left.found in
@@ -258,7 +258,7 @@ disk_rose {D} m f b new left of rose =
     subst (λ (s : Bool). OneRose m f.journal f.spare (if s then b.pair.spare else b.pair.used) (if s then b.pair.used else b.pair.spare)) (sym swapped) one in
     subst (λ (d : D). OneRose m f.journal f.spare d new.spare) (sym of.journal) (subst (λ (d : D). OneRose m f.journal f.spare (first_disk b.pair) d) (sym of.spare) now)
 
-pub dest_rose : {D F : Type 0} (m : DiskMeaning D) (f : FilesState D) (b : BookState D (JournalState D)) (new : Devices D F) → IsLeft m f b → AreOf b new
+pub dest_rose : {D F : Type 0} {line : List ℕ → List ℕ} (m : DiskMeaning D) (f : FilesState D) (b : BookState D (JournalState D)) (new : Devices D F) → IsLeft m line f b → AreOf b new
     → Rose (m.faults b.found_dest.disk) (m.faults b.dest.disk) → Rose (m.faults f.failures) (m.faults new.failures)
 dest_rose {D} m f b new left of rose =
     let from : Rose (m.faults f.dest.disk) (m.faults b.dest.disk) = subst (λ (d : JournalState D). Rose (m.faults d.disk) (m.faults b.dest.disk)) left.found_dest rose in

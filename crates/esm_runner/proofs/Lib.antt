@@ -15,6 +15,7 @@ mod Items
 mod Configs
 pub mod KeptNumbers
 mod FirstChange
+mod OverFiles
 mod Shared
 pub mod Numbers
 pub mod QueueSetups

@@ -61,8 +61,8 @@ pub takes_none : {A : Type 0} (o : Option (List A)) → TakesFront o o []
 takes_none None = refl
 takes_none (Some xs) = (xs, refl, refl)
 
-leaves_all : {D : Type 0} (m : DiskMeaning D) (config : Config) (calls : ℕ) (f : FilesState D) → IsOpenedFiles m f → LeavesSince m f (new_book config calls f)
-leaves_all m config calls f files honest other_honest only other_only one other since other_since = record {
+leaves_all : {D : Type 0} (m : DiskMeaning D) (line : List ℕ → List ℕ) (config : Config) (calls : ℕ) (f : FilesState D) → IsOpenedFiles m f → LeavesSince m line f (new_book config calls f)
+leaves_all m line config calls f files honest other_honest only other_only one other since other_since = record {
   front = [];
   rest = [];
   split = refl;
@@ -71,8 +71,8 @@ leaves_all m config calls f files honest other_honest only other_only one other 
   delivered = ([], ap Some (sym (append-nil f.dest.payloads)));
 }
 
-left_new : {D : Type 0} (m : DiskMeaning D) (config : Config) (calls : ℕ) (f : FilesState D) → IsOpenedFiles m f → IsLeft m f (new_book config calls f)
-left_new m config calls f files = record {
+left_new : {D : Type 0} (m : DiskMeaning D) (line : List ℕ → List ℕ) (config : Config) (calls : ℕ) (f : FilesState D) → IsOpenedFiles m f → IsLeft m line f (new_book config calls f)
+left_new m line config calls f files = record {
   files = files;
   found = refl;
   found_dest = refl;
@@ -81,7 +81,7 @@ left_new m config calls f files = record {
   may_be_said = tt;
   journal = record { payloads = sym (append-nil f.pair.payloads); down = files.up; found_up = files.up; epoch = refl; swapped = refl; spare = refl; honesty = refl };
   lines = record { lines = ap Some (sym (append-nil f.dest.payloads)); failed = files.dest_up; found_usable = files.dest_up; honesty = refl };
-  since = leaves_all m config calls f files;
+  since = leaves_all m line config calls f files;
   pair_kept = files.kept;
   opened_since = λ disk. absurd (cc);
   pair_stopped = λ honest other_honest down. absurd (let up = files.up in cc);
@@ -94,7 +94,7 @@ pub not_begun : {S D F : Type 0} (t : Telling D F) (left_in : S → Option (List
     → new.journal ≡ first_disk f.pair → new.spare ≡ second_disk f.pair → new.failures ≡ f.dest.disk → new.callers ≡ callers → HasStoppedRun t left_in config start calls f old old callers [] new
 not_begun {S} {D} {F} t left_in config start calls f old callers new laws files first second lines same =
     let b : BookState D (JournalState D) = new_book config calls f in
-    let left : IsLeft t.disk f b = left_new t.disk config calls f files in
+    let left : IsLeft t.disk t.line f b = left_new t.disk t.line config calls f files in
     let of : AreOf b new = record { journal = first; spare = second; failures = lines } in
     stopped t left_in config start calls f old (new_input config start old) callers b b new laws (record { core = refl }) left of tt
     (record { kind = refl; factor = refl; start_is = refl; found = refl }) refl (headline t f b new laws left of tt)

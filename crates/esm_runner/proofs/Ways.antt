@@ -83,7 +83,7 @@ trouble_is left_in i b r end.DiskFault so is = is.1
 trouble_is left_in i b r end.DestFault so is = is.1
 trouble_is left_in i b r (end.Changed change) so is = is.1
 
-cause_of : {S D F : Type 0} (t : Telling D F) (left_in : S → Option (List ℕ)) (f : FilesState D) (b : BookState D (JournalState D)) (i : InputState S) (new : Devices D F) (r : RunEnd) (e : MappingEnd) → IsLeft t.disk f b → AreOf b new → IsSound b
+cause_of : {S D F : Type 0} (t : Telling D F) (left_in : S → Option (List ℕ)) (f : FilesState D) (b : BookState D (JournalState D)) (i : InputState S) (new : Devices D F) (r : RunEnd) (e : MappingEnd) → IsLeft t.disk t.line f b → AreOf b new → IsSound b
     → IsCauseIn t.disk b b.trouble
     → CameSo i b r → EndsSo left_in i b r → IsEndOf r b.trouble i.end e → IsCauseOf t f b.core.setting b.core.past (records_in_items (handed i)) i.end (left_in i.source) new e
 cause_of t left_in f b i new r (end.Finished last) left of sound cause came so is =
@@ -106,7 +106,7 @@ cause_of t left_in f b i new r (end.Changed change) left of sound cause came so 
     (subst (IsCauseIn t.disk b) is.1 cause, down.0, down.1)
 
 pub ended : {S D F : Type 0} (t : Telling D F) (faults : S → ℕ) (left_in : S → Option (List ℕ)) (config : Config) (start : Start) (calls : ℕ) (f : FilesState D) (old : S) (i : InputState S) (callers : List F)
-    → (before b : BookState D (JournalState D)) (new : Devices D F) (r : RunEnd) (e : MappingEnd) → AreLaws → StoodSo config calls f before → IsLeft t.disk f b → AreOf b new → IsSound b
+    → (before b : BookState D (JournalState D)) (new : Devices D F) (r : RunEnd) (e : MappingEnd) → AreLaws → StoodSo config calls f before → IsLeft t.disk t.line f b → AreOf b new → IsSound b
     → IsCauseIn t.disk b b.trouble
     → IsMadeFor config start old i → i.failed ≡ false → IsInput faults left_in i
     → HasRun t.callers before b callers new.callers → CameSo i b r → EndsSo left_in i b r → IsEndOf r b.trouble i.end e
@@ -134,14 +134,14 @@ read_for config start old i b whole bytes made came =
     (subst (λ (n : ℕ). SomeCame b (records_in_items (from_start start (items_read i.kind n whole bytes).items))) made.factor
     (subst (λ (s : Start). SomeCame b (records_in_items (from_start s (items_read i.kind i.factor whole bytes).items))) made.start_is came))
 
-fault_in : {D F : Type 0} (t : Telling D F) (f : FilesState D) (b : BookState D (JournalState D)) (new : Devices D F) (why : Option Trouble) → IsLeft t.disk f b → AreOf b new → IsCauseIn t.disk b why → IsFaultOf t f new why
+fault_in : {D F : Type 0} (t : Telling D F) (f : FilesState D) (b : BookState D (JournalState D)) (new : Devices D F) (why : Option Trouble) → IsLeft t.disk t.line f b → AreOf b new → IsCauseIn t.disk b why → IsFaultOf t f new why
 fault_in t f b new None left of cause = tt
 fault_in t f b new (Some trouble.Disk) left of cause = disk_rose t.disk f b new left of cause
 fault_in t f b new (Some trouble.Dest) left of cause = dest_rose t.disk f b new left of cause
 fault_in t f b new (Some (trouble.Changed change)) left of cause = tt
 
 pub stopped : {S D F : Type 0} (t : Telling D F) (left_in : S → Option (List ℕ)) (config : Config) (start : Start) (calls : ℕ) (f : FilesState D) (old : S) (i : InputState S) (callers : List F)
-    → (before b : BookState D (JournalState D)) (new : Devices D F) → AreLaws → StoodSo config calls f before → IsLeft t.disk f b → AreOf b new → IsCauseIn t.disk b b.trouble → IsMadeFor config start old i
+    → (before b : BookState D (JournalState D)) (new : Devices D F) → AreLaws → StoodSo config calls f before → IsLeft t.disk t.line f b → AreOf b new → IsCauseIn t.disk b b.trouble → IsMadeFor config start old i
     → b.core.setting ≡ over before.core.setting b.core.setting.streams → Headline t f b.core.setting b.core.past b.trouble (in_hand b.trouble b.core.owed) new → IsCutInput left_in i b
     → CallsMadeOrOneMore t b.core.setting b.core.past callers new.callers → HasStoppedRun t left_in config start calls f old i.source callers b.core.past new
 stopped {S} t left_in config start calls f old i callers before b new laws stood left of cause made opened head cut made_calls = record {
@@ -171,7 +171,7 @@ pub record HasCome {S D F : Type 0} (t : Telling D F) (faults : S → ℕ) (left
   pub cut : OnErr r (IsCutInput left_in i b)
 
 pub ended_by : {S D F : Type 0} (t : Telling D F) (faults : S → ℕ) (left_in : S → Option (List ℕ)) (config : Config) (start : Start) (calls : ℕ) (f : FilesState D) (old : S) (i : InputState S) (callers : List F)
-    → (before b : BookState D (JournalState D)) (new : Devices D F) (r : Result RunEnd OutOfMemory) (e : MappingEnd) → AreLaws → StoodSo config calls f before → IsLeft t.disk f b → AreOf b new → IsSound b
+    → (before b : BookState D (JournalState D)) (new : Devices D F) (r : Result RunEnd OutOfMemory) (e : MappingEnd) → AreLaws → StoodSo config calls f before → IsLeft t.disk t.line f b → AreOf b new → IsSound b
     → IsCauseIn t.disk b b.trouble
     → IsMadeFor config start old i → HasCome t faults left_in before b i callers new.callers r → EndsBy r b.trouble i.end e
     → HasEnded t faults left_in config start calls f old i.source i.end callers b.core.past new e
@@ -180,7 +180,7 @@ ended_by t faults left_in config start calls f old i callers before b new (Ok r)
 ended_by t faults left_in config start calls f old i callers before b new (Err none) e laws stood left of sound cause made come is = absurd is
 
 pub stopped_by : {S D F : Type 0} (t : Telling D F) (faults : S → ℕ) (left_in : S → Option (List ℕ)) (config : Config) (start : Start) (calls : ℕ) (f : FilesState D) (old : S) (i : InputState S) (callers : List F)
-    → (before b : BookState D (JournalState D)) (new : Devices D F) (r : Result RunEnd OutOfMemory) → AreLaws → StoodSo config calls f before → IsLeft t.disk f b → AreOf b new → IsCauseIn t.disk b b.trouble
+    → (before b : BookState D (JournalState D)) (new : Devices D F) (r : Result RunEnd OutOfMemory) → AreLaws → StoodSo config calls f before → IsLeft t.disk t.line f b → AreOf b new → IsCauseIn t.disk b b.trouble
     → IsMadeFor config start old i → HasCome t faults left_in before b i callers new.callers r → IsErr r
     → HasStoppedRun t left_in config start calls f old i.source callers b.core.past new
 stopped_by t faults left_in config start calls f old i callers before b new (Ok r) laws stood left of cause made come short = absurd (let clash : false ≡ true = short in cc)
@@ -203,7 +203,7 @@ pub found_stays : {S D F : Type 0} (t : Telling D F) (faults : S → ℕ) (left_
 found_stays t faults left_in before b i callers new_callers (Ok r) come = (come.run.found, come.run.found_dest, come.run.as_many)
 found_stays t faults left_in before b i callers new_callers (Err none) come = (come.stopped.found, come.stopped.found_dest, come.stopped.as_many)
 
-pub found_ran : {D F : Type 0} (t : Telling D F) (before b : BookState D (JournalState D)) (callers new_callers : List F) (r : Result RunEnd OutOfMemory)
+pub found_ran : {D T F : Type 0} (t : Telling D F) (before b : BookState D T) (callers new_callers : List F) (r : Result RunEnd OutOfMemory)
     → OnOk r (HasRun t.callers before b callers new_callers) → OnErr r (HasStopped t.callers before b callers new_callers) → b.found ≡ before.found
 found_ran t before b callers new_callers (Ok r) run stopped = run.found
 found_ran t before b callers new_callers (Err none) run stopped = stopped.found
@@ -230,11 +230,11 @@ said_so t faults left_in before b i callers new_callers (Err none) laws sound bo
 
 -- the reason of an end
 
-reason_for : {S D : Type 0} (left_in : S → Option (List ℕ)) (i : InputState S) (b : BookState D (JournalState D)) (r : RunEnd) → CameSo i b r → EndsSo left_in i b r → HasReason b.trouble i.end r
+reason_for : {S D T : Type 0} (left_in : S → Option (List ℕ)) (i : InputState S) (b : BookState D T) (r : RunEnd) → CameSo i b r → EndsSo left_in i b r → HasReason b.trouble i.end r
 reason_for left_in i b ran.Finished came so = came.1
 reason_for left_in i b ran.Spent came so = tt
 reason_for left_in i b ran.Down came so = so
 
-pub reason_of : {S D : Type 0} (left_in : S → Option (List ℕ)) (i : InputState S) (b : BookState D (JournalState D)) (r : Result RunEnd OutOfMemory) → IfOk r (CameSo i b) → IfOk r (EndsSo left_in i b) → IfOk r (HasReason b.trouble i.end)
+pub reason_of : {S D T : Type 0} (left_in : S → Option (List ℕ)) (i : InputState S) (b : BookState D T) (r : Result RunEnd OutOfMemory) → IfOk r (CameSo i b) → IfOk r (EndsSo left_in i b) → IfOk r (HasReason b.trouble i.end)
 reason_of left_in i b (Ok r) came so = reason_for left_in i b r came so
 reason_of left_in i b (Err none) came so = tt

@@ -1,5 +1,5 @@
 -- The headline: what a run of a stream's mapping leaves. This product's own.
-use Rattle.std.specs.Prelude.{◌≡◌, ◌⊎◌, ◌<◌, ◌≤◌, ◌∷◌, ◌++◌, ℕ, true, List, [], length, take_while, slice_index_or, Option, Some, is_some, option_map, reverse}
+use Rattle.std.specs.Prelude.{◌≡◌, ◌⊎◌, ◌<◌, ◌≤◌, ◌∷◌, ◌++◌, ℕ, true, List, [], length, map, take_while, slice_index_or, Option, Some, is_some, option_map, reverse}
 use Rattle.esm_io.specs.Told.{Grows}
 use Rattle.esm_io.specs.Meanings.{DiskMeaning}
 use Rattle.esm_journal.specs.File.{header_of}
@@ -33,13 +33,14 @@ use Rattle.esm_workers.specs.Working.{Outside}
 use Rattle.esm_runner.specs.Stopping.{HasLogged}
 use Rattle.esm_runner.specs.Files.{FilesState}
 
--- what devices tell: of the clock and the callers, and of the disks
+-- what devices tell: of the clock and the callers, and of the disks; and what is delivered of a failure line
 pub record Telling (D F : Type 0) : Type 1 where
   pub callers : Outside F
   pub disk : DiskMeaning D
+  pub line : List ℕ → List ℕ
 
-abbrev pub telling : {D F : Type 0} → Outside F → DiskMeaning D → Telling D F
-telling callers disk = record { callers = callers; disk = disk }
+abbrev pub telling : {D F : Type 0} → Outside F → DiskMeaning D → (List ℕ → List ℕ) → Telling D F
+telling callers disk line = record { callers = callers; disk = disk; line = line }
 
 -- what a run found or left: its disks, and its callers in order
 pub record Devices (D F : Type 0) : Type 0 where
@@ -89,10 +90,11 @@ LinesKept t f lines new = t.disk.honest f.failures ≡ true → Keeps t.disk (he
 abbrev pub LinesStopped : {D F : Type 0} → Telling D F → FilesState D → List (List ℕ) → Devices D F → Type 0
 LinesStopped t f lines new = t.disk.honest f.failures ≡ true → StillOpens t.disk (header_of 1) (f.dest.payloads ++ lines) new.failures
 
--- the lines of the history, and after a fault of the journal perhaps that of the entry whose payload was being written
+-- what is delivered of the lines of the history, and after a fault of the journal perhaps of that of the entry whose payload was
+-- being written
 abbrev pub FailureLinesKept : {D F : Type 0} → Telling D F → FilesState D → Option Trouble → List Entry → (hand : List Entry) → Devices D F → Type 0
-FailureLinesKept t f (Some Dest) h hand new = LinesStopped t f (lines_of (reverse h)) new
-FailureLinesKept t f _ h hand new = LinesKept t f (lines_of (reverse h ++ hand)) new
+FailureLinesKept t f (Some Dest) h hand new = LinesStopped t f (map t.line (lines_of (reverse h))) new
+FailureLinesKept t f _ h hand new = LinesKept t f (map t.line (lines_of (reverse h ++ hand))) new
 
 -- the entries whose payloads may stand in the journal though they are not in the history: one at most, and only where a disk
 -- failed
@@ -146,7 +148,8 @@ pub record Headline {D F : Type 0} (t : Telling D F) (f : FilesState D) (s : Set
   pub journal_kept : (trouble ≡ Some Disk → ⊥) → JournalKept t f s h new
   -- where a disk of it failed, one further whole payload may follow, that of the entry in hand
   pub journal_stopped : trouble ≡ Some Disk → JournalStopped t f s h hand new
-  -- the failure file's lines are the old ones followed by the trace's lines; where a disk failed, one further line may follow
+  -- the failure file's lines are the old ones followed by what is delivered of the trace's lines; where a disk failed, one
+  -- further line may follow
   pub failure_lines_kept : FailureLinesKept t f trouble h hand new
   -- an entry is in hand only where a disk of the journal failed, and then one at most
   pub in_hand : IsInHand trouble hand

@@ -3,6 +3,7 @@ pub mod Coming
 pub mod Stopping
 pub mod Ran
 pub mod Files
+pub mod FailureFile
 pub mod Headline
 pub mod Ending
 pub mod Ended

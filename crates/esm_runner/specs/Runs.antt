@@ -25,6 +25,10 @@ use Rattle.esm_runner.specs.Files.{FilesState, IsOpenedFiles}
 abbrev pub new_input : {S : Type 0} → Config → Start → S → InputState S
 new_input config start source = record { kind = kinds.Stream; factor = config.factor; start = start; found = source; source = source; bytes = []; whole = false; end = None; failed = false }
 
+-- a book with its failure file in place of the destination over it
+abbrev pub over_file : {D T : Type 0} → (T → JournalState D) → BookState D T → BookState D (JournalState D)
+over_file file b = record { core = b.core; pair = b.pair; dest = file b.dest; trouble = b.trouble; found = b.found; found_dest = file b.found_dest }
+
 -- the book and the input of a run with this configuration and starting position are new, over these files and this source
 pub record IsBegun {S D : Type 0} (config : Config) (start : Start) (calls : ℕ) (said : SaidLists) (pair : PairState D) (dest : JournalState D) (source : S) (b : BookState D (JournalState D)) (i : InputState S) (name : List ℕ) : Type 0 where
   pub core : b.core ≡ new_view (opened_with config calls said)
@@ -42,19 +46,19 @@ files_of journal spare failures said b = record { journal = journal; spare = spa
 
 -- what it leaves
 
--- a failure file as a destination
-abbrev pub file_dest : {D : Type 0} → DiskMeaning D → DestMeaning (JournalState D)
-file_dest m = record { honest = λ d. m.honest d.disk; faults = λ d. m.faults d.disk; lines = λ d. Some d.payloads; sends = λ line. line; failed = λ d. d.down }
+-- a failure file as a destination, to which this is delivered of a line
+abbrev pub file_dest : {D : Type 0} → DiskMeaning D → (List ℕ → List ℕ) → DestMeaning (JournalState D)
+file_dest m line = record { honest = λ d. m.honest d.disk; faults = λ d. m.faults d.disk; lines = λ d. Some d.payloads; sends = line; failed = λ d. d.down }
 
 -- what a crash leaves of the disks since they were handed in
-abbrev pub LeavesSince : {D : Type 0} → DiskMeaning D → FilesState D → BookState D (JournalState D) → Type 0
-LeavesSince m f b =
+abbrev pub LeavesSince : {D : Type 0} → DiskMeaning D → (List ℕ → List ℕ) → FilesState D → BookState D (JournalState D) → Type 0
+LeavesSince m line f b =
     m.honest f.journal ≡ true → m.honest f.spare ≡ true → Only (m.content f.journal) (m.image f.journal) → Only (m.content f.spare) (m.image f.spare) → (one other : List ℕ) →
     m.since (first_disk b.pair) (m.moment f.journal) one → m.since (second_disk b.pair) (m.moment f.spare) other →
-    OpensToFirst (file_dest m) (full_setting b.core) b.found.epoch b.found.payloads b.found_dest b.dest (entries_left b) one other
+    OpensToFirst (file_dest m line) (full_setting b.core) b.found.epoch b.found.payloads b.found_dest b.dest (entries_left b) one other
 
 -- the book was opened over these files, and this holds of it and of its devices
-pub record IsLeft {D : Type 0} (m : DiskMeaning D) (f : FilesState D) (b : BookState D (JournalState D)) : Type 0 where
+pub record IsLeft {D : Type 0} (m : DiskMeaning D) (line : List ℕ → List ℕ) (f : FilesState D) (b : BookState D (JournalState D)) : Type 0 where
   pub files : IsOpenedFiles m f
   pub found : b.found ≡ f.pair
   pub found_dest : b.found_dest ≡ f.dest
@@ -63,11 +67,11 @@ pub record IsLeft {D : Type 0} (m : DiskMeaning D) (f : FilesState D) (b : BookS
   pub fates : b.core.setting.fates ≡ f.said.fates
   pub may_be_said : AllMayBeSaid b.core.setting b.core.past
   pub journal : HasJournal m b
-  pub lines : HasLines (file_dest m) b
-  pub since : LeavesSince m f b
+  pub lines : HasLines (file_dest m line) b
+  pub since : LeavesSince m line f b
   pub pair_kept : PairKeepsWhileUp m b.pair
   -- where a disk failed: what a crash leaves since the opening, and what it leaves now
-  pub opened_since : b.trouble ≡ Some trouble.Disk → LeavesFirst m (file_dest m) (full_setting b.core) b.found b.pair b.found_dest b.dest (entries_left b)
+  pub opened_since : b.trouble ≡ Some trouble.Disk → LeavesFirst m (file_dest m line) (full_setting b.core) b.found b.pair b.found_dest b.dest (entries_left b)
   pub pair_stopped : PairKeepsWhileDown m b.pair
   pub dest_kept : KeepsWhileUp m b.dest
   pub dest_stopped : KeepsWhileDown m b.dest

@@ -3,6 +3,7 @@
 //! It composes the books, the input and the batchers by their public contracts.
 #![tactic(auto)]
 
+mod failure_file;
 mod files;
 mod number;
 mod queue_laws;
@@ -13,6 +14,7 @@ mod stream_laws;
 mod stream_run;
 mod stream_running;
 
+pub use failure_file::{FailureFile, Plain};
 pub use files::{Files, FilesError, FilesParts, open_files};
 pub use number::{DEFAULT_BATCHERS, MAX_BATCHERS, batchers_of};
 pub use queue_run::run_queue;

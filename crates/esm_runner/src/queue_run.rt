@@ -152,12 +152,12 @@ fn run_opened<
     requires files { IsOpenedFiles (meaning D.Disk)
         (files_of before.now.journal.value before.now.spare.value before.now.failures.value said run.book dest) }
     requires callers { length callers.items ≡ MAX_LANES }
-    ensures ended { IfOk result.end (HasEnded (telling (outside C.gave F.sends F.log) (meaning D.Disk)) S.faults S.left
+    ensures ended { IfOk result.end (HasEnded (telling (outside C.gave F.sends F.log) (meaning D.Disk) (λ line. line)) S.faults S.left
         run.book.core.setting.config run.book.core.setting.calls run.book.core.setting.visibility
         (files_of before.now.journal.value before.now.spare.value before.now.failures.value said run.book dest)
         run.input.source result.input result.reading.value callers.items (reverse result.trace.items)
         (record { journal = result.journal; spare = result.spare; failures = result.failures; callers = result.callers.items })) }
-    ensures stopped { OnErr result.end (HasStoppedRun (telling (outside C.gave F.sends F.log) (meaning D.Disk)) S.left
+    ensures stopped { OnErr result.end (HasStoppedRun (telling (outside C.gave F.sends F.log) (meaning D.Disk) (λ line. line)) S.left
         run.book.core.setting.config run.book.core.setting.calls run.book.core.setting.visibility
         (files_of before.now.journal.value before.now.spare.value before.now.failures.value said run.book dest)
         run.input.source result.input callers.items (reverse result.trace.items)
@@ -226,10 +226,10 @@ pub fn run_queue<
     requires config { IsQueueConfig config }
     requires patterns { is_ok (read_patterns (is_stream config.kind) config.filters) ≡ true }
     requires callers { length callers.items ≡ MAX_LANES }
-    ensures ended { IfOk result.end (HasEnded (telling (outside C.gave F.sends F.log) (meaning D.Disk)) S.faults S.left
+    ensures ended { IfOk result.end (HasEnded (telling (outside C.gave F.sends F.log) (meaning D.Disk) (λ line. line)) S.faults S.left
         config calls visibility_ms files input result.input result.reading.value callers.items (reverse result.trace.items)
         (record { journal = result.journal; spare = result.spare; failures = result.failures; callers = result.callers.items })) }
-    ensures stopped { OnErr result.end (HasStoppedRun (telling (outside C.gave F.sends F.log) (meaning D.Disk)) S.left
+    ensures stopped { OnErr result.end (HasStoppedRun (telling (outside C.gave F.sends F.log) (meaning D.Disk) (λ line. line)) S.left
         config calls visibility_ms files input result.input callers.items (reverse result.trace.items)
         (record { journal = result.journal; spare = result.spare; failures = result.failures; callers = result.callers.items })) }
     ensures read_first { read_first ≡ true → CallsFollowShut (reverse result.trace.items) }

@@ -1,4 +1,4 @@
-// The run of a stream's mapping over opened files.
+// The run of a stream's mapping over opened files, whichever way its failure lines go.
 ghost use Rattle.std.specs.Prelude.{◌≡◌, true, false, is_ok, length, reverse, IfOk, IfErr, OnErr};
 ghost use Rattle.esm_io.specs.Meanings.{disk as meaning};
 ghost use Rattle.esm_model.specs.declared.limits.TheConstants.{MAX_LANES};
@@ -13,14 +13,15 @@ ghost use Rattle.esm_workers.specs.Working.{outside};
 ghost use Rattle.esm_runner.specs.Files.{IsOpenedFiles};
 ghost use Rattle.esm_runner.specs.Headline.{telling, Devices};
 ghost use Rattle.esm_runner.specs.Ended.{HasEnded, HasStoppedRun};
-ghost use Rattle.esm_runner.specs.Runs.{IsBegun, files_of};
+ghost use Rattle.esm_runner.specs.Runs.{IsBegun, files_of, over_file};
 
+use crate::failure_file::FailureFile;
 use crate::files::Files;
 use crate::run::{Before, MappingRun, closed, end_of};
 use crate::stream_laws::laws_hold;
 use crate::stream_running::{Ran, run_lanes};
 use esm_input::{Input, InputEnd};
-use esm_io::{Caller, Clock, Disk, Source};
+use esm_io::{Caller, Clock, Dest, Disk, Source};
 use esm_journal::{FileDest, Pair};
 use esm_journal_state::Says;
 use esm_journal_state::laws::same_told;
@@ -32,24 +33,24 @@ use std::sync::Wait;
 use std::thread::Threads;
 
 /// A run that is to begin: its book, its input and the function's name.
-struct Opened<S: Source, D: Disk> {
-    book: Book<D, FileDest<D>>,
+struct Opened<S: Source, D: Disk, T: Dest> {
+    book: Book<D, T>,
     input: Input<S>,
     name: Text,
 }
 
 /// Opens the book over a journal whose payloads are good.
-fn open_book<D: Disk>(
+fn open_book<D: Disk, T: Dest>(
     alloc: Global,
     config: Config,
     calls: u32,
     pair: Pair<D>,
-    dest: FileDest<D>,
-) -> Result<Book<D, FileDest<D>>, Refused<OutOfMemory, (Pair<D>, FileDest<D>)>>
+    dest: T,
+) -> Result<Book<D, T>, Refused<OutOfMemory, (Pair<D>, T)>>
     requires config { IsStreamConfig config }
     requires patterns { is_ok (read_patterns (is_stream config.kind) config.filters) ≡ true }
     requires up { pair.down ≡ false }
-    requires usable { dest.down ≡ false }
+    requires usable { T.failed dest ≡ false }
     requires good { are_good (reverse pair.payloads) ≡ true }
     ensures opened { IfOk result (IsOpened config calls pair dest) }
     ensures back { IfErr result (λ refused. refused.back ≡ (pair, dest)) }
@@ -67,7 +68,7 @@ fn open_book<D: Disk>(
 }
 
 /// Opens the book over the files, and the input. Nothing is read or written.
-fn begin<S: Source, D: Disk>(
+fn begin<S: Source, D: Disk, W: FailureFile<FileDest<D>>>(
     alloc: Global,
     config: Config,
     start: Start,
@@ -76,7 +77,7 @@ fn begin<S: Source, D: Disk>(
     pair: Pair<D>,
     dest: FileDest<D>,
     input: S,
-) -> Result<Opened<S, D>, Refused<OutOfMemory, (Pair<D>, FileDest<D>, S)>>
+) -> Result<Opened<S, D, W::Dest>, Refused<OutOfMemory, (Pair<D>, FileDest<D>, S)>>
     requires config { IsStreamConfig config }
     requires patterns { is_ok (read_patterns (is_stream config.kind) config.filters) ≡ true }
     requires up { pair.down ≡ false }
@@ -84,7 +85,8 @@ fn begin<S: Source, D: Disk>(
     requires good { are_good (reverse pair.payloads) ≡ true }
     requires tells { Tells said.now (history (reverse pair.payloads)) }
     requires order { IsInOrder said.now }
-    ensures begun { IfOk result (λ run. IsBegun config start calls said.now pair dest input run.book run.input run.name) }
+    ensures begun { IfOk result (λ run. IsBegun config start calls said.now pair dest input
+        (over_file W.file run.book) run.input run.name) }
     ensures back { IfErr result (λ refused. refused.back ≡ (pair, dest, input)) }
 {
     let Ok(name) = config.function.copy(alloc) else {
@@ -94,14 +96,15 @@ fn begin<S: Source, D: Disk>(
         });
     };
     same_told();
+    W::means();
     match Input::new(alloc, input, LineKind::Stream, config.factor, start) {
-        Ok(input) => match open_book(alloc, config, calls, pair, dest) {
+        Ok(input) => match open_book(alloc, config, calls, pair, W::over(alloc, dest)) {
             Ok(book) => Ok(Opened { book, input, name }),
             Err(refused) => {
                 let (pair, dest) = refused.back;
                 Err(Refused {
                     why: OutOfMemory,
-                    back: (pair, dest, input.into_source()),
+                    back: (pair, W::file(dest), input.into_source()),
                 })
             }
         },
@@ -119,10 +122,11 @@ fn run_opened<
     C: Clock + Sync,
     F: Caller + Send,
     D: Disk + Send,
+    W: FailureFile<FileDest<D>>,
 >(
     rt: &R,
     alloc: Global,
-    run: Opened<S, D>,
+    run: Opened<S, D, W::Dest>,
     said: Says,
     callers: Vec<F>,
     clock: &C,
@@ -131,18 +135,18 @@ fn run_opened<
 ) -> MappingRun<S, D, F>
     requires config { IsStreamConfig run.book.core.setting.config }
     requires begun { IsBegun run.book.core.setting.config run.input.start run.book.core.setting.calls
-        said run.book.pair run.book.dest run.input.source run.book run.input run.name }
+        said run.book.pair (W.file run.book.dest) run.input.source (over_file W.file run.book) run.input run.name }
     requires files { IsOpenedFiles (meaning D.Disk)
-        (files_of before.now.journal.value before.now.spare.value before.now.failures.value said run.book) }
+        (files_of before.now.journal.value before.now.spare.value before.now.failures.value said (over_file W.file run.book)) }
     requires callers { length callers.items ≡ MAX_LANES }
-    ensures ended { IfOk result.end (HasEnded (telling (outside C.gave F.sends F.log) (meaning D.Disk)) S.faults S.left
+    ensures ended { IfOk result.end (HasEnded (telling (outside C.gave F.sends F.log) (meaning D.Disk) W.line) S.faults S.left
         run.book.core.setting.config run.input.start run.book.core.setting.calls
-        (files_of before.now.journal.value before.now.spare.value before.now.failures.value said run.book)
+        (files_of before.now.journal.value before.now.spare.value before.now.failures.value said (over_file W.file run.book))
         run.input.source result.input result.reading.value callers.items (reverse result.trace.items)
         (record { journal = result.journal; spare = result.spare; failures = result.failures; callers = result.callers.items })) }
-    ensures stopped { OnErr result.end (HasStoppedRun (telling (outside C.gave F.sends F.log) (meaning D.Disk)) S.left
+    ensures stopped { OnErr result.end (HasStoppedRun (telling (outside C.gave F.sends F.log) (meaning D.Disk) W.line) S.left
         run.book.core.setting.config run.input.start run.book.core.setting.calls
-        (files_of before.now.journal.value before.now.spare.value before.now.failures.value said run.book)
+        (files_of before.now.journal.value before.now.spare.value before.now.failures.value said (over_file W.file run.book))
         run.input.source result.input callers.items (reverse result.trace.items)
         (record { journal = result.journal; spare = result.spare; failures = result.failures; callers = result.callers.items })) }
     ensures read_first { read_first ≡ true → CallsFollowShut (reverse result.trace.items) }
@@ -166,6 +170,7 @@ fn run_opened<
         read_first,
     );
     laws_hold();
+    W::means();
     book.since_before(&before.journal, &before.spare);
     let _ = book.trouble();
     let (source, reading) = input.into_parts();
@@ -177,18 +182,28 @@ fn run_opened<
         dest,
     } = book.into_parts();
     let end = end_of(ran, trouble, reading);
-    closed(end, history, pair, dest, said, read_to, source, callers)
+    closed(
+        end,
+        history,
+        pair,
+        W::file(dest),
+        said,
+        read_to,
+        source,
+        callers,
+    )
 }
 
 /// Runs the mapping from this starting position on, its reader and its batchers as threads; with `read_first` no call begins
-/// before the end of the input was noted. What is written is written before it counts: each failure line to the failure file, and then
-/// each fate, state and failed try to the journal.
+/// before the end of the input was noted. What is written is written before it counts: each failure line to the failure file,
+/// which it reaches as `W` has it, and then each fate, state and failed try to the journal.
 pub fn run_stream<
     R: Threads + Wait + Sync,
     S: Source + Send,
     C: Clock + Sync,
     F: Caller + Send,
     D: Disk + Send,
+    W: FailureFile<FileDest<D>>,
 >(
     rt: &R,
     alloc: Global,
@@ -204,10 +219,10 @@ pub fn run_stream<
     requires config { IsStreamConfig config }
     requires patterns { is_ok (read_patterns (is_stream config.kind) config.filters) ≡ true }
     requires callers { length callers.items ≡ MAX_LANES }
-    ensures ended { IfOk result.end (HasEnded (telling (outside C.gave F.sends F.log) (meaning D.Disk)) S.faults S.left
+    ensures ended { IfOk result.end (HasEnded (telling (outside C.gave F.sends F.log) (meaning D.Disk) W.line) S.faults S.left
         config start calls files input result.input result.reading.value callers.items (reverse result.trace.items)
         (record { journal = result.journal; spare = result.spare; failures = result.failures; callers = result.callers.items })) }
-    ensures stopped { OnErr result.end (HasStoppedRun (telling (outside C.gave F.sends F.log) (meaning D.Disk)) S.left
+    ensures stopped { OnErr result.end (HasStoppedRun (telling (outside C.gave F.sends F.log) (meaning D.Disk) W.line) S.left
         config start calls files input result.input callers.items (reverse result.trace.items)
         (record { journal = result.journal; spare = result.spare; failures = result.failures; callers = result.callers.items })) }
     ensures read_first { read_first ≡ true → CallsFollowShut (reverse result.trace.items) }
@@ -228,8 +243,10 @@ pub fn run_stream<
         failures,
     };
     laws_hold();
-    match begin(alloc, config, start, calls, &said, pair, dest, input) {
-        Ok(run) => run_opened(rt, alloc, run, said, callers, clock, read_first, &before),
+    match begin::<_, _, W>(alloc, config, start, calls, &said, pair, dest, input) {
+        Ok(run) => run_opened::<_, _, _, _, _, W>(
+            rt, alloc, run, said, callers, clock, read_first, &before,
+        ),
         Err(refused) => {
             let (pair, dest, input) = refused.back;
             let stopped = Err(OutOfMemory);

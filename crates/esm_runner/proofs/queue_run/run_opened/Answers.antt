@@ -31,7 +31,7 @@ use Rattle.esm_runner.proofs.queue_run.run_opened.Goals as goal
 pub returns : goal.returns
 returns g c =
     let m : DiskMeaning g.row.D.Denot = meaning g.D.Disk in
-    let t : Telling g.row.D.Denot g.row.F.Denot = telling (outside g.C.Clock.gave g.F.Caller.sends g.F.Caller.log) m in
+    let t : Telling g.row.D.Denot g.row.F.Denot = telling (outside g.C.Clock.gave g.F.Caller.sends g.F.Caller.log) m (λ line. line) in
     let before : BookState g.row.D.Denot = c.args.run.book in
     let config = before.core.setting.config in
     let calls = before.core.setting.calls in
@@ -111,7 +111,7 @@ returns g c =
 pub since_before-requires-clause-first : goal.since_before-requires-clause-first
 since_before-requires-clause-first g c =
     let m : DiskMeaning g.row.D.Denot = meaning g.D.Disk in
-    let t : Telling g.row.D.Denot g.row.F.Denot = telling (outside g.C.Clock.gave g.F.Caller.sends g.F.Caller.log) m in
+    let t : Telling g.row.D.Denot g.row.F.Denot = telling (outside g.C.Clock.gave g.F.Caller.sends g.F.Caller.log) m (λ line. line) in
     let ran = c.run_batchers-ran in
     let found : ran.result.book.found ≡ c.args.run.book.pair = found_ran t c.args.run.book ran.result.book c.args.callers.items ran.result.callers.items ran.result.end ran.ensures.run ran.ensures.stopped ∙ c.requires.begun.found in
     subst (λ (p : PairState g.row.D.Denot). IsOnlyRead m c.args.before.now.journal.value (first_disk p)) (sym found) c.requires.files.read.0
@@ -119,7 +119,7 @@ since_before-requires-clause-first g c =
 pub since_before-requires-clause-second : goal.since_before-requires-clause-second
 since_before-requires-clause-second g c =
     let m : DiskMeaning g.row.D.Denot = meaning g.D.Disk in
-    let t : Telling g.row.D.Denot g.row.F.Denot = telling (outside g.C.Clock.gave g.F.Caller.sends g.F.Caller.log) m in
+    let t : Telling g.row.D.Denot g.row.F.Denot = telling (outside g.C.Clock.gave g.F.Caller.sends g.F.Caller.log) m (λ line. line) in
     let ran = c.run_batchers-ran in
     let found : ran.result.book.found ≡ c.args.run.book.pair = found_ran t c.args.run.book ran.result.book c.args.callers.items ran.result.callers.items ran.result.end ran.ensures.run ran.ensures.stopped ∙ c.requires.begun.found in
     subst (λ (p : PairState g.row.D.Denot). IsOnlyRead m c.args.before.now.spare.value (second_disk p)) (sym found) c.requires.files.read.1

@@ -16,7 +16,7 @@ use Rattle.esm_runner.proofs.stream_run.run_stream.Goals as goal
 pub returns-clause-stopped : goal.returns-clause-stopped
 returns-clause-stopped g c =
     let m : DiskMeaning g.row.D.Denot = meaning g.D.Disk in
-    let t : Telling g.row.D.Denot g.row.F.Denot = telling (outside g.C.Clock.gave g.F.Caller.sends g.F.Caller.log) m in
+    let t : Telling g.row.D.Denot g.row.F.Denot = telling (outside g.C.Clock.gave g.F.Caller.sends g.F.Caller.log) m g.W.FailureFile.line in
     let f : FilesState g.row.D.Denot = c.args.files in
     let out = c.closed.result in
     let new : Devices g.row.D.Denot g.row.F.Denot = record { journal = out.journal; spare = out.spare; failures = out.failures; callers = out.callers.items } in
