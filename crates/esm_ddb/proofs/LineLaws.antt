@@ -1,5 +1,5 @@
 -- The law of lines that are turned.
-use Rattle.std.proofs.Common.{◌≡◌, ◌∙◌, ℕ, ◌≤◌, arith, Bool, true, false, cond, refl, ap, subst, List, [], length, Result, Ok, Err}
+use Rattle.std.proofs.Common.{◌≡◌, ℕ, ◌≤◌, arith, Bool, true, false, cond, refl, subst, List, [], length, Result, Ok, Err}
 use Rattle.std.specs.Prelude.{nat_lt}
 use Rattle.std.specs.List.{list_all}
 use Rattle.std.specs.Option.{ok_or}
@@ -10,12 +10,13 @@ use Rattle.esm_record.specs.Line.{line_of, only_object, record_of}
 use Rattle.esm_ddb.specs.Change.{Change, change_of}
 use Rattle.esm_ddb.specs.Element.{element}
 use Rattle.esm_ddb.specs.ItemText.{value_text}
-use Rattle.esm_ddb.specs.ReadsBack.{ReadsBack, IsReadBack, change_in, is_byte}
-use Rattle.esm_ddb.specs.Turned.{record_line, turned, turned_change, turned_object, turned_record}
+use Rattle.esm_ddb.specs.ReadsBack.{IsOneLine, IsReadBack, change_in, is_byte}
+use Rattle.esm_ddb.specs.Turned.{record_line, turned_change, turned_object, turned_record}
 use Rattle.esm_ddb.specs.declared.error.DdbError.{DdbError}
 use Rattle.esm_ddb.specs.declared.error.DdbError.TheVariants.{BadField, LineTooLong, NotJson}
 use Rattle.esm_ddb.specs.declared.error.DdbField.TheVariants.{Dynamodb}
 use Rattle.esm_ddb.specs.declared.source.Source.{Source}
+use Rattle.esm_ddb.proofs.OneLine.{one_line}
 use Rattle.esm_ddb.proofs.ReadBack.{IsWritten, key_hex, line_reads}
 use Rattle.esm_ddb.proofs.Told.{IsTold, change_told, then_ok}
 
@@ -57,6 +58,7 @@ read_back s line text some h =
     record {
       change = c.0;
       told = c.1;
+      stands = λ bytes. subst IsOneLine size.1 (one_line (turned_record s c.0) (written s c.0 told bytes (within (length (element s c.0)) size.0)));
       reads = λ bytes. subst (λ (t : List ℕ). line_of record_of t ≡ Ok (turned_record s c.0)) size.1
           (line_reads (turned_record s c.0) (written s c.0 told bytes (within (length (element s c.0)) size.0)));
     }

@@ -1,7 +1,7 @@
 -- The places of lexemes by the mode of the lexer.
-use Rattle.std.proofs.Common.{◌≡◌, ◌∙◌, ℕ, ◌+◌, ◌<◌, ◌≤◌, arith, Bool, true, false, refl, sym, ap, ap₂, List, [], ◌∷◌, ◌++◌, length, get_or, drop, drop-cons, add-one, append_assoc, map, Option, Some, None}
+use Rattle.std.proofs.Common.{◌≡◌, ◌∙◌, ℕ, ◌+◌, ◌<◌, ◌≤◌, refl, sym, ap, List, [], ◌∷◌, ◌++◌, length, get_or, drop, drop-cons, add-one, append_assoc, map}
 use Rattle.std.proofs.lemmas.List.{append-nil}
-use Rattle.json.specs.Lex.{Lexeme, Class, quote, backslash, operator, space, other, class, Mode, between, in_word, in_string, in_escape}
+use Rattle.json.specs.Lex.{Class, quote, backslash, operator, space, other, class, Mode, between, in_word, in_string, in_escape}
 use Rattle.esm_model.specs.State.{places}
 use Rattle.esm_window.specs.Layout.{begin, lay, next, put_at, Placed}
 use Rattle.esm_window.proofs.Layouts.{places_are}
@@ -22,7 +22,7 @@ one in_word other p x xs ls = refl
 one in_string c p x xs ls = refl
 one in_escape c p x xs ls = refl
 
-from_are : (m : Mode) (p : ℕ) (xs : List ℕ) → places_from m p xs ≡ map (λ q. q.0) (lay m p xs)
+pub from_are : (m : Mode) (p : ℕ) (xs : List ℕ) → places_from m p xs ≡ map (λ q. q.0) (lay m p xs)
 unfolding places_from lay
 from_are m p [] = refl
 from_are m p (x ∷ xs) =

@@ -1,11 +1,10 @@
 -- A line that is turned reads back as its record.
-use Rattle.std.proofs.Common.{◌≡◌, ◌∙◌, ℕ, zero, suc, ◌+◌, ◌*◌, ◌/◌, ◌%◌, ◌^◌, ◌<◌, ◌≤◌, lit<, lit≤, arith, Bool, true, false, cond, ◌&&◌, ◌||◌, ◌==◌, nat_le, nat_lt, not, refl, sym, ap, List, [], ◌∷◌, ◌++◌, append_assoc, length, length-append, replicate, codes, Option, Some, None, drop}
+use Rattle.std.proofs.Common.{◌≡◌, ◌∙◌, ℕ, zero, suc, ◌+◌, ◌*◌, ◌/◌, ◌%◌, ◌^◌, ◌<◌, ◌≤◌, lit<, arith, Bool, true, false, cond, ◌&&◌, ◌||◌, ◌==◌, nat_le, nat_lt, not, refl, sym, ap, List, [], ◌∷◌, ◌++◌, append_assoc, length, length-append, replicate, codes, Some}
 use Rattle.std.specs.Prelude.{filter, slice_index, Ok}
 use Rattle.std.specs.Char.{digit_value, is_ascii_digit}
 use Rattle.std.specs.Fmt.{decimal, digit_glyph}
 use Rattle.std.specs.List.{flat_map, list_all}
 use Rattle.std.specs.Option.{ok_or}
-use Rattle.std.specs.Result.{result_ok}
 use Rattle.std.specs.Str.{is_utf8}
 use Rattle.std.specs.Str.Parse.{digits_value}
 use Rattle.std.proofs.lemmas.Bool.{and_parts}
@@ -16,7 +15,7 @@ use Rattle.std.proofs.lemmas.List.Folds.{list_all-append}
 use Rattle.std.proofs.lemmas.List.Sums.{AllPass-from_list_all}
 use Rattle.std.proofs.lemmas.Str.{is_utf8-from_IsUtf8}
 use Rattle.base64.specs.Engines.{standard}
-use Rattle.base64.specs.GeneralPurpose.{IsBytes, decode_of, engine_symbols}
+use Rattle.base64.specs.GeneralPurpose.{IsBytes, engine_symbols}
 use Rattle.base64.specs.Rfc4648.{encode_symbols, padding_len}
 use Rattle.base64.proofs.EngineFacts.{decode_of-encode_of}
 use Rattle.md5.specs.Md5.{md5}
@@ -44,16 +43,16 @@ use Rattle.esm_ddb.specs.Turned.{record_line}
 
 -- ---- characters that need no escape
 
-abbrev is_plain : ℕ → Bool
+abbrev pub is_plain : ℕ → Bool
 is_plain b = nat_le 32 b && nat_lt b 128
 
-abbrev is_unescaped : ℕ → Bool
+abbrev pub is_unescaped : ℕ → Bool
 is_unescaped b = is_plain b && not (b == 34) && not (b == 92)
 
 escape_one : (x : ℕ) → is_unescaped x ≡ true → escape_byte x ≡ x ∷ []
 escape_one x h = escape_byte_plain x (grind (arith, nat_tests)) (grind (arith, nat_tests)) (grind (arith, nat_tests))
 
-escape_unescaped : (ds : List ℕ) → list_all is_unescaped ds ≡ true → escape ds ≡ ds
+pub escape_unescaped : (ds : List ℕ) → list_all is_unescaped ds ≡ true → escape ds ≡ ds
 escape_unescaped [] h = refl
 escape_unescaped (x ∷ xs) h =
     let p = and_parts (is_unescaped x) (list_all is_unescaped xs) h in
@@ -62,7 +61,7 @@ escape_unescaped (x ∷ xs) h =
 plain_one : (x : ℕ) → is_unescaped x ≡ true → is_plain x ≡ true
 plain_one x h = grind (arith, nat_tests)
 
-plain_unescaped : (ds : List ℕ) → list_all is_unescaped ds ≡ true → list_all is_plain ds ≡ true
+pub plain_unescaped : (ds : List ℕ) → list_all is_unescaped ds ≡ true → list_all is_plain ds ≡ true
 plain_unescaped [] h = refl
 plain_unescaped (x ∷ xs) h =
     let p = and_parts (is_unescaped x) (list_all is_unescaped xs) h in
@@ -71,7 +70,7 @@ plain_unescaped (x ∷ xs) h =
 digit_one : (x : ℕ) → is_ascii_digit x ≡ true → is_unescaped x ≡ true
 digit_one x h = grind (arith, nat_tests)
 
-digits_unescaped : (ds : List ℕ) → list_all is_ascii_digit ds ≡ true → list_all is_unescaped ds ≡ true
+pub digits_unescaped : (ds : List ℕ) → list_all is_ascii_digit ds ≡ true → list_all is_unescaped ds ≡ true
 digits_unescaped [] h = refl
 digits_unescaped (x ∷ xs) h =
     let p = and_parts (is_ascii_digit x) (list_all is_ascii_digit xs) h in
@@ -141,13 +140,13 @@ equals_unescaped : (n : ℕ) → list_all is_unescaped (replicate n 61) ≡ true
 equals_unescaped zero = refl
 equals_unescaped (suc n) = equals_unescaped n
 
-base64_unescaped : (m : List ℕ) → list_all is_byte m ≡ true → list_all is_unescaped (base64_text m) ≡ true
+pub base64_unescaped : (m : List ℕ) → list_all is_byte m ≡ true → list_all is_unescaped (base64_text m) ≡ true
 unfolding base64_text
 base64_unescaped m h =
     list_all-append is_unescaped (encode_symbols symbols m) (replicate (padding_len (length m)) 61)
     ∙ rw (symbols_unescaped m h, equals_unescaped (padding_len (length m))) refl
 
-are_bytes : (m : List ℕ) → list_all is_byte m ≡ true → IsBytes m
+pub are_bytes : (m : List ℕ) → list_all is_byte m ≡ true → IsBytes m
 are_bytes [] h i = lit< tt
 are_bytes (x ∷ xs) h zero = byte_below x (and_parts (is_byte x) (list_all is_byte xs) h).0
 are_bytes (x ∷ xs) h (suc i) = are_bytes xs (and_parts (is_byte x) (list_all is_byte xs) h).1 i
@@ -180,7 +179,7 @@ glyph_value d h =
     let digit = a_digit (digit_glyph false d) (glyph_digit d h) in
     omega (arith, digit.2, glyph_is d h)
 
-digits_all : (w n : ℕ) → list_all is_ascii_digit (last_digits 10 w n) ≡ true
+pub digits_all : (w n : ℕ) → list_all is_ascii_digit (last_digits 10 w n) ≡ true
 unfolding last_digits
 digits_all zero n = refl
 digits_all (suc w) n =
@@ -201,7 +200,7 @@ shard_by ds n size digits value = rw (size, digits, value) refl
 shard_reads : (n : ℕ) → n < 1000000000000 → shard_number (shard_id n) ≡ Some n
 shard_reads n h = shard_by (last_digits 10 12 n) n (length-last_digits 10 12 n) (digits_all 12 n) (digits_number 12 n h)
 
-shard_unescaped : (n : ℕ) → list_all is_unescaped (shard_id n) ≡ true
+pub shard_unescaped : (n : ℕ) → list_all is_unescaped (shard_id n) ≡ true
 shard_unescaped n = digits_unescaped (last_digits 10 12 n) (digits_all 12 n)
 
 -- ---- the partition key
@@ -249,7 +248,7 @@ key_reads ds is =
 
 -- ---- the line's text
 
-abbrev line_of_texts : (s q k d m : List ℕ) → List ℕ
+abbrev pub line_of_texts : (s q k d m : List ℕ) → List ℕ
 line_of_texts s q k d m =
     codes "{\"shardId\":\"" ++ s ++ codes "\",\"sequenceNumber\":\"" ++ q ++ codes "\",\"partitionKey\":\"" ++ k
     ++ codes "\",\"data\":\"" ++ d ++ codes "\",\"approximateArrivalTimestamp\":" ++ m ++ codes "}"
@@ -257,7 +256,7 @@ line_of_texts s q k d m =
 regrouped : (a s b q c k e d f m g : List ℕ) → (a ++ s ++ b ++ q) ++ (c ++ k ++ e ++ d ++ f ++ m ++ g) ≡ a ++ s ++ b ++ q ++ c ++ k ++ e ++ d ++ f ++ m ++ g
 regrouped a s b q c k e d f m g = simp append_assoc
 
-line_is : (r : Record) → record_line r ≡ line_of_texts (shard_id r.shard) r.seq r.key (base64_text r.payload) (decimal r.arrival)
+pub line_is : (r : Record) → record_line r ≡ line_of_texts (shard_id r.shard) r.seq r.key (base64_text r.payload) (decimal r.arrival)
 unfolding record_line
 line_is r =
     regrouped (codes "{\"shardId\":\"") (shard_id r.shard) (codes "\",\"sequenceNumber\":\"") r.seq (codes "\",\"partitionKey\":\"") r.key
@@ -285,7 +284,7 @@ compact_of s q k d m es eq ek ed =
     (joined (codes "{\"shardId\":\"") s (codes "\"") (codes ",\"sequenceNumber\":\"") q (codes ",\"partitionKey\":\"") k
     (codes ",\"data\":\"") d (codes ",\"approximateArrivalTimestamp\":") (decimal m) (codes "}"))
 
-decimal_digits : (n : ℕ) → n < 2 ^ 64 → list_all is_ascii_digit (decimal n) ≡ true
+pub decimal_digits : (n : ℕ) → n < 2 ^ 64 → list_all is_ascii_digit (decimal n) ≡ true
 decimal_digits n h =
     decimal_by_steps (λ m ds. list_all is_ascii_digit ds ≡ true)
     (λ m low. rw (digit_below m low) refl)
@@ -307,7 +306,7 @@ plain_ascii (x ∷ xs) h =
     let p = and_parts (is_plain x) (list_all is_plain xs) h in
     rw (ascii_one x p.0, plain_ascii xs p.1) refl
 
-plain_utf8 : (xs : List ℕ) → list_all is_plain xs ≡ true → is_utf8 xs ≡ true
+pub plain_utf8 : (xs : List ℕ) → list_all is_plain xs ≡ true → is_utf8 xs ≡ true
 plain_utf8 xs h = is_utf8-from_IsUtf8 xs (IsUtf8-are_ascii xs (plain_ascii xs h))
 
 -- ---- its object
@@ -336,7 +335,7 @@ only_true b x h = rw h refl
 moment_fits : (m : ℕ) → m ≤ 253402300799999 → only_if (nat_le m 253402300799999) m ≡ Some m
 moment_fits m h = only_true (nat_le m 253402300799999) m (grind (arith, nat_tests))
 
-seq_digits : (q : List ℕ) → is_sequence q ≡ true → list_all is_ascii_digit q ≡ true
+pub seq_digits : (q : List ℕ) → is_sequence q ≡ true → list_all is_ascii_digit q ≡ true
 seq_digits q h =
     let p = and_parts (not (length q == 0) && nat_le (length q) 129 && list_all is_ascii_digit q) ((length q == 1) || not (slice_index q 0 == 48)) h in
     (and_parts (not (length q == 0) && nat_le (length q) 129) (list_all is_ascii_digit q) p.0).1
@@ -375,6 +374,15 @@ record_is r w =
       data_field s r.seq r.key d r.arrival r.payload (payload_reads r.payload w.bytes w.short),
       arrival_field s r.seq r.key d r.arrival w.arrival,
     ) refl
+
+pub plain_line : (r : Record) → IsWritten r → list_all is_plain (record_line r) ≡ true
+plain_line r w =
+    let s = shard_id r.shard in
+    let d = base64_text r.payload in
+    let um = digits_unescaped (decimal r.arrival) (decimal_digits r.arrival (omega (arith, w.arrival))) in
+    ap (list_all is_plain) (line_is r)
+    ∙ plain_texts s r.seq r.key d (decimal r.arrival) (plain_unescaped s (shard_unescaped r.shard)) (plain_unescaped r.seq (digits_unescaped r.seq (seq_digits r.seq w.seq)))
+    (plain_unescaped r.key w.key.unescaped) (plain_unescaped d (base64_unescaped r.payload w.bytes)) (plain_unescaped (decimal r.arrival) um)
 
 pub line_reads : (r : Record) → IsWritten r → line_of record_of (record_line r) ≡ Ok r
 line_reads r w =

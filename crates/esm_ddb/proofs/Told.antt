@@ -1,5 +1,5 @@
 -- What the fields of a change are that a line tells.
-use Rattle.std.proofs.Common.{◌≡◌, ◌∙◌, ℕ, ◌<◌, ◌≤◌, ◌^◌, arith, [], ◌∷◌, length-drop, Bool, true, false, ◌&&◌, ◌==◌, nat_le, refl, sym, ap, subst, List, length, drop, Option, Some, None, option_and_then, option_map, codes, Result, Ok, Err}
+use Rattle.std.proofs.Common.{◌≡◌, ℕ, ◌<◌, ◌≤◌, ◌^◌, arith, [], ◌∷◌, length-drop, Bool, true, false, ◌&&◌, ◌==◌, nat_le, refl, ap, subst, List, length, drop, Option, Some, None, option_and_then, option_map, codes, Result, Ok, Err}
 use Rattle.std.specs.Char.{is_ascii_digit}
 use Rattle.std.specs.List.{list_all, starts_with}
 use Rattle.std.specs.Option.{ok_or}

@@ -5,7 +5,7 @@ use Rattle.std.specs.Prelude.{ℕ, ◌^◌, nat_le, List, Bool, ◌||◌, codes,
 use Rattle.std.specs.Option.{ok_or}
 use Rattle.std.specs.Str.{bytes_eq}
 use Rattle.serde_json.specs.Data.{Data}
-use Rattle.serde_json.specs.Find.{get, as_number, as_object, as_str, as_u64}
+use Rattle.serde_json.specs.Find.{get, as_number, as_object, as_u64}
 use Rattle.esm_model.specs.Valid.{is_between, is_word}
 use Rattle.esm_record.specs.Line.{moment, of_text, only_if, sequence_number, shard_number}
 use Rattle.esm_ddb.specs.Attribute.{are_keys, is_item}

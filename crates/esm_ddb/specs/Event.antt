@@ -1,7 +1,7 @@
 -- The event of a DynamoDB stream's records. Sources: the Lambda Developer Guide, "Using Lambda with DynamoDB" (the elements
 -- of `Records`); RFC 8259, sections 2 to 5 (values and the white space around them). That a stream's event carries these
 -- elements as the data of its records is this product's own.
-use Rattle.std.specs.Prelude.{ℕ, ◌+◌, ◌-◌, List, [], ◌∷◌, ◌++◌, drop, get_or, slice_range, codes, Bool, true, false, if◌then◌else◌, is_some, Option, Some, None, option_map, option_and_then}
+use Rattle.std.specs.Prelude.{ℕ, ◌+◌, ◌-◌, List, [], ◌∷◌, ◌++◌, drop, get_or, slice_range, codes, if◌then◌else◌, is_some, Option, Some, None, option_map, option_and_then}
 use Rattle.std.specs.Option.{option_or}
 use Rattle.std.specs.Result.{result_ok}
 use Rattle.std.specs.Str.{bytes_eq}

@@ -4,11 +4,15 @@ pub mod Element
 pub mod Event
 pub mod FailureLine
 pub mod Gives
+pub mod GoesOn
 pub mod ItemText
 pub mod Lexemes
 pub mod ReadsBack
+pub mod RunEvent
 pub mod Said
 pub mod States
 pub mod Translating
 pub mod Translation
 pub mod Turned
+pub mod TurnedInput
+pub mod TurnedSoFar

@@ -1,9 +1,10 @@
 -- A line that is turned reads back as the record of its change.
-use Rattle.std.specs.Prelude.{◌≡◌, ℕ, nat_lt, List, Bool, true, false, Result, Ok}
+use Rattle.std.specs.Prelude.{◌≡◌, ◌≤◌, ℕ, nat_lt, List, [], ◌∷◌, length, Bool, true, false, Result, Ok}
 use Rattle.std.specs.List.{list_all}
 use Rattle.std.specs.Option.{ok_or}
 use Rattle.esm_model.specs.Json.{read_json}
-use Rattle.esm_record.specs.Input.{is_blank}
+use Rattle.esm_model.specs.declared.limits.TheConstants.{MAX_LINE}
+use Rattle.esm_record.specs.Input.{is_blank, lines_of}
 use Rattle.esm_record.specs.Line.{line_of, only_object, record_of}
 use Rattle.esm_ddb.specs.Change.{◌>>=◌, Change, change_of}
 use Rattle.esm_ddb.specs.Element.{element}
@@ -19,10 +20,18 @@ is_byte b = nat_lt b 256
 abbrev pub change_in : List ℕ → Result Change DdbError
 change_in line = ok_or (only_object (read_json line)) NotJson >>= change_of
 
--- of a line that is not blank: it tells a change, and what it became is the line of that change's record
+-- an input reads the text as one line, which is neither blank nor too long
+pub record IsOneLine (text : List ℕ) : Type 0 where
+  pub one : lines_of text ≡ text ∷ []
+  pub seen : is_blank text ≡ false
+  pub short : length text ≤ MAX_LINE
+
+-- of a line that is not blank: it tells a change, and what it became is the line of that change's record, where its element is
+-- bytes
 pub record ReadsBack (s : Source) (line text : List ℕ) : Type 0 where
   pub change : Change
   pub told : change_in line ≡ Ok change
+  pub stands : list_all is_byte (element s change) ≡ true → IsOneLine text
   pub reads : list_all is_byte (element s change) ≡ true → line_of record_of text ≡ Ok (turned_record s change)
 
 abbrev pub IsReadBack : Type 0

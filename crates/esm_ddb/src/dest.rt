@@ -8,8 +8,8 @@ use esm_io::{Dest, DestError};
 use esm_model::OutOfMemory;
 use std::alloc::Global;
 
-/// A destination over another, to which it delivers each line with `"DDBStreamBatchInfo":` in place of its first
-/// `"KinesisBatchInfo":`.
+/// A destination over another, to which it delivers each line of at most 16,777,214 bytes with `"DDBStreamBatchInfo":` in place
+/// of its first `"KinesisBatchInfo":`, and a longer one as it is.
 #[derive(Drop)]
 pub struct DdbDest<T: Dest> {
     inner: T,

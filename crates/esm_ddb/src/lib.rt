@@ -1,21 +1,24 @@
 //! DynamoDB streams as the streams that the engine runs: a line becomes the line of a record, whose data is the element of an
 //! event; an event gets these elements; a failure line gets the stream's name; and the mapping of such a stream.
-//! Pure values, and a caller and a destination over another; no device, clock or thread.
+//! Pure values, a caller and a destination over another, and the reading of a source; no device, clock or thread of its own.
 #![tactic(auto)]
 
 mod attribute;
 mod caller;
 mod change;
 mod config;
+pub mod crossing;
 mod dest;
 mod element;
 mod elements;
 mod error;
 mod event;
 mod failure_line;
+mod input;
 mod item_text;
 pub mod laws;
 mod lexeme;
+mod piece;
 mod size;
 mod source;
 mod splitter;
@@ -30,5 +33,6 @@ pub use dest::DdbDest;
 pub use error::{DdbError, DdbField, DdbLine};
 pub use event::ddb_event;
 pub use failure_line::ddb_line;
+pub use input::{InputTurned, TurnedInput, turn_input};
 pub use source::Source;
 pub use translator::{Translator, Turned};

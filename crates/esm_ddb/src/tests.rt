@@ -1,14 +1,15 @@
-// Tests: rows of the table of fields, a change that becomes the line of its record, an input in pieces, events, and a failure
-// line.
+// Tests: rows of the table of fields, a change that becomes the line of its record, an input in pieces and a whole one, events,
+// and a failure line.
 use crate::config::read_config;
 use crate::dest::DdbDest;
-use crate::error::{DdbError, DdbField, Refusal};
+use crate::error::{DdbError, DdbField, DdbLine, Refusal};
 use crate::event::ddb_event;
+use crate::input::{InputTurned, TurnedInput, turn_input};
 use crate::source::Source;
 use crate::translator::Translator;
 use crate::turned::turned;
-use esm_io::{Dest, MemDest};
-use esm_model::{Config, Text, parse_json};
+use esm_io::{Dest, MemDest, MemSource};
+use esm_model::{Bytes, Config, Text, parse_json};
 use std::alloc::Global;
 use std::test::Fail;
 
@@ -169,6 +170,39 @@ fn pieces(rt: HostRuntime) -> Result<(), Fail> {
     let last = translator.finish()?;
     assert_eq!(rt; last.bytes.as_slice(), "".as_bytes());
     assert_eq!(rt; last.bad.map(|bad| bad.line), Some(3));
+    Ok(())
+}
+
+/// What is left of an input that was read a byte a time, whose read of this number fails: what it became, and why it ended.
+fn input_of(alloc: Global, text: &str, fail: u64) -> Result<(Bytes, InputTurned), Fail> {
+    let config = mapping(alloc)?;
+    let bytes = Vec::from_slice(alloc, text.as_bytes())?;
+    let fails = vec![in alloc; fail]?;
+    match turn_input(alloc, &config, MemSource::new(bytes, 1, fails)) {
+        Ok(input) => {
+            let TurnedInput { source, text, end } = input;
+            drop(source);
+            Ok((text, end))
+        }
+        Err(_) => Err(Fail::from("no memory")),
+    }
+}
+
+#[test]
+fn whole_input(rt: HostRuntime) -> Result<(), Fail> {
+    let alloc = rt.alloc();
+    let text = format!(in alloc; "{LINE}}}}}\n \nx\n{LINE}}}}}")?;
+    let expected = format!(in alloc; "{TURNED}\n\n")?;
+    let bad = DdbLine {
+        line: 3,
+        why: DdbError::NotJson,
+    };
+    let (became, end) = input_of(alloc, text.as_str(), 1_000_000)?;
+    assert_eq!(rt; became.as_slice(), expected.as_bytes());
+    assert_eq!(rt; end, InputTurned::BadLine(bad));
+    let (became, end) = input_of(alloc, text.as_str(), LINE.len() as u64 + 5)?;
+    assert_eq!(rt; became.as_slice(), expected.as_bytes());
+    assert_eq!(rt; end, InputTurned::Failed);
     Ok(())
 }
 

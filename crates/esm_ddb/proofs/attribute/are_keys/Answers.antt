@@ -1,4 +1,4 @@
-use Rattle.std.proofs.Common.{◌≡◌, ◌∙◌, ◌<◌, arith, length, sym}
+use Rattle.std.proofs.Common.{◌∙◌, ◌<◌, arith, length, sym}
 use Rattle.esm_ddb.proofs.Loops.{some_keys}
 use Rattle.esm_ddb.proofs.attribute.are_keys.Goals as goal
 

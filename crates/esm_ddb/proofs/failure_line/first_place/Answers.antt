@@ -1,4 +1,4 @@
-use Rattle.std.proofs.Common.{◌≡◌, ◌∙◌, ◌+◌, ◌≤◌, arith, false, sym, ap, drop, List, ℕ}
+use Rattle.std.proofs.Common.{◌≡◌, ◌∙◌, arith, false, sym, ap, drop, List, ℕ}
 use Rattle.std.specs.Prelude.{nat_eq}
 use Rattle.std.specs.List.{starts_with}
 use Rattle.esm_ddb.specs.FailureLine.{stream_part}

@@ -1,4 +1,4 @@
-use Rattle.std.proofs.Common.{◌≡◌, ◌∙◌, ◌++◌, ◌+◌, ap, take, drop, List, ℕ}
+use Rattle.std.proofs.Common.{◌∙◌, ◌++◌, ◌+◌, ap, take, drop, List, ℕ}
 use Rattle.esm_event.proofs.Appending.{then}
 use Rattle.esm_ddb.proofs.Loops.{rest_is}
 use Rattle.esm_ddb.specs.FailureLine.{table_part}

@@ -1,4 +1,4 @@
-use Rattle.std.proofs.Common.{◌≡◌, ◌∙◌, sym, ap}
+use Rattle.std.proofs.Common.{◌∙◌, sym, ap}
 use Rattle.esm_window.specs.Layout.{next}
 use Rattle.esm_ddb.specs.Lexemes.{begins, mode_of}
 use Rattle.esm_ddb.proofs.Places.{all_noted, all_places, noted}

@@ -1,4 +1,4 @@
-use Rattle.std.proofs.Common.{◌≡◌, ◌∙◌, ◌≤◌, ◌+◌, ◌++◌, List, [], ℕ, arith, ap, length}
+use Rattle.std.proofs.Common.{◌≡◌, ◌∙◌, ◌≤◌, ◌+◌, ◌++◌, List, ℕ, arith, ap, length}
 use Rattle.esm_ddb.specs.FailureLine.{ddb_line}
 use Rattle.esm_ddb.proofs.Lengths.{ddb_line_short, ddb_line_size}
 use Rattle.esm_ddb.proofs.dest.DdbDestDest.deliver.Goals as goal

@@ -1,0 +1,14 @@
+-- What was turned of an input stays when it goes on.
+use Rattle.std.specs.Prelude.{◌≡◌, ℕ, List, ◌++◌, Some}
+use Rattle.esm_ddb.specs.Translation.{translation_of, translation_so_far}
+use Rattle.esm_ddb.specs.declared.error.DdbLine.{DdbLine}
+use Rattle.esm_ddb.specs.declared.source.Source.{Source}
+
+-- the whole input's text begins with what its first bytes became, and their bad line is the whole input's
+pub record GoesOn (s : Source) (bytes more : List ℕ) : Type 0 where
+  pub rest : List ℕ
+  pub text : (translation_of s (bytes ++ more)).text ≡ (translation_so_far s bytes).text ++ rest
+  pub bad : (line : DdbLine) → (translation_so_far s bytes).bad ≡ Some line → translation_of s (bytes ++ more) ≡ translation_so_far s bytes
+
+abbrev pub IsCarriedOn : Type 0
+IsCarriedOn = (s : Source) (bytes more : List ℕ) → GoesOn s bytes more

@@ -1,0 +1,114 @@
+// The input of a DynamoDB stream, read to its end and turned into the input of a stream.
+ghost use Rattle.std.specs.Prelude.{◌≡◌, ◌<◌, ℕ, List, [], vec_len, false, IfOk, IfErr};
+ghost use Rattle.esm_ddb.specs.Translating.{source_of};
+ghost use Rattle.esm_ddb.specs.TurnedInput.{IsTaken, IsTurnedInput};
+ghost use Rattle.esm_ddb.specs.TurnedSoFar.{IsRead, IsTurnedSoFar, StandsSo, end_by};
+ghost use Rattle.esm_ddb.specs.declared.source.Source.{Source as Stream};
+
+use crate::error::DdbLine;
+use crate::piece::{read_bytes, turn_piece};
+use crate::translator::Translator;
+use esm_event::bytes::push_bytes;
+use esm_io::Source;
+use esm_model::{Bytes, Config, OutOfMemory, Refused};
+use std::alloc::Global;
+
+/// How many bytes one read of the source asks for.
+const PIECE: usize = 65536;
+
+/// Why the reading of an input ended.
+#[derive(Clone, Copy, Debug, PartialEq, Eq)]
+pub enum InputTurned {
+    /// The source ended, and no line is bad.
+    Ended,
+    /// This line is bad, the first one.
+    BadLine(DdbLine),
+    /// A read of the source failed, and no line that ended before is bad.
+    Failed,
+}
+
+/// An input that was read and turned: the source, as the reading left it, the lines that its lines became, and why it ended.
+pub struct TurnedInput<S> {
+    pub source: S,
+    pub text: Bytes,
+    pub end: InputTurned,
+}
+
+/// A bad line comes before the end of the source.
+fn end_of(whole: bool, bad: Option<DdbLine>) -> Option<InputTurned>
+    ensures { result ≡ end_by whole bad }
+{
+    match bad {
+        Some(line) => Some(InputTurned::BadLine(line)),
+        None => whole.then_some(InputTurned::Ended),
+    }
+}
+
+/// Reads one piece of the source and turns it. Answers why the reading ends by it, if it does.
+fn turn_more<S: Source>(
+    source: &mut S,
+    translator: &mut Translator,
+    buffer: &mut Vec<u8>,
+    text: &mut Vec<u8>,
+) -> Result<Option<InputTurned>, OutOfMemory>
+    requires room { 0 < vec_len buffer.old }
+    requires going { translator.old.finished ≡ false }
+    ensures stands { IfOk result (λ end. (s : Stream) (first : S)
+        → IsTurnedSoFar S.faults S.left s first source.old translator.old text.old.items
+        → StandsSo S.faults S.left s first source.new translator.new text.new.items end) }
+    ensures taken { (more : List ℕ) × IsRead S.faults S.left source.old source.new more }
+    ensures room { vec_len buffer.new ≡ vec_len buffer.old }
+{
+    let Ok(count) = read_bytes(source, buffer) else {
+        return Ok(Some(InputTurned::Failed));
+    };
+    let turned = turn_piece(translator, &buffer[..count])?;
+    push_bytes(text, turned.bytes.as_slice())?;
+    Ok(end_of(count == 0, turned.bad))
+}
+
+/// Reads the source and appends what its lines become, up to the first bad line.
+fn turn_all<S: Source>(
+    alloc: Global,
+    config: &Config,
+    source: &mut S,
+    text: &mut Vec<u8>,
+) -> Result<InputTurned, OutOfMemory>
+    requires empty { text.old.items ≡ [] }
+    ensures turned { IfOk result (λ end. IsTurnedInput S.faults S.left (source_of config.now) source.old source.new text.new.items end) }
+    ensures taken { (more : List ℕ) × IsTaken S.faults S.left source.old source.new more }
+{
+    let mut translator = Translator::new(alloc, config)?;
+    let mut buffer = vec![in alloc; 0u8; PIECE]?;
+    for _ in 0..u64::MAX {
+        if let Some(end) = turn_more(source, &mut translator, &mut buffer, text)? {
+            return Ok(end);
+        }
+    }
+    Err(OutOfMemory)
+}
+
+/// Reads the input of the mapping's stream, and gives what its lines become as a `Translator` gives it: to its end, to the first
+/// bad line, or to a read that fails. Where memory is wanting the source comes back, of which bytes may have been read.
+pub fn turn_input<S: Source>(
+    alloc: Global,
+    config: &Config,
+    source: S,
+) -> Result<TurnedInput<S>, Refused<OutOfMemory, S>>
+    ensures turned { IfOk result (λ input. IsTurnedInput S.faults S.left (source_of config.now) source input.source input.text input.end) }
+    ensures back { IfErr result (λ refused. (bytes : List ℕ) × IsTaken S.faults S.left source refused.back bytes) }
+{
+    let mut source = source;
+    let mut text = Vec::new(alloc);
+    match turn_all(alloc, config, &mut source, &mut text) {
+        Ok(end) => Ok(TurnedInput {
+            source,
+            text: Bytes::from_vec(text),
+            end,
+        }),
+        Err(_) => Err(Refused {
+            why: OutOfMemory,
+            back: source,
+        }),
+    }
+}
