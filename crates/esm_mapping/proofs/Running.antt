@@ -1,16 +1,20 @@
 -- What a run may rely on of a configuration that was given, enabled, and where it starts.
-use Rattle.std.proofs.Common.{◌≡◌, ℕ, true, false, List, [], ◌∷◌, Bool, cond, find, Some, ap, refl, subst}
+use Rattle.std.proofs.Common.{◌≡◌, ℕ, true, false, is_ok, List, [], ◌∷◌, Bool, cond, find, Some, ap, refl, subst, sym}
 use Rattle.std.specs.List.{All}
 use Rattle.std.proofs.lemmas.List.Elements.{All-head, All-tail}
-use Rattle.esm_config.specs.Given.{IsGiven}
+use Rattle.esm_config.specs.Given.{IsDynamoGiven, IsGiven}
+use Rattle.esm_model.specs.Pattern.{read_patterns}
 use Rattle.esm_model.specs.Valid.{is_stream, IsValidConfig}
 use Rattle.esm_model.specs.declared.config.Config.{Config}
 use Rattle.esm_model.specs.declared.config.Kind.{Kind}
 use Rattle.esm_model.specs.declared.config.Kind.TheVariants.{Stream, Standard, Fifo}
 use Rattle.esm_model.specs.declared.config.Start.{Start}
 use Rattle.esm_model.specs.declared.config.Start.TheVariants.{TrimHorizon, Latest, At}
+use Rattle.esm_mapping.specs.Expected.{IsGivenAs}
 use Rattle.esm_mapping.specs.Named.{IsConfigOf, MayRun}
 use Rattle.esm_mapping.specs.Starts.{is_latest, start_after}
+use Rattle.esm_mapping.specs.declared.expected.Expected.{Expected}
+use Rattle.esm_mapping.specs.declared.expected.Expected.TheVariants.{StreamOrQueue, Stream as stream, Queue, DynamoDb}
 
 config_of_kind : (k : Kind) (c : Config) → c.kind ≡ k → IsValidConfig c → IsConfigOf (is_stream k) c
 config_of_kind Stream c is valid = record { kind = is; valid = valid }
@@ -24,6 +28,21 @@ may_run c start given enabled known = record {
   patterns = given.patterns;
   start = known;
 }
+
+-- a table's stream is a stream
+table_may_run : (c : Config) (start : Start) → IsDynamoGiven c → c.enabled ≡ true → is_latest start ≡ false → MayRun (record { config = c; start = start })
+table_may_run c start given enabled known = record {
+  enabled = enabled;
+  valid = config_of_kind c.kind c refl given.stream.valid;
+  patterns = subst (λ kind. is_ok (read_patterns (is_stream kind) c.filters) ≡ true) (sym given.stream.kind) given.patterns;
+  start = known;
+}
+
+pub may_run_as : (e : Expected) (c : Config) (start : Start) → IsGivenAs e c → c.enabled ≡ true → is_latest start ≡ false → MayRun (record { config = c; start = start })
+may_run_as StreamOrQueue c start given enabled known = may_run c start given enabled known
+may_run_as stream c start given enabled known = may_run c start given enabled known
+may_run_as Queue c start given enabled known = may_run c start given enabled known
+may_run_as DynamoDb c start given enabled known = table_may_run c start given enabled known
 
 pub never_latest : (created : ℕ) (start : Start) → is_latest (start_after created start) ≡ false
 never_latest created Latest = refl

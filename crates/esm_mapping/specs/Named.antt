@@ -1,12 +1,12 @@
--- The mapping that the words of `run` name, as a text or by its id in the registry, and why there is none that may run: the
--- registry has no such mapping, it is disabled, a field of the text is refused, or the registry's file is refused. Source:
+-- The mapping that the words of `run` name, as a text or by its id in the registry, or a text alone by the kind that a command
+-- expects, and why there is none that may run: the registry has no such mapping, it is disabled, a field of the text is
+-- refused, or the registry's file is refused. Source:
 -- the Lambda API reference, `CreateEventSourceMapping` and `GetEventSourceMapping`; the order is this product's own.
 use Rattle.std.specs.Prelude.{◌≡◌, ℕ, Bool, true, false, List, Option, Some, None, is_ok}
 use Rattle.serde_json.specs.Data.{Data}
 use Rattle.serde_json.specs.Read.{read}
 use Rattle.esm_cli.specs.declared.command.Which.{Which}
 use Rattle.esm_cli.specs.declared.command.Which.TheVariants as which
-use Rattle.esm_config.specs.Mapping.{config_of}
 use Rattle.esm_io.specs.Faults.{Rose}
 use Rattle.esm_io.specs.Meanings.{DiskMeaning}
 use Rattle.esm_journal.specs.File.{header_of, opened, Foreign, Damaged}
@@ -19,8 +19,11 @@ use Rattle.esm_registry.specs.Lists.{Mappings, mapping_at}
 use Rattle.esm_registry.specs.Payload.{mappings_of}
 use Rattle.esm_registry.specs.State.{IsFirstBad}
 use Rattle.esm_registry.specs.declared.mapping.Mapping.{Mapping}
+use Rattle.esm_mapping.specs.Expected.{config_as, is_expected}
 use Rattle.esm_mapping.specs.Refused.{refused_field}
 use Rattle.esm_mapping.specs.Starts.{is_latest, start_after}
+use Rattle.esm_mapping.specs.declared.expected.Expected.{Expected}
+use Rattle.esm_mapping.specs.declared.expected.Expected.TheVariants.{StreamOrQueue}
 use Rattle.esm_mapping.specs.declared.named.MappingError.{MappingError}
 use Rattle.esm_mapping.specs.declared.named.MappingError.TheVariants as error
 use Rattle.esm_mapping.specs.declared.named.NamedMapping.{NamedMapping}
@@ -41,19 +44,21 @@ pub record MayRun (named : NamedMapping) : Type 0 where
 
 -- a mapping that a text is
 
--- the text reads as JSON, no field of it is refused, and the fields give the configuration, which says where it starts
-pub record IsOfText (text : List ℕ) (named : NamedMapping) : Type 0 where
+-- the text reads as JSON, no field of it is refused, and the fields give the configuration, which is of the expected kind and
+-- says where it starts
+pub record IsOfText (e : Expected) (text : List ℕ) (named : NamedMapping) : Type 0 where
   pub value : Data
   pub reads : read text ≡ Some value
-  pub accepted : refused_field text ≡ None
-  pub fields : config_of value ≡ Some named.config
+  pub accepted : refused_field e text ≡ None
+  pub fields : config_as e value ≡ Some named.config
+  pub kind : is_expected e named.config.kind ≡ true
   pub start_is : named.start ≡ named.config.start
 
-abbrev pub IsNamedByText : List ℕ → NamedMapping → Type 0
-IsNamedByText text named = IsOfText text named × MayRun named
+abbrev pub IsExpected : Expected → List ℕ → NamedMapping → Type 0
+IsExpected e text named = IsOfText e text named × MayRun named
 
-abbrev pub IsDisabledText : List ℕ → Type 0
-IsDisabledText text = (named : NamedMapping) × IsOfText text named × (named.config.enabled ≡ false)
+abbrev pub IsDisabledText : Expected → List ℕ → Type 0
+IsDisabledText e text = (named : NamedMapping) × IsOfText e text named × (named.config.enabled ≡ false)
 
 -- a mapping of the registry
 
@@ -87,17 +92,17 @@ HasBadPayload index bytes = (payloads : List (List ℕ)) × OpensTo (header_of 1
 -- the mapping that the words name
 
 abbrev pub IsNamed : {D : Type 0} → DiskMeaning D → Which → D → NamedMapping → Type 0
-IsNamed m (which.Config text) registry named = IsNamedByText text named
+IsNamed m (which.Config text) registry named = IsExpected StreamOrQueue text named
 IsNamed m (which.Mapping id) registry named = IsNamedById m id registry named
 
 -- why they name none that may run; want of memory has no cause
 
 -- of a text: a field is refused, or it is disabled
-abbrev pub WhyNotText : List ℕ → MappingError → Type 0
-WhyNotText text (error.BadParam param) = refused_field text ≡ Some param
-WhyNotText text error.Disabled = IsDisabledText text
-WhyNotText text error.OutOfMemory = Unit {0}
-WhyNotText text _ = ⊥
+abbrev pub WhyNotExpected : Expected → List ℕ → MappingError → Type 0
+WhyNotExpected e text (error.BadParam param) = refused_field e text ≡ Some param
+WhyNotExpected e text error.Disabled = IsDisabledText e text
+WhyNotExpected e text error.OutOfMemory = Unit {0}
+WhyNotExpected e text _ = ⊥
 
 -- of an id: the registry's file is refused, or its disk failed; the registry has no such mapping, or it is disabled
 abbrev pub WhyNotById : {D : Type 0} → DiskMeaning D → List ℕ → (old new : D) → MappingError → Type 0
@@ -112,5 +117,5 @@ WhyNotById m id old new error.OutOfMemory = Unit {0}
 
 -- `old` and `new` are the registry's disk as it was handed in and as it was handed back
 abbrev pub WhyNot : {D : Type 0} → DiskMeaning D → Which → (old new : D) → MappingError → Type 0
-WhyNot m (which.Config text) old new e = WhyNotText text e
+WhyNot m (which.Config text) old new e = WhyNotExpected StreamOrQueue text e
 WhyNot m (which.Mapping id) old new e = WhyNotById m id old new e

@@ -5,7 +5,8 @@ ghost use Rattle.esm_io.specs.Meanings.{disk as meaning};
 ghost use Rattle.esm_journal.specs.Reads.{IsOnlyRead};
 ghost use Rattle.esm_mapping.specs.Named.{IsNamed, WhyNot};
 
-use crate::given_text::read_text;
+use crate::expected::Expected;
+use crate::given_text::read_expected;
 use crate::named::MappingRead;
 use crate::registered::read_registered;
 use esm_cli::Which;
@@ -26,7 +27,7 @@ pub fn read_mapping<D: Disk>(alloc: Global, which: &Which, registry: D) -> Mappi
 {
     match which {
         Which::Config(text) => MappingRead {
-            named: read_text(alloc, text),
+            named: read_expected(alloc, Expected::StreamOrQueue, text),
             registry,
         },
         Which::Mapping(id) => read_registered(alloc, id, registry),

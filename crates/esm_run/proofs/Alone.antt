@@ -1,8 +1,10 @@
--- Which endings of `run` stand alone, and that none of them is for bad words.
+-- Which endings of a run stand alone, and that none of them is for bad words.
 use Rattle.std.proofs.Common.{◌≡◌, ◌∙◌, ℕ, Bool, true, ap, refl, subst, Option, Some, inl, inr, List, []}
 use Rattle.std.specs.Prelude.{if◌then◌else◌}
 use Rattle.esm_cli.specs.declared.command.RunWords.{RunWords}
 use Rattle.esm_config.specs.Names.{name_of}
+use Rattle.esm_ddb.specs.declared.input.InputTurned.{InputTurned}
+use Rattle.esm_ddb.specs.declared.input.InputTurned.TheVariants as turned
 use Rattle.esm_model.specs.declared.names.FileName.TheVariants as name
 use Rattle.esm_input.specs.declared.ending.InputEnd.{InputEnd}
 use Rattle.esm_input.specs.declared.ending.InputEnd.TheVariants as ends
@@ -18,8 +20,9 @@ use Rattle.esm_runner.specs.declared.files.FilesError.{FilesError}
 use Rattle.esm_runner.specs.declared.files.FilesError.TheVariants as files
 use Rattle.esm_runner.specs.declared.run.MappingEnd.{MappingEnd}
 use Rattle.esm_runner.specs.declared.run.MappingEnd.TheVariants as run
-use Rattle.esm_run.specs.Answers.{RunCause, RunEnded}
-use Rattle.esm_run.specs.Endings.{ending_of, ending_of_files, ending_of_mapping, ending_of_reading, file_of}
+use Rattle.esm_run.specs.Answers.{HasCome, RunCause, RunEnded}
+use Rattle.esm_run.specs.Ddb.{DdbCause}
+use Rattle.esm_run.specs.Endings.{ending_of, ending_of_ddb, ending_of_files, ending_of_mapping, ending_of_reading, file_of}
 use Rattle.esm_run.specs.World.{RunTells, Seen}
 
 same_some : (e d : Ending) → ◌≡◌ {A = Option Ending} (Some e) (Some d) → e ≡ d
@@ -93,5 +96,24 @@ cause_words o r h old new text (inl none) = elim none.why [ inl files ↦ files_
 cause_words o r h old new text (inr (inl run)) = run_words run.end run.tells
 cause_words o r h old new text (inr (inr run)) = run_words run.end run.tells
 
+turned_words : (t : InputTurned) (end : MappingEnd) → ending.BadWords ≡ ending_of_ddb t end → ⊥
+turned_words turned.Ended (run.Finished ends.End) tells = cc
+turned_words (turned.BadLine bad) (run.Finished ends.End) tells = cc
+turned_words turned.Failed (run.Finished ends.End) tells = cc
+turned_words t (run.Finished (ends.BadLine bad)) tells = cc
+turned_words t (run.Finished ends.Fault) tells = cc
+turned_words t (run.Finished (ends.Limit limit)) tells = cc
+turned_words t run.CallsSpent tells = cc
+turned_words t run.DiskFault tells = cc
+turned_words t run.DestFault tells = cc
+turned_words t (run.Changed change) tells = cc
+
+ddb_words : {S D F : Type 0} (o : RunTells S D F) (config : List ℕ) (calls : ℕ) (h : List Entry) (old new : Seen S D F) (text : List ℕ) → DdbCause o config calls h old new text ending.BadWords → ⊥
+ddb_words o config calls h old new text (inl none) = elim none.why [ inl files ↦ files_words files.why files.tells | inr mapping ↦ mapping_words mapping.why mapping.tells ]
+ddb_words o config calls h old new text (inr run) = turned_words run.reading run.end run.tells
+
+pub not_bad_ddb_words : {S D F : Type 0} (o : RunTells S D F) (config : List ℕ) (calls : ℕ) (h : List Entry) (old new : Seen S D F) → HasCome (DdbCause o config calls h old new) ending.BadWords → ⊥
+not_bad_ddb_words o config calls h old new ended = ddb_words o config calls h old new ended.text ended.cause_is
+
 pub not_bad_words : {S D F : Type 0} (o : RunTells S D F) (r : RunWords) (h : List Entry) (old new : Seen S D F) → RunEnded o r h old new ending.BadWords → ⊥
-not_bad_words o r h old new ended = cause_words o r h old new ended.text ended.cause
+not_bad_words o r h old new ended = cause_words o r h old new ended.text ended.cause_is

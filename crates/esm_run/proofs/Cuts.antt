@@ -2,12 +2,13 @@
 use Rattle.std.proofs.Common.{◌≡◌, ◌∙◌, List, ℕ, [], ap, inl, inr, refl, subst, sym}
 use Rattle.esm_cli.specs.declared.command.Command.{Command}
 use Rattle.esm_cli.specs.declared.command.Command.TheVariants.{Init, Run, Show, Failures, Gen, Compact, Serve, Migrate, Ddb, Redrive, Replay}
-use Rattle.esm_cli.specs.declared.command.RunWords.{RunWords}
 use Rattle.esm_folder.specs.declared.disks.Disks.{Disks}
 use Rattle.esm_io.specs.Meanings.{DiskMeaning}
+use Rattle.esm_mapping.specs.declared.expected.Expected.TheVariants.{DynamoDb}
 use Rattle.esm_model.specs.declared.entry.Entry.{Entry}
 use Rattle.esm_folder.specs.Upkeep.{AreOnlyRead}
-use Rattle.esm_run.specs.Answers.{HasNotBegun, IsRegistryLeft, IsUntouched}
+use Rattle.esm_run.specs.Answers.{HasNotBegun, IsUntouched}
+use Rattle.esm_run.specs.Asks.{Asks, IsRegistryLeft, by_text, by_words}
 use Rattle.esm_run.specs.Built.{SpellsBuilt}
 use Rattle.esm_run.specs.Commands.{AreFilesLeft, IsCut, IsLeft, IsStopped}
 use Rattle.esm_run.specs.World.{DevicesTell, Seen, disks_in, door, history, seen}
@@ -20,13 +21,14 @@ use Rattle.esm_run.proofs.OneCommand.{OneCommand, by_command}
 use Rattle.esm_run.proofs.RunEndings.{registry_unopened}
 use Rattle.esm_run.proofs.Serves.{only_read_same, unserved_same}
 
--- where nothing was done, `run` has not begun
-not_begun : {S D F : Type 0} (m : DiskMeaning D) (r : RunWords) (h : List Entry) (old new : Seen S D F) → OnlyNow m → h ≡ [] → new ≡ old → HasNotBegun m r h old new
-not_begun m r h old new only_now none same =
-    subst (HasNotBegun m r h old) (sym same) (record {
+-- where nothing was done, no run has begun
+not_begun : {S D F : Type 0} (m : DiskMeaning D) (a : Asks D) (h : List Entry) (old new : Seen S D F) → OnlyNow m → a.leaves old.disks.registry old.disks.registry → h ≡ [] → new ≡ old
+    → HasNotBegun m a h old new
+not_begun m a h old new only_now unopened none same =
+    subst (HasNotBegun m a h old) (sym same) (record {
       untouched = record { no_trace = none; unread = refl; uncalled = refl };
       unwritten = (pair_same m only_now old.disks.journal old.disks.spare, only_read_same m old.disks.failures (only_now old.disks.failures));
-      registry = registry_unopened m r.which old.disks.registry (only_read_same m old.disks.registry (only_now old.disks.registry));
+      registry = unopened;
     })
 
 module _ {S K D C F L N : Type 0} (t : DevicesTell S K D F L N) (old new : World S K D C F L) where
@@ -59,13 +61,14 @@ module _ {S K D C F L N : Type 0} (t : DevicesTell S K D F L N) (old new : World
     left_alone Failures = files_same (files.Upkeep upkeep.Failures)
     left_alone Compact = files_same (files.Upkeep upkeep.Compact)
     left_alone Migrate = files_same (files.Upkeep upkeep.Migrate)
-    left_alone (Ddb config calls timeout) = tt
+    left_alone (Ddb config calls timeout) = ap (λ w. w.registry) same
     left_alone (Redrive config receives calls visibility timeout) = tt
     left_alone (Replay config calls timeout) = tt
 
     module _ (none : history new ≡ []) where
       cut_alone : (c : Command) → IsCut t c old new
-      cut_alone (Run r) = inl (not_begun t.disk r (history new) (seen old) (seen new) only_now none (ap seen same))
+      cut_alone (Run r) = inl (not_begun t.disk (by_words t.disk r.which) (history new) (seen old) (seen new) only_now
+          (registry_unopened t.disk r.which old.registry (only_read_same t.disk old.registry (only_now old.registry))) none (ap seen same))
       cut_alone (Gen records) = inl none
       cut_alone (Serve requests) = inl (unserved_same t.disk old.registry new.registry (door t old new) (only_now old.registry)
           (ap (λ w. w.registry) same) (ap (λ w. t.closed w.door) same) (ap (λ w. t.door_faults w.door) same))
@@ -75,7 +78,7 @@ module _ {S K D C F L N : Type 0} (t : DevicesTell S K D F L N) (old new : World
       cut_alone Show = tt
       cut_alone Failures = tt
       cut_alone Migrate = tt
-      cut_alone (Ddb config calls timeout) = tt
+      cut_alone (Ddb config calls timeout) = inl (not_begun t.disk (by_text DynamoDb config) (history new) (seen old) (seen new) only_now refl none (ap seen same))
       cut_alone (Redrive config receives calls visibility timeout) = tt
       cut_alone (Replay config calls timeout) = tt
 

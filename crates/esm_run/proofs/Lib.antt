@@ -17,11 +17,14 @@ pub mod Fronts
 pub mod BadPayloads
 pub mod OneRefusal
 pub mod OneSetting
+pub mod MoreBytes
 pub mod KeptNumbers
 pub mod OneReady
 pub mod OneRun
 pub mod KeptIds
 pub mod OneQueueRun
 pub mod Kept
+pub mod DdbRuns
+pub mod OneDdb
 pub mod OneOutcome
 pub mod Cuts

@@ -11,6 +11,7 @@ use Rattle.esm_run.specs.declared.world.World.{World}
 use Rattle.esm_run.proofs.Inits.{told_with}
 use Rattle.esm_run.proofs.OneCause.{AreLaws, bad_words_status, same_options}
 use Rattle.esm_run.proofs.OneCommand.{OneStatus}
+use Rattle.esm_run.proofs.OneDdb.{same_ddb}
 use Rattle.esm_run.proofs.OneFiles.{one_files}
 use Rattle.esm_run.proofs.OneServe.{one_serve}
 
@@ -27,7 +28,7 @@ one_of t Show old new laws told sound a b one other = one_files t.disk (disks_in
 one_of t Failures old new laws told sound a b one other = one_files t.disk (disks_in old) (disks_in new) (output t old new) (files.Upkeep upkeep.Failures) told sound a b one other
 one_of t Compact old new laws told sound a b one other = one_files t.disk (disks_in old) (disks_in new) (output t old new) (files.Upkeep upkeep.Compact) told sound a b one other
 one_of t Migrate old new laws told sound a b one other = one_files t.disk (disks_in old) (disks_in new) (output t old new) (files.Upkeep upkeep.Migrate) told sound a b one other
-one_of t (Ddb config calls timeout) old new laws told sound a b one other = absurd one
+one_of t (Ddb config calls timeout) old new laws told sound a b one other = same_ddb (of_run t) config calls (output t old new) (history new) (seen old) (seen new) a b laws sound told one other
 one_of t (Redrive config receives calls visibility timeout) old new laws told sound a b one other = absurd one
 one_of t (Replay config calls timeout) old new laws told sound a b one other = absurd one
 

@@ -22,7 +22,7 @@ use Rattle.esm_report.specs.declared.ending.Ending.{Ending}
 use Rattle.esm_journal_state.specs.SaidLists.{SaidLists}
 use Rattle.esm_runner.specs.Files.{FilesState}
 use Rattle.esm_runner.specs.Headline.{Devices, Telling}
-use Rattle.esm_run.specs.Answers.{IsQueueRun, IsSoundRun, visibility_of}
+use Rattle.esm_run.specs.Answers.{AreSoundDevices, IsQueueRun, asked, visibility_of}
 use Rattle.esm_run.specs.Endings.{ending_of, ending_of_reading, status_of}
 use Rattle.esm_run.specs.World.{RunTells, Seen, devices_of}
 use Rattle.esm_run.proofs.Fronts.{IsFront, messages_front}
@@ -70,7 +70,7 @@ unfinished_so s h reading bytes_left told (inl ended) = ended
 unfinished_so s h reading bytes_left told (inr (going, untold)) = absurd (let some = told in let none = untold in cc)
 
 one_queue_end : {D F : Type 0} (t : Telling D F) (f g : FilesState D) (s z : QueueSetting) (h : List Entry) (xs ys : List Message) (i j : Option InputEnd) (bytes_left : Option (List ℕ)) (new : Devices D F) (e d : MappingEnd)
-    → IsFaultless t f new → IsFaultless t g new → IsShared s z xs ys i j bytes_left
+    → IsFaultless t.disk f new → IsFaultless t.disk g new → IsShared s z xs ys i j bytes_left
     → IsCauseOf t f s h xs i bytes_left new e → IsCauseOf t g z h ys j bytes_left new d → status_of (ending_of e) ≡ status_of (ending_of d)
 one_queue_end t f g s z h xs ys i j l new end.DiskFault d sound sound_too shared one other = absurd (sound.pair one)
 one_queue_end t f g s z h xs ys i j l new end.DestFault d sound sound_too shared one other = absurd one
@@ -134,12 +134,12 @@ read_cause : {S D F : Type 0} (o : RunTells S D F) (h : List Entry) (new : Seen 
 read_cause o h new f s xs i reading e same cause = subst (λ x. IsCauseOf o.run f s h xs x (o.left new.input) (devices_of new) e) (sym same) cause
 
 pub one_queue_run : {S D F : Type 0} (o : RunTells S D F) (r : RunWords) (h : List Entry) (old new : Seen S D F) (text other_text : List ℕ) (e d : Ending)
-    → WholeGoesOn → SameTold → IsSoundRun o r old new → (one : IsQueueRun o r h old new text e) → (other : IsQueueRun o r h old new other_text d) → one.mapping ≡ other.mapping
+    → WholeGoesOn → SameTold → AreSoundDevices o old new → (one : IsQueueRun o r h old new text e) → (other : IsQueueRun o r h old new other_text d) → one.mapping ≡ other.mapping
     → status_of e ≡ status_of d
 one_queue_run o r h old new text other_text e d goes told sound one other mappings =
     let configs : one.mapping.config ≡ other.mapping.config = ap (λ (n : NamedMapping). n.config) mappings in
     let saids : one.files.said ≡ other.files.said =
-    same_said o r old new one.mapping other.mapping one.files other.files told sound one.ready other.ready in
+    same_said o (asked o r) old new one.mapping other.mapping one.files other.files told sound one.ready other.ready in
     let xs : List Message = messages_in_items (handed one.run.input) in
     let ys : List Message = messages_in_items (handed other.run.input) in
     let input : IsInputOf o.faults o.left one.mapping.config old.input new.input other.run.input =
@@ -149,7 +149,7 @@ one_queue_run o r h old new text other_text e d goes told sound one other mappin
     one.run.is_setting other.run.is_setting in
     ap status_of one.tells
     ∙ one_queue_end o.run one.files other.files one.run.setting other.run.setting h xs ys one.run.input.end other.run.input.end (o.left new.input) (devices_of new) one.end other.end
-    (faultless o r old new one.mapping one.files sound one.ready) (faultless o r old new other.mapping other.files sound other.ready)
+    (faultless o (asked o r) old new one.mapping one.files sound one.ready) (faultless o (asked o r) old new other.mapping other.files sound other.ready)
     (shared_by o.faults o.left one.mapping.config old.input new.input one.run.input other.run.input one.run.setting other.run.setting goes sound.told sound.no_input_fault
     one.run.is_input input same)
     (read_cause o h new one.files one.run.setting xs one.run.input.end one.reading one.end one.run.read_to one.run.cause)

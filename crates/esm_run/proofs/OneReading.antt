@@ -23,7 +23,7 @@ WholeGoesOn = (kind : LineKind) (bytes : List ℕ) → GoesOnFrom (input_so_far 
 
 -- which bytes were read
 
-same_bytes : (before left : Option (List ℕ)) (x y : List ℕ) → IsSome before → TakesFront before left x → TakesFront before left y → x ≡ y
+pub same_bytes : (before left : Option (List ℕ)) (x y : List ℕ) → IsSome before → TakesFront before left x → TakesFront before left y → x ≡ y
 same_bytes None left x y some one other = absurd (cc)
 same_bytes (Some old) left x y some one other =
     let rest : one.0 ≡ other.0 = (let same : Some one.0 ≡ Some other.0 = sym one.2 ∙ other.2 in cc) in
@@ -36,7 +36,7 @@ end_by (Some limit) bad = ends.Limit limit
 end_by None (Some bad) = ends.BadLine bad
 end_by None None = ends.End
 
-end_at : LineKind → ℕ → Bool → List ℕ → InputEnd
+pub end_at : LineKind → ℕ → Bool → List ℕ → InputEnd
 end_at kind factor whole bytes = end_by (items_read kind factor whole bytes).limit (input_read kind whole bytes).bad
 
 limit_end : (limit : Option LimitName) (bad : Option BadLine) (l : LimitName) → limit ≡ Some l → ends.Limit l ≡ end_by limit bad
@@ -90,7 +90,7 @@ settled kind factor before now bytes ends.Fault sound goes cause = absurd (sound
 settled kind factor before now bytes (ends.Limit limit) sound goes cause = limit_settled kind factor bytes limit goes cause
 
 -- as at the source's end
-at_end : (kind : LineKind) (factor before now : ℕ) (whole : Bool) (bytes : List ℕ) (e : InputEnd) → ¬ Rose before now → GoesOnFrom (input_so_far kind bytes) (input_of kind bytes) → EndsBy kind factor before now whole bytes e
+pub at_end : (kind : LineKind) (factor before now : ℕ) (whole : Bool) (bytes : List ℕ) (e : InputEnd) → ¬ Rose before now → GoesOnFrom (input_so_far kind bytes) (input_of kind bytes) → EndsBy kind factor before now whole bytes e
     → (e ≡ end_at kind factor true bytes) × (items_read kind factor whole bytes ≡ items_read kind factor true bytes)
 at_end kind factor before now true bytes e sound goes cause = (end_is kind factor before now true bytes e sound cause, refl)
 at_end kind factor before now false bytes e sound goes cause =
@@ -98,7 +98,7 @@ at_end kind factor before now false bytes e sound goes cause =
     (end_is kind factor before now false bytes e sound cause ∙ same.end, same.items)
 
 -- what was read so far is a front of what is read at the source's end
-front_of_all : (kind : LineKind) (factor : ℕ) (whole : Bool) (bytes : List ℕ) → GoesOnFrom (input_so_far kind bytes) (input_of kind bytes) → IsFront (items_read kind factor whole bytes).items (items_read kind factor true bytes).items
+pub front_of_all : (kind : LineKind) (factor : ℕ) (whole : Bool) (bytes : List ℕ) → GoesOnFrom (input_so_far kind bytes) (input_of kind bytes) → IsFront (items_read kind factor whole bytes).items (items_read kind factor true bytes).items
 front_of_all kind factor true bytes goes = front_same (items_read kind factor true bytes).items
 front_of_all kind factor false bytes goes =
     subst (λ items. IsFront (items_read kind factor false bytes).items (limited_after factor [] items).items) (sym goes.items)
@@ -116,19 +116,19 @@ pub record IsReadFrom {S : Type 0} (faults : S → ℕ) (left : S → Option (Li
   pub good : i.failed ≡ false
   pub read : IsInput faults left i
 
-handed_is : {S : Type 0} (faults : S → ℕ) (left : S → Option (List ℕ)) (kind : LineKind) (factor : ℕ) (start : Start) (old new : S) (i : InputState S)
+pub handed_is : {S : Type 0} (faults : S → ℕ) (left : S → Option (List ℕ)) (kind : LineKind) (factor : ℕ) (start : Start) (old new : S) (i : InputState S)
     → IsReadFrom faults left kind factor start old new i → handed i ≡ from_start start (items_read kind factor i.whole i.bytes).items
 handed_is faults left kind factor start old new i is =
     ap (λ position. from_start position (items_read i.kind i.factor i.whole i.bytes).items) is.start_is
     ∙ ap (λ k. from_start start (items_read k i.factor i.whole i.bytes).items) is.kind_is
     ∙ ap (λ f. from_start start (items_read kind f i.whole i.bytes).items) is.factor_is
 
-taken_is : {S : Type 0} (faults : S → ℕ) (left : S → Option (List ℕ)) (kind : LineKind) (factor : ℕ) (start : Start) (old new : S) (i : InputState S)
+pub taken_is : {S : Type 0} (faults : S → ℕ) (left : S → Option (List ℕ)) (kind : LineKind) (factor : ℕ) (start : Start) (old new : S) (i : InputState S)
     → IsReadFrom faults left kind factor start old new i → TakesFront (left old) (left new) i.bytes
 taken_is faults left kind factor start old new i is =
     subst (λ s. TakesFront (left old) (left s) i.bytes) is.source (subst (λ s. TakesFront (left s) (left i.source) i.bytes) is.found is.read.taken)
 
-ends_by : {S : Type 0} (faults : S → ℕ) (left : S → Option (List ℕ)) (kind : LineKind) (factor : ℕ) (start : Start) (old new : S) (i : InputState S) (e : InputEnd)
+pub ends_by : {S : Type 0} (faults : S → ℕ) (left : S → Option (List ℕ)) (kind : LineKind) (factor : ℕ) (start : Start) (old new : S) (i : InputState S) (e : InputEnd)
     → IsReadFrom faults left kind factor start old new i → i.end ≡ Some e → EndsBy kind factor (faults old) (faults new) i.whole i.bytes e
 ends_by faults left kind factor start old new i e is ended =
     subst (λ k. EndsBy k factor (faults old) (faults new) i.whole i.bytes e) is.kind_is

@@ -6,6 +6,7 @@ use Rattle.esm_input.specs.declared.ending.InputEnd.{InputEnd}
 use Rattle.esm_input.specs.Reading.{InputState, handed}
 use Rattle.esm_io.specs.Faults.{Rose}
 use Rattle.esm_mapping.specs.declared.named.NamedMapping.{NamedMapping}
+use Rattle.esm_model.specs.declared.book.Change.{Change}
 use Rattle.esm_model.specs.declared.config.Config.{Config}
 use Rattle.esm_model.specs.declared.config.Start.{Start}
 use Rattle.esm_model.specs.declared.entry.Entry.{Entry}
@@ -20,8 +21,8 @@ use Rattle.esm_runner.specs.Files.{FilesState}
 use Rattle.esm_runner.specs.Headline.{Devices, Telling}
 use Rattle.esm_runner.specs.declared.run.MappingEnd.{MappingEnd}
 use Rattle.esm_runner.specs.declared.run.MappingEnd.TheVariants as end
-use Rattle.esm_run.specs.Answers.{IsSoundRun, IsStreamRun}
-use Rattle.esm_run.specs.Endings.{ending_of, ending_of_reading, status_of}
+use Rattle.esm_run.specs.Answers.{AreSoundDevices, IsStreamRun, asked}
+use Rattle.esm_run.specs.Endings.{ending_of, status_of}
 use Rattle.esm_run.specs.World.{RunTells, Seen, devices_of}
 use Rattle.esm_run.proofs.Fronts.{IsFront, records_front}
 use Rattle.esm_run.proofs.KeptNumbers.{unchanged}
@@ -31,43 +32,43 @@ use Rattle.esm_run.proofs.OneSetting.{SameTold, left_nowhere, one_setting, other
 
 -- what two runs that left one history say of it: their settings, their records, the ends of their readings, and the bytes that
 -- are left
-record IsShared (s z : Setting) (xs ys : List Record) (i j : Option InputEnd) (bytes_left : Option (List ℕ)) : Type 0 where
-  same : z ≡ over s z.streams
-  told : IsSome bytes_left
-  ends : (e d : InputEnd) → i ≡ Some e → j ≡ Some d → e ≡ d
-  front : (e : InputEnd) → i ≡ Some e → IsFront ys xs
-  other_front : (e : InputEnd) → j ≡ Some e → IsFront xs ys
+pub record IsShared (s z : Setting) (xs ys : List Record) (i j : Option InputEnd) (bytes_left : Option (List ℕ)) : Type 0 where
+  pub same : z ≡ over s z.streams
+  pub told : IsSome bytes_left
+  pub ends : (e d : InputEnd) → i ≡ Some e → j ≡ Some d → e ≡ d
+  pub front : (e : InputEnd) → i ≡ Some e → IsFront ys xs
+  pub other_front : (e : InputEnd) → j ≡ Some e → IsFront xs ys
 
 -- of an input that tells its bytes the reading ended, and something is left
 unfinished_so : (s : Setting) (h : List Entry) (reading : Option InputEnd) (bytes_left : Option (List ℕ)) → IsSome bytes_left → IsUnfinished s h reading bytes_left → IsSome reading × (HasOpen s h ⊎ HasOutstanding s h)
 unfinished_so s h reading bytes_left told (inl ended) = ended
 unfinished_so s h reading bytes_left told (inr (going, untold)) = absurd (let some = told in let none = untold in cc)
 
-one_stream_end : {D F : Type 0} (t : Telling D F) (f g : FilesState D) (s z : Setting) (h : List Entry) (xs ys : List Record) (i j : Option InputEnd) (bytes_left : Option (List ℕ)) (new : Devices D F) (e d : MappingEnd)
-    → IsFaultless t f new → IsFaultless t g new → IsShared s z xs ys i j bytes_left
-    → IsCauseOf t f s h xs i bytes_left new e → IsCauseOf t g z h ys j bytes_left new d → status_of (ending_of e) ≡ status_of (ending_of d)
-one_stream_end t f g s z h xs ys i j l new end.DiskFault d sound sound_too shared one other = absurd (sound.pair one)
-one_stream_end t f g s z h xs ys i j l new end.DestFault d sound sound_too shared one other = absurd (sound.failures one)
-one_stream_end t f g s z h xs ys i j l new e end.DiskFault sound sound_too shared one other = absurd (sound_too.pair other)
-one_stream_end t f g s z h xs ys i j l new e end.DestFault sound sound_too shared one other = absurd (sound_too.failures other)
-one_stream_end t f g s z h xs ys i j l new (end.Finished why) (end.Finished cause) sound sound_too shared one other =
-    ap (λ w. status_of (ending_of_reading w)) (shared.ends why cause one.1 other.1)
-one_stream_end t f g s z h xs ys i j l new (end.Finished why) end.CallsSpent sound sound_too shared one other =
+pub one_stream_end : {D F : Type 0} (t : Telling D F) (f g : FilesState D) (s z : Setting) (h : List Entry) (xs ys : List Record) (i j : Option InputEnd) (bytes_left : Option (List ℕ)) (new : Devices D F) (tell : MappingEnd → Ending) (e d : MappingEnd)
+    → ((c k : Change) → status_of (tell (end.Changed c)) ≡ status_of (tell (end.Changed k))) → IsFaultless t.disk f new → IsFaultless t.disk g new → IsShared s z xs ys i j bytes_left
+    → IsCauseOf t f s h xs i bytes_left new e → IsCauseOf t g z h ys j bytes_left new d → status_of (tell e) ≡ status_of (tell d)
+one_stream_end t f g s z h xs ys i j l new tell end.DiskFault d changed sound sound_too shared one other = absurd (sound.pair one)
+one_stream_end t f g s z h xs ys i j l new tell end.DestFault d changed sound sound_too shared one other = absurd (sound.failures one)
+one_stream_end t f g s z h xs ys i j l new tell e end.DiskFault changed sound sound_too shared one other = absurd (sound_too.pair other)
+one_stream_end t f g s z h xs ys i j l new tell e end.DestFault changed sound sound_too shared one other = absurd (sound_too.failures other)
+one_stream_end t f g s z h xs ys i j l new tell (end.Finished why) (end.Finished cause) changed sound sound_too shared one other =
+    ap (λ w. status_of (tell (end.Finished w))) (shared.ends why cause one.1 other.1)
+one_stream_end t f g s z h xs ys i j l new tell (end.Finished why) end.CallsSpent changed sound sound_too shared one other =
     absurd (left_nowhere s z h shared.same one.2 one.3 (unfinished_so z h j l shared.told other.2).1)
-one_stream_end t f g s z h xs ys i j l new (end.Finished why) (end.Changed change) sound sound_too shared one other =
+one_stream_end t f g s z h xs ys i j l new tell (end.Finished why) (end.Changed change) changed sound sound_too shared one other =
     absurd (unchanged s z xs ys change shared.same one.0.unchanged (shared.front why one.1) other.2)
-one_stream_end t f g s z h xs ys i j l new end.CallsSpent (end.Finished why) sound sound_too shared one other =
+one_stream_end t f g s z h xs ys i j l new tell end.CallsSpent (end.Finished why) changed sound sound_too shared one other =
     absurd (left_nowhere z s h (other_setting s z shared.same) other.2 other.3 (unfinished_so s h i l shared.told one.2).1)
-one_stream_end t f g s z h xs ys i j l new end.CallsSpent end.CallsSpent sound sound_too shared one other = refl
-one_stream_end t f g s z h xs ys i j l new end.CallsSpent (end.Changed change) sound sound_too shared one other =
+one_stream_end t f g s z h xs ys i j l new tell end.CallsSpent end.CallsSpent changed sound sound_too shared one other = refl
+one_stream_end t f g s z h xs ys i j l new tell end.CallsSpent (end.Changed change) changed sound sound_too shared one other =
     let read = some_of i (unfinished_so s h i l shared.told one.2).0 in
     absurd (unchanged s z xs ys change shared.same one.0.unchanged (shared.front read.0 read.1) other.2)
-one_stream_end t f g s z h xs ys i j l new (end.Changed change) (end.Finished why) sound sound_too shared one other =
+one_stream_end t f g s z h xs ys i j l new tell (end.Changed change) (end.Finished why) changed sound sound_too shared one other =
     absurd (unchanged z s ys xs change (other_setting s z shared.same) other.0.unchanged (shared.other_front why other.1) one.2)
-one_stream_end t f g s z h xs ys i j l new (end.Changed change) end.CallsSpent sound sound_too shared one other =
+one_stream_end t f g s z h xs ys i j l new tell (end.Changed change) end.CallsSpent changed sound sound_too shared one other =
     let read = some_of j (unfinished_so z h j l shared.told other.2).0 in
     absurd (unchanged z s ys xs change (other_setting s z shared.same) other.0.unchanged (shared.other_front read.0 read.1) one.2)
-one_stream_end t f g s z h xs ys i j l new (end.Changed change) (end.Changed other_change) sound sound_too shared one other = refl
+one_stream_end t f g s z h xs ys i j l new tell (end.Changed change) (end.Changed other_change) changed sound sound_too shared one other = changed change other_change
 
 -- the input of a stream's run
 read_from : {S : Type 0} (faults : S → ℕ) (left : S → Option (List ℕ)) (c : Config) (start : Start) (old new : S) (i : InputState S) → IsInputOf faults left c start old new i
@@ -98,11 +99,11 @@ shared_by faults left c start old new i j s z goes told sound one other same =
     }
 
 pub one_run : {S D F : Type 0} (o : RunTells S D F) (r : RunWords) (h : List Entry) (old new : Seen S D F) (text other_text : List ℕ) (e d : Ending)
-    → WholeGoesOn → SameTold → IsSoundRun o r old new → (one : IsStreamRun o r h old new text e) → (other : IsStreamRun o r h old new other_text d) → one.mapping ≡ other.mapping
+    → WholeGoesOn → SameTold → AreSoundDevices o old new → (one : IsStreamRun o r h old new text e) → (other : IsStreamRun o r h old new other_text d) → one.mapping ≡ other.mapping
     → status_of e ≡ status_of d
 one_run o r h old new text other_text e d goes told sound one other mappings =
     let saids : one.files.said ≡ other.files.said =
-    same_said o r old new one.mapping other.mapping one.files other.files told sound one.ready other.ready in
+    same_said o (asked o r) old new one.mapping other.mapping one.files other.files told sound one.ready other.ready in
     let xs : List Record = records_in_items (handed one.input) in
     let ys : List Record = records_in_items (handed other.input) in
     let input : IsInputOf o.faults o.left one.mapping.config one.mapping.start old.input new.input other.input =
@@ -111,8 +112,8 @@ one_run o r h old new text other_text e d goes told sound one other mappings =
     one_setting one.mapping.config other.mapping.config r.calls one.files.said other.files.said xs ys one.setting other.setting
     (ap (λ (n : NamedMapping). n.config) mappings) saids one.is_setting other.is_setting in
     ap status_of one.tells
-    ∙ one_stream_end o.run one.files other.files one.setting other.setting h xs ys one.input.end other.input.end (o.left new.input) (devices_of new) one.end other.end
-    (faultless o r old new one.mapping one.files sound one.ready) (faultless o r old new other.mapping other.files sound other.ready)
+    ∙ one_stream_end o.run one.files other.files one.setting other.setting h xs ys one.input.end other.input.end (o.left new.input) (devices_of new) ending_of one.end other.end
+    (λ c k. refl) (faultless o (asked o r) old new one.mapping one.files sound one.ready) (faultless o (asked o r) old new other.mapping other.files sound other.ready)
     (shared_by o.faults o.left one.mapping.config one.mapping.start old.input new.input one.input other.input one.setting other.setting goes sound.told sound.no_input_fault
     one.is_input input same)
     one.cause other.cause

@@ -1,7 +1,8 @@
 -- How the options of `run` came to their ending, or were stopped by want of memory.
-use Rattle.std.proofs.Common.{◌≡◌, ◌∙◌, ℕ, true, false, List, refl, sym, ap, subst, inl, inr, Option, Some, Result, Ok, Err}
-use Rattle.std.specs.Prelude.{◌⊎◌, IfOk, OnErr}
+use Rattle.std.proofs.Common.{◌≡◌, ◌∙◌, ℕ, Bool, true, false, List, refl, sym, ap, subst, inl, inr, Option, Some, Result, Ok, Err}
+use Rattle.std.specs.Prelude.{IfOk, OnErr}
 use Rattle.esm_model.specs.Valid.{is_stream}
+use Rattle.esm_model.specs.declared.book.Trouble.{Trouble}
 use Rattle.esm_model.specs.declared.entry.Entry.{Entry}
 use Rattle.esm_model.specs.declared.memory.OutOfMemory.{OutOfMemory}
 use Rattle.esm_model.specs.Entries.{CallsFollowShut}
@@ -24,10 +25,15 @@ use Rattle.esm_report.specs.declared.ending.Ending.{Ending}
 use Rattle.esm_report.specs.Report.{last_line, report_text, stands_alone}
 use Rattle.esm_journal_state.specs.SaidLists.{SaidLists}
 use Rattle.esm_runner.specs.Ended as stream
+use Rattle.esm_runner.specs.Ended.{trouble_of}
+use Rattle.esm_runner.specs.Headline as runner
+use Rattle.esm_runner.specs.Headline.{CallsMade, Devices, Telling}
+use Rattle.esm_runner.specs.Ran.{NoneRuns}
 use Rattle.esm_runner.specs.Files.{FilesState, IsOpenedFiles, AreRefused}
 use Rattle.esm_runner.specs.declared.files.FilesError.{FilesError}
 use Rattle.esm_runner.specs.declared.run.MappingEnd.{MappingEnd}
-use Rattle.esm_run.specs.Answers.{AreGoodFiles, HasNotBegun, HasRefusedFiles, HasRefusedMapping, IsCutOf, IsReadyFor, IsRegistryLeft, RunEnded, RunOutcome, visibility_of}
+use Rattle.esm_run.specs.Answers.{AreGoodFiles, HasNotBegun, HasNotRun, HasTold, IsCutOf, IsReadyFor, RunCause, RunEnded, asked, visibility_of}
+use Rattle.esm_run.specs.Asks.{Asks, IsRegistryLeft}
 use Rattle.esm_run.specs.Headline.{Headline}
 use Rattle.esm_run.specs.Endings.{IsTold, ending_of, ending_of_files, ending_of_mapping}
 use Rattle.esm_run.specs.Ran.{EndsWith, IsEndingOf, IsReport}
@@ -57,8 +63,35 @@ registry_left m (Mapping id) old new read untouched = read
 pub registry_unopened : {D : Type 0} (m : DiskMeaning D) (which : Which) (disk : D) → IsOnlyRead m disk disk → IsRegistryLeft m which disk disk
 registry_unopened m which disk read = registry_left m which disk disk read (λ text is. refl)
 
+-- what a stream's run left, told
+pub headline_of : {D F : Type 0} (t : Telling D F) (read_first : Bool) (f : FilesState D) (s : Setting) (h : List Entry) (trouble : Option Trouble) (ending : Ending) (hand : List Entry) (old : List F) (new : Devices D F)
+    → runner.Headline t f s h trouble hand new → CallsMade t s h old new.callers → NoneRuns h → (read_first ≡ true → CallsFollowShut h)
+    → Headline t read_first f s h trouble ending hand old new (report_text s h ending)
+headline_of t read_first f s h trouble ending hand old new is calls rests later = record {
+  legal_trace = is.legal_trace;
+  moments = is.moments;
+  calls_made = calls;
+  none_runs = rests;
+  journal_kept = is.journal_kept;
+  journal_stopped = is.journal_stopped;
+  crash_kept = is.crash;
+  in_hand = is.in_hand;
+  failure_lines_kept = is.failure_lines_kept;
+  report_told = refl;
+  order_per_key = is.order_per_key;
+  no_repeat = is.no_repeat;
+  every_record_counted = is.every_record_counted;
+  checkpoint_is_longest = is.checkpoint_is_longest;
+  checkpoint_is_recorded = is.checkpoint_is_recorded;
+  one_fate = is.one_fate;
+  fates_are_recorded = is.fates_are_recorded;
+  fate_is_earned = is.fate_is_earned;
+  answers_are_logged = is.answers_are_logged;
+  read_first = later;
+}
+
 module _ {S D F : Type 0} (o : RunTells S D F) (r : RunWords) (h : List Entry) (old new : Seen S D F) where
-  module _ (mapping : NamedMapping) (files : FilesState D) (reading : Option InputEnd) (ready : IsReadyFor o.run.disk r old new mapping files) (later : r.read_first ≡ true → CallsFollowShut h) where
+  module _ (mapping : NamedMapping) (files : FilesState D) (reading : Option InputEnd) (ready : IsReadyFor o.run.disk (asked o r) old new mapping files) (later : r.read_first ≡ true → CallsFollowShut h) where
     -- a stream's mapping ran
 
     abbrev HasStreamEnded : MappingEnd → Type 0
@@ -67,34 +100,10 @@ module _ {S D F : Type 0} (o : RunTells S D F) (r : RunWords) (h : List Entry) (
     abbrev HasStreamStopped : Type 0
     HasStreamStopped = stream.HasStoppedRun o.run o.left mapping.config mapping.start r.calls files old.input new.input old.callers h (devices_of new)
 
-    headline_of : (end : MappingEnd) (is : HasStreamEnded end) → Headline o r files is.setting h end is.hand old new (report_text is.setting h (ending_of end))
-    headline_of end is = record {
-      legal_trace = is.headline.legal_trace;
-      moments = is.headline.moments;
-      calls_made = is.calls_made;
-      none_runs = is.rests;
-      journal_kept = is.headline.journal_kept;
-      journal_stopped = is.headline.journal_stopped;
-      crash_kept = is.headline.crash;
-      in_hand = is.headline.in_hand;
-      failure_lines_kept = is.headline.failure_lines_kept;
-      report_told = refl;
-      order_per_key = is.headline.order_per_key;
-      no_repeat = is.headline.no_repeat;
-      every_record_counted = is.headline.every_record_counted;
-      checkpoint_is_longest = is.headline.checkpoint_is_longest;
-      checkpoint_is_recorded = is.headline.checkpoint_is_recorded;
-      one_fate = is.headline.one_fate;
-      fates_are_recorded = is.headline.fates_are_recorded;
-      fate_is_earned = is.headline.fate_is_earned;
-      answers_are_logged = is.headline.answers_are_logged;
-      read_first = later;
-    }
-
     stream_ended : is_stream mapping.config.kind ≡ true → (end : MappingEnd) → HasStreamEnded end → RunEnded o r h old new (ending_of end)
     stream_ended kind end is = record {
       text = report_text is.setting h (ending_of end);
-      cause = inr (inl (record {
+      cause_is = inr (inl (record {
         mapping = mapping;
         files = files;
         ready = ready;
@@ -107,15 +116,15 @@ module _ {S D F : Type 0} (o : RunTells S D F) (r : RunWords) (h : List Entry) (
         tells = refl;
         cause = subst (λ (x : Option InputEnd). stream.IsCauseOf o.run files is.setting h (records_in_items (handed is.input)) x (o.left new.input) (devices_of new) end) (sym is.read_to) is.cause;
         hand = is.hand;
-        headline = headline_of end is;
+        headline = headline_of o.run r.read_first files is.setting h (trouble_of end) (ending_of end) is.hand old.callers (devices_of new) is.headline is.calls_made is.rests later;
       }));
     }
 
     -- it came to its end, which is told
     pub stream_ends : is_stream mapping.config.kind ≡ true → (said : SaidLists) (end : Result MappingEnd OutOfMemory) (e : Ending) → said ≡ files.said
-        → IfOk end HasStreamEnded → IsEndingOf end e → EndsWith o r h old new (began.Stream said) e
+        → IfOk end HasStreamEnded → IsEndingOf end e → EndsWith (RunCause o r h old new) h (began.Stream said) e
     unfolding stream_ended
-    stream_ends kind said (Ok end) e same is tells = subst (EndsWith o r h old new (began.Stream said)) (sym tells) (record {
+    stream_ends kind said (Ok end) e same is tells = subst (EndsWith (RunCause o r h old new) h (began.Stream said)) (sym tells) (record {
       ended = stream_ended kind end is;
       report = record {
         setting = is.setting;
@@ -141,13 +150,13 @@ module _ {S D F : Type 0} (o : RunTells S D F) (r : RunWords) (h : List Entry) (
     queue_ended : is_stream mapping.config.kind ≡ false → (end : MappingEnd) → HasQueueEnded end → RunEnded o r h old new (ending_of end)
     queue_ended kind end is = record {
       text = queue_report_text is.setting h (ending_of end);
-      cause = inr (inr (record { mapping = mapping; files = files; ready = ready; kind = kind; end = end; reading = reading; run = is; tells = refl; text_is = refl; read_first = later }));
+      cause_is = inr (inr (record { mapping = mapping; files = files; ready = ready; kind = kind; end = end; reading = reading; run = is; tells = refl; text_is = refl; read_first = later }));
     }
 
     pub queue_ends : is_stream mapping.config.kind ≡ false → (said : SaidLists) (end : Result MappingEnd OutOfMemory) (e : Ending) → said ≡ files.said
-        → IfOk end HasQueueEnded → IsEndingOf end e → EndsWith o r h old new (began.Queue said) e
+        → IfOk end HasQueueEnded → IsEndingOf end e → EndsWith (RunCause o r h old new) h (began.Queue said) e
     unfolding queue_ended
-    queue_ends kind said (Ok end) e same is tells = subst (EndsWith o r h old new (began.Queue said)) (sym tells) (record {
+    queue_ends kind said (Ok end) e same is tells = subst (EndsWith (RunCause o r h old new) h (began.Queue said)) (sym tells) (record {
       ended = queue_ended kind end is;
       report = record {
         setting = is.setting;
@@ -162,35 +171,47 @@ module _ {S D F : Type 0} (o : RunTells S D F) (r : RunWords) (h : List Entry) (
     queue_cut kind (Ok end) is stopped = inr (inr (ending_of end, queue_ended kind end is))
     queue_cut kind (Err why) is stopped = inr (inl (inr (record { mapping = mapping; files = files; ready = ready; kind = kind; run = stopped; read_first = later })))
 
-  -- nothing ran
+-- nothing ran
 
-  not_run : HasNotBegun o.run.disk r h old new → (e : Ending) → HasRefusedFiles o.run.disk old new e ⊎ HasRefusedMapping o.run.disk r old new e → stands_alone e ≡ true → EndsWith o r h old new began.Nothing e
-  not_run unbegun e why alone = record {
-    ended = record { text = last_line e; cause = inl (record { why = why; unbegun = unbegun; text_is = refl }) };
-    report = record { alone = alone; text_is = refl };
+module _ {S D F : Type 0} (m : DiskMeaning D) (a : Asks D) (h : List Entry) (old new : Seen S D F) where
+  pub refused_run : HasNotBegun m a h old new → (why : FilesError) (e : Ending)
+      → AreRefused m old.disks.journal old.disks.spare old.disks.failures new.disks.journal new.disks.spare new.disks.failures why
+      → new.disks.registry ≡ old.disks.registry → ending_of_files why ≡ Some e → HasNotRun m a h old new (last_line e) e
+  refused_run unbegun why e refused unopened tells = record {
+    why = inl (record { why = why; refused = refused; tells = tells; unopened = unopened });
+    unbegun = unbegun;
+    text_is = refl;
   }
 
-  pub refused_ends : HasNotBegun o.run.disk r h old new → (why : FilesError) (e : Ending)
+  pub unnamed_run : HasNotBegun m a h old new → AreGoodFiles m old.disks → (why : MappingError) (e : Ending) (read : D) → new.disks.registry ≡ read
+      → a.why_not old.disks.registry read why → ending_of_mapping why ≡ Some e → HasNotRun m a h old new (last_line e) e
+  unnamed_run unbegun good why e read same refused tells = record {
+    why = inr (record { good = good; why = why; refused = subst (λ disk. a.why_not old.disks.registry disk why) (sym same) refused; tells = tells });
+    unbegun = unbegun;
+    text_is = refl;
+  }
+
+-- which is a cause of the command's
+pub ends_alone : (cause : List ℕ → Ending → Type 0) (h : List Entry) (e : Ending) → cause (last_line e) e → stands_alone e ≡ true → EndsWith cause h began.Nothing e
+ends_alone cause h e is alone = record { ended = record { text = last_line e; cause_is = is }; report = record { alone = alone; text_is = refl } }
+
+module _ {S D F : Type 0} (o : RunTells S D F) (r : RunWords) (h : List Entry) (old new : Seen S D F) where
+  pub refused_ends : HasNotBegun o.run.disk (asked o r) h old new → (why : FilesError) (e : Ending)
       → AreRefused o.run.disk old.disks.journal old.disks.spare old.disks.failures new.disks.journal new.disks.spare new.disks.failures why
-      → new.disks.registry ≡ old.disks.registry → ending_of_files why ≡ Some e → EndsWith o r h old new began.Nothing e
+      → new.disks.registry ≡ old.disks.registry → ending_of_files why ≡ Some e → EndsWith (RunCause o r h old new) h began.Nothing e
   refused_ends unbegun why e refused unopened tells =
-      not_run unbegun e (inl (record { why = why; refused = refused; tells = tells; unopened = unopened })) (files_alone why e tells)
+      ends_alone (RunCause o r h old new) h e (inl (refused_run o.run.disk (asked o r) h old new unbegun why e refused unopened tells)) (files_alone why e tells)
 
-  pub mapping_ends : HasNotBegun o.run.disk r h old new → AreGoodFiles o.run.disk old.disks → (why : MappingError) (e : Ending) (read : D) → new.disks.registry ≡ read
-      → WhyNot o.run.disk r.which old.disks.registry read why → ending_of_mapping why ≡ Some e → EndsWith o r h old new began.Nothing e
+  pub mapping_ends : HasNotBegun o.run.disk (asked o r) h old new → AreGoodFiles o.run.disk old.disks → (why : MappingError) (e : Ending) (read : D) → new.disks.registry ≡ read
+      → WhyNot o.run.disk r.which old.disks.registry read why → ending_of_mapping why ≡ Some e → EndsWith (RunCause o r h old new) h began.Nothing e
   mapping_ends unbegun good why e read same refused tells =
-      not_run unbegun e (inr (record {
-        good = good;
-        why = why;
-        refused = subst (λ disk. WhyNot o.run.disk r.which old.disks.registry disk why) (sym same) refused;
-        tells = tells;
-      })) (mapping_alone why e tells)
+      ends_alone (RunCause o r h old new) h e (inl (unnamed_run o.run.disk (asked o r) h old new unbegun good why e read same refused tells)) (mapping_alone why e tells)
 
-  -- an ending that was told, of a history that is this one
-  pub told_run : (output : Written) (status : ℕ) (b : Began) (e : Ending) (es : List Entry) → EndsWith o r h old new b e → es ≡ h
-      → ((text : List ℕ) → IsReport es e b text → IsTold output.faults_before output.faults_now output.before output.after text e status) → RunOutcome o r output h old new status
-  told_run output status b e es ends same tells = record {
-    ending = e;
-    ended = ends.ended;
-    told = tells ends.ended.text (subst (λ (past : List Entry). IsReport past e b ends.ended.text) (sym same) ends.report);
-  }
+-- an ending that was told, of a history that is this one
+pub told_run : (cause : List ℕ → Ending → Type 0) (h : List Entry) (output : Written) (status : ℕ) (b : Began) (e : Ending) (es : List Entry) → EndsWith cause h b e → es ≡ h
+    → ((text : List ℕ) → IsReport es e b text → IsTold output.faults_before output.faults_now output.before output.after text e status) → HasTold cause output status
+told_run cause h output status b e es ends same tells = record {
+  ending = e;
+  ended = ends.ended;
+  told = tells ends.ended.text (subst (λ (past : List Entry). IsReport past e b ends.ended.text) (sym same) ends.report);
+}

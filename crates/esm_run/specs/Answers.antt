@@ -1,4 +1,5 @@
--- How the options of `run` ended, and what they left. This product's own.
+-- How the options of `run` ended, and what they left; and what each command leaves that did not come to run its mapping. This
+-- product's own.
 use Rattle.std.specs.Prelude.{◌≡◌, ◌⊎◌, ◌*◌, ℕ, true, false, List, [], Option, Some, IsSome}
 use Rattle.esm_model.specs.declared.entry.Entry.{Entry}
 use Rattle.esm_model.specs.Entries.{CallsFollowShut}
@@ -11,10 +12,8 @@ use Rattle.esm_cli.specs.declared.command.Which.TheVariants.{Config, Mapping}
 use Rattle.esm_folder.specs.declared.disks.Disks.{Disks}
 use Rattle.esm_io.specs.Faults.{Rose}
 use Rattle.esm_io.specs.Meanings.{DiskMeaning}
-use Rattle.esm_journal.specs.Reads.{IsOnlyRead}
 use Rattle.esm_input.specs.declared.ending.InputEnd.{InputEnd}
 use Rattle.esm_input.specs.Reading.{InputState, handed}
-use Rattle.esm_mapping.specs.Named.{IsNamed, WhyNot}
 use Rattle.esm_mapping.specs.declared.named.MappingError.{MappingError}
 use Rattle.esm_mapping.specs.declared.named.NamedMapping.{NamedMapping}
 use Rattle.esm_runner.specs.Coming.{records_in_items}
@@ -24,11 +23,13 @@ use Rattle.esm_report.specs.declared.ending.Ending.{Ending}
 use Rattle.esm_report.specs.declared.ending.Ending.TheVariants as ending
 use Rattle.esm_report.specs.Report.{last_line}
 use Rattle.esm_runner.specs.Ended as stream
+use Rattle.esm_runner.specs.Ended.{trouble_of}
 use Rattle.esm_runner.specs.Headline.{IsSettingOf}
 use Rattle.esm_runner.specs.Files.{FilesState, IsOpenedFiles, AreRefused, AreUnwritten, AreGoodPayloads, AreFoundLines}
 use Rattle.esm_runner.specs.declared.files.FilesError.{FilesError}
 use Rattle.esm_runner.specs.declared.run.MappingEnd.{MappingEnd}
 use Rattle.esm_folder.specs.Upkeep.{AreHonest, OneRose}
+use Rattle.esm_run.specs.Asks.{Asks, by_words}
 use Rattle.esm_run.specs.Built.{SpellsBuilt}
 use Rattle.esm_run.specs.Endings.{IsTold, ending_of, ending_of_files, ending_of_mapping}
 use Rattle.esm_run.specs.Headline.{Headline}
@@ -41,16 +42,15 @@ pub record IsUntouched {S D F : Type 0} (h : List Entry) (old new : Seen S D F) 
   pub unread : new.input ≡ old.input
   pub uncalled : new.callers ≡ old.callers
 
--- what `run` leaves of the registry's disk: with a mapping's text it is untouched, else it is opened and only read
-abbrev pub IsRegistryLeft : {D : Type 0} → DiskMeaning D → Which → (old new : D) → Type 0
-IsRegistryLeft m (Config text) old new = new ≡ old
-IsRegistryLeft m (Mapping id) old new = IsOnlyRead m old new
+-- nothing was written to the files of a run
+abbrev pub IsUnwritten : {S D F : Type 0} → DiskMeaning D → (old new : Seen S D F) → Type 0
+IsUnwritten m old new = AreUnwritten m old.disks.journal old.disks.spare old.disks.failures new.disks.journal new.disks.spare new.disks.failures
 
--- and nothing was written
-pub record HasNotBegun {S D F : Type 0} (m : DiskMeaning D) (r : RunWords) (h : List Entry) (old new : Seen S D F) : Type 0 where
+-- nothing came and nothing was written
+pub record HasNotBegun {S D F : Type 0} (m : DiskMeaning D) (a : Asks D) (h : List Entry) (old new : Seen S D F) : Type 0 where
   pub untouched : IsUntouched h old new
-  pub unwritten : AreUnwritten m old.disks.journal old.disks.spare old.disks.failures new.disks.journal new.disks.spare new.disks.failures
-  pub registry : IsRegistryLeft m r.which old.disks.registry new.disks.registry
+  pub unwritten : IsUnwritten m old new
+  pub registry : a.leaves old.disks.registry new.disks.registry
 
 -- refusals
 
@@ -68,28 +68,32 @@ pub record AreGoodFiles {D : Type 0} (m : DiskMeaning D) (disks : Disks D) : Typ
   pub lines_found : AreFoundLines m disks.failures lines
 
 -- the files were good, and then the mapping that the words name was refused so
-pub record HasRefusedMapping {S D F : Type 0} (m : DiskMeaning D) (r : RunWords) (old new : Seen S D F) (ending : Ending) : Type 0 where
+pub record HasRefusedMapping {S D F : Type 0} (m : DiskMeaning D) (a : Asks D) (old new : Seen S D F) (ending : Ending) : Type 0 where
   pub good : AreGoodFiles m old.disks
   pub why : MappingError
-  pub refused : WhyNot m r.which old.disks.registry new.disks.registry why
+  pub refused : a.why_not old.disks.registry new.disks.registry why
   pub tells : ending_of_mapping why ≡ Some ending
 
 -- nothing ran, since the files were refused or the mapping was, and the last line alone is told
-pub record HasNotRun {S D F : Type 0} (m : DiskMeaning D) (r : RunWords) (h : List Entry) (old new : Seen S D F) (text : List ℕ) (ending : Ending) : Type 0 where
-  pub why : HasRefusedFiles m old new ending ⊎ HasRefusedMapping m r old new ending
-  pub unbegun : HasNotBegun m r h old new
+pub record HasNotRun {S D F : Type 0} (m : DiskMeaning D) (a : Asks D) (h : List Entry) (old new : Seen S D F) (text : List ℕ) (ending : Ending) : Type 0 where
+  pub why : HasRefusedFiles m old new ending ⊎ HasRefusedMapping m a old new ending
+  pub unbegun : HasNotBegun m a h old new
   pub text_is : text ≡ last_line ending
 
 -- runs
 
 -- the words name this mapping, which may run, and the files were opened so
-pub record IsReadyFor {S D F : Type 0} (m : DiskMeaning D) (r : RunWords) (old new : Seen S D F) (mapping : NamedMapping) (files : FilesState D) : Type 0 where
-  pub named : IsNamed m r.which old.disks.registry mapping
-  pub registry : IsRegistryLeft m r.which old.disks.registry new.disks.registry
+pub record IsReadyFor {S D F : Type 0} (m : DiskMeaning D) (a : Asks D) (old new : Seen S D F) (mapping : NamedMapping) (files : FilesState D) : Type 0 where
+  pub named : a.is_named old.disks.registry mapping
+  pub registry : a.leaves old.disks.registry new.disks.registry
   pub journal : files.journal ≡ old.disks.journal
   pub spare : files.spare ≡ old.disks.spare
   pub failures : files.failures ≡ old.disks.failures
   pub opened : IsOpenedFiles m files
+
+-- the mapping of the options of `run`
+abbrev pub asked : {S D F : Type 0} → RunTells S D F → RunWords → Asks D
+asked o r = by_words o.run.disk r.which
 
 -- a queue's messages are hidden for so many milliseconds once they are received
 abbrev pub visibility_of : RunWords → ℕ
@@ -99,7 +103,7 @@ visibility_of r = r.visibility * 1000
 pub record IsStreamRun {S D F : Type 0} (o : RunTells S D F) (r : RunWords) (h : List Entry) (old new : Seen S D F) (text : List ℕ) (ending : Ending) : Type 0 where
   pub mapping : NamedMapping
   pub files : FilesState D
-  pub ready : IsReadyFor o.run.disk r old new mapping files
+  pub ready : IsReadyFor o.run.disk (asked o r) old new mapping files
   pub kind : is_stream mapping.config.kind ≡ true
   -- the input as it was read, and the setting that it makes
   pub input : InputState S
@@ -111,13 +115,13 @@ pub record IsStreamRun {S D F : Type 0} (o : RunTells S D F) (r : RunWords) (h :
   pub tells : ending ≡ ending_of end
   pub cause : stream.IsCauseOf o.run files setting h (records_in_items (handed input)) input.end (o.left new.input) (devices_of new) end
   pub hand : List Entry
-  pub headline : Headline o r files setting h end hand old new text
+  pub headline : Headline o.run r.read_first files setting h (trouble_of end) ending hand old.callers (devices_of new) text
 
 -- the queue's mapping of these options ran, and its report is told
 pub record IsQueueRun {S D F : Type 0} (o : RunTells S D F) (r : RunWords) (h : List Entry) (old new : Seen S D F) (text : List ℕ) (ending : Ending) : Type 0 where
   pub mapping : NamedMapping
   pub files : FilesState D
-  pub ready : IsReadyFor o.run.disk r old new mapping files
+  pub ready : IsReadyFor o.run.disk (asked o r) old new mapping files
   pub kind : is_stream mapping.config.kind ≡ false
   pub end : MappingEnd
   -- how the reading of its input ended, if it did
@@ -131,19 +135,27 @@ pub record IsQueueRun {S D F : Type 0} (o : RunTells S D F) (r : RunWords) (h : 
 -- why the options of `run` ended so, and what is told: nothing ran, or the mapping ran, a stream's or a queue's
 abbrev pub RunCause : {S D F : Type 0} → RunTells S D F → RunWords → List Entry → (old new : Seen S D F) → (text : List ℕ) → Ending → Type 0
 RunCause o r h old new text ending =
-    HasNotRun o.run.disk r h old new text ending
+    HasNotRun o.run.disk (asked o r) h old new text ending
     ⊎ (IsStreamRun o r h old new text ending ⊎ IsQueueRun o r h old new text ending)
 
--- the options of `run` came to this ending, and this is their report
-pub record RunEnded {S D F : Type 0} (o : RunTells S D F) (r : RunWords) (h : List Entry) (old new : Seen S D F) (ending : Ending) : Type 0 where
+-- a command came to this ending, for a cause of these, and this is its report
+pub record HasCome (cause : List ℕ → Ending → Type 0) (ending : Ending) : Type 0 where
   pub text : List ℕ
-  pub cause : RunCause o r h old new text ending
+  pub cause_is : cause text ending
 
--- the options of `run` ended with the status: why, and what was told
-pub record RunOutcome {S D F : Type 0} (o : RunTells S D F) (r : RunWords) (output : Written) (h : List Entry) (old new : Seen S D F) (status : ℕ) : Type 0 where
+-- it ended with the status: why, and what was told
+pub record HasTold (cause : List ℕ → Ending → Type 0) (output : Written) (status : ℕ) : Type 0 where
   pub ending : Ending
-  pub ended : RunEnded o r h old new ending
+  pub ended : HasCome cause ending
   pub told : IsTold output.faults_before output.faults_now output.before output.after ended.text ending status
+
+-- the options of `run` came to this ending
+abbrev pub RunEnded : {S D F : Type 0} → RunTells S D F → RunWords → List Entry → (old new : Seen S D F) → Ending → Type 0
+RunEnded o r h old new ending = HasCome (RunCause o r h old new) ending
+
+-- the options of `run` ended with the status
+abbrev pub RunOutcome : {S D F : Type 0} → RunTells S D F → RunWords → Written → List Entry → (old new : Seen S D F) → (status : ℕ) → Type 0
+RunOutcome o r output h old new status = HasTold (RunCause o r h old new) output status
 
 -- no command that is built is spelled, and that was told
 pub record AreBadWords {S D F : Type 0} (words : List (List ℕ)) (output : Written) (h : List Entry) (old new : Seen S D F) (status : ℕ) : Type 0 where
@@ -158,14 +170,16 @@ IsSoundRegistry m (Mapping id) old new = IsSoundDisk m old new
 
 -- no fault: the input tells its bytes, and no count of faults of the input or of a disk of a run rose or stands at its last
 -- value, and these disks are honest
-pub record IsSoundRun {S D F : Type 0} (o : RunTells S D F) (r : RunWords) (old new : Seen S D F) : Type 0 where
+pub record AreSoundDevices {S D F : Type 0} (o : RunTells S D F) (old new : Seen S D F) : Type 0 where
   pub told : IsSome (o.left old.input)
   pub no_input_fault : ¬ Rose (o.faults old.input) (o.faults new.input)
   pub honest : AreHonest o.run.disk old.disks.journal old.disks.spare
   pub honest_failures : o.run.disk.honest old.disks.failures ≡ true
   pub no_fault : ¬ OneRose o.run.disk old.disks.journal old.disks.spare new.disks.journal new.disks.spare
   pub no_failures_fault : ¬ Rose (o.run.disk.faults old.disks.failures) (o.run.disk.faults new.disks.failures)
-  pub registry : IsSoundRegistry o.run.disk r.which old.disks.registry new.disks.registry
+
+abbrev pub IsSoundRun : {S D F : Type 0} → RunTells S D F → RunWords → (old new : Seen S D F) → Type 0
+IsSoundRun o r old new = AreSoundDevices o old new × IsSoundRegistry o.run.disk r.which old.disks.registry new.disks.registry
 
 -- want of memory
 
@@ -173,7 +187,7 @@ pub record IsSoundRun {S D F : Type 0} (o : RunTells S D F) (r : RunWords) (old 
 pub record IsStoppedStream {S D F : Type 0} (o : RunTells S D F) (r : RunWords) (h : List Entry) (old new : Seen S D F) : Type 0 where
   pub mapping : NamedMapping
   pub files : FilesState D
-  pub ready : IsReadyFor o.run.disk r old new mapping files
+  pub ready : IsReadyFor o.run.disk (asked o r) old new mapping files
   pub kind : is_stream mapping.config.kind ≡ true
   pub run : stream.HasStoppedRun o.run o.left mapping.config mapping.start r.calls files old.input new.input old.callers h (devices_of new)
   pub read_first : r.read_first ≡ true → CallsFollowShut h
@@ -182,7 +196,7 @@ pub record IsStoppedStream {S D F : Type 0} (o : RunTells S D F) (r : RunWords) 
 pub record IsStoppedQueue {S D F : Type 0} (o : RunTells S D F) (r : RunWords) (h : List Entry) (old new : Seen S D F) : Type 0 where
   pub mapping : NamedMapping
   pub files : FilesState D
-  pub ready : IsReadyFor o.run.disk r old new mapping files
+  pub ready : IsReadyFor o.run.disk (asked o r) old new mapping files
   pub kind : is_stream mapping.config.kind ≡ false
   pub run : queue.HasStoppedRun o.run o.left mapping.config r.calls (visibility_of r) files old.input new.input old.callers h (devices_of new)
   pub read_first : r.read_first ≡ true → CallsFollowShut h
@@ -193,4 +207,4 @@ IsStoppedOf o r h old new = IsStoppedStream o r h old new ⊎ IsStoppedQueue o r
 
 -- it stopped these options of `run`: before anything came; in the run; or when the run had ended and was to be told
 abbrev pub IsCutOf : {S D F : Type 0} → RunTells S D F → RunWords → List Entry → (old new : Seen S D F) → Type 0
-IsCutOf o r h old new = HasNotBegun o.run.disk r h old new ⊎ (IsStoppedOf o r h old new ⊎ ((e : Ending) × RunEnded o r h old new e))
+IsCutOf o r h old new = HasNotBegun o.run.disk (asked o r) h old new ⊎ (IsStoppedOf o r h old new ⊎ ((e : Ending) × RunEnded o r h old new e))

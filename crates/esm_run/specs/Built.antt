@@ -3,7 +3,7 @@
 use Rattle.std.specs.Prelude.{◌≡◌, ℕ, Bool, true, false, List}
 use Rattle.esm_cli.specs.Words.{spells}
 use Rattle.esm_cli.specs.declared.command.Command.{Command}
-use Rattle.esm_cli.specs.declared.command.Command.TheVariants.{Init, Run, Show, Failures, Gen, Compact, Serve, Migrate}
+use Rattle.esm_cli.specs.declared.command.Command.TheVariants.{Init, Run, Show, Failures, Gen, Compact, Serve, Migrate, Ddb}
 
 abbrev pub is_built : Command → Bool
 is_built Init = true
@@ -14,6 +14,7 @@ is_built (Gen records) = true
 is_built Compact = true
 is_built (Serve requests) = true
 is_built Migrate = true
+is_built (Ddb config calls timeout) = true
 is_built _ = false
 
 -- the words spell the command, and it is built

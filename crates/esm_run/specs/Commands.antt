@@ -2,10 +2,12 @@
 -- definition the world comes first as it was handed in, and then as it was handed back. This product's own.
 use Rattle.std.specs.Prelude.{◌≡◌, ◌⊎◌, ℕ, List}
 use Rattle.esm_cli.specs.declared.command.Command.{Command}
-use Rattle.esm_cli.specs.declared.command.Command.TheVariants.{Init, Run, Show, Failures, Gen, Compact, Serve, Migrate}
+use Rattle.esm_cli.specs.declared.command.Command.TheVariants.{Init, Run, Show, Failures, Gen, Compact, Serve, Migrate, Ddb}
 use Rattle.esm_io.specs.Faults.{Rose}
-use Rattle.esm_run.specs.Answers.{AreBadWords, IsCutOf, IsRegistryLeft, IsSoundRun, IsUntouched, RunOutcome}
+use Rattle.esm_run.specs.Answers.{AreBadWords, AreSoundDevices, IsCutOf, IsSoundRun, IsUntouched, RunOutcome}
+use Rattle.esm_run.specs.Asks.{IsRegistryLeft}
 use Rattle.esm_run.specs.Built.{SpellsBuilt}
+use Rattle.esm_run.specs.Ddb.{DdbOutcome, IsDdbCut}
 use Rattle.esm_run.specs.Generated.{GenOutcome, IsGenCut}
 use Rattle.esm_run.specs.Serve.{IsServeCut, IsSoundServe, ServeOutcome}
 use Rattle.esm_run.specs.Tended.{AreLeft, AreSoundUnder, FilesOutcome, IsCompactCut}
@@ -24,6 +26,7 @@ FilesEnded t f old new status = FilesOutcome t.disk (disks_in old) (disks_in new
 -- the command ended with the status: why, and what was told
 abbrev pub HasEnded : {S K D C F L N : Type 0} → DevicesTell S K D F L N → Command → (old new : World S K D C F L) → (status : ℕ) → Type 0
 HasEnded t (Run r) old new status = RunOutcome (of_run t) r (output t old new) (history new) (seen old) (seen new) status
+HasEnded t (Ddb config calls timeout) old new status = DdbOutcome (of_run t) config calls (output t old new) (history new) (seen old) (seen new) status
 HasEnded t (Gen records) old new status = GenOutcome records (output t old new) (history new) status
 HasEnded t (Serve requests) old new status = ServeOutcome (of_serve t) old.registry new.registry (door t old new) (output t old new) requests status
 HasEnded t Init old new status = FilesEnded t files.Init old new status
@@ -44,6 +47,7 @@ Outcome t words old new status =
 -- the devices that the command uses are honest, tell, and did not fail; the output aside
 abbrev pub IsSound : {S K D C F L N : Type 0} → DevicesTell S K D F L N → Command → (old new : World S K D C F L) → Type 0
 IsSound t (Run r) old new = IsSoundRun (of_run t) r (seen old) (seen new)
+IsSound t (Ddb config calls timeout) old new = AreSoundDevices (of_run t) (seen old) (seen new)
 IsSound t (Serve requests) old new = IsSoundServe (of_serve t) old.registry new.registry (door t old new)
 IsSound t Init old new = AreSoundUnder t.disk (disks_in old) (disks_in new) files.Init
 IsSound t Show old new = AreSoundUnder t.disk (disks_in old) (disks_in new) (files.Upkeep upkeep.Show)
@@ -67,6 +71,7 @@ pub record AreFilesLeft {S K D C F L N : Type 0} (t : DevicesTell S K D F L N) (
 -- what the command changed at most, and what is left of its files
 abbrev pub IsLeft : {S K D C F L N : Type 0} → DevicesTell S K D F L N → Command → (old new : World S K D C F L) → Type 0
 IsLeft t (Run r) old new = IsRegistryLeft t.disk r.which old.registry new.registry
+IsLeft t (Ddb config calls timeout) old new = new.registry ≡ old.registry
 IsLeft t (Gen records) old new = new ≡ record old { out = new.out; trace = new.trace }
 IsLeft t (Serve requests) old new = new ≡ record old { out = new.out; registry = new.registry; door = new.door }
 IsLeft t Init old new = AreFilesLeft t files.Init old new
@@ -81,6 +86,7 @@ IsLeft t _ old new = Unit {0}
 -- how far the command came; of `init`, `show`, `failures` and `migrate` no more is said than what they leave
 abbrev pub IsCut : {S K D C F L N : Type 0} → DevicesTell S K D F L N → Command → (old new : World S K D C F L) → Type 0
 IsCut t (Run r) old new = IsCutOf (of_run t) r (history new) (seen old) (seen new)
+IsCut t (Ddb config calls timeout) old new = IsDdbCut (of_run t) config calls (history new) (seen old) (seen new)
 IsCut t (Gen records) old new = IsGenCut records (history new)
 IsCut t (Serve requests) old new = IsServeCut (of_serve t) old.registry new.registry (door t old new)
 IsCut t Compact old new = IsCompactCut t.disk (disks_in old) (disks_in new)

@@ -3,6 +3,11 @@ use Rattle.std.specs.Prelude.{◌≡◌, ◌⊎◌, ℕ, List, ◌++◌, codes, 
 use Rattle.esm_io.specs.Told.{Grows}
 use Rattle.esm_io.specs.Faults.{Rose}
 use Rattle.esm_config.specs.Names.{name_of as param_name}
+use Rattle.esm_ddb.specs.Change.{name_of as ddb_name_of}
+use Rattle.esm_ddb.specs.declared.error.DdbError.{DdbError}
+use Rattle.esm_ddb.specs.declared.error.DdbError.TheVariants as ddb
+use Rattle.esm_ddb.specs.declared.input.InputTurned.{InputTurned}
+use Rattle.esm_ddb.specs.declared.input.InputTurned.TheVariants as turned
 use Rattle.esm_mapping.specs.declared.named.MappingError.{MappingError}
 use Rattle.esm_mapping.specs.declared.named.MappingError.TheVariants as mapping
 use Rattle.esm_record.specs.Line.{name_of}
@@ -30,6 +35,13 @@ why_text (Backwards kept given) = codes "Backwards kept " ++ kept ++ codes " giv
 why_text LineTooLong = codes "LineTooLong"
 why_text (Repeated id) = codes "Repeated " ++ id
 
+-- why a line of a DynamoDB stream was refused
+abbrev pub ddb_why_text : DdbError → List ℕ
+ddb_why_text ddb.NotJson = codes "NotJson"
+ddb_why_text (ddb.Missing field) = codes "Missing " ++ ddb_name_of field
+ddb_why_text (ddb.BadField field) = codes "BadField " ++ ddb_name_of field
+ddb_why_text ddb.LineTooLong = codes "LineTooLong"
+
 -- where every record or message has its fate, and no window is outstanding
 abbrev pub ending_of_reading : InputEnd → Ending
 ending_of_reading ends.End = ending.Done
@@ -44,6 +56,23 @@ ending_of run.CallsSpent = ending.CallsSpent
 ending_of run.DiskFault = ending.DiskFault
 ending_of run.DestFault = ending.DestFault
 ending_of (run.Changed change) = ending.StreamChanged change
+
+-- of the run of a DynamoDB stream's mapping, by how the reading of its input ended: where all that was turned of it has its fate,
+-- this tells of the input
+abbrev pub ending_of_turned : InputTurned → Ending
+ending_of_turned turned.Ended = ending.Done
+ending_of_turned (turned.BadLine bad) = ending.BadLine bad.line (ddb_why_text bad.why)
+ending_of_turned turned.Failed = ending.InputFault
+
+abbrev pub ending_of_ddb : InputTurned → MappingEnd → Ending
+ending_of_ddb t (run.Finished ends.End) = ending_of_turned t
+ending_of_ddb t (run.Finished (ends.BadLine bad)) = ending_of_reading (ends.BadLine bad)
+ending_of_ddb t (run.Finished ends.Fault) = ending_of_reading ends.Fault
+ending_of_ddb t (run.Finished (ends.Limit limit)) = ending_of_reading (ends.Limit limit)
+ending_of_ddb t run.CallsSpent = ending.CallsSpent
+ending_of_ddb t run.DiskFault = ending.DiskFault
+ending_of_ddb t run.DestFault = ending.DestFault
+ending_of_ddb t (run.Changed change) = ending.StreamChanged change
 
 abbrev pub file_of : JournalFile → FileName
 file_of file.Journal = name.Journal

@@ -1,7 +1,7 @@
 -- The headline: what the run of a stream's mapping leaves, clause by clause. This product's own.
-use Rattle.std.specs.Prelude.{◌≡◌, ℕ, true, List, Some}
-use Rattle.esm_cli.specs.declared.command.RunWords.{RunWords}
+use Rattle.std.specs.Prelude.{◌≡◌, ℕ, Bool, true, List, Option, Some}
 use Rattle.esm_ledger.specs.Ledger.{LegalOver}
+use Rattle.esm_model.specs.declared.book.Trouble.{Trouble}
 use Rattle.esm_model.specs.declared.book.Trouble.TheVariants.{Disk}
 use Rattle.esm_model.specs.declared.entry.Entry.{Entry}
 use Rattle.esm_model.specs.Earned.{FateIsEarned}
@@ -11,36 +11,34 @@ use Rattle.esm_model.specs.Setting.{Setting}
 use Rattle.esm_runner.specs.Given.{AreGiven}
 use Rattle.esm_runner.specs.Ran.{NoneRuns}
 use Rattle.esm_report.specs.Report.{report_text}
-use Rattle.esm_runner.specs.Ended.{trouble_of}
+use Rattle.esm_report.specs.declared.ending.Ending.{Ending}
 use Rattle.esm_runner.specs.Files.{FilesState}
-use Rattle.esm_runner.specs.Headline.{AnswersAreLogged, CallsMade, CheckpointIsRecorded, CrashKept, FailureLinesKept, FatesAreRecorded, IsInHand, JournalKept, JournalStopped}
-use Rattle.esm_runner.specs.declared.run.MappingEnd.{MappingEnd}
-use Rattle.esm_run.specs.Endings.{ending_of}
-use Rattle.esm_run.specs.World.{RunTells, Seen, devices_of}
+use Rattle.esm_runner.specs.Headline.{AnswersAreLogged, CallsMade, CheckpointIsRecorded, CrashKept, FailureLinesKept, FatesAreRecorded, IsInHand, JournalKept, JournalStopped, Devices, Telling}
 
--- The run of these options over these files and this setting left this history, newest entry first, and this text, and ended
--- so. In hand is the entry, if there is one, whose payload may stand in the journal though it is not in the history.
-pub record Headline {S D F : Type 0} (o : RunTells S D F) (r : RunWords) (f : FilesState D) (s : Setting) (h : List Entry) (end : MappingEnd) (hand : List Entry) (old new : Seen S D F) (text : List ℕ) : Type 0 where
+-- The run over these files and this setting left this history, newest entry first, and this text, and ended so, by this trouble
+-- of the book, if by any. In hand is the entry, if there is one, whose payload may stand in the journal though it is not in the
+-- history. The callers are seen as they were handed in, and the devices as they were left.
+pub record Headline {D F : Type 0} (t : Telling D F) (first : Bool) (f : FilesState D) (s : Setting) (h : List Entry) (trouble : Option Trouble) (ending : Ending) (hand : List Entry) (old : List F) (new : Devices D F) (text : List ℕ) : Type 0 where
   -- each entry may follow those before it, over every list of records that goes on from those that came
   pub legal_trace : LegalOver s h
   -- each moment is one that the clock gave, at most the greatest, or that of the entry before it where that is later
-  pub moments : AreGiven o.run.callers.gave h
+  pub moments : AreGiven t.callers.gave h
   -- caller k's log, where told, is the old one followed by the calls of batcher k, and no lane is running
-  pub calls_made : CallsMade o.run s h old.callers new.callers
+  pub calls_made : CallsMade t s h old new.callers
   pub none_runs : NoneRuns h
   -- the journal's content is the old one followed by the payloads of the history, in order
-  pub journal_kept : (trouble_of end ≡ Some Disk → ⊥) → JournalKept o.run f s h (devices_of new)
+  pub journal_kept : (trouble ≡ Some Disk → ⊥) → JournalKept t f s h new
   -- and where a disk of it failed, perhaps by one further whole payload, that of the entry in hand
-  pub journal_stopped : trouble_of end ≡ Some Disk → JournalStopped o.run f s h hand (devices_of new)
+  pub journal_stopped : trouble ≡ Some Disk → JournalStopped t f s h hand new
   -- at any moment since the run's start a crash leaves the old content followed by a prefix of these payloads; where a disk of
   -- the journal failed, perhaps by one further, that of the entry in hand
-  pub crash_kept : CrashKept o.run f s h hand (devices_of new)
-  pub in_hand : IsInHand (trouble_of end) hand
-  -- the failure file's lines are the old ones followed by those of the history, in order; where a disk failed, perhaps by one
-  -- further line
-  pub failure_lines_kept : FailureLinesKept o.run f (trouble_of end) h hand (devices_of new)
+  pub crash_kept : CrashKept t f s h hand new
+  pub in_hand : IsInHand trouble hand
+  -- the failure file's lines are the old ones followed by what is delivered of those of the history, in order; where a disk
+  -- failed, perhaps by one further line
+  pub failure_lines_kept : FailureLinesKept t f trouble h hand new
   -- what is told is the report of the history and of its ending
-  pub report_told : text ≡ report_text s h (ending_of end)
+  pub report_told : text ≡ report_text s h ending
   -- for each call and each record of its batch every earlier record of that shard with the same key, outside the batch, has its
   -- fate before the call begins
   pub order_per_key : OrderPerKey s h
@@ -59,6 +57,6 @@ pub record Headline {S D F : Type 0} (o : RunTells S D F) (r : RunWords) (f : Fi
   -- each fate is earned: by the answer to a call, by the filter, by the age at its moment, or by more failed tries than are
   -- allowed; and the answer stands in the log of its lane's caller
   pub fate_is_earned : FateIsEarned s h
-  pub answers_are_logged : AnswersAreLogged o.run s h
+  pub answers_are_logged : AnswersAreLogged t s h
   -- with `--read-first` no call begins before the end of the input was noted
-  pub read_first : r.read_first ≡ true → CallsFollowShut h
+  pub read_first : first ≡ true → CallsFollowShut h

@@ -7,7 +7,10 @@ pub mod Serving
 pub mod Serve
 pub mod Generated
 pub mod Headline
+pub mod Asks
 pub mod Answers
+pub mod Ddb
+pub mod Under
 pub mod Commands
 pub mod Asked
 pub mod Refusals

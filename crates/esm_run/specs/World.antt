@@ -1,6 +1,8 @@
 -- What devices tell, each time as one value, so that a contract is handed one argument for it, and what is seen of a world
 -- before and after a command. This product's own.
 use Rattle.std.specs.Prelude.{ℕ, Bool, List, Option, reverse}
+use Rattle.esm_ddb.specs.Event.{ddb_event}
+use Rattle.esm_ddb.specs.FailureLine.{ddb_line}
 use Rattle.esm_workers.specs.Working.{outside}
 use Rattle.esm_folder.specs.declared.disks.Disks.{Disks}
 use Rattle.esm_io.specs.declared.caller.Caller.{Ghosts as Caller}
@@ -69,6 +71,11 @@ pub record RunTells (S D F : Type 0) : Type 1 where
 
 abbrev pub run_tells : {S D C F : Type 0} → Clock C → Caller F → Disk D → Source S → RunTells S D F
 run_tells clock caller disk source = record { run = telling (outside clock.gave caller.sends caller.log) (meaning disk) (λ line. line); faults = source.faults; left = source.left }
+
+-- the same of a run over a DynamoDB stream: of each event its callers are handed `ddb_event`, with its elements in place of the
+-- records, and of each line its failure file is handed `ddb_line`, with the table's name; each may leave one as it is
+abbrev pub ddb_tells : {S D F : Type 0} → RunTells S D F → Telling D F
+ddb_tells o = telling (outside o.run.callers.gave (λ event. o.run.callers.sends (ddb_event event)) o.run.callers.log) o.run.disk ddb_line
 
 -- what those of `serve` tell: which moments the clock gave, what connections tell, how often they failed, and what the
 -- registry's disk means

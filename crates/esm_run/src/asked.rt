@@ -7,6 +7,7 @@ ghost use Rattle.esm_run.specs.Built.{is_built};
 use crate::built::built_command;
 use crate::tending::{FilesCommand, Upkeep};
 use esm_cli::{Command, RunWords, WordsError};
+use esm_model::Text;
 use std::alloc::Global;
 
 /// What words ask for, by what it is over.
@@ -15,11 +16,21 @@ pub enum Asked {
     /// A command over the four files alone.
     Files(FilesCommand),
     /// That so many connections are served.
-    Serve { requests: u32 },
+    Serve {
+        requests: u32,
+    },
     /// That a generated stream of so many records runs.
-    Gen { records: u32 },
+    Gen {
+        records: u32,
+    },
     /// A run.
     Run(RunWords),
+    /// That the mapping of a DynamoDB stream runs, with so many calls at most.
+    Ddb {
+        config: Text,
+        calls: u32,
+        timeout: u32,
+    },
     /// Nothing, since the words give no command.
     Nothing(WordsError),
 }
@@ -38,6 +49,15 @@ fn part(command: Command) -> Asked
         Command::Serve { requests } => Asked::Serve { requests },
         Command::Gen { records } => Asked::Gen { records },
         Command::Run(options) => Asked::Run(options),
+        Command::Ddb {
+            config,
+            calls,
+            timeout,
+        } => Asked::Ddb {
+            config,
+            calls,
+            timeout,
+        },
         _ => unreachable!(),
     }
 }

@@ -20,7 +20,8 @@ fn is_built(command: &Command) -> bool
         | Command::Gen { .. }
         | Command::Compact
         | Command::Serve { .. }
-        | Command::Migrate => true,
+        | Command::Migrate
+        | Command::Ddb { .. } => true,
         _ => false,
     }
 }

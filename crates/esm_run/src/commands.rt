@@ -6,7 +6,8 @@ ghost use Rattle.esm_report.specs.declared.ending.Ending.{Ending};
 ghost use Rattle.esm_report.specs.declared.ending.Ending.TheVariants.{BadWords};
 ghost use Rattle.esm_report.specs.Report.{last_line, stands_alone};
 ghost use Rattle.esm_run.specs.Endings.{IsTold};
-ghost use Rattle.esm_run.specs.Answers.{RunOutcome, IsCutOf, IsRegistryLeft};
+ghost use Rattle.esm_run.specs.Answers.{RunOutcome, IsCutOf};
+ghost use Rattle.esm_run.specs.Asks.{IsRegistryLeft};
 ghost use Rattle.esm_run.specs.Ran.{IsReport};
 ghost use Rattle.esm_run.specs.World.{run_tells, seen, written_of};
 
@@ -83,7 +84,7 @@ fn report_of(
 }
 
 /// Tells how a run ended, and answers the exit status.
-fn tell_end<K: Sink>(
+pub fn tell_end<K: Sink>(
     alloc: Global,
     out: &mut K,
     end: &Result<Ending, OutOfMemory>,
@@ -134,6 +135,7 @@ pub fn run<
       trace = result.world.trace;
     } }
     ensures registry { IsRegistryLeft (meaning D.Disk) words.which world.registry result.world.registry }
+    ensures as_many { length result.world.callers.items ≡ MAX_LANES }
 {
     let World {
         input,

@@ -1,4 +1,4 @@
-// What became of the options of `run`, before it is told.
+// What became of a command that runs a mapping, before it is told.
 ghost use Rattle.std.specs.Prelude.{◌≡◌, [], IfOk};
 ghost use Rattle.esm_run.specs.Ran.{IsEndingOf};
 ghost use Rattle.esm_run.specs.World.{devices_left};
@@ -30,7 +30,7 @@ pub enum Began {
     Queue(Says),
 }
 
-/// What became of the options of `run`: how it ended, what began, its history with the oldest entry first, and the devices
+/// What became of a command that runs a mapping, `run` or `ddb`: how it ended, what began, its history with the oldest entry first, and the devices
 /// as they were left.
 #[derive(Drop)]
 pub struct Ran<S, D, F> {

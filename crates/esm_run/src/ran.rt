@@ -4,19 +4,19 @@ ghost use Rattle.esm_io.specs.Meanings.{disk as meaning};
 ghost use Rattle.esm_mapping.specs.Named.{IsNamed, MayRun};
 ghost use Rattle.esm_model.specs.Valid.{is_stream};
 ghost use Rattle.esm_model.specs.declared.limits.TheConstants.{MAX_LANES};
-ghost use Rattle.esm_run.specs.Answers.{AreGoodFiles, HasNotBegun, IsCutOf, IsRegistryLeft};
+ghost use Rattle.esm_run.specs.Answers.{IsCutOf, RunCause};
+ghost use Rattle.esm_run.specs.Asks.{IsRegistryLeft};
 ghost use Rattle.esm_run.specs.Ran.{EndsWith};
-ghost use Rattle.esm_run.specs.World.{disks, run_tells, seen_by, seen_of};
-ghost use Rattle.esm_run.specs.declared.left.Began.TheVariants as began;
+ghost use Rattle.esm_run.specs.World.{run_tells, seen_by, seen_of};
 
 use crate::left::{Ran, RunDevices, not_begun, queue_ran, stream_ran};
+use crate::opened::{Opened, closed};
 use crate::refusal::{ending_of_files, ending_of_mapping};
 use esm_cli::RunWords;
 use esm_io::{Caller, Clock, Disk, Source};
 use esm_mapping::{MappingRead, NamedMapping, read_mapping};
-use esm_model::{Kind, OutOfMemory};
-use esm_report::Ending;
-use esm_runner::{Files, Plain, open_files, run_queue, run_stream};
+use esm_model::Kind;
+use esm_runner::{Plain, open_files, run_queue, run_stream};
 use std::alloc::Global;
 use std::sync::Wait;
 use std::thread::Threads;
@@ -29,50 +29,6 @@ fn is_stream(kind: Kind) -> bool
         Kind::Standard => false,
         Kind::Fifo => false,
     }
-}
-
-/// The devices of a run whose files were opened.
-struct Opened<S, D: Disk, F> {
-    input: S,
-    files: Files<D>,
-    registry: D,
-    callers: Vec<F>,
-}
-
-/// No run began over opened files, which are closed. The registry was perhaps read before.
-fn closed<S, D: Disk, F>(
-    alloc: Global,
-    end: Result<Ending, OutOfMemory>,
-    words: &RunWords,
-    opened: Opened<S, D, F>,
-) -> Ran<S, D, F>
-    ensures end { result.end ≡ end }
-    ensures nothing { result.began ≡ began.Nothing }
-    ensures registry { result.devices.registry ≡ opened.registry }
-    ensures good { (registry : D) → AreGoodFiles (meaning D.Disk) (disks opened.files.journal opened.files.spare opened.files.failures registry) }
-    ensures not_begun { (registry : D) → IsRegistryLeft (meaning D.Disk) words.now.which registry opened.registry
-        → HasNotBegun (meaning D.Disk) words.now (reverse result.trace.items)
-        (seen_of opened.input opened.files.journal opened.files.spare opened.files.failures registry opened.callers.items)
-        (seen_by result.devices) }
-{
-    let _ = words;
-    let Opened {
-        input,
-        files,
-        registry,
-        callers,
-    } = opened;
-    files.keeps();
-    let (journal, spare, failures) = files.close();
-    let devices = RunDevices {
-        input,
-        journal,
-        spare,
-        failures,
-        registry,
-        callers,
-    };
-    not_begun(alloc, end, devices)
 }
 
 /// Runs the mapping that the words name, a stream's or a queue's, over the opened files. A queue's messages are hidden for
@@ -96,9 +52,9 @@ fn run_mapping<
     ensures ended { IfOk result.end (λ ending. (registry : D)
         → IsNamed (meaning D.Disk) words.now.which registry mapping
         → IsRegistryLeft (meaning D.Disk) words.now.which registry opened.registry
-        → EndsWith (run_tells C.Clock F.Caller D.Disk S.Source) words.now (reverse result.trace.items)
+        → EndsWith (RunCause (run_tells C.Clock F.Caller D.Disk S.Source) words.now (reverse result.trace.items)
         (seen_of opened.input opened.files.journal opened.files.spare opened.files.failures registry opened.callers.items)
-        (seen_by result.devices) result.began ending) }
+        (seen_by result.devices)) (reverse result.trace.items) result.began ending) }
     ensures stopped { OnErr result.end ((registry : D)
         → IsNamed (meaning D.Disk) words.now.which registry mapping
         → IsRegistryLeft (meaning D.Disk) words.now.which registry opened.registry
@@ -106,6 +62,7 @@ fn run_mapping<
         (seen_of opened.input opened.files.journal opened.files.spare opened.files.failures registry opened.callers.items)
         (seen_by result.devices)) }
     ensures registry { result.devices.registry ≡ opened.registry }
+    ensures as_many { length result.devices.callers.items ≡ MAX_LANES }
 {
     let Opened {
         input,
@@ -149,13 +106,14 @@ fn run_opened<
     F: Caller + Send,
 >(rt: &R, alloc: Global, words: &RunWords, opened: Opened<S, D, F>, clock: &C) -> Ran<S, D, F>
     requires callers { length opened.callers.items ≡ MAX_LANES }
-    ensures ended { IfOk result.end (EndsWith (run_tells C.Clock F.Caller D.Disk S.Source) words.now (reverse result.trace.items)
+    ensures ended { IfOk result.end (EndsWith (RunCause (run_tells C.Clock F.Caller D.Disk S.Source) words.now (reverse result.trace.items)
         (seen_of opened.input opened.files.journal opened.files.spare opened.files.failures opened.registry opened.callers.items)
-        (seen_by result.devices) result.began) }
+        (seen_by result.devices)) (reverse result.trace.items) result.began) }
     ensures stopped { OnErr result.end (IsCutOf (run_tells C.Clock F.Caller D.Disk S.Source) words.now (reverse result.trace.items)
         (seen_of opened.input opened.files.journal opened.files.spare opened.files.failures opened.registry opened.callers.items)
         (seen_by result.devices)) }
     ensures registry { IsRegistryLeft (meaning D.Disk) words.now.which opened.registry result.devices.registry }
+    ensures as_many { length result.devices.callers.items ≡ MAX_LANES }
 {
     let Opened {
         input,
@@ -172,7 +130,7 @@ fn run_opened<
     };
     match named {
         Ok(mapping) => run_mapping(rt, alloc, words, mapping, opened, clock),
-        Err(why) => closed(alloc, ending_of_mapping(alloc, why), words, opened),
+        Err(why) => closed(alloc, ending_of_mapping(alloc, why), opened),
     }
 }
 
@@ -185,11 +143,12 @@ pub fn run_words<
     F: Caller + Send,
 >(rt: &R, alloc: Global, words: RunWords, devices: RunDevices<S, D, F>, clock: &C) -> Ran<S, D, F>
     requires { length devices.callers.items ≡ MAX_LANES }
-    ensures ended { IfOk result.end (EndsWith (run_tells C.Clock F.Caller D.Disk S.Source) words (reverse result.trace.items)
-        (seen_by devices) (seen_by result.devices) result.began) }
+    ensures ended { IfOk result.end (EndsWith (RunCause (run_tells C.Clock F.Caller D.Disk S.Source) words (reverse result.trace.items)
+        (seen_by devices) (seen_by result.devices)) (reverse result.trace.items) result.began) }
     ensures stopped { OnErr result.end (IsCutOf (run_tells C.Clock F.Caller D.Disk S.Source) words (reverse result.trace.items)
         (seen_by devices) (seen_by result.devices)) }
     ensures registry { IsRegistryLeft (meaning D.Disk) words.which devices.registry result.devices.registry }
+    ensures as_many { length result.devices.callers.items ≡ MAX_LANES }
 {
     let RunDevices {
         input,

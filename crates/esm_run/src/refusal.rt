@@ -4,9 +4,10 @@ ghost use Rattle.esm_config.specs.Names.{name_of};
 ghost use Rattle.esm_input.specs.declared.ending.InputEnd.{InputEnd};
 ghost use Rattle.esm_record.specs.declared.error.LineError.TheVariants.{Backwards};
 ghost use Rattle.esm_report.specs.declared.ending.Ending.TheVariants.{BadParameter};
-ghost use Rattle.esm_run.specs.Endings.{why_text, ending_of, ending_of_reading, ending_of_files, ending_of_mapping, file_of};
+ghost use Rattle.esm_run.specs.Endings.{why_text, ddb_why_text, ending_of, ending_of_ddb, ending_of_reading, ending_of_turned, ending_of_files, ending_of_mapping, file_of};
 
 use esm_config::Param;
+use esm_ddb::{DdbError, InputTurned};
 use esm_folder::JournalFile;
 use esm_input::InputEnd;
 use esm_mapping::MappingError;
@@ -79,6 +80,49 @@ fn ending_of_reading(alloc: Global, end: InputEnd) -> Result<Ending, OutOfMemory
         }
         InputEnd::Fault => Ok(Ending::InputFault),
         InputEnd::Limit(limit) => Ok(Ending::Limit(limit)),
+    }
+}
+
+/// Why a line of a DynamoDB stream was refused, as the report tells it.
+fn ddb_why_text(alloc: Global, why: DdbError) -> Result<Text, OutOfMemory>
+    ensures { IfOk result (λ t. t ≡ ddb_why_text why) }
+{
+    match why {
+        DdbError::NotJson => text_of(alloc, "NotJson"),
+        DdbError::Missing(field) => joined(alloc, "Missing ", field.name()),
+        DdbError::BadField(field) => joined(alloc, "BadField ", field.name()),
+        DdbError::LineTooLong => text_of(alloc, "LineTooLong"),
+    }
+}
+
+/// The ending of a run in which every record that was turned has its fate.
+fn ending_of_turned(alloc: Global, end: InputTurned) -> Result<Ending, OutOfMemory>
+    ensures { IfOk result (λ ending. ending ≡ ending_of_turned end) }
+{
+    match end {
+        InputTurned::Ended => Ok(Ending::Done),
+        InputTurned::BadLine(bad) => {
+            let why = ddb_why_text(alloc, bad.why)?;
+            Ok(Ending::BadLine {
+                number: bad.line,
+                why,
+            })
+        }
+        InputTurned::Failed => Ok(Ending::InputFault),
+    }
+}
+
+/// The ending of the run of a DynamoDB stream's mapping over the lines that its input became, the reading of which ended so.
+pub fn ending_of_ddb(
+    alloc: Global,
+    turned: InputTurned,
+    end: MappingEnd,
+) -> Result<Ending, OutOfMemory>
+    ensures { IfOk result (λ ending. ending ≡ ending_of_ddb turned end) }
+{
+    match end {
+        MappingEnd::Finished(InputEnd::End) => ending_of_turned(alloc, turned),
+        _ => ending_of(alloc, end),
     }
 }
 

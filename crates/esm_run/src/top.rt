@@ -9,6 +9,7 @@ ghost use Rattle.esm_run.specs.World.{devices};
 
 use crate::asked::{Asked, asked_by};
 use crate::commands::{refuse, run};
+use crate::ddb::ddb;
 use crate::generating::generate;
 use crate::serving::serve;
 use crate::tending::tend;
@@ -16,17 +17,17 @@ use crate::world::{Ended, World};
 use esm_cli::laws::one_command;
 use esm_io::{Caller, Clock, Disk, Door, Sink, Source};
 use esm_journal_state::laws::same_told;
-use esm_mapping::laws::one_answer;
+use esm_mapping::laws::{one_answer, one_expected};
 use esm_record::laws::whole_goes_on;
 use std::alloc::Global;
 use std::sync::Wait;
 use std::thread::Threads;
 
-/// Does what the words of the command line ask for, and hands the world back with the exit status: 0 where `init` made
-/// the files, `show` told what the journal says or `failures` its lines, `compact` or `migrate` wrote the journal anew or
-/// found it of version 2, `run` read the input to its end and every record has its fate, or every message is deleted,
-/// `serve` served as many connections as it was asked to, or every record of the stream of `gen` has its fate; 1 where
-/// the calls allowed were spent before, also while more of the input was awaited; 2 where the words are no command that is
+/// Does what the words of the command line ask for, and hands the world back with the exit status: 0 where `init` made the
+/// files, `show` told what the journal says or `failures` its lines, `compact` or `migrate` wrote the journal anew or found
+/// it of version 2, `run` or `ddb` read the input to its end and every record has its fate, or every message is deleted,
+/// `serve` served as many connections as it was asked to, or every record of the stream of `gen` has its fate; 1 where the
+/// calls allowed were spent before, also while more of the input was awaited; 2 where the words are no command that is
 /// built; 3 at a bad line; 4 where the input failed; 5 where the output failed; 6 where a disk failed; 7 where the failure
 /// file failed in a run; 8 where `init` found a file that is not empty, or another command one that is no journal, is
 /// damaged or has a bad payload, or a record or message differs from the kept one; 9 where the mapping is unknown or
@@ -65,17 +66,24 @@ pub fn esm<
         IsLeft (devices C.Clock F.Caller D.Disk S.Source K.Sink L.Door L.Conn.Link) c world result.world }
     ensures untouched { ((c : Command) → ¬ SpellsBuilt (map string_bytes words.now) c) → result.world ≡ record world { out = result.world.out } }
     ensures clock { result.world.clock ≡ world.clock }
+    ensures as_many { length result.world.callers.items ≡ MAX_LANES }
     ensures door { ((requests : ℕ) → ¬ SpellsBuilt (map string_bytes words.now) (Command.Serve requests)) → result.world.door ≡ world.door }
 {
     one_command();
     whole_goes_on();
     same_told();
     one_answer::<D>();
+    one_expected();
     match asked_by(alloc, words) {
         Asked::Files(command) => tend(alloc, command, world),
         Asked::Serve { requests } => serve(alloc, requests, world),
         Asked::Gen { records } => generate(rt, alloc, records, world),
         Asked::Run(options) => run(rt, alloc, options, world),
+        Asked::Ddb {
+            config,
+            calls,
+            timeout: _,
+        } => ddb(rt, alloc, config, calls, world),
         Asked::Nothing(why) => refuse(alloc, why, world),
     }
 }

@@ -1,6 +1,6 @@
 use Rattle.std.proofs.Common.{ap, inr, reverse, subst}
 use Rattle.esm_run.specs.Ran.{IsReport}
-use Rattle.esm_run.specs.World.{seen, seen_by, written_of}
+use Rattle.esm_run.specs.World.{written_of}
 use Rattle.esm_run.proofs.Alone.{not_bad_words}
 use Rattle.esm_run.proofs.RunEndings.{told_run}
 use Rattle.esm_run.proofs.Results.{at_ok, by_result, if_ok}
@@ -14,7 +14,7 @@ tell_end-status-requires g c = λ nothing.
 pub returns-clause-outcome : goal.returns-clause-outcome
 returns-clause-outcome g c = λ known.
     let told = c.tell_end-status.ensures.told known in
-    told_run _ _ _ (seen c.args.world) (seen_by c.run_words-end.result.devices)
+    told_run _ _
     (written_of g.K.Sink.faults g.K.Sink.written c.args.world.out c.tell_end-status.new.out) c.tell_end-status.result c.run_words-end.result.began told.0 (reverse c.deref.result.now)
     (at_ok _ c.run_words-end.result.end told.0 told.1 c.run_words-end.ensures.ended) (ap reverse c.deref.ensures.value) told.2
 

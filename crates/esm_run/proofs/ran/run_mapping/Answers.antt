@@ -50,3 +50,9 @@ returns-else-is_stream-clause-stopped g c =
       failures = refl;
       opened = c.keeps.ensures;
     }) c.run_queue-run.ensures.read_first (sym c.is_stream.ensures ∙ c.if-is_stream.false) c.run_queue-run.result.end c.run_queue-run.ensures.ended c.run_queue-run.ensures.stopped))
+
+pub returns-then-is_stream-clause-as_many : goal.returns-then-is_stream-clause-as_many
+returns-then-is_stream-clause-as_many g c = rw c.stream_ran.ensures.devices c.run_stream-run.ensures.as_many
+
+pub returns-else-is_stream-clause-as_many : goal.returns-else-is_stream-clause-as_many
+returns-else-is_stream-clause-as_many g c = rw c.queue_ran.ensures.devices c.run_queue-run.ensures.as_many

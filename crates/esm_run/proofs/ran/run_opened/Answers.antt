@@ -1,5 +1,6 @@
-use Rattle.std.proofs.Common.{inl}
+use Rattle.std.proofs.Common.{◌∙◌, length, ap, inl, reverse, subst, sym}
 use Rattle.esm_io.specs.Meanings.{disk as meaning}
+use Rattle.esm_run.specs.Asks.{IsRegistryLeft}
 use Rattle.esm_run.proofs.Results.{at_err, at_ok, if_ok, on_err, with_err}
 use Rattle.esm_run.proofs.RunEndings.{mapping_ends, may_run, registry_left}
 use Rattle.esm_run.proofs.ran.run_opened.Goals as goal
@@ -30,16 +31,27 @@ pub returns-in-Err-clause-ended : goal.returns-in-Err-clause-ended
 returns-in-Err-clause-ended g c =
     let left = registry_left _ c.args.words.now.which c.args.opened.registry c.read_mapping-named.result.registry c.read_mapping-named.ensures.only_read c.read_mapping-named.ensures.untouched in
     rw (c.closed.ensures.end, c.closed.ensures.nothing)
-    (if_ok c.ending_of_mapping.result (λ e tells. mapping_ends _ _ _ _ _ (c.closed.ensures.not_begun c.args.opened.registry left) (c.closed.ensures.good c.args.opened.registry)
+    (if_ok c.ending_of_mapping.result (λ e tells. mapping_ends _ _ _ _ _ (record {
+      untouched = record { no_trace = ap reverse c.closed.ensures.no_trace; unread = c.closed.ensures.input; uncalled = ap (λ v. v.items) c.closed.ensures.callers };
+      unwritten = c.closed.ensures.unwritten;
+      registry = subst (λ disk. IsRegistryLeft (meaning g.D.Disk) c.args.words.now.which c.args.opened.registry disk) (sym c.closed.ensures.registry) left;
+    }) (c.closed.ensures.good c.args.opened.registry)
     c.in-Err.why e c.read_mapping-named.result.registry c.closed.ensures.registry
     (at_err _ c.read_mapping-named.result.named c.in-Err.why c.in-Err.is c.read_mapping-named.ensures.why) tells) c.ending_of_mapping.ensures)
 
 pub returns-in-Err-clause-stopped : goal.returns-in-Err-clause-stopped
 returns-in-Err-clause-stopped g c =
     let left = registry_left _ c.args.words.now.which c.args.opened.registry c.read_mapping-named.result.registry c.read_mapping-named.ensures.only_read c.read_mapping-named.ensures.untouched in
-    on_err c.closed.result.end _ (inl (c.closed.ensures.not_begun c.args.opened.registry left))
+    on_err c.closed.result.end _ (inl (record {
+      untouched = record { no_trace = ap reverse c.closed.ensures.no_trace; unread = c.closed.ensures.input; uncalled = ap (λ v. v.items) c.closed.ensures.callers };
+      unwritten = c.closed.ensures.unwritten;
+      registry = subst (λ disk. IsRegistryLeft (meaning g.D.Disk) c.args.words.now.which c.args.opened.registry disk) (sym c.closed.ensures.registry) left;
+    }))
 
 pub returns-in-Err-clause-registry : goal.returns-in-Err-clause-registry
 returns-in-Err-clause-registry g c =
     rw c.closed.ensures.registry
     (registry_left _ c.args.words.now.which c.args.opened.registry c.read_mapping-named.result.registry c.read_mapping-named.ensures.only_read c.read_mapping-named.ensures.untouched)
+
+pub returns-in-Err-clause-as_many : goal.returns-in-Err-clause-as_many
+returns-in-Err-clause-as_many g c = ap (λ v. length v.items) c.closed.ensures.callers ∙ c.requires.callers

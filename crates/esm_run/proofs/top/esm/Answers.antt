@@ -1,7 +1,7 @@
-use Rattle.std.proofs.Common.{◌∙◌, ap, inl, inr, reverse}
+use Rattle.std.proofs.Common.{◌∙◌, length, ap, inl, inr, reverse}
 use Rattle.std.specs.Prelude.{map}
 use Rattle.std.specs.String.{string_bytes}
-use Rattle.esm_cli.specs.declared.command.Command.TheVariants.{Gen, Run, Serve}
+use Rattle.esm_cli.specs.declared.command.Command.TheVariants.{Ddb, Gen, Run, Serve}
 use Rattle.esm_journal_state.specs.Meaning.{history}
 use Rattle.esm_run.specs.Commands.{IsLeft}
 use Rattle.esm_run.specs.Tended.{command_of}
@@ -32,6 +32,11 @@ returns-in-Files-clause-exact g c = λ known sound other is.
         no_reason = c.one_answer.ensures.no_reason;
         one_reason = c.one_answer.ensures.one_reason;
       };
+      one_expected = record {
+        one_mapping = c.one_expected.ensures.one_mapping;
+        no_reason = c.one_expected.ensures.no_reason;
+        one_reason = c.one_expected.ensures.one_reason;
+      };
     }) sound is (inl ((command_of c.in-Files.command), c.in-Files.ensures, files_ended t c.args.world c.tend.result.world c.in-Files.command c.tend.result.status (c.tend.ensures.outcome known)))
 
 pub returns-in-Files-clause-bad_words : goal.returns-in-Files-clause-bad_words
@@ -52,6 +57,9 @@ returns-in-Files-clause-left g c = λ d spelled.
 
 pub returns-in-Files-clause-untouched : goal.returns-in-Files-clause-untouched
 returns-in-Files-clause-untouched g c = λ none. absurd (none (command_of c.in-Files.command) c.in-Files.ensures)
+
+pub returns-in-Files-clause-as_many : goal.returns-in-Files-clause-as_many
+returns-in-Files-clause-as_many g c = ap (λ w. length w.callers.items) c.tend.ensures.kept ∙ c.requires.callers
 
 pub returns-in-Files-clause-clock : goal.returns-in-Files-clause-clock
 returns-in-Files-clause-clock g c = ap (λ w. w.clock) c.tend.ensures.kept
@@ -78,6 +86,11 @@ returns-in-Serve-clause-exact g c = λ known sound other is.
         no_reason = c.one_answer.ensures.no_reason;
         one_reason = c.one_answer.ensures.one_reason;
       };
+      one_expected = record {
+        one_mapping = c.one_expected.ensures.one_mapping;
+        no_reason = c.one_expected.ensures.no_reason;
+        one_reason = c.one_expected.ensures.one_reason;
+      };
     }) sound is (inl ((Serve c.in-Serve.requests), c.in-Serve.ensures, c.serve.ensures.outcome known))
 
 pub returns-in-Serve-clause-bad_words : goal.returns-in-Serve-clause-bad_words
@@ -98,6 +111,9 @@ returns-in-Serve-clause-left g c = λ d spelled.
 
 pub returns-in-Serve-clause-untouched : goal.returns-in-Serve-clause-untouched
 returns-in-Serve-clause-untouched g c = λ none. absurd (none (Serve c.in-Serve.requests) c.in-Serve.ensures)
+
+pub returns-in-Serve-clause-as_many : goal.returns-in-Serve-clause-as_many
+returns-in-Serve-clause-as_many g c = ap (λ w. length w.callers.items) c.serve.ensures.kept ∙ c.requires.callers
 
 pub returns-in-Serve-clause-clock : goal.returns-in-Serve-clause-clock
 returns-in-Serve-clause-clock g c = ap (λ w. w.clock) c.serve.ensures.kept
@@ -124,6 +140,11 @@ returns-in-Gen-clause-exact g c = λ known sound other is.
         no_reason = c.one_answer.ensures.no_reason;
         one_reason = c.one_answer.ensures.one_reason;
       };
+      one_expected = record {
+        one_mapping = c.one_expected.ensures.one_mapping;
+        no_reason = c.one_expected.ensures.no_reason;
+        one_reason = c.one_expected.ensures.one_reason;
+      };
     }) sound is (inl ((Gen c.in-Gen.records), c.in-Gen.ensures, c.generate.ensures.outcome known))
 
 pub returns-in-Gen-clause-bad_words : goal.returns-in-Gen-clause-bad_words
@@ -144,6 +165,9 @@ returns-in-Gen-clause-left g c = λ d spelled.
 
 pub returns-in-Gen-clause-untouched : goal.returns-in-Gen-clause-untouched
 returns-in-Gen-clause-untouched g c = λ none. absurd (none (Gen c.in-Gen.records) c.in-Gen.ensures)
+
+pub returns-in-Gen-clause-as_many : goal.returns-in-Gen-clause-as_many
+returns-in-Gen-clause-as_many g c = ap (λ w. length w.callers.items) c.generate.ensures.kept ∙ c.requires.callers
 
 pub returns-in-Gen-clause-clock : goal.returns-in-Gen-clause-clock
 returns-in-Gen-clause-clock g c = ap (λ w. w.clock) c.generate.ensures.kept
@@ -169,6 +193,11 @@ returns-in-Run-clause-exact g c = λ known sound other is.
         one_mapping = c.one_answer.ensures.one_mapping;
         no_reason = c.one_answer.ensures.no_reason;
         one_reason = c.one_answer.ensures.one_reason;
+      };
+      one_expected = record {
+        one_mapping = c.one_expected.ensures.one_mapping;
+        no_reason = c.one_expected.ensures.no_reason;
+        one_reason = c.one_expected.ensures.one_reason;
       };
     }) sound is (inl ((Run c.in-Run.options), c.in-Run.ensures, c.run.ensures.outcome known))
 
@@ -197,6 +226,57 @@ returns-in-Run-clause-clock g c = ap (λ w. w.clock) c.run.ensures.kept
 pub returns-in-Run-clause-door : goal.returns-in-Run-clause-door
 returns-in-Run-clause-door g c = λ none. ap (λ w. w.door) c.run.ensures.kept
 
+-- `ddb`
+
+pub returns-in-Ddb-clause-outcome : goal.returns-in-Ddb-clause-outcome
+returns-in-Ddb-clause-outcome g c = λ known.
+    inl ((Ddb c.in-Ddb.config c.in-Ddb.calls c.in-Ddb.timeout), c.in-Ddb.ensures, c.ddb.ensures.outcome known)
+
+pub returns-in-Ddb-clause-exact : goal.returns-in-Ddb-clause-exact
+returns-in-Ddb-clause-exact g c = λ known sound other is.
+    let t = devices g.C.Clock g.F.Caller g.D.Disk g.S.Source g.K.Sink g.L.Door g.L.Conn.Link in
+    one_outcome t (map string_bytes c.args.words.now) c.args.world c.ddb.result.world other c.ddb.result.status
+    (record {
+      one_command = c.one_command.ensures;
+      whole_goes_on = c.whole_goes_on.ensures;
+      same_told = λ t u payloads. c.same_told.ensures t u (history payloads) (history payloads);
+      one_answer = record {
+        one_mapping = c.one_answer.ensures.one_mapping;
+        no_reason = c.one_answer.ensures.no_reason;
+        one_reason = c.one_answer.ensures.one_reason;
+      };
+      one_expected = record {
+        one_mapping = c.one_expected.ensures.one_mapping;
+        no_reason = c.one_expected.ensures.no_reason;
+        one_reason = c.one_expected.ensures.one_reason;
+      };
+    }) sound is (inl ((Ddb c.in-Ddb.config c.in-Ddb.calls c.in-Ddb.timeout), c.in-Ddb.ensures, c.ddb.ensures.outcome known))
+
+pub returns-in-Ddb-clause-bad_words : goal.returns-in-Ddb-clause-bad_words
+returns-in-Ddb-clause-bad_words g c = λ bad. absurd (c.ddb.ensures.good_words bad)
+
+pub returns-in-Ddb-clause-spelled : goal.returns-in-Ddb-clause-spelled
+returns-in-Ddb-clause-spelled g c = λ good known. ((Ddb c.in-Ddb.config c.in-Ddb.calls c.in-Ddb.timeout), c.in-Ddb.ensures)
+
+pub returns-in-Ddb-clause-want_of_memory : goal.returns-in-Ddb-clause-want_of_memory
+returns-in-Ddb-clause-want_of_memory g c = λ short.
+    let t = devices g.C.Clock g.F.Caller g.D.Disk g.S.Source g.K.Sink g.L.Door g.L.Conn.Link in
+    stopped_at t c.args.world c.ddb.result.world (map string_bytes c.args.words.now) (Ddb c.in-Ddb.config c.in-Ddb.calls c.in-Ddb.timeout) c.one_command.ensures c.in-Ddb.ensures (c.ddb.ensures.untold short) (c.ddb.ensures.want_of_memory short)
+
+pub returns-in-Ddb-clause-left : goal.returns-in-Ddb-clause-left
+returns-in-Ddb-clause-left g c = λ d spelled.
+    let t = devices g.C.Clock g.F.Caller g.D.Disk g.S.Source g.K.Sink g.L.Door g.L.Conn.Link in
+    by_command (λ d. IsLeft t d c.args.world c.ddb.result.world) (map string_bytes c.args.words.now) (Ddb c.in-Ddb.config c.in-Ddb.calls c.in-Ddb.timeout) c.one_command.ensures c.in-Ddb.ensures (c.ddb.ensures.registry) d spelled
+
+pub returns-in-Ddb-clause-untouched : goal.returns-in-Ddb-clause-untouched
+returns-in-Ddb-clause-untouched g c = λ none. absurd (none (Ddb c.in-Ddb.config c.in-Ddb.calls c.in-Ddb.timeout) c.in-Ddb.ensures)
+
+pub returns-in-Ddb-clause-clock : goal.returns-in-Ddb-clause-clock
+returns-in-Ddb-clause-clock g c = c.ddb.ensures.kept.0
+
+pub returns-in-Ddb-clause-door : goal.returns-in-Ddb-clause-door
+returns-in-Ddb-clause-door g c = λ none. c.ddb.ensures.kept.1
+
 -- no command
 
 pub returns-in-Nothing-clause-outcome : goal.returns-in-Nothing-clause-outcome
@@ -221,6 +301,11 @@ returns-in-Nothing-clause-exact g c = λ known sound other is.
         no_reason = c.one_answer.ensures.no_reason;
         one_reason = c.one_answer.ensures.one_reason;
       };
+      one_expected = record {
+        one_mapping = c.one_expected.ensures.one_mapping;
+        no_reason = c.one_expected.ensures.no_reason;
+        one_reason = c.one_expected.ensures.one_reason;
+      };
     }) sound is
     (inr (record {
       none_spelled = c.in-Nothing.ensures (c.refuse.ensures.told known).0;
@@ -244,6 +329,9 @@ returns-in-Nothing-clause-left g c = λ d spelled.
 
 pub returns-in-Nothing-clause-untouched : goal.returns-in-Nothing-clause-untouched
 returns-in-Nothing-clause-untouched g c = λ none. c.refuse.ensures.same
+
+pub returns-in-Nothing-clause-as_many : goal.returns-in-Nothing-clause-as_many
+returns-in-Nothing-clause-as_many g c = ap (λ w. length w.callers.items) c.refuse.ensures.same ∙ c.requires.callers
 
 pub returns-in-Nothing-clause-clock : goal.returns-in-Nothing-clause-clock
 returns-in-Nothing-clause-clock g c = ap (λ w. w.clock) c.refuse.ensures.same

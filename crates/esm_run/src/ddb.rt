@@ -1,0 +1,88 @@
+// The command `ddb`: running the mapping of a DynamoDB stream, and telling how the run ended.
+ghost use Rattle.std.specs.Prelude.{◌≡◌, ◌≢◌, length, reverse};
+ghost use Rattle.esm_model.specs.declared.limits.TheConstants.{MAX_LANES};
+ghost use Rattle.esm_run.specs.Ddb.{DdbOutcome, IsDdbCut};
+ghost use Rattle.esm_run.specs.World.{run_tells, seen, written_of};
+
+use crate::commands::tell_end;
+use crate::ddb_ran::run_ddb;
+use crate::left::{Ran, RunDevices};
+use crate::world::{Ended, World};
+use esm_io::{Caller, Clock, Disk, Door, Sink, Source};
+use esm_model::Text;
+use std::alloc::Global;
+use std::sync::Wait;
+use std::thread::Threads;
+
+/// Runs the mapping of a DynamoDB stream that the text is, tells how it ended, and hands the world back with the exit status.
+pub fn ddb<
+    R: Threads + Wait + Sync,
+    S: Source,
+    K: Sink,
+    D: Disk + Send,
+    C: Clock + Sync,
+    F: Caller + Send,
+    L: Door,
+>(
+    rt: &R,
+    alloc: Global,
+    text: Text,
+    calls: u32,
+    world: World<S, K, D, C, F, L>,
+) -> Ended<S, K, D, C, F, L>
+    requires { length world.callers.items ≡ MAX_LANES }
+    ensures outcome { result.status ≢ 70 → DdbOutcome (run_tells C.Clock F.Caller D.Disk S.Source) text calls
+        (written_of K.faults K.written world.out result.world.out) (reverse result.world.trace.items)
+        (seen world) (seen result.world) result.status }
+    ensures want_of_memory { result.status ≡ 70 → IsDdbCut (run_tells C.Clock F.Caller D.Disk S.Source) text calls (reverse result.world.trace.items)
+        (seen world) (seen result.world) }
+    ensures good_words { result.status ≢ 2 }
+    ensures untold { result.status ≡ 70 → result.world.out ≡ world.out }
+    ensures registry { result.world.registry ≡ world.registry }
+    ensures as_many { length result.world.callers.items ≡ MAX_LANES }
+    ensures kept { (result.world.clock ≡ world.clock) × (result.world.door ≡ world.door) }
+{
+    let World {
+        input,
+        out,
+        journal,
+        spare,
+        failures,
+        registry,
+        clock,
+        callers,
+        door,
+        trace: _,
+    } = world;
+    let devices = RunDevices {
+        input,
+        journal,
+        spare,
+        failures,
+        registry,
+        callers,
+    };
+    let Ran {
+        end,
+        began,
+        trace,
+        devices,
+    } = run_ddb(rt, alloc, &text, calls, devices, &clock);
+    let mut out = out;
+    let status = tell_end(alloc, &mut out, &end, &began, &trace);
+    Ended {
+        status,
+        world: World {
+            input: devices.input,
+            out,
+            journal: devices.journal,
+            spare: devices.spare,
+            failures: devices.failures,
+            registry: devices.registry,
+            clock,
+            callers: devices.callers,
+            door,
+            trace,
+        },
+    }
+}

@@ -1,0 +1,322 @@
+// The run of `ddb`: its files are opened, its mapping is read, its input is turned, and it runs over the turned lines.
+ghost use Rattle.std.specs.Prelude.{◌≡◌, ◌≤◌, true, [], length, reverse, vec_capacity, IfErr, IfOk, OnErr};
+ghost use Rattle.esm_ddb.specs.Translating.{source_of};
+ghost use Rattle.esm_ddb.specs.TurnedInput.{IsTurnedInput};
+ghost use Rattle.esm_io.specs.Meanings.{disk as meaning};
+ghost use Rattle.esm_mapping.specs.Named.{IsExpected, MayRun};
+ghost use Rattle.esm_mapping.specs.declared.expected.Expected.TheVariants.{DynamoDb};
+ghost use Rattle.esm_model.specs.Valid.{is_stream};
+ghost use Rattle.esm_model.specs.declared.limits.TheConstants.{MAX_LANES};
+ghost use Rattle.esm_run.specs.Ddb.{DdbCause, IsDdbCut, IsRead};
+ghost use Rattle.esm_run.specs.Ran.{EndsWith, IsDdbEndingOf};
+ghost use Rattle.esm_run.specs.Under.{callers_under};
+ghost use Rattle.esm_run.specs.World.{run_tells, seen_by, seen_of};
+ghost use Rattle.esm_run.specs.declared.left.Began.TheVariants as began;
+
+use crate::ddb_callers::{unwrap, wrap};
+use crate::left::{Began, Ran, RunDevices, not_begun};
+use crate::opened::{Opened, closed};
+use crate::refusal::{ending_of_ddb, ending_of_files, ending_of_mapping};
+use crate::table_failures::TableFailures;
+use crate::turned_text::TurnedText;
+use esm_ddb::{DdbCaller, InputTurned, TurnedInput, turn_input};
+use esm_io::{Caller, Clock, Disk, Source};
+use esm_mapping::{Expected, NamedMapping, read_expected};
+use esm_model::{Config, MAX_LANES, OutOfMemory, Refused, Text};
+use esm_runner::{MappingRun, open_files, run_stream};
+use std::alloc::Global;
+use std::sync::Wait;
+use std::thread::Threads;
+
+/// What a run is made of besides its opened devices: the lines that its input became, why the reading of the input ended, and
+/// room for its callers.
+struct Prepared<F: Caller> {
+    lines: TurnedText,
+    end: InputTurned,
+    wrapped: Vec<DdbCaller<F>>,
+}
+
+/// Reads and turns the input of the mapping, reserves the room for callers, and hands the input back as it was left.
+fn prepare<S: Source, F: Caller>(
+    alloc: Global,
+    config: &Config,
+    input: S,
+) -> Result<(Prepared<F>, S), Refused<OutOfMemory, S>>
+    ensures turned { IfOk result (λ p. IsTurnedInput S.faults S.left (source_of config.now) input p.1 p.0.lines p.0.end) }
+    ensures room { IfOk result (λ p. (p.0.wrapped.items ≡ []) × (MAX_LANES ≤ vec_capacity p.0.wrapped)) }
+    ensures back { IfErr result (λ refused. IsRead S.faults S.left input refused.back) }
+{
+    let TurnedInput { source, text, end } = match turn_input(alloc, config, input) {
+        Ok(turned) => turned,
+        Err(refused) => return Err(refused),
+    };
+    match Vec::with_capacity(alloc, MAX_LANES) {
+        Ok(wrapped) => {
+            let lines = TurnedText::new(text);
+            Ok((
+                Prepared {
+                    lines,
+                    end,
+                    wrapped,
+                },
+                source,
+            ))
+        }
+        Err(_) => Err(Refused {
+            why: OutOfMemory,
+            back: source,
+        }),
+    }
+}
+
+/// How the run over the turned lines ended, and the devices that it left. The callers below are handed back into this vector.
+fn ddb_ran<S, D, F: Caller>(
+    alloc: Global,
+    run: MappingRun<TurnedText, D, DdbCaller<F>>,
+    turned: InputTurned,
+    input: S,
+    registry: D,
+    callers: Vec<F>,
+) -> Ran<S, D, F>
+    requires empty { callers.items ≡ [] }
+    requires room { length run.callers.items ≤ vec_capacity callers }
+    ensures ended { IfOk result.end (IsDdbEndingOf turned run.end) }
+    ensures began { result.began ≡ began.Stream run.said }
+    ensures trace { result.trace ≡ run.trace }
+    // The devices.
+    ensures input { result.devices.input ≡ input }
+    ensures disks { (result.devices.journal ≡ run.journal) × (result.devices.spare ≡ run.spare) × (result.devices.failures ≡ run.failures) }
+    ensures registry { result.devices.registry ≡ registry }
+    ensures callers { result.devices.callers.items ≡ callers_under run.callers.items }
+{
+    let MappingRun {
+        end,
+        trace,
+        said,
+        reading: _,
+        input: _,
+        journal,
+        spare,
+        failures,
+        callers: wrapped,
+    } = run;
+    let mut callers = callers;
+    unwrap(wrapped, &mut callers);
+    let end = match end {
+        Ok(end) => ending_of_ddb(alloc, turned, end),
+        Err(OutOfMemory) => Err(OutOfMemory),
+    };
+    Ran {
+        end,
+        began: Began::Stream(said),
+        trace,
+        devices: RunDevices {
+            input,
+            journal,
+            spare,
+            failures,
+            registry,
+            callers,
+        },
+    }
+}
+
+/// Runs the mapping over the turned lines and the opened files. No call begins before the end of the lines was noted.
+fn run_prepared<
+    R: Threads + Wait + Sync,
+    S: Source,
+    D: Disk + Send,
+    C: Clock + Sync,
+    F: Caller + Send,
+>(
+    rt: &R,
+    alloc: Global,
+    text: &Text,
+    calls: u32,
+    mapping: NamedMapping,
+    prepared: Prepared<F>,
+    opened: Opened<S, D, F>,
+    clock: &C,
+) -> Ran<S, D, F>
+    requires named { IsExpected DynamoDb text.now mapping }
+    requires may_run { MayRun mapping }
+    requires kind { is_stream mapping.config.kind ≡ true }
+    requires callers { length opened.callers.items ≡ MAX_LANES }
+    requires room { (prepared.wrapped.items ≡ []) × (MAX_LANES ≤ vec_capacity prepared.wrapped) }
+    ensures ended { IfOk result.end (λ ending. (found : S)
+        → IsTurnedInput S.faults S.left (source_of mapping.config) found opened.input prepared.lines prepared.end
+        → EndsWith (DdbCause (run_tells C.Clock F.Caller D.Disk S.Source) text.now calls (reverse result.trace.items)
+        (seen_of found opened.files.journal opened.files.spare opened.files.failures opened.registry opened.callers.items)
+        (seen_by result.devices)) (reverse result.trace.items) result.began ending) }
+    ensures stopped { OnErr result.end ((found : S)
+        → IsTurnedInput S.faults S.left (source_of mapping.config) found opened.input prepared.lines prepared.end
+        → IsDdbCut (run_tells C.Clock F.Caller D.Disk S.Source) text.now calls (reverse result.trace.items)
+        (seen_of found opened.files.journal opened.files.spare opened.files.failures opened.registry opened.callers.items)
+        (seen_by result.devices)) }
+    ensures registry { result.devices.registry ≡ opened.registry }
+    ensures as_many { length result.devices.callers.items ≡ MAX_LANES }
+{
+    let _ = text;
+    let Opened {
+        input,
+        files,
+        registry,
+        mut callers,
+    } = opened;
+    let NamedMapping { config, start } = mapping;
+    let Prepared {
+        lines,
+        end,
+        mut wrapped,
+    } = prepared;
+    files.keeps();
+    wrap(&mut callers, &mut wrapped);
+    let run = run_stream::<_, _, _, _, _, TableFailures>(
+        rt, alloc, config, start, calls, files, lines, wrapped, clock, true,
+    );
+    ddb_ran(alloc, run, end, input, registry, callers)
+}
+
+/// Reads and turns the input of the mapping, and runs it over the turned lines and the opened files.
+fn run_mapping<
+    R: Threads + Wait + Sync,
+    S: Source,
+    D: Disk + Send,
+    C: Clock + Sync,
+    F: Caller + Send,
+>(
+    rt: &R,
+    alloc: Global,
+    text: &Text,
+    calls: u32,
+    mapping: NamedMapping,
+    opened: Opened<S, D, F>,
+    clock: &C,
+) -> Ran<S, D, F>
+    requires named { IsExpected DynamoDb text.now mapping }
+    requires may_run { MayRun mapping }
+    requires kind { is_stream mapping.config.kind ≡ true }
+    requires callers { length opened.callers.items ≡ MAX_LANES }
+    ensures ended { IfOk result.end (EndsWith (DdbCause (run_tells C.Clock F.Caller D.Disk S.Source) text.now calls (reverse result.trace.items)
+        (seen_of opened.input opened.files.journal opened.files.spare opened.files.failures opened.registry opened.callers.items)
+        (seen_by result.devices)) (reverse result.trace.items) result.began) }
+    ensures stopped { OnErr result.end (IsDdbCut (run_tells C.Clock F.Caller D.Disk S.Source) text.now calls (reverse result.trace.items)
+        (seen_of opened.input opened.files.journal opened.files.spare opened.files.failures opened.registry opened.callers.items)
+        (seen_by result.devices)) }
+    ensures registry { result.devices.registry ≡ opened.registry }
+    ensures as_many { length result.devices.callers.items ≡ MAX_LANES }
+{
+    let Opened {
+        input,
+        files,
+        registry,
+        callers,
+    } = opened;
+    match prepare(alloc, &mapping.config, input) {
+        Ok((prepared, input)) => {
+            let opened = Opened {
+                input,
+                files,
+                registry,
+                callers,
+            };
+            run_prepared(rt, alloc, text, calls, mapping, prepared, opened, clock)
+        }
+        Err(refused) => {
+            let opened = Opened {
+                input: refused.back,
+                files,
+                registry,
+                callers,
+            };
+            closed(alloc, Err(OutOfMemory), opened)
+        }
+    }
+}
+
+/// Reads the mapping that the text is over the opened files, and runs it.
+fn run_opened<
+    R: Threads + Wait + Sync,
+    S: Source,
+    D: Disk + Send,
+    C: Clock + Sync,
+    F: Caller + Send,
+>(
+    rt: &R,
+    alloc: Global,
+    text: &Text,
+    calls: u32,
+    opened: Opened<S, D, F>,
+    clock: &C,
+) -> Ran<S, D, F>
+    requires callers { length opened.callers.items ≡ MAX_LANES }
+    ensures ended { IfOk result.end (EndsWith (DdbCause (run_tells C.Clock F.Caller D.Disk S.Source) text.now calls (reverse result.trace.items)
+        (seen_of opened.input opened.files.journal opened.files.spare opened.files.failures opened.registry opened.callers.items)
+        (seen_by result.devices)) (reverse result.trace.items) result.began) }
+    ensures stopped { OnErr result.end (IsDdbCut (run_tells C.Clock F.Caller D.Disk S.Source) text.now calls (reverse result.trace.items)
+        (seen_of opened.input opened.files.journal opened.files.spare opened.files.failures opened.registry opened.callers.items)
+        (seen_by result.devices)) }
+    ensures registry { result.devices.registry ≡ opened.registry }
+    ensures as_many { length result.devices.callers.items ≡ MAX_LANES }
+{
+    match read_expected(alloc, Expected::DynamoDb, text) {
+        Ok(mapping) => run_mapping(rt, alloc, text, calls, mapping, opened, clock),
+        Err(why) => closed(alloc, ending_of_mapping(alloc, why), opened),
+    }
+}
+
+/// Opens the files of a run, reads the mapping of a DynamoDB stream that the text is, and runs it with its input read first.
+pub fn run_ddb<
+    R: Threads + Wait + Sync,
+    S: Source,
+    D: Disk + Send,
+    C: Clock + Sync,
+    F: Caller + Send,
+>(
+    rt: &R,
+    alloc: Global,
+    text: &Text,
+    calls: u32,
+    devices: RunDevices<S, D, F>,
+    clock: &C,
+) -> Ran<S, D, F>
+    requires { length devices.callers.items ≡ MAX_LANES }
+    ensures ended { IfOk result.end (EndsWith (DdbCause (run_tells C.Clock F.Caller D.Disk S.Source) text.now calls (reverse result.trace.items)
+        (seen_by devices) (seen_by result.devices)) (reverse result.trace.items) result.began) }
+    ensures stopped { OnErr result.end (IsDdbCut (run_tells C.Clock F.Caller D.Disk S.Source) text.now calls (reverse result.trace.items)
+        (seen_by devices) (seen_by result.devices)) }
+    ensures registry { result.devices.registry ≡ devices.registry }
+    ensures as_many { length result.devices.callers.items ≡ MAX_LANES }
+{
+    let RunDevices {
+        input,
+        journal,
+        spare,
+        failures,
+        registry,
+        callers,
+    } = devices;
+    match open_files(alloc, journal, spare, failures) {
+        Err(refused) => {
+            let (journal, spare, failures) = refused.back;
+            let devices = RunDevices {
+                input,
+                journal,
+                spare,
+                failures,
+                registry,
+                callers,
+            };
+            not_begun(alloc, ending_of_files(refused.why), devices)
+        }
+        Ok(files) => {
+            let opened = Opened {
+                input,
+                files,
+                registry,
+                callers,
+            };
+            run_opened(rt, alloc, text, calls, opened, clock)
+        }
+    }
+}
