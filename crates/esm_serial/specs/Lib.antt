@@ -1,0 +1,4 @@
+pub mod Adding
+pub mod Ran
+pub mod Readings
+pub mod Steps

@@ -1,0 +1,103 @@
+// The calls of a book, one after the other.
+ghost use Rattle.std.specs.Prelude.{◌≡◌, IfOk, IfSome, OnOk, OnErr};
+ghost use Rattle.esm_serial.specs.Ran.{EndsSo};
+ghost use Rattle.esm_serial.specs.Steps.{LeadsOn, LeadsPerhapsOn, IsAsItWas};
+
+use crate::running::RunEnd;
+use crate::serial::Serial;
+use esm_io::{Caller, Clock};
+use esm_model::{BookError, Job, Next, OutOfMemory};
+use std::alloc::Global;
+use std::sync::Wait;
+
+/// The longest pause, in milliseconds; then it asks again. This product's own.
+const MAX_PAUSE: u64 = 1_000;
+
+// Pauses until the moment, in milliseconds, but for `MAX_PAUSE` at most.
+fn pause<C: Clock>(clock: &C, until: u64) {
+    let latest = clock.now().saturating_add(MAX_PAUSE);
+    clock.pause(until.min(latest));
+}
+
+// Makes the call that began and tells its end; answers how the run ends, where the book is down.
+fn make_call<B: Serial, C: Clock, F: Caller>(
+    alloc: Global,
+    book: &mut B,
+    name: &str,
+    caller: &mut F,
+    clock: &C,
+    job: Job,
+) -> Result<Option<RunEnd>, OutOfMemory>
+    requires name { name.now ≡ B.function book.old }
+    requires runs { B.runs book.old job }
+    ensures called { OnOk result (LeadsOn B.Serial C.gave F.sends book.old book.new (F.log caller.old) (F.log caller.new)) }
+    ensures rests { OnOk result (B.rests book.new) }
+    ensures same { IsAsItWas B.Serial book.old book.new }
+    ensures ended { IfOk result (λ end. IfSome end (EndsSo B.Serial book.new)) }
+    ensures stopped { OnErr result (LeadsPerhapsOn B.Serial C.gave F.sends book.old book.new (F.log caller.old) (F.log caller.new)) }
+{
+    let reply = caller.call(alloc, name, job.event.as_slice())?;
+    let moment = clock.now();
+    match book.end_call(alloc, job, reply, moment) {
+        Ok(_) => Ok(None),
+        Err(BookError::OutOfMemory) => Err(OutOfMemory),
+        Err(_) => Ok(Some(RunEnd::Down)),
+    }
+}
+
+// Asks what is next and does it; answers how the run ends, where nothing more is to be done.
+fn step<B: Serial, C: Clock, F: Caller>(
+    alloc: Global,
+    book: &mut B,
+    name: &str,
+    caller: &mut F,
+    clock: &C,
+) -> Result<Option<RunEnd>, OutOfMemory>
+    requires name { name.now ≡ B.function book.old }
+    requires rests { B.rests book.old }
+    ensures called { OnOk result (LeadsOn B.Serial C.gave F.sends book.old book.new (F.log caller.old) (F.log caller.new)) }
+    ensures rests { OnOk result (B.rests book.new) }
+    ensures same { IsAsItWas B.Serial book.old book.new }
+    ensures ended { IfOk result (λ end. IfSome end (EndsSo B.Serial book.new)) }
+    ensures stopped { OnErr result (LeadsPerhapsOn B.Serial C.gave F.sends book.old book.new (F.log caller.old) (F.log caller.new)) }
+{
+    let moment = clock.now();
+    match book.ask(alloc, moment) {
+        Ok(Next::Call(job)) => make_call(alloc, book, name, caller, clock, job),
+        Ok(Next::Gave(_)) => Ok(None),
+        Ok(Next::Idle { until }) => {
+            pause(clock, until);
+            Ok(None)
+        }
+        Ok(Next::Spent) => Ok(Some(RunEnd::Spent)),
+        Ok(Next::Finished) => Ok(Some(RunEnd::Finished)),
+        Err(BookError::OutOfMemory) => Err(OutOfMemory),
+        Err(_) => Ok(Some(RunEnd::Down)),
+    }
+}
+
+/// Asks, calls the function `name` and pauses, for `MAX_PAUSE` at most, until it is answered that nothing is left or that all calls
+/// allowed were made, or the book is down. Want of memory ends it at any point.
+pub(crate) fn call_all<R: Wait, B: Serial, C: Clock, F: Caller>(
+    rt: &R,
+    alloc: Global,
+    book: &mut B,
+    name: &str,
+    caller: &mut F,
+    clock: &C,
+) -> Result<RunEnd, OutOfMemory>
+    requires name { name.now ≡ B.function book.old }
+    requires rests { B.rests book.old }
+    ensures called { OnOk result (LeadsOn B.Serial C.gave F.sends book.old book.new (F.log caller.old) (F.log caller.new)) }
+    ensures rests { OnOk result (B.rests book.new) }
+    ensures same { IsAsItWas B.Serial book.old book.new }
+    ensures ended { IfOk result (EndsSo B.Serial book.new) }
+    ensures stopped { OnErr result (LeadsPerhapsOn B.Serial C.gave F.sends book.old book.new (F.log caller.old) (F.log caller.new)) }
+{
+    for _ in rt.forever() {
+        if let Some(end) = step(alloc, book, name, caller, clock)? {
+            return Ok(end);
+        }
+    }
+    unreachable!()
+}
