@@ -17,6 +17,7 @@ mod waiting;
 pub use batch::Batch;
 pub use failure::read_failure;
 pub use first::first_waiting;
+pub use named::names;
 pub use parts::Parts;
 pub use ranges::Ranges;
 pub use rows::Named;

@@ -26,7 +26,7 @@ fn is_told_failed(said: &Says, shard: u64, place: u32) -> bool
 }
 
 /// Whether the record is named, where it stands at the place of its shard. Takes no memory.
-pub(crate) fn names(said: &Says, ranges: &Ranges, item: &Record, place: u32) -> bool
+pub fn names(said: &Says, ranges: &Ranges, item: &Record, place: u32) -> bool
     ensures { result ≡ names said.now ranges.now item.now place }
 {
     is_told_failed(said, item.shard, place)

@@ -1,0 +1,92 @@
+-- The first record that differs, record by record.
+use Rattle.std.proofs.Common.{◌≡◌, ℕ, zero, suc, ◌+◌, ◌<◌, ◌≤◌, List, [], ◌∷◌, ◌++◌, length, get_or, take, drop, refl, sym, ap, ap₂, ◌∙◌, subst, arith, true, false, add-one, append_assoc, Option, Some, None}
+use Rattle.std.specs.Prelude.{◌==◌, is_some, option_map}
+use Rattle.std.specs.Option.{option_or}
+use Rattle.std.specs.Ordering.{nat_cmp}
+use Rattle.std.specs.Map.{count_at}
+use Rattle.std.specs.BTreeMap.{BTreeMap, get}
+use Rattle.std.proofs.Math.Seq.{drop-cons}
+use Rattle.std.proofs.lemmas.List.{length-append, take_more, length-take-le}
+use Rattle.std.proofs.lemmas.List.Elements.{filter-append}
+use Rattle.esm_model.specs.declared.item.Record.{Record}
+use Rattle.esm_model.specs.declared.book.Change.{Change}
+use Rattle.esm_model.specs.declared.setup.FoundFate.{FoundFate}
+use Rattle.esm_model.specs.declared.setup.FoundTries.{FoundTries}
+use Rattle.esm_journal_state.specs.declared.kept.KeptFate.{KeptFate}
+use Rattle.esm_journal_state.specs.declared.kept.KeptTries.{KeptTries}
+use Rattle.esm_journal_state.specs.SaidLists.{SaidLists}
+use Rattle.esm_journal_state.specs.Tells.{fate_of_found, tries_of_found}
+use Rattle.esm_replay.specs.Records.{of_shard}
+use Rattle.esm_replay_core.specs.Coming.{kept_otherwise, change_of, change_at, first_change}
+use Rattle.esm_replay_core.specs.Counts.{AreCounted, HasOneMore}
+use Rattle.esm_replay_core.proofs.Standing.{few_of_shard}
+use Rattle.esm_replay_core.proofs.Paying.{counted_more}
+
+-- a count of the first records of a list
+pub counted_few : (m : BTreeMap ℕ ℕ) (items : List Record) (i q : ℕ) → i ≤ length items → AreCounted m (take i items) → count_at (get nat_cmp m) q ≤ i
+counted_few m items i q low are =
+    let few : length (of_shard q (take i items)) ≤ length (take i items) = few_of_shard q (take i items) in
+    let long : length (take i items) ≡ i = length-take-le i items low in
+    let is : count_at (get nat_cmp m) q ≡ length (of_shard q (take i items)) = are q in
+    omega arith
+
+place_is : (m own : BTreeMap ℕ ℕ) (before front : List Record) (q : ℕ) → AreCounted m before → AreCounted own front → count_at (get nat_cmp m) q + count_at (get nat_cmp own) q ≡ length (of_shard q (before ++ front))
+place_is m own before front q are own_are =
+    ap₂ (λ (a b : ℕ). a + b) (are q) (own_are q)
+    ∙ sym (ap (λ (xs : List Record). length xs) (filter-append (λ (x : Record). x.shard == q) before front) ∙ length-append (of_shard q before) (of_shard q front))
+
+pub front_more : (items : List Record) (i : ℕ) (item : Record) → i < length items → item ≡ get_or items i item → take (i + 1) items ≡ take i items ++ item ∷ []
+front_more items i item low at = take_more items i item low ∙ ap (λ (x : Record). take i items ++ x ∷ []) (sym at)
+
+pub rest_less : (items : List Record) (i : ℕ) (item : Record) → i < length items → item ≡ get_or items i item → drop i items ≡ item ∷ drop (i + 1) items
+rest_less items i item low at = drop-cons items i item low ∙ ap (λ (k : ℕ). get_or items i item ∷ drop k items) (sym (add-one i)) ∙ ap (λ (x : Record). x ∷ drop (i + 1) items) (sym at)
+
+pub own_more : (own own' : BTreeMap ℕ ℕ) (items : List Record) (i : ℕ) (item : Record) → i < length items → item ≡ get_or items i item → AreCounted own (take i items) → HasOneMore item.shard own own' → AreCounted own' (take (i + 1) items)
+own_more own own' items i item low at are more =
+    subst (AreCounted own') (sym (front_more items i item low at)) (counted_more own own' (take i items) item are more)
+
+pub or_some : (o x : Option Change) → is_some o ≡ true → option_or o x ≡ o
+or_some (Some c) x some = refl
+or_some None x some = absurd (cc)
+
+pub or_none : (o x : Option Change) → is_some o ≡ false → option_or o x ≡ x
+or_none (Some c) x none = absurd (cc)
+or_none None x none = refl
+
+-- the next record is looked at
+module _ (told : SaidLists) (m own : BTreeMap ℕ ℕ) (items : List Record) (i : ℕ) (item : Record) (place : ℕ) (change : Option Change) (low : i < length items) (at : item ≡ get_or items i item)
+    (own_are : AreCounted own (take i items)) (place_of : place ≡ count_at (get nat_cmp m) item.shard + count_at (get nat_cmp own) item.shard)
+    (change_is : change ≡ option_map (change_of item place) (kept_otherwise told item.shard place item.seq)) (before : List Record) (are : AreCounted m before) where
+  here : change ≡ change_at told (before ++ take i items) item
+  here = change_is ∙ ap (λ (k : ℕ). option_map (change_of item k) (kept_otherwise told item.shard k item.seq)) (place_of ∙ place_is m own before (take i items) item.shard are own_are)
+
+  pub looked : first_change told (before ++ take i items) (drop i items) ≡ option_or change (first_change told (before ++ take (i + 1) items) (drop (i + 1) items))
+  looked =
+      ap (first_change told (before ++ take i items)) (rest_less items i item low at)
+      ∙ ap₂ (λ (c : Option Change) (rs : List Record). option_or c (first_change told rs (drop (i + 1) items))) (sym here)
+      (append_assoc before (take i items) (item ∷ []) ∙ ap (λ (rs : List Record). before ++ rs) (sym (front_more items i item low at)))
+
+pub none_after : (told : SaidLists) (before items : List Record) (i : ℕ) → length items ≤ i → first_change told before (drop i items) ≡ None
+none_after told before items i high = ap (first_change told before) (drop_all items i high)
+  where
+    drop_all : (xs : List Record) (i : ℕ) → length xs ≤ i → drop i xs ≡ []
+    drop_all [] zero high = refl
+    drop_all [] (suc i) high = refl
+    drop_all (x ∷ xs) zero high = absurd (omega arith)
+    drop_all (x ∷ xs) (suc i) high = drop_all xs i (omega arith)
+
+-- the texts that are kept
+
+pub fate_kept_text : (o : Option FoundFate) (x : Option KeptFate) → x ≡ option_map fate_of_found o → option_map (λ (k : KeptFate). k.text) x ≡ option_map (λ (f : FoundFate). f.text) o
+fate_kept_text o x is = ap (option_map (λ (k : KeptFate). k.text)) is ∙ both o
+  where
+    both : (o : Option FoundFate) → option_map (λ (k : KeptFate). k.text) (option_map fate_of_found o) ≡ option_map (λ (f : FoundFate). f.text) o
+    both None = refl
+    both (Some f) = refl
+
+pub tries_kept_text : (o : Option FoundTries) (x : Option KeptTries) → x ≡ option_map tries_of_found o → option_map (λ (k : KeptTries). k.text) x ≡ option_map (λ (f : FoundTries). f.text) o
+tries_kept_text o x is = ap (option_map (λ (k : KeptTries). k.text)) is ∙ both o
+  where
+    both : (o : Option FoundTries) → option_map (λ (k : KeptTries). k.text) (option_map tries_of_found o) ≡ option_map (λ (f : FoundTries). f.text) o
+    both None = refl
+    both (Some f) = refl

@@ -1,0 +1,14 @@
+pub mod Stateless
+pub mod Standing
+pub mod Named
+pub mod Fronts
+pub mod Saying
+pub mod Counting
+pub mod Choices
+pub mod Keeping
+pub mod Closing
+pub mod Paying
+pub mod Differing
+pub mod Tellings
+pub mod Due
+pub mod Deciding

@@ -1,0 +1,11 @@
+use Rattle.std.proofs.Common.{◌≡◌, ◌++◌, List, take, drop}
+use Rattle.esm_model.specs.declared.item.Record.{Record}
+use Rattle.esm_replay_core.specs.Coming.{first_change}
+use Rattle.esm_replay_core.specs.Counts.{AreCounted}
+use Rattle.esm_replay_core.proofs.changes.first_change.Given as goal
+
+abbrev pub invariant-loop-item : goal.invariant-loop-item
+invariant-loop-item l = record {
+  counted : AreCounted l.own (take l.item-index l.items);
+  rest : (before : List Record) → AreCounted l.counts before → first_change l.said before l.items ≡ first_change l.said (before ++ take l.item-index l.items) (drop l.item-index l.items);
+}

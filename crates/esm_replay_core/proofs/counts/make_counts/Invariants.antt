@@ -1,0 +1,10 @@
+use Rattle.std.proofs.Common.{take}
+use Rattle.std.specs.List.{All}
+use Rattle.esm_replay_core.specs.Counts.{IsRecounted, HasCount}
+use Rattle.esm_replay_core.proofs.counts.make_counts.Given as goal
+
+abbrev pub invariant-loop-item : goal.invariant-loop-item
+invariant-loop-item l = record {
+  same : IsRecounted l.initial.counts l.counts;
+  there : All (HasCount l.counts) (take l.item-index l.items);
+}

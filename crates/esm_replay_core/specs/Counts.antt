@@ -1,0 +1,25 @@
+-- Counts of the records of each shard. Only this crate's proofs cite this.
+use Rattle.std.specs.Prelude.{◌≡◌, ℕ, ◌+◌, ◌==◌, List, length, IsSome, if◌then◌else◌}
+use Rattle.std.specs.Ordering.{nat_cmp}
+use Rattle.std.specs.Map.{count_at}
+use Rattle.std.specs.BTreeMap.{BTreeMap, get}
+use Rattle.esm_model.specs.declared.item.Record.{Record}
+use Rattle.esm_replay.specs.Records.{of_shard}
+
+-- of each shard the number of its records in the list
+abbrev pub AreCounted : BTreeMap ℕ ℕ → List Record → Type 0
+AreCounted m rs = (q : ℕ) → count_at (get nat_cmp m) q ≡ length (of_shard q rs)
+
+-- the shard of the record has a count
+abbrev pub HasCount : BTreeMap ℕ ℕ → Record → Type 0
+HasCount m r = IsSome (get nat_cmp m r.shard)
+
+-- the same counts, and each shard that had one has one
+pub record IsRecounted (m m' : BTreeMap ℕ ℕ) : Type 0 where
+  pub same : (q : ℕ) → count_at (get nat_cmp m') q ≡ count_at (get nat_cmp m) q
+  pub keys : (q : ℕ) → IsSome (get nat_cmp m q) → IsSome (get nat_cmp m' q)
+
+-- one more record of the shard
+pub record HasOneMore (shard : ℕ) (m m' : BTreeMap ℕ ℕ) : Type 0 where
+  pub more : (q : ℕ) → count_at (get nat_cmp m') q ≡ (if shard == q then count_at (get nat_cmp m) q + 1 else count_at (get nat_cmp m) q)
+  pub keys : (q : ℕ) → IsSome (get nat_cmp m q) → IsSome (get nat_cmp m' q)

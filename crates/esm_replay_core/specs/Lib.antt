@@ -1,0 +1,9 @@
+pub mod View
+pub mod Deciding
+pub mod Coming
+pub mod Told
+pub mod Counts
+pub mod Owing
+pub mod Ending
+pub mod Choosing
+pub mod Kept

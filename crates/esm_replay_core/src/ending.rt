@@ -1,0 +1,136 @@
+// What the end of a call of a replay is ruled to be, and what is written of the records that are replayed.
+ghost use Rattle.std.specs.Prelude.{◌≡◌, ◌≤◌, false, take, IfOk, length};
+ghost use Rattle.esm_model.specs.declared.limits.TheConstants.{MAX_BATCH};
+ghost use Rattle.esm_model.specs.Reading.{reading};
+ghost use Rattle.esm_model.specs.Ruling.{ruling};
+ghost use Rattle.esm_journal_record.specs.declared.said.Said.TheVariants as said;
+ghost use Rattle.esm_journal_record.specs.Payload.{payload_of, IsSaid};
+ghost use Rattle.esm_replay_core.specs.Ending.{IsReplayOf, MayEnd, IsEnding};
+
+use crate::owed::Replay;
+use esm_journal_record::{Said, said_bytes};
+use esm_model::{Config, Job, OutOfMemory, Places, Reply, Seq, Text, Texts, Verdict};
+use esm_replay::{Parts, Waiting};
+use esm_verdict::{Call, judge, read_stream};
+use std::alloc::Global;
+
+/// What the end of a call comes to: so many of its records succeeded, these parts of the others are called again, and what
+/// is replayed.
+#[derive(Drop)]
+pub(crate) struct Ending {
+    pub succeeded: u32,
+    pub parts: Parts,
+    pub replay: Option<Replay>,
+}
+
+/// The ruling on a call of the records with these sequence numbers by its reply, where none of them was tried before.
+fn verdict_of(
+    alloc: Global,
+    config: &Config,
+    names: &[Seq],
+    reply: &Reply,
+) -> Result<Verdict, OutOfMemory>
+    requires { length names.now ≤ MAX_BATCH }
+    ensures ruled { IfOk result (λ v. v ≡ ruling config.now (length names.now) 0 (reading config.now names.now false reply.now)) }
+    ensures within { IfOk result (λ v. v.succeeded ≤ length names.now) }
+{
+    let answer = read_stream(alloc, config, names, Call::OfBatch, reply)?;
+    Ok(judge(config, names.len() as u32, 0, answer.reading))
+}
+
+/// Copies of the texts of the first so many sequence numbers.
+fn first_texts(alloc: Global, names: &[Seq], count: usize) -> Result<Vec<Text>, OutOfMemory>
+    requires { count ≤ length names.now }
+    ensures { IfOk result (λ texts. texts.items ≡ take count names.now) }
+{
+    let first = &names[..count];
+    let mut texts = Vec::with_capacity(alloc, count)?;
+    for name in first {
+        let text = String::from_str(alloc, name.text())?;
+        texts.push(Text::from_vec(text))?;
+    }
+    Ok(texts)
+}
+
+/// The payload that says of the first so many records of a call that they are replayed.
+fn replay_payload(
+    alloc: Global,
+    shard: u64,
+    moment: u64,
+    places: &[u32],
+    names: &[Seq],
+    count: usize,
+) -> Result<Vec<u8>, OutOfMemory>
+    requires places { count ≤ length places.now }
+    requires names { count ≤ length names.now }
+    requires said { IsSaid (said.Replayed shard moment (take count places.now) (take count names.now)) }
+    ensures { IfOk result (λ payload. payload.items ≡ payload_of (said.Replayed shard moment (take count places.now) (take count names.now))) }
+{
+    let texts = first_texts(alloc, names, count)?;
+    let copy = Vec::from_slice(alloc, &places[..count])?;
+    let said = Said::Replayed {
+        shard,
+        moment,
+        places: Places::from_vec(copy),
+        texts: Texts::from_vec(texts),
+    };
+    said_bytes(alloc, &said)
+}
+
+/// What is replayed of the first so many records of a call, where there are any.
+fn replay_of(
+    alloc: Global,
+    shard: u64,
+    moment: u64,
+    places: &[u32],
+    names: &[Seq],
+    count: usize,
+) -> Result<Option<Replay>, OutOfMemory>
+    requires few { length places.now ≤ MAX_BATCH }
+    requires places { count ≤ length places.now }
+    requires names { count ≤ length names.now }
+    requires said { 1 ≤ count → IsSaid (said.Replayed shard moment (take count places.now) (take count names.now)) }
+    ensures { IfOk result (IsReplayOf shard moment (take count places.now) (take count names.now)) }
+{
+    if count == 0 {
+        return Ok(None);
+    }
+    let payload = replay_payload(alloc, shard, moment, places, names, count)?;
+    let copy = Vec::from_slice(alloc, &places[..count])?;
+    Ok(Some(Replay {
+        shard,
+        places: Places::from_vec(copy),
+        moment,
+        payload,
+    }))
+}
+
+/// The end of a call of the first records of the first piece, which have these sequence numbers, by its reply.
+pub(crate) fn end_of(
+    alloc: Global,
+    config: &Config,
+    waiting: &Waiting,
+    names: &[Seq],
+    job: &Job,
+    reply: &Reply,
+    moment: u64,
+) -> Result<Ending, OutOfMemory>
+    requires { MayEnd config.now waiting.now names.now job.now.lane.shard job.now.places reply.now moment }
+    ensures { IfOk result (IsEnding config.now waiting.now names.now job.now.lane.shard job.now.places reply.now moment) }
+{
+    let verdict = verdict_of(alloc, config, names, reply)?;
+    let parts = waiting.parts(alloc, names.len() as u32, verdict)?;
+    let replay = replay_of(
+        alloc,
+        job.lane.shard,
+        moment,
+        job.places.as_slice(),
+        names,
+        verdict.succeeded as usize,
+    )?;
+    Ok(Ending {
+        succeeded: verdict.succeeded,
+        parts,
+        replay,
+    })
+}

@@ -1,0 +1,17 @@
+//! The decisions of a replay, without its devices: which records may come, which call begins next, and what its end adds.
+//! A core holds the history, the records that came and the pieces that wait, and the entries that were decided and are not
+//! yet added.
+//! Pure: values in, values out. No device, clock or thread.
+#![tactic(auto)]
+
+mod changes;
+mod choosing;
+mod counts;
+mod decisions;
+mod ending;
+mod owed;
+mod pieces;
+mod replay_core;
+
+pub use decisions::{Opened, ReplayAnswer, ReplayCall, ReplayEntry, ReplayNext};
+pub use replay_core::ReplayCore;

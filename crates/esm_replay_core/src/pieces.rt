@@ -1,0 +1,75 @@
+// The pieces that wait, once a call was asked for.
+ghost use Rattle.std.specs.Prelude.{◌≡◌, None, ◌+◌, ◌<◌, ◌≤◌, ◌^◌, OnOk, OnErr, IfSome, IsSome, length};
+ghost use Rattle.std.specs.Vec.{vec_capacity};
+ghost use Rattle.esm_replay_core.specs.Choosing.{StaysWaiting, IsRoomier, HasRoom, MayEndCall, IsEndedBy};
+
+use esm_journal_state::Says;
+use esm_model::{Entry, OutOfMemory, Record};
+use esm_replay::{Parts, Ranges, Waiting, first_waiting};
+use std::alloc::Global;
+
+/// What waits first, where no call was asked for.
+pub(crate) fn make_first(
+    alloc: Global,
+    waiting: &mut Option<Waiting>,
+    said: &Says,
+    ranges: &Ranges,
+    records: &[Record],
+) -> Result<(), OutOfMemory>
+    requires { length records.now < 2 ^ 32 }
+    ensures stays { StaysWaiting said.now ranges.now records.now waiting.old waiting.new }
+    ensures there { OnOk result (IsSome waiting.new) }
+    ensures err { OnErr result (waiting.new ≡ waiting.old) }
+{
+    if waiting.is_some() {
+        return Ok(());
+    }
+    let first = first_waiting(alloc, said, ranges, records)?;
+    *waiting = Some(first);
+    Ok(())
+}
+
+/// Nothing waits any more.
+pub(crate) fn clear(waiting: &mut Option<Waiting>)
+    ensures { waiting.new ≡ None }
+{
+    *waiting = None;
+}
+
+/// Room for what the end of a call splits.
+fn make_pieces_room(waiting: &mut Option<Waiting>) -> Result<(), OutOfMemory>
+    ensures waiting { IsRoomier waiting.old waiting.new }
+    ensures room { OnOk result (IfSome waiting.new HasRoom) }
+{
+    match waiting {
+        None => Ok(()),
+        Some(pieces) => pieces.reserve(),
+    }
+}
+
+/// Room for what the end of a call splits, and for what it adds.
+pub(crate) fn make_room(
+    waiting: &mut Option<Waiting>,
+    history: &mut Vec<Entry>,
+) -> Result<(), OutOfMemory>
+    ensures waiting { IsRoomier waiting.old waiting.new }
+    ensures items { history.new.items ≡ history.old.items }
+    ensures capacity { vec_capacity history.old ≤ vec_capacity history.new }
+    ensures room { OnOk result (IfSome waiting.new HasRoom) }
+    ensures ok { OnOk result (length history.old.items + 2 ≤ vec_capacity history.new) }
+{
+    make_pieces_room(waiting)?;
+    history.reserve(2)?;
+    Ok(())
+}
+
+/// The end of a call of the first records of the first piece, of which these parts remain. Takes no memory.
+pub(crate) fn end_call(waiting: &mut Option<Waiting>, count: u32, parts: Parts)
+    requires { MayEndCall count waiting.old }
+    ensures { IsEndedBy count parts waiting.old waiting.new }
+{
+    match waiting {
+        Some(pieces) => pieces.end_call(count, parts),
+        None => unreachable!(),
+    }
+}

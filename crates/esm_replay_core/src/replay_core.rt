@@ -1,0 +1,399 @@
+// The core of a replay: the records that came, the pieces that wait, the history, and what is owed.
+ghost use Rattle.std.specs.Prelude.{◌≡◌, ◌+◌, ◌<◌, ◌≤◌, ◌^◌, ◌++◌, ◌∷◌, [], None, min, max, IfOk, IfErr, IfSome, IfNone, OnOk, OnErr, All, Some, length, take, reverse, if◌then◌else◌};
+ghost use Rattle.esm_model.specs.declared.limits.TheConstants.{MAX_PAYLOAD};
+ghost use Rattle.esm_model.specs.declared.moment.TheConstants.{MAX_MOMENT};
+ghost use Rattle.esm_model.specs.Valid.{IsValidRecord, IsStreamConfig};
+ghost use Rattle.esm_journal_record.specs.EntryPayload.{AllMayBeSaid};
+ghost use Rattle.esm_book.specs.Decided.{written_of, lengths_of, IsRefused};
+ghost use Rattle.esm_replay_model.specs.ReplaySetting.{replay_config};
+ghost use Rattle.esm_replay_model.specs.ReplayReport.{named_count};
+ghost use Rattle.esm_replay_model.specs.ReplayRun.{call_out, IsReplay};
+ghost use Rattle.esm_model.specs.Entries.{last_moment};
+ghost use Rattle.esm_replay_core.specs.View.{setting_of, new_view, moment_for, IsJobOut, RunAhead, owing, paid, forgotten};
+ghost use Rattle.esm_replay_core.specs.Deciding.{next_of, next_entries, done_entries, done_count};
+ghost use Rattle.esm_replay_core.specs.Coming.{first_change, IsKeptChange};
+ghost use Rattle.esm_replay_core.specs.Counts.{IsRecounted, HasCount};
+ghost use Rattle.esm_replay_core.specs.Told.{owed_of, payload_in};
+
+use crate::changes::{first_change, refuse};
+use crate::choosing::choose;
+use crate::counts::{count_record, make_counts};
+use crate::decisions::ReplayNext;
+use crate::ending::end_of;
+use crate::owed::{
+    Owed, entries_owed, first_owed, given_up, is_left, owing_replay, put, replay_owed, still_coming,
+};
+use crate::pieces::{clear, end_call, make_first, make_room};
+use esm_book::Refusal;
+use esm_journal_state::Says;
+use esm_model::{Config, Entry, Job, MAX_MOMENT, OutOfMemory, PastReply, Record, Reply, Seq};
+use esm_replay::{Ranges, Waiting};
+use std::alloc::Global;
+use std::collections::BTreeMap;
+use std::marker::Model;
+use std::mem;
+
+/// The decisions of a replay, seen as what it was opened with, the records that came, its history, and what was decided and
+/// is not yet added.
+///
+/// Moments are in milliseconds since 1970; an entry has the moment that is handed in, or that of the last entry where that
+/// is later, and at most 9999-12-31T23:59:59.999Z. A core of which the end of a call was added without what is replayed is
+/// left: it answers want of memory from then on.
+#[derive(Drop)]
+pub struct ReplayCore {
+    /// With 0 retries and no windows.
+    config: Config,
+    calls: u32,
+    said: Says,
+    ranges: Ranges,
+    /// The records that came, and then those that are coming.
+    records: Vec<Record>,
+    came: usize,
+    /// How many of the records that came are of each shard.
+    counts: BTreeMap<u64, u32>,
+    /// How many of the records that came are named.
+    named: u32,
+    /// What waits, once a call was asked for.
+    waiting: Option<Waiting>,
+    /// The sequence numbers of the call that is out.
+    names: Vec<Seq>,
+    history: Vec<Entry>,
+    /// The moment of the last entry.
+    last: u64,
+    begun: u64,
+    owed: Owed,
+}
+
+impl Model for ReplayCore {
+    ghost use Rattle.esm_replay_core.specs.View.{ReplayView};
+
+    ghost Value = { ReplayView };
+
+    ghost use Rattle.esm_replay_core.specs.Kept.{view_of, IsCore};
+
+    ghost view = { view_of };
+
+    ghost invariant = { IsCore };
+}
+
+fn raised_to(last: u64, moment: u64) -> u64
+    requires { last ≤ MAX_MOMENT }
+    ensures value { result ≡ min (max moment last) MAX_MOMENT }
+    ensures goes_on { last ≤ result }
+    ensures in_time { result ≤ MAX_MOMENT }
+{
+    moment.max(last).min(MAX_MOMENT)
+}
+
+/// The mapping as a replay follows it: without retries, and without windows.
+fn replay_config(config: Config) -> Config
+    ensures { result ≡ replay_config config }
+{
+    let mut config = config;
+    config.retries = Some(0);
+    config.tumbling_ms = 0;
+    config
+}
+
+/// Counts for the records' shards, and the records behind the others. After `OutOfMemory` they are not there.
+fn take_in(
+    counts: &mut BTreeMap<u64, u32>,
+    records: &mut Vec<Record>,
+    items: Vec<Record>,
+) -> Result<(), OutOfMemory>
+    ensures same { IsRecounted counts.old counts.new }
+    ensures there { OnOk result (All (HasCount counts.new) items.items) }
+    ensures ok { OnOk result (records.new.items ≡ records.old.items ++ items.items) }
+    ensures err { OnErr result (records.new.items ≡ records.old.items) }
+{
+    let mut items = items;
+    make_counts(counts, items.as_slice())?;
+    records.append(&mut items)?;
+    Ok(())
+}
+
+fn one_if(passes: bool) -> u32
+    ensures { result ≡ (if passes then 1 else 0) }
+{
+    if passes { 1 } else { 0 }
+}
+
+/// These are the sequence numbers of the call that is out.
+fn put_names(place: &mut Vec<Seq>, names: Vec<Seq>)
+    ensures { place.new ≡ names }
+{
+    *place = names;
+}
+
+impl ReplayCore {
+    /// A core in which no record came, for so many calls in all.
+    pub fn new(
+        alloc: Global,
+        config: Config,
+        calls: u32,
+        said: Says,
+        ranges: Ranges,
+    ) -> Result<ReplayCore, OutOfMemory>
+        requires { IsStreamConfig config }
+        ensures { IfOk result (λ core. core ≡ new_view (record { config = replay_config config; calls = calls; said = said; ranges = ranges })) }
+    {
+        let history = Vec::with_capacity(alloc, 2)?;
+        Ok(ReplayCore {
+            config: replay_config(config),
+            calls,
+            said,
+            ranges,
+            records: Vec::new(alloc),
+            came: 0,
+            counts: BTreeMap::new(alloc),
+            named: 0,
+            waiting: None,
+            names: Vec::new(alloc),
+            history,
+            last: 0,
+            begun: 0,
+            owed: Owed::Nothing,
+        })
+    }
+
+    /// Decides on records that come, before the first call began. A list with a record that was found with another text is
+    /// refused whole, and the first such record is told. After a refusal the core is as before.
+    pub fn came(&mut self, alloc: Global, items: Vec<Record>) -> Result<(), Refusal>
+        requires settled { owed_of self.old ≡ [] }
+        requires early { self.old.past ≡ [] }
+        requires valid { All IsValidRecord items.items }
+        requires places { length self.old.records + length items.items < 2 ^ 32 }
+        ensures same { OnOk result (first_change self.old.opened.said self.old.records items.items ≡ None) }
+        ensures owes { OnOk result (self.new ≡ owing self.old items.items []) }
+        ensures refused { IfErr result (IsRefused (λ change. (first_change self.old.opened.said self.old.records items.items ≡ Some change)
+            × IsKeptChange self.old.opened.said change)) }
+        ensures unchanged { OnErr result (self.new ≡ self.old) }
+        ensures undone { OnOk result (forgotten self.new ≡ self.old) }
+    {
+        let change = first_change(alloc, &self.said, &self.counts, items.as_slice())?;
+        match refuse(alloc, change) {
+            Ok(()) => {}
+            Err(refusal) => return Err(refusal),
+        }
+        take_in(&mut self.counts, &mut self.records, items)?;
+        clear(&mut self.waiting);
+        put(&mut self.owed, still_coming(self.came, self.records.len()));
+        Ok(())
+    }
+
+    /// What the caller does next: `Finished` exactly where nothing waits, `Spent` where as many calls began as are allowed,
+    /// else the call, which is owed. No call is out. After `OutOfMemory` the core is as before. The first call after records
+    /// came passes over all of them once; each further one costs its own records.
+    pub fn next(&mut self, alloc: Global, moment: u64) -> Result<ReplayNext, OutOfMemory>
+        requires settled { owed_of self.old ≡ [] }
+        requires rests { (call_out self.old.past).places ≡ [] }
+        ensures answer { IfOk result (λ next. next ≡ next_of (setting_of self.old) self.old.past) }
+        ensures owes { IfOk result (λ next. self.new ≡ owing self.old [] (next_entries next (moment_for self.old.past moment))) }
+        ensures run { OnOk result (RunAhead self.new) }
+        ensures unchanged { OnErr result (self.new ≡ self.old) }
+        ensures undone { OnOk result (forgotten self.new ≡ self.old) }
+    {
+        if is_left(&self.owed) {
+            return Err(OutOfMemory);
+        }
+        make_first(
+            alloc,
+            &mut self.waiting,
+            &self.said,
+            &self.ranges,
+            self.records.as_slice(),
+        )?;
+        let Some(waiting) = &self.waiting else {
+            unreachable!()
+        };
+        let now = raised_to(self.last, moment);
+        let chosen = choose(
+            alloc,
+            &self.config,
+            self.calls,
+            self.begun,
+            waiting,
+            self.records.as_slice(),
+            now,
+        )?;
+        self.history.reserve(1)?;
+        put(&mut self.owed, chosen.owed);
+        Ok(chosen.next)
+    }
+
+    /// Decides what the end of the call that is out adds: its `Ended`, and a `Replayed` of the records that succeeded, where
+    /// there are any; answers their number. After `OutOfMemory` the core is as before.
+    pub fn done(
+        &mut self,
+        alloc: Global,
+        job: Job,
+        reply: Reply,
+        moment: u64,
+    ) -> Result<u32, OutOfMemory>
+        requires settled { owed_of self.old ≡ [] }
+        requires out { IsJobOut self.old.past job }
+        ensures count { IfOk result (λ n. n ≡ done_count (setting_of self.old) self.old.past reply) }
+        ensures owes { OnOk result (self.new ≡ owing self.old [] (done_entries (setting_of self.old) self.old.past job.lane reply (moment_for self.old.past moment))) }
+        ensures run { OnOk result (RunAhead self.new) }
+        ensures unchanged { OnErr result (self.new ≡ self.old) }
+        ensures undone { OnOk result (forgotten self.new ≡ self.old) }
+    {
+        if is_left(&self.owed) {
+            return Err(OutOfMemory);
+        }
+        let Some(waiting) = &self.waiting else {
+            unreachable!()
+        };
+        let now = raised_to(self.last, moment);
+        let ending = end_of(
+            alloc,
+            &self.config,
+            waiting,
+            self.names.as_slice(),
+            &job,
+            &reply,
+            now,
+        )?;
+        make_room(&mut self.waiting, &mut self.history)?;
+        let owed = Owed::Ended {
+            lane: job.lane,
+            reply: PastReply::of(&reply),
+            moment: now,
+            count: self.names.len() as u32,
+            parts: ending.parts,
+            replay: ending.replay,
+        };
+        put(&mut self.owed, owed);
+        Ok(ending.succeeded)
+    }
+
+    /// Gives up what is owed. Takes no memory.
+    pub fn forget(&mut self)
+        ensures { self.new ≡ forgotten self.old }
+    {
+        let owed = mem::replace(&mut self.owed, Owed::Nothing);
+        self.records.truncate(self.came);
+        put(&mut self.owed, given_up(owed));
+    }
+
+    /// What is true of every core, whoever made its calls: its history is a run of the replay over the records that came,
+    /// which are valid, also with all that is owed after it; what a journal keeps of it may be said; and no moment is past the
+    /// last one. Does nothing.
+    pub fn keeps(&self)
+        ensures run { IsReplay (setting_of self.now) self.now.past }
+        ensures ahead { RunAhead self.now }
+        ensures said { AllMayBeSaid (setting_of self.now).base self.now.past }
+        ensures valid { All IsValidRecord self.now.records }
+        ensures early { 1 ≤ length self.now.coming → self.now.past ≡ [] }
+        ensures in_time { last_moment self.now.past ≤ MAX_MOMENT }
+    {
+        let _ = &self.named;
+    }
+
+    /// Adds the first of what is owed. Takes no memory.
+    pub fn pay(&mut self)
+        requires { 0 < length (owed_of self.old) }
+        ensures { self.new ≡ paid self.old }
+    {
+        match mem::replace(&mut self.owed, Owed::Nothing) {
+            Owed::Nothing => unreachable!(),
+            Owed::Left => unreachable!(),
+            Owed::Coming => {
+                let item = &self.records[self.came];
+                let is_named = count_record(&mut self.counts, &self.said, &self.ranges, item);
+                self.named += one_if(is_named);
+                self.came += 1;
+                put(&mut self.owed, still_coming(self.came, self.records.len()));
+            }
+            Owed::Began {
+                lane,
+                places,
+                names,
+                moment,
+            } => {
+                self.history.push_reserved(Entry::Began {
+                    lane,
+                    places,
+                    closing: None,
+                    moment,
+                });
+                put_names(&mut self.names, names);
+                self.last = moment;
+                self.begun += 1;
+            }
+            Owed::Ended {
+                lane,
+                reply,
+                moment,
+                count,
+                parts,
+                replay,
+            } => {
+                self.history.push_reserved(Entry::Ended {
+                    lane,
+                    reply,
+                    moment,
+                });
+                end_call(&mut self.waiting, count, parts);
+                self.last = moment;
+                put(&mut self.owed, owing_replay(replay));
+            }
+            Owed::Replayed(replay) => {
+                self.history.push_reserved(Entry::Replayed {
+                    shard: replay.shard,
+                    places: replay.places,
+                    moment: replay.moment,
+                });
+                self.last = replay.moment;
+            }
+        }
+    }
+
+    /// How many entries are owed, a record that comes counting as one. Takes no memory.
+    pub fn owed_count(&self) -> usize
+        ensures { result ≡ length (owed_of self.now) }
+    {
+        self.records.len() - self.came + entries_owed(&self.owed)
+    }
+
+    /// The lengths in bytes of the owed payloads, in order.
+    pub fn owed_lengths(&self, alloc: Global) -> Result<Vec<u32>, OutOfMemory>
+        ensures { IfOk result (λ lengths. lengths.items ≡ lengths_of (written_of payload_in (owed_of self.now))) }
+    {
+        match replay_owed(&self.owed) {
+            None => Ok(Vec::new(alloc)),
+            Some(replay) => {
+                let mut lengths = Vec::new(alloc);
+                lengths.push(replay.payload.len() as u32)?;
+                Ok(lengths)
+            }
+        }
+    }
+
+    /// The payload of the first of what is owed, where it has one. Takes no memory.
+    pub fn first_payload(&self) -> Option<&[u8]>
+        requires { 0 < length (owed_of self.now) }
+        ensures payload { IfSome result (λ bytes. written_of payload_in (take 1 (owed_of self.entry.now)) ≡ bytes.now ∷ []) }
+        ensures short { IfSome result (λ bytes. length bytes.now ≤ MAX_PAYLOAD) }
+        ensures none { IfNone result (written_of payload_in (take 1 (owed_of self.entry.now)) ≡ []) }
+    {
+        match first_owed(&self.owed) {
+            None => None,
+            Some(replay) => Some(replay.payload.as_slice()),
+        }
+    }
+
+    /// The number of the records that came and are named. Takes no memory.
+    pub fn named(&self) -> u32
+        ensures { result ≡ named_count (setting_of self.now) }
+    {
+        self.named
+    }
+
+    /// The history, oldest entry first, without the records' arrivals. Takes no memory.
+    pub fn into_history(self) -> Vec<Entry>
+        ensures { result.items ≡ reverse self.past }
+    {
+        self.history
+    }
+}
