@@ -1,0 +1,9 @@
+pub mod Entries
+pub mod Deciding
+pub mod Going
+pub mod Endings
+pub mod Standing
+pub mod Items
+pub mod Leading
+pub mod Knowing
+pub mod Openings

@@ -1,0 +1,60 @@
+-- What is true of every replay's book, whoever made its calls. This product's own.
+use Rattle.std.specs.Prelude.{◌≡◌, ◌++◌, List, [], Option, Some, None, false, reverse}
+use Rattle.std.specs.List.{All}
+use Rattle.esm_io.specs.Meanings.{DiskMeaning}
+use Rattle.esm_model.specs.declared.book.Trouble.{Trouble}
+use Rattle.esm_model.specs.declared.book.Trouble.TheVariants.{Disk, Dest, Changed}
+use Rattle.esm_model.specs.declared.entry.Entry.{Entry}
+use Rattle.esm_model.specs.Valid.{IsValidRecord}
+use Rattle.esm_journal_record.specs.EntryPayload.{AllMayBeSaid}
+use Rattle.esm_book.specs.State.{is_disk, in_hand}
+use Rattle.esm_replay_model.specs.ReplayRun.{call_out, owed_replay, IsReplay}
+use Rattle.esm_replay_core.specs.declared.decisions.Opened.{Opened}
+use Rattle.esm_replay_core.specs.View.{setting_of, RunAhead}
+use Rattle.esm_replay_core.specs.Coming.{first_change}
+use Rattle.esm_replay_core.specs.Told.{IsChange}
+use Rattle.esm_replay_book.specs.Books.{BookState, payloads_in}
+
+-- where a record was kept with another text no call was made
+abbrev pub IsUncalled : Option Trouble → List Entry → Type 0
+IsUncalled None h = Unit {0}
+IsUncalled (Some Disk) h = Unit {0}
+IsUncalled (Some Dest) h = Unit {0}
+IsUncalled (Some (Changed change)) h = h ≡ []
+
+-- The history is a run of the replay over the records that came, of which none was kept with another text; it stays one with
+-- the entries that are owed, so that the first of them, which may be on the disk, may follow it. What the journal has of it may
+-- be said. Where the book is not down nothing is owed, also of what succeeded in the last call; where it is down no call is out.
+pub record IsSound {D : Type 0} (b : BookState D) : Type 0 where
+  pub run : IsReplay (setting_of b.core) b.core.past
+  pub ahead : RunAhead b.core
+  pub said : AllMayBeSaid (setting_of b.core).base b.core.past
+  pub valid : All IsValidRecord b.core.records
+  pub unchanged : first_change b.core.opened.said [] b.core.records ≡ None
+  pub none_coming : b.core.coming ≡ []
+  pub none_owed : b.trouble ≡ None → b.core.owed ≡ []
+  pub settled : b.trouble ≡ None → (owed_replay (setting_of b.core) b.core.past).places ≡ []
+  pub down_rests : (b.trouble ≡ None → ⊥) → (call_out b.core.past).places ≡ []
+  pub uncalled : IsUncalled b.trouble b.core.past
+
+-- why a book is down: a disk failed since the opening, or a record was kept with another text than it came with
+abbrev pub IsCause : Type 0 → Opened → Option Trouble → Type 0
+IsCause disk_failed o None = Unit {0}
+IsCause disk_failed o (Some Disk) = disk_failed
+IsCause disk_failed o (Some Dest) = ⊥
+IsCause disk_failed o (Some (Changed change)) = IsChange o change
+
+-- The journal has what was found and then the payloads of the history. It is the pair that was opened, and down exactly where
+-- a disk failed.
+pub record HasJournal {D : Type 0} (m : DiskMeaning D) (b : BookState D) : Type 0 where
+  pub payloads : b.pair.payloads ≡ b.found.payloads ++ payloads_in (setting_of b.core) (reverse b.core.past)
+  pub down : b.pair.down ≡ is_disk b.trouble
+  pub found_up : b.found.down ≡ false
+  pub epoch : b.pair.epoch ≡ b.found.epoch
+  pub swapped : b.pair.swapped ≡ b.found.swapped
+  pub spare : b.pair.spare ≡ b.found.spare
+  pub honesty : m.honest b.pair.used ≡ m.honest b.found.used
+
+-- the entries whose payloads a crash may leave: those of the history, and where a disk failed the one that was being written
+abbrev pub entries_left : {D : Type 0} → BookState D → List Entry
+entries_left b = reverse b.core.past ++ in_hand b.trouble b.core.owed

@@ -1,0 +1,6 @@
+pub mod Books
+pub mod Calls
+pub mod Keeping
+pub mod Opening
+pub mod Carried
+pub mod Serving

@@ -1,0 +1,102 @@
+// What a journal's payloads say, and which records the lines of the failure file name.
+ghost use Rattle.std.specs.Prelude.{◌≡◌, true, IfOk, IfErr, OnOk, reverse};
+ghost use Rattle.esm_model.specs.Valid.{IsStreamConfig};
+ghost use Rattle.esm_journal_state.specs.Meaning.{history, are_good};
+ghost use Rattle.esm_journal_state.specs.SaidLists.{IsInOrder};
+ghost use Rattle.esm_journal_state.specs.Tells.{Tells};
+ghost use Rattle.esm_replay_book.specs.Opening.{GiveRanges, IsBadPayloads, IsBadLines, IsCoreOver, IsNotOpened, IsLineError, IsTaken};
+
+use esm_journal_state::{Says, SaysError, says};
+use esm_model::{Bytes, Config, OutOfMemory};
+use esm_replay::{Ranges, read_failure};
+use esm_replay_core::ReplayCore;
+use esm_replay_model::Range;
+use std::alloc::Global;
+
+/// Why a replay's book was not opened.
+#[derive(Clone, Copy, Debug, PartialEq, Eq)]
+pub enum ReplayOpen {
+    /// The first payload of the journal that no book could have written.
+    BadPayload(u32),
+    /// The first line of the failure file that names no records of a shard.
+    BadLine(u32),
+    OutOfMemory,
+}
+
+impl From<OutOfMemory> for ReplayOpen {
+    ghost use Rattle.std.specs.Prelude.{◌≡◌};
+    ghost use Rattle.esm_replay_book.specs.declared.opening.ReplayOpen.{ReplayOpen};
+
+    ghost from_gives = { λ _ e. e ≡ ReplayOpen.OutOfMemory };
+
+    fn from(_: OutOfMemory) -> Self {
+        ReplayOpen::OutOfMemory
+    }
+}
+
+/// What the payloads say, the oldest first.
+fn read_journal(alloc: Global, payloads: &[Bytes]) -> Result<Says, ReplayOpen>
+    ensures told { IfOk result (λ said. Tells said (history (reverse payloads.now))) }
+    ensures order { IfOk result (λ said. IsInOrder said) }
+    ensures good { OnOk result (are_good (reverse payloads.now) ≡ true) }
+    ensures bad { IfErr result (IsBadPayloads payloads.now) }
+{
+    match says(alloc, payloads) {
+        Ok(said) => Ok(said),
+        Err(SaysError::BadPayload(index)) => Err(ReplayOpen::BadPayload(index)),
+        Err(SaysError::OutOfMemory) => Err(ReplayOpen::OutOfMemory),
+    }
+}
+
+/// That the line with this index is bad. No memory holds so many that 32 bits do not count them.
+fn bad_line(index: usize) -> ReplayOpen
+    ensures { IsLineError index result }
+{
+    match u32::try_from(index) {
+        Ok(index) => ReplayOpen::BadLine(index),
+        Err(_) => ReplayOpen::OutOfMemory,
+    }
+}
+
+/// Adds the range of one more line, where it gives one.
+fn take(alloc: Global, ranges: &mut Vec<Range>, line: &[u8]) -> Result<bool, OutOfMemory>
+    ensures { IfOk result (IsTaken line.now ranges.old.items ranges.new.items) }
+{
+    let Some(range) = read_failure(alloc, line)? else {
+        return Ok(false);
+    };
+    ranges.push(range)?;
+    Ok(true)
+}
+
+/// The ranges of the lines, in their order.
+fn read_lines(alloc: Global, lines: &[Bytes]) -> Result<Vec<Range>, ReplayOpen>
+    ensures given { IfOk result (λ ranges. GiveRanges lines.now ranges.items) }
+    ensures bad { IfErr result (IsBadLines lines.now) }
+{
+    let mut ranges = Vec::new(alloc);
+    for (index, line) in lines.iter().enumerate() {
+        if !take(alloc, &mut ranges, line.as_slice())? {
+            return Err(bad_line(index));
+        }
+    }
+    Ok(ranges)
+}
+
+/// The core of a book over a journal with these payloads, of the records that these lines name.
+pub(crate) fn open_over(
+    alloc: Global,
+    config: Config,
+    calls: u32,
+    payloads: &[Bytes],
+    lines: &[Bytes],
+) -> Result<ReplayCore, ReplayOpen>
+    requires config { IsStreamConfig config }
+    ensures opened { IfOk result (IsCoreOver config calls payloads.now lines.now) }
+    ensures refused { IfErr result (IsNotOpened payloads.now lines.now) }
+{
+    let said = read_journal(alloc, payloads)?;
+    let ranges = read_lines(alloc, lines)?;
+    let index = Ranges::new(alloc, ranges)?;
+    Ok(ReplayCore::new(alloc, config, calls, said, index)?)
+}
