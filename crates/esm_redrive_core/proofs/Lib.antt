@@ -1,1 +1,12 @@
 pub mod Settling
+pub mod Lines
+pub mod Keeping
+pub mod Noting
+pub mod Owing
+pub mod Deciding
+pub mod Stepping
+pub mod Arrived
+pub mod Telling
+pub mod Moving
+pub mod Due
+pub mod Fresh

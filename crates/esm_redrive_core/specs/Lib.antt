@@ -1,2 +1,11 @@
 pub mod Coming
 pub mod Sound
+pub mod RedriveView
+pub mod Refusing
+pub mod Adding
+pub mod Kept
+pub mod Inside
+pub mod Judged
+pub mod Ready
+pub mod Told
+pub mod Ahead

@@ -1,11 +1,18 @@
 //! What decisions leave of a legal history, each as the contract of a function that does nothing. A history is written
 //! newest entry first; it is settled where it calls for nothing more.
 ghost use Rattle.std.specs.Prelude.{List};
+ghost use Rattle.esm_redrive_core.specs.declared.decisions.RedriveCall.{RedriveCall};
+ghost use Rattle.esm_redrive_core.specs.declared.decisions.RedriveAnswer.{RedriveAnswer};
+ghost use Rattle.esm_redrive_core.specs.RedriveView.{RedriveView, owing};
+ghost use Rattle.esm_redrive_core.specs.Told.{MayAsk, IsAnswer, coming_by, entries_by};
+ghost use Rattle.esm_redrive_core.specs.Ahead.{IsConsistent, SoundAhead};
 ghost use Rattle.esm_model.specs.declared.item.Message.{Message};
 ghost use Rattle.esm_model.specs.declared.entry.Entry.{Entry};
 ghost use Rattle.esm_queue_model.specs.QueueSetting.{ExtendsMessages};
 ghost use Rattle.esm_redrive_model.specs.RedriveSetting.{RedriveSetting, redrive_over};
 ghost use Rattle.esm_redrive_core.specs.Sound.{Sound, MessagesAreSound, MoveIsSound, CallIsSound, EndIsSound, ShutIsSound};
+
+use esm_redrive::laws::due_by_queue;
 
 /// What is legal and settled over a list of messages is so over each list that goes on from it.
 pub fn sound_over_more()
@@ -38,3 +45,11 @@ pub fn end_is_sound()
 pub fn shut_is_sound()
     ensures { (s : RedriveSetting) (h : List Entry) → Sound s h → ShutIsSound s h }
 {}
+
+/// What a call that may be made decides, over a history that is legal and settled: with it the history is so too.
+pub fn decided_is_sound()
+    ensures { (v : RedriveView) (asked : RedriveCall) (given : RedriveAnswer) → IsConsistent v → Sound v.setting v.past → MayAsk v asked → IsAnswer v asked given →
+        SoundAhead (owing v (coming_by asked) (entries_by v asked)) }
+{
+    due_by_queue();
+}

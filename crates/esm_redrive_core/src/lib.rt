@@ -1,6 +1,15 @@
-//! What the decisions of a redrive leave of its history: each entry that comes next keeps it legal, and with all that a
-//! decision adds it calls for nothing more.
-//! Pure: no device, clock or thread.
+//! The decisions of a redrive, without its devices: which entry may come next, and what its batcher is to do. A message that
+//! was received as often as it may be is moved, with its line, before any call.
+//! Pure: values in, values out. No device, clock or thread.
 #![tactic(auto)]
 
+mod arriving;
+mod decisions;
+mod giving;
 pub mod laws;
+mod owed;
+mod paying;
+mod redrive_core;
+
+pub use decisions::{RedriveAnswer, RedriveCall, RedriveEntry, RedriveOpened};
+pub use redrive_core::RedriveCore;
