@@ -1,0 +1,5 @@
+pub mod Entries
+pub mod Bringing
+pub mod Going
+pub mod Ending
+pub mod Standing

@@ -1,0 +1,65 @@
+-- What is true of every book of a redrive, whoever made its calls. This product's own.
+use Rattle.std.specs.Prelude.{◌≡◌, ◌++◌, Bool, true, false, List, [], ◌∷◌, Option, Some, None, reverse}
+use Rattle.std.specs.List.{list_all}
+use Rattle.esm_model.specs.declared.entry.Entry.{Entry}
+use Rattle.esm_model.specs.declared.entry.Entry.TheVariants.{Ended, Shut}
+use Rattle.esm_model.specs.declared.item.Message.{Message}
+use Rattle.esm_model.specs.declared.book.Change.{Change}
+use Rattle.esm_model.specs.declared.book.Trouble.{Trouble}
+use Rattle.esm_model.specs.declared.book.Trouble.TheVariants.{Disk, Dest, Changed}
+use Rattle.esm_book.specs.State.{in_hand}
+use Rattle.esm_model.specs.Entries.{is_shut}
+use Rattle.esm_queue_model.specs.QueueSetting.{ExtendsMessages}
+use Rattle.esm_queue_model.specs.QueueStep.{unsorted_messages}
+use Rattle.esm_redrive_model.specs.RedriveSetting.{RedriveSetting, redrive_over}
+use Rattle.esm_redrive_model.specs.RedriveStep.{LegalRedrive, SettledRedrive}
+use Rattle.esm_redrive_model.specs.Due.{known}
+use Rattle.esm_redrive_core.specs.declared.decisions.RedriveEntry.{RedriveEntry}
+use Rattle.esm_redrive_core.specs.declared.decisions.RedriveOpened.{RedriveOpened}
+use Rattle.esm_redrive_core.specs.Ahead.{comes_first}
+use Rattle.esm_redrive_core.specs.Told.{history_of, owed_of, IsChange}
+use Rattle.esm_redrive_book.specs.Books.{BookState}
+
+-- it ends a call or the input
+abbrev pub is_end : Entry → Bool
+is_end (Ended lane reply moment) = true
+is_end (Shut moment) = true
+is_end _ = false
+
+-- the entry may follow a front of the history, after which calls and the input ended alone, over every list of messages that
+-- goes on from those that came
+pub record FollowsFront (s : RedriveSetting) (h : List Entry) (e : Entry) : Type 0 where
+  pub before : List Entry
+  pub later : List Entry
+  pub split : h ≡ later ++ before
+  pub ends : list_all is_end later ≡ true
+  pub follows : (messages : List Message) → ExtendsMessages s.queue.messages messages → LegalRedrive (redrive_over s messages) (e ∷ before)
+
+-- the input has not ended, and each message that waits passes the filter and has no line that was found
+pub record IsSorted (s : RedriveSetting) (h : List Entry) : Type 0 where
+  pub going : is_shut h ≡ false
+  pub recorded : known s h ≡ []
+  pub sorted : unsorted_messages s.queue h ≡ []
+
+-- The history is legal over the messages that came, and no others are coming. Where the book is not down nothing is owed, and
+-- nothing is called for; nor is a message to be recorded or filtered where one came with another id than was kept, which it
+-- does before the end of the input. The entry that was being written when a disk failed may follow a front of the history.
+pub record IsSound {D T : Type 0} (b : BookState D T) : Type 0 where
+  pub legal : LegalRedrive b.core.setting b.core.past
+  pub settled : b.trouble ≡ None → SettledRedrive b.core.setting b.core.past
+  pub changed : (change : Change) → b.trouble ≡ Some (Changed change) → IsSorted b.core.setting b.core.past
+  pub hand : (e : Entry) → in_hand b.trouble b.core.owed ≡ e ∷ [] → FollowsFront b.core.setting b.core.past e
+  pub none_owed : b.trouble ≡ None → b.core.owed ≡ []
+  pub none_coming : comes_first b.core.owed ≡ false
+
+-- why a book is down: a disk of the journal or the dead-letter file failed since the opening, or a message was found deleted
+-- and came with another id
+abbrev pub IsCause : (disk_failed dest_failed : Type 0) → RedriveOpened → Option Trouble → Type 0
+IsCause disk_failed dest_failed o None = Unit {0}
+IsCause disk_failed dest_failed o (Some Disk) = disk_failed
+IsCause disk_failed dest_failed o (Some Dest) = dest_failed
+IsCause disk_failed dest_failed o (Some (Changed change)) = IsChange o change
+
+-- the entries whose payloads a crash may leave: those of the history, and where a disk failed the one that was being written
+abbrev pub entries_left : {D T : Type 0} → BookState D T → List RedriveEntry
+entries_left b = reverse (history_of b.core) ++ in_hand b.trouble (owed_of b.core)

@@ -1,0 +1,5 @@
+pub mod Books
+pub mod Calls
+pub mod Keeping
+pub mod Opening
+pub mod Carried

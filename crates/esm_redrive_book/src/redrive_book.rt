@@ -1,0 +1,279 @@
+// The book of a redrive: messages that come, calls of the batcher, moves and deletions, over a journal and a dead-letter file.
+ghost use Rattle.std.specs.Prelude.{◌≡◌, ◌↔◌, ℕ, List, [], ◌++◌, None, Some, true, false, length, reverse, IfOk, IfErr, OnOk, OnErr, IsErrOf, IsSome};
+ghost use Rattle.std.specs.Option.{option_copied};
+ghost use Rattle.esm_io.specs.Faults.{Rose};
+ghost use Rattle.esm_io.specs.Images.{Only};
+ghost use Rattle.esm_io.specs.Meanings.{disk, destination};
+ghost use Rattle.esm_journal.specs.Pair.{PairKeepsWhileUp, first_disk, second_disk};
+ghost use Rattle.esm_journal.specs.Reads.{IsOnlyRead};
+ghost use Rattle.esm_model.specs.declared.book.Change.{Change};
+ghost use Rattle.esm_model.specs.declared.book.Trouble.TheVariants as trouble;
+ghost use Rattle.esm_model.specs.declared.entry.Entry.TheVariants as entry;
+ghost use Rattle.esm_model.specs.Entries.{is_shut, is_running};
+ghost use Rattle.esm_book.specs.Growth.{LeavesFronts, OpensToFront};
+ghost use Rattle.esm_book.specs.State.{IsKept};
+ghost use Rattle.esm_queue_model.specs.QueueEntries.{queue_lane};
+ghost use Rattle.esm_queue_core.specs.CoreView.{moment_for};
+ghost use Rattle.esm_redrive_core.specs.RedriveView.{IsRunningJob};
+ghost use Rattle.esm_redrive_core.specs.Refusing.{IsFirstChange};
+ghost use Rattle.esm_redrive_core.specs.Adding.{came_entries, redrive_next, redrive_next_entries, ended_entries};
+ghost use Rattle.esm_redrive_core.specs.Sound.{ended_places};
+ghost use Rattle.esm_redrive_core.specs.Ahead.{IsConsistent};
+ghost use Rattle.esm_redrive_core.specs.Told.{opened, MayCome};
+ghost use Rattle.esm_redrive_book.specs.Books.{redrive_meaning};
+ghost use Rattle.esm_redrive_book.specs.Calls.{AddedAll, AddedSome, AddedOne, RunsCall, IsSame};
+ghost use Rattle.esm_redrive_book.specs.Keeping.{IsSound, IsCause, entries_left};
+
+use crate::carrying::{Stop, carry, is_down, keeps, note_end, note_shut};
+use esm_book::{Durable, Parts};
+use esm_io::{Dest, Disk};
+use esm_journal::Pair;
+use esm_model::{BookError, CameError, Entry, Job, Message, Next, Reply, Trouble};
+use esm_redrive_core::{RedriveAnswer, RedriveCall, RedriveCore};
+use std::alloc::Global;
+use std::marker::Model;
+use std::snapshot::Snapshot;
+
+/// What a redrive is made of: its history, oldest entry first, its journal and its dead-letter file; and why it is down,
+/// where it is.
+#[derive(Drop)]
+pub struct RedriveParts<D: Disk, T> {
+    pub history: Vec<Entry>,
+    pub trouble: Option<Trouble>,
+    pub pair: Pair<D>,
+    pub dead: T,
+}
+
+/// The book of a redrive: which messages came, which are being called, which are deleted and which are moved, with each
+/// deletion in a journal of two files, and each dead letter in a file of its own (Amazon SQS Developer Guide, "Using
+/// dead-letter queues"). After the first fault of a disk, or the first message that was found deleted and came with another
+/// id, it is down.
+///
+/// Moments are in milliseconds since 1970; an entry has the moment that is handed in, or that of the last entry where that
+/// is later, and at most 9999-12-31T23:59:59.999Z. Places count messages in order of arrival. There is one batcher.
+#[derive(Drop)]
+pub struct Redrive<D: Disk, T: Dest> {
+    durable: Durable<RedriveCore, D, T>,
+}
+
+impl<D: Disk, T: Dest> Model for Redrive<D, T> {
+    ghost use Rattle.esm_redrive_book.specs.Books.{BookState};
+    ghost use Rattle.esm_redrive_book.specs.Keeping.{IsSound};
+
+    ghost Value = { BookState D T };
+
+    ghost view = { λ b. b.durable };
+
+    ghost invariant = { λ b. IsSound b.durable };
+}
+
+impl<D: Disk, T: Dest> Redrive<D, T> {
+    /// A redrive whose core has no history, over devices that have not failed. Takes no memory.
+    pub(crate) fn over(core: RedriveCore, pair: Pair<D>, dead: T) -> Redrive<D, T>
+        requires empty { core.past ≡ [] }
+        requires rests { core.coming ≡ [] }
+        requires settled { core.owed ≡ [] }
+        requires up { pair.down ≡ false }
+        requires usable { T.failed dead ≡ false }
+        ensures { result ≡ record { core = core; pair = pair; dest = dead; trouble = None; found = pair; found_dest = dead } }
+    {
+        Redrive {
+            durable: Durable::new(core, pair, dead),
+        }
+    }
+
+    /// Messages come: one `Came` where there are any; then those are recorded as moved whose line was found, without a
+    /// second line; and then those of the others are deleted that fail the filter and were not found deleted. A list with a
+    /// message that was found deleted with another id is refused whole, and the first such message is told. After
+    /// `DiskFault` the entries that were written before the fault stay.
+    pub fn came(&mut self, alloc: Global, items: Vec<Message>, moment: u64) -> Result<(), CameError>
+        requires may { MayCome self.old.core items.items }
+        // What is added, and what a crash leaves.
+        ensures added { OnOk result (AddedAll (disk D.Disk) (destination T.Dest)
+            (self.old.core.setting.queue.messages ++ items.items) self.old self.new (came_entries self.old.core items.items moment)) }
+        ensures stopped { IsErrOf result CameError.DiskFault → AddedSome (disk D.Disk) (destination T.Dest)
+            (self.old.core.setting.queue.messages ++ items.items) self.old self.new (came_entries self.old.core items.items moment) trouble.Disk }
+        // When each error comes, and what it leaves.
+        ensures cause { IsErrOf result CameError.DiskFault → Rose (D.faults self.old.pair.used) (D.faults self.new.pair.used) }
+        ensures changed { (change : Change) → IsErrOf result (CameError.StreamChanged change) →
+            (self.old.trouble ≡ None) × IsFirstChange self.old.core items.items change
+            × (self.new ≡ record self.old { trouble = Some (trouble.Changed change) }) }
+        ensures is_changed { (change : Change) → IsFirstChange self.old.core items.items change → (OnOk result ⊥) × (IsErrOf result CameError.DiskFault → ⊥) }
+        ensures down { IsErrOf result CameError.Down ↔ IsSome self.old.trouble }
+        ensures left { IsErrOf result CameError.Down → self.new ≡ self.old }
+        ensures no_memory { IsErrOf result CameError.OutOfMemory → IsSame (destination T.Dest) self.old self.new }
+    {
+        if is_down(&self.durable) {
+            return Err(CameError::Down);
+        }
+        match carry(&mut self.durable, alloc, RedriveCall::Came(items, moment)) {
+            Ok(_) => Ok(()),
+            Err(Stop::DiskFault) => Err(CameError::DiskFault),
+            Err(Stop::DestFault) => unreachable!(),
+            Err(Stop::Changed(change)) => Err(CameError::StreamChanged(change)),
+            Err(Stop::OutOfMemory) => Err(CameError::OutOfMemory),
+        }
+    }
+
+    /// The input ended. `Down` exactly where an earlier call found trouble, and no other error; the book is then as before.
+    /// Takes no memory.
+    pub fn shut(&mut self, moment: u64) -> Result<(), BookError>
+        requires going { is_shut self.old.core.past ≡ false }
+        ensures added { OnOk result (AddedOne self.old self.new (entry.Shut (moment_for self.old.core.past moment))) }
+        ensures down { IsErrOf result BookError.Down ↔ IsSome self.old.trouble }
+        ensures only_down { IfErr result (λ why. why ≡ BookError.Down) }
+        ensures left { OnErr result (self.new ≡ self.old) }
+    {
+        if is_down(&self.durable) {
+            return Err(BookError::Down);
+        }
+        note_shut(&mut self.durable, moment);
+        Ok(())
+    }
+
+    /// What the batcher does next. Where a message is due, the first one is moved: its line is appended to the dead-letter
+    /// file, and then its deletion to the journal. Else the first rule of a queue that holds decides, and a call begins
+    /// where that is a call. The batcher is not running a call.
+    pub fn next(&mut self, alloc: Global, moment: u64) -> Result<Next, BookError>
+        requires rests { is_running self.old.core.past (queue_lane 0) ≡ false }
+        // What is answered and added, and what a crash leaves.
+        ensures answer { IfOk result (λ next. next ≡ redrive_next self.old.core.setting self.old.core.past (moment_for self.old.core.past moment)) }
+        ensures added { OnOk result (AddedAll (disk D.Disk) (destination T.Dest)
+            self.old.core.setting.queue.messages self.old self.new
+            (redrive_next_entries self.old.core.setting self.old.core.past (moment_for self.old.core.past moment))) }
+        ensures stopped { IsErrOf result BookError.DiskFault → AddedSome (disk D.Disk) (destination T.Dest)
+            self.old.core.setting.queue.messages self.old self.new
+            (redrive_next_entries self.old.core.setting self.old.core.past (moment_for self.old.core.past moment)) trouble.Disk }
+        ensures undelivered { IsErrOf result BookError.DestFault → AddedSome (disk D.Disk) (destination T.Dest)
+            self.old.core.setting.queue.messages self.old self.new
+            (redrive_next_entries self.old.core.setting self.old.core.past (moment_for self.old.core.past moment)) trouble.Dest }
+        ensures runs { IfOk result (RunsCall self.new.core.past) }
+        // When each error comes, and what it leaves.
+        ensures disk_cause { IsErrOf result BookError.DiskFault → Rose (D.faults self.old.pair.used) (D.faults self.new.pair.used) }
+        ensures dest_cause { IsErrOf result BookError.DestFault → Rose (T.faults self.old.dest) (T.faults self.new.dest) }
+        ensures down { IsErrOf result BookError.Down ↔ IsSome self.old.trouble }
+        ensures left { IsErrOf result BookError.Down → self.new ≡ self.old }
+        ensures no_memory { IsErrOf result BookError.OutOfMemory → IsSame (destination T.Dest) self.old self.new }
+    {
+        if is_down(&self.durable) {
+            return Err(BookError::Down);
+        }
+        match carry(&mut self.durable, alloc, RedriveCall::Next(moment)) {
+            Ok(RedriveAnswer::Next(next)) => Ok(next),
+            Ok(RedriveAnswer::Taken | RedriveAnswer::Deleted(_)) => unreachable!(),
+            Err(Stop::DiskFault) => Err(BookError::DiskFault),
+            Err(Stop::DestFault) => Err(BookError::DestFault),
+            Err(Stop::Changed(_)) => unreachable!(),
+            Err(Stop::OutOfMemory) => Err(BookError::OutOfMemory),
+        }
+    }
+
+    /// The job's call came to this reply: its `Ended`, and then the deletion of the messages that succeeded and are not
+    /// deleted, where there are any; answers their number (Lambda Developer Guide, "Implementing partial batch responses").
+    /// On a book that is down the `Ended` alone is added. The job is the running one.
+    pub fn done(
+        &mut self,
+        alloc: Global,
+        job: Job,
+        reply: Reply,
+        moment: u64,
+    ) -> Result<u32, BookError>
+        requires runs { IsRunningJob self.old.core.past job }
+        // What is answered and added, and what a crash leaves.
+        ensures answer { IfOk result (λ count. count ≡
+            length (ended_places self.old.core.setting self.old.core.past reply (moment_for self.old.core.past moment))) }
+        ensures added { OnOk result (AddedAll (disk D.Disk) (destination T.Dest)
+            self.old.core.setting.queue.messages self.old self.new
+            (ended_entries self.old.core.setting self.old.core.past reply (moment_for self.old.core.past moment))) }
+        ensures stopped { IsErrOf result BookError.DiskFault → AddedSome (disk D.Disk) (destination T.Dest)
+            self.old.core.setting.queue.messages self.old self.new
+            (ended_entries self.old.core.setting self.old.core.past reply (moment_for self.old.core.past moment)) trouble.Disk }
+        ensures noted { IsErrOf result BookError.Down → AddedOne self.old self.new (entry.Ended job.lane reply (moment_for self.old.core.past moment)) }
+        // When each error comes, and what it leaves.
+        ensures cause { IsErrOf result BookError.DiskFault → Rose (D.faults self.old.pair.used) (D.faults self.new.pair.used) }
+        ensures no_dest { IsErrOf result BookError.DestFault → ⊥ }
+        ensures down { IsErrOf result BookError.Down ↔ IsSome self.old.trouble }
+        ensures no_memory { IsErrOf result BookError.OutOfMemory → IsSame (destination T.Dest) self.old self.new }
+    {
+        if is_down(&self.durable) {
+            note_end(&mut self.durable, job, reply, moment);
+            return Err(BookError::Down);
+        }
+        match carry(
+            &mut self.durable,
+            alloc,
+            RedriveCall::Done(job, reply, moment),
+        ) {
+            Ok(RedriveAnswer::Deleted(count)) => Ok(count),
+            Ok(RedriveAnswer::Taken | RedriveAnswer::Next(_)) => unreachable!(),
+            Err(Stop::DiskFault) => Err(BookError::DiskFault),
+            Err(Stop::DestFault) => unreachable!(),
+            Err(Stop::Changed(_)) => unreachable!(),
+            Err(Stop::OutOfMemory) => Err(BookError::OutOfMemory),
+        }
+    }
+
+    /// Whether the input ended. Takes no memory.
+    pub fn is_shut(&self) -> bool
+        ensures { result ≡ is_shut self.now.core.past }
+    {
+        self.durable.core().is_shut()
+    }
+
+    /// The first fault or change that a call answered; `None` exactly where none did. Its clauses say what the type keeps
+    /// of any redrive, whoever made its calls. Takes no memory.
+    pub fn trouble(&self) -> Option<&Trouble>
+        ensures value { option_copied result ≡ self.now.trouble }
+        ensures cause { IsCause (Rose (D.faults self.now.found.used) (D.faults self.now.pair.used))
+            (Rose (T.faults self.now.found_dest) (T.faults self.now.dest)) (opened self.now.core) self.now.trouble }
+        // The history, and what the devices have beyond those that were handed in.
+        ensures sound { IsSound self.now }
+        ensures consistent { IsConsistent self.now.core }
+        ensures written { IsKept redrive_meaning (disk D.Disk) (destination T.Dest) self.now }
+        // What a crash leaves: of both disks since the opening, and now.
+        ensures images { LeavesFronts redrive_meaning (disk D.Disk) (destination T.Dest)
+            self.now.found self.now.pair self.now.found_dest self.now.dest (entries_left self.now) }
+        ensures kept { PairKeepsWhileUp (disk D.Disk) self.now.pair }
+    {
+        keeps(&self.durable);
+        self.durable.trouble()
+    }
+
+    /// What the disks leave since a moment at which nobody had opened them yet, where each had one image then, as after a
+    /// crash or a sync. Does nothing.
+    pub fn since_before(&self, journal: &Snapshot<D>, spare: &Snapshot<D>)
+        requires first { IsOnlyRead (disk D.Disk) journal.now.value (first_disk self.now.found) }
+        requires second { IsOnlyRead (disk D.Disk) spare.now.value (second_disk self.now.found) }
+        ensures { D.honest journal.now.value ≡ true → D.honest spare.now.value ≡ true →
+            Only (D.content journal.now.value) (D.image journal.now.value) → Only (D.content spare.now.value) (D.image spare.now.value) → (one other : List ℕ) →
+            D.image_since (first_disk self.now.pair) (D.moment journal.now.value) one →
+            D.image_since (second_disk self.now.pair) (D.moment spare.now.value) other →
+            OpensToFront redrive_meaning (destination T.Dest) self.now.found.epoch self.now.found.payloads
+            self.now.found_dest self.now.dest (entries_left self.now) one other }
+    {
+        self.durable.since_before(journal, spare);
+    }
+
+    /// The history, the first fault or change that a call answered, the journal and the dead-letter file, as the calls left
+    /// them. Takes no memory.
+    pub fn into_parts(self) -> RedriveParts<D, T>
+        ensures history { result.history.items ≡ reverse self.core.past }
+        ensures trouble { result.trouble ≡ self.trouble }
+        ensures pair { result.pair ≡ self.pair }
+        ensures dead { result.dead ≡ self.dest }
+    {
+        let Redrive { durable } = self;
+        let Parts {
+            core,
+            pair,
+            dest,
+            trouble,
+        } = durable.into_parts();
+        RedriveParts {
+            history: core.into_history(),
+            trouble,
+            pair,
+            dead: dest,
+        }
+    }
+}
