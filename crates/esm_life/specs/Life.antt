@@ -1,0 +1,135 @@
+-- The life of a stream's mapping: its runs, however each stopped, and what was written in place of its journal's content
+-- between them. What came last stands first. This product's own.
+use Rattle.std.specs.Prelude.{◌≡◌, ◌⊎◌, ℕ, ◌<◌, ◌≤◌, Bool, true, false, IsTrue, IsSome, List, [], ◌∷◌, ◌++◌, length, Option, Some, None, is_some, option_map, reverse, take_while}
+use Rattle.std.specs.List.{list_any, list_all}
+use Rattle.esm_model.specs.declared.item.Record.{Record}
+use Rattle.esm_model.specs.declared.lane.LaneId.{LaneId}
+use Rattle.esm_model.specs.declared.entry.Fate.{Fate}
+use Rattle.esm_model.specs.declared.entry.WindowState.{WindowState}
+use Rattle.esm_model.specs.declared.entry.Entry.{Entry}
+use Rattle.esm_model.specs.declared.entry.Entry.TheVariants.{Began, Ended, Gave, Shut}
+use Rattle.esm_model.specs.Setting.{Setting, record_at}
+use Rattle.esm_model.specs.Entries.{holds, came_count}
+use Rattle.esm_model.specs.Fates.{below, names_place}
+use Rattle.esm_model.specs.Checkpoint.{checkpoint}
+use Rattle.esm_model.specs.Step.{Legal}
+use Rattle.esm_model.specs.Earned.{IsEarned}
+use Rattle.esm_journal_record.specs.EntryPayload.{AllMayBeSaid}
+use Rattle.esm_journal_state.specs.declared.kept.KeptFate.{KeptFate}
+use Rattle.esm_journal_state.specs.Meaning.{fate_said, history, are_good}
+use Rattle.esm_journal_state.specs.Compact.{SameSaid}
+use Rattle.esm_life.specs.Content.{IsOpenedOver, content_after}
+
+-- a run: what happened in it, and what of that its journal kept
+pub record Run : Type 0 where
+  pub setting : Setting
+  pub happened : List Entry
+  pub recorded : List Entry
+
+-- a run, or a list of payloads that was written in place of the content, the oldest first
+pub data Stage : Type 0 where
+  Ran : Run → Stage
+  Rewritten : List (List ℕ) → Stage
+
+-- the journal's content after the stages; it begins empty
+abbrev pub content : List Stage → List (List ℕ)
+content [] = []
+content (Ran r ∷ stages) = content_after r.setting r.recorded (content stages)
+content (Rewritten list ∷ stages) = list
+
+-- what a run may leave
+
+-- the entry ends a call or the input
+abbrev pub is_end : Entry → Bool
+is_end (Ended lane reply moment) = true
+is_end (Shut moment) = true
+is_end _ = false
+
+-- an entry was in hand when a disk failed: it may follow a front of what happened, after which calls and the input ended alone
+pub record HasHand (happened recorded : List Entry) : Type 0 where
+  pub hand : Entry
+  pub before : List Entry
+  pub later : List Entry
+  pub recorded_is : recorded ≡ hand ∷ before
+  pub happened_is : happened ≡ later ++ before
+  pub ends : list_all is_end later ≡ true
+
+-- the journal kept a front of what happened, or that and the entry in hand
+abbrev pub IsRecorded : (happened recorded : List Entry) → Type 0
+IsRecorded happened recorded = ((lost : List Entry) × (happened ≡ lost ++ recorded)) ⊎ HasHand happened recorded
+
+-- the run found this content, what happened in it is legal, and so is what its journal kept
+pub record IsRunOver (r : Run) (old : List (List ℕ)) : Type 0 where
+  pub opened : IsOpenedOver r.setting old
+  pub legal : Legal r.setting r.happened
+  pub legal_recorded : Legal r.setting r.recorded
+  pub may_be_said : AllMayBeSaid r.setting r.recorded
+  pub kept : IsRecorded r.happened r.recorded
+
+-- the list says what the content said, and its payloads are good
+pub record SaysTheSame (list old : List (List ℕ)) : Type 0 where
+  pub same : SameSaid (history (reverse list)) (history (reverse old))
+  pub good : are_good (reverse list) ≡ true
+
+-- each run found what the stages before it left
+abbrev pub IsLife : List Stage → Type 0
+IsLife [] = Unit {0}
+IsLife (Ran r ∷ stages) = IsLife stages × IsRunOver r (content stages)
+IsLife (Rewritten list ∷ stages) = IsLife stages × SaysTheSame list (content stages)
+
+-- what is recorded
+
+-- the fate of the shard's place by the content
+abbrev pub recorded_fate : List Stage → ℕ → ℕ → Option Fate
+recorded_fate life n i = option_map (λ (k : KeptFate). k.fate) (fate_said (history (reverse (content life))) n i)
+
+-- of so many records of the shard the longest prefix in which each has a fate by the content
+abbrev pub recorded_checkpoint : List Stage → ℕ → ℕ → ℕ
+recorded_checkpoint life n count = length (take_while (λ i. is_some (recorded_fate life n i)) (below count))
+
+-- laws
+
+-- a recorded fate stays
+abbrev pub FateStays : (later before : List Stage) → Type 0
+FateStays later before = (n i : ℕ) (f : Fate) → recorded_fate before n i ≡ Some f → recorded_fate (later ++ before) n i ≡ Some f
+
+-- the run gave the place this fate, and it was earned there
+pub record IsGivenIn (r : Run) (n i : ℕ) (f : Fate) : Type 0 where
+  pub later : List Entry
+  pub before : List Entry
+  pub by : Option LaneId
+  pub places : List ℕ
+  pub line : Option (List ℕ)
+  pub state : Option WindowState
+  pub moment : ℕ
+  pub gave : r.recorded ≡ later ++ Gave by n places f line state moment ∷ before
+  pub named : IsTrue (holds places i)
+  pub earned : IsEarned r.setting before by n places f moment
+
+-- a fate that is recorded after a run, and was not before it, was given in it
+abbrev pub EachIsEarned : Run → List Stage → Type 0
+EachIsEarned r before = (n i : ℕ) (f : Fate) → recorded_fate before n i ≡ None → recorded_fate (Ran r ∷ before) n i ≡ Some f → IsGivenIn r n i f
+
+-- no call of the run holds a record that had a recorded fate when it began, or was given one before the call
+abbrev pub NoneIsCalledAgain : Run → List Stage → Type 0
+NoneIsCalledAgain r before =
+    (later earlier : List Entry) (lane : LaneId) (places : List ℕ) (closing : Option ℕ) (m : ℕ) → r.happened ≡ later ++ Began lane places closing m ∷ earlier
+    → (i : ℕ) → IsTrue (holds places i)
+    → (recorded_fate before lane.shard i ≡ None) × (list_any (names_place lane.shard i) earlier ≡ false)
+
+-- a call of the run holds a key's record only where each earlier record of the key had a recorded fate when the run began, was
+-- given one before the call, or is in the batch too
+abbrev pub KeysInOrder : Run → List Stage → Type 0
+KeysInOrder r before =
+    (later earlier : List Entry) (lane : LaneId) (places : List ℕ) (closing : Option ℕ) (m : ℕ) → r.happened ≡ later ++ Began lane places closing m ∷ earlier
+    → (i j : ℕ) (one other : Record) → record_at r.setting lane.shard i ≡ Some one → record_at r.setting lane.shard j ≡ Some other → other.key ≡ one.key
+    → IsTrue (holds places i) → j < i
+    → IsTrue (holds places j) ⊎ (IsSome (recorded_fate before lane.shard j) ⊎ IsTrue (list_any (names_place lane.shard j) earlier))
+
+-- the checkpoint by the content never falls, however many more records there are
+abbrev pub CheckpointStays : (later before : List Stage) → Type 0
+CheckpointStays later before = (n count more : ℕ) → count ≤ more → recorded_checkpoint before n count ≤ recorded_checkpoint (later ++ before) n more
+
+-- after a run it is the checkpoint of what its journal kept
+abbrev pub CheckpointIsRuns : Run → List Stage → Type 0
+CheckpointIsRuns r before = (n : ℕ) → recorded_checkpoint (Ran r ∷ before) n (came_count r.recorded n) ≡ checkpoint r.setting r.recorded n
