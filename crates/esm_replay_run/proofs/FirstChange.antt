@@ -1,0 +1,137 @@
+-- The record that brought a change is the first of the input that differs from what was kept: those that came before do not.
+use Rattle.std.proofs.Common.{◌≡◌, ◌+◌, ℕ, zero, suc, Bool, true, false, List, [], ◌∷◌, ◌++◌, length, refl, sym, ap, ◌∙◌, arith, append_assoc, append-nil, Option, Some, None}
+use Rattle.std.specs.Prelude.{◌==◌, slice_get, option_map}
+use Rattle.std.specs.Option.{option_or}
+use Rattle.std.proofs.lemmas.Bool.{eq-eqb, eqb-true}
+use Rattle.std.proofs.lemmas.List.{length-append}
+use Rattle.esm_model.specs.declared.item.Record.{Record}
+use Rattle.esm_model.specs.declared.book.Change.{Change}
+use Rattle.esm_journal_state.specs.SaidLists.{SaidLists}
+use Rattle.esm_replay.specs.Records.{of_shard}
+use Rattle.esm_replay_core.specs.Coming.{kept_otherwise, change_of, change_at, first_change}
+use Rattle.esm_replay_book.proofs.Deciding.{change-append}
+use Rattle.esm_replay_book.proofs.Items.{shard-append}
+
+-- places of records
+
+pub get_seam : (xs ys : List Record) (r : Record) → slice_get (xs ++ r ∷ ys) (length xs) ≡ Some r
+get_seam [] ys r = refl
+get_seam (x ∷ xs) ys r = get_seam xs ys r
+
+get_front : (xs ys : List Record) (i : ℕ) (r : Record) → slice_get xs i ≡ Some r → slice_get (xs ++ ys) i ≡ Some r
+get_front [] ys i r at = absurd (cc)
+get_front (x ∷ xs) ys zero r at = at
+get_front (x ∷ xs) ys (suc i) r at = get_front xs ys i r at
+
+own_first : (r : Record) (rs : List Record) → of_shard r.shard (r ∷ rs) ≡ r ∷ of_shard r.shard rs
+own_first r rs = rw (eq-eqb r.shard r.shard refl) refl
+
+-- behind records, one of a shard stands at the place that they leave
+at_place : (done more : List Record) (r : Record) → slice_get (of_shard r.shard (done ++ r ∷ more)) (length (of_shard r.shard done)) ≡ Some r
+at_place done more r =
+    ap (λ (rs : List Record). slice_get rs (length (of_shard r.shard done)))
+    (shard-append r.shard done (r ∷ more) ∙ ap (λ (rs : List Record). of_shard r.shard done ++ rs) (own_first r more))
+    ∙ get_seam (of_shard r.shard done) (of_shard r.shard more) r
+
+-- none was kept otherwise
+
+-- of each shard none
+abbrev pub NoneChanged : SaidLists → List Record → Type 0
+NoneChanged told rs = (n i : ℕ) (r : Record) → slice_get (of_shard n rs) i ≡ Some r → kept_otherwise told n i r.seq ≡ None
+
+none_of : (o : Option (List ℕ)) (r : Record) (i : ℕ) → option_map (change_of r i) o ≡ None → o ≡ None
+none_of None r i is = refl
+none_of (Some kept) r i is = absurd (cc)
+
+or_none : (a b : Option Change) → option_or a b ≡ None → (a ≡ None) × (b ≡ None)
+or_none None b is = (refl, is)
+or_none (Some change) b is = absurd (cc)
+
+-- of records behind those before, none by its place
+none_behind : (told : SaidLists) (before rs : List Record) (n i : ℕ) (r : Record) → first_change told before rs ≡ None → slice_get (of_shard n rs) i ≡ Some r → kept_otherwise told n (length (of_shard n before) + i) r.seq ≡ None
+none_behind told before [] n i r none at = absurd (cc)
+none_behind told before (x ∷ rs) n i r none at = by_shard told before rs x n i r (x.shard == n) refl (or_none (change_at told before x) (first_change told (before ++ x ∷ []) rs) none) (λ i at. none_behind told (before ++ x ∷ []) rs n i r (or_none (change_at told before x) (first_change told (before ++ x ∷ []) rs) none).1 at) at
+  where
+    other_place : (before : List Record) (x : Record) (n : ℕ) → (x.shard == n) ≡ false → of_shard n (before ++ x ∷ []) ≡ of_shard n before
+    other_place before x n is = shard-append n before (x ∷ []) ∙ (rw is (append-nil (of_shard n before)))
+
+    own_place : (before : List Record) (x : Record) (n : ℕ) → (x.shard == n) ≡ true → length (of_shard n (before ++ x ∷ [])) ≡ length (of_shard n before) + 1
+    own_place before x n is =
+        let list : of_shard n (before ++ x ∷ []) ≡ of_shard n before ++ x ∷ [] = shard-append n before (x ∷ []) ∙ (rw is refl) in
+        ap (λ (rs : List Record). length rs) list ∙ length-append (of_shard n before) (x ∷ [])
+
+    by_shard : (told : SaidLists) (before rs : List Record) (x : Record) (n i : ℕ) (r : Record) (own : Bool) → (x.shard == n) ≡ own → (change_at told before x ≡ None) × (first_change told (before ++ x ∷ []) rs ≡ None)
+        → ((i : ℕ) → slice_get (of_shard n rs) i ≡ Some r → kept_otherwise told n (length (of_shard n (before ++ x ∷ [])) + i) r.seq ≡ None) → slice_get (of_shard n (x ∷ rs)) i ≡ Some r
+        → kept_otherwise told n (length (of_shard n before) + i) r.seq ≡ None
+    by_shard told before rs x n i r false is none later at =
+        let there : slice_get (of_shard n rs) i ≡ Some r = rw is at at in
+        ap (λ (xs : List Record). kept_otherwise told n (length xs + i) r.seq) (sym (other_place before x n is)) ∙ later i there
+    by_shard told before rs x n zero r true is none later at =
+        let here : Some x ≡ Some r = rw is at at in
+        let same : x ≡ r = cc in
+        let shard : x.shard ≡ n = eqb-true x.shard n is in
+        let none_here : kept_otherwise told x.shard (length (of_shard x.shard before)) x.seq ≡ None = none_of (kept_otherwise told x.shard (length (of_shard x.shard before)) x.seq) x (length (of_shard x.shard before)) none.0 in
+        let place : length (of_shard n before) + 0 ≡ length (of_shard n before) = omega arith in
+        ap (λ (k : ℕ). kept_otherwise told n k r.seq) place
+        ∙ (ap (λ (y : Record). kept_otherwise told n (length (of_shard n before)) y.seq) (sym same)
+        ∙ (ap (λ (k : ℕ). kept_otherwise told k (length (of_shard k before)) x.seq) (sym shard) ∙ none_here))
+    by_shard told before rs x n (suc i) r true is none later at =
+        let there : slice_get (of_shard n rs) i ≡ Some r = rw is at at in
+        let longer = own_place before x n is in
+        let place : length (of_shard n before) + suc i ≡ length (of_shard n (before ++ x ∷ [])) + i = omega (arith, longer) in
+        ap (λ (k : ℕ). kept_otherwise told n k r.seq) place ∙ later i there
+
+pub none_changed : (told : SaidLists) (rs : List Record) → first_change told [] rs ≡ None → NoneChanged told rs
+none_changed told rs none n i r at =
+    let place : 0 + i ≡ i = omega arith in
+    ap (λ (k : ℕ). kept_otherwise told n k r.seq) (sym place) ∙ none_behind told [] rs n i r none at
+
+-- so of the first records of each shard
+pub first_unchanged : (told : SaidLists) (rs qs : List Record) → ((n : ℕ) → (rest : List Record) × (of_shard n qs ≡ of_shard n rs ++ rest)) → NoneChanged told qs → NoneChanged told rs
+first_unchanged told rs qs some none n i r at =
+    none n i r (ap (λ (xs : List Record). slice_get xs i) (some n).1 ∙ get_front (of_shard n rs) (some n).0 i r at)
+
+-- and of their list
+none_in : (told : SaidLists) (all done rs : List Record) → NoneChanged told all → all ≡ done ++ rs → first_change told done rs ≡ None
+none_in told all done [] none split = refl
+none_in told all done (r ∷ rs) none split =
+    let at : slice_get (of_shard r.shard all) (length (of_shard r.shard done)) ≡ Some r = ap (λ (xs : List Record). slice_get (of_shard r.shard xs) (length (of_shard r.shard done))) split ∙ at_place done rs r in
+    ap (λ (o : Option (List ℕ)). option_or (option_map (change_of r (length (of_shard r.shard done))) o) (first_change told (done ++ r ∷ []) rs)) (none r.shard (length (of_shard r.shard done)) r at)
+    ∙ none_in told all (done ++ r ∷ []) rs none (split ∙ sym (append_assoc done (r ∷ []) rs))
+
+pub none_first : (told : SaidLists) (rs : List Record) → NoneChanged told rs → first_change told [] rs ≡ None
+none_first told rs none = none_in told rs [] rs none refl
+
+-- the first that was
+
+-- it rests on the number of records before it of each shard
+same_place : (told : SaidLists) (a b : List Record) (r : Record) → length (of_shard r.shard a) ≡ length (of_shard r.shard b) → change_at told a r ≡ change_at told b r
+same_place told a b r same = ap (λ (k : ℕ). option_map (change_of r k) (kept_otherwise told r.shard k r.seq)) same
+
+same_behind : (told : SaidLists) (a b rs : List Record) → ((n : ℕ) → length (of_shard n a) ≡ length (of_shard n b)) → first_change told a rs ≡ first_change told b rs
+same_behind told a b [] same = refl
+same_behind told a b (r ∷ rs) same =
+    ap (λ (o : Option Change). option_or o (first_change told (a ++ r ∷ []) rs)) (same_place told a b r (same r.shard))
+    ∙ ap (option_or (change_at told b r)) (same_behind told (a ++ r ∷ []) (b ++ r ∷ []) rs
+    (λ n.
+    let one = ap (λ (xs : List Record). length xs) (shard-append n a (r ∷ [])) ∙ length-append (of_shard n a) (of_shard n (r ∷ [])) in
+    let other = ap (λ (xs : List Record). length xs) (shard-append n b (r ∷ [])) ∙ length-append (of_shard n b) (of_shard n (r ∷ [])) in
+    one ∙ (ap (λ (k : ℕ). k + length (of_shard n (r ∷ []))) (same n) ∙ sym other)))
+
+or_some : (a b : Option Change) (change : Change) → a ≡ Some change → option_or a b ≡ Some change
+or_some a b change is = ap (λ (o : Option Change). option_or o b) is
+
+-- behind the first records, none of which was kept otherwise, a list brings the change
+pub first_is : (told : SaidLists) (own front list rest : List Record) (change : Change) → first_change told [] own ≡ None → ((n : ℕ) → of_shard n own ≡ of_shard n front) → first_change told own list ≡ Some change
+    → first_change told [] (front ++ (list ++ rest)) ≡ Some change
+first_is told own front list rest change none came differs =
+    let unchanged : NoneChanged told front = first_unchanged told front own (λ n. ([], came n ∙ sym (append-nil (of_shard n front)))) (none_changed told own none) in
+    let here : first_change told front list ≡ Some change = same_behind told front own list (λ n. ap (λ (xs : List Record). length xs) (sym (came n))) ∙ differs in
+    change-append told [] front (list ++ rest)
+    ∙ (ap (λ (o : Option Change). option_or o (first_change told front (list ++ rest))) (none_first told front unchanged)
+    ∙ (change-append told front list rest ∙ or_some (first_change told front list) (first_change told (front ++ list) rest) change here))
+
+-- of all records that came none was kept otherwise
+pub none_is : (told : SaidLists) (own records : List Record) → first_change told [] own ≡ None → ((n : ℕ) → of_shard n own ≡ of_shard n records) → first_change told [] records ≡ None
+none_is told own records none came =
+    none_first told records (first_unchanged told records own (λ n. ([], came n ∙ sym (append-nil (of_shard n records)))) (none_changed told own none))

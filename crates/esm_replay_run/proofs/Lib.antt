@@ -1,0 +1,8 @@
+pub mod Sayings
+pub mod Leaving
+pub mod Headlines
+pub mod FirstChange
+pub mod Ways
+pub mod Counting
+pub mod Openings
+pub mod Begun
