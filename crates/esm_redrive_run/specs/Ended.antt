@@ -1,0 +1,125 @@
+-- Why a run of a redrive ended so, and what it left. This product's own.
+use Rattle.std.specs.Prelude.{◌≡◌, ◌⊎◌, ◌++◌, ℕ, Bool, true, false, List, [], length, Option, Some, None, IsSome}
+use Rattle.esm_io.specs.Faults.{Rose}
+use Rattle.esm_io.specs.Meanings.{DiskMeaning}
+use Rattle.esm_io.specs.Told.{Grows, TakesFront}
+use Rattle.esm_journal.specs.Pair.{first_disk, second_disk}
+use Rattle.esm_model.specs.declared.book.Trouble.{Trouble}
+use Rattle.esm_model.specs.declared.book.Trouble.TheVariants as trouble
+use Rattle.esm_model.specs.declared.entry.Entry.{Entry}
+use Rattle.esm_model.specs.declared.item.Message.{Message}
+use Rattle.esm_model.specs.Entries.{is_shut, is_running, calls_begun}
+use Rattle.esm_folder.specs.Upkeep.{OneRose}
+use Rattle.esm_input.specs.declared.ending.InputEnd.{InputEnd}
+use Rattle.esm_input.specs.Positions.{from_start}
+use Rattle.esm_input.specs.Reading.{InputState, items_read, handed}
+use Rattle.esm_queue_model.specs.QueueSetting.{is_fifo}
+use Rattle.esm_queue_model.specs.QueueEntries.{queue_lane, queue_count}
+use Rattle.esm_queue_book.specs.Coming.{messages_in_items}
+use Rattle.esm_queue_book.specs.Left.{AllDeleted, HasWaiting}
+use Rattle.esm_redrive.specs.DeadFile.{IsFirstBad}
+use Rattle.esm_redrive_model.specs.RedriveSetting.{RedriveSetting}
+use Rattle.esm_redrive_model.specs.RedriveReport.{redrive_calls}
+use Rattle.esm_workers.specs.Working.{Outside}
+use Rattle.esm_runner.specs.Files.{FilesState, AreClosed}
+use Rattle.esm_runner.specs.QueueEnded.{IsChanged, IsInputOf, line_kind}
+use Rattle.esm_runner.specs.QueueRan.{NoneDiffersBefore}
+use Rattle.esm_runner.specs.QueueStopping.{HasLogged}
+use Rattle.esm_redrive_run.specs.Book.{IsNoneDue}
+use Rattle.esm_redrive_run.specs.Headline.{Disks, Words, Headline, IsSettingOf}
+use Rattle.esm_redrive_run.specs.declared.run.RedriveEnd.{RedriveEnd}
+use Rattle.esm_redrive_run.specs.declared.run.RedriveEnd.TheVariants as end
+
+-- what devices tell: of the clock and the caller, and of the disks
+pub record Telling (D F : Type 0) : Type 1 where
+  pub callers : Outside F
+  pub disk : DiskMeaning D
+
+abbrev pub telling : {D F : Type 0} → Outside F → DiskMeaning D → Telling D F
+telling callers disk = record { callers = callers; disk = disk }
+
+-- all messages came, of those found deleted each with the id that was kept, and the end of the input was noted
+pub record AllCame (s : RedriveSetting) (h : List Entry) (messages : List Message) : Type 0 where
+  pub list : s.queue.messages ≡ messages
+  pub came : queue_count h ≡ length messages
+  pub unchanged : NoneDiffersBefore s.queue.deletions messages (length messages)
+  pub shut : is_shut h ≡ true
+
+-- the book's trouble, where the run ended by one
+abbrev pub trouble_of : RedriveEnd → Option Trouble
+trouble_of (end.Finished why) = None
+trouble_of end.CallsSpent = None
+trouble_of end.DiskFault = Some trouble.Disk
+trouble_of end.DestFault = Some trouble.Dest
+trouble_of (end.Changed change) = Some (trouble.Changed change)
+trouble_of (end.BadLine index) = None
+
+-- why: each message is deleted, and the reading ended for this; all calls allowed began, and a message is not deleted, though
+-- none is due; the faults of a disk of the journal rose in this run, or those of the dead-letter file; or a message was found
+-- deleted and came with another id, the first of the input that did, and no call was made
+abbrev pub IsCauseOf : {D : Type 0} → DiskMeaning D → FilesState D → RedriveSetting → List Entry → List Message → (reading : Option InputEnd) → Disks D → RedriveEnd → Type 0
+IsCauseOf m f s h messages reading new (end.Finished why) = AllCame s h messages × (reading ≡ Some why) × AllDeleted s.queue h
+IsCauseOf m f s h messages reading new end.CallsSpent = AllCame s h messages × (calls_begun h ≡ s.queue.calls) × HasWaiting s.queue h × IsSome reading × IsNoneDue s h
+IsCauseOf m f s h messages reading new end.DiskFault = OneRose m (first_disk f.pair) (second_disk f.pair) new.journal new.spare
+IsCauseOf m f s h messages reading new end.DestFault = Rose (m.faults f.dest.disk) (m.faults new.dead)
+IsCauseOf m f s h messages reading new (end.Changed change) = IsChanged s.queue messages change × ((sends : List ℕ → List ℕ) → redrive_calls s sends h ≡ [])
+IsCauseOf m f s h messages reading new (end.BadLine index) = ⊥
+
+-- the run over these files and this input, the reading of which ended so or came to no end, left this history, and it ended so
+pub record HasRun {S D F : Type 0} (t : Telling D F) (faults : S → ℕ) (left : S → Option (List ℕ)) (w : Words) (f : FilesState D) (old_input new_input : S) (reading : Option InputEnd) (old_caller new_caller : F) (h : List Entry) (new : Disks D) (e : RedriveEnd) : Type 0 where
+  pub input : InputState S
+  pub is_input : IsInputOf faults left w.config old_input new_input input
+  pub read_to : input.end ≡ reading
+  pub setting : RedriveSetting
+  pub is_setting : IsSettingOf w f (messages_in_items (handed input)) setting
+  pub hand : List Entry
+  pub headline : Headline t.disk t.callers.gave f setting h (trouble_of e) hand new
+  -- the caller's log, where told, grew by the calls of batcher 0, and no call is without its end
+  pub calls_made : Grows (t.callers.log old_caller) (t.callers.log new_caller) (redrive_calls setting t.callers.sends h)
+  pub rests : is_running h (queue_lane 0) ≡ false
+  pub cause : IsCauseOf t.disk f setting h (messages_in_items (handed input)) reading new e
+
+-- nothing ran: nothing was read or called, and nothing was written
+pub record HasNotBegun {S D F : Type 0} (t : Telling D F) (f : FilesState D) (old_input new_input : S) (reading : Option InputEnd) (old_caller new_caller : F) (h : List Entry) (new : Disks D) : Type 0 where
+  pub input : new_input ≡ old_input
+  pub unread : reading ≡ None
+  pub caller : new_caller ≡ old_caller
+  pub no_trace : h ≡ []
+  pub unwritten : AreClosed t.disk f new.journal new.spare new.dead
+
+-- a line of the dead-letter file is the first that is no line of the queue's kind, and nothing ran; or it ran, and ended so
+abbrev pub HasEnded : {S D F : Type 0} → Telling D F → (faults : S → ℕ) (left : S → Option (List ℕ)) → Words → FilesState D → (old_input new_input : S) → (reading : Option InputEnd) → (old_caller new_caller : F) → List Entry → Disks D → RedriveEnd → Type 0
+HasEnded t faults left w f old_input new_input reading old_caller new_caller h new (end.BadLine index) =
+    IsFirstBad (is_fifo w.config.kind) f.dest.payloads index × HasNotBegun t f old_input new_input reading old_caller new_caller h new
+HasEnded t faults left w f old_input new_input reading old_caller new_caller h new e = HasRun t faults left w f old_input new_input reading old_caller new_caller h new e
+
+-- the faults of a disk of the journal rose in this run, or those of the dead-letter file, where the trouble says so; no message
+-- came with another id
+abbrev pub IsFaultOf : {D : Type 0} → DiskMeaning D → FilesState D → Disks D → Option Trouble → Type 0
+IsFaultOf m f new (Some trouble.Disk) = OneRose m (first_disk f.pair) (second_disk f.pair) new.journal new.spare
+IsFaultOf m f new (Some trouble.Dest) = Rose (m.faults f.dest.disk) (m.faults new.dead)
+IsFaultOf m f new (Some (trouble.Changed change)) = ⊥
+IsFaultOf m f new None = Unit {0}
+
+-- Want of memory stopped it: these bytes were read, the messages of their lines came, or the first of them, and more bytes may
+-- have been read after them. A device may have failed beside it. The caller's log grew by the calls of batcher 0, and perhaps
+-- by one further call, which still runs.
+pub record HasStopped {S D F : Type 0} (t : Telling D F) (left : S → Option (List ℕ)) (w : Words) (f : FilesState D) (old_input new_input : S) (reading : Option InputEnd) (old_caller new_caller : F) (h : List Entry) (new : Disks D) : Type 0 where
+  pub bytes : List ℕ
+  pub more : List ℕ
+  pub whole : Bool
+  pub taken : TakesFront (left old_input) (left new_input) (bytes ++ more)
+  pub setting : RedriveSetting
+  pub is_setting : IsSettingOf w f (messages_in_items (from_start w.config.start (items_read (line_kind w.config) w.config.factor whole bytes).items)) setting
+  -- the end of the input was noted only where its reading had ended
+  pub shut_when_read : is_shut h ≡ true → IsSome reading
+  pub trouble : Option Trouble
+  pub fault : IsFaultOf t.disk f new trouble
+  pub hand : List Entry
+  pub headline : Headline t.disk t.callers.gave f setting h trouble hand new
+  pub calls_made : HasLogged t.callers.sends setting.queue h 0 (t.callers.log old_caller) (t.callers.log new_caller)
+
+-- or it stopped before it began
+abbrev pub HasStoppedRun : {S D F : Type 0} → Telling D F → (left : S → Option (List ℕ)) → Words → FilesState D → (old_input new_input : S) → (reading : Option InputEnd) → (old_caller new_caller : F) → List Entry → Disks D → Type 0
+HasStoppedRun t left w f old_input new_input reading old_caller new_caller h new =
+    HasNotBegun t f old_input new_input reading old_caller new_caller h new ⊎ HasStopped t left w f old_input new_input reading old_caller new_caller h new

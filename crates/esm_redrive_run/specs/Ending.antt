@@ -1,0 +1,29 @@
+-- How the end of a run is told, from how its caller came to its end. Only this crate's proofs cite this.
+use Rattle.std.specs.Prelude.{◌≡◌, Result, Ok, Err, Option, Some, IsSome}
+use Rattle.esm_model.specs.declared.book.Trouble.{Trouble}
+use Rattle.esm_model.specs.declared.book.Trouble.TheVariants as trouble
+use Rattle.esm_model.specs.declared.memory.OutOfMemory.{OutOfMemory}
+use Rattle.esm_input.specs.declared.ending.InputEnd.{InputEnd}
+use Rattle.esm_serial.specs.declared.running.RunEnd.{RunEnd}
+use Rattle.esm_serial.specs.declared.running.RunEnd.TheVariants as ran
+use Rattle.esm_redrive_run.specs.declared.run.RedriveEnd.{RedriveEnd}
+use Rattle.esm_redrive_run.specs.declared.run.RedriveEnd.TheVariants as end
+
+-- the caller came to an end for which there is a reason
+abbrev pub HasReason : Option Trouble → Option InputEnd → RunEnd → Type 0
+HasReason why reading ran.Finished = IsSome reading
+HasReason why reading ran.Spent = Unit {0}
+HasReason why reading ran.Down = IsSome why
+
+-- the end of a run by which the caller came to this, with this trouble of the book, and the reading to that
+abbrev pub IsEndOf : RunEnd → Option Trouble → Option InputEnd → RedriveEnd → Type 0
+IsEndOf r why reading (end.Finished last) = (r ≡ ran.Finished) × (reading ≡ Some last)
+IsEndOf r why reading end.CallsSpent = r ≡ ran.Spent
+IsEndOf r why reading end.DiskFault = (r ≡ ran.Down) × (why ≡ Some trouble.Disk)
+IsEndOf r why reading end.DestFault = (r ≡ ran.Down) × (why ≡ Some trouble.Dest)
+IsEndOf r why reading (end.Changed change) = (r ≡ ran.Down) × (why ≡ Some (trouble.Changed change))
+IsEndOf r why reading (end.BadLine index) = ⊥
+
+abbrev pub EndsBy : Result RunEnd OutOfMemory → Option Trouble → Option InputEnd → RedriveEnd → Type 0
+EndsBy (Ok r) why reading e = IsEndOf r why reading e
+EndsBy (Err none) why reading e = ⊥

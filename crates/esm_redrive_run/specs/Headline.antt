@@ -1,0 +1,164 @@
+-- What a run of a redrive leaves of its history and of its disks. This product's own.
+use Rattle.std.specs.Prelude.{◌≡◌, ◌++◌, ℕ, Bool, true, List, [], ◌∷◌, length, Option, Some, reverse}
+use Rattle.std.specs.List.{filter_map}
+use Rattle.esm_io.specs.Meanings.{DiskMeaning}
+use Rattle.esm_journal.specs.File.{header_of}
+use Rattle.esm_journal.specs.Pair.{PairOpensTo}
+use Rattle.esm_journal.specs.State.{Keeps, StillOpens}
+use Rattle.esm_model.specs.declared.book.Trouble.{Trouble}
+use Rattle.esm_model.specs.declared.book.Trouble.TheVariants.{Disk, Dest}
+use Rattle.esm_model.specs.declared.config.Config.{Config}
+use Rattle.esm_model.specs.declared.called.Called.{Called}
+use Rattle.esm_model.specs.declared.entry.Entry.{Entry}
+use Rattle.esm_model.specs.declared.entry.Entry.TheVariants.{Ended}
+use Rattle.esm_model.specs.declared.entry.Reply.{Reply}
+use Rattle.esm_model.specs.declared.lane.LaneId.{LaneId}
+use Rattle.esm_model.specs.declared.item.Message.{Message}
+use Rattle.esm_model.specs.Books.{entry_line}
+use Rattle.esm_model.specs.Entries.{CallsFollowShut}
+use Rattle.esm_folder.specs.Upkeep.{AreHonest, AreSettled, PairHolds}
+use Rattle.esm_queue_model.specs.QueueSetting.{ExtendsMessages, is_fifo}
+use Rattle.esm_queue_model.specs.QueueEntries.{queue_count}
+use Rattle.esm_queue_model.specs.QueueBatch.{last_queue_event}
+use Rattle.esm_queue_model.specs.HistoryLaws.{DeletedOnce, OrderPerGroup}
+use Rattle.esm_queue_book.specs.Books.{payloads_in}
+use Rattle.esm_redrive.specs.DeadFile.{AreLetters, dead_ids}
+use Rattle.esm_redrive_core.specs.RedriveView.{new_setting}
+use Rattle.esm_redrive_model.specs.RedriveSetting.{RedriveSetting, redrive_over}
+use Rattle.esm_redrive_model.specs.RedriveReport.{redrive_calls}
+use Rattle.esm_redrive_model.specs.RedriveStep.{LegalRedrive, SettledRedrive}
+use Rattle.esm_redrive_model.specs.RedriveLaws.{EachHasOneEnd, HaveDifferentIds, MovedOnce, MovedAfterReceives, ReceivedAtMost, CallsAreFew}
+use Rattle.esm_redrive_book.specs.Keeping.{FollowsFront}
+use Rattle.esm_runner.specs.Files.{FilesState}
+use Rattle.esm_runner.specs.Given.{AreGiven}
+use Rattle.esm_redrive_run.specs.Earned.{DeletedOnlyEarned}
+use Rattle.esm_runner.specs.Headline.{IsInHand, PairStopped}
+
+-- the disks as a run left them: the journal with its spare, and the dead-letter file
+pub record Disks (D : Type 0) : Type 0 where
+  pub journal : D
+  pub spare : D
+  pub dead : D
+
+-- the words of a redrive: the configuration, the calls allowed, the visibility timeout in milliseconds, and how often a
+-- message may be received
+pub record Words : Type 0 where
+  pub config : Config
+  pub calls : ℕ
+  pub visibility : ℕ
+  pub max_receives : ℕ
+
+-- what a history of it is judged over, when no message came: the deletions that the journal told of, and the ids of the lines
+-- that stood in the dead-letter file
+abbrev pub setting_before : {D : Type 0} → Words → FilesState D → RedriveSetting
+setting_before w f = new_setting w.config w.calls w.visibility f.said.deletions w.max_receives (dead_ids (is_fifo w.config.kind) f.dest.payloads)
+
+-- the setting of a run; its messages are those of the input, in order, as far as they came, and each payload that stood in the
+-- dead-letter file is a line of the queue's kind
+pub record IsSettingOf {D : Type 0} (w : Words) (f : FilesState D) (messages : List Message) (s : RedriveSetting) : Type 0 where
+  pub opened : s ≡ redrive_over (setting_before w f) s.queue.messages
+  pub came : (rest : List Message) × (messages ≡ s.queue.messages ++ rest)
+  pub letters : AreLetters (is_fifo w.config.kind) f.dest.payloads (length f.dest.payloads)
+
+-- legal over every list of messages that goes on from those that came
+abbrev pub LegalOver : RedriveSetting → List Entry → Type 0
+LegalOver s h = (messages : List Message) → ExtendsMessages s.queue.messages messages → LegalRedrive (redrive_over s messages) h
+
+-- the lines of entries
+abbrev pub dead_letters : List Entry → List (List ℕ)
+dead_letters es = filter_map entry_line es
+
+-- the journal
+
+-- its content is the old one followed by the payloads of the history
+abbrev pub JournalKept : {D : Type 0} → DiskMeaning D → FilesState D → RedriveSetting → List Entry → Disks D → Type 0
+JournalKept m f s h new = AreHonest m f.journal f.spare → PairHolds m f.pair.epoch (f.pair.payloads ++ payloads_in s.queue.messages (reverse h)) new.journal new.spare
+
+-- where a disk of it failed: what a crash now leaves opens to these, or to these and the payload of the entry in hand
+abbrev pub JournalStopped : {D : Type 0} → DiskMeaning D → FilesState D → RedriveSetting → List Entry → (hand : List Entry) → Disks D → Type 0
+JournalStopped m f s h hand new = PairStopped m f (payloads_in s.queue.messages (reverse h)) (payloads_in s.queue.messages (reverse h ++ hand)) new.journal new.spare
+
+-- two disks open to the payloads found, and then to those of the first of these entries, or of all of them
+pub record OpensToFrontOf (messages : List Message) (epoch : ℕ) (before : List (List ℕ)) (es : List Entry) (one other : List ℕ) : Type 0 where
+  pub front : List Entry
+  pub rest : List Entry
+  pub split : front ++ rest ≡ es
+  pub opens : PairOpensTo (header_of 2) epoch (before ++ payloads_in messages front) one other
+
+-- Every image of the pair since the run's start opens to the content found, followed by the payloads of the first entries of
+-- the history, in their order; where a disk failed, the payload of the entry in hand may follow all of them.
+abbrev pub CrashKept : {D : Type 0} → DiskMeaning D → FilesState D → RedriveSetting → List Entry → (hand : List Entry) → Disks D → Type 0
+CrashKept m f s h hand new =
+    AreHonest m f.journal f.spare → AreSettled m f.journal f.spare → (one other : List ℕ) →
+    m.since new.journal (m.moment f.journal) one → m.since new.spare (m.moment f.spare) other →
+    OpensToFrontOf s.queue.messages f.pair.epoch f.pair.payloads (reverse h ++ hand) one other
+
+-- the dead-letter file
+
+-- its lines are the old ones followed by these, and so they are in each image of it
+abbrev pub LinesKept : {D : Type 0} → DiskMeaning D → FilesState D → List (List ℕ) → Disks D → Type 0
+LinesKept m f lines new = m.honest f.failures ≡ true → Keeps m (header_of 1) (f.dest.payloads ++ lines) new.dead
+
+-- while a line was added the file failed: each image has these lines, or these and one more
+abbrev pub LinesStopped : {D : Type 0} → DiskMeaning D → FilesState D → List (List ℕ) → Disks D → Type 0
+LinesStopped m f lines new = m.honest f.failures ≡ true → StillOpens m (header_of 1) (f.dest.payloads ++ lines) new.dead
+
+-- The lines of the history; after a fault of the journal also that of the entry in hand, which stands before its deletion is
+-- written. So the line of each entry whose payload stands in any image of the journal stands in every image of the file.
+abbrev pub DeadLettersKept : {D : Type 0} → DiskMeaning D → FilesState D → Option Trouble → List Entry → (hand : List Entry) → Disks D → Type 0
+DeadLettersKept m f (Some Dest) h hand new = LinesStopped m f (dead_letters (reverse h)) new
+DeadLettersKept m f _ h hand new = LinesKept m f (dead_letters (reverse h ++ hand)) new
+
+-- each reply is the one that stands with its event among the calls, whatever the caller sends for an event
+abbrev pub RepliesAreLogged : RedriveSetting → List Entry → Type 0
+RepliesAreLogged s h =
+    (sends : List ℕ → List ℕ) (later before : List Entry) (lane : LaneId) (reply : Reply) (m : ℕ) → h ≡ later ++ Ended lane reply m ∷ before
+    → (earlier rest : List Called)
+    × (redrive_calls s sends h ≡ earlier ++ record { name = s.queue.config.function; event = sends (last_queue_event s.queue before lane); reply = reply } ∷ rest)
+
+-- What holds of a history, newest entry first, and of the disks after it, whatever ended the run.
+pub record Headline {D : Type 0} (m : DiskMeaning D) (gave : ℕ → Bool) (f : FilesState D) (s : RedriveSetting) (h : List Entry) (trouble : Option Trouble) (hand : List Entry) (new : Disks D) : Type 0 where
+  -- each entry may follow those before it, over every list of messages that goes on from those that came
+  pub legal_trace : LegalOver s h
+  -- the messages of the setting are those that came in the history
+  pub messages_came : queue_count h ≡ length s.queue.messages
+  -- where no device failed nothing is called for: no message that waits is to be recorded or filtered, and no deletion is owed
+  pub settled : (trouble ≡ Some Disk → ⊥) → (trouble ≡ Some Dest → ⊥) → SettledRedrive s h
+  -- each moment is one that the clock gave, at most the greatest, or that of the entry before it where that is later
+  pub moments : AreGiven gave h
+  -- each call began after the end of the input
+  pub read_first : CallsFollowShut h
+  -- the journal's content is the old one followed by the payloads of the trace
+  pub journal_kept : (trouble ≡ Some Disk → ⊥) → JournalKept m f s h new
+  -- where a disk of it failed, one further whole payload may follow, that of the entry in hand
+  pub journal_stopped : trouble ≡ Some Disk → JournalStopped m f s h hand new
+  -- an entry is in hand only where a disk of the journal failed, and then one at most
+  pub in_hand : IsInHand trouble hand
+  -- it may follow a front of the history, after which calls and the input ended alone
+  pub hand_follows : (e : Entry) → hand ≡ e ∷ [] → FollowsFront s h e
+  -- what a crash leaves since the run's start: the old content followed by a prefix of the payloads of the trace
+  pub crash : CrashKept m f s h hand new
+  -- the dead-letter file has the old lines followed by those of the trace; where a device failed, one further line may follow
+  pub dead_letters_kept : DeadLettersKept m f trouble h hand new
+  -- the messages that came have different ids
+  pub different : HaveDifferentIds s.queue.messages
+  -- each message that came is exactly one of waiting, succeeded, filtered and moved
+  pub each_has_one_end : EachHasOneEnd s h
+  -- the lines are those of the messages that were moved, in order; an id stands in one of them at most, and in none where it
+  -- stood in the dead-letter file
+  pub moved_once : MovedOnce s h
+  -- a message that came is deleted only where it was found deleted, a reply counts it as succeeded, it does not pass the filter,
+  -- its line was found in the dead-letter file, or it was received as often as it may be
+  pub only_earned : DeletedOnlyEarned s h
+  -- no message is deleted twice, and none that was found deleted
+  pub deleted_once : DeletedOnce s.queue h
+  -- of a FIFO queue no batch overtakes an earlier message of one of its groups
+  pub order_per_group : OrderPerGroup s.queue h
+  -- each reply is the one that stands with its event among the calls, by which the caller's log grew
+  pub replies_are_logged : RepliesAreLogged s h
+  -- a message is moved only after it was received in this run as often as it may be
+  pub moved_after_receives : MovedAfterReceives s h
+  -- and none is received more often
+  pub received_at_most : ReceivedAtMost s h
+  -- so no more calls began than the messages that came may be received
+  pub calls_are_few : CallsAreFew s h

@@ -1,0 +1,22 @@
+// The laws by which the headline of a redrive holds, as one.
+ghost use Rattle.esm_redrive_run.specs.Laws.{AreLaws};
+
+use esm_queue_model::history_laws::queue_calls_kept;
+use esm_redrive_model::laws::{
+    calls_are_few, each_has_one_end, moved_after_receives, moved_once, received_at_most,
+    redrive_over_more, same_over_same_ids,
+};
+
+/// What holds of every history of a redrive. Does nothing.
+pub(crate) fn laws_hold()
+    ensures { AreLaws }
+{
+    each_has_one_end();
+    moved_once();
+    moved_after_receives();
+    received_at_most();
+    calls_are_few();
+    redrive_over_more();
+    queue_calls_kept();
+    same_over_same_ids();
+}

@@ -1,0 +1,14 @@
+//! One run of a redrive over its devices: the lines of the dead-letter file are judged, the book is opened over the files, the
+//! input is read, the caller is asked, and what a run leaves is told in the words of the headline.
+//! It composes the book, the input and the serial run by their public contracts.
+#![tactic(auto)]
+
+mod book;
+mod laws;
+mod redrive_run;
+mod report;
+mod run;
+
+pub use redrive_run::run_redrive;
+pub use report::messages_text;
+pub use run::{RedriveEnd, RedriveRun};
