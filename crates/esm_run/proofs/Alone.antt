@@ -20,9 +20,18 @@ use Rattle.esm_runner.specs.declared.files.FilesError.{FilesError}
 use Rattle.esm_runner.specs.declared.files.FilesError.TheVariants as files
 use Rattle.esm_runner.specs.declared.run.MappingEnd.{MappingEnd}
 use Rattle.esm_runner.specs.declared.run.MappingEnd.TheVariants as run
-use Rattle.esm_run.specs.Answers.{HasCome, RunCause, RunEnded}
+use Rattle.esm_io.specs.Meanings.{DiskMeaning}
+use Rattle.esm_redrive_run.specs.declared.run.RedriveEnd.{RedriveEnd}
+use Rattle.esm_redrive_run.specs.declared.run.RedriveEnd.TheVariants as redrive
+use Rattle.esm_replay_run.specs.declared.run.ReplayEnd.{ReplayEnd}
+use Rattle.esm_replay_run.specs.declared.run.ReplayEnd.TheVariants as replay
+use Rattle.esm_run.specs.Answers.{HasCome, HasNotRun, RunCause, RunEnded}
+use Rattle.esm_run.specs.Asks.{Asks}
 use Rattle.esm_run.specs.Ddb.{DdbCause}
-use Rattle.esm_run.specs.Endings.{ending_of, ending_of_ddb, ending_of_files, ending_of_mapping, ending_of_reading, file_of}
+use Rattle.esm_run.specs.Redrive.{RedriveCause, redrive_asks}
+use Rattle.esm_run.specs.Replay.{ReplayCause, replay_asks}
+use Rattle.esm_run.specs.declared.asked.RedriveWords.{RedriveWords}
+use Rattle.esm_run.specs.Endings.{ending_of, ending_of_ddb, ending_of_redrive, ending_of_replay, ending_of_files, ending_of_mapping, ending_of_reading, file_of}
 use Rattle.esm_run.specs.World.{RunTells, Seen}
 
 same_some : (e d : Ending) → ◌≡◌ {A = Option Ending} (Some e) (Some d) → e ≡ d
@@ -114,6 +123,39 @@ ddb_words o config calls h old new text (inr run) = turned_words run.reading run
 
 pub not_bad_ddb_words : {S D F : Type 0} (o : RunTells S D F) (config : List ℕ) (calls : ℕ) (h : List Entry) (old new : Seen S D F) → HasCome (DdbCause o config calls h old new) ending.BadWords → ⊥
 not_bad_ddb_words o config calls h old new ended = ddb_words o config calls h old new ended.text ended.cause_is
+
+replay_words : (end : ReplayEnd) → ending.BadWords ≡ ending_of_replay end → ⊥
+replay_words (replay.Finished why) tells = reading_words why tells
+replay_words replay.CallsSpent tells = cc
+replay_words replay.DiskFault tells = cc
+replay_words (replay.Changed change) tells = cc
+replay_words (replay.BadLine index) tells = cc
+
+redrive_words : (end : RedriveEnd) → ending.BadWords ≡ ending_of_redrive end → ⊥
+redrive_words (redrive.Finished why) tells = reading_words why tells
+redrive_words redrive.CallsSpent tells = cc
+redrive_words redrive.DiskFault tells = cc
+redrive_words redrive.DestFault tells = cc
+redrive_words (redrive.Changed change) tells = cc
+redrive_words (redrive.BadLine index) tells = cc
+
+unrun_words : {S D F : Type 0} (m : DiskMeaning D) (a : Asks D) (h : List Entry) (old new : Seen S D F) (text : List ℕ) → HasNotRun m a h old new text ending.BadWords → ⊥
+unrun_words m a h old new text none = elim none.why [ inl files ↦ files_words files.why files.tells | inr mapping ↦ mapping_words mapping.why mapping.tells ]
+
+replay_cause_words : {S D F : Type 0} (o : RunTells S D F) (config : List ℕ) (calls : ℕ) (h : List Entry) (old new : Seen S D F) (text : List ℕ) → ReplayCause o config calls h old new text ending.BadWords → ⊥
+replay_cause_words o config calls h old new text (inl none) = unrun_words o.run.disk (replay_asks config) h old new text none
+replay_cause_words o config calls h old new text (inr run) = replay_words run.end run.tells
+
+redrive_cause_words : {S D F : Type 0} (o : RunTells S D F) (w : RedriveWords) (h : List Entry) (old new : Seen S D F) (text : List ℕ) → RedriveCause o w h old new text ending.BadWords → ⊥
+redrive_cause_words o w h old new text (inl none) = unrun_words o.run.disk (redrive_asks w) h old new text none
+redrive_cause_words o w h old new text (inr (inl refused)) = redrive_words (redrive.BadLine refused.index) refused.tells
+redrive_cause_words o w h old new text (inr (inr run)) = redrive_words run.end_is run.tells
+
+pub not_bad_replay_words : {S D F : Type 0} (o : RunTells S D F) (config : List ℕ) (calls : ℕ) (h : List Entry) (old new : Seen S D F) → HasCome (ReplayCause o config calls h old new) ending.BadWords → ⊥
+not_bad_replay_words o config calls h old new ended = replay_cause_words o config calls h old new ended.text ended.cause_is
+
+pub not_bad_redrive_words : {S D F : Type 0} (o : RunTells S D F) (w : RedriveWords) (h : List Entry) (old new : Seen S D F) → HasCome (RedriveCause o w h old new) ending.BadWords → ⊥
+not_bad_redrive_words o w h old new ended = redrive_cause_words o w h old new ended.text ended.cause_is
 
 pub not_bad_words : {S D F : Type 0} (o : RunTells S D F) (r : RunWords) (h : List Entry) (old new : Seen S D F) → RunEnded o r h old new ending.BadWords → ⊥
 not_bad_words o r h old new ended = cause_words o r h old new ended.text ended.cause_is

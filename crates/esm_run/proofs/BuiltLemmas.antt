@@ -5,7 +5,7 @@ use Rattle.esm_cli.specs.declared.command.Command.{Command}
 use Rattle.esm_run.specs.Asked.{AsksFor, IsAsked}
 use Rattle.esm_run.specs.Built.{is_built, SpellsBuilt}
 use Rattle.esm_run.specs.declared.asked.Asked.{Asked}
-use Rattle.esm_run.specs.declared.asked.Asked.TheVariants.{Files, Serve, Gen, Run, Ddb, Nothing}
+use Rattle.esm_run.specs.declared.asked.Asked.TheVariants.{Files, Serve, Gen, Run, Ddb, Redrive, Replay, Nothing}
 use Rattle.esm_run.proofs.OneCommand.{OneCommand}
 
 pub none_built : (words : List (List ℕ)) (c : Command) → OneCommand → spells words c → is_built c ≡ false → (d : Command) → SpellsBuilt words d → ⊥
@@ -20,4 +20,6 @@ is_asked words c (Serve requests) spelled asks = subst (SpellsBuilt words) asks 
 is_asked words c (Gen records) spelled asks = subst (SpellsBuilt words) asks spelled
 is_asked words c (Run options) spelled asks = subst (SpellsBuilt words) asks spelled
 is_asked words c (Ddb config calls timeout) spelled asks = subst (SpellsBuilt words) asks spelled
+is_asked words c (Redrive w) spelled asks = subst (SpellsBuilt words) asks spelled
+is_asked words c (Replay config calls timeout) spelled asks = subst (SpellsBuilt words) asks spelled
 is_asked words c (Nothing why) spelled asks = absurd asks

@@ -24,7 +24,16 @@ pub mod OneRun
 pub mod KeptIds
 pub mod OneQueueRun
 pub mod Kept
+pub mod TextRuns
+pub mod Receives
+pub mod Worlds
 pub mod DdbRuns
+pub mod RedriveRuns
+pub mod ReplayRuns
 pub mod OneDdb
+pub mod OneOpened
+pub mod ReplaySettings
+pub mod OneReplay
+pub mod OneRedrive
 pub mod OneOutcome
 pub mod Cuts

@@ -3,7 +3,7 @@ use Rattle.std.proofs.Common.{◌≡◌, ◌∙◌, ℕ, List, inl, inr, subst, 
 use Rattle.esm_cli.specs.declared.command.Command.{Command}
 use Rattle.esm_cli.specs.declared.command.Command.TheVariants.{Init, Run, Show, Failures, Gen, Compact, Serve, Migrate, Ddb, Redrive, Replay}
 use Rattle.esm_io.specs.Faults.{Rose}
-use Rattle.esm_run.specs.Commands.{HasEnded, IsSound, NoneFailed, Outcome}
+use Rattle.esm_run.specs.Commands.{HasEnded, IsSound, NoneFailed, Outcome, redrive_words}
 use Rattle.esm_run.specs.World.{DevicesTell, disks_in, door, history, of_run, of_serve, output, seen}
 use Rattle.esm_run.specs.declared.tending.FilesCommand.TheVariants as files
 use Rattle.esm_run.specs.declared.tending.Upkeep.TheVariants as upkeep
@@ -13,6 +13,8 @@ use Rattle.esm_run.proofs.OneCause.{AreLaws, bad_words_status, same_options}
 use Rattle.esm_run.proofs.OneCommand.{OneStatus}
 use Rattle.esm_run.proofs.OneDdb.{same_ddb}
 use Rattle.esm_run.proofs.OneFiles.{one_files}
+use Rattle.esm_run.proofs.OneRedrive.{same_redrive}
+use Rattle.esm_run.proofs.OneReplay.{same_replay}
 use Rattle.esm_run.proofs.OneServe.{one_serve}
 
 -- of one command
@@ -29,8 +31,9 @@ one_of t Failures old new laws told sound a b one other = one_files t.disk (disk
 one_of t Compact old new laws told sound a b one other = one_files t.disk (disks_in old) (disks_in new) (output t old new) (files.Upkeep upkeep.Compact) told sound a b one other
 one_of t Migrate old new laws told sound a b one other = one_files t.disk (disks_in old) (disks_in new) (output t old new) (files.Upkeep upkeep.Migrate) told sound a b one other
 one_of t (Ddb config calls timeout) old new laws told sound a b one other = same_ddb (of_run t) config calls (output t old new) (history new) (seen old) (seen new) a b laws sound told one other
-one_of t (Redrive config receives calls visibility timeout) old new laws told sound a b one other = absurd one
-one_of t (Replay config calls timeout) old new laws told sound a b one other = absurd one
+one_of t (Redrive config receives calls visibility timeout) old new laws told sound a b one other =
+    same_redrive (of_run t) (redrive_words config receives calls visibility timeout) (output t old new) (history new) (seen old) (seen new) a b laws sound told one other
+one_of t (Replay config calls timeout) old new laws told sound a b one other = same_replay (of_run t) config calls (output t old new) (history new) (seen old) (seen new) a b laws sound told one other
 
 pub one_outcome : {S K D C F L N : Type 0} (t : DevicesTell S K D F L N) (words : List (List ℕ)) (old new : World S K D C F L) (a b : ℕ)
     → AreLaws t.disk → NoneFailed t words old new → Outcome t words old new a → Outcome t words old new b → a ≡ b

@@ -56,7 +56,7 @@ waiting_nowhere s z h same all waiting =
 
 -- what two runs that left one history say of it: their settings, their messages, the ends of their readings, and the bytes that
 -- are left
-record IsShared (s z : QueueSetting) (xs ys : List Message) (i j : Option InputEnd) (bytes_left : Option (List ℕ)) : Type 0 where
+pub record IsShared (s z : QueueSetting) (xs ys : List Message) (i j : Option InputEnd) (bytes_left : Option (List ℕ)) : Type 0 where
   same : z ≡ over_messages s z.messages
   told : IsSome bytes_left
   ends : (e d : InputEnd) → i ≡ Some e → j ≡ Some d → e ≡ d
@@ -69,7 +69,7 @@ unfinished_so : (s : QueueSetting) (h : List Entry) (reading : Option InputEnd) 
 unfinished_so s h reading bytes_left told (inl ended) = ended
 unfinished_so s h reading bytes_left told (inr (going, untold)) = absurd (let some = told in let none = untold in cc)
 
-one_queue_end : {D F : Type 0} (t : Telling D F) (f g : FilesState D) (s z : QueueSetting) (h : List Entry) (xs ys : List Message) (i j : Option InputEnd) (bytes_left : Option (List ℕ)) (new : Devices D F) (e d : MappingEnd)
+pub one_queue_end : {D F : Type 0} (t : Telling D F) (f g : FilesState D) (s z : QueueSetting) (h : List Entry) (xs ys : List Message) (i j : Option InputEnd) (bytes_left : Option (List ℕ)) (new : Devices D F) (e d : MappingEnd)
     → IsFaultless t.disk f new → IsFaultless t.disk g new → IsShared s z xs ys i j bytes_left
     → IsCauseOf t f s h xs i bytes_left new e → IsCauseOf t g z h ys j bytes_left new d → status_of (ending_of e) ≡ status_of (ending_of d)
 one_queue_end t f g s z h xs ys i j l new end.DiskFault d sound sound_too shared one other = absurd (sound.pair one)
@@ -113,7 +113,7 @@ read_from faults left c old new i is = record {
 }
 
 -- what two runs of a queue's mapping say of one history
-shared_by : {S : Type 0} (faults : S → ℕ) (left : S → Option (List ℕ)) (c : Config) (old new : S) (i j : InputState S) (s z : QueueSetting)
+pub shared_by : {S : Type 0} (faults : S → ℕ) (left : S → Option (List ℕ)) (c : Config) (old new : S) (i j : InputState S) (s z : QueueSetting)
     → WholeGoesOn → IsSome (left old) → ¬ Rose (faults old) (faults new) → IsInputOf faults left c old new i → IsInputOf faults left c old new j
     → z ≡ over_messages s z.messages → IsShared s z (messages_in_items (handed i)) (messages_in_items (handed j)) i.end j.end (left new)
 shared_by faults left c old new i j s z goes told sound one other same =

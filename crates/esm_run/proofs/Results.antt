@@ -1,5 +1,5 @@
--- Facts of what a result holds.
-use Rattle.std.proofs.Common.{◌≡◌, subst, Result, Ok, Err}
+-- Facts of what a result holds, and of a truth value that is denied.
+use Rattle.std.proofs.Common.{◌≡◌, Bool, true, false, not, refl, subst, Result, Ok, Err}
 use Rattle.std.specs.Prelude.{OnOk, OnErr, IfErr, IfOk, IsOkAnd}
 
 pub on_ok : {A E : Type 0} (r : Result A E) (P : Type 0) → P → OnOk r P
@@ -31,3 +31,7 @@ with_err (Err e) more p = more p
 pub with_both : {A E : Type 0} {P Q : A → Type 0} {R : Type 0} (r : Result A E) → ((a : A) → P a → Q a → R) → IsOkAnd r P → IfOk r Q → R
 with_both (Ok a) more p q = more a p q
 with_both (Err e) more p q = absurd p
+
+pub not_true : (b : Bool) → not b ≡ true → b ≡ false
+not_true true is = cc is
+not_true false is = refl

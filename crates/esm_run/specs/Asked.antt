@@ -6,7 +6,7 @@ use Rattle.esm_cli.specs.declared.command.WordsError.TheVariants.{BadWords}
 use Rattle.esm_run.specs.Built.{SpellsBuilt}
 use Rattle.esm_run.specs.Tended.{command_of}
 use Rattle.esm_run.specs.declared.asked.Asked.{Asked}
-use Rattle.esm_run.specs.declared.asked.Asked.TheVariants.{Files, Serve, Gen, Run, Ddb, Nothing}
+use Rattle.esm_run.specs.declared.asked.Asked.TheVariants.{Files, Serve, Gen, Run, Ddb, Redrive, Replay, Nothing}
 
 -- the command asks for this
 abbrev pub AsksFor : Command → Asked → Type 0
@@ -15,6 +15,8 @@ AsksFor c (Serve requests) = c ≡ command.Serve requests
 AsksFor c (Gen records) = c ≡ command.Gen records
 AsksFor c (Run options) = c ≡ command.Run options
 AsksFor c (Ddb config calls timeout) = c ≡ command.Ddb config calls timeout
+AsksFor c (Redrive w) = c ≡ command.Redrive w.config w.max_receives w.calls w.visibility w.timeout
+AsksFor c (Replay config calls timeout) = c ≡ command.Replay config calls timeout
 AsksFor c (Nothing why) = ⊥
 
 -- the words ask for this, or spell no command that is built
@@ -24,4 +26,6 @@ IsAsked words (Serve requests) = SpellsBuilt words (command.Serve requests)
 IsAsked words (Gen records) = SpellsBuilt words (command.Gen records)
 IsAsked words (Run options) = SpellsBuilt words (command.Run options)
 IsAsked words (Ddb config calls timeout) = SpellsBuilt words (command.Ddb config calls timeout)
+IsAsked words (Redrive w) = SpellsBuilt words (command.Redrive w.config w.max_receives w.calls w.visibility w.timeout)
+IsAsked words (Replay config calls timeout) = SpellsBuilt words (command.Replay config calls timeout)
 IsAsked words (Nothing why) = why ≡ BadWords → (c : Command) → ¬ SpellsBuilt words c

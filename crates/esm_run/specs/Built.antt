@@ -3,7 +3,7 @@
 use Rattle.std.specs.Prelude.{◌≡◌, ℕ, Bool, true, false, List}
 use Rattle.esm_cli.specs.Words.{spells}
 use Rattle.esm_cli.specs.declared.command.Command.{Command}
-use Rattle.esm_cli.specs.declared.command.Command.TheVariants.{Init, Run, Show, Failures, Gen, Compact, Serve, Migrate, Ddb}
+use Rattle.esm_cli.specs.declared.command.Command.TheVariants.{Init, Run, Show, Failures, Gen, Compact, Serve, Migrate, Ddb, Redrive, Replay}
 
 abbrev pub is_built : Command → Bool
 is_built Init = true
@@ -15,7 +15,8 @@ is_built Compact = true
 is_built (Serve requests) = true
 is_built Migrate = true
 is_built (Ddb config calls timeout) = true
-is_built _ = false
+is_built (Redrive config receives calls visibility timeout) = true
+is_built (Replay config calls timeout) = true
 
 -- the words spell the command, and it is built
 abbrev pub SpellsBuilt : List (List ℕ) → Command → Type 0

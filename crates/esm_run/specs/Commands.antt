@@ -2,20 +2,27 @@
 -- definition the world comes first as it was handed in, and then as it was handed back. This product's own.
 use Rattle.std.specs.Prelude.{◌≡◌, ◌⊎◌, ℕ, List}
 use Rattle.esm_cli.specs.declared.command.Command.{Command}
-use Rattle.esm_cli.specs.declared.command.Command.TheVariants.{Init, Run, Show, Failures, Gen, Compact, Serve, Migrate, Ddb}
+use Rattle.esm_cli.specs.declared.command.Command.TheVariants.{Init, Run, Show, Failures, Gen, Compact, Serve, Migrate, Ddb, Redrive, Replay}
 use Rattle.esm_io.specs.Faults.{Rose}
 use Rattle.esm_run.specs.Answers.{AreBadWords, AreSoundDevices, IsCutOf, IsSoundRun, IsUntouched, RunOutcome}
 use Rattle.esm_run.specs.Asks.{IsRegistryLeft}
 use Rattle.esm_run.specs.Built.{SpellsBuilt}
 use Rattle.esm_run.specs.Ddb.{DdbOutcome, IsDdbCut}
 use Rattle.esm_run.specs.Generated.{GenOutcome, IsGenCut}
+use Rattle.esm_run.specs.Redrive.{IsRedriveCut, RedriveOutcome}
+use Rattle.esm_run.specs.Replay.{IsReplayCut, ReplayOutcome}
 use Rattle.esm_run.specs.Serve.{IsServeCut, IsSoundServe, ServeOutcome}
 use Rattle.esm_run.specs.Tended.{AreLeft, AreSoundUnder, FilesOutcome, IsCompactCut}
 use Rattle.esm_run.specs.World.{DevicesTell, disks_in, door, history, of_run, of_serve, output, seen}
+use Rattle.esm_run.specs.declared.asked.RedriveWords.{RedriveWords}
 use Rattle.esm_run.specs.declared.tending.FilesCommand.{FilesCommand}
 use Rattle.esm_run.specs.declared.tending.FilesCommand.TheVariants as files
 use Rattle.esm_run.specs.declared.tending.Upkeep.TheVariants as upkeep
 use Rattle.esm_run.specs.declared.world.World.{World}
+
+-- the words of `redrive`
+abbrev pub redrive_words : (config : List ℕ) (receives calls visibility timeout : ℕ) → RedriveWords
+redrive_words config receives calls visibility timeout = record { config = config; max_receives = receives; calls = calls; visibility = visibility; timeout = timeout }
 
 -- ends
 
@@ -27,6 +34,8 @@ FilesEnded t f old new status = FilesOutcome t.disk (disks_in old) (disks_in new
 abbrev pub HasEnded : {S K D C F L N : Type 0} → DevicesTell S K D F L N → Command → (old new : World S K D C F L) → (status : ℕ) → Type 0
 HasEnded t (Run r) old new status = RunOutcome (of_run t) r (output t old new) (history new) (seen old) (seen new) status
 HasEnded t (Ddb config calls timeout) old new status = DdbOutcome (of_run t) config calls (output t old new) (history new) (seen old) (seen new) status
+HasEnded t (Redrive config receives calls visibility timeout) old new status = RedriveOutcome (of_run t) (redrive_words config receives calls visibility timeout) (output t old new) (history new) (seen old) (seen new) status
+HasEnded t (Replay config calls timeout) old new status = ReplayOutcome (of_run t) config calls (output t old new) (history new) (seen old) (seen new) status
 HasEnded t (Gen records) old new status = GenOutcome records (output t old new) (history new) status
 HasEnded t (Serve requests) old new status = ServeOutcome (of_serve t) old.registry new.registry (door t old new) (output t old new) requests status
 HasEnded t Init old new status = FilesEnded t files.Init old new status
@@ -34,7 +43,6 @@ HasEnded t Show old new status = FilesEnded t (files.Upkeep upkeep.Show) old new
 HasEnded t Failures old new status = FilesEnded t (files.Upkeep upkeep.Failures) old new status
 HasEnded t Compact old new status = FilesEnded t (files.Upkeep upkeep.Compact) old new status
 HasEnded t Migrate old new status = FilesEnded t (files.Upkeep upkeep.Migrate) old new status
-HasEnded t _ old new status = ⊥
 
 -- the command that the words spell ended with the status, or they spell none that is built, and that was told
 abbrev pub Outcome : {S K D C F L N : Type 0} → DevicesTell S K D F L N → List (List ℕ) → (old new : World S K D C F L) → (status : ℕ) → Type 0
@@ -48,6 +56,8 @@ Outcome t words old new status =
 abbrev pub IsSound : {S K D C F L N : Type 0} → DevicesTell S K D F L N → Command → (old new : World S K D C F L) → Type 0
 IsSound t (Run r) old new = IsSoundRun (of_run t) r (seen old) (seen new)
 IsSound t (Ddb config calls timeout) old new = AreSoundDevices (of_run t) (seen old) (seen new)
+IsSound t (Redrive config receives calls visibility timeout) old new = AreSoundDevices (of_run t) (seen old) (seen new)
+IsSound t (Replay config calls timeout) old new = AreSoundDevices (of_run t) (seen old) (seen new)
 IsSound t (Serve requests) old new = IsSoundServe (of_serve t) old.registry new.registry (door t old new)
 IsSound t Init old new = AreSoundUnder t.disk (disks_in old) (disks_in new) files.Init
 IsSound t Show old new = AreSoundUnder t.disk (disks_in old) (disks_in new) (files.Upkeep upkeep.Show)
@@ -72,6 +82,8 @@ pub record AreFilesLeft {S K D C F L N : Type 0} (t : DevicesTell S K D F L N) (
 abbrev pub IsLeft : {S K D C F L N : Type 0} → DevicesTell S K D F L N → Command → (old new : World S K D C F L) → Type 0
 IsLeft t (Run r) old new = IsRegistryLeft t.disk r.which old.registry new.registry
 IsLeft t (Ddb config calls timeout) old new = new.registry ≡ old.registry
+IsLeft t (Redrive config receives calls visibility timeout) old new = new.registry ≡ old.registry
+IsLeft t (Replay config calls timeout) old new = new.registry ≡ old.registry
 IsLeft t (Gen records) old new = new ≡ record old { out = new.out; trace = new.trace }
 IsLeft t (Serve requests) old new = new ≡ record old { out = new.out; registry = new.registry; door = new.door }
 IsLeft t Init old new = AreFilesLeft t files.Init old new
@@ -79,7 +91,6 @@ IsLeft t Show old new = AreFilesLeft t (files.Upkeep upkeep.Show) old new
 IsLeft t Failures old new = AreFilesLeft t (files.Upkeep upkeep.Failures) old new
 IsLeft t Compact old new = AreFilesLeft t (files.Upkeep upkeep.Compact) old new
 IsLeft t Migrate old new = AreFilesLeft t (files.Upkeep upkeep.Migrate) old new
-IsLeft t _ old new = Unit {0}
 
 -- want of memory
 
@@ -87,6 +98,8 @@ IsLeft t _ old new = Unit {0}
 abbrev pub IsCut : {S K D C F L N : Type 0} → DevicesTell S K D F L N → Command → (old new : World S K D C F L) → Type 0
 IsCut t (Run r) old new = IsCutOf (of_run t) r (history new) (seen old) (seen new)
 IsCut t (Ddb config calls timeout) old new = IsDdbCut (of_run t) config calls (history new) (seen old) (seen new)
+IsCut t (Redrive config receives calls visibility timeout) old new = IsRedriveCut (of_run t) (redrive_words config receives calls visibility timeout) (history new) (seen old) (seen new)
+IsCut t (Replay config calls timeout) old new = IsReplayCut (of_run t) config calls (history new) (seen old) (seen new)
 IsCut t (Gen records) old new = IsGenCut records (history new)
 IsCut t (Serve requests) old new = IsServeCut (of_serve t) old.registry new.registry (door t old new)
 IsCut t Compact old new = IsCompactCut t.disk (disks_in old) (disks_in new)

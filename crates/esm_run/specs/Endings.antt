@@ -21,6 +21,10 @@ use Rattle.esm_report.specs.declared.ending.Ending.{Ending}
 use Rattle.esm_report.specs.declared.ending.Ending.TheVariants as ending
 use Rattle.esm_input.specs.declared.ending.InputEnd.{InputEnd}
 use Rattle.esm_input.specs.declared.ending.InputEnd.TheVariants as ends
+use Rattle.esm_redrive_run.specs.declared.run.RedriveEnd.{RedriveEnd}
+use Rattle.esm_redrive_run.specs.declared.run.RedriveEnd.TheVariants as redrive
+use Rattle.esm_replay_run.specs.declared.run.ReplayEnd.{ReplayEnd}
+use Rattle.esm_replay_run.specs.declared.run.ReplayEnd.TheVariants as replay
 use Rattle.esm_runner.specs.declared.files.FilesError.{FilesError}
 use Rattle.esm_runner.specs.declared.files.FilesError.TheVariants as files
 use Rattle.esm_runner.specs.declared.run.MappingEnd.{MappingEnd}
@@ -73,6 +77,23 @@ ending_of_ddb t run.CallsSpent = ending.CallsSpent
 ending_of_ddb t run.DiskFault = ending.DiskFault
 ending_of_ddb t run.DestFault = ending.DestFault
 ending_of_ddb t (run.Changed change) = ending.StreamChanged change
+
+-- of the run of a redrive
+abbrev pub ending_of_redrive : RedriveEnd → Ending
+ending_of_redrive (redrive.Finished why) = ending_of_reading why
+ending_of_redrive redrive.CallsSpent = ending.CallsSpent
+ending_of_redrive redrive.DiskFault = ending.DiskFault
+ending_of_redrive redrive.DestFault = ending.DestFault
+ending_of_redrive (redrive.Changed change) = ending.StreamChanged change
+ending_of_redrive (redrive.BadLine index) = ending.BadPayload name.Failures index
+
+-- of the run of a replay
+abbrev pub ending_of_replay : ReplayEnd → Ending
+ending_of_replay (replay.Finished why) = ending_of_reading why
+ending_of_replay replay.CallsSpent = ending.CallsSpent
+ending_of_replay replay.DiskFault = ending.DiskFault
+ending_of_replay (replay.Changed change) = ending.StreamChanged change
+ending_of_replay (replay.BadLine index) = ending.BadPayload name.Failures index
 
 abbrev pub file_of : JournalFile → FileName
 file_of file.Journal = name.Journal

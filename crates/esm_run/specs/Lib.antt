@@ -10,6 +10,10 @@ pub mod Headline
 pub mod Asks
 pub mod Answers
 pub mod Ddb
+pub mod FirstCaller
+pub mod Reports
+pub mod Redrive
+pub mod Replay
 pub mod Under
 pub mod Commands
 pub mod Asked

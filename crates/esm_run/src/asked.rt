@@ -10,6 +10,17 @@ use esm_cli::{Command, RunWords, WordsError};
 use esm_model::Text;
 use std::alloc::Global;
 
+/// The words of `redrive`: the mapping's text, how often a message may be received, the greatest number of calls, and the
+/// visibility timeout in seconds.
+#[derive(Drop)]
+pub struct RedriveWords {
+    pub config: Text,
+    pub max_receives: u32,
+    pub calls: u32,
+    pub visibility: u32,
+    pub timeout: u32,
+}
+
 /// What words ask for, by what it is over.
 #[derive(Drop)]
 pub enum Asked {
@@ -27,6 +38,14 @@ pub enum Asked {
     Run(RunWords),
     /// That the mapping of a DynamoDB stream runs, with so many calls at most.
     Ddb {
+        config: Text,
+        calls: u32,
+        timeout: u32,
+    },
+    /// That a queue's mapping runs, and moves what was received too often to the dead-letter file.
+    Redrive(RedriveWords),
+    /// That the records that failure lines name are called again, with so many calls at most.
+    Replay {
         config: Text,
         calls: u32,
         timeout: u32,
@@ -58,7 +77,28 @@ fn part(command: Command) -> Asked
             calls,
             timeout,
         },
-        _ => unreachable!(),
+        Command::Redrive {
+            config,
+            max_receives,
+            calls,
+            visibility,
+            timeout,
+        } => Asked::Redrive(RedriveWords {
+            config,
+            max_receives,
+            calls,
+            visibility,
+            timeout,
+        }),
+        Command::Replay {
+            config,
+            calls,
+            timeout,
+        } => Asked::Replay {
+            config,
+            calls,
+            timeout,
+        },
     }
 }
 

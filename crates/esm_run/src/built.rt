@@ -21,8 +21,9 @@ fn is_built(command: &Command) -> bool
         | Command::Compact
         | Command::Serve { .. }
         | Command::Migrate
-        | Command::Ddb { .. } => true,
-        _ => false,
+        | Command::Ddb { .. }
+        | Command::Redrive { .. }
+        | Command::Replay { .. } => true,
     }
 }
 

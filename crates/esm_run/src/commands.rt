@@ -1,5 +1,5 @@
-// Running the mapping that the words name, refusing bad words, and telling how a run ended.
-ghost use Rattle.std.specs.Prelude.{◌≡◌, ◌≢◌, ℕ, List, true, length, reverse, Ok, IfOk};
+// Running the mapping that the words name, and refusing bad words.
+ghost use Rattle.std.specs.Prelude.{◌≡◌, ◌≢◌, true, length, reverse};
 ghost use Rattle.esm_model.specs.declared.limits.TheConstants.{MAX_LANES};
 ghost use Rattle.esm_io.specs.Meanings.{disk as meaning};
 ghost use Rattle.esm_report.specs.declared.ending.Ending.{Ending};
@@ -8,17 +8,15 @@ ghost use Rattle.esm_report.specs.Report.{last_line, stands_alone};
 ghost use Rattle.esm_run.specs.Endings.{IsTold};
 ghost use Rattle.esm_run.specs.Answers.{RunOutcome, IsCutOf};
 ghost use Rattle.esm_run.specs.Asks.{IsRegistryLeft};
-ghost use Rattle.esm_run.specs.Ran.{IsReport};
 ghost use Rattle.esm_run.specs.World.{run_tells, seen, written_of};
 
-use crate::left::{Began, Ran, RunDevices};
 use crate::output::{OUT_OF_MEMORY, tell};
+use crate::parting::{parted, told};
 use crate::ran::run_words;
 use crate::world::{Ended, World};
 use esm_cli::{RunWords, WordsError};
 use esm_io::{Caller, Clock, Disk, Door, Sink, Source};
-use esm_model::{Entry, OutOfMemory};
-use esm_report::{Ending, last_line, queue_report, report};
+use esm_report::{Ending, last_line};
 use std::alloc::Global;
 use std::sync::Wait;
 use std::thread::Threads;
@@ -66,46 +64,6 @@ pub fn refuse<S, K: Sink, D, C, F, L>(
     Ended { status, world }
 }
 
-/// The report of an ending, by what began.
-fn report_of(
-    alloc: Global,
-    began: &Began,
-    trace: &[Entry],
-    ending: &Ending,
-) -> Result<Vec<u8>, OutOfMemory>
-    requires { began.now ≡ Began.Nothing → stands_alone ending.now ≡ true }
-    ensures { IfOk result (λ text. (is : List ℕ) → IsReport (reverse trace.now) ending.now began.now is → text.items ≡ is) }
-{
-    match began {
-        Began::Nothing => last_line(alloc, ending),
-        Began::Stream(said) => report(alloc, said, trace, ending),
-        Began::Queue(said) => queue_report(alloc, said, trace, ending),
-    }
-}
-
-/// Tells how a run ended, and answers the exit status.
-pub fn tell_end<K: Sink>(
-    alloc: Global,
-    out: &mut K,
-    end: &Result<Ending, OutOfMemory>,
-    began: &Began,
-    trace: &[Entry],
-) -> u8
-    requires { began.now ≡ Began.Nothing → IfOk end.now (λ ending. stands_alone ending ≡ true) }
-    ensures words { result ≡ 2 → end.now ≡ Ok BadWords }
-    ensures told { result ≢ 70 → (ending : Ending) × (end.now ≡ Ok ending) × ((text : List ℕ) → IsReport (reverse trace.now) ending began.now text →
-        IsTold (K.faults out.old) (K.faults out.new) (K.written out.old) (K.written out.new) text ending result) }
-    ensures untold { result ≡ 70 → out.new ≡ out.old }
-{
-    let Ok(ending) = end else {
-        return OUT_OF_MEMORY;
-    };
-    let Ok(text) = report_of(alloc, began, trace, ending) else {
-        return OUT_OF_MEMORY;
-    };
-    tell(out, &text, ending)
-}
-
 /// Runs the mapping that the words name, tells how it ended, and hands the world back with the exit status.
 pub fn run<
     R: Threads + Wait + Sync,
@@ -137,47 +95,7 @@ pub fn run<
     ensures registry { IsRegistryLeft (meaning D.Disk) words.which world.registry result.world.registry }
     ensures as_many { length result.world.callers.items ≡ MAX_LANES }
 {
-    let World {
-        input,
-        out,
-        journal,
-        spare,
-        failures,
-        registry,
-        clock,
-        callers,
-        door,
-        trace: _,
-    } = world;
-    let devices = RunDevices {
-        input,
-        journal,
-        spare,
-        failures,
-        registry,
-        callers,
-    };
-    let Ran {
-        end,
-        began,
-        trace,
-        devices,
-    } = run_words(rt, alloc, words, devices, &clock);
-    let mut out = out;
-    let status = tell_end(alloc, &mut out, &end, &began, &trace);
-    Ended {
-        status,
-        world: World {
-            input: devices.input,
-            out,
-            journal: devices.journal,
-            spare: devices.spare,
-            failures: devices.failures,
-            registry: devices.registry,
-            clock,
-            callers: devices.callers,
-            door,
-            trace,
-        },
-    }
+    let (devices, rest) = parted(world);
+    let ran = run_words(rt, alloc, words, devices, &rest.clock);
+    told(alloc, ran, rest)
 }

@@ -4,9 +4,8 @@ ghost use Rattle.esm_model.specs.declared.limits.TheConstants.{MAX_LANES};
 ghost use Rattle.esm_run.specs.Ddb.{DdbOutcome, IsDdbCut};
 ghost use Rattle.esm_run.specs.World.{run_tells, seen, written_of};
 
-use crate::commands::tell_end;
 use crate::ddb_ran::run_ddb;
-use crate::left::{Ran, RunDevices};
+use crate::parting::{parted, told};
 use crate::world::{Ended, World};
 use esm_io::{Caller, Clock, Disk, Door, Sink, Source};
 use esm_model::Text;
@@ -42,47 +41,7 @@ pub fn ddb<
     ensures as_many { length result.world.callers.items ≡ MAX_LANES }
     ensures kept { (result.world.clock ≡ world.clock) × (result.world.door ≡ world.door) }
 {
-    let World {
-        input,
-        out,
-        journal,
-        spare,
-        failures,
-        registry,
-        clock,
-        callers,
-        door,
-        trace: _,
-    } = world;
-    let devices = RunDevices {
-        input,
-        journal,
-        spare,
-        failures,
-        registry,
-        callers,
-    };
-    let Ran {
-        end,
-        began,
-        trace,
-        devices,
-    } = run_ddb(rt, alloc, &text, calls, devices, &clock);
-    let mut out = out;
-    let status = tell_end(alloc, &mut out, &end, &began, &trace);
-    Ended {
-        status,
-        world: World {
-            input: devices.input,
-            out,
-            journal: devices.journal,
-            spare: devices.spare,
-            failures: devices.failures,
-            registry: devices.registry,
-            clock,
-            callers: devices.callers,
-            door,
-            trace,
-        },
-    }
+    let (devices, rest) = parted(world);
+    let ran = run_ddb(rt, alloc, &text, calls, devices, &rest.clock);
+    told(alloc, ran, rest)
 }

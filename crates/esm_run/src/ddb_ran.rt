@@ -280,7 +280,7 @@ pub fn run_ddb<
     devices: RunDevices<S, D, F>,
     clock: &C,
 ) -> Ran<S, D, F>
-    requires { length devices.callers.items ≡ MAX_LANES }
+    requires callers { length devices.callers.items ≡ MAX_LANES }
     ensures ended { IfOk result.end (EndsWith (DdbCause (run_tells C.Clock F.Caller D.Disk S.Source) text.now calls (reverse result.trace.items)
         (seen_by devices) (seen_by result.devices)) (reverse result.trace.items) result.began) }
     ensures stopped { OnErr result.end (IsDdbCut (run_tells C.Clock F.Caller D.Disk S.Source) text.now calls (reverse result.trace.items)

@@ -7,6 +7,7 @@ ghost use Rattle.esm_run.specs.declared.left.Began.TheVariants as began;
 use crate::refusal::ending_of;
 use esm_journal_state::Says;
 use esm_model::{Entry, OutOfMemory};
+use esm_replay_run::ReplayCounts;
 use esm_report::Ending;
 use esm_runner::MappingRun;
 use std::alloc::Global;
@@ -28,10 +29,14 @@ pub enum Began {
     Nothing,
     Stream(Says),
     Queue(Says),
+    /// A redrive, with what its journal said before.
+    Redrive(Says),
+    /// A replay, which counts these records.
+    Replay(ReplayCounts),
 }
 
-/// What became of a command that runs a mapping, `run` or `ddb`: how it ended, what began, its history with the oldest entry first, and the devices
-/// as they were left.
+/// What became of a command that runs a mapping, `run`, `ddb`, `redrive` or `replay`: how it ended, what began, its history with
+/// the oldest entry first, and the devices as they were left.
 #[derive(Drop)]
 pub struct Ran<S, D, F> {
     pub end: Result<Ending, OutOfMemory>,

@@ -142,7 +142,7 @@ pub fn run_words<
     C: Clock + Sync,
     F: Caller + Send,
 >(rt: &R, alloc: Global, words: RunWords, devices: RunDevices<S, D, F>, clock: &C) -> Ran<S, D, F>
-    requires { length devices.callers.items ≡ MAX_LANES }
+    requires callers { length devices.callers.items ≡ MAX_LANES }
     ensures ended { IfOk result.end (EndsWith (RunCause (run_tells C.Clock F.Caller D.Disk S.Source) words (reverse result.trace.items)
         (seen_by devices) (seen_by result.devices)) (reverse result.trace.items) result.began) }
     ensures stopped { OnErr result.end (IsCutOf (run_tells C.Clock F.Caller D.Disk S.Source) words (reverse result.trace.items)

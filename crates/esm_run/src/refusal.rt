@@ -4,7 +4,7 @@ ghost use Rattle.esm_config.specs.Names.{name_of};
 ghost use Rattle.esm_input.specs.declared.ending.InputEnd.{InputEnd};
 ghost use Rattle.esm_record.specs.declared.error.LineError.TheVariants.{Backwards};
 ghost use Rattle.esm_report.specs.declared.ending.Ending.TheVariants.{BadParameter};
-ghost use Rattle.esm_run.specs.Endings.{why_text, ddb_why_text, ending_of, ending_of_ddb, ending_of_reading, ending_of_turned, ending_of_files, ending_of_mapping, file_of};
+ghost use Rattle.esm_run.specs.Endings.{why_text, ddb_why_text, ending_of, ending_of_ddb, ending_of_reading, ending_of_redrive, ending_of_replay, ending_of_turned, ending_of_files, ending_of_mapping, file_of};
 
 use esm_config::Param;
 use esm_ddb::{DdbError, InputTurned};
@@ -13,6 +13,8 @@ use esm_input::InputEnd;
 use esm_mapping::MappingError;
 use esm_model::{FileName, OutOfMemory, Text};
 use esm_record::LineError;
+use esm_redrive_run::RedriveEnd;
+use esm_replay_run::ReplayEnd;
 use esm_report::Ending;
 use esm_runner::{FilesError, MappingEnd};
 use std::alloc::Global;
@@ -123,6 +125,39 @@ pub fn ending_of_ddb(
     match end {
         MappingEnd::Finished(InputEnd::End) => ending_of_turned(alloc, turned),
         _ => ending_of(alloc, end),
+    }
+}
+
+/// The ending of a redrive's run. Memory is taken for the text of a bad line alone.
+pub fn ending_of_redrive(alloc: Global, end: RedriveEnd) -> Result<Ending, OutOfMemory>
+    ensures { IfOk result (λ ending. ending ≡ ending_of_redrive end) }
+{
+    match end {
+        RedriveEnd::Finished(why) => ending_of_reading(alloc, why),
+        RedriveEnd::CallsSpent => Ok(Ending::CallsSpent),
+        RedriveEnd::DiskFault => Ok(Ending::DiskFault),
+        RedriveEnd::DestFault => Ok(Ending::DestFault),
+        RedriveEnd::Changed(change) => Ok(Ending::StreamChanged(change)),
+        RedriveEnd::BadLine(index) => Ok(Ending::BadPayload {
+            file: FileName::Failures,
+            index,
+        }),
+    }
+}
+
+/// The ending of a replay's run. Memory is taken for the text of a bad line alone.
+pub fn ending_of_replay(alloc: Global, end: ReplayEnd) -> Result<Ending, OutOfMemory>
+    ensures { IfOk result (λ ending. ending ≡ ending_of_replay end) }
+{
+    match end {
+        ReplayEnd::Finished(why) => ending_of_reading(alloc, why),
+        ReplayEnd::CallsSpent => Ok(Ending::CallsSpent),
+        ReplayEnd::DiskFault => Ok(Ending::DiskFault),
+        ReplayEnd::Changed(change) => Ok(Ending::StreamChanged(change)),
+        ReplayEnd::BadLine(index) => Ok(Ending::BadPayload {
+            file: FileName::Failures,
+            index,
+        }),
     }
 }
 

@@ -11,6 +11,8 @@ use crate::asked::{Asked, asked_by};
 use crate::commands::{refuse, run};
 use crate::ddb::ddb;
 use crate::generating::generate;
+use crate::redrive::redrive;
+use crate::replay::replay;
 use crate::serving::serve;
 use crate::tending::tend;
 use crate::world::{Ended, World};
@@ -25,7 +27,8 @@ use std::thread::Threads;
 
 /// Does what the words of the command line ask for, and hands the world back with the exit status: 0 where `init` made the
 /// files, `show` told what the journal says or `failures` its lines, `compact` or `migrate` wrote the journal anew or found
-/// it of version 2, `run` or `ddb` read the input to its end and every record has its fate, or every message is deleted,
+/// it of version 2, `run`, `ddb` or `redrive` read the input to its end and every record has its fate, or every message is
+/// deleted, `replay` read it to its end and each record that a failure line names was replayed or its last call left it,
 /// `serve` served as many connections as it was asked to, or every record of the stream of `gen` has its fate; 1 where the
 /// calls allowed were spent before, also while more of the input was awaited; 2 where the words are no command that is
 /// built; 3 at a bad line; 4 where the input failed; 5 where the output failed; 6 where a disk failed; 7 where the failure
@@ -84,6 +87,12 @@ pub fn esm<
             calls,
             timeout: _,
         } => ddb(rt, alloc, config, calls, world),
+        Asked::Redrive(words) => redrive(rt, alloc, words, world),
+        Asked::Replay {
+            config,
+            calls,
+            timeout: _,
+        } => replay(rt, alloc, config, calls, world),
         Asked::Nothing(why) => refuse(alloc, why, world),
     }
 }

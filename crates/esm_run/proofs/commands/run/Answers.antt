@@ -1,28 +1,55 @@
-use Rattle.std.proofs.Common.{ap, inr, reverse, subst}
+use Rattle.std.proofs.Common.{◌∙◌, ap, inr, length, reverse, subst, sym}
+use Rattle.esm_io.specs.Meanings.{disk as meaning}
+use Rattle.esm_run.specs.Answers.{IsCutOf, RunCause}
+use Rattle.esm_run.specs.Asks.{IsRegistryLeft}
 use Rattle.esm_run.specs.Ran.{IsReport}
-use Rattle.esm_run.specs.World.{written_of}
+use Rattle.esm_run.specs.World.{run_tells, seen, seen_by}
 use Rattle.esm_run.proofs.Alone.{not_bad_words}
-use Rattle.esm_run.proofs.RunEndings.{told_run}
 use Rattle.esm_run.proofs.Results.{at_ok, by_result, if_ok}
+use Rattle.esm_run.proofs.Worlds.{of_worlds, same_rest, told_of_worlds}
 use Rattle.esm_run.proofs.commands.run.Goals as goal
 
-pub tell_end-status-requires : goal.tell_end-status-requires
-tell_end-status-requires g c = λ nothing.
-    if_ok c.run_words-end.result.end
-    (λ e ends. (subst (λ b. IsReport (reverse c.run_words-end.result.trace.items) e b ends.ended.text) nothing ends.report).alone) c.run_words-end.ensures.ended
+pub run_words-ran-requires-clause-callers : goal.run_words-ran-requires-clause-callers
+run_words-ran-requires-clause-callers g c κs within = ap (λ d. length d.callers.items) c.parted-devices.ensures.devices ∙ c.requires
+
+pub told-requires : goal.told-requires
+told-requires g c = λ nothing.
+    if_ok c.run_words-ran.result.end
+    (λ e ends. (subst (λ b. IsReport (reverse c.run_words-ran.result.trace.items) e b ends.ended.text) nothing ends.report).alone) c.run_words-ran.ensures.ended
 
 pub returns-clause-outcome : goal.returns-clause-outcome
 returns-clause-outcome g c = λ known.
-    let told = c.tell_end-status.ensures.told known in
-    told_run _ _
-    (written_of g.K.Sink.faults g.K.Sink.written c.args.world.out c.tell_end-status.new.out) c.tell_end-status.result c.run_words-end.result.began told.0 (reverse c.deref.result.now)
-    (at_ok _ c.run_words-end.result.end told.0 told.1 c.run_words-end.ensures.ended) (ap reverse c.deref.ensures.value) told.2
+    let o = run_tells g.C.Clock g.F.Caller g.D.Disk g.S.Source in
+    told_of_worlds g.K.Sink.faults g.K.Sink.written (λ h old new. RunCause o c.args.words h old new)
+    (reverse c.run_words-ran.result.trace.items) (reverse c.told.result.world.trace.items) (seen_by c.parted-devices.result.0) (seen c.args.world) (seen_by c.run_words-ran.result.devices) (seen c.told.result.world)
+    c.parted-devices.result.1.out c.args.world.out c.told.result.world.out c.run_words-ran.result.began c.told.result.status c.run_words-ran.result.end
+    (sym (ap (λ w. reverse w.trace.items) c.told.ensures.world)) (ap (λ d. seen_by d) c.parted-devices.ensures.devices) (sym (ap (λ w. seen w) c.told.ensures.world)) (ap (λ r. r.out) c.parted-devices.ensures.rest)
+    c.run_words-ran.ensures.ended (c.told.ensures.told known)
 
 pub returns-clause-want_of_memory : goal.returns-clause-want_of_memory
 returns-clause-want_of_memory g c = λ short.
-    by_result c.run_words-end.result.end (λ e ends. inr (inr (e, ends.ended))) (λ stopped. stopped)
-    c.run_words-end.ensures.ended c.run_words-end.ensures.stopped
+    let o = run_tells g.C.Clock g.F.Caller g.D.Disk g.S.Source in
+    of_worlds (λ h old new. IsCutOf o c.args.words h old new)
+    (reverse c.run_words-ran.result.trace.items) (reverse c.told.result.world.trace.items) (seen_by c.parted-devices.result.0) (seen c.args.world) (seen_by c.run_words-ran.result.devices) (seen c.told.result.world)
+    (sym (ap (λ w. reverse w.trace.items) c.told.ensures.world)) (ap (λ d. seen_by d) c.parted-devices.ensures.devices) (sym (ap (λ w. seen w) c.told.ensures.world))
+    (by_result c.run_words-ran.result.end (λ e ends. inr (inr (e, ends.ended))) (λ stopped. stopped) c.run_words-ran.ensures.ended c.run_words-ran.ensures.stopped)
 
 pub returns-clause-good_words : goal.returns-clause-good_words
 returns-clause-good_words g c = λ is.
-    not_bad_words _ _ _ _ _ (at_ok _ c.run_words-end.result.end _ (c.tell_end-status.ensures.words is) c.run_words-end.ensures.ended).ended
+    not_bad_words _ _ _ _ _ (at_ok _ c.run_words-ran.result.end _ (c.told.ensures.words is) c.run_words-ran.ensures.ended).ended
+
+pub returns-clause-untold : goal.returns-clause-untold
+returns-clause-untold g c = λ short. c.told.ensures.untold short ∙ ap (λ r. r.out) c.parted-devices.ensures.rest
+
+pub returns-clause-as_many : goal.returns-clause-as_many
+returns-clause-as_many g c = ap (λ w. length w.callers.items) c.told.ensures.world ∙ c.run_words-ran.ensures.as_many
+
+pub returns-clause-registry : goal.returns-clause-registry
+returns-clause-registry g c =
+    subst (λ r. IsRegistryLeft (meaning g.D.Disk) c.args.words.which c.args.world.registry r) (sym (ap (λ w. w.registry) c.told.ensures.world))
+    (subst (λ r. IsRegistryLeft (meaning g.D.Disk) c.args.words.which r c.run_words-ran.result.devices.registry) (ap (λ d. d.registry) c.parted-devices.ensures.devices) c.run_words-ran.ensures.registry)
+
+pub returns-clause-kept : goal.returns-clause-kept
+returns-clause-kept g c =
+    same_rest c.told.result.world c.args.world
+    (ap (λ w. w.clock) c.told.ensures.world ∙ ap (λ r. r.clock) c.parted-devices.ensures.rest) (ap (λ w. w.door) c.told.ensures.world ∙ ap (λ r. r.door) c.parted-devices.ensures.rest)

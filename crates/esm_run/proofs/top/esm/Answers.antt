@@ -1,7 +1,7 @@
 use Rattle.std.proofs.Common.{◌∙◌, length, ap, inl, inr, reverse}
 use Rattle.std.specs.Prelude.{map}
 use Rattle.std.specs.String.{string_bytes}
-use Rattle.esm_cli.specs.declared.command.Command.TheVariants.{Ddb, Gen, Run, Serve}
+use Rattle.esm_cli.specs.declared.command.Command.TheVariants.{Ddb, Gen, Redrive, Replay, Run, Serve}
 use Rattle.esm_journal_state.specs.Meaning.{history}
 use Rattle.esm_run.specs.Commands.{IsLeft}
 use Rattle.esm_run.specs.Tended.{command_of}
@@ -10,6 +10,7 @@ use Rattle.esm_run.proofs.Cuts.{left_alone, stopped_alone, stopped_at, untouched
 use Rattle.esm_run.proofs.FilesCommands.{files_cut, files_ended, files_left}
 use Rattle.esm_run.proofs.OneCommand.{by_command}
 use Rattle.esm_run.proofs.OneOutcome.{one_outcome}
+use Rattle.esm_run.proofs.Receives.{receives_within}
 use Rattle.esm_run.proofs.top.esm.Goals as goal
 
 -- a command over the files
@@ -276,6 +277,111 @@ returns-in-Ddb-clause-clock g c = c.ddb.ensures.kept.0
 
 pub returns-in-Ddb-clause-door : goal.returns-in-Ddb-clause-door
 returns-in-Ddb-clause-door g c = λ none. c.ddb.ensures.kept.1
+
+-- `redrive`
+
+pub redrive-requires-clause-receives : goal.redrive-requires-clause-receives
+redrive-requires-clause-receives g c = receives_within (map string_bytes c.args.words.now) c.in-Redrive.words.config c.in-Redrive.words.max_receives c.in-Redrive.words.calls c.in-Redrive.words.visibility c.in-Redrive.words.timeout c.in-Redrive.ensures.0
+
+pub returns-in-Redrive-clause-outcome : goal.returns-in-Redrive-clause-outcome
+returns-in-Redrive-clause-outcome g c = λ known.
+    inl ((Redrive c.in-Redrive.words.config c.in-Redrive.words.max_receives c.in-Redrive.words.calls c.in-Redrive.words.visibility c.in-Redrive.words.timeout), c.in-Redrive.ensures, c.redrive.ensures.outcome known)
+
+pub returns-in-Redrive-clause-exact : goal.returns-in-Redrive-clause-exact
+returns-in-Redrive-clause-exact g c = λ known sound other is.
+    let t = devices g.C.Clock g.F.Caller g.D.Disk g.S.Source g.K.Sink g.L.Door g.L.Conn.Link in
+    one_outcome t (map string_bytes c.args.words.now) c.args.world c.redrive.result.world other c.redrive.result.status
+    (record {
+      one_command = c.one_command.ensures;
+      whole_goes_on = c.whole_goes_on.ensures;
+      same_told = λ t u payloads. c.same_told.ensures t u (history payloads) (history payloads);
+      one_answer = record {
+        one_mapping = c.one_answer.ensures.one_mapping;
+        no_reason = c.one_answer.ensures.no_reason;
+        one_reason = c.one_answer.ensures.one_reason;
+      };
+      one_expected = record {
+        one_mapping = c.one_expected.ensures.one_mapping;
+        no_reason = c.one_expected.ensures.no_reason;
+        one_reason = c.one_expected.ensures.one_reason;
+      };
+    }) sound is (inl ((Redrive c.in-Redrive.words.config c.in-Redrive.words.max_receives c.in-Redrive.words.calls c.in-Redrive.words.visibility c.in-Redrive.words.timeout), c.in-Redrive.ensures, c.redrive.ensures.outcome known))
+
+pub returns-in-Redrive-clause-bad_words : goal.returns-in-Redrive-clause-bad_words
+returns-in-Redrive-clause-bad_words g c = λ bad. absurd (c.redrive.ensures.good_words bad)
+
+pub returns-in-Redrive-clause-spelled : goal.returns-in-Redrive-clause-spelled
+returns-in-Redrive-clause-spelled g c = λ good known. ((Redrive c.in-Redrive.words.config c.in-Redrive.words.max_receives c.in-Redrive.words.calls c.in-Redrive.words.visibility c.in-Redrive.words.timeout), c.in-Redrive.ensures)
+
+pub returns-in-Redrive-clause-want_of_memory : goal.returns-in-Redrive-clause-want_of_memory
+returns-in-Redrive-clause-want_of_memory g c = λ short.
+    let t = devices g.C.Clock g.F.Caller g.D.Disk g.S.Source g.K.Sink g.L.Door g.L.Conn.Link in
+    stopped_at t c.args.world c.redrive.result.world (map string_bytes c.args.words.now) (Redrive c.in-Redrive.words.config c.in-Redrive.words.max_receives c.in-Redrive.words.calls c.in-Redrive.words.visibility c.in-Redrive.words.timeout) c.one_command.ensures c.in-Redrive.ensures (c.redrive.ensures.untold short) (c.redrive.ensures.want_of_memory short)
+
+pub returns-in-Redrive-clause-left : goal.returns-in-Redrive-clause-left
+returns-in-Redrive-clause-left g c = λ d spelled.
+    let t = devices g.C.Clock g.F.Caller g.D.Disk g.S.Source g.K.Sink g.L.Door g.L.Conn.Link in
+    by_command (λ d. IsLeft t d c.args.world c.redrive.result.world) (map string_bytes c.args.words.now) (Redrive c.in-Redrive.words.config c.in-Redrive.words.max_receives c.in-Redrive.words.calls c.in-Redrive.words.visibility c.in-Redrive.words.timeout) c.one_command.ensures c.in-Redrive.ensures (c.redrive.ensures.registry) d spelled
+
+pub returns-in-Redrive-clause-untouched : goal.returns-in-Redrive-clause-untouched
+returns-in-Redrive-clause-untouched g c = λ none. absurd (none (Redrive c.in-Redrive.words.config c.in-Redrive.words.max_receives c.in-Redrive.words.calls c.in-Redrive.words.visibility c.in-Redrive.words.timeout) c.in-Redrive.ensures)
+
+pub returns-in-Redrive-clause-clock : goal.returns-in-Redrive-clause-clock
+returns-in-Redrive-clause-clock g c = c.redrive.ensures.kept.0
+
+pub returns-in-Redrive-clause-door : goal.returns-in-Redrive-clause-door
+returns-in-Redrive-clause-door g c = λ none. c.redrive.ensures.kept.1
+
+-- `replay`
+
+pub returns-in-Replay-clause-outcome : goal.returns-in-Replay-clause-outcome
+returns-in-Replay-clause-outcome g c = λ known.
+    inl ((Replay c.in-Replay.config c.in-Replay.calls c.in-Replay.timeout), c.in-Replay.ensures, c.replay.ensures.outcome known)
+
+pub returns-in-Replay-clause-exact : goal.returns-in-Replay-clause-exact
+returns-in-Replay-clause-exact g c = λ known sound other is.
+    let t = devices g.C.Clock g.F.Caller g.D.Disk g.S.Source g.K.Sink g.L.Door g.L.Conn.Link in
+    one_outcome t (map string_bytes c.args.words.now) c.args.world c.replay.result.world other c.replay.result.status
+    (record {
+      one_command = c.one_command.ensures;
+      whole_goes_on = c.whole_goes_on.ensures;
+      same_told = λ t u payloads. c.same_told.ensures t u (history payloads) (history payloads);
+      one_answer = record {
+        one_mapping = c.one_answer.ensures.one_mapping;
+        no_reason = c.one_answer.ensures.no_reason;
+        one_reason = c.one_answer.ensures.one_reason;
+      };
+      one_expected = record {
+        one_mapping = c.one_expected.ensures.one_mapping;
+        no_reason = c.one_expected.ensures.no_reason;
+        one_reason = c.one_expected.ensures.one_reason;
+      };
+    }) sound is (inl ((Replay c.in-Replay.config c.in-Replay.calls c.in-Replay.timeout), c.in-Replay.ensures, c.replay.ensures.outcome known))
+
+pub returns-in-Replay-clause-bad_words : goal.returns-in-Replay-clause-bad_words
+returns-in-Replay-clause-bad_words g c = λ bad. absurd (c.replay.ensures.good_words bad)
+
+pub returns-in-Replay-clause-spelled : goal.returns-in-Replay-clause-spelled
+returns-in-Replay-clause-spelled g c = λ good known. ((Replay c.in-Replay.config c.in-Replay.calls c.in-Replay.timeout), c.in-Replay.ensures)
+
+pub returns-in-Replay-clause-want_of_memory : goal.returns-in-Replay-clause-want_of_memory
+returns-in-Replay-clause-want_of_memory g c = λ short.
+    let t = devices g.C.Clock g.F.Caller g.D.Disk g.S.Source g.K.Sink g.L.Door g.L.Conn.Link in
+    stopped_at t c.args.world c.replay.result.world (map string_bytes c.args.words.now) (Replay c.in-Replay.config c.in-Replay.calls c.in-Replay.timeout) c.one_command.ensures c.in-Replay.ensures (c.replay.ensures.untold short) (c.replay.ensures.want_of_memory short)
+
+pub returns-in-Replay-clause-left : goal.returns-in-Replay-clause-left
+returns-in-Replay-clause-left g c = λ d spelled.
+    let t = devices g.C.Clock g.F.Caller g.D.Disk g.S.Source g.K.Sink g.L.Door g.L.Conn.Link in
+    by_command (λ d. IsLeft t d c.args.world c.replay.result.world) (map string_bytes c.args.words.now) (Replay c.in-Replay.config c.in-Replay.calls c.in-Replay.timeout) c.one_command.ensures c.in-Replay.ensures (c.replay.ensures.registry) d spelled
+
+pub returns-in-Replay-clause-untouched : goal.returns-in-Replay-clause-untouched
+returns-in-Replay-clause-untouched g c = λ none. absurd (none (Replay c.in-Replay.config c.in-Replay.calls c.in-Replay.timeout) c.in-Replay.ensures)
+
+pub returns-in-Replay-clause-clock : goal.returns-in-Replay-clause-clock
+returns-in-Replay-clause-clock g c = c.replay.ensures.kept.0
+
+pub returns-in-Replay-clause-door : goal.returns-in-Replay-clause-door
+returns-in-Replay-clause-door g c = λ none. c.replay.ensures.kept.1
 
 -- no command
 

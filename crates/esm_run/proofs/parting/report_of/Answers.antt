@@ -2,7 +2,7 @@ use Rattle.std.proofs.Common.{◌∙◌, reverse, sym, subst}
 use Rattle.esm_run.specs.Ran.{IsReport}
 use Rattle.esm_run.proofs.Alone.{whole_report}
 use Rattle.esm_run.proofs.Results.{if_ok}
-use Rattle.esm_run.proofs.commands.report_of.Goals as goal
+use Rattle.esm_run.proofs.parting.report_of.Goals as goal
 
 pub returns-in-Nothing : goal.returns-in-Nothing
 returns-in-Nothing c =
@@ -21,3 +21,15 @@ returns-in-Queue c =
     if_ok c.queue_report.result (λ text says is report.
     let told = subst (λ b. IsReport (reverse c.args.trace.now) c.args.ending.now b is) c.in-Queue.is report in
     says told.setting told.deletions told.legal ∙ sym told.text_is) c.queue_report.ensures
+
+pub returns-in-Redrive : goal.returns-in-Redrive
+returns-in-Redrive c =
+    if_ok c.redrive_report.result (λ text says is report.
+    let told = subst (λ b. IsReport (reverse c.args.trace.now) c.args.ending.now b is) c.in-Redrive.is report in
+    says told.setting told.deletions told.legal ∙ sym told.text_is) c.redrive_report.ensures
+
+pub returns-in-Replay : goal.returns-in-Replay
+returns-in-Replay c =
+    if_ok c.replay_report.result (λ text says is report.
+    let told = subst (λ b. IsReport (reverse c.args.trace.now) c.args.ending.now b is) c.in-Replay.is report in
+    says ∙ sym told.text_is) c.replay_report.ensures

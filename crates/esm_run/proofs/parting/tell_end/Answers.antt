@@ -1,7 +1,7 @@
 use Rattle.std.proofs.Common.{◌∙◌, subst}
 use Rattle.esm_run.specs.Endings.{IsTold}
 use Rattle.esm_run.proofs.Results.{at_ok}
-use Rattle.esm_run.proofs.commands.tell_end.Goals as goal
+use Rattle.esm_run.proofs.parting.tell_end.Goals as goal
 
 pub report_of-requires : goal.report_of-requires
 report_of-requires g c = λ nothing. at_ok _ c.args.end.now c.in-Ok.ending c.in-Ok.is (c.requires nothing)

@@ -1,0 +1,23 @@
+use Rattle.std.proofs.Common.{inl, refl}
+use Rattle.esm_mapping.specs.declared.expected.Expected.TheVariants.{Queue}
+use Rattle.esm_run.proofs.Results.{if_ok, on_err}
+use Rattle.esm_run.proofs.TextRuns.{text_refused}
+use Rattle.esm_run.proofs.redrive_ran.run_redrive_words.Goals as goal
+
+pub returns-in-Err-clause-ended : goal.returns-in-Err-clause-ended
+returns-in-Err-clause-ended g c =
+    rw (c.not_begun.ensures.end, c.not_begun.ensures.nothing, c.not_begun.ensures.trace, c.not_begun.ensures.devices)
+    (if_ok c.ending_of_files.result (λ e tells. text_refused _ Queue c.args.words.now.config _ _ _ _ (λ text e none. inl none) (record {
+      untouched = record { no_trace = refl; unread = refl; uncalled = refl };
+      unwritten = c.in-Err.ensures.refused.unwritten;
+      registry = refl;
+    }) c.in-Err.refused.why e c.in-Err.ensures.refused refl tells) c.ending_of_files.ensures.told)
+
+pub returns-in-Err-clause-stopped : goal.returns-in-Err-clause-stopped
+returns-in-Err-clause-stopped g c =
+    rw (c.not_begun.ensures.trace, c.not_begun.ensures.devices)
+    (on_err c.not_begun.result.end _ (inl (record {
+      untouched = record { no_trace = refl; unread = refl; uncalled = refl };
+      unwritten = c.in-Err.ensures.refused.unwritten;
+      registry = refl;
+    })))

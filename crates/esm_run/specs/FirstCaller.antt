@@ -1,0 +1,8 @@
+-- The one caller of a command that makes its calls one after the other. This product's own.
+use Rattle.std.specs.Prelude.{◌≡◌, ◌∷◌, List}
+
+-- of the callers the first one alone was used: it was this, and is that
+pub record IsFirstUsed {F : Type 0} (old new : List F) (before after : F) : Type 0 where
+  pub rest : List F
+  pub was : old ≡ before ∷ rest
+  pub is : new ≡ after ∷ rest

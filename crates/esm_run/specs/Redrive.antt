@@ -1,0 +1,97 @@
+-- How the command `redrive` ended, and what it left. A queue's mapping runs by one caller, and a message that was received as often
+-- as it may be is moved to the dead-letter file, which is the failure file; the input is read first. Source: Amazon SQS Developer
+-- Guide, "Using dead-letter queues"; that the file takes the place of a queue is this product's own.
+use Rattle.std.specs.Prelude.{◌≡◌, ◌⊎◌, ◌*◌, ℕ, List, Option}
+use Rattle.esm_input.specs.declared.ending.InputEnd.{InputEnd}
+use Rattle.esm_mapping.specs.declared.expected.Expected.TheVariants.{Queue}
+use Rattle.esm_mapping.specs.declared.named.NamedMapping.{NamedMapping}
+use Rattle.esm_model.specs.declared.config.Config.{Config}
+use Rattle.esm_model.specs.declared.entry.Entry.{Entry}
+use Rattle.esm_queue_model.specs.QueueSetting.{is_fifo}
+use Rattle.esm_redrive.specs.DeadFile.{IsFirstBad}
+use Rattle.esm_redrive_run.specs.Ended as redrive
+use Rattle.esm_redrive_run.specs.Headline.{Disks, Words}
+use Rattle.esm_redrive_run.specs.declared.run.RedriveEnd.{RedriveEnd}
+use Rattle.esm_redrive_run.specs.declared.run.RedriveEnd.TheVariants as end
+use Rattle.esm_report.specs.Report.{last_line}
+use Rattle.esm_report.specs.declared.ending.Ending.{Ending}
+use Rattle.esm_runner.specs.Files.{FilesState}
+use Rattle.esm_run.specs.Answers.{HasCome, HasNotBegun, HasNotRun, HasTold, IsReadyFor}
+use Rattle.esm_run.specs.Asks.{Asks, by_text}
+use Rattle.esm_run.specs.Endings.{ending_of_redrive}
+use Rattle.esm_run.specs.FirstCaller.{IsFirstUsed}
+use Rattle.esm_run.specs.Reports.{redrive_report_text}
+use Rattle.esm_run.specs.World.{RunTells, Seen, Written}
+use Rattle.esm_run.specs.declared.asked.RedriveWords.{RedriveWords}
+
+-- the mapping that the text gives, of a queue
+abbrev pub redrive_asks : {D : Type 0} → RedriveWords → Asks D
+redrive_asks w = by_text Queue w.config
+
+-- what the devices of a redrive tell
+abbrev pub redrive_tells : {S D F : Type 0} → RunTells S D F → redrive.Telling D F
+redrive_tells o = redrive.telling o.run.callers o.run.disk
+
+-- the disks of a redrive
+abbrev pub redrive_disks : {S D F : Type 0} → Seen S D F → Disks D
+redrive_disks w = record { journal = w.disks.journal; spare = w.disks.spare; dead = w.disks.failures }
+
+-- a message is hidden for so many milliseconds once it is received
+abbrev pub words_of : RedriveWords → Config → Words
+words_of w config = record { config = config; calls = w.calls; visibility = w.visibility * 1000; max_receives = w.max_receives }
+
+-- The files and the mapping were good, but a line of the dead-letter file is none of the queue's kind, the first such one: nothing
+-- was read, called or written, and the last line alone is told.
+pub record HasRefusedLine {S D F : Type 0} (o : RunTells S D F) (w : RedriveWords) (h : List Entry) (old new : Seen S D F) (text : List ℕ) (ending : Ending) : Type 0 where
+  pub mapping : NamedMapping
+  pub files : FilesState D
+  pub ready : IsReadyFor o.run.disk (redrive_asks w) old new mapping files
+  pub index : ℕ
+  pub first_bad : IsFirstBad (is_fifo mapping.config.kind) files.dest.payloads index
+  pub unbegun : HasNotBegun o.run.disk (redrive_asks w) h old new
+  pub tells : ending ≡ ending_of_redrive (end.BadLine index)
+  pub text_is : text ≡ last_line ending
+
+-- they were good, the redrive ran, and its report is told
+pub record IsRedriveRun {S D F : Type 0} (o : RunTells S D F) (w : RedriveWords) (h : List Entry) (old new : Seen S D F) (text : List ℕ) (ending : Ending) : Type 0 where
+  pub mapping : NamedMapping
+  pub files : FilesState D
+  pub ready : IsReadyFor o.run.disk (redrive_asks w) old new mapping files
+  -- the one caller, and how it was left
+  pub caller : F
+  pub caller_left : F
+  pub first_used : IsFirstUsed old.callers new.callers caller caller_left
+  -- how it ended, and why, with the redrive theorem of the run
+  pub end_is : RedriveEnd
+  pub reading : Option InputEnd
+  pub run : redrive.HasRun (redrive_tells o) o.faults o.left (words_of w mapping.config) files old.input new.input reading caller caller_left h (redrive_disks new) end_is
+  pub tells : ending ≡ ending_of_redrive end_is
+  pub text_is : text ≡ redrive_report_text run.setting h ending
+
+-- why `redrive` ended so, and what is told
+abbrev pub RedriveCause : {S D F : Type 0} → RunTells S D F → RedriveWords → List Entry → (old new : Seen S D F) → (text : List ℕ) → Ending → Type 0
+RedriveCause o w h old new text ending =
+    HasNotRun o.run.disk (redrive_asks w) h old new text ending ⊎ (HasRefusedLine o w h old new text ending ⊎ IsRedriveRun o w h old new text ending)
+
+-- it ended with the status
+abbrev pub RedriveOutcome : {S D F : Type 0} → RunTells S D F → RedriveWords → Written → List Entry → (old new : Seen S D F) → (status : ℕ) → Type 0
+RedriveOutcome o w output h old new status = HasTold (RedriveCause o w h old new) output status
+
+-- want of memory
+
+-- it stopped the redrive
+pub record IsStoppedRedrive {S D F : Type 0} (o : RunTells S D F) (w : RedriveWords) (h : List Entry) (old new : Seen S D F) : Type 0 where
+  pub mapping : NamedMapping
+  pub files : FilesState D
+  pub ready : IsReadyFor o.run.disk (redrive_asks w) old new mapping files
+  pub caller : F
+  pub caller_left : F
+  pub first_used : IsFirstUsed old.callers new.callers caller caller_left
+  pub reading : Option InputEnd
+  pub run : redrive.HasStoppedRun (redrive_tells o) o.left (words_of w mapping.config) files old.input new.input reading caller caller_left h (redrive_disks new)
+
+-- before anything came; in the run; or when the run had ended and was to be told
+abbrev pub IsRedriveCut : {S D F : Type 0} → RunTells S D F → RedriveWords → List Entry → (old new : Seen S D F) → Type 0
+IsRedriveCut o w h old new =
+    HasNotBegun o.run.disk (redrive_asks w) h old new
+    ⊎ (IsStoppedRedrive o w h old new ⊎ ((e : Ending) × HasCome (RedriveCause o w h old new) e))

@@ -1,0 +1,145 @@
+// The world of a command that runs a mapping, taken apart for the run, and put together again once its end is told.
+ghost use Rattle.std.specs.Prelude.{◌≡◌, ◌≢◌, ℕ, List, true, reverse, Ok, IfOk};
+ghost use Rattle.esm_report.specs.Report.{stands_alone};
+ghost use Rattle.esm_report.specs.declared.ending.Ending.{Ending};
+ghost use Rattle.esm_report.specs.declared.ending.Ending.TheVariants.{BadWords};
+ghost use Rattle.esm_run.specs.Endings.{IsTold};
+ghost use Rattle.esm_run.specs.Ran.{IsReport};
+
+use crate::left::{Began, Ran, RunDevices};
+use crate::output::{OUT_OF_MEMORY, tell};
+use crate::reports::{redrive_report, replay_report};
+use crate::world::{Ended, World};
+use esm_io::Sink;
+use esm_model::{Entry, OutOfMemory};
+use esm_report::{Ending, last_line, queue_report, report};
+use std::alloc::Global;
+
+/// What the run of a mapping does not use of a world.
+pub struct Rest<K, C, L> {
+    pub out: K,
+    pub clock: C,
+    pub door: L,
+}
+
+/// The devices of a run, and the rest of the world.
+pub fn parted<S, K, D, C, F, L>(
+    world: World<S, K, D, C, F, L>,
+) -> (RunDevices<S, D, F>, Rest<K, C, L>)
+    ensures devices { result.0 ≡ record { input = world.input; journal = world.journal; spare = world.spare; failures = world.failures; registry = world.registry; callers = world.callers } }
+    ensures rest { result.1 ≡ record { out = world.out; clock = world.clock; door = world.door } }
+{
+    let World {
+        input,
+        out,
+        journal,
+        spare,
+        failures,
+        registry,
+        clock,
+        callers,
+        door,
+        trace: _,
+    } = world;
+    let devices = RunDevices {
+        input,
+        journal,
+        spare,
+        failures,
+        registry,
+        callers,
+    };
+    (devices, Rest { out, clock, door })
+}
+
+/// The report of an ending, by what began.
+fn report_of(
+    alloc: Global,
+    began: &Began,
+    trace: &[Entry],
+    ending: &Ending,
+) -> Result<Vec<u8>, OutOfMemory>
+    requires { began.now ≡ Began.Nothing → stands_alone ending.now ≡ true }
+    ensures { IfOk result (λ text. (is : List ℕ) → IsReport (reverse trace.now) ending.now began.now is → text.items ≡ is) }
+{
+    match began {
+        Began::Nothing => last_line(alloc, ending),
+        Began::Stream(said) => report(alloc, said, trace, ending),
+        Began::Queue(said) => queue_report(alloc, said, trace, ending),
+        Began::Redrive(said) => redrive_report(alloc, said, trace, ending),
+        Began::Replay(counts) => replay_report(alloc, counts, trace, ending),
+    }
+}
+
+/// Tells how a run ended, and answers the exit status.
+fn tell_end<K: Sink>(
+    alloc: Global,
+    out: &mut K,
+    end: &Result<Ending, OutOfMemory>,
+    began: &Began,
+    trace: &[Entry],
+) -> u8
+    requires { began.now ≡ Began.Nothing → IfOk end.now (λ ending. stands_alone ending ≡ true) }
+    ensures words { result ≡ 2 → end.now ≡ Ok BadWords }
+    ensures told { result ≢ 70 → (ending : Ending) × (end.now ≡ Ok ending) × ((text : List ℕ) → IsReport (reverse trace.now) ending began.now text →
+        IsTold (K.faults out.old) (K.faults out.new) (K.written out.old) (K.written out.new) text ending result) }
+    ensures untold { result ≡ 70 → out.new ≡ out.old }
+{
+    let Ok(ending) = end else {
+        return OUT_OF_MEMORY;
+    };
+    let Ok(text) = report_of(alloc, began, trace, ending) else {
+        return OUT_OF_MEMORY;
+    };
+    tell(out, &text, ending)
+}
+
+/// Tells how a run ended, and hands the world back with the exit status.
+pub fn told<S, K: Sink, D, C, F, L>(
+    alloc: Global,
+    ran: Ran<S, D, F>,
+    rest: Rest<K, C, L>,
+) -> Ended<S, K, D, C, F, L>
+    requires { ran.began ≡ Began.Nothing → IfOk ran.end (λ ending. stands_alone ending ≡ true) }
+    ensures words { result.status ≡ 2 → ran.end ≡ Ok BadWords }
+    ensures told { result.status ≢ 70 → (ending : Ending) × (ran.end ≡ Ok ending) × ((text : List ℕ) → IsReport (reverse ran.trace.items) ending ran.began text →
+        IsTold (K.faults rest.out) (K.faults result.world.out) (K.written rest.out) (K.written result.world.out) text ending result.status) }
+    ensures untold { result.status ≡ 70 → result.world.out ≡ rest.out }
+    ensures world { result.world ≡ record {
+      input = ran.devices.input;
+      out = result.world.out;
+      journal = ran.devices.journal;
+      spare = ran.devices.spare;
+      failures = ran.devices.failures;
+      registry = ran.devices.registry;
+      clock = rest.clock;
+      callers = ran.devices.callers;
+      door = rest.door;
+      trace = ran.trace;
+    } }
+{
+    let Ran {
+        end,
+        began,
+        trace,
+        devices,
+    } = ran;
+    let Rest { out, clock, door } = rest;
+    let mut out = out;
+    let status = tell_end(alloc, &mut out, &end, &began, &trace);
+    Ended {
+        status,
+        world: World {
+            input: devices.input,
+            out,
+            journal: devices.journal,
+            spare: devices.spare,
+            failures: devices.failures,
+            registry: devices.registry,
+            clock,
+            callers: devices.callers,
+            door,
+            trace,
+        },
+    }
+}

@@ -1,0 +1,39 @@
+// The command `replay`: calling records again that failure lines name, and telling how that ended.
+ghost use Rattle.std.specs.Prelude.{◌≡◌, ◌≢◌, length, reverse};
+ghost use Rattle.esm_model.specs.declared.limits.TheConstants.{MAX_LANES};
+ghost use Rattle.esm_run.specs.Replay.{IsReplayCut, ReplayOutcome};
+ghost use Rattle.esm_run.specs.World.{run_tells, seen, written_of};
+
+use crate::parting::{parted, told};
+use crate::replay_ran::run_replay_words;
+use crate::world::{Ended, World};
+use esm_io::{Caller, Clock, Disk, Door, Sink, Source};
+use esm_model::Text;
+use std::alloc::Global;
+use std::sync::Wait;
+
+/// Calls the records again that lines of the failure file name, over the mapping of a stream that the text is; tells how that
+/// ended, and hands the world back with the exit status.
+pub fn replay<R: Wait, S: Source, K: Sink, D: Disk, C: Clock, F: Caller, L: Door>(
+    rt: &R,
+    alloc: Global,
+    text: Text,
+    calls: u32,
+    world: World<S, K, D, C, F, L>,
+) -> Ended<S, K, D, C, F, L>
+    requires { length world.callers.items ≡ MAX_LANES }
+    ensures outcome { result.status ≢ 70 → ReplayOutcome (run_tells C.Clock F.Caller D.Disk S.Source) text calls
+        (written_of K.faults K.written world.out result.world.out) (reverse result.world.trace.items)
+        (seen world) (seen result.world) result.status }
+    ensures want_of_memory { result.status ≡ 70 → IsReplayCut (run_tells C.Clock F.Caller D.Disk S.Source) text calls (reverse result.world.trace.items)
+        (seen world) (seen result.world) }
+    ensures good_words { result.status ≢ 2 }
+    ensures untold { result.status ≡ 70 → result.world.out ≡ world.out }
+    ensures registry { result.world.registry ≡ world.registry }
+    ensures as_many { length result.world.callers.items ≡ MAX_LANES }
+    ensures kept { (result.world.clock ≡ world.clock) × (result.world.door ≡ world.door) }
+{
+    let (devices, rest) = parted(world);
+    let ran = run_replay_words(rt, alloc, &text, calls, devices, &rest.clock);
+    told(alloc, ran, rest)
+}

@@ -1,0 +1,177 @@
+// The run of `replay`: its files are opened, its mapping is read, and the records that failure lines name are called again.
+ghost use Rattle.std.specs.Prelude.{◌≡◌, true, length, reverse, IfOk, OnErr};
+ghost use Rattle.esm_mapping.specs.Named.{IsExpected, MayRun};
+ghost use Rattle.esm_mapping.specs.declared.expected.Expected.TheVariants.{Stream};
+ghost use Rattle.esm_model.specs.Valid.{is_stream};
+ghost use Rattle.esm_model.specs.declared.limits.TheConstants.{MAX_LANES};
+ghost use Rattle.esm_run.specs.Ran.{EndsWith, IsReplayEndingOf};
+ghost use Rattle.esm_run.specs.Replay.{IsReplayCut, ReplayCause};
+ghost use Rattle.esm_run.specs.World.{run_tells, seen_by, seen_of};
+ghost use Rattle.esm_run.specs.declared.left.Began.TheVariants as began;
+
+use crate::first_caller::{put_first, take_first};
+use crate::left::{Began, Ran, RunDevices, not_begun};
+use crate::opened::{Opened, closed};
+use crate::refusal::{ending_of_files, ending_of_mapping, ending_of_replay};
+use esm_io::{Caller, Clock, Disk, Source};
+use esm_mapping::{Expected, NamedMapping, read_expected};
+use esm_model::{OutOfMemory, Text};
+use esm_replay_run::{ReplayRun, run_replay};
+use esm_runner::open_files;
+use std::alloc::Global;
+use std::sync::Wait;
+
+/// How the replay ended, and the devices that it left.
+fn replay_ran<S, D, F>(
+    alloc: Global,
+    run: ReplayRun<S, D>,
+    registry: D,
+    callers: Vec<F>,
+) -> Ran<S, D, F>
+    ensures ended { IfOk result.end (IsReplayEndingOf run.end) }
+    ensures began { result.began ≡ began.Replay run.counts }
+    ensures trace { result.trace ≡ run.trace }
+    ensures devices { result.devices ≡ record { input = run.input; journal = run.journal; spare = run.spare; failures = run.failures; registry = registry; callers = callers } }
+{
+    let ReplayRun {
+        end,
+        trace,
+        counts,
+        said: _,
+        reading: _,
+        input,
+        journal,
+        spare,
+        failures,
+    } = run;
+    let end = match end {
+        Ok(end) => ending_of_replay(alloc, end),
+        Err(OutOfMemory) => Err(OutOfMemory),
+    };
+    Ran {
+        end,
+        began: Began::Replay(counts),
+        trace,
+        devices: RunDevices {
+            input,
+            journal,
+            spare,
+            failures,
+            registry,
+            callers,
+        },
+    }
+}
+
+/// Calls the records again that lines of the opened failure file name, by the first caller.
+fn run_mapping<R: Wait, S: Source, D: Disk, C: Clock, F: Caller>(
+    rt: &R,
+    alloc: Global,
+    text: &Text,
+    calls: u32,
+    mapping: NamedMapping,
+    opened: Opened<S, D, F>,
+    clock: &C,
+) -> Ran<S, D, F>
+    requires named { IsExpected Stream text.now mapping }
+    requires may_run { MayRun mapping }
+    requires kind { is_stream mapping.config.kind ≡ true }
+    requires callers { length opened.callers.items ≡ MAX_LANES }
+    ensures ended { IfOk result.end (EndsWith (ReplayCause (run_tells C.Clock F.Caller D.Disk S.Source) text.now calls (reverse result.trace.items)
+        (seen_of opened.input opened.files.journal opened.files.spare opened.files.failures opened.registry opened.callers.items)
+        (seen_by result.devices)) (reverse result.trace.items) result.began) }
+    ensures stopped { OnErr result.end (IsReplayCut (run_tells C.Clock F.Caller D.Disk S.Source) text.now calls (reverse result.trace.items)
+        (seen_of opened.input opened.files.journal opened.files.spare opened.files.failures opened.registry opened.callers.items)
+        (seen_by result.devices)) }
+    ensures registry { result.devices.registry ≡ opened.registry }
+    ensures as_many { length result.devices.callers.items ≡ MAX_LANES }
+{
+    let _ = text;
+    let Opened {
+        input,
+        files,
+        registry,
+        mut callers,
+    } = opened;
+    let NamedMapping { config, start: _ } = mapping;
+    files.keeps();
+    let mut caller = take_first(&mut callers);
+    let run = run_replay(rt, alloc, config, calls, files, input, &mut caller, clock);
+    put_first(&mut callers, caller);
+    replay_ran(alloc, run, registry, callers)
+}
+
+/// Reads the mapping that the text is over the opened files, and runs it.
+fn run_opened<R: Wait, S: Source, D: Disk, C: Clock, F: Caller>(
+    rt: &R,
+    alloc: Global,
+    text: &Text,
+    calls: u32,
+    opened: Opened<S, D, F>,
+    clock: &C,
+) -> Ran<S, D, F>
+    requires callers { length opened.callers.items ≡ MAX_LANES }
+    ensures ended { IfOk result.end (EndsWith (ReplayCause (run_tells C.Clock F.Caller D.Disk S.Source) text.now calls (reverse result.trace.items)
+        (seen_of opened.input opened.files.journal opened.files.spare opened.files.failures opened.registry opened.callers.items)
+        (seen_by result.devices)) (reverse result.trace.items) result.began) }
+    ensures stopped { OnErr result.end (IsReplayCut (run_tells C.Clock F.Caller D.Disk S.Source) text.now calls (reverse result.trace.items)
+        (seen_of opened.input opened.files.journal opened.files.spare opened.files.failures opened.registry opened.callers.items)
+        (seen_by result.devices)) }
+    ensures registry { result.devices.registry ≡ opened.registry }
+    ensures as_many { length result.devices.callers.items ≡ MAX_LANES }
+{
+    match read_expected(alloc, Expected::Stream, text) {
+        Ok(mapping) => run_mapping(rt, alloc, text, calls, mapping, opened, clock),
+        Err(why) => closed(alloc, ending_of_mapping(alloc, why), opened),
+    }
+}
+
+/// Opens the files of a run, reads the mapping of a stream that the text is, and calls the records again that lines of the failure file name.
+pub fn run_replay_words<R: Wait, S: Source, D: Disk, C: Clock, F: Caller>(
+    rt: &R,
+    alloc: Global,
+    text: &Text,
+    calls: u32,
+    devices: RunDevices<S, D, F>,
+    clock: &C,
+) -> Ran<S, D, F>
+    requires { length devices.callers.items ≡ MAX_LANES }
+    ensures ended { IfOk result.end (EndsWith (ReplayCause (run_tells C.Clock F.Caller D.Disk S.Source) text.now calls (reverse result.trace.items)
+        (seen_by devices) (seen_by result.devices)) (reverse result.trace.items) result.began) }
+    ensures stopped { OnErr result.end (IsReplayCut (run_tells C.Clock F.Caller D.Disk S.Source) text.now calls (reverse result.trace.items)
+        (seen_by devices) (seen_by result.devices)) }
+    ensures registry { result.devices.registry ≡ devices.registry }
+    ensures as_many { length result.devices.callers.items ≡ MAX_LANES }
+{
+    let RunDevices {
+        input,
+        journal,
+        spare,
+        failures,
+        registry,
+        callers,
+    } = devices;
+    match open_files(alloc, journal, spare, failures) {
+        Err(refused) => {
+            let (journal, spare, failures) = refused.back;
+            let devices = RunDevices {
+                input,
+                journal,
+                spare,
+                failures,
+                registry,
+                callers,
+            };
+            not_begun(alloc, ending_of_files(refused.why), devices)
+        }
+        Ok(files) => {
+            let opened = Opened {
+                input,
+                files,
+                registry,
+                callers,
+            };
+            run_opened(rt, alloc, text, calls, opened, clock)
+        }
+    }
+}
