@@ -29,23 +29,34 @@ pub fn said_in(alloc: Global, files: &Files) -> Result<Option<Says>, OutOfMemory
     }
 }
 
-/// How many of a shard's places have a fate.
-fn with_fate(said: &Says, shard: u64, places: &[u32]) -> usize {
+/// Whether the journal tells that the command has nothing more to call at the place: a replay calls no record that was
+/// replayed, a redrive no message that is deleted, and every other command no record that has a fate.
+fn is_over(said: &Says, command: &str, shard: u64, place: u32) -> bool {
+    match command {
+        "replay" => said.replayed(shard, place),
+        "redrive" => said.deleted(place).is_some(),
+        _ => said.fate(shard, place).is_some(),
+    }
+}
+
+/// At how many of these places the command has nothing more to call.
+fn over_among(said: &Says, command: &str, shard: u64, places: &[u32]) -> usize {
     let mut count = 0usize;
     for place in places {
-        if said.fate(shard, *place).is_some() {
+        if is_over(said, command, shard, *place) {
             count = count.saturating_add(1);
         }
     }
     count
 }
 
-/// How many records with a fate the calls of the history have.
-pub fn called_again(said: &Says, history: &[Entry]) -> usize {
+/// How many records the calls of the command's history have of which it had nothing more to call.
+pub fn called_again(said: &Says, command: &str, history: &[Entry]) -> usize {
     let mut count = 0usize;
     for entry in history {
         if let Entry::Began { lane, places, .. } = entry {
-            count = count.saturating_add(with_fate(said, lane.shard, places.as_slice()));
+            let over = over_among(said, command, lane.shard, places.as_slice());
+            count = count.saturating_add(over);
         }
     }
     count

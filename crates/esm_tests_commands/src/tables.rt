@@ -177,7 +177,7 @@ pub struct Stops<'a> {
     pub then: &'a [String],
 }
 
-/// What the second command left, and how many records it called that had a fate before it.
+/// What the second command left, and how many records it called of which nothing more was to be called.
 #[derive(Drop)]
 struct Resumed {
     ended: MemEnded,
@@ -194,8 +194,12 @@ fn go_on<R: Threads + Wait + Sync>(
 ) -> Result<Resumed, OutOfMemory> {
     let said = said_in(alloc, files)?;
     let ended = enacted(rt, alloc, setting, files, None, then)?;
+    let command = match then.first() {
+        Some(word) => word.as_str(),
+        None => "",
+    };
     let again = match &said {
-        Some(said) => called_again(said, ended.world.trace.as_slice()),
+        Some(said) => called_again(said, command, ended.world.trace.as_slice()),
         None => 0,
     };
     Ok(Resumed { ended, again })
@@ -226,7 +230,7 @@ fn stopped<R: Threads + Wait + Sync>(
 }
 
 /// Counts how the second command ends after each stop of the first, with crashes of the choice; how many records it called
-/// that had a fate.
+/// of which nothing more was to be called.
 fn count_stops<R: Threads + Wait + Sync>(
     rt: &R,
     alloc: Global,
@@ -249,7 +253,7 @@ fn count_stops<R: Threads + Wait + Sync>(
 
 /// The command over and over, each time with the next call of the device failing, and after each a crash and the second
 /// command: what that told but for its calls, the failure lines that there are then, and how often; and how many records
-/// it called in all that had a fate.
+/// it called in all of which nothing more was to be called.
 pub fn add_stops<R: Threads + Wait + Sync>(
     rt: &R,
     alloc: Global,
