@@ -3,6 +3,7 @@
 import base64
 import contextlib
 import json
+import random
 import shutil
 import signal
 import socket
@@ -240,6 +241,24 @@ class Trial:
 
     def run(self, mapping, status, lines, functions="ok", lines_in=None, options=(), **how):
         self.said(["run", "--config", json.dumps(mapping), *options], status, lines, functions, lines_in, **how)
+
+    def killed_often(self, words, functions, kills, before):
+        """Begins the command so many times, each time behind `before()`, and kills it at a random moment. How many times it
+        had not ended by itself."""
+        begun = time.monotonic()
+        self.ran(["show"])
+        ready = time.monotonic() - begun  # what a start takes, which may be that of a script
+        amid = 0
+        for _ in range(kills):
+            before()
+            command = self.begin(words, functions, stdout=subprocess.DEVNULL)
+            time.sleep(ready + random.random() * 0.2)
+            amid += command.poll() is None
+            command.send_signal(signal.SIGKILL)
+            command.wait()
+            time.sleep(0.01)
+        before()
+        return amid
 
     def close(self):
         for begun in self.begun:

@@ -16,9 +16,7 @@ import argparse
 import json
 import random
 import shlex
-import signal
 import struct
-import subprocess
 import sys
 import time
 
@@ -358,23 +356,15 @@ def killed(t, kills):
         time.sleep(random.random() * 0.002)
         return ERROR if random.random() < 0.4 else OK
 
+    def before():
+        had.clear()
+        had.update(numbers[key] for key in fates(journal))
+
     f = t.function(answer)
     mapping = STREAM | DESTINATION | {"ParallelizationFactor": 3, "BatchSize": 3, "MaximumRetryAttempts": 1,
                                       "BisectBatchOnFunctionError": True}
     words = ["run", "--config", json.dumps(mapping)]
-    begun = time.monotonic()
-    t.said("show", 0, ["done"])
-    ready = time.monotonic() - begun  # what a start takes, which may be that of a script
-    amid = 0
-    for _ in range(kills):
-        had = {numbers[key] for key in fates(journal)}
-        run = t.begin(words, f.port, stdout=subprocess.DEVNULL)
-        time.sleep(ready + random.random() * 0.2)
-        amid += run.poll() is None
-        run.send_signal(signal.SIGKILL)
-        run.wait()
-        time.sleep(0.01)
-    had = {numbers[key] for key in fates(journal)}
+    amid = t.killed_often(words, f.port, kills, before)
     t.same("status", 0, t.ran(words, f.port, timeout=300)[1])
     named = fates(journal)
     t.same("records with a fate", count, len(named))
