@@ -6,10 +6,11 @@
 PROGRAM is what takes the words of the command line, as `./esm`. Each case is a worked example of a run: a mapping, an
 input, the answers of a function, and the report and exit status that they must give. The functions are served here, on
 127.0.0.1, and remember which records each call held. Further cases try what the outside can do (`try_outside.py`);
-`--quick` leaves out those that take half a minute. `--kills N` runs one more case: a run over a folder that is killed
-at N random moments and begun again each time. Then every record has one fate in the journal, and no call held a record
-that had one. Each case is told in a line, and the numbers of those that passed and failed in the last. Python's standard
-library is all that is needed. The exit status is 0 where no case failed.
+`--quick` leaves out those that take half a minute. Those of `replay` stand in `try_replay.py`. `--kills N` runs more
+cases: a command over a folder that is killed at N random moments and begun again each time. Of a run every record has
+one fate in the journal then, and no call held a record that had one; of a replay every record was replayed once, and no
+call held one that was. Each case is told in a line, and the numbers of those that passed and failed in the last.
+Python's standard library is all that is needed. The exit status is 0 where no case failed.
 """
 
 import argparse
@@ -23,6 +24,7 @@ import time
 sys.dont_write_bytecode = True
 
 import try_outside
+import try_replay
 from trial import (
     DESTINATION, ERROR, FIFO, ITEM_FAILURES, OK, QUEUE, STREAM, Skipped, Trial, always, each, failed, failing, fates, message,
     name_of, payloads, record, shard_line,
@@ -390,6 +392,11 @@ CASES = [
     answer_bodies, two_lanes, record_age, bad_inputs, filters, payload_limit, limits, at_timestamp, throttled_call,
     refused_words, budget_and_restart, budget_then_finish, tries_outlast, changed_stream, tumbling_windows, files,
     migrate_once, cut_journals, queues, queue_restart, fifo, *try_outside.CASES,
+    *try_replay.CASES,
+]
+KILLED = [
+    killed,
+    try_replay.replay_killed,
 ]
 
 
@@ -417,7 +424,7 @@ def main():
     words = parser.parse_args()
     cases = [(case.__name__, case) for case in CASES if not (words.quick and case in try_outside.SLOW)]
     if words.kills:
-        cases.append(("killed", lambda t: killed(t, words.kills)))
+        cases += [(case.__name__, lambda t, case=case: case(t, words.kills)) for case in KILLED]
     if unknown := {*words.only} - {name for name, _ in cases}:
         parser.error(f"no case {', '.join(sorted(unknown))}")
     came = []
