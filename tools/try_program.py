@@ -6,11 +6,13 @@
 PROGRAM is what takes the words of the command line, as `./esm`. Each case is a worked example of a run: a mapping, an
 input, the answers of a function, and the report and exit status that they must give. The functions are served here, on
 127.0.0.1, and remember which records each call held. Further cases try what the outside can do (`try_outside.py`);
-`--quick` leaves out those that take half a minute. Those of `replay` stand in `try_replay.py`. `--kills N` runs more
-cases: a command over a folder that is killed at N random moments and begun again each time. Of a run every record has
-one fate in the journal then, and no call held a record that had one; of a replay every record was replayed once, and no
-call held one that was. Each case is told in a line, and the numbers of those that passed and failed in the last.
-Python's standard library is all that is needed. The exit status is 0 where no case failed.
+`--quick` leaves out those that take half a minute. Those of `replay` stand in `try_replay.py`, those of `redrive` in
+`try_redrive.py`. `--kills N` runs more cases: a command over a folder that is killed at N random moments and begun again
+each time. Of a run every record has one fate in the journal then, and no call held a record that had one; of a replay
+every record was replayed once, and no call held one that was; of a redrive every message has one deletion, no call held
+one that had, and each message that was moved has one line. Each case is told in a line, and the numbers of those that
+passed and failed in the last. Python's standard library is all that is needed. The exit status is 0 where no case
+failed.
 """
 
 import argparse
@@ -24,6 +26,7 @@ import time
 sys.dont_write_bytecode = True
 
 import try_outside
+import try_redrive
 import try_replay
 from trial import (
     DESTINATION, ERROR, FIFO, ITEM_FAILURES, OK, QUEUE, STREAM, Skipped, Trial, always, each, failed, failing, fates, message,
@@ -393,10 +396,12 @@ CASES = [
     refused_words, budget_and_restart, budget_then_finish, tries_outlast, changed_stream, tumbling_windows, files,
     migrate_once, cut_journals, queues, queue_restart, fifo, *try_outside.CASES,
     *try_replay.CASES,
+    *try_redrive.CASES,
 ]
 KILLED = [
     killed,
     try_replay.replay_killed,
+    try_redrive.redrive_killed,
 ]
 
 
