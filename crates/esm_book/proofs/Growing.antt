@@ -18,34 +18,34 @@ OpensBeside = (header : List ℕ) (epoch : ℕ) (payloads : List (List ℕ)) (us
 module _ {C E D T : Type 0} (k : CoreMeaning C E) (m : DiskMeaning D) (n : DestMeaning T) where
   -- nothing was written; room may have been made
   pub grown_none : OnlyNow m → (pair pair' : PairState D) (dest dest' : T) → pair.down ≡ false → n.failed dest ≡ false → PairKeepsWhileUp m pair
-      → pair' ≡ record pair { room = pair'.room } → IsSameDest n dest dest' → HasGrown k m n pair pair' dest dest' [] []
+      → pair' ≡ record pair { room = pair'.room } → IsSameDest n dest dest' → HasGrown k m n pair pair' dest dest' [] [] []
   grown_none only_now pair pair' dest dest' up usable kept room same = record {
     appended = subst (λ (p : PairState D). HasAppended k m pair p [] []) (sym room) (appended_none k m only_now pair up kept pair'.room);
     delivered = delivered_silent k n dest dest' [] refl same usable;
   }
 
   -- more entries after these
-  pub grown_then : (a b c : PairState D) (d e f : T) (one more hand : List E) → HasGrown k m n a b d e one [] → HasGrown k m n b c e f more hand → HasGrown k m n a c d f (one ++ more) hand
-  grown_then a b c d e f one more hand first second = record {
+  pub grown_then : (a b c : PairState D) (d e f : T) (one more hand tried : List E) → HasGrown k m n a b d e one [] [] → HasGrown k m n b c e f more hand tried → HasGrown k m n a c d f (one ++ more) hand tried
+  grown_then a b c d e f one more hand tried first second = record {
     appended = appended_then k m a b c one more hand first.appended second.appended;
-    delivered = subst (HasDelivered k n d f) (sym all) (delivered_then k n d e f (one ++ []) (more ++ hand) first.delivered second.delivered);
+    delivered = subst (λ l. HasDelivered k n d f l tried) (sym all) (delivered_then k n d e f (one ++ []) (more ++ hand) tried first.delivered second.delivered);
   }
     where
       all : (one ++ more) ++ hand ≡ (one ++ []) ++ (more ++ hand)
       all = append_assoc one more hand ∙ ap (λ l. l ++ (more ++ hand)) (sym (append-nil one))
 
   -- and entries of which nothing is written
-  pub grown_noted : (a b : PairState D) (d e : T) (paid noted hand : List E) → written_of k.payload noted ≡ [] → written_of k.line noted ≡ []
-      → HasGrown k m n a b d e paid hand → HasGrown k m n a b d e (paid ++ noted) hand
-  grown_noted a b d e paid noted hand no_payload no_line was = record {
+  pub grown_noted : (a b : PairState D) (d e : T) (paid noted hand tried : List E) → written_of k.payload noted ≡ [] → written_of k.line noted ≡ []
+      → HasGrown k m n a b d e paid hand tried → HasGrown k m n a b d e (paid ++ noted) hand tried
+  grown_noted a b d e paid noted hand tried no_payload no_line was = record {
     appended = appended_noted k m a b paid noted hand no_payload was.appended;
-    delivered = delivered_noted k n d e paid noted hand no_line was.delivered;
+    delivered = delivered_noted k n d e paid noted hand tried no_line was.delivered;
   }
 
   -- what images of both disks open to
-  pub grown_opens : OpensBeside → OnlyNow m → (pair pair' : PairState D) (dest dest' : T) (paid hand : List E) → pair.down ≡ false → PairKeepsWhileUp m pair
-      → HasGrown k m n pair pair' dest dest' paid hand → LeavesFronts k m n pair pair' dest dest' (paid ++ hand)
-  grown_opens law only_now pair pair' dest dest' paid hand up kept grown h1 h2 one other was was_other =
+  pub grown_opens : OpensBeside → OnlyNow m → (pair pair' : PairState D) (dest dest' : T) (paid hand tried : List E) → pair.down ≡ false → PairKeepsWhileUp m pair
+      → HasGrown k m n pair pair' dest dest' paid hand tried → LeavesFronts k m n pair pair' dest dest' (paid ++ hand)
+  grown_opens law only_now pair pair' dest dest' paid hand tried up kept grown h1 h2 one other was was_other =
       let held = (grown.appended.images h1 h2).each one was in
       let keeps = kept h1 h2 up in
       let still = keeps.spare_durable other (only_now pair.spare other h2 (subst (λ d. m.since d (m.moment pair.spare) other) grown.appended.spare was_other)) in

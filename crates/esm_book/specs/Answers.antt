@@ -1,5 +1,6 @@
 -- What a call over devices answers, and what then stands as before. This product's own.
 use Rattle.std.specs.Prelude.{◌≡◌, ◌⊎◌, Result, Ok, Err, IsErrOf, Option, Some, List, [], take}
+use Rattle.esm_io.specs.Images.{NoOther}
 use Rattle.esm_io.specs.Meanings.{DestMeaning}
 use Rattle.esm_model.specs.declared.book.Change.{Change}
 use Rattle.esm_model.specs.declared.book.Trouble.{Trouble}
@@ -22,6 +23,16 @@ in_doubt (Err (Changed change)) owed = []
 in_doubt (Err Down) owed = []
 in_doubt (Err OutOfMemory) owed = []
 
+-- the entry whose line the call may have delivered though it was not told: the first of those that it left owed, where the
+-- destination failed
+abbrev pub in_flight : {A E : Type 0} → Result A CallError → List E → List E
+in_flight (Ok answer) owed = []
+in_flight (Err DiskFault) owed = []
+in_flight (Err DestFault) owed = take 1 owed
+in_flight (Err (Changed change)) owed = []
+in_flight (Err Down) owed = []
+in_flight (Err OutOfMemory) owed = []
+
 -- why the book is down after the call, where it is: the first fault or change that a call answered
 abbrev pub trouble_after : {A : Type 0} → Result A CallError → Option Trouble → Option Trouble
 trouble_after (Ok answer) was = was
@@ -37,6 +48,8 @@ pub record IsSameDest {T : Type 0} (n : DestMeaning T) (old new : T) : Type 0 wh
   pub failed : n.failed new ≡ n.failed old
   pub honesty : n.honest new ≡ n.honest old
   pub faults : n.faults new ≡ n.faults old
+  pub moment : n.moment new ≡ n.moment old
+  pub images : NoOther (n.since old) (n.since new)
 
 -- What stands after a refusal: after a change all is as before; on a book that is down only the core notes the call; and
 -- after want of memory all is as before but for room that was made.

@@ -1,5 +1,5 @@
 -- What devices tell, and what a crash leaves of them, once entries were written. This product's own.
-use Rattle.std.specs.Prelude.{◌≡◌, ◌≤◌, ◌++◌, ℕ, true, List, Option, map}
+use Rattle.std.specs.Prelude.{◌≡◌, ◌⊎◌, ◌≤◌, ◌++◌, ℕ, true, List, Option, Some, map}
 use Rattle.esm_io.specs.Faults.{Rose}
 use Rattle.esm_io.specs.Images.{LeavesOnly}
 use Rattle.esm_io.specs.Meanings.{DiskMeaning, DestMeaning}
@@ -30,18 +30,38 @@ pub record HasAppended {C E D : Type 0} (k : CoreMeaning C E) (m : DiskMeaning D
       LeavesOnly m.moment m.since old.used new.used (HoldsFront k old.epoch old.payloads (paid ++ hand))
   pub kept : PairKeepsWhileUp m new
 
--- The destination has the lines of these entries beyond what it had.
-pub record HasDelivered {C E T : Type 0} (k : CoreMeaning C E) (n : DestMeaning T) (old new : T) (entries : List E) : Type 0 where
+-- what is left where lines are kept is read as these lines, and then as the first of those, or as all of them
+pub record ReadsFront (reads_as : List ℕ → List (List ℕ) → Type 0) (held lines : List (List ℕ)) (left : List ℕ) : Type 0 where
+  pub front : List (List ℕ)
+  pub rest : List (List ℕ)
+  pub split : front ++ rest ≡ lines
+  pub reads : reads_as left (held ++ front)
+
+-- whatever a crash now leaves of the destination is read as these lines
+abbrev pub IsHeld : {T : Type 0} → DestMeaning T → T → List (List ℕ) → Type 0
+IsHeld n dest held = (left : List ℕ) → n.since dest (n.moment dest) left → n.reads_as left held
+
+-- The destination took these lines: what a crash leaves since is read as the lines before, and then as the first of these.
+pub record Takes {T : Type 0} (n : DestMeaning T) (old new : T) (held lines : List (List ℕ)) : Type 0 where
+  pub later : n.moment old ≤ n.moment new
+  pub images : (t : ℕ) (left : List ℕ) → t ≤ n.moment old → n.since new t left → n.since old t left ⊎ ReadsFront n.reads_as held lines left
+
+-- The destination has the lines of these entries beyond what it had; that of the entry on its way may follow where it failed.
+pub record HasDelivered {C E T : Type 0} (k : CoreMeaning C E) (n : DestMeaning T) (old new : T) (entries tried : List E) : Type 0 where
   pub told : Grows (n.lines old) (n.lines new) (map n.sends (written_of k.line entries))
   pub honesty : n.honest new ≡ n.honest old
   pub never_falls : n.faults old ≤ n.faults new
   pub cause : n.failed new ≡ true → Rose (n.faults old) (n.faults new)
+  pub images : n.honest old ≡ true → (held : List (List ℕ)) → n.lines old ≡ Some held → Takes n old new held (map n.sends (written_of k.line (entries ++ tried)))
+  pub durable : n.honest old ≡ true → (held : List (List ℕ)) → n.lines old ≡ Some held → IsHeld n old held → (left : List ℕ) → n.since new (n.moment new) left →
+      ReadsFront n.reads_as (held ++ map n.sends (written_of k.line entries)) (map n.sends (written_of k.line tried)) left
 
 -- A journal and a destination, neither of which had failed, go on: the entries that were paid have their payloads and their
--- lines there. The line of the entry in hand was delivered before the disk failed.
-pub record HasGrown {C E D T : Type 0} (k : CoreMeaning C E) (m : DiskMeaning D) (n : DestMeaning T) (pair pair' : PairState D) (dest dest' : T) (paid hand : List E) : Type 0 where
+-- lines there. The line of the entry in hand was delivered before the disk failed; that of the entry tried may stand there
+-- where the destination failed.
+pub record HasGrown {C E D T : Type 0} (k : CoreMeaning C E) (m : DiskMeaning D) (n : DestMeaning T) (pair pair' : PairState D) (dest dest' : T) (paid hand tried : List E) : Type 0 where
   pub appended : HasAppended k m pair pair' paid hand
-  pub delivered : HasDelivered k n dest dest' (paid ++ hand)
+  pub delivered : HasDelivered k n dest dest' (paid ++ hand) tried
 
 -- these lines were told since, and perhaps more after them
 abbrev pub AreTold : Option (List (List ℕ)) → Option (List (List ℕ)) → List (List ℕ) → Type 0

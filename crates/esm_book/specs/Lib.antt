@@ -4,3 +4,4 @@ pub mod Growth
 pub mod State
 pub mod Answers
 pub mod Writing
+pub mod Hand

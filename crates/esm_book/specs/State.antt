@@ -39,6 +39,13 @@ in_hand (Some Disk) owed = take 1 owed
 in_hand (Some Dest) owed = []
 in_hand (Some (Changed change)) owed = []
 
+-- the entry whose line may stand at the destination though it was not told: the first owed one, where the destination failed
+abbrev pub in_delivery : {E : Type 0} → Option Trouble → List E → List E
+in_delivery None owed = []
+in_delivery (Some Disk) owed = []
+in_delivery (Some Dest) owed = take 1 owed
+in_delivery (Some (Changed change)) owed = []
+
 -- nothing is owed but where a device failed in the midst of a call
 abbrev pub IsSettled : {E : Type 0} → Option Trouble → List E → Type 0
 IsSettled None owed = owed ≡ []
@@ -56,7 +63,7 @@ IsReason is_change (Some (Changed change)) = is_change change
 -- Whoever made its calls: the devices have grown by the history, from those that were handed in to the present ones. Nothing
 -- is owed unless a device failed, and a device has failed exactly where the trouble says so.
 pub record IsKept {C E D T : Type 0} (k : CoreMeaning C E) (m : DiskMeaning D) (n : DestMeaning T) (s : DurableState C D T) : Type 0 where
-  pub grown : HasGrown k m n s.found s.pair s.found_dest s.dest (reverse (k.history s.core)) (in_hand s.trouble (k.owed s.core))
+  pub grown : HasGrown k m n s.found s.pair s.found_dest s.dest (reverse (k.history s.core)) (in_hand s.trouble (k.owed s.core)) (in_delivery s.trouble (k.owed s.core))
   pub settled : IsSettled s.trouble (k.owed s.core)
   pub pair_down : s.pair.down ≡ is_disk s.trouble
   pub dest_failed : n.failed s.dest ≡ is_dest s.trouble

@@ -25,15 +25,20 @@ pub record IsReady {C E D T : Type 0} (k : CoreMeaning C E) (n : DestMeaning T) 
 
 -- Behind a history, entries were due, in order. The first of them were paid and the others are owed, and the devices have
 -- grown by them.
-pub record Writes {C E D T : Type 0} (k : CoreMeaning C E) (m : DiskMeaning D) (n : DestMeaning T) (past due : List E) (core' : C) (pair pair' : PairState D) (dest dest' : T) (paid hand : List E) : Type 0 where
+pub record Writes {C E D T : Type 0} (k : CoreMeaning C E) (m : DiskMeaning D) (n : DestMeaning T) (past due : List E) (core' : C) (pair pair' : PairState D) (dest dest' : T) (paid hand tried : List E) : Type 0 where
   pub history_is : k.history core' ≡ reverse paid ++ past
   pub due_is : due ≡ paid ++ k.owed core'
-  pub grown : HasGrown k m n pair pair' dest dest' paid hand
+  pub grown : HasGrown k m n pair pair' dest dest' paid hand tried
 
 -- the entry whose line was delivered and whose payload may stand on the disk that failed
 abbrev pub hand_of : {E : Type 0} → Fault → List E → List E
 hand_of Disk owed = take 1 owed
 hand_of Dest owed = []
+
+-- the entry whose line may stand at the destination that failed
+abbrev pub tried_of : {E : Type 0} → Fault → List E → List E
+tried_of Disk owed = []
+tried_of Dest owed = take 1 owed
 
 -- this device failed, and the other did not
 abbrev pub HasFailed : Fault → Bool → Bool → Type 0
@@ -47,14 +52,14 @@ WasWriting payload line Dest owed = 0 < length (written_of line (take 1 owed))
 
 -- all that was owed is written
 pub record WroteAll {C E D T : Type 0} (k : CoreMeaning C E) (m : DiskMeaning D) (n : DestMeaning T) (core core' : C) (pair pair' : PairState D) (dest dest' : T) : Type 0 where
-  pub writes : Writes k m n (k.history core) (k.owed core) core' pair pair' dest dest' (added (k.history core) (k.history core')) []
+  pub writes : Writes k m n (k.history core) (k.owed core) core' pair pair' dest dest' (added (k.history core) (k.history core')) [] []
   pub settled : k.owed core' ≡ []
   pub up : pair'.down ≡ false
   pub usable : n.failed dest' ≡ false
 
 -- what was owed is written up to the first fault, of this device
 pub record WroteSome {C E D T : Type 0} (k : CoreMeaning C E) (m : DiskMeaning D) (n : DestMeaning T) (core core' : C) (pair pair' : PairState D) (dest dest' : T) (fault : Fault) : Type 0 where
-  pub writes : Writes k m n (k.history core) (k.owed core) core' pair pair' dest dest' (added (k.history core) (k.history core')) (hand_of fault (k.owed core'))
+  pub writes : Writes k m n (k.history core) (k.owed core) core' pair pair' dest dest' (added (k.history core) (k.history core')) (hand_of fault (k.owed core')) (tried_of fault (k.owed core'))
   pub failed : HasFailed fault pair'.down (n.failed dest')
   pub left : 0 < length (k.owed core')
   pub writing : WasWriting k.payload k.line fault (k.owed core')

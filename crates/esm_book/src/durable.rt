@@ -10,7 +10,7 @@ ghost use Rattle.esm_book.specs.Decided.{added, written_of};
 ghost use Rattle.esm_book.specs.Meanings.{decisions};
 ghost use Rattle.esm_book.specs.Growth.{HasGrown, LeavesFronts, OpensToFront};
 ghost use Rattle.esm_book.specs.State.{in_hand, IsReason, IsKept};
-ghost use Rattle.esm_book.specs.Answers.{IsFault, in_doubt, trouble_after, IsLeftBy, IsChangeOf};
+ghost use Rattle.esm_book.specs.Answers.{IsFault, in_doubt, in_flight, trouble_after, IsLeftBy, IsChangeOf};
 
 use crate::decisions::Decisions;
 use crate::error::{CallError, Outcome, Refusal};
@@ -106,7 +106,7 @@ impl<C: Decisions, D: Disk, T: Dest> Durable<C, D, T> {
         // What is written of it.
         ensures grown { self.old.trouble ≡ None → HasGrown (decisions C.Decisions) (disk D.Disk) (destination T.Dest)
             self.old.pair self.new.pair self.old.dest self.new.dest
-            (added (C.history self.old.core) (C.history self.new.core)) (in_doubt result (C.owed self.new.core)) }
+            (added (C.history self.old.core) (C.history self.new.core)) (in_doubt result (C.owed self.new.core)) (in_flight result (C.owed self.new.core)) }
         ensures quiet { OnOk result (added (C.history self.old.core) (C.history self.new.core) ≡ [] →
             (self.new.pair ≡ self.old.pair) × (self.new.dest ≡ self.old.dest)) }
         ensures found { self.new.found ≡ self.old.found }

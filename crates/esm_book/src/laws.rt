@@ -12,17 +12,17 @@ use esm_journal::laws::file_beside_spare;
 /// Devices that went on, and went on again, went on by the entries of both: so what each call of a book promises from its
 /// own start and what its type keeps from the opening are one relation.
 pub fn growth_joins<C: Decisions, D: Disk, T: Dest>()
-    ensures joined { (pair pair' pair'' : PairState D) (dest dest' dest'' : T) (paid more hand : List C.Entry) →
-        HasGrown (decisions C.Decisions) (disk D.Disk) (destination T.Dest) pair pair' dest dest' paid [] →
-        HasGrown (decisions C.Decisions) (disk D.Disk) (destination T.Dest) pair' pair'' dest' dest'' more hand →
-        HasGrown (decisions C.Decisions) (disk D.Disk) (destination T.Dest) pair pair'' dest dest'' (paid ++ more) hand }
+    ensures joined { (pair pair' pair'' : PairState D) (dest dest' dest'' : T) (paid more hand tried : List C.Entry) →
+        HasGrown (decisions C.Decisions) (disk D.Disk) (destination T.Dest) pair pair' dest dest' paid [] [] →
+        HasGrown (decisions C.Decisions) (disk D.Disk) (destination T.Dest) pair' pair'' dest' dest'' more hand tried →
+        HasGrown (decisions C.Decisions) (disk D.Disk) (destination T.Dest) pair pair'' dest dest'' (paid ++ more) hand tried }
 {}
 
 /// What is known of each disk of a pair alone says what a crash leaves of both.
 pub fn growth_leaves<C: Decisions, D: Disk, T: Dest>()
-    ensures leaves { (pair pair' : PairState D) (dest dest' : T) (paid hand : List C.Entry) → pair.down ≡ false →
+    ensures leaves { (pair pair' : PairState D) (dest dest' : T) (paid hand tried : List C.Entry) → pair.down ≡ false →
         PairKeepsWhileUp (disk D.Disk) pair →
-        HasGrown (decisions C.Decisions) (disk D.Disk) (destination T.Dest) pair pair' dest dest' paid hand →
+        HasGrown (decisions C.Decisions) (disk D.Disk) (destination T.Dest) pair pair' dest dest' paid hand tried →
         LeavesFronts (decisions C.Decisions) (disk D.Disk) (destination T.Dest) pair pair' dest dest' (paid ++ hand) }
 {
     file_beside_spare();

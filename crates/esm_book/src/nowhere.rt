@@ -20,6 +20,14 @@ impl Dest for Nowhere {
 
     ghost failed = { λ _. false };
 
+    ghost moment = { λ _. 0 };
+
+    ghost image_since = { λ _ _ _. ⊥ };
+
+    ghost reads_as = { λ _ _. ⊥ };
+
+    ghost counts_now = { λ _ _ _ _ _ none. none };
+
     ghost has_room = { λ _ _. Unit {0} };
 
     fn reserve(&mut self, alloc: Global, bytes: u64) -> Result<(), OutOfMemory> {

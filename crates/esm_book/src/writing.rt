@@ -5,7 +5,7 @@ ghost use Rattle.esm_book.specs.Decided.{written_of, lengths_of, added};
 ghost use Rattle.esm_book.specs.Meanings.{decisions};
 ghost use Rattle.esm_book.specs.Growth.{HasAppended, HasDelivered};
 ghost use Rattle.esm_book.specs.Answers.{IsSameDest};
-ghost use Rattle.esm_book.specs.Writing.{HasLineRoom, IsReady, Writes, hand_of, HasFailed, WasWriting, HasCome};
+ghost use Rattle.esm_book.specs.Writing.{HasLineRoom, IsReady, Writes, hand_of, tried_of, HasFailed, WasWriting, HasCome};
 
 use crate::decisions::Decisions;
 use crate::error::{Fault, Outcome};
@@ -19,8 +19,8 @@ fn deliver_first<C: Decisions, T: Dest>(alloc: Global, core: &C, dest: &mut T) -
     requires owes { 0 < length (C.owed core.now) }
     requires usable { T.failed dest.old ≡ false }
     requires room { HasLineRoom (T.has_room dest.old) (written_of C.line (C.owed core.now)) }
-    ensures delivered { OnOk result (HasDelivered (decisions C.Decisions) (destination T.Dest) dest.old dest.new (take 1 (C.owed core.now))) }
-    ensures not_delivered { OnErr result (HasDelivered (decisions C.Decisions) (destination T.Dest) dest.old dest.new []) }
+    ensures delivered { OnOk result (HasDelivered (decisions C.Decisions) (destination T.Dest) dest.old dest.new (take 1 (C.owed core.now)) []) }
+    ensures not_delivered { OnErr result (HasDelivered (decisions C.Decisions) (destination T.Dest) dest.old dest.new [] (take 1 (C.owed core.now))) }
     ensures usable { OnOk result (T.failed dest.new ≡ false) }
     ensures failed { OnErr result (T.failed dest.new ≡ true) }
     ensures delivering { OnErr result (0 < length (written_of C.line (take 1 (C.owed core.now)))) }
@@ -76,10 +76,10 @@ fn write_first<C: Decisions, D: Disk, T: Dest>(
     requires payable { C.payable core.old }
     requires ready { IsReady (decisions C.Decisions) (destination T.Dest) T.has_room core.old pair.old dest.old }
     ensures written { OnOk result (Writes (decisions C.Decisions) (disk D.Disk) (destination T.Dest)
-        (C.history core.old) (C.owed core.old) core.new pair.old pair.new dest.old dest.new (take 1 (C.owed core.old)) []) }
+        (C.history core.old) (C.owed core.old) core.new pair.old pair.new dest.old dest.new (take 1 (C.owed core.old)) [] []) }
     ensures ready { OnOk result (IsReady (decisions C.Decisions) (destination T.Dest) T.has_room core.new pair.new dest.new) }
     ensures stopped { IfErr result (λ fault. Writes (decisions C.Decisions) (disk D.Disk) (destination T.Dest)
-        (C.history core.old) (C.owed core.old) core.new pair.old pair.new dest.old dest.new [] (hand_of fault (C.owed core.new))) }
+        (C.history core.old) (C.owed core.old) core.new pair.old pair.new dest.old dest.new [] (hand_of fault (C.owed core.new)) (tried_of fault (C.owed core.new))) }
     ensures failed { IfErr result (λ fault. HasFailed fault pair.new.down (T.failed dest.new)) }
     ensures payable { OnOk result (C.payable core.new) }
     ensures left { OnErr result (0 < length (C.owed core.new)) }
@@ -130,13 +130,13 @@ pub(crate) fn write_owed<C: Decisions, D: Disk, T: Dest>(
     requires payable { C.payable core.old }
     requires ready { IsReady (decisions C.Decisions) (destination T.Dest) T.has_room core.old pair.old dest.old }
     ensures written { OnOk result (Writes (decisions C.Decisions) (disk D.Disk) (destination T.Dest)
-        (C.history core.old) (C.owed core.old) core.new pair.old pair.new dest.old dest.new (added (C.history core.old) (C.history core.new)) []) }
+        (C.history core.old) (C.owed core.old) core.new pair.old pair.new dest.old dest.new (added (C.history core.old) (C.history core.new)) [] []) }
     ensures settled { OnOk result (C.owed core.new ≡ []) }
     ensures up { OnOk result (pair.new.down ≡ false) }
     ensures usable { OnOk result (T.failed dest.new ≡ false) }
     ensures stopped { IfErr result (λ fault. Writes (decisions C.Decisions) (disk D.Disk) (destination T.Dest)
         (C.history core.old) (C.owed core.old) core.new pair.old pair.new dest.old dest.new
-        (added (C.history core.old) (C.history core.new)) (hand_of fault (C.owed core.new))) }
+        (added (C.history core.old) (C.history core.new)) (hand_of fault (C.owed core.new)) (tried_of fault (C.owed core.new))) }
     ensures failed { IfErr result (λ fault. HasFailed fault pair.new.down (T.failed dest.new)) }
     ensures left { OnErr result (0 < length (C.owed core.new)) }
     ensures writing { IfErr result (λ fault. WasWriting C.payload C.line fault (C.owed core.new)) }

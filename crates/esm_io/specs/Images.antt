@@ -39,3 +39,7 @@ pub record LeavesOnly {D : Type 0} (moment : D → ℕ) (since : D → ℕ → L
   pub each : (image : List ℕ) → since new (moment old) image → P image
   -- for a run that began earlier
   pub before : (t : ℕ) (image : List ℕ) → t ≤ moment old → since new t image → since old t image ⊎ P image
+
+-- each image since a moment was one before
+abbrev pub NoOther : (ℕ → List ℕ → Type 0) → (ℕ → List ℕ → Type 0) → Type 0
+NoOther past since = (t : ℕ) (image : List ℕ) → since t image → past t image

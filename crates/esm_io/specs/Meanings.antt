@@ -22,7 +22,10 @@ pub record DestMeaning (T : Type 0) : Type 1 where
   pub lines : T → Option (List (List ℕ))
   pub sends : List ℕ → List ℕ
   pub failed : T → Bool
+  pub moment : T → ℕ
+  pub since : T → ℕ → List ℕ → Type 0
+  pub reads_as : List ℕ → List (List ℕ) → Type 0
 
 -- by the members of its trait
 abbrev pub destination : {T : Type 0} → Dest T → DestMeaning T
-destination members = record { honest = members.honest; faults = members.faults; lines = members.lines; sends = members.sends; failed = members.failed }
+destination members = record { honest = members.honest; faults = members.faults; lines = members.lines; sends = members.sends; failed = members.failed; moment = members.moment; since = members.image_since; reads_as = members.reads_as }

@@ -1,7 +1,8 @@
 // The trait of destinations, where failure lines are delivered, and why a line is not delivered.
-ghost use Rattle.std.specs.Prelude.{◌≡◌, ◌≤◌, ℕ, List, [], ◌∷◌, Bool, true, false, Option, length, IsErrOf, OnOk, OnErr};
+ghost use Rattle.std.specs.Prelude.{◌≡◌, ◌≤◌, ◌++◌, ℕ, List, [], ◌∷◌, Bool, true, false, Option, Some, length, IsErrOf, OnOk, OnErr};
 ghost use Rattle.esm_io.specs.Faults.{IsCount, Rose};
-ghost use Rattle.esm_io.specs.Told.{Grows};
+ghost use Rattle.esm_io.specs.Images.{LeavesOnly, NoOther};
+ghost use Rattle.esm_io.specs.Told.{Grows, IsEither};
 
 use esm_model::{MAX_PAYLOAD, OutOfMemory};
 use std::alloc::Global;
@@ -32,6 +33,15 @@ pub trait Dest {
     /// A `deliver` of it answered `Failed`.
     ghost failed: { Self → Bool };
 
+    /// The moment, as a number that never falls: a clock of the destination's own.
+    ghost moment: { Self → ℕ };
+
+    /// What a crash at some time from that moment until now may have left where the lines are kept.
+    ghost image_since: { Self → ℕ → List ℕ → Type 0 };
+
+    /// What is left where lines are kept is read as these lines.
+    ghost reads_as: { List ℕ → List (List ℕ) → Type 0 };
+
     /// Holds of a number of bytes where the next `deliver` of a line of so many does not answer `OutOfMemory`.
     ghost has_room: { Self → ℕ → Type 0 };
 
@@ -41,11 +51,14 @@ pub trait Dest {
         ensures room { OnOk result ((n : ℕ) → n ≤ bytes → has_room self.new n) }
         ensures lines_kept { lines self.new ≡ lines self.old }
         ensures failed_kept { failed self.new ≡ failed self.old }
+        ensures moment_kept { moment self.new ≡ moment self.old }
+        ensures images_kept { NoOther (image_since self.old) (image_since self.new) }
         ensures honesty { honest self.new ≡ honest self.old }
         ensures count { faults self.new ≡ faults self.old };
 
     /// Delivers a line. `Failed` only where the count of faults rose; the line may then stand at the destination
-    /// though it is not among the lines told.
+    /// though it is not among the lines told. Whenever a crash comes, it leaves the lines with this one or without it, and
+    /// once `Ok` was answered with it.
     fn deliver(&mut self, alloc: Global, line: &[u8]) -> Result<(), DestError>
         requires short { length line.now ≤ MAX_PAYLOAD }
         requires usable { failed self.old ≡ false }
@@ -56,6 +69,13 @@ pub trait Dest {
         ensures usable_still { OnOk result (failed self.new ≡ false) }
         ensures usable_again { IsErrOf result DestError.OutOfMemory → failed self.new ≡ false }
         ensures down { IsErrOf result DestError.Failed → failed self.new ≡ true }
+        // What a crash leaves.
+        ensures any_moment { honest self.old ≡ true → (IsErrOf result DestError.OutOfMemory → ⊥) → (held : List (List ℕ)) → lines self.old ≡ Some held →
+            LeavesOnly moment image_since self.old self.new (IsEither reads_as held (sends line.now)) }
+        ensures durable { honest self.old ≡ true → (held : List (List ℕ)) → lines self.old ≡ Some held →
+            OnOk result ((left : List ℕ) → image_since self.new (moment self.new) left → reads_as left (held ++ sends line.now ∷ [])) }
+        ensures moment_kept { IsErrOf result DestError.OutOfMemory → moment self.new ≡ moment self.old }
+        ensures images_kept { IsErrOf result DestError.OutOfMemory → NoOther (image_since self.old) (image_since self.new) }
         // Want of memory.
         ensures room { IsErrOf result DestError.OutOfMemory → has_room self.old (length line.now) → ⊥ }
         ensures room_kept { IsErrOf result DestError.OutOfMemory → (n : ℕ) → has_room self.old n → has_room self.new n }
@@ -64,4 +84,7 @@ pub trait Dest {
         ensures honesty { honest self.new ≡ honest self.old }
         ensures count { IsCount (faults self.old) (faults self.new) }
         ensures cause { IsErrOf result DestError.Failed → Rose (faults self.old) (faults self.new) };
+
+    /// What a crash now may leave is what one since an earlier moment may have left.
+    ghost counts_now: { (dest : Self) (t : ℕ) (left : List ℕ) → honest dest ≡ true → t ≤ moment dest → image_since dest (moment dest) left → image_since dest t left };
 }

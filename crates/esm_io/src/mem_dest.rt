@@ -10,7 +10,7 @@ use esm_model::{Bytes, MAX_PAYLOAD, OutOfMemory};
 use std::alloc::{AllocError, Global};
 use std::marker::Model;
 
-/// A destination in memory. It keeps the lines, and tells them.
+/// A destination in memory. It keeps the lines, and tells them. A crash leaves nothing of it.
 #[derive(Drop, Debug)]
 pub struct MemDest {
     lines: Vec<Bytes>,
@@ -91,6 +91,14 @@ impl Dest for MemDest {
     ghost lines = { λ s. Some s.lines };
 
     ghost failed = { λ s. s.failed };
+
+    ghost moment = { λ _. 0 };
+
+    ghost image_since = { λ _ _ _. ⊥ };
+
+    ghost reads_as = { λ _ _. ⊥ };
+
+    ghost counts_now = { λ _ _ _ _ _ none. none };
 
     ghost has_room = { λ s n. n < s.room };
 

@@ -1,12 +1,12 @@
 // A failure destination that is a file: each line is a payload of a journal.
 ghost use Rattle.std.specs.Prelude.{◌≡◌, ◌≤◌, ◌++◌, ℕ, List, [], ◌∷◌, true, false, Some, length, OnOk, OnErr, IsErrOf};
 ghost use Rattle.esm_io.specs.Faults.{IsCount, Rose};
-ghost use Rattle.esm_io.specs.Images.{LeavesOnly};
-ghost use Rattle.esm_io.specs.Told.{Grows};
+ghost use Rattle.esm_io.specs.Images.{LeavesOnly, NoOther};
+ghost use Rattle.esm_io.specs.Told.{Grows, IsEither};
 ghost use Rattle.esm_io.specs.Meanings.{disk as meaning};
 ghost use Rattle.esm_journal.specs.File.{header_of};
 ghost use Rattle.esm_journal.specs.Room.{HasRoomIfShort};
-ghost use Rattle.esm_journal.specs.State.{OpensToEither, KeepsWhileUp, KeepsWhileDown};
+ghost use Rattle.esm_journal.specs.State.{OpensTo, KeepsWhileUp, KeepsWhileDown};
 
 use crate::error::AppendError;
 use crate::journal::Journal;
@@ -59,6 +59,14 @@ impl<D: Disk> Dest for FileDest<D> {
 
     ghost failed = { λ d. d.down };
 
+    ghost moment = { λ d. D.moment d.disk };
+
+    ghost image_since = { λ d. D.image_since d.disk };
+
+    ghost reads_as = { λ left lines. OpensTo (header_of 1) lines left };
+
+    ghost counts_now = { λ d t left honest early since. D.counts_now d.disk t left honest early (D.only_now d.disk left honest since) };
+
     ghost has_room = { λ d n. HasRoomIfShort d.room n };
 
     fn reserve(&mut self, alloc: Global, bytes: u64) -> Result<(), OutOfMemory>
@@ -68,6 +76,8 @@ impl<D: Disk> Dest for FileDest<D> {
         ensures disk_kept { self.new.disk ≡ self.old.disk }
         ensures honesty { D.honest self.new.disk ≡ D.honest self.old.disk }
         ensures count { D.faults self.new.disk ≡ D.faults self.old.disk }
+        ensures moment_kept { D.moment self.new.disk ≡ D.moment self.old.disk }
+        ensures images_kept { NoOther (D.image_since self.old.disk) (D.image_since self.new.disk) }
     {
         self.journal
             .reserve(alloc, &[bytes.min(MAX_PAYLOAD as u64) as u32])
@@ -89,8 +99,12 @@ impl<D: Disk> Dest for FileDest<D> {
         ensures uncounted { IsErrOf result DestError.OutOfMemory → D.faults self.new.disk ≡ D.faults self.old.disk }
         ensures kept { KeepsWhileUp (meaning D.Disk) self.new }
         ensures stopped { KeepsWhileDown (meaning D.Disk) self.new }
-        ensures any_moment { D.honest self.old.disk ≡ true →
-            LeavesOnly D.moment D.image_since self.old.disk self.new.disk (OpensToEither (header_of 1) self.old.payloads line.now) }
+        ensures any_moment { D.honest self.old.disk ≡ true → (IsErrOf result DestError.OutOfMemory → ⊥) → (held : List (List ℕ)) → Some self.old.payloads ≡ Some held →
+            LeavesOnly (λ d. D.moment d.disk) (λ d. D.image_since d.disk) self.old self.new (IsEither (λ left lines. OpensTo (header_of 1) lines left) held line.now) }
+        ensures durable { D.honest self.old.disk ≡ true → (held : List (List ℕ)) → Some self.old.payloads ≡ Some held →
+            OnOk result ((left : List ℕ) → D.image_since self.new.disk (D.moment self.new.disk) left → OpensTo (header_of 1) (held ++ line.now ∷ []) left) }
+        ensures moment_kept { IsErrOf result DestError.OutOfMemory → D.moment self.new.disk ≡ D.moment self.old.disk }
+        ensures images_kept { IsErrOf result DestError.OutOfMemory → NoOther (D.image_since self.old.disk) (D.image_since self.new.disk) }
         ensures honesty { D.honest self.new.disk ≡ D.honest self.old.disk }
         ensures count { IsCount (D.faults self.old.disk) (D.faults self.new.disk) }
         ensures cause { IsErrOf result DestError.Failed → Rose (D.faults self.old.disk) (D.faults self.new.disk) }

@@ -1,4 +1,4 @@
-use Rattle.std.proofs.Common.{[]}
+use Rattle.std.proofs.Common.{[], take}
 use Rattle.esm_io.specs.Meanings.{disk, destination}
 use Rattle.esm_book.specs.Meanings.{decisions}
 use Rattle.esm_book.proofs.Appending.{appended_none}
@@ -11,5 +11,5 @@ returns-in-Err-clause-stopped g c =
     let m = disk g.D.Disk in
     let n = destination g.T.Dest in
     let pair = c.args.pair.now in
-    writes_none k m n c.args.core.now pair pair c.args.dest.now c.deliver_first.new.dest []
+    writes_none k m n c.args.core.now pair pair c.args.dest.now c.deliver_first.new.dest [] (take 1 (k.owed c.args.core.now))
     (record { appended = appended_none k m g.met.D.Disk.only_now pair c.requires.ready.up c.payloads.ensures.kept pair.room; delivered = c.in-Err.ensures.not_delivered })

@@ -16,9 +16,9 @@ returns-then-owed_count-eq0-clause-came g c =
     let pair = c.args.pair.now in
     let dest = c.args.dest.now in
     record {
-      writes = writes_named k m n (k.history core) (k.owed core) core pair pair dest dest [] []
-          (writes_none k m n core pair pair dest dest []
-          (grown_none k m n g.met.D.Disk.only_now pair pair dest dest c.requires.up c.requires.usable c.payloads.ensures.kept refl (record { lines = refl; failed = refl; honesty = refl; faults = refl })));
+      writes = writes_named k m n (k.history core) (k.owed core) core pair pair dest dest [] [] []
+          (writes_none k m n core pair pair dest dest [] []
+          (grown_none k m n g.met.D.Disk.only_now pair pair dest dest c.requires.up c.requires.usable c.payloads.ensures.kept refl (record { lines = refl; failed = refl; honesty = refl; faults = refl; moment = refl; images = λ _ _ since. since })));
       settled = none_in (k.owed core) (sym c.owed_count.ensures ∙ c.if-owed_count-eq0.true);
       up = c.requires.up;
       usable = c.requires.usable;
@@ -32,7 +32,7 @@ returns-in-Ok-clause-came g c =
     let core = c.args.core.now in
     let new = c.write_owed.new in
     record {
-      writes = writes_after k m n (k.history core) (k.owed core) new.core c.args.pair.now c.reserve_owed.new.pair new.pair c.args.dest.now c.reserve_owed.new.dest new.dest (added (k.history core) (k.history new.core)) []
+      writes = writes_after k m n (k.history core) (k.owed core) new.core c.args.pair.now c.reserve_owed.new.pair new.pair c.args.dest.now c.reserve_owed.new.dest new.dest (added (k.history core) (k.history new.core)) [] []
           (grown_none k m n g.met.D.Disk.only_now c.args.pair.now c.reserve_owed.new.pair c.args.dest.now c.reserve_owed.new.dest c.requires.up c.requires.usable c.payloads.ensures.kept c.reserve_owed.ensures.pair c.reserve_owed.ensures.dest)
           c.in-Ok.ensures.written;
       settled = c.in-Ok.ensures.settled;
@@ -48,7 +48,7 @@ returns-in-Err-Disk-clause-came g c =
     let core = c.args.core.now in
     let new = c.write_owed.new in
     record {
-      writes = writes_after k m n (k.history core) (k.owed core) new.core c.args.pair.now c.reserve_owed.new.pair new.pair c.args.dest.now c.reserve_owed.new.dest new.dest (added (k.history core) (k.history new.core)) _
+      writes = writes_after k m n (k.history core) (k.owed core) new.core c.args.pair.now c.reserve_owed.new.pair new.pair c.args.dest.now c.reserve_owed.new.dest new.dest (added (k.history core) (k.history new.core)) _ _
           (grown_none k m n g.met.D.Disk.only_now c.args.pair.now c.reserve_owed.new.pair c.args.dest.now c.reserve_owed.new.dest c.requires.up c.requires.usable c.payloads.ensures.kept c.reserve_owed.ensures.pair c.reserve_owed.ensures.dest)
           (rw c.in-Err-Disk.field-0-is at c.in-Err-Disk.ensures.stopped);
       failed = rw c.in-Err-Disk.field-0-is at c.in-Err-Disk.ensures.failed;
@@ -64,7 +64,7 @@ returns-in-Err-Dest-clause-came g c =
     let core = c.args.core.now in
     let new = c.write_owed.new in
     record {
-      writes = writes_after k m n (k.history core) (k.owed core) new.core c.args.pair.now c.reserve_owed.new.pair new.pair c.args.dest.now c.reserve_owed.new.dest new.dest (added (k.history core) (k.history new.core)) _
+      writes = writes_after k m n (k.history core) (k.owed core) new.core c.args.pair.now c.reserve_owed.new.pair new.pair c.args.dest.now c.reserve_owed.new.dest new.dest (added (k.history core) (k.history new.core)) _ _
           (grown_none k m n g.met.D.Disk.only_now c.args.pair.now c.reserve_owed.new.pair c.args.dest.now c.reserve_owed.new.dest c.requires.up c.requires.usable c.payloads.ensures.kept c.reserve_owed.ensures.pair c.reserve_owed.ensures.dest)
           (rw c.in-Err-Dest.field-0-is at c.in-Err-Dest.ensures.stopped);
       failed = rw c.in-Err-Dest.field-0-is at c.in-Err-Dest.ensures.failed;

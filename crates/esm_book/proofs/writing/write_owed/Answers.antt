@@ -18,9 +18,9 @@ owed-init g c =
     record {
       payable = c.requires.payable;
       ready = c.requires.ready;
-      so_far = writes_named k m n (k.history core) (k.owed core) core pair pair dest dest [] []
-          (writes_none k m n core pair pair dest dest []
-          (grown_none k m n g.met.D.Disk.only_now pair pair dest dest c.requires.ready.up c.requires.ready.usable c.payloads.ensures.kept refl (record { lines = refl; failed = refl; honesty = refl; faults = refl })));
+      so_far = writes_named k m n (k.history core) (k.owed core) core pair pair dest dest [] [] []
+          (writes_none k m n core pair pair dest dest [] []
+          (grown_none k m n g.met.D.Disk.only_now pair pair dest dest c.requires.ready.up c.requires.ready.usable c.payloads.ensures.kept refl (record { lines = refl; failed = refl; honesty = refl; faults = refl; moment = refl; images = λ _ _ since. since })));
       origin = refl;
     }
 
@@ -36,7 +36,7 @@ owed-preserved g c =
       payable = step.payable;
       ready = step.ready;
       so_far = writes_then k m n (k.history first) (k.owed first) mid c.write_first.new.core c.args.pair.now c.owed.pair c.write_first.new.pair c.args.dest.now c.owed.dest c.write_first.new.dest
-          (added (k.history first) (k.history mid)) (take 1 (k.owed mid)) [] c.owed.invariant.so_far step.written;
+          (added (k.history first) (k.history mid)) (take 1 (k.owed mid)) [] [] c.owed.invariant.so_far step.written;
       origin = c.write_first.ensures.origin ∙ c.owed.invariant.origin;
     }
 
@@ -49,4 +49,4 @@ returns-in_err-write_first-clause-stopped g c =
     let mid = c.owed.core in
     let p = err_from_is_err_and c.from_residual.result c.from_residual.ensures.1 in
     rw (p.1, p.2) (writes_then k m n (k.history first) (k.owed first) mid c.write_first.new.core c.args.pair.now c.owed.pair c.write_first.new.pair c.args.dest.now c.owed.dest c.write_first.new.dest
-    (added (k.history first) (k.history mid)) [] _ c.owed.invariant.so_far c.in_err-write_first.ensures.stopped)
+    (added (k.history first) (k.history mid)) [] _ _ c.owed.invariant.so_far c.in_err-write_first.ensures.stopped)

@@ -61,8 +61,8 @@ returns-in-Written-clause-images g c =
     rw (← c.self.view_is) (λ up.
     let s = c.self.inside in
     let new = c.write_out.new in
-    grown_opens k m n c.file_beside_spare.ensures.opens g.met.D.Disk.only_now s.pair new.pair s.dest new.dest (added (k.history s.core) (k.history new.core)) [] up c.self.invariant.0.grown.appended.kept
-    (subst (λ h. HasGrown k m n s.pair new.pair s.dest new.dest (added h (k.history new.core)) []) c.decide.ensures.history c.in-Written.ensures.came.writes.grown))
+    grown_opens k m n c.file_beside_spare.ensures.opens g.met.D.Disk.only_now s.pair new.pair s.dest new.dest (added (k.history s.core) (k.history new.core)) [] [] up c.self.invariant.0.grown.appended.kept
+    (subst (λ h. HasGrown k m n s.pair new.pair s.dest new.dest (added h (k.history new.core)) [] []) c.decide.ensures.history c.in-Written.ensures.came.writes.grown))
 
 pub returns-in-Written-clause-kept : goal.returns-in-Written-clause-kept
 returns-in-Written-clause-kept g c = c.in-Written.ensures.came.writes.grown.appended.kept
@@ -93,8 +93,8 @@ returns-in-DiskFault-clause-images g c =
     rw (← c.self.view_is) (λ up.
     let s = c.self.inside in
     let new = c.write_out.new in
-    grown_opens k m n c.file_beside_spare.ensures.opens g.met.D.Disk.only_now s.pair new.pair s.dest new.dest (added (k.history s.core) (k.history new.core)) (take 1 (k.owed new.core)) up c.self.invariant.0.grown.appended.kept
-    (subst (λ h. HasGrown k m n s.pair new.pair s.dest new.dest (added h (k.history new.core)) (take 1 (k.owed new.core))) c.decide.ensures.history c.in-DiskFault.ensures.came.writes.grown))
+    grown_opens k m n c.file_beside_spare.ensures.opens g.met.D.Disk.only_now s.pair new.pair s.dest new.dest (added (k.history s.core) (k.history new.core)) (take 1 (k.owed new.core)) [] up c.self.invariant.0.grown.appended.kept
+    (subst (λ h. HasGrown k m n s.pair new.pair s.dest new.dest (added h (k.history new.core)) (take 1 (k.owed new.core)) []) c.decide.ensures.history c.in-DiskFault.ensures.came.writes.grown))
 
 -- the destination failed
 pub invariant_of-self-in-DestFault-1 : goal.invariant_of-self-in-DestFault-1
@@ -122,8 +122,8 @@ returns-in-DestFault-clause-images g c =
     rw (← c.self.view_is) (λ up.
     let s = c.self.inside in
     let new = c.write_out.new in
-    grown_opens k m n c.file_beside_spare.ensures.opens g.met.D.Disk.only_now s.pair new.pair s.dest new.dest (added (k.history s.core) (k.history new.core)) [] up c.self.invariant.0.grown.appended.kept
-    (subst (λ h. HasGrown k m n s.pair new.pair s.dest new.dest (added h (k.history new.core)) []) c.decide.ensures.history c.in-DestFault.ensures.came.writes.grown))
+    grown_opens k m n c.file_beside_spare.ensures.opens g.met.D.Disk.only_now s.pair new.pair s.dest new.dest (added (k.history s.core) (k.history new.core)) [] (take 1 (k.owed new.core)) up c.self.invariant.0.grown.appended.kept
+    (subst (λ h. HasGrown k m n s.pair new.pair s.dest new.dest (added h (k.history new.core)) [] (take 1 (k.owed new.core))) c.decide.ensures.history c.in-DestFault.ensures.came.writes.grown))
 
 pub returns-in-DestFault-clause-kept : goal.returns-in-DestFault-clause-kept
 returns-in-DestFault-clause-kept g c = c.in-DestFault.ensures.came.writes.grown.appended.kept
@@ -136,7 +136,7 @@ returns-in-Err-OutOfMemory-clause-grown g c =
     let n = destination g.T.Dest in
     rw (← c.self.view_is) (λ none.
     let s = c.self.inside in
-    grown_still k m n s.core s.pair s.found.value s.dest s.found_dest.value s.trouble c.self.invariant.0 none g.met.D.Disk.only_now c.decide.new.self s.pair s.dest c.in-Err-OutOfMemory.ensures.unchanged refl (record { lines = refl; failed = refl; honesty = refl; faults = refl }))
+    grown_still k m n s.core s.pair s.found.value s.dest s.found_dest.value s.trouble c.self.invariant.0 none g.met.D.Disk.only_now c.decide.new.self s.pair s.dest c.in-Err-OutOfMemory.ensures.unchanged refl (record { lines = refl; failed = refl; honesty = refl; faults = refl; moment = refl; images = λ _ _ since. since }))
 
 pub returns-in-Err-OutOfMemory-clause-images : goal.returns-in-Err-OutOfMemory-clause-images
 returns-in-Err-OutOfMemory-clause-images g c =
@@ -158,7 +158,7 @@ returns-in-Err-Changed-clause-grown g c =
     let n = destination g.T.Dest in
     rw (← c.self.view_is) (λ none.
     let s = c.self.inside in
-    grown_still k m n s.core s.pair s.found.value s.dest s.found_dest.value s.trouble c.self.invariant.0 none g.met.D.Disk.only_now c.decide.new.self s.pair s.dest c.in-Err-Changed.ensures.unchanged refl (record { lines = refl; failed = refl; honesty = refl; faults = refl }))
+    grown_still k m n s.core s.pair s.found.value s.dest s.found_dest.value s.trouble c.self.invariant.0 none g.met.D.Disk.only_now c.decide.new.self s.pair s.dest c.in-Err-Changed.ensures.unchanged refl (record { lines = refl; failed = refl; honesty = refl; faults = refl; moment = refl; images = λ _ _ since. since }))
 
 pub returns-in-Err-Changed-clause-images : goal.returns-in-Err-Changed-clause-images
 returns-in-Err-Changed-clause-images g c =
@@ -193,7 +193,7 @@ returns-in-OutOfMemory-clause-images g c =
     let s = c.self.inside in
     let new = c.write_out.new in
     let came = c.in-OutOfMemory.ensures.came in
-    grown_opens k m n c.file_beside_spare.ensures.opens g.met.D.Disk.only_now s.pair new.pair s.dest new.dest (added (k.history s.core) (k.history new.core)) [] up c.self.invariant.0.grown.appended.kept
+    grown_opens k m n c.file_beside_spare.ensures.opens g.met.D.Disk.only_now s.pair new.pair s.dest new.dest (added (k.history s.core) (k.history new.core)) [] [] up c.self.invariant.0.grown.appended.kept
     (grown_still k m n s.core s.pair s.found.value s.dest s.found_dest.value s.trouble c.self.invariant.0 (none_of s.trouble (search rules)) g.met.D.Disk.only_now new.core new.pair new.dest (came.forgot ∙ c.in-Ok.ensures.undone) came.room_alone came.same_dest))
 
 pub returns-in-OutOfMemory-clause-kept : goal.returns-in-OutOfMemory-clause-kept
