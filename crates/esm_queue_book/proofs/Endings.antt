@@ -94,6 +94,7 @@ found_change {D} old new asked change sound up refuses is =
       none_coming = sound.none_coming;
       stays = sound.stays;
       hand = refl;
+      hand_follows = λ e some. absurd (cc);
     } in
     record { refuses = refuses; rest = is; sound = subst IsSound (sym is) kept }
 
@@ -110,5 +111,6 @@ carried_none {D} old new sound same =
       none_coming = sound.none_coming;
       stays = sound.stays;
       hand = sound.hand;
+      hand_follows = sound.hand_follows;
     } in
     record { same = same; sound = subst IsSound (sym same) kept }

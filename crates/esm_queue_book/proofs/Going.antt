@@ -1,5 +1,5 @@
 -- What the layer over devices tells of a call, in the words of queues.
-use Rattle.std.proofs.Common.{◌≡◌, ℕ, ◌<◌, List, [], ◌∷◌, ◌++◌, length, take, drop, reverse, sym, ap, ◌∙◌, subst, arith, append_assoc, append-nil, None}
+use Rattle.std.proofs.Common.{◌≡◌, ℕ, ◌<◌, List, [], ◌∷◌, ◌++◌, length, take, drop, reverse, refl, sym, ap, ◌∙◌, subst, arith, append_assoc, append-nil, None}
 use Rattle.std.specs.Prelude.{slice_get}
 use Rattle.std.specs.List.{All}
 use Rattle.std.proofs.lemmas.List.{reverse-append}
@@ -27,6 +27,7 @@ use Rattle.esm_queue_book.specs.Books.{BookState, payloads_in, OpensToFirst, Lea
 use Rattle.esm_queue_book.specs.Calls.{Added}
 use Rattle.esm_queue_book.specs.Keeping.{IsSound}
 use Rattle.esm_queue_book.proofs.Entries.{past_grows, told_grows, All-front, both_none}
+use Rattle.esm_queue_book.proofs.Hands.{first_in_hand, none_in_hand}
 use Rattle.esm_queue_book.proofs.Staying.{all_came, past_over, hand_over, stays_so}
 use Rattle.esm_queue_book.proofs.Deciding.{DecidedSo}
 
@@ -123,6 +124,7 @@ module _ {D : Type 0} (old new : BookState D) (X : List QueueEntry) (coming mess
         none_coming = w.rests;
         stays = ap (λ (ms : List Message). payloads_in ms (reverse new.core.past)) all;
         hand = ap (λ (ms : List Message). payloads_in ms (in_hand new.trouble new.core.owed)) all;
+        hand_follows = λ e some. absurd (none_in_hand new.trouble new.core.owed e owed some);
       }
 
 -- a part was added
@@ -162,6 +164,22 @@ module _ {D : Type 0} (old new : BookState D) (X : List QueueEntry) (coming mess
       let setting : s ≡ new.core.setting = sym (opened_so new.core old.core w.origin ∙ ap (over_messages old.core.setting) came) in
       subst (λ (t : QueueSetting). LegalQueue t new.core.past) setting (subst (LegalQueue s) past front_legal)
 
+  -- and the next entry may follow it
+  next_some : (front more es : List Entry) (e : Entry) → Went old new X → X ≡ queue_entries messages front → front ++ e ∷ more ≡ es → DecidedSo old.core coming messages es → new.core.setting.messages ≡ messages → LegalQueue new.core.setting (e ∷ new.core.past)
+  next_some front more es e w is split so came =
+      let s = over_messages old.core.setting messages in
+      let h = reverse front ++ old.core.past in
+      let goes = extends_all (old.core.setting.messages ++ coming) messages so.all in
+      let all : LegalQueue s (reverse (front ++ e ∷ more) ++ old.core.past) = subst (λ (xs : List Entry). LegalQueue s (reverse xs ++ old.core.past)) (sym split) (so.legal messages goes) in
+      let apart : reverse (front ++ e ∷ more) ++ old.core.past ≡ reverse more ++ (e ∷ h) =
+      ap (λ (xs : List Entry). xs ++ old.core.past) (reverse-append front (e ∷ more))
+      ∙ (append_assoc (reverse (e ∷ more)) (reverse front) old.core.past
+      ∙ (ap (λ (xs : List Entry). xs ++ h) (reverse-append (e ∷ []) more) ∙ append_assoc (reverse more) (e ∷ []) h)) in
+      let legal : LegalQueue s (e ∷ h) = legal_before s (reverse more) (e ∷ h) (subst (LegalQueue s) apart all) in
+      let past : h ≡ new.core.past = sym (past_grows old.core new.core messages front X w.history is) in
+      let setting : s ≡ new.core.setting = sym (opened_so new.core old.core w.origin ∙ ap (over_messages old.core.setting) came) in
+      subst (λ (t : QueueSetting). LegalQueue t (e ∷ new.core.past)) setting (subst (λ (g : List Entry). LegalQueue s (e ∷ g)) past legal)
+
   pub sound_some : (front es : List Entry) → Went old new X → X ≡ queue_entries messages front → owed_of new.core ≡ queue_entries messages new.core.owed → front ++ new.core.owed ≡ es → DecidedSo old.core coming messages es
       → queue_entries messages old.core.past ≡ history_of old.core → 0 < length (payloads_in messages (take 1 new.core.owed)) → IsSound old → (new.trouble ≡ None → ⊥) → IsSound new
   sound_some front es w is owes split so before writing sound down =
@@ -182,4 +200,13 @@ module _ {D : Type 0} (old new : BookState D) (X : List QueueEntry) (coming mess
             (past_over old.core messages before ∙ ap (λ (ms : List Message). payloads_in ms (reverse old.core.past)) back)
             (ap (λ (ms : List Message). payloads_in ms front) back);
         hand = hand_over new.trouble new.core messages owes ∙ ap (λ (ms : List Message). payloads_in ms (in_hand new.trouble rest)) back;
+        hand_follows = λ e some.
+            let first = first_in_hand new.trouble rest e some in
+            record {
+              before = new.core.past;
+              later = [];
+              split = refl;
+              ends = refl;
+              follows = next_some front first.0 es e w is (ap (λ (xs : List Entry). front ++ xs) (sym first.1) ∙ split) so came;
+            };
       }

@@ -1,4 +1,5 @@
 pub mod Entries
+pub mod Hands
 pub mod Staying
 pub mod Deciding
 pub mod Going

@@ -1,5 +1,5 @@
 -- How an entry that is noted ends.
-use Rattle.std.proofs.Common.{◌≡◌, ℕ, ◌≤◌, false, List, [], ◌∷◌, ◌++◌, map, reverse, refl, sym, ap, ap₂, ◌∙◌, subst, arith, append-nil, Option, None}
+use Rattle.std.proofs.Common.{◌≡◌, ℕ, ◌≤◌, true, false, List, [], ◌∷◌, ◌++◌, map, reverse, refl, sym, ap, ap₂, ◌∙◌, subst, arith, append-nil, Option, None}
 use Rattle.std.specs.List.{All}
 use Rattle.std.proofs.lemmas.List.Elements.{All-nil, All-cons}
 use Rattle.esm_model.specs.declared.moment.TheConstants.{MAX_MOMENT}
@@ -15,6 +15,7 @@ use Rattle.esm_queue_model.specs.QueueSetting.{QueueSetting, over_messages}
 use Rattle.esm_queue_model.specs.QueueStep.{LegalQueue, SettledQueue}
 use Rattle.esm_queue_model.specs.QueueBooks.{messages_told, IsOfQueue}
 use Rattle.esm_book.specs.Decided.{written_of}
+use Rattle.esm_book.specs.Hand.{is_end}
 use Rattle.esm_book.specs.State.{in_hand}
 use Rattle.esm_queue_core.specs.declared.decisions.QueueEntry.{QueueEntry}
 use Rattle.esm_queue_core.proofs.Tellings.{payload_in}
@@ -23,9 +24,10 @@ use Rattle.esm_queue_core.specs.Sound.{Sound, ShutIsSound}
 use Rattle.esm_queue_core.specs.Told.{queue_entries, history_of, owed_of, opened, told_entries, told_of}
 use Rattle.esm_queue_book.specs.Books.{BookState, payloads_in}
 use Rattle.esm_queue_book.specs.Calls.{AddedOne}
-use Rattle.esm_queue_book.specs.Keeping.{IsSound}
+use Rattle.esm_queue_book.specs.Keeping.{MayFollowFront, IsSound}
 use Rattle.esm_queue_book.specs.Carried.{Noted}
 use Rattle.esm_queue_book.proofs.Entries.{entry_in, past_grows, told_grows, owed_entries}
+use Rattle.esm_queue_book.proofs.Hands.{follows_on}
 use Rattle.esm_queue_book.proofs.Staying.{hand_over, stays_so}
 use Rattle.esm_queue_book.proofs.Going.{Went, messages_grow, of_queue_so, opened_so}
 
@@ -60,8 +62,8 @@ module _ {D : Type 0} (old new : BookState D) (e : Entry) (X : List QueueEntry) 
       }
 
   sound_one : Went old new X → X ≡ queue_entries (all_messages old.core) (e ∷ []) → AddedOne old new e → IsSound old → All (IsOfQueue old.core.setting.config.kind) (told_entries (all_messages old.core) (e ∷ []))
-      → LegalQueue old.core.setting (e ∷ old.core.past) → (old.trouble ≡ None → SettledQueue old.core.setting (e ∷ old.core.past)) → ((ms : List Message) → payloads_in ms (e ∷ []) ≡ []) → owed_of new.core ≡ owed_of old.core → IsSound new
-  sound_one w is added sound told legal settled unwritten owed =
+      → LegalQueue old.core.setting (e ∷ old.core.past) → (old.trouble ≡ None → SettledQueue old.core.setting (e ∷ old.core.past)) → ((ms : List Message) → payloads_in ms (e ∷ []) ≡ []) → owed_of new.core ≡ owed_of old.core → is_end e ≡ true → IsSound new
+  sound_one w is added sound told legal settled unwritten owed ends =
       let past : e ∷ old.core.past ≡ new.core.past = sym added.past in
       let setting : old.core.setting ≡ new.core.setting = sym added.setting in
       let same : new.trouble ≡ old.trouble = ap (λ (b : BookState D). b.trouble) added.rest in
@@ -81,6 +83,11 @@ module _ {D : Type 0} (old new : BookState D) (e : Entry) (X : List QueueEntry) 
             ∙ (sound.hand
             ∙ (ap₂ (λ (t : Option Trouble) (es : List Entry). payloads_in old.core.setting.messages (in_hand t es)) (sym same) (sym added.owed)
             ∙ ap (λ (ms : List Message). payloads_in ms (in_hand new.trouble new.core.owed)) came)));
+        hand_follows = λ x some.
+            let was : in_hand old.trouble old.core.owed ≡ x ∷ [] = sym (ap₂ (λ (t : Option Trouble) (es : List Entry). in_hand t es) same added.owed) ∙ some in
+            subst (λ (t : QueueSetting). MayFollowFront t new.core.past x) setting
+            (subst (λ (h : List Entry). MayFollowFront old.core.setting h x) past
+            (follows_on (λ before y. LegalQueue old.core.setting (y ∷ before)) old.core.past e x ends (sound.hand_follows x was)));
       }
 
 one_of_queue : {D : Type 0} (old : BookState D) (e : Entry) → IsOfQueue old.core.setting.config.kind (record { entry = e; records = []; messages = [] }) → All (IsOfQueue old.core.setting.config.kind) (record { entry = e; records = []; messages = [] } ∷ [])
@@ -94,7 +101,7 @@ noted_end old new job reply moment X sound down runs within w is owed rest =
     let added = added_one old new e X w is refl refl owed rest in
     record {
       added = added;
-      sound = sound_one old new e X w is added sound (one_of_queue old e (record { messages = refl; no_records = refl })) (sound.legal, (later_for old.core.past moment within, runs.runs)) (λ up. absurd (down up)) (λ ms. refl) owed;
+      sound = sound_one old new e X w is added sound (one_of_queue old e (record { messages = refl; no_records = refl })) (sound.legal, (later_for old.core.past moment within, runs.runs)) (λ up. absurd (down up)) (λ ms. refl) owed refl;
     }
 
 -- the end of the input, on a book that is not
@@ -106,5 +113,5 @@ noted_shut old new moment X sound up going within law w is owed rest =
     let after = law old.core.setting old.core.past (record { legal = sound.legal; settled = sound.settled up }) (moment_for old.core.past moment) going (later_for old.core.past moment within) in
     record {
       added = added;
-      sound = sound_one old new e X w is added sound (one_of_queue old e (record { messages = refl; no_records = refl })) after.legal (λ same. after.settled) (λ ms. refl) owed;
+      sound = sound_one old new e X w is added sound (one_of_queue old e (record { messages = refl; no_records = refl })) after.legal (λ same. after.settled) (λ ms. refl) owed refl;
     }

@@ -24,6 +24,7 @@ use Rattle.esm_queue_core.specs.Told.{queue_entry, queue_entries, history_of, ow
 use Rattle.esm_queue_book.specs.Books.{BookState}
 use Rattle.esm_queue_book.specs.Keeping.{IsSound, IsSetupOf, HasJournal, entries_left}
 use Rattle.esm_queue_book.proofs.Entries.{reversed_back}
+use Rattle.esm_queue_book.proofs.Hands.{none_in_hand}
 use Rattle.esm_queue_book.proofs.Staying.{oldest_first, payloads_of, hand_so}
 use Rattle.esm_queue_book.proofs.Going.{queue_meaning}
 
@@ -40,6 +41,7 @@ sound_new {D} b config calls visibility deletions is =
       none_coming = λ none. refl;
       stays = refl;
       hand = refl;
+      hand_follows = λ e some. absurd (none_in_hand b.trouble [] e refl some);
     } in
     subst (λ (v : CoreView). IsSound (record b { core = v })) (sym is) sound
 

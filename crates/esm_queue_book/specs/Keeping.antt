@@ -1,5 +1,5 @@
 -- What is true of every queue's book, whoever made its calls. This product's own.
-use Rattle.std.specs.Prelude.{◌≡◌, ◌++◌, List, [], Option, Some, None, false, reverse}
+use Rattle.std.specs.Prelude.{◌≡◌, ◌++◌, List, [], ◌∷◌, Option, Some, None, false, reverse}
 use Rattle.std.specs.List.{All}
 use Rattle.esm_io.specs.Meanings.{DiskMeaning}
 use Rattle.esm_model.specs.declared.book.Trouble.{Trouble}
@@ -7,12 +7,18 @@ use Rattle.esm_model.specs.declared.book.Trouble.TheVariants.{Disk, Dest, Change
 use Rattle.esm_model.specs.declared.entry.Entry.{Entry}
 use Rattle.esm_model.specs.declared.setup.Setup.{Setup}
 use Rattle.esm_queue_model.specs.QueueBooks.{messages_told, IsOfQueue}
+use Rattle.esm_queue_model.specs.QueueSetting.{QueueSetting}
 use Rattle.esm_queue_model.specs.QueueStep.{LegalQueue, SettledQueue}
+use Rattle.esm_book.specs.Hand.{FollowsFront}
 use Rattle.esm_book.specs.State.{is_disk, in_hand}
 use Rattle.esm_queue_core.specs.declared.decisions.Opened.{Opened}
 use Rattle.esm_queue_core.specs.CoreView.{all_messages}
 use Rattle.esm_queue_core.specs.Told.{told_of, IsChange}
 use Rattle.esm_queue_book.specs.Books.{BookState, payloads_in}
+
+-- the entry may follow the history, or a front of it after which calls and the input ended alone
+abbrev pub MayFollowFront : QueueSetting → List Entry → Entry → Type 0
+MayFollowFront s h e = FollowsFront (λ before x. LegalQueue s (x ∷ before)) h e
 
 -- The history is legal over the messages that came, each `Came` stands with those that it covers, and where the book is not
 -- down the history is settled.
@@ -30,6 +36,8 @@ pub record IsSound {D : Type 0} (b : BookState D) : Type 0 where
   pub stays : payloads_in (all_messages b.core) (reverse b.core.past) ≡ payloads_in b.core.setting.messages (reverse b.core.past)
   -- and so has the entry that was being written, where a disk failed
   pub hand : payloads_in (all_messages b.core) (in_hand b.trouble b.core.owed) ≡ payloads_in b.core.setting.messages (in_hand b.trouble b.core.owed)
+  -- which may follow the history, or a front of it after which calls and the input ended alone
+  pub hand_follows : (e : Entry) → in_hand b.trouble b.core.owed ≡ e ∷ [] → MayFollowFront b.core.setting b.core.past e
 
 -- the setup is that of the book, whatever it says of the journal
 pub record IsSetupOf {D : Type 0} (setup : Setup) (b : BookState D) : Type 0 where

@@ -6,27 +6,30 @@ use Rattle.esm_io.specs.Faults.{Rose}
 use Rattle.esm_io.specs.Meanings.{DiskMeaning, DestMeaning}
 use Rattle.esm_io.specs.Told.{Grows}
 use Rattle.esm_journal.specs.Pair.{PairKeepsWhileUp}
+use Rattle.esm_model.specs.declared.book.Change.{Change}
 use Rattle.esm_model.specs.declared.book.Trouble.{Trouble}
-use Rattle.esm_model.specs.declared.book.Trouble.TheVariants.{Disk, Dest}
+use Rattle.esm_model.specs.declared.book.Trouble.TheVariants.{Disk, Dest, Changed}
 use Rattle.esm_model.specs.declared.entry.Entry.{Entry}
 use Rattle.esm_model.specs.Setting.{Setting}
 use Rattle.esm_model.specs.Books.{entry_line}
 use Rattle.esm_ingest.specs.Parts.{parts_of}
 use Rattle.esm_book.specs.Decided.{written_of}
 use Rattle.esm_book.specs.Growth.{LeavesFronts}
+use Rattle.esm_book.specs.State.{in_hand}
 use Rattle.esm_stream_core.specs.declared.decisions.StreamCall.{StreamCall}
 use Rattle.esm_stream_core.specs.declared.decisions.StreamCall.TheVariants as call
 use Rattle.esm_stream_core.specs.declared.decisions.StreamAnswer.{StreamAnswer}
 use Rattle.esm_stream_core.specs.declared.decisions.StreamEntry.{StreamEntry}
 use Rattle.esm_stream_core.specs.Calls.{moment_for}
-use Rattle.esm_stream_core.specs.Told.{stream_entry, stream_entries, owed_of, Decides}
-use Rattle.esm_stream_core.specs.CoreView.{full_setting, lines_of}
-use Rattle.esm_stream_book.specs.Books.{BookState, sent_of}
+use Rattle.esm_stream_core.specs.Told.{stream_entry, stream_entries, owed_of, Decides, Refuses}
+use Rattle.esm_stream_core.specs.CoreView.{full_setting, MayFollowFront, HandFollows, lines_of}
+use Rattle.esm_stream_book.specs.Books.{BookState, payloads_in, sent_of}
 use Rattle.esm_stream_book.specs.Calls.{AddedSome, IsSame, WasWriting, hand_of}
 use Rattle.esm_stream_book.specs.Keeping.{IsSound}
-use Rattle.esm_stream_book.specs.Carried.{coming_by, setting_by, entries_by, CarriedAll, CarriedSome, Undelivered, CarriedNone}
+use Rattle.esm_stream_book.specs.Carried.{coming_by, setting_by, entries_by, CarriedAll, CarriedSome, Undelivered, FoundChange, CarriedNone}
 use Rattle.esm_stream_book.proofs.Entries.{both_none, entry_in, owed_entries, parted, parts_are, take-entries}
 use Rattle.esm_stream_book.proofs.Tellings.{none_owed, payload_in, line_in, payloads_told, lines_told}
+use Rattle.esm_stream_book.proofs.Hands.{none_delivered, hand_follows}
 use Rattle.esm_stream_book.proofs.Bringing.{parts_silent}
 use Rattle.esm_stream_book.proofs.Deciding.{decided_so}
 use Rattle.esm_stream_book.proofs.Going.{stream_meaning, Went, added_so, leaves_first, setting_all, sound_all, sound_some}
@@ -62,15 +65,16 @@ module _ {D T : Type 0} (m : DiskMeaning D) (n : DestMeaning T) (old new : BookS
         };
         answer_is = d.answer_is;
         no_change = d.no_change;
-        sound = sound_all old new X coming es w d.entries_are d.legal d.settled d.brings rests sound;
+        sound = sound_all old new X coming es w d.entries_are d.legal d.settled d.brings rests sound (none_owed (full_setting new.core) new.core.owed owed);
       }
 
   -- a device failed in it
   pub added_some : (trouble : Trouble) (hand : List StreamEntry) → IsSound old → old.core.coming ≡ [] → Decides old.core asked given (X ++ owed_of new.core) → Went old new X → new.trouble ≡ Some trouble
       → WasWriting trouble (setting_by old.core asked) new.core.owed → hand ≡ stream_entries (setting_by old.core asked) (hand_of trouble new.core.owed)
       → Grows (n.lines old.dest) (n.lines new.dest) (map n.sends (written_of line_in (X ++ hand))) → LeavesFronts stream_meaning m n old.pair new.pair old.dest new.dest (X ++ hand)
+      → ((e : Entry) → in_hand new.trouble new.core.owed ≡ e ∷ [] → MayFollowFront new.core.setting new.core.past e)
       → AddedSome m n (setting_by old.core asked) old new (entries_by old.core asked) trouble × IsSound new
-  added_some trouble hand sound rests decides w is writing in_hand sent leaves =
+  added_some trouble hand sound rests decides w is writing written_so sent leaves follows =
       let d = decided_so old.core asked given (X ++ owed_of new.core) decides in
       let s = setting_by old.core asked in
       let es = entries_by old.core asked in
@@ -79,7 +83,7 @@ module _ {D T : Type 0} (m : DiskMeaning D) (n : DestMeaning T) (old new : BookS
       let split : front ++ rest ≡ es = ap (λ (xs : List Entry). front ++ xs) (sym (owed_entries new.core)) ∙ parted s es X (owed_of new.core) d.entries_are in
       let first = (parts_are s es X (owed_of new.core) d.entries_are).0 in
       let left = front ++ hand_of trouble rest in
-      let all : X ++ hand ≡ stream_entries s left = ap₂ (λ (xs ys : List StreamEntry). xs ++ ys) first in_hand ∙ sym (map-append (stream_entry s) front (hand_of trouble rest)) in (
+      let all : X ++ hand ≡ stream_entries s left = ap₂ (λ (xs ys : List StreamEntry). xs ++ ys) first written_so ∙ sym (map-append (stream_entry s) front (hand_of trouble rest)) in (
         record {
           front = front;
           rest = rest;
@@ -91,7 +95,7 @@ module _ {D T : Type 0} (m : DiskMeaning D) (n : DestMeaning T) (old new : BookS
           delivered = lines_sent n old.dest new.dest (X ++ hand) s left all sent;
           images = leaves_first m n old.pair new.pair old.dest new.dest (X ++ hand) s left all leaves;
         },
-        sound_some old new X (coming_by old.core asked) front rest es w first split d.legal rests sound (λ up. absurd (cc (sym is ∙ up))),
+        sound_some old new X (coming_by old.core asked) front rest es w first split d.legal rests sound (λ up. absurd (cc (sym is ∙ up))) follows,
       )
 
   -- what is owed is so over the records that came with the call
@@ -106,12 +110,12 @@ module _ {D T : Type 0} (m : DiskMeaning D) (n : DestMeaning T) (old new : BookS
   -- a disk failed in it
   pub carried_some : IsSound old → old.core.coming ≡ [] → Decides old.core asked given (X ++ owed_of new.core) → Went old new X → new.trouble ≡ Some Disk → 0 < length (written_of payload_in (take 1 (owed_of new.core)))
       → Grows (n.lines old.dest) (n.lines new.dest) (map n.sends (written_of line_in (X ++ take 1 (owed_of new.core)))) → LeavesFronts stream_meaning m n old.pair new.pair old.dest new.dest (X ++ take 1 (owed_of new.core)) → Rose (m.faults old.pair.used) (m.faults new.pair.used)
-      → CarriedSome m n old new asked
-  carried_some sound rests decides w is writing sent leaves cause =
+      → HandFollows new.core → (0 < length (payloads_in (full_setting new.core) (take 1 new.core.owed)) → new.core.coming ≡ []) → CarriedSome m n old new asked
+  carried_some sound rests decides w is writing sent leaves cause follows alone =
       let s = setting_by old.core asked in
       let hand = first_owed decides in
       let was : WasWriting Disk s new.core.owed = subst (λ (texts : List (List ℕ)). 0 < length texts) (ap (written_of payload_in) hand ∙ payloads_told s (take 1 new.core.owed)) writing in
-      let so = added_some Disk (take 1 (owed_of new.core)) sound rests decides w is was hand sent leaves in
+      let so = added_some Disk (take 1 (owed_of new.core)) sound rests decides w is was hand sent leaves (λ e some. hand_follows new.core new.trouble e follows alone writing is some) in
       record { added = so.0; cause = cause; no_change = (decided_so old.core asked given (X ++ owed_of new.core) decides).no_change; sound = so.1 }
 
   -- the destination failed in it
@@ -121,7 +125,7 @@ module _ {D T : Type 0} (m : DiskMeaning D) (n : DestMeaning T) (old new : BookS
   undelivered sound rests decides w is writing sent leaves cause =
       let s = setting_by old.core asked in
       let was : WasWriting Dest s new.core.owed = subst (λ (texts : List (List ℕ)). 0 < length texts) (ap (written_of line_in) (first_owed decides) ∙ lines_told s (take 1 new.core.owed)) writing in
-      let so = added_some Dest [] sound rests decides w is was refl sent leaves in
+      let so = added_some Dest [] sound rests decides w is was refl sent leaves (λ e some. absurd (none_delivered new.trouble new.core.owed e is some)) in
       record { added = so.0; cause = cause; no_change = (decided_so old.core asked given (X ++ owed_of new.core) decides).no_change; sound = so.1 }
 
 -- where no line is to be delivered the destination does not fail
@@ -151,9 +155,16 @@ all_delivered m n old new (call.Shut moment) is ended = is
 all_delivered m n old new (call.Next batcher moment) is ended = is
 all_delivered m n old new (call.Done job reply moment) is ended = is
 
+-- it brought a change
+pub found_change : {D T : Type 0} (old new : BookState D T) (asked : StreamCall) (change : Change) → IsSound old → Refuses old.core asked change → new ≡ record old { trouble = Some (Changed change) } → FoundChange old new asked change
+found_change {D} {T} old new asked change sound refuses is =
+    let down : BookState D T = record old { trouble = Some (Changed change) } in
+    let kept : IsSound down = record { records = sound.records; of_stream = sound.of_stream; legal = sound.legal; settled = λ none. absurd (cc); hand_follows = λ e some. absurd (cc) } in
+    record { refuses = refuses; rest = is; sound = subst IsSound (sym is) kept }
+
 -- there was no memory for it
 pub carried_none : {D T : Type 0} (n : DestMeaning T) (old new : BookState D T) → IsSound old → IsSame n old new → CarriedNone n old new
 carried_none {D} {T} n old new sound same =
     let roomy : BookState D T = record old { pair = record old.pair { room = new.pair.room }; dest = new.dest } in
-    let kept : IsSound roomy = record { records = sound.records; of_stream = sound.of_stream; legal = sound.legal; settled = sound.settled } in
+    let kept : IsSound roomy = record { records = sound.records; of_stream = sound.of_stream; legal = sound.legal; settled = sound.settled; hand_follows = sound.hand_follows } in
     record { same = same; sound = subst IsSound (sym same.rest) kept }

@@ -1,5 +1,5 @@
 -- What the layer over devices tells of a call, in the words of streams.
-use Rattle.std.proofs.Common.{◌≡◌, ℕ, List, [], ◌++◌, map, reverse, sym, ap, ◌∙◌, subst, append_assoc, None}
+use Rattle.std.proofs.Common.{◌≡◌, ℕ, List, [], ◌∷◌, ◌++◌, map, reverse, sym, ap, ◌∙◌, subst, append_assoc, None}
 use Rattle.std.specs.List.{All}
 use Rattle.std.proofs.lemmas.List.{reverse-append}
 use Rattle.esm_io.specs.Meanings.{DiskMeaning, DestMeaning}
@@ -18,10 +18,11 @@ use Rattle.esm_model.proofs.Histories.{legal_before}
 use Rattle.esm_book.specs.Decided.{written_of}
 use Rattle.esm_book.specs.Meanings.{CoreMeaning}
 use Rattle.esm_book.specs.Growth.{LeavesFronts, OpensToFront, AreTold}
+use Rattle.esm_book.specs.State.{in_hand}
 use Rattle.esm_ledger.specs.Ledger.{LegalOver}
 use Rattle.esm_outcome.specs.Ending.{SettledOver}
 use Rattle.esm_record_bounds.specs.Bounds.{AreWithinBounds}
-use Rattle.esm_stream_core.specs.CoreView.{CoreView, with_coming, setting_with, full_setting}
+use Rattle.esm_stream_core.specs.CoreView.{CoreView, with_coming, setting_with, full_setting, MayFollowFront}
 use Rattle.esm_stream_core.proofs.Settling.{coming_extends}
 use Rattle.esm_stream_core.specs.declared.decisions.Opened.{Opened}
 use Rattle.esm_stream_core.specs.declared.decisions.StreamEntry.{StreamEntry}
@@ -31,6 +32,7 @@ use Rattle.esm_stream_book.specs.Calls.{Added}
 use Rattle.esm_stream_book.specs.Keeping.{IsSound}
 use Rattle.esm_stream_book.proofs.Entries.{entry_in, past_grows, told_grows, reversed_back, parted, parts_are}
 use Rattle.esm_stream_book.proofs.Tellings.{told-append, told_stays, payload_in, line_in, payloads_told, lines_told}
+use Rattle.esm_stream_book.proofs.Hands.{none_in_hand}
 use Rattle.esm_stream_book.proofs.Records.{entries_same, told_front, AllCame, told_streams, all_came, all_of_stream}
 use Rattle.esm_stream_book.proofs.Bringing.{BringAll, all_brought}
 
@@ -148,8 +150,9 @@ module _ {D T : Type 0} (old new : BookState D T) (X : List StreamEntry) (coming
       (subst (λ (s : Setting). Legal s new.core.past) same legal)
 
   -- a part was added
-  pub sound_some : (rest es : List Entry) → Went old new X → X ≡ stream_entries over_all front → front ++ rest ≡ es → LegalOver over_all (reverse es ++ old.core.past) → old.core.coming ≡ [] → IsSound old → (new.trouble ≡ None → ⊥) → IsSound new
-  sound_some rest es w is split over rests sound down =
+  pub sound_some : (rest es : List Entry) → Went old new X → X ≡ stream_entries over_all front → front ++ rest ≡ es → LegalOver over_all (reverse es ++ old.core.past) → old.core.coming ≡ [] → IsSound old → (new.trouble ≡ None → ⊥)
+      → ((e : Entry) → in_hand new.trouble new.core.owed ≡ e ∷ [] → MayFollowFront new.core.setting new.core.past e) → IsSound new
+  sound_some rest es w is split over rests sound down hand =
       let past = past_grows old.core new.core over_all front X w.history is in
       let legal = subst (Legal over_all) (sym past) (legal_front over_all front rest es old.core.past split over) in
       record {
@@ -157,6 +160,7 @@ module _ {D T : Type 0} (old new : BookState D T) (X : List StreamEntry) (coming
         of_stream = of_stream_after w is rests sound legal;
         legal = legal_after w is rests sound legal;
         settled = λ up. absurd (down up);
+        hand_follows = hand;
       }
 
   -- all was added
@@ -170,8 +174,8 @@ module _ {D T : Type 0} (old new : BookState D T) (X : List StreamEntry) (coming
       opened_so new.core v w.origin
       ∙ ap (over v.setting) (w.records ∙ (ap streams_told (told_after w is rests sound) ∙ told_streams over_all new.core.past legal after))
 
-  pub sound_all : Went old new X → X ≡ stream_entries over_all front → LegalOver over_all (reverse front ++ old.core.past) → SettledOver over_all (reverse front ++ old.core.past) → BringAll old.core.past coming front → old.core.coming ≡ [] → IsSound old → IsSound new
-  sound_all w is over_them settled brings rests sound =
+  pub sound_all : Went old new X → X ≡ stream_entries over_all front → LegalOver over_all (reverse front ++ old.core.past) → SettledOver over_all (reverse front ++ old.core.past) → BringAll old.core.past coming front → old.core.coming ≡ [] → IsSound old → new.core.owed ≡ [] → IsSound new
+  sound_all w is over_them settled brings rests sound owed =
       let past = past_grows old.core new.core over_all front X w.history is in
       let setting : over_all ≡ new.core.setting = sym (setting_all w is over_them brings rests sound) in
       let legal = subst (Legal over_all) (sym past) (over_them over_all.streams (λ n i r at. at)) in
@@ -180,4 +184,5 @@ module _ {D T : Type 0} (old new : BookState D T) (X : List StreamEntry) (coming
         of_stream = of_stream_after w is rests sound legal;
         legal = subst (λ (s : Setting). LegalOver s new.core.past) setting (subst (LegalOver over_all) (sym past) over_them);
         settled = λ up. subst (λ (s : Setting). SettledOver s new.core.past) setting (subst (SettledOver over_all) (sym past) settled);
+        hand_follows = λ e some. absurd (none_in_hand new.trouble new.core.owed e owed some);
       }

@@ -1,6 +1,7 @@
 pub mod Entries
 pub mod Tellings
 pub mod Records
+pub mod Hands
 pub mod Bringing
 pub mod Deciding
 pub mod Going

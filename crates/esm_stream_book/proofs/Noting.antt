@@ -1,10 +1,11 @@
 -- How an entry that is noted ends.
-use Rattle.std.proofs.Common.{◌≡◌, ℕ, ◌≤◌, false, List, [], ◌∷◌, ◌++◌, map, reverse, refl, sym, ap, ap₂, ◌∙◌, subst, arith, append-nil, None}
+use Rattle.std.proofs.Common.{◌≡◌, ℕ, ◌≤◌, true, false, List, [], ◌∷◌, ◌++◌, map, reverse, refl, sym, ap, ap₂, ◌∙◌, subst, arith, append-nil, Option, None}
 use Rattle.std.specs.List.{All}
 use Rattle.std.proofs.lemmas.List.Elements.{All-push}
 use Rattle.esm_model.specs.declared.moment.TheConstants.{MAX_MOMENT}
 use Rattle.esm_model.specs.declared.item.Record.{Record}
 use Rattle.esm_model.specs.declared.book.Job.{Job}
+use Rattle.esm_model.specs.declared.book.Trouble.{Trouble}
 use Rattle.esm_model.specs.declared.entry.Reply.{Reply}
 use Rattle.esm_model.specs.declared.entry.Entry.{Entry}
 use Rattle.esm_model.specs.declared.entry.Entry.TheVariants.{Ended, Shut}
@@ -14,9 +15,12 @@ use Rattle.esm_model.specs.Entries.{is_shut, last_moment, shards_that_came}
 use Rattle.esm_model.specs.Step.{IsLater}
 use Rattle.esm_model.specs.Books.{entries_told, came_with, records_told, stream_told, streams_told, IsOfStream}
 use Rattle.esm_model.proofs.TellingFacts.{entries_more, records-append}
+use Rattle.esm_book.specs.Hand.{is_end}
+use Rattle.esm_book.specs.State.{in_hand}
 use Rattle.esm_ledger.specs.Ledger.{LegalOver}
 use Rattle.esm_outcome.specs.Ending.{SettledOver}
-use Rattle.esm_stream_core.specs.CoreView.{full_setting}
+use Rattle.esm_stream_core.specs.CoreView.{full_setting, MayFollowFront}
+use Rattle.esm_stream_core.proofs.Hand.{follows_on}
 use Rattle.esm_stream_core.proofs.Settling.{shut_legal, shut_settled}
 use Rattle.esm_stream_core.specs.Calls.{moment_for, IsRunningJob}
 use Rattle.esm_stream_core.specs.declared.decisions.StreamEntry.{StreamEntry}
@@ -84,8 +88,8 @@ module _ {D T : Type 0} (old new : BookState D T) (X : List StreamEntry) (e : En
   }
 
   noted_so : IsNoted old new X e → stream_entries (full_setting old.core) (e ∷ []) ≡ stream_entries old.core.setting (e ∷ []) → map (λ (x : StreamEntry). x.told) (stream_entries old.core.setting (e ∷ [])) ≡ alone e ∷ [] → BringsNothing e → IsOfStream (alone e) → IsSound old
-      → LegalOver old.core.setting (e ∷ old.core.past) → (old.trouble ≡ None → SettledOver old.core.setting (e ∷ old.core.past)) → Noted old new e
-  noted_so n alike plain brings is sound legal settled =
+      → LegalOver old.core.setting (e ∷ old.core.past) → (old.trouble ≡ None → SettledOver old.core.setting (e ∷ old.core.past)) → is_end e ≡ true → Noted old new e
+  noted_so n alike plain brings is sound legal settled ends =
       let told = told_one n alike plain in
       let same = setting_stays n brings told sound in
       let added = added_one n alike same in
@@ -98,6 +102,11 @@ module _ {D T : Type 0} (old new : BookState D T) (X : List StreamEntry) (e : En
           of_stream = subst (All IsOfStream) (sym told) (All-push IsOfStream (told_of old.core) (alone e) sound.of_stream is);
           legal = subst (λ (s : Setting). LegalOver s new.core.past) (sym same) (subst (LegalOver old.core.setting) past legal);
           settled = λ none. subst (λ (s : Setting). SettledOver s new.core.past) (sym same) (subst (SettledOver old.core.setting) past (settled (sym up ∙ none)));
+          hand_follows = λ x some.
+              let was : in_hand old.trouble old.core.owed ≡ x ∷ [] = sym (ap₂ (λ (why : Option Trouble) (es : List Entry). in_hand why es) up added.owed) ∙ some in
+              subst (λ (s : Setting). MayFollowFront s new.core.past x) (sym same)
+              (subst (λ (h : List Entry). MayFollowFront old.core.setting h x) past
+              (follows_on (λ before y. LegalOver old.core.setting (y ∷ before)) old.core.past e x ends (sound.hand_follows x was)));
         };
       }
 
@@ -106,7 +115,7 @@ pub noted_end : {D T : Type 0} (old new : BookState D T) (job : Job) (reply : Re
     → IsNoted old new X (Ended job.lane reply (moment_for old.core.past moment)) → Noted old new (Ended job.lane reply (moment_for old.core.past moment))
 noted_end old new job reply moment X sound down runs within n =
     noted_so old new X (Ended job.lane reply (moment_for old.core.past moment)) n refl refl (record { none = λ k. refl; shards = λ h. refl }) (record { records = refl; no_messages = refl }) sound
-    (λ streams goes. (sound.legal streams goes, (later_for old.core.past moment within, runs.runs))) (λ up. absurd (down up))
+    (λ streams goes. (sound.legal streams goes, (later_for old.core.past moment within, runs.runs))) (λ up. absurd (down up)) refl
 
 -- the end of the input, on a book that is not
 pub noted_shut : {D T : Type 0} (old new : BookState D T) (moment : ℕ) (X : List StreamEntry) → IsSound old → old.trouble ≡ None → is_shut old.core.past ≡ false → last_moment old.core.past ≤ MAX_MOMENT
@@ -114,4 +123,4 @@ pub noted_shut : {D T : Type 0} (old new : BookState D T) (moment : ℕ) (X : Li
 noted_shut old new moment X sound up going within n =
     let m = moment_for old.core.past moment in
     noted_so old new X (Shut m) n refl refl (record { none = λ k. refl; shards = λ h. refl }) (record { records = refl; no_messages = refl }) sound
-    (shut_legal old.core.setting old.core.past m sound.legal (sound.settled up) going (later_for old.core.past moment within)) (λ same. shut_settled old.core.setting old.core.past m (sound.settled up))
+    (shut_legal old.core.setting old.core.past m sound.legal (sound.settled up) going (later_for old.core.past moment within)) (λ same. shut_settled old.core.setting old.core.past m (sound.settled up)) refl

@@ -27,6 +27,7 @@ use Rattle.esm_stream_core.specs.Told.{stream_entry, stream_entries, history_of,
 use Rattle.esm_stream_book.specs.Books.{BookState, payloads_in}
 use Rattle.esm_stream_book.specs.Keeping.{IsSound, IsSetupOf, HasJournal, HasLines, entries_left}
 use Rattle.esm_stream_book.proofs.Entries.{map-reverse, take-entries}
+use Rattle.esm_stream_book.proofs.Hands.{none_in_hand}
 use Rattle.esm_stream_book.proofs.Tellings.{payload_in, payloads_told}
 use Rattle.esm_stream_book.proofs.Records.{entries_same}
 use Rattle.esm_stream_book.proofs.Going.{stream_meaning}
@@ -36,7 +37,7 @@ use Rattle.esm_stream_book.proofs.Endings.{lines_sent}
 pub sound_new : {D T : Type 0} (b : BookState D T) (s : Setting) → s.streams ≡ [] → b.core ≡ new_view s → IsSound b
 sound_new {D} {T} b s none is =
     let fresh : BookState D T = record b { core = new_view s } in
-    let sound : IsSound fresh = record { records = none; of_stream = All-nil IsOfStream; legal = λ streams goes. tt; settled = λ up. none_settled s } in
+    let sound : IsSound fresh = record { records = none; of_stream = All-nil IsOfStream; legal = λ streams goes. tt; settled = λ up. none_settled s; hand_follows = λ e some. absurd (none_in_hand b.trouble [] e refl some) } in
     subst (λ (v : CoreView). IsSound (record b { core = v })) (sym is) sound
 
 -- the devices

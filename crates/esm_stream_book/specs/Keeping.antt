@@ -1,5 +1,5 @@
 -- What is true of every stream's book, whoever made its calls. This product's own.
-use Rattle.std.specs.Prelude.{◌≡◌, ◌++◌, List, Option, Some, None, false, reverse}
+use Rattle.std.specs.Prelude.{◌≡◌, ◌++◌, List, [], ◌∷◌, Option, Some, None, false, reverse}
 use Rattle.std.specs.List.{All}
 use Rattle.esm_io.specs.Meanings.{DiskMeaning, DestMeaning}
 use Rattle.esm_io.specs.Told.{Grows}
@@ -11,18 +11,21 @@ use Rattle.esm_model.specs.Books.{IsOfStream, streams_told}
 use Rattle.esm_book.specs.State.{is_disk, is_dest, in_hand}
 use Rattle.esm_ledger.specs.Ledger.{LegalOver}
 use Rattle.esm_outcome.specs.Ending.{SettledOver}
-use Rattle.esm_stream_core.specs.CoreView.{full_setting}
+use Rattle.esm_stream_core.specs.CoreView.{full_setting, MayFollowFront}
 use Rattle.esm_stream_core.specs.declared.decisions.Opened.{Opened}
 use Rattle.esm_stream_core.specs.Told.{told_of, IsChange}
 use Rattle.esm_stream_book.specs.Books.{BookState, payloads_in, sent_of}
 
 -- The setting has the records that the history tells, each `Came` stands with those that it covers, and the history is
 -- legal over all lists of records that go on from them. Where the book is not down, nothing is called for over any of them.
+-- The entry that was being written when a disk failed may follow the history, or a front of it after which calls and the
+-- input ended alone, over all of them.
 pub record IsSound {D T : Type 0} (b : BookState D T) : Type 0 where
   pub records : b.core.setting.streams ≡ streams_told (told_of b.core)
   pub of_stream : All IsOfStream (told_of b.core)
   pub legal : LegalOver b.core.setting b.core.past
   pub settled : b.trouble ≡ None → SettledOver b.core.setting b.core.past
+  pub hand_follows : (e : Entry) → in_hand b.trouble b.core.owed ≡ e ∷ [] → MayFollowFront b.core.setting b.core.past e
 
 -- the setup is that of the book, whatever it says of the devices
 pub record IsSetupOf {D T : Type 0} (setup : Setup) (b : BookState D T) : Type 0 where

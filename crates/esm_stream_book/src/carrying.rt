@@ -1,12 +1,12 @@
 // One call of a stream's core over its devices, in the words of streams.
-ghost use Rattle.std.specs.Prelude.{◌≡◌, ◌≤◌, [], None, false, take, is_some};
+ghost use Rattle.std.specs.Prelude.{◌≡◌, ◌<◌, ◌≤◌, [], None, false, length, take, is_some};
 ghost use Rattle.esm_io.specs.Meanings.{disk, destination};
 ghost use Rattle.esm_model.specs.declared.moment.TheConstants.{MAX_MOMENT};
 ghost use Rattle.esm_model.specs.declared.entry.Entry.TheVariants.{Ended, Shut};
 ghost use Rattle.esm_model.specs.Books.{streams_told};
 ghost use Rattle.esm_model.specs.Entries.{is_shut, last_moment};
 ghost use Rattle.esm_record_bounds.specs.Bounds.{AreWithinBounds};
-ghost use Rattle.esm_stream_core.specs.CoreView.{full_setting};
+ghost use Rattle.esm_stream_core.specs.CoreView.{full_setting, HandFollows};
 ghost use Rattle.esm_stream_core.specs.Calls.{moment_for, IsRunningJob};
 ghost use Rattle.esm_stream_core.specs.Told.{told_of, MayAsk};
 ghost use Rattle.esm_stream_book.specs.Books.{payloads_in};
@@ -38,6 +38,8 @@ pub(crate) fn keeps<D: Disk, T: Dest>(durable: &Durable<StreamCore, D, T>)
     ensures rests { durable.now.core.owed ≡ [] → durable.now.core.coming ≡ [] }
     ensures first { payloads_in (full_setting durable.now.core) (take 1 durable.now.core.owed) ≡
         payloads_in durable.now.core.setting (take 1 durable.now.core.owed) }
+    ensures alone { 0 < length (payloads_in (full_setting durable.now.core) (take 1 durable.now.core.owed)) → durable.now.core.coming ≡ [] }
+    ensures hand { HandFollows durable.now.core }
     ensures in_time { last_moment durable.now.core.past ≤ MAX_MOMENT }
     ensures bounds { AreWithinBounds (full_setting durable.now.core) }
     ensures up { durable.now.trouble ≡ None → durable.now.pair.down ≡ false }

@@ -174,6 +174,19 @@ rests_brought h [] es brought none = refl
 rests_brought h (p ∷ parts) [] brought none = absurd brought
 rests_brought h (p ∷ parts) (e ∷ es) brought none = absurd (cc)
 
+-- where the first owed entry has a payload no records are coming, since it is no `Came`
+pub alone_written : (s : Setting) (h : List Entry) (coming : List Stream) (owed : List Entry) → BringAll h coming owed → 0 < length (filter_map (entry_payload s) (take 1 owed)) → coming ≡ []
+alone_written s h [] owed brought written = refl
+alone_written s h (p ∷ parts) [] brought written = absurd brought
+alone_written s h (p ∷ parts) (entry.Came n first count m ∷ owed) brought written = absurd (omega (arith, written))
+alone_written s h (p ∷ parts) (entry.Began lane places closing m ∷ owed) brought written = absurd brought.0
+alone_written s h (p ∷ parts) (entry.Ended lane reply m ∷ owed) brought written = absurd brought.0
+alone_written s h (p ∷ parts) (entry.Gave by k places f line state m ∷ owed) brought written = absurd brought.0
+alone_written s h (p ∷ parts) (entry.Tried lane places closing t m ∷ owed) brought written = absurd brought.0
+alone_written s h (p ∷ parts) (entry.Closed lane w m ∷ owed) brought written = absurd brought.0
+alone_written s h (p ∷ parts) (entry.Replayed k places m ∷ owed) brought written = absurd brought.0
+alone_written s h (p ∷ parts) (entry.Shut m ∷ owed) brought written = absurd brought.0
+
 -- the first owed entry is a `Came`, of which nothing is written, or no records are coming
 
 pub first_alone : (s : Setting) (h : List Entry) (coming : List Stream) (owed : List Entry) → BringAll h coming owed → filter_map (entry_payload (setting_with s coming)) (take 1 owed) ≡ filter_map (entry_payload s) (take 1 owed)

@@ -1,5 +1,6 @@
--- A ledger of which only the history goes on: it keeps the room for the ends of its calls, and the fates.
-use Rattle.std.proofs.Common.{◌≡◌, ℕ, ◌+◌, ◌<◌, ◌≤◌, List, ◌∷◌, sym, ap, ◌∙◌, subst, arith}
+-- A ledger of which only the history goes on: it keeps the room for the ends of its calls, and the fates; and the entry in hand
+-- may still follow a front of its history.
+use Rattle.std.proofs.Common.{◌≡◌, ℕ, ◌+◌, ◌<◌, ◌≤◌, true, List, ◌∷◌, sym, ap, ◌∙◌, subst, arith}
 use Rattle.std.specs.Prelude.{slice_get, vec_len, vec_capacity}
 use Rattle.esm_model.specs.declared.moment.TheConstants.{MAX_MOMENT}
 use Rattle.esm_model.specs.declared.entry.Entry.{Entry}
@@ -16,11 +17,13 @@ use Rattle.esm_ledger.proofs.Ledgers.{nowhere_none, somewhere_some}
 use Rattle.esm_stream_core.specs.declared.owed.Owed.{Owed}
 use Rattle.esm_stream_core.specs.declared.standing.Standing.{Standing}
 use Rattle.esm_stream_core.specs.declared.standing.Standing.TheVariants.{Whole, Paying, Left}
-use Rattle.esm_stream_core.specs.CoreView.{setting_with}
-use Rattle.esm_stream_core.specs.Acts.{parts_of, AreWritten}
+use Rattle.esm_book.specs.Hand.{is_end}
+use Rattle.esm_stream_core.specs.CoreView.{setting_with, FirstFollows}
+use Rattle.esm_stream_core.specs.Acts.{entries_of, parts_of, AreWritten}
 use Rattle.esm_stream_core.specs.Adding.{costs, IsPushed}
 use Rattle.esm_stream_core.specs.Kept.{ends_of, AreCounted, IsLeft, StandsSo, IsKept}
 use Rattle.esm_stream_core.proofs.Rooms.{places_of, pushed_places}
+use Rattle.esm_stream_core.proofs.Hand.{first_on, first_follows}
 
 -- what is kept says so
 counted_of : (c : Ledger) → Keeps c → AreCounted c
@@ -37,15 +40,22 @@ left_of c n k room = record { places = places_of c n k room; shut = k.rests.shut
 pub left_in : (c : Ledger) (xs : List Coming) (owed : List Owed) (st : Standing) → StandsSo c xs owed st → IsLeft c
 left_in c xs owed Whole s = left_of c (costs owed) s.0.keeps s.0.room
 left_in c xs owed Paying s = left_of c (costs owed) s.keeps s.room
-left_in c xs owed Left s = s
+left_in c xs owed Left s = s.0
 
--- an entry that brings no records, begins no call and changes no fate
+-- the first owed entry may follow a front of the history
+pub hand_in : (c : Ledger) (xs : List Coming) (owed : List Owed) (st : Standing) → StandsSo c xs owed st → FirstFollows (setting_with (setting_of c) (parts_of xs)) (past_of c) (entries_of owed)
+hand_in c xs owed Whole s = first_follows (setting_of c) (past_of c) (parts_of xs) (entries_of owed) s.0.settles
+hand_in c xs owed Paying s = first_follows (setting_of c) (past_of c) (parts_of xs) (entries_of owed) s.settles
+hand_in c xs owed Left s = s.1
+
+-- an end of a call or of the input: an entry that brings no records, begins no call and changes no fate
 pub record IsQuiet (h : List Entry) (e : Entry) : Type 0 where
   pub came : (n : ℕ) → came_count (e ∷ h) n ≡ came_count h n
   pub begun : calls_begun (e ∷ h) ≡ calls_begun h
   pub fates : (n : ℕ) → LeavesFates n e
   pub within : moment_of e ≤ MAX_MOMENT
   pub fewer : ends_of (e ∷ h) + 1 ≤ ends_of h
+  pub ends : is_end e ≡ true
 
 at_pushed : (c d : Ledger) (e : Entry) (n : ℕ) (x : ShardLedger) → IsPushed c d e → IsAt d n x → IsAt c n x
 at_pushed c d e n x p at = (at.0, ap (λ v. slice_get v.items at.0) (sym p.shards) ∙ at.1, at.2)
@@ -55,6 +65,13 @@ at_before c d e n x p at = (at.0, ap (λ v. slice_get v.items at.0) p.shards ∙
 
 came_pushed : (c d : Ledger) (e : Entry) (n : ℕ) → IsPushed c d e → IsQuiet (past_of c) e → came_count (past_of d) n ≡ came_count (past_of c) n
 came_pushed c d e n p quiet = ap (λ (h : List Entry). came_count h n) p.past ∙ quiet.came n
+
+hand_pushed : (c d : Ledger) (xs : List Coming) (owed : List Owed) (e : Entry) → IsPushed c d e → IsQuiet (past_of c) e → FirstFollows (setting_with (setting_of c) (parts_of xs)) (past_of c) (entries_of owed)
+    → FirstFollows (setting_with (setting_of d) (parts_of xs)) (past_of d) (entries_of owed)
+hand_pushed c d xs owed e p quiet follows =
+    subst (λ (s : Setting). FirstFollows (setting_with s (parts_of xs)) (past_of d) (entries_of owed)) (sym p.setting)
+    (subst (λ (h : List Entry). FirstFollows (setting_with (setting_of c) (parts_of xs)) h (entries_of owed)) (sym p.past)
+    (first_on (setting_with (setting_of c) (parts_of xs)) (past_of c) e (entries_of owed) quiet.ends follows))
 
 module _ (stays : (s : Setting) (h : List Entry) (n : ℕ) (t : Tally) → ProgressStays s h n t) where
   counted_pushed : (c d : Ledger) (e : Entry) → IsPushed c d e → IsQuiet (past_of c) e → AreCounted c → AreCounted d
@@ -85,7 +102,7 @@ module _ (stays : (s : Setting) (h : List Entry) (n : ℕ) (t : Tally) → Progr
         written = subst (λ (s : Setting). AreWritten (setting_with s (parts_of xs)) owed) (sym p.setting) k.written;
         lines = k.lines;
         bounds = subst (λ (s : Setting). AreWithinBounds (setting_with s (parts_of xs))) (sym p.setting) k.bounds;
-        stands = left_pushed c d e p quiet (left_in c xs owed st k.stands);
+        stands = (left_pushed c d e p quiet (left_in c xs owed st k.stands), hand_pushed c d xs owed e p quiet (hand_in c xs owed st k.stands));
       }
 
 -- there is room for it

@@ -9,6 +9,7 @@ pub mod Bringing
 pub mod Rooms
 pub mod Settling
 pub mod Additions
+pub mod Hand
 pub mod Leaving
 pub mod Paying
 pub mod Deciding

@@ -26,6 +26,7 @@ use Rattle.esm_stream_core.specs.declared.stream_core.StreamCore.TheInside.{Insi
 use Rattle.esm_stream_core.specs.Inside.{view_of, IsCore}
 use Rattle.esm_stream_core.proofs.Keeping.{accounts_paid, accounts_forgotten, IsCoreOf, core_of}
 use Rattle.esm_stream_core.proofs.Settling.{full_after, bounds_before}
+use Rattle.esm_stream_core.proofs.Hand.{none_first}
 use Rattle.esm_stream_core.proofs.Leaving.{left_of}
 
 -- as it is seen
@@ -192,8 +193,8 @@ core_paid x d vs ys o more to p is =
 
 stands_forgotten : (c : Ledger) (xs : List Coming) (owed : List Owed) (st : Standing) → StandsSo c xs owed st → StandsSo c [] [] (standing_forgotten st)
 stands_forgotten c xs owed Whole s = (record { keeps = s.0.keeps; settles = s.1; room = s.0.keeps.rests.room; payable = refl }, s.1)
-stands_forgotten c xs owed Paying s = left_of c (costs owed) s.keeps s.room
-stands_forgotten c xs owed Left s = s
+stands_forgotten c xs owed Paying s = (left_of c (costs owed) s.keeps s.room, none_first (setting_of c) (past_of c))
+stands_forgotten c xs owed Left s = (s.0, none_first (setting_of c) (past_of c))
 
 kept_forgotten : (c : Ledger) (xs : List Coming) (owed : List Owed) (st : Standing) → IsKept c xs owed st → IsKept c [] [] (standing_forgotten st)
 kept_forgotten c xs owed st k = record {

@@ -27,7 +27,7 @@ pub coming_extends : (ts parts : List Stream) → Extends ts (with_coming ts par
 coming_extends ts [] n i r at = at
 coming_extends ts (p ∷ parts) n i r at = coming_extends (with_list ts p.shard p.records) parts n i r (grown_extends ts p.shard p.records n i r at)
 
-legal_with : (s : Setting) (h : List Entry) (parts : List Stream) → LegalOver s h → LegalOver (setting_with s parts) h
+pub legal_with : (s : Setting) (h : List Entry) (parts : List Stream) → LegalOver s h → LegalOver (setting_with s parts) h
 legal_with s h parts legal streams goes = legal streams (λ n i r at. goes n i r (coming_extends s.streams parts n i r at))
 
 settled_with : (s : Setting) (h : List Entry) (parts : List Stream) → SettledOver s h → SettledOver (setting_with s parts) h

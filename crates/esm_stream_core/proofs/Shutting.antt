@@ -37,14 +37,14 @@ use Rattle.esm_stream_core.proofs.Deciding.{whole_of, stands_whole, empty_of, le
 -- the ends are quiet
 
 ended_quiet : (h : List Entry) (lane : LaneId) (reply : Reply) (m : ℕ) → is_running h lane ≡ true → m ≤ MAX_MOMENT → IsQuiet h (entry.Ended lane reply m)
-ended_quiet h lane reply m runs within = record { came = λ n. refl; begun = refl; fates = λ n. tt; within = within; fewer = ended_ends h lane reply m runs }
+ended_quiet h lane reply m runs within = record { came = λ n. refl; begun = refl; fates = λ n. tt; within = within; fewer = ended_ends h lane reply m runs; ends = refl }
 
 -- of a core that is seen so
 pub ends_quietly : (v : CoreView) (x : Inside) (lane : LaneId) (reply : Reply) (m : ℕ) → view_of x ≡ v → is_running v.past lane ≡ true → m ≤ MAX_MOMENT → IsQuiet (past_of x.ledger) (entry.Ended lane reply m)
 ends_quietly v x lane reply m seen runs within = ended_quiet (past_of x.ledger) lane reply m (ap (λ (w : CoreView). is_running w.past lane) seen ∙ runs) within
 
 pub shut_quiet : (h : List Entry) (m : ℕ) → is_shut h ≡ false → m ≤ MAX_MOMENT → IsQuiet h (entry.Shut m)
-shut_quiet h m going within = record { came = λ n. refl; begun = refl; fates = λ n. tt; within = within; fewer = shut_ends h m going }
+shut_quiet h m going within = record { came = λ n. refl; begun = refl; fates = λ n. tt; within = within; fewer = shut_ends h m going; ends = refl }
 
 -- an entry that brings no records is noted
 

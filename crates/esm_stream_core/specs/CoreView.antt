@@ -1,11 +1,12 @@
 -- What is seen of a core, a stream's history with entries that are decided and not yet added, and what becomes of it. This
 -- product's own.
-use Rattle.std.specs.Prelude.{ℕ, Bool, true, false, List, [], ◌∷◌, ◌++◌, reverse, take, drop}
+use Rattle.std.specs.Prelude.{◌≡◌, ℕ, Bool, true, false, List, [], ◌∷◌, ◌++◌, reverse, take, drop}
 use Rattle.std.specs.List.{filter_map}
 use Rattle.esm_model.specs.declared.entry.Entry.{Entry}
 use Rattle.esm_model.specs.Setting.{Setting, Stream, over}
 use Rattle.esm_model.specs.Books.{entry_line}
 use Rattle.esm_journal_record.specs.EntryPayload.{entry_payload}
+use Rattle.esm_book.specs.Hand.{FollowsFront}
 use Rattle.esm_ledger.specs.Ledger.{LegalOver}
 use Rattle.esm_ledger.specs.Coming.{with_list, grown}
 use Rattle.esm_outcome.specs.Ending.{SettledOver}
@@ -50,6 +51,19 @@ LegalAhead v = LegalOver (full_setting v) (ahead v)
 -- and over all of them nothing is called for that is not owed
 abbrev pub SettledAhead : CoreView → Type 0
 SettledAhead v = SettledOver (full_setting v) (ahead v)
+
+-- the entry may follow the history, or a front of it after which calls and the input ended alone, over all lists of records
+-- that go on
+abbrev pub MayFollowFront : Setting → List Entry → Entry → Type 0
+MayFollowFront s h e = FollowsFront (λ before x. LegalOver s (x ∷ before)) h e
+
+-- the first of these entries may
+abbrev pub FirstFollows : Setting → List Entry → List Entry → Type 0
+FirstFollows s h es = (e : Entry) → take 1 es ≡ e ∷ [] → MayFollowFront s h e
+
+-- the first owed entry may, which is the one that is being written
+abbrev pub HandFollows : CoreView → Type 0
+HandFollows v = FirstFollows (full_setting v) v.past v.owed
 
 -- the setting when the next part has come, if one is coming
 abbrev pub setting_after : Setting → List Stream → Setting

@@ -18,7 +18,7 @@ use Rattle.esm_record_bounds.specs.Bounds.{AreWithinBounds}
 use Rattle.esm_stream_core.specs.declared.owed.Owed.{Owed}
 use Rattle.esm_stream_core.specs.declared.standing.Standing.{Standing}
 use Rattle.esm_stream_core.specs.declared.standing.Standing.TheVariants.{Whole, Paying, Left}
-use Rattle.esm_stream_core.specs.CoreView.{CoreView, setting_after, setting_with, lines_of}
+use Rattle.esm_stream_core.specs.CoreView.{CoreView, setting_after, setting_with, FirstFollows, lines_of}
 use Rattle.esm_stream_core.specs.Acts.{entries_of, parts_of, AreWritten}
 use Rattle.esm_stream_core.specs.Adding.{costs, ArePayable}
 
@@ -72,7 +72,7 @@ pub record IsLeft (c : Ledger) : Type 0 where
 abbrev pub StandsSo : Ledger → List Coming → List Owed → Standing → Type 0
 StandsSo c xs owed Whole = Stands c xs owed × SettledOver (setting_of c) (past_of c)
 StandsSo c xs owed Paying = Stands c xs owed
-StandsSo c xs owed Left = IsLeft c
+StandsSo c xs owed Left = IsLeft c × FirstFollows (setting_with (setting_of c) (parts_of xs)) (past_of c) (entries_of owed)
 
 -- all that is kept; what is coming and what is owed stand oldest first
 pub record IsKept (c : Ledger) (xs : List Coming) (owed : List Owed) (standing : Standing) : Type 0 where

@@ -16,7 +16,7 @@ ghost use Rattle.esm_record_bounds.specs.Bounds.{AreStatesWithin, AreWithinBound
 ghost use Rattle.esm_book.specs.Decided.{IsRefused, lengths_of, IsLineWithin};
 ghost use Rattle.esm_stream_core.specs.Quiet.{IsQuiet, IsWanting};
 ghost use Rattle.esm_stream_core.specs.Standing.{can_pay};
-ghost use Rattle.esm_stream_core.specs.CoreView.{new_view, full_setting, payloads_of, lines_of, LegalAhead, SettledAhead, owing, paid, forgotten, noted, noted_shut};
+ghost use Rattle.esm_stream_core.specs.CoreView.{new_view, full_setting, payloads_of, lines_of, LegalAhead, SettledAhead, HandFollows, owing, paid, forgotten, noted, noted_shut};
 ghost use Rattle.esm_stream_core.specs.Calls.{moment_for, coming_lists, came_entries, Differs, NoneDiffers, IsResting, IsNextOver, next_adds, IsRunningJob, ended_entries, given_by_end};
 ghost use Rattle.esm_stream_core.specs.Told.{told_of};
 
@@ -381,12 +381,15 @@ impl StreamCore {
     }
 
     /// What is true of every core, whoever made its calls: the records that came are those that its history tells, none is
-    /// coming where nothing is owed, the payload of the first owed entry is one of records that came, no moment is past the
-    /// last one, and each record is valid, in the list of its shard. Does nothing.
+    /// coming where nothing is owed, or where the first owed entry has a payload, which is one of records that came; the
+    /// first owed entry may follow the history, or a front of it after which calls and the input ended alone; no moment is
+    /// past the last one, and each record is valid, in the list of its shard. Does nothing.
     pub fn keeps(&self)
         ensures records { self.now.setting.streams ≡ streams_told (told_of self.now) }
         ensures rests { self.now.owed ≡ [] → self.now.coming ≡ [] }
         ensures first { payloads_of self.now (take 1 self.now.owed) ≡ filter_map (entry_payload self.now.setting) (take 1 self.now.owed) }
+        ensures alone { 0 < length (payloads_of self.now (take 1 self.now.owed)) → self.now.coming ≡ [] }
+        ensures hand { HandFollows self.now }
         ensures in_time { last_moment self.now.past ≤ MAX_MOMENT }
         ensures bounds { AreWithinBounds (full_setting self.now) }
     {

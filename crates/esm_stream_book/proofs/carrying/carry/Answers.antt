@@ -4,7 +4,7 @@ use Rattle.esm_book.specs.Answers.{trouble_after}
 use Rattle.esm_book.specs.Decided.{added}
 use Rattle.esm_stream_core.specs.declared.decisions.StreamAnswer.{StreamAnswer}
 use Rattle.esm_stream_core.specs.Told.{history_of}
-use Rattle.esm_stream_book.proofs.Endings.{carried_all, carried_some, undelivered, carried_none}
+use Rattle.esm_stream_book.proofs.Endings.{carried_all, carried_some, undelivered, found_change, carried_none}
 use Rattle.esm_stream_book.proofs.carrying.carry.Goals as goal
 
 pub returns-in-Ok : goal.returns-in-Ok
@@ -33,7 +33,7 @@ returns-in-Err-DiskFault g c =
     let grown = e.grown c.requires.up in
     carried_some m n old new c.args.call begun.0 (added (history_of old.core) (history_of new.core)) c.requires.sound (c.keeps.ensures.rests (c.keeps.ensures.settled c.requires.up)) begun.1
     (record { history = e.history; origin = e.origin; payloads = grown.appended.payloads; found = e.found; found_dest = e.found_dest; records = k.records; bounds = k.bounds })
-    (e.trouble ∙ ap (λ x. trouble_after {A = StreamAnswer} (Err x) old.trouble) is) (e.appending (ap Err is)) (rw is at grown.delivered.told) (rw is at (e.images (c.keeps.ensures.up c.requires.up))) (e.disk_fault (ap Err is))
+    (e.trouble ∙ ap (λ x. trouble_after {A = StreamAnswer} (Err x) old.trouble) is) (e.appending (ap Err is)) (rw is at grown.delivered.told) (rw is at (e.images (c.keeps.ensures.up c.requires.up))) (e.disk_fault (ap Err is)) k.hand k.alone
 
 pub returns-in-Err-DestFault : goal.returns-in-Err-DestFault
 returns-in-Err-DestFault g c =
@@ -49,6 +49,13 @@ returns-in-Err-DestFault g c =
     undelivered m n old new c.args.call begun.0 (added (history_of old.core) (history_of new.core)) c.requires.sound (c.keeps.ensures.rests (c.keeps.ensures.settled c.requires.up)) begun.1
     (record { history = e.history; origin = e.origin; payloads = grown.appended.payloads; found = e.found; found_dest = e.found_dest; records = k.records; bounds = k.bounds })
     (e.trouble ∙ ap (λ x. trouble_after {A = StreamAnswer} (Err x) old.trouble) is) (e.delivering (ap Err is)) (rw is at grown.delivered.told) (rw is at (e.images (c.keeps.ensures.up c.requires.up))) (e.dest_fault (ap Err is))
+
+pub returns-in-Err-Changed : goal.returns-in-Err-Changed
+returns-in-Err-Changed g c =
+    let is = c.in-Err-Changed.field-0-is in
+    let left = rw is at c.in-Err-Changed.ensures.unchanged in
+    let refuses = rw is at c.in-Err-Changed.ensures.changed in
+    found_change c.args.durable.now c.carry_out.new.self c.args.call c.in-Err-Changed.change c.requires.sound refuses left
 
 pub returns-in-Err-OutOfMemory : goal.returns-in-Err-OutOfMemory
 returns-in-Err-OutOfMemory g c =
