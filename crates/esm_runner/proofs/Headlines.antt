@@ -225,6 +225,7 @@ headline t f b new laws left of given =
       journal_stopped = journal_stopped t f b new laws.stay left of;
       failure_lines_kept = lines_kept t f b.dest b.trouble b.core.past b.core.owed new (lines_grown t.disk f b left) left.lines.failed (dest_honest t.disk f b left) left.dest_kept left.dest_stopped of.failures;
       in_hand = is_in_hand b.trouble b.core.owed;
+      hand_follows = left.hand_follows;
       crash = crash_kept t f b new laws.stay left of;
       one_fate = laws.one b.core.setting b.core.past own;
       fate_is_earned = laws.earned b.core.setting b.core.past own;
@@ -259,7 +260,7 @@ disk_rose {D} m f b new left of rose =
     subst (λ (d : D). OneRose m f.journal f.spare d new.spare) (sym of.journal) (subst (λ (d : D). OneRose m f.journal f.spare (first_disk b.pair) d) (sym of.spare) now)
 
 pub dest_rose : {D F : Type 0} {line : List ℕ → List ℕ} (m : DiskMeaning D) (f : FilesState D) (b : BookState D (JournalState D)) (new : Devices D F) → IsLeft m line f b → AreOf b new
-    → Rose (m.faults b.found_dest.disk) (m.faults b.dest.disk) → Rose (m.faults f.failures) (m.faults new.failures)
+    → Rose (m.faults b.found_dest.disk) (m.faults b.dest.disk) → Rose (m.faults f.dest.disk) (m.faults new.failures)
 dest_rose {D} m f b new left of rose =
     let from : Rose (m.faults f.dest.disk) (m.faults b.dest.disk) = subst (λ (d : JournalState D). Rose (m.faults d.disk) (m.faults b.dest.disk)) left.found_dest rose in
-    subst (λ (d : D). Rose (m.faults f.failures) (m.faults d)) (sym of.failures) (rose_before _ _ _ left.files.lines_read.never_falls from)
+    subst (λ (d : D). Rose (m.faults f.dest.disk) (m.faults d)) (sym of.failures) from

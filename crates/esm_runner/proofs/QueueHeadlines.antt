@@ -12,6 +12,7 @@ use Rattle.esm_model.specs.declared.called.Called.{Called}
 use Rattle.esm_model.specs.declared.item.Message.{Message}
 use Rattle.esm_model.specs.declared.entry.Entry.{Entry}
 use Rattle.esm_model.specs.declared.entry.Entry.TheVariants.{Ended}
+use Rattle.esm_book.specs.Hand.{FollowsFront}
 use Rattle.esm_book.specs.State.{in_hand, is_disk}
 use Rattle.esm_journal_record.specs.EntryPayload.{queue_payload}
 use Rattle.esm_queue_model.specs.QueueBatch.{last_queue_event, queue_calls, queue_calls_since}
@@ -20,13 +21,13 @@ use Rattle.esm_queue_core.specs.CoreView.{all_messages}
 use Rattle.esm_folder.specs.Upkeep.{AreHonest, OneRose, PairHolds}
 use Rattle.esm_folder.proofs.OpenedDisks.{are_honest, pair_holds}
 use Rattle.esm_queue_book.specs.Books.{BookState, OpensToFirst, payloads_in}
-use Rattle.esm_queue_book.specs.Keeping.{entries_left}
+use Rattle.esm_queue_book.specs.Keeping.{MayFollowFront, entries_left}
 use Rattle.esm_runner.specs.Given.{AreGiven}
 use Rattle.esm_runner.specs.Files.{FilesState}
 use Rattle.esm_runner.specs.Headline.{Devices, PairStopped, Telling}
 use Rattle.esm_runner.proofs.Headlines.{in_hand_few, is_in_hand, not_disk, used_rose}
 use Rattle.esm_runner.proofs.Stopped.{HasGoneDown, filter_map_few, pair_stopped}
-use Rattle.esm_runner.specs.QueueHeadline.{CrashKept, Headline, JournalKept, JournalStopped, RepliesAreLogged}
+use Rattle.esm_runner.specs.QueueHeadline.{CrashKept, Headline, JournalKept, JournalStopped, LegalOver, RepliesAreLogged}
 use Rattle.esm_runner.specs.QueueLaws.{AreLaws}
 use Rattle.esm_runner.specs.QueueRuns.{IsLeft}
 use Rattle.esm_runner.proofs.Earned.{only_earned}
@@ -151,6 +152,16 @@ replies_logged t s h laws later before lane reply m split =
           ∙ append_assoc (queue_calls s sends before lane.lane) (made ∷ []) since)),
     )
 
+-- what may follow over the messages that came may over all that go on from them
+over_all : AreLaws → (s : QueueSetting) (h : List Entry) (e : Entry) → MayFollowFront s h e → FollowsFront (λ before x. LegalOver s (x ∷ before)) h e
+over_all laws s h e f = record {
+  before = f.before;
+  later = f.later;
+  split = f.split;
+  ends = f.ends;
+  follows = λ messages goes. laws.more s (e ∷ f.before) messages goes f.follows;
+}
+
 -- all of it
 pub headline : {D F : Type 0} (t : Telling D F) (f : FilesState D) (b : BookState D) (new : Devices D F) → AreLaws → IsLeft t.disk f b → AreOf f b new → AreGiven t.callers.gave b.core.past
     → Headline t f b.core.setting b.core.past b.trouble (in_hand b.trouble b.core.owed) new
@@ -161,6 +172,7 @@ headline {D} t f b new laws left of given = record {
   journal_kept = journal_kept t f b new left of;
   journal_stopped = journal_stopped t f b new left of;
   in_hand = is_in_hand b.trouble b.core.owed;
+  hand_follows = λ e some. over_all laws b.core.setting b.core.past e (left.hand_follows e some);
   crash = crash_kept t f b new left of;
   failures_same = of.failures;
   failures_read = subst (λ (d : D). IsOnlyRead t.disk f.failures d) (sym of.failures) left.files.lines_read;

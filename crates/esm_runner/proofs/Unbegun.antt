@@ -88,6 +88,7 @@ left_new m line config calls f files = record {
   dest_kept = files.lines_kept;
   dest_stopped = λ honest down. absurd (let up = files.dest_up in cc);
   hand = refl;
+  hand_follows = λ e some. absurd (cc);
 }
 
 pub not_begun : {S D F : Type 0} (t : Telling D F) (left_in : S → Option (List ℕ)) (config : Config) (start : Start) (calls : ℕ) (f : FilesState D) (old : S) (callers : List F) (new : Devices D F) → AreLaws → IsOpenedFiles t.disk f

@@ -47,7 +47,7 @@ abbrev pub IsCauseOf : {D F : Type 0} → Telling D F → FilesState D → Setti
 IsCauseOf t f s h records reading bytes_left new (end.Finished why) = AllCame s h records × (reading ≡ Some why) × AllFated s h × NoneOutstanding s h
 IsCauseOf t f s h records reading bytes_left new end.CallsSpent = AllCame s h records × (calls_begun h ≡ s.calls) × IsUnfinished s h reading bytes_left
 IsCauseOf t f s h records reading bytes_left new end.DiskFault = OneRose t.disk f.journal f.spare new.journal new.spare
-IsCauseOf t f s h records reading bytes_left new end.DestFault = Rose (t.disk.faults f.failures) (t.disk.faults new.failures)
+IsCauseOf t f s h records reading bytes_left new end.DestFault = Rose (t.disk.faults f.dest.disk) (t.disk.faults new.failures)
 IsCauseOf t f s h records reading bytes_left new (end.Changed change) = (kept_otherwise s change.shard change.place change.given ≡ Some change.kept) × IsOfRecord records change × IsFirstChange s records change
 
 -- the input of a run of the configuration from the starting position on, as it was read
@@ -75,10 +75,10 @@ pub record HasEnded {S D F : Type 0} (t : Telling D F) (faults : S → ℕ) (lef
   pub rests : NoneRuns h
   pub cause : IsCauseOf t f setting h (records_in_items (handed input)) reading (left new_input) new e
 
--- the faults of a disk of the journal rose, or those of the failure file, where the trouble says so
+-- the faults of a disk of the journal rose, or those of the failure file once it was opened, where the trouble says so
 abbrev pub IsFaultOf : {D F : Type 0} → Telling D F → FilesState D → Devices D F → Option Trouble → Type 0
 IsFaultOf t f new (Some trouble.Disk) = OneRose t.disk f.journal f.spare new.journal new.spare
-IsFaultOf t f new (Some trouble.Dest) = Rose (t.disk.faults f.failures) (t.disk.faults new.failures)
+IsFaultOf t f new (Some trouble.Dest) = Rose (t.disk.faults f.dest.disk) (t.disk.faults new.failures)
 IsFaultOf t f new _ = Unit {0}
 
 -- Want of memory stopped it: these bytes were read, the records of their lines came, or the first of them, and more bytes may

@@ -21,7 +21,7 @@ use Rattle.esm_model.specs.Earned.{FateIsEarned, LastEnd}
 use Rattle.esm_model.specs.Laws.{OrderPerKey, OneFate, NoRepeat, EveryRecordCounted, CheckpointIsLongest}
 use Rattle.esm_ingest.specs.Coming.{of_shard}
 use Rattle.esm_ledger.specs.Ledger.{LegalOver, opened_with}
-use Rattle.esm_stream_core.specs.CoreView.{lines_of}
+use Rattle.esm_stream_core.specs.CoreView.{MayFollowFront, lines_of}
 use Rattle.esm_journal_record.specs.declared.said.Said.{Said}
 use Rattle.esm_journal_state.specs.declared.kept.KeptFate.{KeptFate}
 use Rattle.esm_journal_state.specs.Meaning.{fate_said, history}
@@ -102,6 +102,11 @@ abbrev pub IsInHand : Option Trouble → List Entry → Type 0
 IsInHand (Some Disk) hand = length hand ≤ 1
 IsInHand _ hand = hand ≡ []
 
+-- the entry in hand may follow the history, or a front of it after which calls and the input ended alone, over every list of
+-- records that goes on from those that came
+abbrev pub HandFollows : Setting → List Entry → (hand : List Entry) → Type 0
+HandFollows s h hand = (e : Entry) → hand ≡ e ∷ [] → MayFollowFront s h e
+
 -- two disks open to the payloads found, and then to those of the first of these entries, or of all of them
 pub record OpensToFrontOf (s : Setting) (epoch : ℕ) (before : List (List ℕ)) (es : List Entry) (one other : List ℕ) : Type 0 where
   pub front : List Entry
@@ -151,8 +156,9 @@ pub record Headline {D F : Type 0} (t : Telling D F) (f : FilesState D) (s : Set
   -- the failure file's lines are the old ones followed by what is delivered of the trace's lines; where a disk failed, one
   -- further line may follow
   pub failure_lines_kept : FailureLinesKept t f trouble h hand new
-  -- an entry is in hand only where a disk of the journal failed, and then one at most
+  -- an entry is in hand only where a disk of the journal failed, and then one at most; and it is one that may follow
   pub in_hand : IsInHand trouble hand
+  pub hand_follows : HandFollows s h hand
   -- what a crash leaves since the run's start: the old content followed by a prefix of the payloads of the trace
   pub crash : CrashKept t f s h hand new
   -- a record that has a fate, found or given, is given no other

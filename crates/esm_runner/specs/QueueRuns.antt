@@ -1,5 +1,5 @@
 -- A run that is to begin, and what it leaves. Only this crate's proofs cite this.
-use Rattle.std.specs.Prelude.{◌≡◌, ◌<◌, ◌^◌, ℕ, true, false, List, [], Some, None, length, reverse}
+use Rattle.std.specs.Prelude.{◌≡◌, ◌<◌, ◌^◌, ℕ, true, false, List, [], ◌∷◌, Some, None, length, reverse}
 use Rattle.std.specs.List.{All}
 use Rattle.esm_io.specs.Images.{Only}
 use Rattle.esm_io.specs.Meanings.{DiskMeaning}
@@ -8,6 +8,7 @@ use Rattle.esm_journal.specs.State.{JournalState}
 use Rattle.esm_journal.specs.Stopped.{PairKeepsWhileDown}
 use Rattle.esm_model.specs.declared.book.Trouble.TheVariants as trouble
 use Rattle.esm_model.specs.declared.config.Config.{Config}
+use Rattle.esm_model.specs.declared.entry.Entry.{Entry}
 use Rattle.esm_model.specs.ValidMessage.{IsValidMessage}
 use Rattle.esm_book.specs.State.{in_hand}
 use Rattle.esm_queue_model.specs.QueueStep.{LegalQueue, SettledQueue}
@@ -16,7 +17,7 @@ use Rattle.esm_queue_core.specs.CoreView.{all_messages, new_setting, new_view}
 use Rattle.esm_input.specs.Reading.{InputState}
 use Rattle.esm_journal_state.specs.SaidLists.{SaidLists}
 use Rattle.esm_queue_book.specs.Books.{BookState, LeavesFirst, OpensToFirst, payloads_in}
-use Rattle.esm_queue_book.specs.Keeping.{HasJournal, entries_left}
+use Rattle.esm_queue_book.specs.Keeping.{MayFollowFront, HasJournal, entries_left}
 use Rattle.esm_runner.specs.Number.{batchers_in}
 use Rattle.esm_runner.specs.Files.{FilesState, IsOpenedFiles}
 use Rattle.esm_runner.specs.QueueEnded.{line_kind}
@@ -71,3 +72,5 @@ pub record IsLeft {D : Type 0} (m : DiskMeaning D) (f : FilesState D) (b : BookS
   -- no messages are coming that the history or the entry in hand names
   pub stays : payloads_in (all_messages b.core) (reverse b.core.past) ≡ payloads_in b.core.setting.messages (reverse b.core.past)
   pub hand : payloads_in (all_messages b.core) (in_hand b.trouble b.core.owed) ≡ payloads_in b.core.setting.messages (in_hand b.trouble b.core.owed)
+  -- and the entry in hand may follow
+  pub hand_follows : (e : Entry) → in_hand b.trouble b.core.owed ≡ e ∷ [] → MayFollowFront b.core.setting b.core.past e

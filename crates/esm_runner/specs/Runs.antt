@@ -3,7 +3,8 @@ use Rattle.std.specs.Prelude.{◌≡◌, ℕ, true, false, List, [], Some, None}
 use Rattle.esm_io.specs.Images.{Only}
 use Rattle.esm_io.specs.Meanings.{DiskMeaning, DestMeaning}
 use Rattle.esm_journal.specs.Pair.{PairState, PairKeepsWhileUp, first_disk, second_disk}
-use Rattle.esm_journal.specs.State.{JournalState, KeepsWhileUp, KeepsWhileDown}
+use Rattle.esm_journal.specs.File.{header_of}
+use Rattle.esm_journal.specs.State.{JournalState, OpensTo, KeepsWhileUp, KeepsWhileDown}
 use Rattle.esm_journal.specs.Stopped.{PairKeepsWhileDown}
 use Rattle.esm_model.specs.declared.book.Trouble.TheVariants as trouble
 use Rattle.esm_model.specs.declared.config.Config.{Config}
@@ -18,6 +19,7 @@ use Rattle.esm_journal_state.specs.SaidLists.{SaidLists}
 use Rattle.esm_stream_book.specs.Books.{BookState, LeavesFirst, OpensToFirst, payloads_in}
 use Rattle.esm_stream_book.specs.Keeping.{HasJournal, HasLines, entries_left}
 use Rattle.esm_runner.specs.Files.{FilesState, IsOpenedFiles}
+use Rattle.esm_runner.specs.Headline.{HandFollows}
 
 -- what begins
 
@@ -48,7 +50,16 @@ files_of journal spare failures said b = record { journal = journal; spare = spa
 
 -- a failure file as a destination, to which this is delivered of a line
 abbrev pub file_dest : {D : Type 0} → DiskMeaning D → (List ℕ → List ℕ) → DestMeaning (JournalState D)
-file_dest m line = record { honest = λ d. m.honest d.disk; faults = λ d. m.faults d.disk; lines = λ d. Some d.payloads; sends = line; failed = λ d. d.down }
+file_dest m line = record {
+  honest = λ d. m.honest d.disk;
+  faults = λ d. m.faults d.disk;
+  lines = λ d. Some d.payloads;
+  sends = line;
+  failed = λ d. d.down;
+  moment = λ d. m.moment d.disk;
+  since = λ d. m.since d.disk;
+  reads_as = λ left lines. OpensTo (header_of 1) lines left;
+}
 
 -- what a crash leaves of the disks since they were handed in
 abbrev pub LeavesSince : {D : Type 0} → DiskMeaning D → (List ℕ → List ℕ) → FilesState D → BookState D (JournalState D) → Type 0
@@ -77,3 +88,5 @@ pub record IsLeft {D : Type 0} (m : DiskMeaning D) (line : List ℕ → List ℕ
   pub dest_stopped : KeepsWhileDown m b.dest
   -- no records are coming that the entry in hand names
   pub hand : payloads_in (full_setting b.core) (in_hand b.trouble b.core.owed) ≡ payloads_in b.core.setting (in_hand b.trouble b.core.owed)
+  -- and it may follow
+  pub hand_follows : HandFollows b.core.setting b.core.past (in_hand b.trouble b.core.owed)

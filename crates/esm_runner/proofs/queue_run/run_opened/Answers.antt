@@ -72,6 +72,7 @@ returns g c =
       pair_stopped = rw (← c.into_parts-history.ensures.pair) c.closed.ensures.pair_stopped;
       stays = sound.stays;
       hand = sound.hand;
+      hand_follows = sound.hand_follows;
     } in
     let of : AreOf files b new = record {
       journal = rw (← c.into_parts-history.ensures.pair) c.closed.ensures.journal;

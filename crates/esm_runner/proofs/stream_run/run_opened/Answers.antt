@@ -76,6 +76,7 @@ returns g c =
       dest_kept = subst (λ (d : JournalState g.row.D.Denot). KeepsWhileUp m d) dest c.closed.ensures.dest_kept;
       dest_stopped = subst (λ (d : JournalState g.row.D.Denot). KeepsWhileDown m d) dest c.closed.ensures.dest_stopped;
       hand = c.trouble.ensures.hand;
+      hand_follows = sound.hand_follows;
     } in
     let of : AreOf b new = record {
       journal = rw (← c.into_parts-history.ensures.pair) c.closed.ensures.journal;
