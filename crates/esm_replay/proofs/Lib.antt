@@ -7,3 +7,4 @@ pub mod Gathered
 pub mod Ends
 pub mod Fronts
 pub mod Saying
+pub mod Unchanged

@@ -5,3 +5,4 @@ pub mod Waiting
 pub mod Batch
 pub mod Ending
 pub mod Saying
+pub mod Coming

@@ -1,9 +1,8 @@
 -- How often a record stands in the pieces of a replay: a call takes each of its records away once.
 use Rattle.std.proofs.Common.{◌≡◌, ℕ, zero, suc, ◌+◌, ◌<◌, ◌≤◌, Bool, true, false, cond, List, [], ◌∷◌, ◌++◌, length, take, drop, refl, sym, ap, ◌∙◌, subst, inl, inr, arith, append_assoc}
 use Rattle.std.specs.Prelude.{◌==◌, nat_lt, filter}
-use Rattle.std.specs.List.{list_any}
 use Rattle.std.proofs.Math.Seq.{drop-append_seam}
-use Rattle.std.proofs.lemmas.List.{take-append-drop, append-nil}
+use Rattle.std.proofs.lemmas.List.{take-append-drop}
 use Rattle.std.proofs.lemmas.Bool.{cases_Bool, eqb-true, eq-eqb, ltb-true, lt-ltb, cases_lt, or_cases}
 use Rattle.esm_model.specs.declared.verdict.Rest.{Rest}
 use Rattle.esm_model.specs.declared.verdict.Rest.TheVariants.{Nothing, Again, Counted, Split, Exhausted}
@@ -21,11 +20,11 @@ abbrev pub times : List ℕ → ℕ → ℕ
 times [] i = 0
 times (x ∷ xs) i = cond (x == i) 1 0 + times xs i
 
-times-append : (xs ys : List ℕ) (i : ℕ) → times (xs ++ ys) i ≡ times xs i + times ys i
+pub times-append : (xs ys : List ℕ) (i : ℕ) → times (xs ++ ys) i ≡ times xs i + times ys i
 times-append [] ys i = omega arith
 times-append (x ∷ xs) ys i = let behind : times (xs ++ ys) i ≡ times xs i + times ys i = times-append xs ys i in omega arith
 
-times-cut : (k : ℕ) (xs : List ℕ) (i : ℕ) → times (take k xs) i + times (drop k xs) i ≡ times xs i
+pub times-cut : (k : ℕ) (xs : List ℕ) (i : ℕ) → times (take k xs) i + times (drop k xs) i ≡ times xs i
 times-cut k xs i = sym (times-append (take k xs) (drop k xs) i) ∙ ap (λ ys. times ys i) (take-append-drop k xs)
 
 pub In-times : (xs : List ℕ) (i : ℕ) → In xs i → 1 ≤ times xs i
@@ -93,13 +92,13 @@ in_piece-empty m n i = elim (cases_Bool (m == n)) [ inl same ↦ rw same refl | 
 pub in_no_piece : (n i : ℕ) → in_piece no_piece n i ≡ 0
 in_no_piece n i = in_piece-empty 0 n i
 
-in_piece-append : (m : ℕ) (xs ys : List ℕ) (n i : ℕ) → in_piece (piece m (xs ++ ys)) n i ≡ in_piece (piece m xs) n i + in_piece (piece m ys) n i
+pub in_piece-append : (m : ℕ) (xs ys : List ℕ) (n i : ℕ) → in_piece (piece m (xs ++ ys)) n i ≡ in_piece (piece m xs) n i + in_piece (piece m ys) n i
 in_piece-append m xs ys n i = elim (cases_Bool (m == n)) [ inl same ↦ rw same (times-append xs ys i) | inr other ↦ rw other refl ]
 
-in_piece-cut : (m k : ℕ) (xs : List ℕ) (n i : ℕ) → in_piece (piece m (take k xs)) n i + in_piece (piece m (drop k xs)) n i ≡ in_piece (piece m xs) n i
+pub in_piece-cut : (m k : ℕ) (xs : List ℕ) (n i : ℕ) → in_piece (piece m (take k xs)) n i + in_piece (piece m (drop k xs)) n i ≡ in_piece (piece m xs) n i
 in_piece-cut m k xs n i = elim (cases_Bool (m == n)) [ inl same ↦ rw same (times-cut k xs i) | inr other ↦ rw other refl ]
 
-in_ahead : (m : ℕ) (places : List ℕ) (others : List ReplayPiece) (n i : ℕ) → in_pieces (ahead m places others) n i ≡ in_piece (piece m places) n i + in_pieces others n i
+pub in_ahead : (m : ℕ) (places : List ℕ) (others : List ReplayPiece) (n i : ℕ) → in_pieces (ahead m places others) n i ≡ in_piece (piece m places) n i + in_pieces others n i
 in_ahead m [] others n i = let none : in_piece (piece m []) n i ≡ 0 = in_piece-empty m n i in omega arith
 in_ahead m (x ∷ places) others n i = refl
 

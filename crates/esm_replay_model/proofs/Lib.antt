@@ -3,3 +3,7 @@ pub mod WorkedReplays
 pub mod Counting
 pub mod Weighing
 pub mod Runs
+pub mod Leaving
+pub mod Tallying
+pub mod Answering
+pub mod Sayings

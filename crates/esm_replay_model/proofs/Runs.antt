@@ -1,8 +1,8 @@
 -- What holds of every run of a replay.
-use Rattle.std.proofs.Common.{◌≡◌, ℕ, zero, suc, ◌+◌, ◌*◌, ◌-◌, ◌<◌, ◌≤◌, Bool, true, false, cond, ◌&&◌, List, [], ◌∷◌, ◌++◌, length, take, drop, refl, sym, ap, ◌∙◌, subst, inl, inr, arith, Option, Some, None}
+use Rattle.std.proofs.Common.{◌≡◌, ℕ, ◌+◌, ◌*◌, ◌-◌, ◌≤◌, true, false, ◌&&◌, List, [], ◌∷◌, ◌++◌, length, take, refl, sym, ap, ◌∙◌, subst, inl, inr, arith, Option, Some, None}
 use Rattle.std.specs.Prelude.{◌==◌}
 use Rattle.std.proofs.lemmas.List.{length-append}
-use Rattle.std.proofs.lemmas.Bool.{cases_Bool, and_parts, eqb-true, or_cases, false_from_ne_true}
+use Rattle.std.proofs.lemmas.Bool.{cases_Bool, and_parts, or_cases, false_from_ne_true}
 use Rattle.esm_model.specs.declared.lane.LaneId.{LaneId}
 use Rattle.esm_model.specs.declared.entry.Reply.{Reply}
 use Rattle.esm_model.specs.declared.entry.Entry.{Entry}
@@ -14,22 +14,22 @@ use Rattle.esm_model.proofs.Lists.{In, In-append_left}
 use Rattle.esm_replay_model.specs.ReplaySetting.{ReplaySetting, config_of, is_named}
 use Rattle.esm_replay_model.specs.Pieces.{ReplayPiece, piece, no_piece, first_pieces, replay_fits, next_call, replay_verdict, succeeded_of, pieces_after_call}
 use Rattle.esm_replay_model.specs.ReplayRun.{replay_lane, call_out, owed_replay, pieces_left, MayBeginReplay, MayEndReplay, MayReplay, IsReplay}
-use Rattle.esm_replay_model.specs.ReplayReport.{replays_place, is_replayed, named_count}
+use Rattle.esm_replay_model.specs.ReplayReport.{is_replayed, named_count}
 use Rattle.esm_replay_model.specs.ReplayLaws.{ReplayedOnce, CallsNamed, IsAnswered, ReplayedAsAnswered, CallsWithin}
 use Rattle.esm_replay_model.proofs.Counting.{times, In-times, in_piece, in_pieces, in_piece-own, in_no_piece, in_after_call, longest_front, IsNamedOnce, first_once}
 use Rattle.esm_replay_model.proofs.Weighing.{weight, reading_counts, lighter, weight_within}
 
 -- how often a history replays a record
 
-abbrev replayed_after : ℕ → ℕ → ℕ → Entry → ℕ
+abbrev pub replayed_after : ℕ → ℕ → ℕ → Entry → ℕ
 replayed_after n i before (Replayed shard places m) = in_piece (piece shard places) n i + before
 replayed_after n i before _ = before
 
-abbrev replayed_times : List Entry → ℕ → ℕ → ℕ
+abbrev pub replayed_times : List Entry → ℕ → ℕ → ℕ
 replayed_times [] n i = 0
 replayed_times (e ∷ h) n i = replayed_after n i (replayed_times h n i) e
 
-in_piece-some : (m : ℕ) (places : List ℕ) (n i : ℕ) → ((m == n) && holds places i) ≡ true → 1 ≤ in_piece (piece m places) n i
+pub in_piece-some : (m : ℕ) (places : List ℕ) (n i : ℕ) → ((m == n) && holds places i) ≡ true → 1 ≤ in_piece (piece m places) n i
 in_piece-some m places n i is =
     let parts = and_parts (m == n) (holds places i) is in
     rw (parts.0) (In-times places i parts.1)
@@ -56,7 +56,7 @@ pub record IsFirstOf (call : ReplayPiece) (ps : List ReplayPiece) : Type 0 where
   pub others : List ReplayPiece
   pub pieces : ps ≡ piece call.shard (call.places ++ back) ∷ others
 
-first_of : (s : ReplaySetting) (ps : List ReplayPiece) → 1 ≤ length (next_call s ps).places → IsFirstOf (next_call s ps) ps
+pub first_of : (s : ReplaySetting) (ps : List ReplayPiece) → 1 ≤ length (next_call s ps).places → IsFirstOf (next_call s ps) ps
 first_of s [] some = absurd (omega arith)
 first_of s (p ∷ others) some =
     let found = longest_front (λ places. replay_fits s (piece p.shard places)) [] p.places in
@@ -64,7 +64,7 @@ first_of s (p ∷ others) some =
 
 -- what is called, owed and replayed
 
-abbrev flag : List ℕ → ℕ
+abbrev pub flag : List ℕ → ℕ
 flag [] = 0
 flag (x ∷ xs) = 1
 
@@ -72,15 +72,15 @@ flag_within : (xs : List ℕ) → flag xs ≤ 1
 flag_within [] = omega arith
 flag_within (x ∷ xs) = omega arith
 
-flag_some : (xs : List ℕ) → 1 ≤ length xs → flag xs ≡ 1
+pub flag_some : (xs : List ℕ) → 1 ≤ length xs → flag xs ≡ 1
 flag_some [] some = absurd (omega arith)
 flag_some (x ∷ xs) some = refl
 
 -- A record that is to be called, is owed or was replayed was so in the first list, as often; the call that is out is the next
 -- one; and each call that ended made the pieces lighter.
-record Keeps (s : ReplaySetting) (h : List Entry) : Type 0 where
-  spent : (n i : ℕ) → replayed_times h n i + (in_piece (owed_replay s h) n i + in_pieces (pieces_left s h) n i) ≤ in_pieces (first_pieces s) n i
-  call : 1 ≤ length (call_out h).places → call_out h ≡ next_call s (pieces_left s h)
+pub record Keeps (s : ReplaySetting) (h : List Entry) : Type 0 where
+  pub spent : (n i : ℕ) → replayed_times h n i + (in_piece (owed_replay s h) n i + in_pieces (pieces_left s h) n i) ≤ in_pieces (first_pieces s) n i
+  pub call : 1 ≤ length (call_out h).places → call_out h ≡ next_call s (pieces_left s h)
   weighed : calls_begun h + weight (pieces_left s h) ≤ weight (first_pieces s) + flag (call_out h).places
 
 keeps_began : (s : ReplaySetting) (h : List Entry) (lane : LaneId) (places : List ℕ) (m : ℕ) → MayBeginReplay s h lane places → Keeps s h → Keeps s (Began lane places None m ∷ h)
@@ -122,7 +122,7 @@ keeps_ended s h lane reply m may k =
     }
 
 -- no call is out where a `Replayed` follows
-rests : (s : ReplaySetting) (h : List Entry) (shard : ℕ) (places : List ℕ) (m : ℕ) → MayReplay s h shard places m → flag (call_out h).places ≡ 0
+pub rests : (s : ReplaySetting) (h : List Entry) (shard : ℕ) (places : List ℕ) (m : ℕ) → MayReplay s h shard places m → flag (call_out h).places ≡ 0
 rests s [] shard places m may = refl
 rests s (Began lane xs closing w ∷ h) shard places m may = (let none : places ≡ [] = may.exact in let some : 1 ≤ length places = may.some in let empty : length places ≡ 0 = ap length none in absurd (omega arith))
 rests s (Ended lane reply w ∷ h) shard places m may = refl
@@ -147,7 +147,7 @@ keeps_replayed s h shard places m may k =
       weighed = (let before = k.weighed in let out : flag (call_out h).places ≡ 0 = rests s h shard places m may in omega arith);
     }
 
-keeps : (s : ReplaySetting) (h : List Entry) → IsReplay s h → Keeps s h
+pub keeps : (s : ReplaySetting) (h : List Entry) → IsReplay s h → Keeps s h
 keeps s [] run = record {
   spent = λ n i. (let none : in_piece no_piece n i ≡ 0 = in_no_piece n i in omega arith);
   call = λ some. absurd (omega arith);
@@ -170,7 +170,7 @@ front_run : (s : ReplaySetting) (later h : List Entry) → IsReplay s (later ++ 
 front_run s [] h run = run
 front_run s (e ∷ later) h run = front_run s later h run.0
 
-front_at : (s : ReplaySetting) (h later before : List Entry) → IsReplay s h → h ≡ later ++ before → IsReplay s before
+pub front_at : (s : ReplaySetting) (h later before : List Entry) → IsReplay s h → h ≡ later ++ before → IsReplay s before
 front_at s h later before run is = front_run s later before (subst (λ x. IsReplay s x) is run)
 
 -- a record that stands in a piece once more than it was replayed

@@ -1,6 +1,6 @@
 -- Each call makes the pieces of a replay lighter, where a piece weighs one less than twice its records.
-use Rattle.std.proofs.Common.{◌≡◌, ℕ, zero, suc, ◌+◌, ◌*◌, ◌-◌, ◌<◌, ◌≤◌, Bool, true, false, not, cond, ◌&&◌, ◌||◌, List, [], ◌∷◌, ◌++◌, length, take, drop, refl, sym, ap, ◌∙◌, subst, inl, inr, arith, Option, Some, None}
-use Rattle.std.specs.Prelude.{◌==◌, ◌/◌, nat_lt, min, ⊤, codes}
+use Rattle.std.proofs.Common.{◌≡◌, ℕ, zero, suc, ◌+◌, ◌*◌, ◌-◌, ◌<◌, ◌≤◌, Bool, true, false, not, cond, ◌&&◌, ◌||◌, List, [], ◌∷◌, ◌++◌, length, take, drop, refl, sym, ap, ◌∙◌, inl, inr, arith, Option, Some, None}
+use Rattle.std.specs.Prelude.{◌==◌, ◌/◌, nat_lt, min, codes}
 use Rattle.std.specs.List.{fold}
 use Rattle.std.proofs.Math.Seq.{drop-append_seam}
 use Rattle.std.proofs.lemmas.List.{take-append-drop, length-append, length-drop}
@@ -13,13 +13,11 @@ use Rattle.esm_model.specs.declared.entry.Reply.{Reply}
 use Rattle.esm_model.specs.declared.entry.Reply.TheVariants.{Answered, Garbled, Lost}
 use Rattle.esm_model.specs.declared.verdict.Reading.{Reading}
 use Rattle.esm_model.specs.declared.verdict.Reading.TheVariants.{Whole, NotRun, Failed, UpTo}
-use Rattle.esm_model.specs.declared.verdict.Rest.{Rest}
 use Rattle.esm_model.specs.declared.verdict.Rest.TheVariants.{Split}
 use Rattle.esm_model.specs.declared.verdict.Verdict.{Verdict}
 use Rattle.esm_model.specs.Reading.{reading_before, least_reading, all_reported, failures_reading, body_reading, item_reading, has_bad_state, run_reading, reading}
 use Rattle.esm_model.specs.Ruling.{after_try, ruling}
-use Rattle.esm_replay_model.specs.ReplaySetting.{ReplaySetting}
-use Rattle.esm_replay_model.specs.Pieces.{ReplayPiece, piece, ahead, named_pieces, first_pieces, split_ahead}
+use Rattle.esm_replay_model.specs.Pieces.{ReplayPiece, ahead, split_ahead}
 use Rattle.esm_replay_model.specs.ReplayReport.{records_in}
 
 -- a reading that counts records before a position counts some

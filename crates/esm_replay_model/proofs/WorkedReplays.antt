@@ -6,7 +6,7 @@ use Rattle.esm_model.specs.declared.entry.Entry.{Entry}
 use Rattle.esm_model.specs.Worked.{calls_in}
 use Rattle.esm_model.proofs.WorkedWords.{worked_on_literals}
 use Rattle.esm_replay_model.specs.ReplaySetting.{ReplaySetting}
-use Rattle.esm_replay_model.specs.Pieces.{ReplayPiece, piece, next_call}
+use Rattle.esm_replay_model.specs.Pieces.{ReplayPiece, next_call}
 use Rattle.esm_replay_model.specs.ReplayRun.{pieces_left, owed_replay}
 use Rattle.esm_replay_model.specs.ReplayReport.{replay_text}
 use Rattle.esm_replay_model.specs.ReplayTests.{is_replay}

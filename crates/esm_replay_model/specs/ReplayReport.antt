@@ -37,6 +37,15 @@ replayed_count s h = count_passing (λ n i. is_replayed h n i) (first_pieces s)
 abbrev pub left_count : ReplaySetting → List Entry → ℕ
 left_count s h = count_passing (λ n i. not (is_replayed h n i)) (first_pieces s)
 
+-- how many records a history replays
+abbrev pub replayed_with : ℕ → Entry → ℕ
+replayed_with before (Replayed shard places moment) = length places + before
+replayed_with before _ = before
+
+abbrev pub replayed_in : List Entry → ℕ
+replayed_in [] = 0
+replayed_in (e ∷ h) = replayed_with (replayed_in h) e
+
 -- without the line feed
 abbrev pub replay_text : ReplaySetting → List Entry → List ℕ
 replay_text s h =

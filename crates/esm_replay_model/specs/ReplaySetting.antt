@@ -1,6 +1,6 @@
 -- A replay's setting: what its run is judged over, and which records it calls again. This product's own; the failure lines
 -- are those of the Lambda Developer Guide, "Retaining discarded batch records" for Kinesis.
-use Rattle.std.specs.Prelude.{ℕ, ◌==◌, Bool, false, not, ◌&&◌, List, length, filter, Option, Some, option_map, unwrap_or}
+use Rattle.std.specs.Prelude.{ℕ, ◌==◌, Bool, false, not, ◌&&◌, List, length, filter, Some, option_map, unwrap_or}
 use Rattle.std.specs.List.{list_any}
 use Rattle.std.specs.Ordering.{is_le}
 use Rattle.esm_model.specs.Sequence.{sequence_order}

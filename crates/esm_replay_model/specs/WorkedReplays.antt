@@ -1,6 +1,5 @@
 -- Worked examples of replays: a setting, a history (newest entry first) and what the definitions say of it.
 use Rattle.std.specs.Prelude.{◌≡◌, ℕ, true, false, List, [], ◌∷◌, codes, map, Some, None}
-use Rattle.esm_model.specs.declared.config.Config.{Config}
 use Rattle.esm_model.specs.declared.entry.Fate.{Fate}
 use Rattle.esm_model.specs.declared.entry.Fate.TheVariants.{Succeeded, Exhausted}
 use Rattle.esm_model.specs.declared.entry.Entry.{Entry}
@@ -10,7 +9,6 @@ use Rattle.esm_model.specs.declared.entry.Reply.TheVariants.{Answered}
 use Rattle.esm_model.specs.declared.setup.FoundFate.{FoundFate}
 use Rattle.esm_model.specs.Worked.{plain_mapping, setting_over, began, ended, succeeds, fails, calls_in}
 use Rattle.esm_model.specs.WorkedSplits.{eight_records, exhausted_line}
-use Rattle.esm_journal_state.specs.SaidLists.{FoundReplay}
 use Rattle.esm_replay_model.specs.declared.range.Range.{Range}
 use Rattle.esm_replay_model.specs.ReplaySetting.{ReplaySetting}
 use Rattle.esm_replay_model.specs.FailureRange.{failure_range}

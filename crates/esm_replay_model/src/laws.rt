@@ -1,10 +1,11 @@
 //! What holds of every run of a replay, each as the contract of a function that does nothing.
 //! A history is written newest entry first.
-ghost use Rattle.std.specs.Prelude.{List};
+ghost use Rattle.std.specs.Prelude.{ℕ, List};
 ghost use Rattle.esm_model.specs.declared.entry.Entry.{Entry};
+ghost use Rattle.esm_journal_record.specs.EntryPayload.{AllMayBeSaid};
 ghost use Rattle.esm_replay_model.specs.ReplaySetting.{ReplaySetting};
 ghost use Rattle.esm_replay_model.specs.ReplayRun.{IsReplay};
-ghost use Rattle.esm_replay_model.specs.ReplayLaws.{ReplayedOnce, CallsNamed, ReplayedAsAnswered, CallsWithin};
+ghost use Rattle.esm_replay_model.specs.ReplayLaws.{ReplayedOnce, CallsNamed, ReplayedAsAnswered, CallsWithin, ReplayedOrLeft, SucceededAreReplayed, CountsAddUp, CallsLogged, SaysAfter};
 
 /// In a run each record is named by at most one `Replayed`, and only where it is named by a failure line, was given up and
 /// was not replayed before.
@@ -25,4 +26,30 @@ pub fn replayed_as_answered()
 /// A run has at most twice as many calls as there are named records.
 pub fn calls_within()
     ensures { (s : ReplaySetting) (h : List Entry) → IsReplay s h → CallsWithin s h }
+{}
+
+/// In a run after which nothing is left to call, and what succeeded is replayed, each named record was replayed, or its last
+/// call left it.
+pub fn replayed_or_left()
+    ensures { (s : ReplaySetting) (h : List Entry) → IsReplay s h → ReplayedOrLeft s h }
+{}
+
+/// In a run what the answer to a call counts as succeeded is replayed next, all of it.
+pub fn succeeded_are_replayed()
+    ensures { (s : ReplaySetting) (h : List Entry) → IsReplay s h → SucceededAreReplayed s h }
+{}
+
+/// After a run the records that it replayed and those that are left are the named ones, each counted once.
+pub fn counts_add_up()
+    ensures { (s : ReplaySetting) (h : List Entry) → IsReplay s h → CountsAddUp s h }
+{}
+
+/// After a run in which no call is out, its caller's log has as many calls as began, whatever it sends for an event.
+pub fn calls_logged()
+    ensures { (s : ReplaySetting) (sends : List ℕ → List ℕ) (h : List Entry) → IsReplay s h → CallsLogged s sends h }
+{}
+
+/// The payloads of a run leave fates and tries as they were, and replay the records that its history does.
+pub fn says_after()
+    ensures { (s : ReplaySetting) (h : List Entry) (old : List (List ℕ)) → IsReplay s h → AllMayBeSaid s.base h → SaysAfter s h old }
 {}

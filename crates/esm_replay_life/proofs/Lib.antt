@@ -1,0 +1,5 @@
+mod Fronts
+mod GoodReplays
+mod Answered
+mod SameLengths
+mod Lives
