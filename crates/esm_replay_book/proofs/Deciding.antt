@@ -23,7 +23,7 @@ use Rattle.esm_replay_core.specs.declared.decisions.ReplayNext.{ReplayNext}
 use Rattle.esm_replay_core.specs.declared.decisions.ReplayNext.TheVariants as next
 use Rattle.esm_replay_core.specs.View.{ReplayView, setting_of, moment_for}
 use Rattle.esm_replay_core.specs.Deciding.{job_of, next_by, next_of, next_entries, replayed_entries}
-use Rattle.esm_replay_core.specs.Coming.{change_at, first_change}
+use Rattle.esm_replay.specs.Coming.{change_at, first_change}
 use Rattle.esm_replay_core.specs.Told.{came_entries, added_entries, MayAsk, Adds, Decides, Refuses}
 use Rattle.esm_replay_book.specs.Books.{payloads_in}
 use Rattle.esm_replay_book.specs.Calls.{RunsCall}

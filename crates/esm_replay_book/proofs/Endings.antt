@@ -12,7 +12,7 @@ use Rattle.esm_model.specs.declared.book.Trouble.TheVariants.{Disk, Changed}
 use Rattle.esm_model.specs.declared.entry.Entry.{Entry}
 use Rattle.esm_model.specs.declared.entry.Reply.{Reply}
 use Rattle.esm_model.specs.Valid.{IsValidRecord}
-use Rattle.esm_journal_record.specs.EntryPayload.{entry_payload, AllMayBeSaid}
+use Rattle.esm_journal_record.specs.EntryPayload.{entry_payload}
 use Rattle.esm_book.specs.declared.nowhere.Nowhere.{Nowhere}
 use Rattle.esm_book.specs.Decided.{written_of}
 use Rattle.esm_book.specs.Growth.{LeavesFronts}
@@ -26,8 +26,8 @@ use Rattle.esm_replay_core.specs.declared.decisions.ReplayAnswer.{ReplayAnswer}
 use Rattle.esm_replay_core.specs.declared.decisions.ReplayEntry.{ReplayEntry}
 use Rattle.esm_replay_core.specs.declared.decisions.ReplayNext.{ReplayNext}
 use Rattle.esm_replay_core.specs.Deciding.{next_of, next_entries}
-use Rattle.esm_replay_core.specs.View.{ReplayView, setting_of, moment_for, IsJobOut, RunAhead}
-use Rattle.esm_replay_core.specs.Coming.{first_change}
+use Rattle.esm_replay_core.specs.View.{ReplayView, setting_of, moment_for, IsJobOut, RunAhead, SaidAhead}
+use Rattle.esm_replay.specs.Coming.{first_change}
 use Rattle.esm_replay_core.specs.Told.{came_entries, added_entries, owed_of, payload_in, MayAsk, Decides, Refuses}
 use Rattle.esm_replay_book.specs.Books.{BookState, payloads_in}
 use Rattle.esm_replay_book.specs.Calls.{Added, RunsCall, IsSame}
@@ -91,7 +91,7 @@ none_more {A} xs (y ∷ ys) is =
 
 module _ {D : Type 0} (m : DiskMeaning D) (n : DestMeaning Nowhere) (old new : BookState D) (asked : ReplayCall) (given : ReplayAnswer) (X : List ReplayEntry) where
   -- it is carried out whole
-  pub carried_all : IsSound old → old.trouble ≡ None → MayAsk old.core asked → Decides old.core asked given X → Went old new X → IsReplay (setting_of new.core) new.core.past → RunAhead new.core → AllMayBeSaid (setting_of new.core).base new.core.past → All IsValidRecord new.core.records
+  pub carried_all : IsSound old → old.trouble ≡ None → MayAsk old.core asked → Decides old.core asked given X → Went old new X → IsReplay (setting_of new.core) new.core.past → RunAhead new.core → SaidAhead new.core → All IsValidRecord new.core.records
       → owed_of new.core ≡ [] → new.trouble ≡ None → (X ≡ [] → new.pair ≡ old.pair)
       → LeavesFronts replay_meaning m n old.pair new.pair old.dest new.dest (X ++ []) → PairKeepsWhileUp m new.pair → new.pair.down ≡ false → CarriedAll m old new asked given
   carried_all sound was may decides w run ahead said valid owed trouble quiet leaves kept up =
@@ -156,7 +156,7 @@ some_left (e ∷ es) s some = omega arith
 
 module _ {D : Type 0} (m : DiskMeaning D) (n : DestMeaning Nowhere) (old new : BookState D) (job : Job) (reply : Reply) (moment : ℕ) (X : List ReplayEntry) where
   -- a disk failed in the end of a call
-  done_some : IsSound old → Went old new X → IsReplay (setting_of new.core) new.core.past → RunAhead new.core → AllMayBeSaid (setting_of new.core).base new.core.past → All IsValidRecord new.core.records
+  done_some : IsSound old → Went old new X → IsReplay (setting_of new.core) new.core.past → RunAhead new.core → SaidAhead new.core → All IsValidRecord new.core.records
       → X ++ owed_of new.core ≡ added_entries (setting_of old.core) (entries_by old.core (call.Done job reply moment)) → 0 < length (written_of payload_in (take 1 (owed_of new.core))) → new.trouble ≡ Some Disk
       → LeavesFronts replay_meaning m n old.pair new.pair old.dest new.dest (X ++ take 1 (owed_of new.core)) → Rose (m.faults old.pair.used) (m.faults new.pair.used) → CarriedSome m old new (call.Done job reply moment)
   done_some sound w run ahead said valid decided appending trouble leaves cause =
@@ -212,7 +212,7 @@ module _ {D : Type 0} (m : DiskMeaning D) (n : DestMeaning Nowhere) (old new : B
         };
       }
 
-some_done : {D : Type 0} (m : DiskMeaning D) (n : DestMeaning Nowhere) (old new : BookState D) (asked : ReplayCall) (X : List ReplayEntry) → IsDone asked → IsSound old → Went old new X → IsReplay (setting_of new.core) new.core.past → RunAhead new.core → AllMayBeSaid (setting_of new.core).base new.core.past → All IsValidRecord new.core.records
+some_done : {D : Type 0} (m : DiskMeaning D) (n : DestMeaning Nowhere) (old new : BookState D) (asked : ReplayCall) (X : List ReplayEntry) → IsDone asked → IsSound old → Went old new X → IsReplay (setting_of new.core) new.core.past → RunAhead new.core → SaidAhead new.core → All IsValidRecord new.core.records
     → X ++ owed_of new.core ≡ came_entries (coming_by asked) ++ added_entries (setting_of old.core) (entries_by old.core asked) → 0 < length (written_of payload_in (take 1 (owed_of new.core))) → new.trouble ≡ Some Disk
     → LeavesFronts replay_meaning m n old.pair new.pair old.dest new.dest (X ++ take 1 (owed_of new.core)) → Rose (m.faults old.pair.used) (m.faults new.pair.used) → CarriedSome m old new asked
 some_done m n old new (call.Came items) X is sound w run ahead said valid decided appending trouble leaves cause = absurd is
@@ -221,7 +221,7 @@ some_done m n old new (call.Done job reply moment) X is sound w run ahead said v
 
 -- a disk failed in it
 pub carried_some : {D : Type 0} (m : DiskMeaning D) (n : DestMeaning Nowhere) (old new : BookState D) (asked : ReplayCall) (given : ReplayAnswer) (X : List ReplayEntry) → IsSound old → Decides old.core asked given (X ++ owed_of new.core) → Went old new X
-    → IsReplay (setting_of new.core) new.core.past → RunAhead new.core → AllMayBeSaid (setting_of new.core).base new.core.past → All IsValidRecord new.core.records → 0 < length (written_of payload_in (take 1 (owed_of new.core))) → new.trouble ≡ Some Disk
+    → IsReplay (setting_of new.core) new.core.past → RunAhead new.core → SaidAhead new.core → All IsValidRecord new.core.records → 0 < length (written_of payload_in (take 1 (owed_of new.core))) → new.trouble ≡ Some Disk
     → LeavesFronts replay_meaning m n old.pair new.pair old.dest new.dest (X ++ take 1 (owed_of new.core)) → Rose (m.faults old.pair.used) (m.faults new.pair.used) → CarriedSome m old new asked
 carried_some m n old new asked given X sound decides w run ahead said valid appending trouble leaves cause =
     let d = decided_so old.core asked given (X ++ owed_of new.core) decides in

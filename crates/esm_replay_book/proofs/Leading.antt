@@ -18,7 +18,7 @@ use Rattle.esm_replay_model.specs.ReplayRun.{call_out, pieces_left, replay_calls
 use Rattle.esm_replay_core.specs.declared.decisions.ReplayNext.{ReplayNext}
 use Rattle.esm_replay_core.specs.declared.decisions.ReplayNext.TheVariants as next
 use Rattle.esm_replay_core.specs.View.{ReplayView, setting_of, moment_for}
-use Rattle.esm_replay_core.specs.Coming.{first_change}
+use Rattle.esm_replay.specs.Coming.{first_change}
 use Rattle.esm_replay_core.specs.declared.decisions.Opened.{Opened}
 use Rattle.esm_replay_core.specs.Deciding.{job_of, next_by, next_of, next_entries, replayed_entries, done_entries}
 use Rattle.esm_replay_book.specs.Books.{BookState, payloads_in}

@@ -13,7 +13,7 @@ use Rattle.esm_replay_model.specs.ReplayRun.{call_out}
 use Rattle.esm_replay_core.specs.declared.decisions.ReplayNext.{ReplayNext}
 use Rattle.esm_replay_core.specs.declared.decisions.ReplayNext.TheVariants as next
 use Rattle.esm_replay_core.specs.View.{ReplayView, setting_of, IsJobOut}
-use Rattle.esm_replay_core.specs.Coming.{first_change}
+use Rattle.esm_replay.specs.Coming.{first_change}
 use Rattle.esm_replay_book.specs.Books.{BookState, payloads_in, LeavesFirst}
 
 -- These entries, oldest first, were added to the history, over these records that came, and their payloads to the journal.

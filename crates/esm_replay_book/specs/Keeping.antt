@@ -6,12 +6,11 @@ use Rattle.esm_model.specs.declared.book.Trouble.{Trouble}
 use Rattle.esm_model.specs.declared.book.Trouble.TheVariants.{Disk, Dest, Changed}
 use Rattle.esm_model.specs.declared.entry.Entry.{Entry}
 use Rattle.esm_model.specs.Valid.{IsValidRecord}
-use Rattle.esm_journal_record.specs.EntryPayload.{AllMayBeSaid}
 use Rattle.esm_book.specs.State.{is_disk, in_hand}
 use Rattle.esm_replay_model.specs.ReplayRun.{call_out, owed_replay, IsReplay}
 use Rattle.esm_replay_core.specs.declared.decisions.Opened.{Opened}
-use Rattle.esm_replay_core.specs.View.{setting_of, RunAhead}
-use Rattle.esm_replay_core.specs.Coming.{first_change}
+use Rattle.esm_replay_core.specs.View.{setting_of, RunAhead, SaidAhead}
+use Rattle.esm_replay.specs.Coming.{first_change}
 use Rattle.esm_replay_core.specs.Told.{IsChange}
 use Rattle.esm_replay_book.specs.Books.{BookState, payloads_in}
 
@@ -23,12 +22,12 @@ IsUncalled (Some Dest) h = Unit {0}
 IsUncalled (Some (Changed change)) h = h ≡ []
 
 -- The history is a run of the replay over the records that came, of which none was kept with another text; it stays one with
--- the entries that are owed, so that the first of them, which may be on the disk, may follow it. What the journal has of it may
--- be said. Where the book is not down nothing is owed, also of what succeeded in the last call; where it is down no call is out.
+-- the entries that are owed, so that the first of them, which may be on the disk, may follow it. What the journal has of all
+-- this may be said. Where the book is not down nothing is owed, also of what succeeded in the last call; where it is down no call is out.
 pub record IsSound {D : Type 0} (b : BookState D) : Type 0 where
   pub run : IsReplay (setting_of b.core) b.core.past
   pub ahead : RunAhead b.core
-  pub said : AllMayBeSaid (setting_of b.core).base b.core.past
+  pub said : SaidAhead b.core
   pub valid : All IsValidRecord b.core.records
   pub unchanged : first_change b.core.opened.said [] b.core.records ≡ None
   pub none_coming : b.core.coming ≡ []

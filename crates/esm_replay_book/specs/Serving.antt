@@ -18,7 +18,7 @@ use Rattle.esm_model.specs.declared.book.Next.TheVariants as next
 use Rattle.esm_replay_core.specs.declared.decisions.ReplayNext.{ReplayNext}
 use Rattle.esm_replay_core.specs.declared.decisions.ReplayNext.TheVariants as replays
 use Rattle.esm_replay_core.specs.View.{setting_of, moment_for}
-use Rattle.esm_replay_core.specs.Coming.{first_change}
+use Rattle.esm_replay.specs.Coming.{first_change}
 use Rattle.esm_replay_book.specs.Books.{BookState}
 use Rattle.esm_replay_book.specs.Calls.{IsFirstChange, IsJob}
 

@@ -1,10 +1,9 @@
 // One call of a replay's core over its journal, in the words of replays.
-ghost use Rattle.std.specs.Prelude.{◌≡◌, ◌≤◌, [], None, false, is_some, All};
+ghost use Rattle.std.specs.Prelude.{◌≡◌, [], None, false, is_some, All};
 ghost use Rattle.esm_io.specs.Meanings.{disk};
 ghost use Rattle.esm_model.specs.Valid.{IsValidRecord};
-ghost use Rattle.esm_journal_record.specs.EntryPayload.{AllMayBeSaid};
 ghost use Rattle.esm_replay_model.specs.ReplayRun.{IsReplay};
-ghost use Rattle.esm_replay_core.specs.View.{setting_of, RunAhead};
+ghost use Rattle.esm_replay_core.specs.View.{setting_of, RunAhead, SaidAhead};
 ghost use Rattle.esm_replay_core.specs.Told.{MayAsk};
 ghost use Rattle.esm_replay_book.specs.Keeping.{IsSound};
 ghost use Rattle.esm_replay_book.specs.Carried.{IsCarried};
@@ -30,7 +29,7 @@ pub(crate) enum Stop {
 pub(crate) fn keeps<D: Disk>(durable: &Durable<ReplayCore, D, Nowhere>)
     ensures run { IsReplay (setting_of durable.now.core) durable.now.core.past }
     ensures ahead { RunAhead durable.now.core }
-    ensures said { AllMayBeSaid (setting_of durable.now.core).base durable.now.core.past }
+    ensures said { SaidAhead durable.now.core }
     ensures valid { All IsValidRecord durable.now.core.records }
     ensures up { durable.now.trouble ≡ None → durable.now.pair.down ≡ false }
     ensures settled { durable.now.trouble ≡ None → durable.now.core.owed ≡ [] }

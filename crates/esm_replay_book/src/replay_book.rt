@@ -1,5 +1,6 @@
 // The book of a replay: records that come, calls of those that are named, and replays kept in a journal.
-ghost use Rattle.std.specs.Prelude.{◌≡◌, ◌↔◌, ◌<◌, ◌+◌, ◌^◌, ℕ, List, [], ◌++◌, None, Some, true, false, is_some, length, reverse, All, IfOk, IfErr, OnOk, OnErr, IsErrOf, IsSome};
+ghost use Rattle.std.specs.Prelude.{◌≡◌, ◌↔◌, ◌<◌, ◌+◌, ◌^◌, ℕ, List, [], ◌++◌, None, Some, true, false, is_some, length, reverse};
+ghost use Rattle.std.specs.Prelude.{All, IfOk, IfErr, OnOk, IsErrOf, IsSome};
 ghost use Rattle.std.specs.Option.{option_copied};
 ghost use Rattle.esm_io.specs.Faults.{Rose};
 ghost use Rattle.esm_io.specs.Images.{Only};

@@ -53,7 +53,8 @@ fn next_as(next: ReplayNext) -> Next
 }
 
 impl<D: Disk> Serial for Replay<D> {
-    ghost use Rattle.esm_replay_book.specs.Serving.{HasGoneOn, IsFresh, IsGoing, IsShut, DoesRest, RunsJob, HasFinished, IsSpent, is_down, change_in, lines_in, function_in, items_in, Differs};
+    ghost use Rattle.esm_replay_book.specs.Serving.{HasGoneOn, IsFresh, IsGoing, IsShut, DoesRest, RunsJob};
+    ghost use Rattle.esm_replay_book.specs.Serving.{HasFinished, IsSpent, is_down, change_in, lines_in, function_in, items_in, Differs};
 
     ghost since = { HasGoneOn };
 

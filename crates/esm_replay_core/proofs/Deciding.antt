@@ -21,7 +21,6 @@ use Rattle.esm_model.specs.Valid.{IsValidRecord, IsStreamConfig, HasStreamFields
 use Rattle.esm_book.specs.Decided.{IsRefused}
 use Rattle.esm_book.specs.declared.error.Refusal.{Refusal}
 use Rattle.esm_book.specs.declared.error.Refusal.TheVariants.{Changed, OutOfMemory}
-use Rattle.esm_journal_record.specs.EntryPayload.{AllMayBeSaid}
 use Rattle.esm_replay_model.specs.ReplaySetting.{ReplaySetting, replay_config}
 use Rattle.esm_replay_model.specs.ReplayReport.{named_count}
 use Rattle.esm_replay_model.specs.ReplayRun.{call_out, owed_replay, IsReplay}
@@ -31,9 +30,9 @@ use Rattle.esm_replay_core.specs.declared.decisions.ReplayNext.{ReplayNext}
 use Rattle.esm_replay_core.specs.declared.owed.Owed.{Owed}
 use Rattle.esm_replay_core.specs.declared.owed.Owed.TheVariants.{Nothing, Coming, Began, Ended, Replayed, Left}
 use Rattle.esm_replay_core.specs.declared.ending.Ending.{Ending}
-use Rattle.esm_replay_core.specs.View.{ReplayView, setting_of, moment_for, IsJobOut, RunAhead, owing, paid, forgotten}
+use Rattle.esm_replay_core.specs.View.{ReplayView, setting_of, moment_for, IsJobOut, RunAhead, SaidAhead, owing, paid, forgotten}
 use Rattle.esm_replay_core.specs.Deciding.{next_entries, done_entries, done_count}
-use Rattle.esm_replay_core.specs.Coming.{first_change}
+use Rattle.esm_replay.specs.Coming.{first_change}
 use Rattle.esm_replay_core.specs.Counts.{AreCounted, IsRecounted, HasCount, HasOneMore}
 use Rattle.esm_replay_core.specs.Ending.{MayEnd, IsEnding}
 use Rattle.esm_replay_core.specs.Choosing.{OwesNext, IsReady, IsWaitingFor, StaysWaiting, IsRoomier, HasRoom}
@@ -340,11 +339,11 @@ ahead_by p Left k may = k.run
 pub ahead_of : (p : Parts) (v : ReplayView) → IsKept p → seen_of p ≡ v → RunAhead v
 ahead_of p v k seen = subst RunAhead seen (ahead_by p p.owed k k.owed)
 
-pub sayable_of : (p : Parts) (v : ReplayView) → IsKept p → seen_of p ≡ v → AllMayBeSaid (setting_of v).base v.past
+pub sayable_of : (p : Parts) (v : ReplayView) → IsKept p → seen_of p ≡ v → SaidAhead v
 sayable_of p v k seen =
     let few = k.few in
     let known : length p.known < 2 ^ 32 = omega arith in
-    subst (λ (u : ReplayView). AllMayBeSaid (setting_of u).base u.past) seen (all_said p.opened p.known p.past k.valid known k.run)
+    subst SaidAhead seen (all_said p.opened p.known (reverse (owed_entries p.owed) ++ p.past) k.valid known (ahead_by p p.owed k k.owed))
 
 pub valid_of : (p : Parts) (v : ReplayView) → IsKept p → seen_of p ≡ v → All IsValidRecord v.records
 valid_of p v k seen = subst (λ (u : ReplayView). All IsValidRecord u.records) seen k.valid

@@ -17,7 +17,7 @@ use Rattle.esm_journal_state.specs.declared.kept.KeptTries.{KeptTries}
 use Rattle.esm_journal_state.specs.SaidLists.{SaidLists}
 use Rattle.esm_journal_state.specs.Tells.{fate_of_found, tries_of_found}
 use Rattle.esm_replay.specs.Records.{of_shard}
-use Rattle.esm_replay_core.specs.Coming.{kept_otherwise, change_of, change_at, first_change}
+use Rattle.esm_replay.specs.Coming.{kept_otherwise, change_of, change_at, first_change}
 use Rattle.esm_replay_core.specs.Counts.{AreCounted, HasOneMore}
 use Rattle.esm_replay_core.proofs.Standing.{few_of_shard}
 use Rattle.esm_replay_core.proofs.Paying.{counted_more}

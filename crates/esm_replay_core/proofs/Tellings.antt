@@ -11,7 +11,7 @@ use Rattle.esm_journal_state.specs.SaidLists.{SaidLists}
 use Rattle.esm_book.specs.Decided.{written_of}
 use Rattle.esm_replay.specs.Records.{of_shard}
 use Rattle.esm_replay_core.specs.declared.decisions.Opened.{Opened}
-use Rattle.esm_replay_core.specs.Coming.{kept_otherwise, change_of, change_at, first_change, IsKeptChange}
+use Rattle.esm_replay.specs.Coming.{kept_otherwise, change_of, change_at, first_change, IsKeptChange}
 use Rattle.esm_replay_core.specs.declared.decisions.ReplayEntry.{ReplayEntry}
 use Rattle.esm_replay_core.specs.declared.decisions.ReplayEntry.TheVariants as told
 use Rattle.esm_replay_core.specs.View.{ReplayView, setting_of, owing, paid, RunAhead}

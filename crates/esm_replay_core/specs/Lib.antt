@@ -1,6 +1,5 @@
 pub mod View
 pub mod Deciding
-pub mod Coming
 pub mod Told
 pub mod Counts
 pub mod Owing

@@ -19,7 +19,7 @@ use Rattle.esm_replay_core.specs.declared.decisions.ReplayAnswer.{ReplayAnswer}
 use Rattle.esm_replay_core.specs.declared.decisions.ReplayAnswer.TheVariants as answer
 use Rattle.esm_replay_core.specs.View.{ReplayView, setting_of, moment_for, IsJobOut, RunAhead, owing}
 use Rattle.esm_replay_core.specs.Deciding.{next_of, next_entries, done_entries, done_count}
-use Rattle.esm_replay_core.specs.Coming.{first_change, IsKeptChange}
+use Rattle.esm_replay.specs.Coming.{first_change, IsKeptChange}
 
 -- entries
 

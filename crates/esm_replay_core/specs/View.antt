@@ -6,6 +6,7 @@ use Rattle.esm_model.specs.declared.book.Job.{Job}
 use Rattle.esm_model.specs.declared.entry.Entry.{Entry}
 use Rattle.esm_model.specs.Moment.{capped_moment}
 use Rattle.esm_model.specs.Entries.{last_moment}
+use Rattle.esm_journal_record.specs.EntryPayload.{AllMayBeSaid}
 use Rattle.esm_replay_model.specs.ReplaySetting.{ReplaySetting}
 use Rattle.esm_replay_model.specs.ReplayRun.{replay_lane, call_out, IsReplay}
 use Rattle.esm_replay.specs.Records.{setting_with}
@@ -40,6 +41,10 @@ pub record IsJobOut (h : List Entry) (job : Job) : Type 0 where
 -- with all owed entries the history is a run
 abbrev pub RunAhead : ReplayView → Type 0
 RunAhead v = IsReplay (setting_of v) (reverse v.owed ++ v.past)
+
+-- and what a journal keeps of all of it may be said
+abbrev pub SaidAhead : ReplayView → Type 0
+SaidAhead v = AllMayBeSaid (setting_of v).base (reverse v.owed ++ v.past)
 
 -- what becomes of a core
 

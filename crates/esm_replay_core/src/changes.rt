@@ -9,7 +9,7 @@ ghost use Rattle.esm_model.specs.declared.setup.FoundFate.{FoundFate};
 ghost use Rattle.esm_model.specs.declared.setup.FoundTries.{FoundTries};
 ghost use Rattle.esm_journal_state.specs.SaidLists.{fate_told, tries_told};
 ghost use Rattle.esm_book.specs.Decided.{IsRefused};
-ghost use Rattle.esm_replay_core.specs.Coming.{other_text, kept_otherwise, change_of, first_change};
+ghost use Rattle.esm_replay.specs.Coming.{other_text, kept_otherwise, change_of, first_change};
 ghost use Rattle.esm_replay_core.specs.Counts.{AreCounted, HasOneMore};
 
 use crate::counts::count_of;

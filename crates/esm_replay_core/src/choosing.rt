@@ -38,7 +38,12 @@ fn names_of(alloc: Global, records: &[Record]) -> Result<Vec<Seq>, OutOfMemory>
 fn job_of(alloc: Global, config: &Config, batch: Batch) -> Result<Job, OutOfMemory>
     requires config { IsStreamConfig config.now }
     requires valid { All IsValidRecord batch.records.items }
-    ensures { IfOk result (λ job. job ≡ record { lane = replay_lane batch.shard; places = batch.places; closing = None; event = event_text config.now batch.records.items None }) }
+    ensures { IfOk result (λ job. job ≡ record {
+      lane = replay_lane batch.shard;
+      places = batch.places;
+      closing = None;
+      event = event_text config.now batch.records.items None;
+    }) }
 {
     let event = stream_event(alloc, config, batch.records.as_slice(), None)?;
     Ok(Job {
@@ -87,7 +92,8 @@ pub(crate) fn choose(
     requires config { IsStreamConfig config.now }
     requires valid { All IsValidRecord records.now }
     requires ready { (s : ReplaySetting) × (h : List Entry) × IsReady s h config.now calls begun records.now waiting.now }
-    ensures { IfOk result (λ chosen. (s : ReplaySetting) (h : List Entry) → IsReady s h config.now calls begun records.now waiting.now → IsChosen s h moment chosen) }
+    ensures { IfOk result (λ chosen. (s : ReplaySetting) (h : List Entry) →
+        IsReady s h config.now calls begun records.now waiting.now → IsChosen s h moment chosen) }
 {
     let found = waiting.next_batch(alloc, config, records)?;
     match found {

@@ -1,5 +1,4 @@
 // The calls and answers of a replay, and how its core decides on them.
-ghost use Rattle.std.specs.Prelude.{◌≡◌};
 ghost use Rattle.esm_replay_core.specs.View.{forgotten as forgotten_view};
 ghost use Rattle.esm_replay_core.specs.Told.{history_of, owed_of, payload_in, no_line, IsPayable, MayAsk, Decides, Refuses, IsChange, Notes};
 

@@ -1,17 +1,17 @@
 // The core of a replay: the records that came, the pieces that wait, the history, and what is owed.
-ghost use Rattle.std.specs.Prelude.{◌≡◌, ◌+◌, ◌<◌, ◌≤◌, ◌^◌, ◌++◌, ◌∷◌, [], None, min, max, IfOk, IfErr, IfSome, IfNone, OnOk, OnErr, All, Some, length, take, reverse, if◌then◌else◌};
+ghost use Rattle.std.specs.Prelude.{◌≡◌, ◌+◌, ◌<◌, ◌≤◌, ◌^◌, ◌++◌, ◌∷◌, [], None, min, max};
+ghost use Rattle.std.specs.Prelude.{IfOk, IfErr, IfSome, IfNone, OnOk, OnErr, All, Some, length, take, reverse, if◌then◌else◌};
 ghost use Rattle.esm_model.specs.declared.limits.TheConstants.{MAX_PAYLOAD};
 ghost use Rattle.esm_model.specs.declared.moment.TheConstants.{MAX_MOMENT};
 ghost use Rattle.esm_model.specs.Valid.{IsValidRecord, IsStreamConfig};
-ghost use Rattle.esm_journal_record.specs.EntryPayload.{AllMayBeSaid};
 ghost use Rattle.esm_book.specs.Decided.{written_of, lengths_of, IsRefused};
 ghost use Rattle.esm_replay_model.specs.ReplaySetting.{replay_config};
 ghost use Rattle.esm_replay_model.specs.ReplayReport.{named_count};
 ghost use Rattle.esm_replay_model.specs.ReplayRun.{call_out, IsReplay};
 ghost use Rattle.esm_model.specs.Entries.{last_moment};
-ghost use Rattle.esm_replay_core.specs.View.{setting_of, new_view, moment_for, IsJobOut, RunAhead, owing, paid, forgotten};
+ghost use Rattle.esm_replay_core.specs.View.{setting_of, new_view, moment_for, IsJobOut, RunAhead, SaidAhead, owing, paid, forgotten};
 ghost use Rattle.esm_replay_core.specs.Deciding.{next_of, next_entries, done_entries, done_count};
-ghost use Rattle.esm_replay_core.specs.Coming.{first_change, IsKeptChange};
+ghost use Rattle.esm_replay.specs.Coming.{first_change, IsKeptChange};
 ghost use Rattle.esm_replay_core.specs.Counts.{IsRecounted, HasCount};
 ghost use Rattle.esm_replay_core.specs.Told.{owed_of, payload_in};
 
@@ -233,7 +233,8 @@ impl ReplayCore {
         requires settled { owed_of self.old ≡ [] }
         requires out { IsJobOut self.old.past job }
         ensures count { IfOk result (λ n. n ≡ done_count (setting_of self.old) self.old.past reply) }
-        ensures owes { OnOk result (self.new ≡ owing self.old [] (done_entries (setting_of self.old) self.old.past job.lane reply (moment_for self.old.past moment))) }
+        ensures owes { OnOk result (self.new ≡ owing self.old []
+            (done_entries (setting_of self.old) self.old.past job.lane reply (moment_for self.old.past moment))) }
         ensures run { OnOk result (RunAhead self.new) }
         ensures unchanged { OnErr result (self.new ≡ self.old) }
         ensures undone { OnOk result (forgotten self.new ≡ self.old) }
@@ -277,12 +278,12 @@ impl ReplayCore {
     }
 
     /// What is true of every core, whoever made its calls: its history is a run of the replay over the records that came,
-    /// which are valid, also with all that is owed after it; what a journal keeps of it may be said; and no moment is past the
-    /// last one. Does nothing.
+    /// which are valid, also with all that is owed after it; what a journal keeps of all this may be said; and no moment is past
+    /// the last one. Does nothing.
     pub fn keeps(&self)
         ensures run { IsReplay (setting_of self.now) self.now.past }
         ensures ahead { RunAhead self.now }
-        ensures said { AllMayBeSaid (setting_of self.now).base self.now.past }
+        ensures said { SaidAhead self.now }
         ensures valid { All IsValidRecord self.now.records }
         ensures early { 1 ≤ length self.now.coming → self.now.past ≡ [] }
         ensures in_time { last_moment self.now.past ≤ MAX_MOMENT }

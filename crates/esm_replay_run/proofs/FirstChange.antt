@@ -1,14 +1,15 @@
 -- The record that brought a change is the first of the input that differs from what was kept: those that came before do not.
-use Rattle.std.proofs.Common.{◌≡◌, ◌+◌, ℕ, zero, suc, Bool, true, false, List, [], ◌∷◌, ◌++◌, length, refl, sym, ap, ◌∙◌, arith, append_assoc, append-nil, Option, Some, None}
-use Rattle.std.specs.Prelude.{◌==◌, slice_get, option_map}
+use Rattle.std.proofs.Common.{◌≡◌, ◌+◌, ℕ, zero, suc, List, [], ◌∷◌, ◌++◌, length, refl, sym, ap, ◌∙◌, append_assoc, append-nil, Option, Some, None}
+use Rattle.std.specs.Prelude.{slice_get, option_map}
 use Rattle.std.specs.Option.{option_or}
-use Rattle.std.proofs.lemmas.Bool.{eq-eqb, eqb-true}
+use Rattle.std.proofs.lemmas.Bool.{eq-eqb}
 use Rattle.std.proofs.lemmas.List.{length-append}
 use Rattle.esm_model.specs.declared.item.Record.{Record}
 use Rattle.esm_model.specs.declared.book.Change.{Change}
 use Rattle.esm_journal_state.specs.SaidLists.{SaidLists}
 use Rattle.esm_replay.specs.Records.{of_shard}
-use Rattle.esm_replay_core.specs.Coming.{kept_otherwise, change_of, change_at, first_change}
+use Rattle.esm_replay.specs.Coming.{kept_otherwise, change_of, change_at, first_change, NoneDiffers}
+use Rattle.esm_replay.proofs.Unchanged.{none_differs}
 use Rattle.esm_replay_book.proofs.Deciding.{change-append}
 use Rattle.esm_replay_book.proofs.Items.{shard-append}
 
@@ -33,73 +34,20 @@ at_place done more r =
     (shard-append r.shard done (r ∷ more) ∙ ap (λ (rs : List Record). of_shard r.shard done ++ rs) (own_first r more))
     ∙ get_seam (of_shard r.shard done) (of_shard r.shard more) r
 
--- none was kept otherwise
-
--- of each shard none
-abbrev pub NoneChanged : SaidLists → List Record → Type 0
-NoneChanged told rs = (n i : ℕ) (r : Record) → slice_get (of_shard n rs) i ≡ Some r → kept_otherwise told n i r.seq ≡ None
-
-none_of : (o : Option (List ℕ)) (r : Record) (i : ℕ) → option_map (change_of r i) o ≡ None → o ≡ None
-none_of None r i is = refl
-none_of (Some kept) r i is = absurd (cc)
-
-or_none : (a b : Option Change) → option_or a b ≡ None → (a ≡ None) × (b ≡ None)
-or_none None b is = (refl, is)
-or_none (Some change) b is = absurd (cc)
-
--- of records behind those before, none by its place
-none_behind : (told : SaidLists) (before rs : List Record) (n i : ℕ) (r : Record) → first_change told before rs ≡ None → slice_get (of_shard n rs) i ≡ Some r → kept_otherwise told n (length (of_shard n before) + i) r.seq ≡ None
-none_behind told before [] n i r none at = absurd (cc)
-none_behind told before (x ∷ rs) n i r none at = by_shard told before rs x n i r (x.shard == n) refl (or_none (change_at told before x) (first_change told (before ++ x ∷ []) rs) none) (λ i at. none_behind told (before ++ x ∷ []) rs n i r (or_none (change_at told before x) (first_change told (before ++ x ∷ []) rs) none).1 at) at
-  where
-    other_place : (before : List Record) (x : Record) (n : ℕ) → (x.shard == n) ≡ false → of_shard n (before ++ x ∷ []) ≡ of_shard n before
-    other_place before x n is = shard-append n before (x ∷ []) ∙ (rw is (append-nil (of_shard n before)))
-
-    own_place : (before : List Record) (x : Record) (n : ℕ) → (x.shard == n) ≡ true → length (of_shard n (before ++ x ∷ [])) ≡ length (of_shard n before) + 1
-    own_place before x n is =
-        let list : of_shard n (before ++ x ∷ []) ≡ of_shard n before ++ x ∷ [] = shard-append n before (x ∷ []) ∙ (rw is refl) in
-        ap (λ (rs : List Record). length rs) list ∙ length-append (of_shard n before) (x ∷ [])
-
-    by_shard : (told : SaidLists) (before rs : List Record) (x : Record) (n i : ℕ) (r : Record) (own : Bool) → (x.shard == n) ≡ own → (change_at told before x ≡ None) × (first_change told (before ++ x ∷ []) rs ≡ None)
-        → ((i : ℕ) → slice_get (of_shard n rs) i ≡ Some r → kept_otherwise told n (length (of_shard n (before ++ x ∷ [])) + i) r.seq ≡ None) → slice_get (of_shard n (x ∷ rs)) i ≡ Some r
-        → kept_otherwise told n (length (of_shard n before) + i) r.seq ≡ None
-    by_shard told before rs x n i r false is none later at =
-        let there : slice_get (of_shard n rs) i ≡ Some r = rw is at at in
-        ap (λ (xs : List Record). kept_otherwise told n (length xs + i) r.seq) (sym (other_place before x n is)) ∙ later i there
-    by_shard told before rs x n zero r true is none later at =
-        let here : Some x ≡ Some r = rw is at at in
-        let same : x ≡ r = cc in
-        let shard : x.shard ≡ n = eqb-true x.shard n is in
-        let none_here : kept_otherwise told x.shard (length (of_shard x.shard before)) x.seq ≡ None = none_of (kept_otherwise told x.shard (length (of_shard x.shard before)) x.seq) x (length (of_shard x.shard before)) none.0 in
-        let place : length (of_shard n before) + 0 ≡ length (of_shard n before) = omega arith in
-        ap (λ (k : ℕ). kept_otherwise told n k r.seq) place
-        ∙ (ap (λ (y : Record). kept_otherwise told n (length (of_shard n before)) y.seq) (sym same)
-        ∙ (ap (λ (k : ℕ). kept_otherwise told k (length (of_shard k before)) x.seq) (sym shard) ∙ none_here))
-    by_shard told before rs x n (suc i) r true is none later at =
-        let there : slice_get (of_shard n rs) i ≡ Some r = rw is at at in
-        let longer = own_place before x n is in
-        let place : length (of_shard n before) + suc i ≡ length (of_shard n (before ++ x ∷ [])) + i = omega (arith, longer) in
-        ap (λ (k : ℕ). kept_otherwise told n k r.seq) place ∙ later i there
-
-pub none_changed : (told : SaidLists) (rs : List Record) → first_change told [] rs ≡ None → NoneChanged told rs
-none_changed told rs none n i r at =
-    let place : 0 + i ≡ i = omega arith in
-    ap (λ (k : ℕ). kept_otherwise told n k r.seq) (sym place) ∙ none_behind told [] rs n i r none at
-
 -- so of the first records of each shard
-pub first_unchanged : (told : SaidLists) (rs qs : List Record) → ((n : ℕ) → (rest : List Record) × (of_shard n qs ≡ of_shard n rs ++ rest)) → NoneChanged told qs → NoneChanged told rs
+pub first_unchanged : (told : SaidLists) (rs qs : List Record) → ((n : ℕ) → (rest : List Record) × (of_shard n qs ≡ of_shard n rs ++ rest)) → NoneDiffers told qs → NoneDiffers told rs
 first_unchanged told rs qs some none n i r at =
     none n i r (ap (λ (xs : List Record). slice_get xs i) (some n).1 ∙ get_front (of_shard n rs) (some n).0 i r at)
 
 -- and of their list
-none_in : (told : SaidLists) (all done rs : List Record) → NoneChanged told all → all ≡ done ++ rs → first_change told done rs ≡ None
+none_in : (told : SaidLists) (all done rs : List Record) → NoneDiffers told all → all ≡ done ++ rs → first_change told done rs ≡ None
 none_in told all done [] none split = refl
 none_in told all done (r ∷ rs) none split =
     let at : slice_get (of_shard r.shard all) (length (of_shard r.shard done)) ≡ Some r = ap (λ (xs : List Record). slice_get (of_shard r.shard xs) (length (of_shard r.shard done))) split ∙ at_place done rs r in
     ap (λ (o : Option (List ℕ)). option_or (option_map (change_of r (length (of_shard r.shard done))) o) (first_change told (done ++ r ∷ []) rs)) (none r.shard (length (of_shard r.shard done)) r at)
     ∙ none_in told all (done ++ r ∷ []) rs none (split ∙ sym (append_assoc done (r ∷ []) rs))
 
-pub none_first : (told : SaidLists) (rs : List Record) → NoneChanged told rs → first_change told [] rs ≡ None
+pub none_first : (told : SaidLists) (rs : List Record) → NoneDiffers told rs → first_change told [] rs ≡ None
 none_first told rs none = none_in told rs [] rs none refl
 
 -- the first that was
@@ -125,7 +73,7 @@ or_some a b change is = ap (λ (o : Option Change). option_or o b) is
 pub first_is : (told : SaidLists) (own front list rest : List Record) (change : Change) → first_change told [] own ≡ None → ((n : ℕ) → of_shard n own ≡ of_shard n front) → first_change told own list ≡ Some change
     → first_change told [] (front ++ (list ++ rest)) ≡ Some change
 first_is told own front list rest change none came differs =
-    let unchanged : NoneChanged told front = first_unchanged told front own (λ n. ([], came n ∙ sym (append-nil (of_shard n front)))) (none_changed told own none) in
+    let unchanged : NoneDiffers told front = first_unchanged told front own (λ n. ([], came n ∙ sym (append-nil (of_shard n front)))) (none_differs told own none) in
     let here : first_change told front list ≡ Some change = same_behind told front own list (λ n. ap (λ (xs : List Record). length xs) (sym (came n))) ∙ differs in
     change-append told [] front (list ++ rest)
     ∙ (ap (λ (o : Option Change). option_or o (first_change told front (list ++ rest))) (none_first told front unchanged)
@@ -134,4 +82,4 @@ first_is told own front list rest change none came differs =
 -- of all records that came none was kept otherwise
 pub none_is : (told : SaidLists) (own records : List Record) → first_change told [] own ≡ None → ((n : ℕ) → of_shard n own ≡ of_shard n records) → first_change told [] records ≡ None
 none_is told own records none came =
-    none_first told records (first_unchanged told records own (λ n. ([], came n ∙ sym (append-nil (of_shard n records)))) (none_changed told own none))
+    none_first told records (first_unchanged told records own (λ n. ([], came n ∙ sym (append-nil (of_shard n records)))) (none_differs told own none))

@@ -11,7 +11,7 @@ use Rattle.esm_model.specs.declared.book.Trouble.{Trouble}
 use Rattle.esm_model.specs.declared.book.Trouble.TheVariants.{Disk, Dest, Changed}
 use Rattle.esm_model.specs.declared.entry.Entry.{Entry}
 use Rattle.esm_book.specs.State.{in_hand, is_disk}
-use Rattle.esm_journal_record.specs.EntryPayload.{entry_payload}
+use Rattle.esm_journal_record.specs.EntryPayload.{entry_payload, AllMayBeSaid}
 use Rattle.esm_journal_state.specs.SaidLists.{SaidLists, is_replay_told}
 use Rattle.esm_folder.specs.Upkeep.{AreHonest, OneRose, PairHolds}
 use Rattle.esm_folder.proofs.OpenedDisks.{are_honest, pair_holds}
@@ -30,7 +30,6 @@ use Rattle.esm_replay_run.specs.Ended.{JournalRose}
 use Rattle.esm_replay_run.specs.Headline.{Disks, CrashKept, Headline, JournalKept, JournalStopped}
 use Rattle.esm_replay_run.specs.Laws.{AreLaws}
 use Rattle.esm_replay_run.specs.Runs.{IsLeft}
-use Rattle.esm_replay_run.proofs.Leaving.{replayed_or_left}
 use Rattle.esm_replay_run.proofs.Sayings.{says_after}
 
 -- the disks are those of the book, and the failure file is as it was opened
@@ -138,6 +137,24 @@ first_run s (e ∷ owed) h run ahead =
     let is : reverse (e ∷ owed) ++ h ≡ reverse owed ++ (e ∷ h) = ap (λ (es : List Entry). es ++ h) (reverse-append (e ∷ []) owed) ∙ append_assoc (reverse owed) (e ∷ []) h in
     front_run s (reverse owed) (e ∷ h) (subst (λ (es : List Entry). IsReplay s es) is ahead)
 
+-- and it may be said
+
+front_said : (s : ReplaySetting) (later h : List Entry) → AllMayBeSaid s.base (later ++ h) → AllMayBeSaid s.base h
+front_said s [] h may = may
+front_said s (e ∷ later) h may = front_said s later h may.0
+
+first_said : (s : ReplaySetting) (owed h : List Entry) → AllMayBeSaid s.base (reverse owed ++ h) → AllMayBeSaid s.base (take 1 owed ++ h)
+first_said s [] h ahead = ahead
+first_said s (e ∷ owed) h ahead =
+    let is : reverse (e ∷ owed) ++ h ≡ reverse owed ++ (e ∷ h) = ap (λ (es : List Entry). es ++ h) (reverse-append (e ∷ []) owed) ∙ append_assoc (reverse owed) (e ∷ []) h in
+    front_said s (reverse owed) (e ∷ h) (subst (λ (es : List Entry). AllMayBeSaid s.base es) is ahead)
+
+hand_said : (s : ReplaySetting) (why : Option Trouble) (owed h : List Entry) → AllMayBeSaid s.base (reverse owed ++ h) → AllMayBeSaid s.base (in_hand why owed ++ h)
+hand_said s None owed h ahead = front_said s (reverse owed) h ahead
+hand_said s (Some Disk) owed h ahead = first_said s owed h ahead
+hand_said s (Some Dest) owed h ahead = front_said s (reverse owed) h ahead
+hand_said s (Some (Changed change)) owed h ahead = front_said s (reverse owed) h ahead
+
 hand_run : (s : ReplaySetting) (why : Option Trouble) (owed h : List Entry) → IsReplay s h → IsReplay s (reverse owed ++ h) → IsReplay s (in_hand why owed ++ h)
 hand_run s None owed h run ahead = run
 hand_run s (Some Disk) owed h run ahead = first_run s owed h run ahead
@@ -156,7 +173,8 @@ headline {D} m gave f b new laws left of said given =
       moments = given;
       journal_kept = journal_kept m f b new left of;
       journal_stopped = journal_stopped m f b new left of;
-      journal_says = says_after f s b.core.past left.run left.may_be_said (λ n i. ap (λ (told : SaidLists). is_replay_told told n i) said ∙ left.files.tells.replays n i);
+      may_be_said = hand_said s b.trouble b.core.owed b.core.past left.may_be_said;
+      journal_says = says_after f s b.core.past laws left.run (front_said s (reverse b.core.owed) b.core.past left.may_be_said) (λ n i. ap (λ (told : SaidLists). is_replay_told told n i) said ∙ left.files.tells.replays n i);
       in_hand = is_in_hand b.trouble b.core.owed;
       crash = crash_kept m f b new left of;
       failures_same = of.failures;
@@ -165,9 +183,10 @@ headline {D} m gave f b new laws left of said given =
       replayed_once = laws.once s b.core.past left.run;
       calls_named = laws.named s b.core.past left.run;
       replayed_as_answered = laws.answered s b.core.past left.run;
+      succeeded_are_replayed = laws.succeeded s b.core.past left.run;
       hand_replayed_once = laws.once s (in_hand b.trouble b.core.owed ++ b.core.past) hand;
       hand_as_answered = laws.answered s (in_hand b.trouble b.core.owed ++ b.core.past) hand;
-      replayed_or_left = replayed_or_left s b.core.past left.run;
+      replayed_or_left = laws.left s b.core.past left.run;
       calls_within = laws.within s b.core.past left.run;
     }
 

@@ -1,5 +1,4 @@
 pub mod Sayings
-pub mod Leaving
 pub mod Headlines
 pub mod FirstChange
 pub mod Ways

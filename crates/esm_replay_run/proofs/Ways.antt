@@ -1,5 +1,5 @@
 -- How a run ended, from how its caller did.
-use Rattle.std.proofs.Common.{◌≡◌, ◌∙◌, ◌≤◌, ◌⊎◌, ℕ, Bool, true, false, List, [], ◌∷◌, ◌++◌, length, Result, Ok, Err, Option, Some, None, ap, refl, subst, sym, inl, inr, append-nil, append_assoc}
+use Rattle.std.proofs.Common.{◌≡◌, ◌∙◌, ◌*◌, ◌≤◌, ◌⊎◌, ℕ, Bool, true, false, List, [], ◌∷◌, ◌++◌, length, Result, Ok, Err, Option, Some, None, ap, refl, subst, sym, inl, inr, append-nil, append_assoc}
 use Rattle.std.specs.Prelude.{IfOk, IsErr, OnErr, OnOk, is_some}
 use Rattle.esm_io.specs.Faults.{Rose}
 use Rattle.esm_io.specs.Meanings.{DiskMeaning}
@@ -10,6 +10,8 @@ use Rattle.esm_model.specs.declared.book.Trouble.TheVariants as trouble
 use Rattle.esm_model.specs.declared.called.Called.{Called}
 use Rattle.esm_model.specs.declared.config.Config.{Config}
 use Rattle.esm_model.specs.declared.config.Start.{Start}
+use Rattle.esm_model.specs.declared.entry.Entry.{Entry}
+use Rattle.esm_model.specs.Entries.{calls_begun}
 use Rattle.esm_model.specs.declared.item.Item.{Item}
 use Rattle.esm_model.specs.declared.item.Record.{Record}
 use Rattle.esm_model.specs.declared.item.LineKind.{LineKind}
@@ -28,11 +30,11 @@ use Rattle.esm_serial.specs.Ran.{IsSameInput, HasCalled, HasOneMore as OneMoreRu
 use Rattle.esm_replay.specs.Records.{of_shard, setting_with}
 use Rattle.esm_replay_model.specs.declared.range.Range.{Range}
 use Rattle.esm_replay_model.specs.Pieces.{replay_event}
-use Rattle.esm_replay_model.specs.ReplaySetting.{replay_config}
-use Rattle.esm_replay_model.specs.ReplayRun.{call_out, replay_calls}
+use Rattle.esm_replay_model.specs.ReplaySetting.{ReplaySetting, replay_config}
+use Rattle.esm_replay_model.specs.ReplayRun.{call_out, replay_calls, IsReplay}
 use Rattle.esm_replay_core.specs.declared.decisions.Opened.{Opened}
 use Rattle.esm_replay_core.specs.View.{ReplayView, setting_of, new_view}
-use Rattle.esm_replay_core.specs.Coming.{first_change}
+use Rattle.esm_replay.specs.Coming.{first_change}
 use Rattle.esm_replay_book.specs.Books.{BookState}
 use Rattle.esm_replay_book.specs.Keeping.{IsCause, IsUncalled, IsSound}
 use Rattle.esm_replay_book.specs.Opening.{GiveRanges}
@@ -42,7 +44,7 @@ use Rattle.esm_runner.specs.Files.{FilesState}
 use Rattle.esm_replay_run.specs.declared.report.ReplayCounts.{ReplayCounts}
 use Rattle.esm_replay_run.specs.declared.run.ReplayEnd.{ReplayEnd}
 use Rattle.esm_replay_run.specs.declared.run.ReplayEnd.TheVariants as end
-use Rattle.esm_replay_run.specs.Counts.{AreCounts}
+use Rattle.esm_replay_run.specs.Counts.{AreCounts, AreFewCalls}
 use Rattle.esm_replay_run.specs.Headline.{Disks, Headline, IsSettingOf, SomeCame}
 use Rattle.esm_replay_run.specs.Ended.{Telling, AllCame, trouble_of, IsCauseOf, HasRun, IsFaultOf, HasLogged, HasStopped}
 use Rattle.esm_replay_run.specs.Ending.{IsReason, HasReason, EndsBy, IsEndOf}
@@ -203,6 +205,16 @@ change_first config calls gave sends f before i change stood of =
     let differs : first_change f.said w.core.records list ≡ Some change = ap (λ (told : SaidLists). first_change told w.core.records list) (sym went.said) ∙ of.differs_so in
     ap (first_change f.said []) parts ∙ first_is f.said w.core.records front list rest change unchanged (all_come w of.front of.came) differs
 
+-- how many calls
+
+few_begun : (s : ReplaySetting) (h : List Entry) (counts : ReplayCounts) → AreLaws → IsReplay s h → AreCounts s h counts → calls_begun h ≤ 2 * counts.named
+few_begun s h counts laws run are = subst (λ (k : ℕ). calls_begun h ≤ 2 * k) (sym are.named) (laws.within s h run)
+
+few_calls : (sends : List ℕ → List ℕ) (s : ReplaySetting) (h : List Entry) (counts : ReplayCounts) → AreLaws → IsReplay s h → AreCounts s h counts → (call_out h).places ≡ [] → AreFewCalls sends s h counts
+few_calls sends s h counts laws run are rests =
+    let few : calls_begun h ≤ 2 * counts.named = few_begun s h counts laws run are in
+    record { told = few; logged = subst (λ (k : ℕ). k ≤ 2 * counts.named) (sym (laws.logged s sends h run rests)) few }
+
 -- one end after another
 
 module _ {S D F : Type 0} (t : Telling D F) (faults : S → ℕ) (left_in : S → Option (List ℕ)) (config : Config) (calls : ℕ) (f : FilesState D) (old : S) (i : InputState S) (old_caller new_caller : F) (before b : BookState D) (counts : ReplayCounts) (new : Disks D) where
@@ -212,26 +224,27 @@ module _ {S D F : Type 0} (t : Telling D F) (faults : S → ℕ) (left_in : S �
   abbrev LogNow : Option (List Called)
   LogNow = t.callers.log new_caller
 
-  cause_of : (e : ReplayEnd) (r : RunEnd) → StoodSo config calls f before → IsLeft t.disk f b → AreOf f b new → IsCauseIn t.disk b b.trouble → IsSound b → b.core.opened.said ≡ f.said → IsUnchanged b
+  cause_of : (e : ReplayEnd) (r : RunEnd) → AreLaws → StoodSo config calls f before → IsLeft t.disk f b → AreOf f b new → IsCauseIn t.disk b b.trouble → IsSound b → b.core.opened.said ≡ f.said → IsUnchanged b
       → ((change : Change) → change_in b ≡ Some change → IsChangeOf replays t.callers.gave t.callers.sends before i change) → CameSo replays t.callers.gave before b i Log LogNow r → EndsSo replays b r → IsEndOf r b.trouble i.end e
       → IsCauseOf t.disk f (setting_of b.core) b.core.records b.core.past (records_in_items (handed i)) i.end new e
-  cause_of (end.Finished why) r stood left of cause sound said unchanged changed came so is =
+  cause_of (end.Finished why) r laws stood left of cause sound said unchanged changed came so is =
       let all = subst (CameSo replays t.callers.gave before b i Log LogNow) is.0 came in
       let over = subst (EndsSo replays b) is.0 so in
-      (all_records f i b said unchanged all, is.1, over.1)
-  cause_of end.CallsSpent r stood left of cause sound said unchanged changed came so is =
+      let paid = sound.settled (none_down b.trouble over.0) in
+      (all_records f i b said unchanged all, is.1, over.1, laws.left (setting_of b.core) b.core.past sound.run over.1 paid)
+  cause_of end.CallsSpent r laws stood left of cause sound said unchanged changed came so is =
       let all = subst (CameSo replays t.callers.gave before b i Log LogNow) is came in
       let over = subst (EndsSo replays b) is so in
       (all_records f i b said unchanged all, all.ended, over.1.calls, over.1.left)
-  cause_of end.DiskFault r stood left of cause sound said unchanged changed came so is =
+  cause_of end.DiskFault r laws stood left of cause sound said unchanged changed came so is =
       disk_rose t.disk f b new left of (subst (IsCauseIn t.disk b) is.1 cause)
-  cause_of (end.Changed change) r stood left of cause sound said unchanged changed came so is =
+  cause_of (end.Changed change) r laws stood left of cause sound said unchanged changed came so is =
       let told : change_in b ≡ Some change = ap (λ (why : Option Trouble). change_in (record b { trouble = why })) is.1 in
       record {
         first = change_first config calls t.callers.gave t.callers.sends f before i change stood (changed change told);
         uncalled = subst (λ (why : Option Trouble). IsUncalled why b.core.past) is.1 sound.uncalled;
       }
-  cause_of (end.BadLine index) r stood left of cause sound said unchanged changed came so is = is
+  cause_of (end.BadLine index) r laws stood left of cause sound said unchanged changed came so is = is
 
   trouble_is : (e : ReplayEnd) (r : RunEnd) → EndsSo replays b r → IsEndOf r b.trouble i.end e → b.trouble ≡ trouble_of e
   trouble_is (end.Finished why) r so is = none_down b.trouble (subst (EndsSo replays b) is.0 so).0
@@ -259,9 +272,10 @@ module _ {S D F : Type 0} (t : Telling D F) (faults : S → ℕ) (left_in : S �
         headline = subst (λ (why : Option Trouble). Headline t.disk t.callers.gave f (setting_of b.core) b.core.past why (in_hand b.trouble b.core.owed) new) (trouble_is e r so is)
             (headline t.disk t.callers.gave f b new laws left of went.said went.moments);
         are_counts = are_counts;
+        few_calls = few_calls t.callers.sends (setting_of b.core) b.core.past counts laws left.run are_counts rests;
         calls_made = subst (Grows Log LogNow) (sym went.called) called.logged;
         rests = rests;
-        cause = cause_of e r stood left of cause sound went.said went.unchanged changed came so is;
+        cause = cause_of e r laws stood left of cause sound went.said went.unchanged changed came so is;
       }
 
   fault_of : (why : Option Trouble) → IsLeft t.disk f b → AreOf f b new → IsCauseIn t.disk b why → change_in (record b { trouble = why }) ≡ None → IsFaultOf t.disk f new why
@@ -321,6 +335,7 @@ module _ {S D F : Type 0} (t : Telling D F) (faults : S → ℕ) (left_in : S �
         hand = in_hand b.trouble b.core.owed;
         headline = headline t.disk t.callers.gave f b new laws left of on.said on.moments;
         are_counts = are_counts;
+        few_calls = few_begun (setting_of b.core) b.core.past counts laws left.run are_counts;
         calls_made = logged_so stood logged;
       }
 

@@ -1,9 +1,10 @@
 -- How many records a replay counts in its report. This product's own.
-use Rattle.std.specs.Prelude.{◌≡◌, ℕ, ◌+◌, List, [], ◌∷◌, ◌++◌, length, codes}
+use Rattle.std.specs.Prelude.{◌≡◌, ℕ, ◌*◌, ◌≤◌, List, ◌++◌, length, codes}
 use Rattle.esm_model.specs.declared.entry.Entry.{Entry}
-use Rattle.esm_model.specs.declared.entry.Entry.TheVariants.{Replayed}
+use Rattle.esm_model.specs.Entries.{calls_begun}
 use Rattle.esm_model.specs.Numbers.{decimal}
 use Rattle.esm_replay_model.specs.ReplaySetting.{ReplaySetting}
+use Rattle.esm_replay_model.specs.ReplayRun.{replay_calls}
 use Rattle.esm_replay_model.specs.ReplayReport.{named_count, replayed_count, left_count}
 use Rattle.esm_replay_run.specs.declared.report.ReplayCounts.{ReplayCounts}
 
@@ -24,11 +25,7 @@ counts_text counts =
     ++ codes " replayed " ++ decimal counts.replayed
     ++ codes " left " ++ decimal counts.left
 
--- how many records a history replays
-abbrev pub replayed_with : ℕ → Entry → ℕ
-replayed_with before (Replayed shard places moment) = length places + before
-replayed_with before _ = before
-
-abbrev pub replayed_in : List Entry → ℕ
-replayed_in [] = 0
-replayed_in (e ∷ h) = replayed_with (replayed_in h) e
+-- The calls that the report tells, and those of the caller's log, are at most twice as many as the named records that it tells.
+pub record AreFewCalls (sends : List ℕ → List ℕ) (s : ReplaySetting) (h : List Entry) (counts : ReplayCounts) : Type 0 where
+  pub told : calls_begun h ≤ 2 * counts.named
+  pub logged : length (replay_calls s sends h) ≤ 2 * counts.named

@@ -1,5 +1,5 @@
 -- Why a run of a replay ended so, and what it left. This product's own.
-use Rattle.std.specs.Prelude.{◌≡◌, ◌⊎◌, ◌≤◌, ◌∷◌, ◌++◌, ℕ, Bool, false, List, [], length, Option, Some, None, IsSome}
+use Rattle.std.specs.Prelude.{◌≡◌, ◌⊎◌, ◌*◌, ◌≤◌, ◌∷◌, ◌++◌, ℕ, Bool, false, List, [], length, Option, Some, None, IsSome}
 use Rattle.esm_io.specs.Meanings.{DiskMeaning}
 use Rattle.esm_io.specs.Told.{Grows, TakesFront}
 use Rattle.esm_journal.specs.Pair.{first_disk, second_disk}
@@ -21,14 +21,15 @@ use Rattle.esm_workers.specs.Working.{Outside}
 use Rattle.esm_replay.specs.Records.{of_shard}
 use Rattle.esm_replay_model.specs.ReplaySetting.{ReplaySetting}
 use Rattle.esm_replay_model.specs.Pieces.{replay_event}
+use Rattle.esm_replay_model.specs.ReplayLaws.{AllReplayedOrLeft}
 use Rattle.esm_replay_model.specs.ReplayRun.{call_out, pieces_left, replay_calls}
 use Rattle.esm_journal_state.specs.SaidLists.{SaidLists}
-use Rattle.esm_replay_core.specs.Coming.{first_change}
+use Rattle.esm_replay.specs.Coming.{first_change}
 use Rattle.esm_replay_book.specs.Opening.{IsFirstBadLine}
 use Rattle.esm_replay_book.specs.Serving.{records_in_items}
 use Rattle.esm_runner.specs.Files.{FilesState, AreClosed}
 use Rattle.esm_replay_run.specs.Headline.{Disks, Headline, IsSettingOf, SomeCame}
-use Rattle.esm_replay_run.specs.Counts.{AreCounts}
+use Rattle.esm_replay_run.specs.Counts.{AreCounts, AreFewCalls}
 use Rattle.esm_replay_run.specs.declared.report.ReplayCounts.{ReplayCounts}
 use Rattle.esm_replay_run.specs.declared.run.ReplayEnd.{ReplayEnd}
 use Rattle.esm_replay_run.specs.declared.run.ReplayEnd.TheVariants as end
@@ -63,11 +64,11 @@ pub record IsChanged (said : SaidLists) (h : List Entry) (records : List Record)
 abbrev pub JournalRose : {D : Type 0} → DiskMeaning D → FilesState D → Disks D → Type 0
 JournalRose m f new = OneRose m (first_disk f.pair) (second_disk f.pair) new.journal new.spare
 
--- why: nothing is left to call, and the reading ended for this; all calls allowed began, and something is left to call; the
--- faults of a disk of the journal rose in the run; or a record came with another text than was kept of its place, the first of the input
--- that did
+-- why: nothing is left to call, so that each named record was replayed or its last call left it, and the reading ended for
+-- this; all calls allowed began, and something is left to call; the faults of a disk of the journal rose in the run; or a
+-- record came with another text than was kept of its place, the first of the input that did
 abbrev pub IsCauseOf : {D : Type 0} → DiskMeaning D → FilesState D → ReplaySetting → (came : List Record) → List Entry → (records : List Record) → (reading : Option InputEnd) → Disks D → ReplayEnd → Type 0
-IsCauseOf m f s came h records reading new (end.Finished why) = AllCame f.said came records × (reading ≡ Some why) × (pieces_left s h ≡ [])
+IsCauseOf m f s came h records reading new (end.Finished why) = AllCame f.said came records × (reading ≡ Some why) × (pieces_left s h ≡ []) × AllReplayedOrLeft s h
 IsCauseOf m f s came h records reading new end.CallsSpent = AllCame f.said came records × IsSome reading × (calls_begun h ≡ s.base.calls) × (pieces_left s h ≡ [] → ⊥)
 IsCauseOf m f s came h records reading new end.DiskFault = JournalRose m f new
 IsCauseOf m f s came h records reading new (end.Changed change) = IsChanged f.said h records change
@@ -98,6 +99,7 @@ pub record HasRun {S D F : Type 0} (t : Telling D F) (faults : S → ℕ) (left 
   pub hand : List Entry
   pub headline : Headline t.disk t.callers.gave f setting h (trouble_of e) hand new
   pub are_counts : AreCounts setting h counts
+  pub few_calls : AreFewCalls t.callers.sends setting h counts
   -- the caller's log, where told, grew by the calls, and no call is without its end
   pub calls_made : Grows (t.callers.log old_caller) (t.callers.log new_caller) (replay_calls setting t.callers.sends h)
   pub rests : (call_out h).places ≡ []
@@ -152,6 +154,7 @@ pub record HasStopped {S D F : Type 0} (t : Telling D F) (left : S → Option (L
   pub hand : List Entry
   pub headline : Headline t.disk t.callers.gave f setting h trouble hand new
   pub are_counts : AreCounts setting h counts
+  pub few_calls : calls_begun h ≤ 2 * counts.named
   pub calls_made : HasLogged t.callers.sends setting h (t.callers.log old_caller) (t.callers.log new_caller)
 
 -- or it stopped before it began

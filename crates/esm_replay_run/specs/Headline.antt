@@ -8,6 +8,7 @@ use Rattle.esm_model.specs.declared.config.Config.{Config}
 use Rattle.esm_model.specs.declared.entry.Entry.{Entry}
 use Rattle.esm_model.specs.declared.item.Record.{Record}
 use Rattle.esm_journal_record.specs.declared.said.Said.{Said}
+use Rattle.esm_journal_record.specs.EntryPayload.{AllMayBeSaid}
 use Rattle.esm_journal_state.specs.Meaning.{history, fate_said, tries_said, replayed_said}
 use Rattle.esm_folder.specs.Upkeep.{AreHonest, AreSettled, PairHolds}
 use Rattle.esm_replay.specs.Records.{of_shard, setting_with}
@@ -15,13 +16,12 @@ use Rattle.esm_replay_model.specs.declared.range.Range.{Range}
 use Rattle.esm_replay_model.specs.ReplaySetting.{ReplaySetting, replay_config, is_found_replayed}
 use Rattle.esm_replay_model.specs.ReplayReport.{is_replayed}
 use Rattle.esm_replay_model.specs.ReplayRun.{IsReplay, owed_replay}
-use Rattle.esm_replay_model.specs.ReplayLaws.{ReplayedOnce, CallsNamed, ReplayedAsAnswered, CallsWithin}
+use Rattle.esm_replay_model.specs.ReplayLaws.{ReplayedOnce, CallsNamed, ReplayedAsAnswered, SucceededAreReplayed, ReplayedOrLeft, CallsWithin}
 use Rattle.esm_replay_book.specs.Books.{payloads_in, OpensToFirst}
 use Rattle.esm_replay_book.specs.Opening.{GiveRanges}
 use Rattle.esm_replay_book.specs.Serving.{AreGiven}
 use Rattle.esm_runner.specs.Files.{FilesState}
 use Rattle.esm_runner.specs.Headline.{IsInHand, PairStopped}
-use Rattle.esm_replay_run.specs.Leaving.{ReplayedOrLeft}
 
 -- the disks as a run left them: the journal with its spare, and the failure file
 pub record Disks (D : Type 0) : Type 0 where
@@ -85,6 +85,8 @@ pub record Headline {D : Type 0} (m : DiskMeaning D) (gave : ℕ → Bool) (f : 
   pub journal_kept : (trouble ≡ Some Disk → ⊥) → JournalKept m f s h new
   -- where a disk of it failed, one further whole payload may follow, that of the entry in hand
   pub journal_stopped : trouble ≡ Some Disk → JournalStopped m f s h hand new
+  -- each of these payloads is one that may be said, so that a later run reads it
+  pub may_be_said : AllMayBeSaid s.base (hand ++ h)
   -- what the journal's content then says
   pub journal_says : JournalSays f s h
   -- an entry is in hand only where a disk of the journal failed, and then one at most
@@ -94,7 +96,7 @@ pub record Headline {D : Type 0} (m : DiskMeaning D) (gave : ℕ → Bool) (f : 
   -- the failure file is as it was opened, and was only read
   pub failures_same : new.failures ≡ f.dest.disk
   pub failures_read : IsOnlyRead m f.failures new.failures
-  -- where no disk of it failed, all that a reply counts as succeeded is replayed
+  -- where no disk of it failed, so is all that the last reply counts as succeeded
   pub all_replayed : (trouble ≡ Some Disk → ⊥) → (owed_replay s h).places ≡ []
   -- each record is replayed at most once, and only where it is named, so not where the journal told of its replay
   pub replayed_once : ReplayedOnce s h
@@ -102,6 +104,8 @@ pub record Headline {D : Type 0} (m : DiskMeaning D) (gave : ℕ → Bool) (f : 
   pub calls_named : CallsNamed s h
   -- what is replayed is exactly what the reply before it counts as succeeded
   pub replayed_as_answered : ReplayedAsAnswered s h
+  -- and what a reply counts as succeeded is replayed next, all of it
+  pub succeeded_are_replayed : SucceededAreReplayed s h
   -- so it is also of what is in hand
   pub hand_replayed_once : ReplayedOnce s (hand ++ h)
   pub hand_as_answered : ReplayedAsAnswered s (hand ++ h)

@@ -1,4 +1,3 @@
-pub mod Leaving
 pub mod Headline
 pub mod Ended
 pub mod Ending

@@ -9,12 +9,11 @@ use Rattle.esm_model.specs.declared.book.Trouble.TheVariants.{Disk}
 use Rattle.esm_model.specs.declared.config.Config.{Config}
 use Rattle.esm_model.specs.declared.item.LineKind.TheVariants as kinds
 use Rattle.esm_input.specs.Reading.{InputState, handed}
-use Rattle.esm_journal_record.specs.EntryPayload.{AllMayBeSaid}
 use Rattle.esm_journal_state.specs.SaidLists.{SaidLists}
 use Rattle.esm_replay_model.specs.declared.range.Range.{Range}
 use Rattle.esm_replay_model.specs.ReplaySetting.{replay_config}
 use Rattle.esm_replay_model.specs.ReplayRun.{IsReplay, owed_replay}
-use Rattle.esm_replay_core.specs.View.{setting_of, new_view, RunAhead}
+use Rattle.esm_replay_core.specs.View.{setting_of, new_view, RunAhead, SaidAhead}
 use Rattle.esm_replay_book.specs.Books.{BookState, OpensToFirst, LeavesFirst, payloads_in}
 use Rattle.esm_replay_book.specs.Keeping.{HasJournal, entries_left}
 use Rattle.esm_replay_book.specs.Opening.{GiveRanges, IsFirstBadLine}
@@ -79,7 +78,7 @@ pub record IsLeft {D : Type 0} (m : DiskMeaning D) (f : FilesState D) (b : BookS
   pub found : b.found ≡ f.pair
   pub run : IsReplay (setting_of b.core) b.core.past
   pub ahead : RunAhead b.core
-  pub may_be_said : AllMayBeSaid (setting_of b.core).base b.core.past
+  pub may_be_said : SaidAhead b.core
   pub settled : (b.trouble ≡ Some Disk → ⊥) → (owed_replay (setting_of b.core) b.core.past).places ≡ []
   pub journal : HasJournal m b
   pub since : LeavesSince m f b

@@ -1,7 +1,10 @@
 // The laws by which the headline of a replay holds, in one place.
 ghost use Rattle.esm_replay_run.specs.Laws.{AreLaws};
 
-use esm_replay_model::laws::{calls_named, calls_within, replayed_as_answered, replayed_once};
+use esm_replay_model::laws::{
+    calls_logged, calls_named, calls_within, counts_add_up, replayed_as_answered, replayed_once,
+    replayed_or_left, says_after, succeeded_are_replayed,
+};
 
 /// Does nothing.
 pub(crate) fn laws_hold()
@@ -10,5 +13,10 @@ pub(crate) fn laws_hold()
     replayed_once();
     calls_named();
     replayed_as_answered();
+    succeeded_are_replayed();
+    replayed_or_left();
     calls_within();
+    counts_add_up();
+    calls_logged();
+    says_after();
 }

@@ -1,7 +1,8 @@
 // What the report of a replay counts.
 ghost use Rattle.std.specs.Prelude.{◌≡◌, ◌≤◌, ◌++◌, ◌-◌, OnOk};
 ghost use Rattle.esm_report.specs.Report.{line};
-ghost use Rattle.esm_replay_run.specs.Counts.{count_text, counts_text, replayed_in};
+ghost use Rattle.esm_replay_model.specs.ReplayReport.{replayed_in};
+ghost use Rattle.esm_replay_run.specs.Counts.{count_text, counts_text};
 
 use esm_event::bytes::push_bytes;
 use esm_event::digits::push_decimal;

@@ -19,7 +19,7 @@ use std::snapshot::Snapshot;
 pub enum ReplayEnd {
     /// Every named record was replayed or its last call left it; the reading of the input ended for this.
     Finished(InputEnd),
-    /// All calls allowed were made, and something is left to call.
+    /// As many calls began as are allowed, and something is left to call.
     CallsSpent,
     /// A disk of the journal failed.
     DiskFault,

@@ -1,7 +1,7 @@
 use Rattle.std.proofs.Common.{◌∙◌, ◌+◌, ◌++◌, List, take, drop, sym, ap, ap₂, arith, rules}
 use Rattle.std.proofs.lemmas.List.{append-nil}
 use Rattle.esm_model.specs.declared.item.Record.{Record}
-use Rattle.esm_replay_core.specs.Coming.{first_change}
+use Rattle.esm_replay.specs.Coming.{first_change}
 use Rattle.esm_replay_core.proofs.Differing.{counted_few, own_more, looked, none_after, or_some, or_none}
 use Rattle.esm_replay_core.proofs.changes.first_change.Goals as goal
 

@@ -1,6 +1,6 @@
 use Rattle.std.proofs.Common.{◌≡◌, ◌++◌, List, take, drop}
 use Rattle.esm_model.specs.declared.item.Record.{Record}
-use Rattle.esm_replay_core.specs.Coming.{first_change}
+use Rattle.esm_replay.specs.Coming.{first_change}
 use Rattle.esm_replay_core.specs.Counts.{AreCounted}
 use Rattle.esm_replay_core.proofs.changes.first_change.Given as goal
 

@@ -11,12 +11,12 @@ use Rattle.esm_model.specs.declared.book.Trouble.{Trouble}
 use Rattle.esm_input.specs.declared.ending.InputEnd.{InputEnd}
 use Rattle.esm_input.specs.Reading.{InputState}
 use Rattle.esm_workers.specs.Working.{outside}
-use Rattle.esm_replay_model.specs.ReplayReport.{named_count}
+use Rattle.esm_replay_model.specs.ReplayReport.{named_count, replayed_in}
 use Rattle.esm_replay_model.specs.ReplayRun.{IsReplay}
 use Rattle.esm_replay_core.specs.View.{ReplayView, setting_of}
 use Rattle.esm_replay_book.specs.Books.{BookState}
 use Rattle.esm_runner.specs.Files.{FilesState}
-use Rattle.esm_replay_run.specs.Counts.{AreCounts, replayed_in}
+use Rattle.esm_replay_run.specs.Counts.{AreCounts}
 use Rattle.esm_replay_run.specs.Headline.{Disks}
 use Rattle.esm_replay_run.specs.Ended.{Telling, telling, HasEnded, HasStoppedRun}
 use Rattle.esm_replay_run.specs.Ending.{EndsBy, HasReason}
@@ -88,7 +88,7 @@ returns g c =
     let counts : AreCounts (setting_of b.core) b.core.past out.counts =
     rw (c.closed.ensures.counts)
     (subst (λ (h : List Entry). AreCounts (setting_of b.core) h c.counts_of-counts.result) past
-    (counted (setting_of b.core) (reverse c.into_parts-history.result.history.items) c.counts_of-counts.result
+    (counted laws (setting_of b.core) (reverse c.into_parts-history.result.history.items) c.counts_of-counts.result
     (subst (IsReplay (setting_of b.core)) (sym past) sound.run)
     (c.counts_of-counts.ensures.named ∙ c.named-named.ensures)
     (c.counts_of-counts.ensures.replayed ∙ (ap (λ (xs : List Entry). replayed_in xs) c.as_slice.ensures.value ∙ sym (replayed-reverse c.into_parts-history.result.history.items)))
@@ -123,7 +123,7 @@ counts_of-counts-requires g c =
     let b : BookState g.row.D.Denot = c.run_serial-ran.result.book in
     let items = c.into_parts-history.result.history.items in
     let past : reverse c.into_parts-history.result.history.items ≡ b.core.past = rw (c.into_parts-history.ensures.history) (reverse-reverse b.core.past) in
-    let within = replayed_within (setting_of b.core) (reverse items) (subst (IsReplay (setting_of b.core)) (sym past) c.trouble.ensures.sound.run) in
+    let within = replayed_within c.laws_hold.ensures (setting_of b.core) (reverse items) (subst (IsReplay (setting_of b.core)) (sym past) c.trouble.ensures.sound.run) in
     let slice : replayed_in c.as_slice.result.now ≡ replayed_in (reverse items) = (ap (λ (xs : List Entry). replayed_in xs) c.as_slice.ensures.value ∙ sym (replayed-reverse c.into_parts-history.result.history.items)) in
     let named : c.named-named.result ≡ named_count (setting_of b.core) = c.named-named.ensures in
     omega (arith, within, slice, named)

@@ -1,7 +1,7 @@
 use Rattle.std.proofs.Common.{◌≡◌, ◌∙◌, ◌+◌, ◌<◌, ℕ, List, ◌∷◌, length, drop, get_or, sym, ap, arith}
 use Rattle.std.proofs.lemmas.List.{at_drop_more}
 use Rattle.esm_model.specs.declared.entry.Entry.{Entry}
-use Rattle.esm_replay_run.specs.Counts.{replayed_in}
+use Rattle.esm_replay_model.specs.ReplayReport.{replayed_in}
 use Rattle.esm_replay_run.proofs.report.replayed_in.Goals as goal
 
 -- the next entry of the rest

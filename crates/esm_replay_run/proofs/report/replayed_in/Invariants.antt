@@ -1,5 +1,5 @@
 use Rattle.std.proofs.Common.{◌≡◌, ◌+◌, drop}
-use Rattle.esm_replay_run.specs.Counts.{replayed_in}
+use Rattle.esm_replay_model.specs.ReplayReport.{replayed_in}
 use Rattle.esm_replay_run.proofs.report.replayed_in.Given as goal
 
 abbrev pub invariant-loop-entry : goal.invariant-loop-entry

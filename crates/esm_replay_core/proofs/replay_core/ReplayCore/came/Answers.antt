@@ -5,7 +5,7 @@ use Rattle.std.specs.BTreeMap.{get}
 use Rattle.esm_model.specs.declared.book.Change.{Change}
 use Rattle.esm_model.specs.declared.item.Record.{Record}
 use Rattle.esm_replay_core.specs.View.{ReplayView}
-use Rattle.esm_replay_core.specs.Coming.{first_change, IsKeptChange}
+use Rattle.esm_replay.specs.Coming.{first_change, IsKeptChange}
 use Rattle.esm_replay_core.specs.Owing.{still_coming}
 use Rattle.esm_replay_core.specs.Kept.{parts_of}
 use Rattle.esm_replay_core.proofs.Keeping.{IsStill, settled_of, still_is}
