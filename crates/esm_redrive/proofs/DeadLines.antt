@@ -46,7 +46,7 @@ front_is kind bytes none =
 
 -- a payload without a line feed, by what a reader of it gave
 
-alone : (fifo : Bool) (bytes : List ℕ) → list_any is_line_feed bytes ≡ false → dead_message fifo bytes ≡ message_read (read_after (kinds.Queue fifo) [] bytes)
+pub alone : (fifo : Bool) (bytes : List ℕ) → list_any is_line_feed bytes ≡ false → dead_message fifo bytes ≡ message_read (read_after (kinds.Queue fifo) [] bytes)
 alone fifo bytes none = cond-false (list_any is_line_feed bytes) None (message_read (read_after (kinds.Queue fifo) [] bytes)) none
 
 items_are : (fifo : Bool) (bytes : List ℕ) (items : List Item) → list_any is_line_feed bytes ≡ false → (input_so_far (kinds.Queue fifo) bytes).items ++ items ≡ (input_of (kinds.Queue fifo) bytes).items → (after_line nothing_read (read_after (kinds.Queue fifo) [] bytes)).items ≡ items

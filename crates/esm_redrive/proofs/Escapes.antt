@@ -32,7 +32,7 @@ no_letter : (b : ℕ) → 128 ≤ b → escape_letter b ≡ None
 no_letter b high =
     rw (ne_eqb b 34 (λ e. omega arith), ne_eqb b 92 (λ e. omega arith), ne_eqb b 8 (λ e. omega arith), ne_eqb b 12 (λ e. omega arith), ne_eqb b 10 (λ e. omega arith), ne_eqb b 13 (λ e. omega arith), ne_eqb b 9 (λ e. omega arith)) refl
 
-high_plain : (b : ℕ) → 128 ≤ b → escaped_byte b ≡ b ∷ []
+pub high_plain : (b : ℕ) → 128 ≤ b → escaped_byte b ≡ b ∷ []
 unfolding escaped_byte
 high_plain b high =
     ap (λ (o : Option ℕ). escaped_with o b) (no_letter b high)

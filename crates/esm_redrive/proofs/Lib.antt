@@ -4,3 +4,5 @@ pub mod ReadingBack
 pub mod Limits
 pub mod DeadLines
 pub mod PayloadIds
+pub mod OneLine
+pub mod GoingOn

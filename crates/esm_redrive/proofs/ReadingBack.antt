@@ -20,7 +20,10 @@ use Rattle.esm_record.specs.Line.{message_of}
 use Rattle.esm_model.specs.Items.{queue_kind}
 use Rattle.esm_record.specs.Input.{is_blank, read_after}
 use Rattle.esm_redrive_model.specs.DeadLetter.{dead_letter}
+use Rattle.esm_redrive.specs.DeadFile.{message_read}
 use Rattle.esm_redrive.specs.ReadsBack.{IsUtf8Message, ReadsBack}
+use Rattle.esm_redrive.proofs.DeadLines.{alone}
+use Rattle.esm_redrive.proofs.OneLine.{letter_clear}
 use Rattle.esm_redrive.proofs.Letters.{letter_text, letter_is, letter_members, letter_read, letter_utf8, group_length, letter_short}
 
 -- the fields of the object are those of the message
@@ -75,5 +78,7 @@ reads_back m utf8 fifo valid =
     let sent = valid.sent in
     let low : m.sent < 2 ^ 64 = omega (arith, sent) in
     let text = letter_text m.id m.body m.sent m.group in
-    ap (λ (line : List ℕ). read_after (kinds.Queue fifo) [] line) (letter_is m)
-    ∙ line_reads fifo text (object (letter_members m.id m.body m.sent m.group)) m (not_long fifo m valid) refl (is_utf8-from_IsUtf8 text (letter_utf8 m low utf8)) (letter_read m.id m.body m.sent m.group low) refl (fields_are fifo m.id m.body m.sent m.group valid)
+    let read = ap (λ (line : List ℕ). read_after (kinds.Queue fifo) [] line) (letter_is m)
+    ∙ line_reads fifo text (object (letter_members m.id m.body m.sent m.group)) m (not_long fifo m valid) refl (is_utf8-from_IsUtf8 text (letter_utf8 m low utf8)) (letter_read m.id m.body m.sent m.group low) refl (fields_are fifo m.id m.body m.sent m.group valid) in
+    let one_line = letter_clear m low in
+    record { read = read; one_line = one_line; found = alone fifo (dead_letter m) one_line ∙ ap message_read read }

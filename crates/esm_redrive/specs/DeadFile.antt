@@ -1,5 +1,5 @@
 -- The dead-letter file: the message of each of its payloads. This product's own.
-use Rattle.std.specs.Prelude.{◌≡◌, ℕ, ◌<◌, Bool, true, List, [], ◌∷◌, ◌++◌, filter_map, map, Option, Some, None, option_map, is_some, slice_get, Result, Ok, Err, if◌then◌else◌}
+use Rattle.std.specs.Prelude.{◌≡◌, ℕ, ◌<◌, Bool, true, List, [], ◌∷◌, ◌++◌, filter_map, map, Option, Some, None, option_map, is_some, length, slice_get, Result, Ok, Err, if◌then◌else◌}
 use Rattle.std.specs.List.{list_any}
 use Rattle.std.specs.String.{string_bytes}
 use Rattle.std.specs.BTreeSet.{BTreeSet, keys}
@@ -45,6 +45,11 @@ dead_ids fifo payloads = filter_map (dead_id fifo) payloads
 -- each of the first n payloads has a message
 abbrev pub AreLetters : Bool → List (List ℕ) → ℕ → Type 0
 AreLetters fifo payloads n = (j : ℕ) (payload : List ℕ) → j < n → slice_get payloads j ≡ Some payload → is_some (dead_message fifo payload) ≡ true
+
+-- behind the payloads that were found these lines are good too, and have these ids
+pub record GoesOnWith (fifo : Bool) (found lines ids : List (List ℕ)) : Type 0 where
+  pub letters : AreLetters fifo (found ++ lines) (length (found ++ lines))
+  pub ids_are : dead_ids fifo (found ++ lines) ≡ dead_ids fifo found ++ ids
 
 -- the payload at the place is the first that has none
 pub record IsFirstBad (fifo : Bool) (payloads : List (List ℕ)) (i : ℕ) : Type 0 where

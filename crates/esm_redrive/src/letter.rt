@@ -50,6 +50,17 @@ fn push_letter(out: &mut Vec<u8>, message: &Message) -> Result<(), OutOfMemory>
     Ok(())
 }
 
+/// The texts of a message are UTF-8. Does nothing.
+pub fn has_texts(message: &Message)
+    ensures { IsUtf8Message message.now }
+{
+    let _ = message.id.as_str();
+    let _ = message.body.as_str();
+    if let Some(group) = &message.group {
+        let _ = group.as_str();
+    }
+}
+
 /// The line of a dead letter, without its line feed: an input line of the message's queue, so that it can be fed again.
 pub fn dead_line(alloc: Global, message: &Message) -> Result<Vec<u8>, OutOfMemory>
     ensures text { IfOk result (λ line. line.items ≡ dead_letter message.now) }

@@ -9,5 +9,5 @@ mod letter;
 mod limited;
 
 pub use dead_file::{DeadFileError, DeadIds, dead_ids, dead_message};
-pub use letter::dead_line;
+pub use letter::{dead_line, has_texts};
 pub use limited::{LimitedQueue, MAX_RECEIVES};

@@ -126,7 +126,7 @@ not_failed_In failed k (x ∷ places) i member =
       ]
     ]
 
-succeeded_In : (r : QueueReading) (places : List ℕ) (i : ℕ) → In (succeeded_by r places) i → In places i
+pub succeeded_In : (r : QueueReading) (places : List ℕ) (i : ℕ) → In (succeeded_by r places) i → In places i
 succeeded_In NotRun places i member = absurd (In-none i member)
 succeeded_In Failed places i member = absurd (In-none i member)
 succeeded_In (Done failed) places i member = not_failed_In failed 0 places i member

@@ -165,7 +165,7 @@ more_of_these (Some x) b f e before own is = before e is
 more_of_these None true f e before own is = ap is_redrive_fate (sym (same_Some f e is)) ∙ own
 more_of_these None false f e before own is = absurd (none-some e is)
 
-given_these : (s : RedriveSetting) (h : List Entry) → LegalRedrive s h → (i : ℕ) (e : Fate) → given h 0 i ≡ Some e → is_redrive_fate e ≡ true
+pub given_these : (s : RedriveSetting) (h : List Entry) → LegalRedrive s h → (i : ℕ) (e : Fate) → given h 0 i ≡ Some e → is_redrive_fate e ≡ true
 given_these s [] legal i e is = absurd (none-some e is)
 given_these s (Gave by shard places f line state m ∷ h) legal i e is =
     more_of_these (given h 0 i) ((shard == 0) && holds places i) f e (given_these s h legal.0 i) (may_give_these s h by shard places f line state m legal.1.1) is

@@ -7,3 +7,5 @@ pub mod Counted
 pub mod MoreRedrive
 pub mod SameIds
 pub mod Calls
+pub mod Lined
+pub mod MovedByLine

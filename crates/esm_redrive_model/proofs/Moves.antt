@@ -84,7 +84,7 @@ no_line : (line : Option (List ℕ)) (by : Option LaneId) (shard : ℕ) (places 
 no_line None by shard places f state m is = refl
 no_line (Some line) by shard places f state m is = cc
 
-with_line : (line : Option (List ℕ)) (text : List ℕ) (by : Option LaneId) (shard : ℕ) (places : List ℕ) (f : Fate) (state : Option WindowState) (m : ℕ) → line ≡ Some text → lined_places (Gave by shard places f line state m) ≡ places
+pub with_line : (line : Option (List ℕ)) (text : List ℕ) (by : Option LaneId) (shard : ℕ) (places : List ℕ) (f : Fate) (state : Option WindowState) (m : ℕ) → line ≡ Some text → lined_places (Gave by shard places f line state m) ≡ places
 with_line None text by shard places f state m is = absurd (none-some text is)
 with_line (Some line) text by shard places f state m is = refl
 
@@ -117,7 +117,7 @@ adds_line s h (Shut m) legal = none refl refl
 lines_more : (h : List Entry) (e : Entry) → lines_of (e ∷ h) ≡ lines_of h ++ filter_map entry_line (e ∷ [])
 lines_more h e = ap (filter_map entry_line) (reverse-append (e ∷ []) h) ∙ filter_map-append entry_line (reverse h) (e ∷ [])
 
-abbrev lined_messages : RedriveSetting → Entry → List Message
+abbrev pub lined_messages : RedriveSetting → Entry → List Message
 lined_messages s e = filter_map (message_at s.queue) (lined_places e)
 
 only_message : (s : RedriveSetting) (e : Entry) (i : ℕ) (message : Message) → lined_places e ≡ i ∷ [] → message_at s.queue i ≡ Some message → lined_messages s e ≡ message ∷ []
@@ -140,10 +140,10 @@ lines_are s (e ∷ h) legal =
 
 -- ids
 
-abbrev id_of : Message → List ℕ
+abbrev pub id_of : Message → List ℕ
 id_of m = m.id
 
-ids_more : (s : RedriveSetting) (h : List Entry) (e : Entry) → moved_ids s (e ∷ h) ≡ moved_ids s h ++ map id_of (lined_messages s e)
+pub ids_more : (s : RedriveSetting) (h : List Entry) (e : Entry) → moved_ids s (e ∷ h) ≡ moved_ids s h ++ map id_of (lined_messages s e)
 ids_more s h e = ap (map id_of) (messages_more s h e) ∙ map-append id_of (moved_messages s h) (lined_messages s e)
 
 no_more : (s : RedriveSetting) (h : List Entry) (e : Entry) → lined_places e ≡ [] → moved_ids s (e ∷ h) ≡ moved_ids s h
@@ -152,16 +152,16 @@ no_more s h e places =
     ∙ (ap (λ (ps : List ℕ). moved_ids s h ++ map id_of (filter_map (message_at s.queue) ps)) places
     ∙ append-nil (moved_ids s h))
 
-one_more : (s : RedriveSetting) (h : List Entry) (e : Entry) (i : ℕ) (message : Message) → lined_places e ≡ i ∷ [] → message_at s.queue i ≡ Some message → moved_ids s (e ∷ h) ≡ moved_ids s h ++ message.id ∷ []
+pub one_more : (s : RedriveSetting) (h : List Entry) (e : Entry) (i : ℕ) (message : Message) → lined_places e ≡ i ∷ [] → message_at s.queue i ≡ Some message → moved_ids s (e ∷ h) ≡ moved_ids s h ++ message.id ∷ []
 one_more s h e i message places at = ids_more s h e ∙ ap (λ (ms : List Message). moved_ids s h ++ map id_of ms) (only_message s e i message places at)
 
 -- the message of an id of a list of places
-record HasId (s : QueueSetting) (places : List ℕ) (id : List ℕ) : Type 0 where
-  place : ℕ
-  message : Message
-  member : In places place
-  is_there : message_at s place ≡ Some message
-  id_is : message.id ≡ id
+pub record HasId (s : QueueSetting) (places : List ℕ) (id : List ℕ) : Type 0 where
+  pub place : ℕ
+  pub message : Message
+  pub member : In places place
+  pub is_there : message_at s place ≡ Some message
+  pub id_is : message.id ≡ id
 
 later_place : (s : QueueSetting) (p : ℕ) (places : List ℕ) (id : List ℕ) → HasId s places id → HasId s (p ∷ places) id
 later_place s p places id found = record { place = found.place; message = found.message; member = In-there p places found.place found.member; is_there = found.is_there; id_is = found.id_is }
@@ -173,7 +173,7 @@ first_place s p places None is rest k id at = later_place s p places id (rest k 
 first_place s p places (Some message) is rest zero id at = record { place = p; message = message; member = In-here p places p refl; is_there = is; id_is = same_Some message.id id at }
 first_place s p places (Some message) is rest (suc k) id at = later_place s p places id (rest k id at)
 
-place_of : (s : QueueSetting) (places : List ℕ) (k : ℕ) (id : List ℕ) → slice_get (map id_of (filter_map (message_at s) places)) k ≡ Some id → HasId s places id
+pub place_of : (s : QueueSetting) (places : List ℕ) (k : ℕ) (id : List ℕ) → slice_get (map id_of (filter_map (message_at s) places)) k ≡ Some id → HasId s places id
 place_of s [] k id at = absurd (none-some id at)
 place_of s (p ∷ places) k id at = first_place s p places (message_at s p) refl (place_of s places) k id at
 
@@ -257,7 +257,7 @@ once_more_id ids x each fresh i j id at_i at_j =
       ]
     ]
 
-id_there : (messages : List Message) (i : ℕ) (m : Message) (id : List ℕ) → slice_get messages i ≡ Some m → m.id ≡ id → slice_get (map id_of messages) i ≡ Some id
+pub id_there : (messages : List Message) (i : ℕ) (m : Message) (id : List ℕ) → slice_get messages i ≡ Some m → m.id ≡ id → slice_get (map id_of messages) i ≡ Some id
 id_there messages i m id at is = slice_get-map id_of messages i ∙ (ap (option_map id_of) at ∙ ap Some is)
 
 -- the id of a message that waits is not among those that were moved

@@ -4,4 +4,5 @@ pub mod Due
 pub mod RedriveStep
 pub mod RedriveReport
 pub mod RedriveLaws
+pub mod RedriveLines
 pub mod WorkedRedrives

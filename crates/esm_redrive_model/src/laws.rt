@@ -1,13 +1,17 @@
 //! What holds of every legal history of a redrive, each as the contract of a function that does nothing.
 //! A history is written newest entry first.
-ghost use Rattle.std.specs.Prelude.{ℕ, ◌≤◌, List};
+ghost use Rattle.std.specs.Prelude.{◌≡◌, ℕ, ◌≤◌, List, [], ◌∷◌, Some};
 ghost use Rattle.esm_model.specs.declared.item.Message.{Message};
 ghost use Rattle.esm_model.specs.declared.entry.Entry.{Entry};
+ghost use Rattle.esm_model.specs.Books.{entry_line};
 ghost use Rattle.esm_queue_model.specs.declared.stored.TheConstants.{MAX_COUNT};
 ghost use Rattle.esm_queue_model.specs.QueueSetting.{ExtendsMessages};
 ghost use Rattle.esm_redrive_model.specs.RedriveSetting.{RedriveSetting, HaveSameIds, redrive_over};
+ghost use Rattle.esm_redrive_model.specs.Due.{known};
 ghost use Rattle.esm_redrive_model.specs.RedriveStep.{LegalRedrive};
-ghost use Rattle.esm_redrive_model.specs.RedriveLaws.{FoundForThese, EachHasOneEnd, MovedOnce, MovedAfterReceives, ReceivedAtMost, CallsAreFew, ReceivesAreCounted, IsSameOver};
+ghost use Rattle.esm_redrive_model.specs.RedriveLines.{FoundMovesAreLined, MovedWhereLined, LinedAfterReceives, LeavesMovesLined, AddsOnce, IsLineOfDue};
+ghost use Rattle.esm_redrive_model.specs.RedriveLaws.{FoundForThese, EachHasOneEnd, HaveDifferentIds, MovedOnce};
+ghost use Rattle.esm_redrive_model.specs.RedriveLaws.{MovedAfterReceives, ReceivedAtMost, CallsAreFew, ReceivesAreCounted, IsSameOver};
 
 /// Each message that came is exactly one of waiting, succeeded, filtered and moved, where the journal tells of deletions
 /// for these reasons alone.
@@ -24,6 +28,36 @@ pub fn moved_once()
 /// A message is moved only after it was received in this history as often as it may be.
 pub fn moved_after_receives()
     ensures { (s : RedriveSetting) (h : List Entry) → LegalRedrive s h → MovedAfterReceives s h }
+{}
+
+/// A line is that of the first message that is due when it is added.
+pub fn line_of_due()
+    ensures { (s : RedriveSetting) (h : List Entry) (e : Entry) (line : List ℕ) → LegalRedrive s (e ∷ h) → entry_line e ≡ Some line →
+        IsLineOfDue s h e line }
+{}
+
+/// A message of which a line is added was received in this history as often as it may be.
+pub fn lined_after_receives()
+    ensures { (s : RedriveSetting) (h : List Entry) → LegalRedrive s h → LinedAfterReceives s h }
+{}
+
+/// Where each message that waits has no line that was found, a message that came is moved exactly where its line stands in the
+/// dead-letter file and it was not found deleted for another reason. The file that was found has a line for each message that
+/// the journal told to be moved, and the messages have different ids.
+pub fn moved_where_lined()
+    ensures { (s : RedriveSetting) (h : List Entry) → FoundMovesAreLined s → HaveDifferentIds s.queue.messages →
+        LegalRedrive s h → known s h ≡ [] → MovedWhereLined s h }
+{}
+
+/// What a redrive adds to its journal and to its dead-letter file is as the next one has to find it.
+pub fn leaves_moves_lined()
+    ensures { (s : RedriveSetting) (h : List Entry) → LegalRedrive s h → LeavesMovesLined s h }
+{}
+
+/// Over redrives one after the other an id stands in at most one line that they added.
+pub fn adds_once()
+    ensures { (s : RedriveSetting) (h : List Entry) (earlier : List (List ℕ)) → HaveDifferentIds s.queue.messages →
+        LegalRedrive s h → AddsOnce s h earlier }
 {}
 
 /// No message is received more often than it may be.

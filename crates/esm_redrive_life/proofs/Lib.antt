@@ -1,0 +1,4 @@
+pub mod Rising
+pub mod Saying
+pub mod Recorded
+pub mod Lives
