@@ -18,7 +18,8 @@ use Rattle.esm_model.specs.Entries.{is_shut, last_moment}
 use Rattle.esm_model.specs.Step.{IsLater}
 use Rattle.esm_book.specs.Decided.{written_of}
 use Rattle.esm_book.specs.Growth.{HasGrown, LeavesFronts}
-use Rattle.esm_book.specs.State.{in_hand}
+use Rattle.esm_book.specs.Hand.{is_end}
+use Rattle.esm_book.specs.State.{in_hand, in_delivery}
 use Rattle.esm_queue_core.specs.CoreView.{moment_for}
 use Rattle.esm_queue_model.specs.QueueSetting.{ExtendsMessages}
 use Rattle.esm_redrive_model.specs.RedriveSetting.{RedriveSetting, redrive_over}
@@ -32,8 +33,8 @@ use Rattle.esm_redrive_core.specs.RedriveView.{RedriveView, all_messages, owing,
 use Rattle.esm_redrive_core.specs.Sound.{Sound, ShutIsSound}
 use Rattle.esm_redrive_core.specs.Told.{redrive_entry, redrive_entries, owed_of, Decides, MayAsk, Refuses, coming_by, entries_by}
 use Rattle.esm_redrive_book.specs.Books.{BookState, payload_in, line_in, redrive_meaning}
-use Rattle.esm_redrive_book.specs.Calls.{Added, AddedSome, AddedOne, IsSame, WasWriting, hand_of}
-use Rattle.esm_redrive_book.specs.Keeping.{FollowsFront, IsSorted, IsSound, is_end}
+use Rattle.esm_redrive_book.specs.Calls.{Added, AddedSome, AddedOne, IsSame, WasWriting, hand_of, tried_of}
+use Rattle.esm_redrive_book.specs.Keeping.{FollowsFront, IsSorted, IsSound}
 use Rattle.esm_redrive_book.specs.Carried.{messages_by, CarriedAll, CarriedSome, Undelivered, FoundChange, CarriedNone, Noted}
 use Rattle.esm_redrive_book.proofs.Entries.{entry_in, both_none, owed_entries, parted, parts_are, take-entries}
 use Rattle.esm_redrive_book.proofs.Bringing.{payload_first, line_first, IsSilent, silent_no_line}
@@ -57,6 +58,20 @@ none_in_hand why owed e none some =
     let never : e ∷ (first_in_hand why owed e some).0 ≡ [] = sym first ∙ none in
     absurd (cc)
 
+-- and so is one whose line was being delivered
+first_in_delivery : (why : Option Trouble) (owed : List Entry) (e : Entry) → in_delivery why owed ≡ e ∷ [] → (more : List Entry) × (owed ≡ e ∷ more)
+first_in_delivery None owed e some = absurd (cc)
+first_in_delivery (Some Disk) owed e some = absurd (cc)
+first_in_delivery (Some Dest) [] e some = absurd (cc)
+first_in_delivery (Some Dest) (x ∷ owed) e some = (owed, cc)
+first_in_delivery (Some (Changed change)) owed e some = absurd (cc)
+
+pub none_in_delivery : (why : Option Trouble) (owed : List Entry) (e : Entry) → owed ≡ [] → in_delivery why owed ≡ e ∷ [] → ⊥
+none_in_delivery why owed e none some =
+    let first = first_in_delivery why owed e some in
+    let never : e ∷ first.0 ≡ [] = sym first.1 ∙ none in
+    absurd (cc)
+
 -- of a change nothing was being written
 was_no_change : (rest : List RedriveEntry) (why : Trouble) (change : Change) → Some why ≡ Some (Changed change) → WasWriting why rest → ⊥
 was_no_change rest Disk change is was = absurd (cc)
@@ -65,14 +80,16 @@ was_no_change rest (Changed other) change is was = was
 
 module _ {D T : Type 0} (m : DiskMeaning D) (n : DestMeaning T) (old new : BookState D T) (asked : RedriveCall) (X : List RedriveEntry) (went : Went old.core new.core X) (ahead : SoundAhead (owing old.core (coming_by asked) (entries_by old.core asked))) where
   -- the first of what it decided was added
-  added_front : (front rest : List Entry) (hand : List RedriveEntry) (before : List Entry) → X ≡ redrive_entries (messages_by old.core asked) front → front ++ rest ≡ entries_by old.core asked → comes_first rest ≡ false → hand ≡ redrive_entries (messages_by old.core asked) before
-      → HasGrown redrive_meaning m n old.pair new.pair old.dest new.dest X hand → LeavesFronts redrive_meaning m n old.pair new.pair old.dest new.dest (X ++ hand) → new.found ≡ old.found → new.found_dest ≡ old.found_dest
-      → Added m n (messages_by old.core asked) old new front (redrive_entries (messages_by old.core asked) before)
-  added_front front rest hand before is split first in_hand grown leaves found found_dest = record {
+  added_front : (front rest : List Entry) (hand tried : List RedriveEntry) (before behind : List Entry) → X ≡ redrive_entries (messages_by old.core asked) front → front ++ rest ≡ entries_by old.core asked → comes_first rest ≡ false
+      → hand ≡ redrive_entries (messages_by old.core asked) before → tried ≡ redrive_entries (messages_by old.core asked) behind
+      → HasGrown redrive_meaning m n old.pair new.pair old.dest new.dest X hand tried → LeavesFronts redrive_meaning m n old.pair new.pair old.dest new.dest (X ++ hand) → new.found ≡ old.found → new.found_dest ≡ old.found_dest
+      → Added m n (messages_by old.core asked) old new front (redrive_entries (messages_by old.core asked) before) (redrive_entries (messages_by old.core asked) behind)
+  added_front front rest hand tried before behind is split first in_hand was_tried grown leaves found found_dest = record {
     past = past_some old.core new.core X went (messages_by old.core asked) front is;
     setting = setting_some old.core new.core X went asked front rest is split first;
-    grown = subst (λ (ys : List RedriveEntry). HasGrown redrive_meaning m n old.pair new.pair old.dest new.dest (redrive_entries (messages_by old.core asked) front) ys) in_hand
-        (subst (λ (xs : List RedriveEntry). HasGrown redrive_meaning m n old.pair new.pair old.dest new.dest xs hand) is grown);
+    grown = subst (λ (zs : List RedriveEntry). HasGrown redrive_meaning m n old.pair new.pair old.dest new.dest (redrive_entries (messages_by old.core asked) front) (redrive_entries (messages_by old.core asked) before) zs) was_tried
+        (subst (λ (ys : List RedriveEntry). HasGrown redrive_meaning m n old.pair new.pair old.dest new.dest (redrive_entries (messages_by old.core asked) front) ys tried) in_hand
+        (subst (λ (xs : List RedriveEntry). HasGrown redrive_meaning m n old.pair new.pair old.dest new.dest xs hand tried) is grown));
     images = subst (λ (xs : List RedriveEntry). LeavesFronts redrive_meaning m n old.pair new.pair old.dest new.dest xs) (ap₂ (λ (xs ys : List RedriveEntry). xs ++ ys) is in_hand) leaves;
     found = found;
     found_dest = found_dest;
@@ -109,14 +126,14 @@ module _ {D T : Type 0} (m : DiskMeaning D) (n : DestMeaning T) (old new : BookS
 
   -- it is carried out whole
   pub carried_all : (given : RedriveAnswer) → Decides old.core asked given X → new.core.owed ≡ [] → new.trouble ≡ old.trouble → old.trouble ≡ None → (X ≡ [] → (new.pair ≡ old.pair) × (new.dest ≡ old.dest))
-      → HasGrown redrive_meaning m n old.pair new.pair old.dest new.dest X [] → LeavesFronts redrive_meaning m n old.pair new.pair old.dest new.dest (X ++ []) → new.found ≡ old.found → new.found_dest ≡ old.found_dest → PairKeepsWhileUp m new.pair → (new.trouble ≡ None → new.pair.down ≡ false)
+      → HasGrown redrive_meaning m n old.pair new.pair old.dest new.dest X [] [] → LeavesFronts redrive_meaning m n old.pair new.pair old.dest new.dest (X ++ []) → new.found ≡ old.found → new.found_dest ≡ old.found_dest → PairKeepsWhileUp m new.pair → (new.trouble ≡ None → new.pair.down ≡ false)
       → CarriedAll m n old new asked given
   carried_all given decides owed same none_before quiet grown leaves found found_dest kept up =
       let es = entries_by old.core asked in
       let ms = messages_by old.core asked in
       let is = decides.entries_are in
       let split : es ++ [] ≡ es = append-nil es in
-      let added = added_front es [] [] [] is split refl refl grown leaves found found_dest in
+      let added = added_front es [] [] [] [] [] is split refl refl refl grown leaves found found_dest in
       let settled : SettledRedrive new.core.setting new.core.past =
       subst (λ (t : RedriveSetting). SettledRedrive t new.core.past) (sym added.setting) (subst (SettledRedrive (redrive_over old.core.setting ms)) (sym added.past) (decided_after old.core asked ahead).settled) in
       record {
@@ -134,17 +151,19 @@ module _ {D T : Type 0} (m : DiskMeaning D) (n : DestMeaning T) (old new : BookS
           settled = λ up. settled;
           changed = λ change so. absurd (cc (sym so ∙ (same ∙ none_before)));
           hand = λ e some. absurd (none_in_hand new.trouble new.core.owed e owed some);
+          tried = λ e some. absurd (none_in_delivery new.trouble new.core.owed e owed some);
           none_owed = λ up. owed;
           none_coming = ap comes_first owed;
         };
       }
 
   -- a device failed in it
-  pub added_some : (given : RedriveAnswer) (trouble : Trouble) (hand : List RedriveEntry) → Decides old.core asked given (X ++ owed_of new.core) → new.trouble ≡ Some trouble
-      → WasWriting trouble (redrive_entries (messages_by old.core asked) new.core.owed) → comes_first new.core.owed ≡ false → hand ≡ redrive_entries (messages_by old.core asked) (hand_of trouble new.core.owed)
-      → HasGrown redrive_meaning m n old.pair new.pair old.dest new.dest X hand → LeavesFronts redrive_meaning m n old.pair new.pair old.dest new.dest (X ++ hand) → new.found ≡ old.found → new.found_dest ≡ old.found_dest
+  pub added_some : (given : RedriveAnswer) (trouble : Trouble) (hand tried : List RedriveEntry) → Decides old.core asked given (X ++ owed_of new.core) → new.trouble ≡ Some trouble
+      → WasWriting trouble (redrive_entries (messages_by old.core asked) new.core.owed) → comes_first new.core.owed ≡ false
+      → hand ≡ redrive_entries (messages_by old.core asked) (hand_of trouble new.core.owed) → tried ≡ redrive_entries (messages_by old.core asked) (tried_of trouble new.core.owed)
+      → HasGrown redrive_meaning m n old.pair new.pair old.dest new.dest X hand tried → LeavesFronts redrive_meaning m n old.pair new.pair old.dest new.dest (X ++ hand) → new.found ≡ old.found → new.found_dest ≡ old.found_dest
       → AddedSome m n (messages_by old.core asked) old new (entries_by old.core asked) trouble × IsSound new
-  added_some given trouble hand decides is writing first in_hand grown leaves found found_dest =
+  added_some given trouble hand tried decides is writing first in_hand was_tried grown leaves found found_dest =
       let es = entries_by old.core asked in
       let ms = messages_by old.core asked in
       let front = map entry_in X in
@@ -156,7 +175,7 @@ module _ {D T : Type 0} (m : DiskMeaning D) (n : DestMeaning T) (old new : BookS
           rest = rest;
           split = split;
           writing = writing;
-          added = added_front front rest hand (hand_of trouble rest) fronts split first in_hand grown leaves found found_dest;
+          added = added_front front rest hand tried (hand_of trouble rest) (tried_of trouble rest) fronts split first in_hand was_tried grown leaves found found_dest;
           owed = refl;
           trouble_is = is;
         },
@@ -165,6 +184,7 @@ module _ {D T : Type 0} (m : DiskMeaning D) (n : DestMeaning T) (old new : BookS
           settled = λ up. absurd (cc (sym is ∙ up));
           changed = λ change so. absurd (was_no_change (redrive_entries ms rest) trouble change (sym is ∙ so) writing);
           hand = λ e some. (let owed = first_in_hand new.trouble rest e some in first_follows front rest owed.0 e fronts split first owed.1);
+          tried = λ e some. (let owed = first_in_delivery new.trouble rest e some in first_follows front rest owed.0 e fronts split first owed.1);
           none_owed = λ up. absurd (cc (sym is ∙ up));
           none_coming = first;
         },
@@ -178,22 +198,22 @@ module _ {D T : Type 0} (m : DiskMeaning D) (n : DestMeaning T) (old new : BookS
 
   -- a disk failed in it
   pub carried_some : (given : RedriveAnswer) → Decides old.core asked given (X ++ owed_of new.core) → new.trouble ≡ Some Disk → 0 < length (written_of payload_in (take 1 (owed_of new.core)))
-      → HasGrown redrive_meaning m n old.pair new.pair old.dest new.dest X (take 1 (owed_of new.core)) → LeavesFronts redrive_meaning m n old.pair new.pair old.dest new.dest (X ++ take 1 (owed_of new.core)) → new.found ≡ old.found → new.found_dest ≡ old.found_dest → Rose (m.faults old.pair.used) (m.faults new.pair.used)
+      → HasGrown redrive_meaning m n old.pair new.pair old.dest new.dest X (take 1 (owed_of new.core)) [] → LeavesFronts redrive_meaning m n old.pair new.pair old.dest new.dest (X ++ take 1 (owed_of new.core)) → new.found ≡ old.found → new.found_dest ≡ old.found_dest → Rose (m.faults old.pair.used) (m.faults new.pair.used)
       → CarriedSome m n old new asked
   carried_some given decides is writing grown leaves found found_dest cause =
       let ms = messages_by old.core asked in
       let was : WasWriting Disk (redrive_entries ms new.core.owed) = subst (λ (xs : List RedriveEntry). 0 < length (written_of payload_in (take 1 xs))) (owed_is given decides) writing in
-      let so = added_some given Disk (take 1 (owed_of new.core)) decides is was (payload_first ms new.core.owed was) (first_owed given decides) grown leaves found found_dest in
+      let so = added_some given Disk (take 1 (owed_of new.core)) [] decides is was (payload_first ms new.core.owed was) (first_owed given decides) refl grown leaves found found_dest in
       record { added = so.0; cause = cause; given = given; answer_is = decides.answer_is; sound = so.1 }
 
   -- the dead-letter file failed in it
   pub undelivered : (given : RedriveAnswer) → Decides old.core asked given (X ++ owed_of new.core) → new.trouble ≡ Some Dest → 0 < length (written_of line_in (take 1 (owed_of new.core)))
-      → HasGrown redrive_meaning m n old.pair new.pair old.dest new.dest X [] → LeavesFronts redrive_meaning m n old.pair new.pair old.dest new.dest (X ++ []) → new.found ≡ old.found → new.found_dest ≡ old.found_dest → Rose (n.faults old.dest) (n.faults new.dest)
+      → HasGrown redrive_meaning m n old.pair new.pair old.dest new.dest X [] (take 1 (owed_of new.core)) → LeavesFronts redrive_meaning m n old.pair new.pair old.dest new.dest (X ++ []) → new.found ≡ old.found → new.found_dest ≡ old.found_dest → Rose (n.faults old.dest) (n.faults new.dest)
       → Undelivered m n old new asked
   undelivered given decides is writing grown leaves found found_dest cause =
       let ms = messages_by old.core asked in
       let was : WasWriting Dest (redrive_entries ms new.core.owed) = subst (λ (xs : List RedriveEntry). 0 < length (written_of line_in (take 1 xs))) (owed_is given decides) writing in
-      let so = added_some given Dest [] decides is was (line_first ms new.core.owed was) refl grown leaves found found_dest in
+      let so = added_some given Dest [] (take 1 (owed_of new.core)) decides is was (line_first ms new.core.owed was) refl (first_owed given decides) grown leaves found found_dest in
       record { added = so.0; cause = cause; sound = so.1 }
 
 -- where no line is to be delivered the dead-letter file does not fail
@@ -218,7 +238,7 @@ all_delivered m n old new asked is ended =
 pub carried_none : {D T : Type 0} (n : DestMeaning T) (old new : BookState D T) → IsSound old → IsSame n old new → CarriedNone n old new
 carried_none {D} {T} n old new sound same =
     let roomy : BookState D T = record old { pair = record old.pair { room = new.pair.room }; dest = new.dest } in
-    let kept : IsSound roomy = record { legal = sound.legal; settled = sound.settled; changed = sound.changed; hand = sound.hand; none_owed = sound.none_owed; none_coming = sound.none_coming } in
+    let kept : IsSound roomy = record { legal = sound.legal; settled = sound.settled; changed = sound.changed; hand = sound.hand; tried = sound.tried; none_owed = sound.none_owed; none_coming = sound.none_coming } in
     record { same = same; sound = subst IsSound (sym same.rest) kept }
 
 -- it brought a change
@@ -237,6 +257,7 @@ found_change {D} {T} old new asked change sound up may refuses is =
       settled = λ none. absurd (cc);
       changed = λ other so. sorted_before old asked change sound up may refuses;
       hand = λ e some. absurd (cc);
+      tried = λ e some. absurd (cc);
       none_owed = λ none. absurd (cc);
       none_coming = sound.none_coming;
     } in
@@ -276,6 +297,8 @@ module _ {D T : Type 0} (old new : BookState D T) (e : Entry) (X : List RedriveE
         changed = λ change so. subst (λ (t : RedriveSetting). IsSorted t new.core.past) (sym added.setting) (subst (IsSorted old.core.setting) (sym added.past) (changed change (sym same ∙ so)));
         hand = λ x some. subst (λ (t : RedriveSetting). FollowsFront t new.core.past x) (sym added.setting)
             (subst (λ (h : List Entry). FollowsFront old.core.setting h x) (sym added.past) (follows_on old.core.setting old.core.past e x ends (sound.hand x (sym (ap₂ (λ (why : Option Trouble) (es : List Entry). in_hand why es) same added.owed) ∙ some))));
+        tried = λ x some. subst (λ (t : RedriveSetting). FollowsFront t new.core.past x) (sym added.setting)
+            (subst (λ (h : List Entry). FollowsFront old.core.setting h x) (sym added.past) (follows_on old.core.setting old.core.past e x ends (sound.tried x (sym (ap₂ (λ (why : Option Trouble) (es : List Entry). in_delivery why es) same added.owed) ∙ some))));
         none_owed = λ up. added.owed ∙ sound.none_owed (sym same ∙ up);
         none_coming = ap comes_first added.owed ∙ sound.none_coming;
       }

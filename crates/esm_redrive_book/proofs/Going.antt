@@ -1,19 +1,20 @@
 -- What the layer over devices tells of a call, in the words of redrives.
-use Rattle.std.proofs.Common.{◌≡◌, List, [], ◌∷◌, ◌++◌, map, reverse, refl, sym, ap, ◌∙◌, subst, append_assoc, append-nil}
-use Rattle.std.proofs.lemmas.List.{map-append, reverse-append}
+use Rattle.std.proofs.Common.{◌≡◌, List, [], ◌∷◌, ◌++◌, reverse, sym, ap, ◌∙◌, subst, append_assoc, append-nil}
+use Rattle.std.proofs.lemmas.List.{reverse-append}
 use Rattle.std.specs.Prelude.{false}
 use Rattle.esm_model.specs.declared.item.Message.{Message}
 use Rattle.esm_model.specs.declared.entry.Entry.{Entry}
-use Rattle.esm_model.specs.declared.setup.Told.{Told}
-use Rattle.esm_queue_model.specs.QueueBooks.{messages_with, messages_told}
+use Rattle.esm_queue_model.specs.QueueBooks.{messages_told}
 use Rattle.esm_redrive_model.specs.RedriveSetting.{RedriveSetting, redrive_over}
 use Rattle.esm_redrive_model.specs.RedriveStep.{LegalRedrive}
+use Rattle.esm_queue_core.proofs.ToldMessages.{messages-append}
+use Rattle.esm_redrive_core.proofs.Telling.{told-append}
 use Rattle.esm_redrive_core.specs.declared.decisions.RedriveCall.{RedriveCall}
 use Rattle.esm_redrive_core.specs.declared.decisions.RedriveEntry.{RedriveEntry}
 use Rattle.esm_redrive_core.specs.declared.decisions.RedriveOpened.{RedriveOpened}
 use Rattle.esm_redrive_core.specs.Ahead.{IsConsistent, comes_first}
 use Rattle.esm_redrive_core.specs.RedriveView.{RedriveView}
-use Rattle.esm_redrive_core.specs.Told.{redrive_entry, redrive_entries, history_of, opened, told_entries, told_of, coming_by, entries_by}
+use Rattle.esm_redrive_core.specs.Told.{redrive_entries, history_of, opened, told_entries, told_of, coming_by, entries_by}
 use Rattle.esm_redrive_book.specs.Carried.{messages_by}
 use Rattle.esm_redrive_book.proofs.Entries.{past_grows, told_grows}
 use Rattle.esm_redrive_book.proofs.Bringing.{all_brought, late_quiet, none_told, rest_quiet}
@@ -39,17 +40,6 @@ pub record Went (v w : RedriveView) (X : List RedriveEntry) : Type 0 where
   pub origin : opened w ≡ opened v
   pub before : IsConsistent v
   pub after : IsConsistent w
-
-messages-append : (history more : List Told) → messages_told (history ++ more) ≡ messages_told history ++ messages_told more
-messages-append [] more = refl
-messages-append (t ∷ history) more =
-    ap (λ (ms : List Message). messages_with t.messages t.entry ++ ms) (messages-append history more)
-    ∙ sym (append_assoc (messages_with t.messages t.entry) (messages_told history) (messages_told more))
-
-told-append : (messages : List Message) (es more : List Entry) → told_entries messages (es ++ more) ≡ told_entries messages es ++ told_entries messages more
-told-append messages es more =
-    ap (map (λ (x : RedriveEntry). x.told)) (map-append (redrive_entry messages) es more)
-    ∙ map-append (λ (x : RedriveEntry). x.told) (redrive_entries messages es) (redrive_entries messages more)
 
 module _ (v w : RedriveView) (X : List RedriveEntry) (went : Went v w X) where
   -- the messages after it are those before, and then those that the entries tell

@@ -1,5 +1,5 @@
 -- A book in which no message came; the call that runs after a batcher's; and a list that is taken, which brings no change.
-use Rattle.std.proofs.Common.{◌≡◌, ℕ, ◌+◌, true, List, [], ◌∷◌, ◌++◌, length, reverse, refl, sym, ap, ◌∙◌, subst, arith}
+use Rattle.std.proofs.Common.{◌≡◌, ℕ, ◌+◌, true, List, [], ◌∷◌, ◌++◌, length, reverse, refl, sym, ap, ◌∙◌, subst}
 use Rattle.std.proofs.lemmas.Option.{slice_get_within}
 use Rattle.esm_io.specs.Meanings.{DiskMeaning, DestMeaning}
 use Rattle.esm_model.specs.declared.item.Message.{Message}
@@ -26,12 +26,13 @@ use Rattle.esm_redrive_core.specs.Ahead.{comes_first}
 use Rattle.esm_redrive_core.specs.RedriveView.{RedriveView, IsRunningJob}
 use Rattle.esm_redrive_core.specs.Refusing.{IsFirstChange}
 use Rattle.esm_redrive_core.specs.Told.{IsAnswer, Refuses}
+use Rattle.esm_redrive_core.proofs.Keeping.{same_lane-refl}
 use Rattle.esm_redrive_core.proofs.Stepping.{kept_id}
 use Rattle.esm_redrive_book.specs.Books.{BookState}
 use Rattle.esm_redrive_book.specs.Calls.{RunsCall}
 use Rattle.esm_redrive_book.specs.Carried.{CarriedAll, CarriedSome}
 use Rattle.esm_redrive_book.specs.Keeping.{IsSorted, IsSound}
-use Rattle.esm_redrive_book.proofs.Ending.{none_in_hand}
+use Rattle.esm_redrive_book.proofs.Ending.{none_in_hand, none_in_delivery}
 
 -- a book in which no message came
 pub sound_new : {D T : Type 0} (b : BookState D T) → b.core.past ≡ [] → b.core.owed ≡ [] → IsSound b
@@ -40,14 +41,12 @@ sound_new {D} {T} b none settled = record {
   settled = λ up. subst (SettledRedrive b.core.setting) (sym none) (record { recorded = refl; sorted = refl; paid = refl });
   changed = λ change so. subst (IsSorted b.core.setting) (sym none) (record { going = refl; recorded = refl; sorted = refl });
   hand = λ e some. absurd (none_in_hand b.trouble b.core.owed e settled some);
+  tried = λ e some. absurd (none_in_delivery b.trouble b.core.owed e settled some);
   none_owed = λ up. settled;
   none_coming = ap comes_first settled;
 }
 
 -- a call that begins runs
-
-same_lane-refl : (lane : LaneId) → same_lane lane lane ≡ true
-same_lane-refl lane = grind arith
 
 runs_of : (s : QueueSetting) (h now : List Entry) (m : ℕ) (n : Next) → next_for s h 0 m ≡ n → now ≡ reverse (next_entries n m) ++ h → RunsCall now n
 runs_of s h now m (next.Call job) is added =

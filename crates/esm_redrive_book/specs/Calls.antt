@@ -18,18 +18,19 @@ use Rattle.esm_redrive_core.specs.Told.{redrive_entries}
 use Rattle.esm_redrive_book.specs.Books.{BookState, payload_in, line_in, redrive_meaning}
 
 -- These entries, oldest first, were added to the history over these messages, which are all that came; their lines and
--- payloads were written. What the book was opened with stays.
-pub record Added {D T : Type 0} (m : DiskMeaning D) (n : DestMeaning T) (messages : List Message) (old new : BookState D T) (es : List Entry) (hand : List RedriveEntry) : Type 0 where
+-- payloads were written. Beyond them the payload of the entry in hand may stand, and the line of the one that was tried. What
+-- the book was opened with stays.
+pub record Added {D T : Type 0} (m : DiskMeaning D) (n : DestMeaning T) (messages : List Message) (old new : BookState D T) (es : List Entry) (hand tried : List RedriveEntry) : Type 0 where
   pub past : new.core.past ≡ reverse es ++ old.core.past
   pub setting : new.core.setting ≡ redrive_over old.core.setting messages
-  pub grown : HasGrown redrive_meaning m n old.pair new.pair old.dest new.dest (redrive_entries messages es) hand
+  pub grown : HasGrown redrive_meaning m n old.pair new.pair old.dest new.dest (redrive_entries messages es) hand tried
   pub images : LeavesFronts redrive_meaning m n old.pair new.pair old.dest new.dest (redrive_entries messages es ++ hand)
   pub found : new.found ≡ old.found
   pub found_dest : new.found_dest ≡ old.found_dest
 
 -- All that a call was to add was added. Where it added nothing, no device was called.
 pub record AddedAll {D T : Type 0} (m : DiskMeaning D) (n : DestMeaning T) (messages : List Message) (old new : BookState D T) (es : List Entry) : Type 0 where
-  pub added : Added m n messages old new es []
+  pub added : Added m n messages old new es [] []
   pub settled : new.core.owed ≡ []
   pub trouble : new.trouble ≡ None
   pub quiet : es ≡ [] → (new.pair ≡ old.pair) × (new.dest ≡ old.dest)
@@ -42,6 +43,12 @@ abbrev pub hand_of : Trouble → List Entry → List Entry
 hand_of Disk rest = take 1 rest
 hand_of Dest rest = []
 hand_of (Changed change) rest = []
+
+-- the entry whose line may stand in the dead-letter file though it was not told: the first of the rest, where the file failed
+abbrev pub tried_of : Trouble → List Entry → List Entry
+tried_of Disk rest = []
+tried_of Dest rest = take 1 rest
+tried_of (Changed change) rest = []
 
 -- the first of the rest has what the device was to take
 abbrev pub WasWriting : Trouble → List RedriveEntry → Type 0
@@ -56,7 +63,7 @@ pub record AddedSome {D T : Type 0} (m : DiskMeaning D) (n : DestMeaning T) (mes
   pub rest : List Entry
   pub split : front ++ rest ≡ es
   pub writing : WasWriting trouble (redrive_entries messages rest)
-  pub added : Added m n messages old new front (redrive_entries messages (hand_of trouble rest))
+  pub added : Added m n messages old new front (redrive_entries messages (hand_of trouble rest)) (redrive_entries messages (tried_of trouble rest))
   pub owed : new.core.owed ≡ rest
   pub trouble_is : new.trouble ≡ Some trouble
 

@@ -1,13 +1,12 @@
 -- What is true of every book of a redrive, whoever made its calls. This product's own.
-use Rattle.std.specs.Prelude.{◌≡◌, ◌++◌, Bool, true, false, List, [], ◌∷◌, Option, Some, None, reverse}
-use Rattle.std.specs.List.{list_all}
+use Rattle.std.specs.Prelude.{◌≡◌, ◌++◌, false, List, [], ◌∷◌, Option, Some, None, reverse}
 use Rattle.esm_model.specs.declared.entry.Entry.{Entry}
-use Rattle.esm_model.specs.declared.entry.Entry.TheVariants.{Ended, Shut}
 use Rattle.esm_model.specs.declared.item.Message.{Message}
 use Rattle.esm_model.specs.declared.book.Change.{Change}
 use Rattle.esm_model.specs.declared.book.Trouble.{Trouble}
 use Rattle.esm_model.specs.declared.book.Trouble.TheVariants.{Disk, Dest, Changed}
-use Rattle.esm_book.specs.State.{in_hand}
+use Rattle.esm_book.specs.Hand as book
+use Rattle.esm_book.specs.State.{in_hand, in_delivery}
 use Rattle.esm_model.specs.Entries.{is_shut}
 use Rattle.esm_queue_model.specs.QueueSetting.{ExtendsMessages}
 use Rattle.esm_queue_model.specs.QueueStep.{unsorted_messages}
@@ -20,20 +19,13 @@ use Rattle.esm_redrive_core.specs.Ahead.{comes_first}
 use Rattle.esm_redrive_core.specs.Told.{history_of, owed_of, IsChange}
 use Rattle.esm_redrive_book.specs.Books.{BookState}
 
--- it ends a call or the input
-abbrev pub is_end : Entry → Bool
-is_end (Ended lane reply moment) = true
-is_end (Shut moment) = true
-is_end _ = false
+-- the history with the entry is legal over every list of messages that goes on from those that came
+abbrev pub MayFollow : RedriveSetting → List Entry → Entry → Type 0
+MayFollow s h e = (messages : List Message) → ExtendsMessages s.queue.messages messages → LegalRedrive (redrive_over s messages) (e ∷ h)
 
--- the entry may follow a front of the history, after which calls and the input ended alone, over every list of messages that
--- goes on from those that came
-pub record FollowsFront (s : RedriveSetting) (h : List Entry) (e : Entry) : Type 0 where
-  pub before : List Entry
-  pub later : List Entry
-  pub split : h ≡ later ++ before
-  pub ends : list_all is_end later ≡ true
-  pub follows : (messages : List Message) → ExtendsMessages s.queue.messages messages → LegalRedrive (redrive_over s messages) (e ∷ before)
+-- the entry may follow a front of the history, after which calls and the input ended alone
+abbrev pub FollowsFront : RedriveSetting → List Entry → Entry → Type 0
+FollowsFront s h e = book.FollowsFront (MayFollow s) h e
 
 -- the input has not ended, and each message that waits passes the filter and has no line that was found
 pub record IsSorted (s : RedriveSetting) (h : List Entry) : Type 0 where
@@ -43,12 +35,14 @@ pub record IsSorted (s : RedriveSetting) (h : List Entry) : Type 0 where
 
 -- The history is legal over the messages that came, and no others are coming. Where the book is not down nothing is owed, and
 -- nothing is called for; nor is a message to be recorded or filtered where one came with another id than was kept, which it
--- does before the end of the input. The entry that was being written when a disk failed may follow a front of the history.
+-- does before the end of the input. The entry that was being written when a disk failed may follow a front of the history, and
+-- so may the one whose line was being delivered when the dead-letter file failed.
 pub record IsSound {D T : Type 0} (b : BookState D T) : Type 0 where
   pub legal : LegalRedrive b.core.setting b.core.past
   pub settled : b.trouble ≡ None → SettledRedrive b.core.setting b.core.past
   pub changed : (change : Change) → b.trouble ≡ Some (Changed change) → IsSorted b.core.setting b.core.past
   pub hand : (e : Entry) → in_hand b.trouble b.core.owed ≡ e ∷ [] → FollowsFront b.core.setting b.core.past e
+  pub tried : (e : Entry) → in_delivery b.trouble b.core.owed ≡ e ∷ [] → FollowsFront b.core.setting b.core.past e
   pub none_owed : b.trouble ≡ None → b.core.owed ≡ []
   pub none_coming : comes_first b.core.owed ≡ false
 
@@ -63,3 +57,7 @@ IsCause disk_failed dest_failed o (Some (Changed change)) = IsChange o change
 -- the entries whose payloads a crash may leave: those of the history, and where a disk failed the one that was being written
 abbrev pub entries_left : {D T : Type 0} → BookState D T → List RedriveEntry
 entries_left b = reverse (history_of b.core) ++ in_hand b.trouble (owed_of b.core)
+
+-- and those whose lines it may leave: those, and where the dead-letter file failed the one whose line was being delivered
+abbrev pub lines_left : {D T : Type 0} → BookState D T → List RedriveEntry
+lines_left b = entries_left b ++ in_delivery b.trouble (owed_of b.core)

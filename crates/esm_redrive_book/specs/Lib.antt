@@ -1,5 +1,6 @@
 pub mod Books
 pub mod Calls
 pub mod Keeping
+pub mod Letters
 pub mod Opening
 pub mod Carried

@@ -5,6 +5,7 @@
 #![tactic(auto)]
 
 mod carrying;
+pub mod laws;
 mod open_error;
 mod opening;
 mod redrive_book;

@@ -23,6 +23,7 @@ ghost use Rattle.esm_redrive_core.specs.Told.{opened, MayCome};
 ghost use Rattle.esm_redrive_book.specs.Books.{redrive_meaning};
 ghost use Rattle.esm_redrive_book.specs.Calls.{AddedAll, AddedSome, AddedOne, RunsCall, IsSame};
 ghost use Rattle.esm_redrive_book.specs.Keeping.{IsSound, IsCause, entries_left};
+ghost use Rattle.esm_redrive_book.specs.Letters.{LeavesLetters, LinesStandFirst};
 
 use crate::carrying::{Stop, carry, is_down, keeps, note_end, note_shut};
 use esm_book::{Durable, Parts};
@@ -233,6 +234,9 @@ impl<D: Disk, T: Dest> Redrive<D, T> {
         // What a crash leaves: of both disks since the opening, and now.
         ensures images { LeavesFronts redrive_meaning (disk D.Disk) (destination T.Dest)
             self.now.found self.now.pair self.now.found_dest self.now.dest (entries_left self.now) }
+        // And of the dead-letter file, by itself and beside the journal.
+        ensures letters { LeavesLetters (destination T.Dest) self.now }
+        ensures lines_first { LinesStandFirst (disk D.Disk) (destination T.Dest) self.now self.now.dest }
         ensures kept { PairKeepsWhileUp (disk D.Disk) self.now.pair }
     {
         keeps(&self.durable);

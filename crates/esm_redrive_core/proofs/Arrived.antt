@@ -1,14 +1,13 @@
 -- The messages of a list that come: which of them are known, and which are dropped; and what is promised of the core of a
 -- redrive where the list is taken or refused.
-use Rattle.std.proofs.Common.{◌≡◌, ℕ, zero, suc, ◌+◌, ◌<◌, ◌≤◌, ◌^◌, Bool, true, false, not, cond, List, [], ◌∷◌, ◌++◌, length, drop, get_or, max, min, reverse, refl, sym, ap, ap₂, ◌∙◌, subst, arith, append_assoc, Option, Some, None}
-use Rattle.std.specs.Prelude.{◌&&◌, option_map, is_some, slice_get}
+use Rattle.std.proofs.Common.{◌≡◌, ℕ, zero, suc, ◌+◌, ◌<◌, ◌≤◌, ◌^◌, Bool, true, false, not, cond, List, [], ◌∷◌, ◌++◌, length, take, drop, get_or, max, min, reverse, refl, sym, ap, ap₂, ◌∙◌, subst, arith, append_assoc, Some, None}
+use Rattle.std.specs.Prelude.{option_map}
 use Rattle.std.specs.List.{All}
 use Rattle.std.proofs.Math.Seq.{drop-cons}
 use Rattle.std.proofs.lemmas.Option.{same_Some}
-use Rattle.std.proofs.lemmas.List.{append-nil, length-append, length-map}
-use Rattle.std.proofs.lemmas.List.Elements.{All-append}
+use Rattle.std.proofs.lemmas.List.{length-append, length-map, take_all}
+use Rattle.std.proofs.lemmas.List.Elements.{All-nil, All-cons, All-append}
 use Rattle.serde_json.specs.Read.{read}
-use Rattle.esm_model.specs.declared.limits.TheConstants.{MAX_BATCH}
 use Rattle.esm_model.specs.declared.moment.TheConstants.{MAX_MOMENT}
 use Rattle.esm_model.specs.declared.item.Message.{Message}
 use Rattle.esm_model.specs.declared.book.Change.{Change}
@@ -33,6 +32,7 @@ use Rattle.esm_queue_core.specs.CoreView.{moment_for}
 use Rattle.esm_queue_core.specs.Kept.{messages_stored}
 use Rattle.esm_queue_core.proofs.Judging.{found_told, found_some, found_none, at_of}
 use Rattle.esm_redrive.specs.Limited.{Limited}
+use Rattle.esm_redrive.specs.ReadsBack.{IsUtf8Message}
 use Rattle.esm_redrive_model.specs.RedriveSetting.{RedriveSetting, has_dead_id, stands_among}
 use Rattle.esm_redrive_core.specs.declared.owed.Gift.{Gift}
 use Rattle.esm_redrive_core.specs.Adding.{came_from, came_entries}
@@ -42,7 +42,6 @@ use Rattle.esm_redrive_core.specs.Kept.{Parts, IsKept, IsGiftOf, own, setting_of
 use Rattle.esm_redrive_core.specs.RedriveView.{RedriveView}
 use Rattle.esm_redrive_core.specs.Refusing.{IsFirstChange}
 use Rattle.esm_redrive_core.proofs.Keeping.{own_valid}
-use Rattle.esm_redrive_core.proofs.Owing.{Decides}
 use Rattle.esm_redrive_core.proofs.Deciding.{IsDecided, left_with, is_decided, came_decides}
 
 -- one message
@@ -102,6 +101,19 @@ known_more s from items i x places places' b l at is next so_far = places_more (
 pub dropped_more : (s : RedriveSetting) (from : ℕ) (items : List Message) (i : ℕ) (x : Message) (places places' : List ℕ) (b : Bool) → i < length items → x ≡ get_or items i x → b ≡ is_dropped_at s (from + i) x → places' ≡ cond b (places ++ (from + i) ∷ []) places
     → places ++ dropped_from s (from + i) (drop i items) ≡ dropped_from s from items → places' ++ dropped_from s (from + (i + 1)) (drop (i + 1) items) ≡ dropped_from s from items
 dropped_more s from items i x places places' b l at is next so_far = places_more (is_dropped_at s) from items i x places places' b l at is next so_far
+
+-- the texts of the first messages, and of one more
+
+first_more : (xs : List Message) (i : ℕ) (x : Message) → i < length xs → x ≡ get_or xs i x → take (i + 1) xs ≡ take i xs ++ x ∷ []
+first_more [] i x low at = absurd (omega arith)
+first_more (y ∷ xs) zero x low at = ap (λ (z : Message). z ∷ []) (sym at)
+first_more (y ∷ xs) (suc i) x low at = let next : suc i + 1 ≡ suc (i + 1) = omega arith in rw next (ap (λ (zs : List Message). y ∷ zs) (first_more xs i x (omega arith) at))
+
+pub texts_more : (items : List Message) (i : ℕ) (x : Message) → i < length items → x ≡ get_or items i x → IsUtf8Message x → All IsUtf8Message (take i items) → All IsUtf8Message (take (i + 1) items)
+texts_more items i x low at own so_far = subst (All IsUtf8Message) (sym (first_more items i x low at)) (All-append IsUtf8Message (take i items) (x ∷ []) so_far (All-cons IsUtf8Message x [] own (All-nil IsUtf8Message)))
+
+pub texts_all : (items : List Message) (i : ℕ) → length items ≤ i → All IsUtf8Message (take i items) → All IsUtf8Message items
+texts_all items i past so_far = subst (All IsUtf8Message) (take_all i items past) so_far
 
 -- a list that is refused
 
@@ -178,9 +190,9 @@ module _ (p : Parts) (v : RedriveView) (items slice : List Message) (from m : �
   pub came_decided : (q : Limited) (capacity : ℕ) (old new : List Entry) (said : SaidLists) (dead : List (List ℕ)) (gifts : List Gift) (state : QueueState) (count moment : ℕ) → p.deletions ≡ said.deletions → p.dead ≡ dead → state ≡ p.limited.state → count ≡ length items → 1 ≤ length items
       → q.state ≡ p.limited.state → q.max_receives ≡ p.limited.max_receives → length items ≤ q.spare → m ≡ min (max moment p.last) MAX_MOMENT
       → ((s : RedriveSetting) → IsJudgedBy s said dead p.criteria → gift_entries (reverse gifts) ≡ gave_entries None (known_from s from slice) Exhausted m ++ gave_entries None (dropped_from s from slice) Filtered m)
-      → All (IsGiftOf (messages_stored state ++ slice)) (reverse gifts) → written_of gift_line (reverse gifts) ≡ [] → length gifts ≤ 2 → length (reverse gifts) ≡ length gifts → p.number + 5 ≤ capacity → p.number + 5 ≤ 2 ^ 40 → p.past ≡ reverse old → p.number ≡ length old → new ≡ old
+      → All IsUtf8Message slice → All (IsGiftOf (messages_stored state ++ slice)) (reverse gifts) → written_of gift_line (reverse gifts) ≡ [] → length gifts ≤ 2 → length (reverse gifts) ≡ length gifts → p.number + 5 ≤ capacity → p.number + 5 ≤ 2 ^ 40 → p.past ≡ reverse old → p.number ≡ length old → new ≡ old
       → IsDecided (left_with p q capacity new items (Some (Came from count m)) (reverse gifts)) v items (came_entries v items moment)
-  came_decided q capacity old new said dead gifts state count moment deletions ids state_is count_is some q_is limit spare now entries written no_lines low sized room short past_is number_is new_is =
+  came_decided q capacity old new said dead gifts state count moment deletions ids state_is count_is some q_is limit spare now entries texts written no_lines low sized room short past_is number_is new_is =
       let front = messages_stored p.limited.state in
       let start = start_is p from from_is in
       let within : m ≤ MAX_MOMENT = omega (arith, now) in
@@ -195,5 +207,5 @@ module _ (p : Parts) (v : RedriveView) (items slice : List Message) (from m : �
       ∙ ap (λ (w : RedriveView). came_entries w items moment) seen)) in
       let whole : All (IsGiftOf (front ++ items)) (reverse gifts) = subst (λ (xs : List Message). All (IsGiftOf (front ++ xs)) (reverse gifts)) same (subst (λ (r : QueueState). All (IsGiftOf (messages_stored r ++ slice)) (reverse gifts)) state_is written) in
       is_decided p v q capacity old new items (Some (Came from count m)) (reverse gifts) (came_entries v items moment) k seen
-      (came_decides p q capacity items (reverse gifts) from count m k from_is count_is q_is limit items_valid all_few spare within whole no_lines (omega (arith, low, sized)) room short)
+      (came_decides p q capacity items (reverse gifts) from count m k from_is count_is q_is limit items_valid (subst (λ (xs : List Message). All IsUtf8Message xs) same texts) all_few spare within whole no_lines (omega (arith, low, sized)) room short)
       owed past_is number_is new_is

@@ -1,35 +1,30 @@
 -- What is promised of the core of a redrive after each decision.
-use Rattle.std.proofs.Common.{◌≡◌, ℕ, ◌+◌, ◌<◌, ◌≤◌, ◌^◌, Bool, true, false, cond, List, [], ◌∷◌, ◌++◌, length, max, min, reverse, refl, sym, ap, ap₂, ◌∙◌, subst, inl, inr, arith, Option, Some, None}
+use Rattle.std.proofs.Common.{◌≡◌, ℕ, ◌+◌, ◌<◌, ◌≤◌, ◌^◌, Bool, true, false, cond, List, [], ◌∷◌, ◌++◌, length, max, min, reverse, refl, sym, ap, ap₂, ◌∙◌, subst, arith, Option, Some, None}
 use Rattle.std.specs.Prelude.{filter, slice_get, option_map, not, nat_le}
 use Rattle.std.proofs.lemmas.Bool.{and_parts, leb-true}
 use Rattle.std.specs.List.{All}
 use Rattle.std.proofs.lemmas.List.{append-nil, length-append, length-map}
-use Rattle.std.proofs.lemmas.List.Elements.{All-nil, All-cons, All-head, All-tail}
-use Rattle.std.proofs.lemmas.Option.{none-some, slice_get-map}
+use Rattle.std.proofs.lemmas.List.Elements.{All-nil, All-cons}
 use Rattle.esm_model.specs.declared.limits.TheConstants.{MAX_BATCH, MAX_EVENT, MAX_LINE}
 use Rattle.esm_model.specs.declared.moment.TheConstants.{MAX_MOMENT}
-use Rattle.esm_model.specs.declared.config.Kind.{Kind}
-use Rattle.esm_model.specs.declared.config.Kind.TheVariants as kinds
 use Rattle.esm_model.specs.declared.item.Message.{Message}
 use Rattle.esm_model.specs.declared.book.Job.{Job}
 use Rattle.esm_model.specs.declared.book.Next.{Next}
 use Rattle.esm_model.specs.declared.book.Next.TheVariants as next
 use Rattle.esm_model.specs.declared.lane.LaneId.{LaneId}
-use Rattle.esm_model.specs.declared.entry.Fate.TheVariants.{Succeeded, Filtered, Exhausted}
+use Rattle.esm_model.specs.declared.entry.Fate.TheVariants.{Succeeded, Exhausted}
 use Rattle.esm_model.specs.declared.entry.Reply.{Reply}
 use Rattle.esm_model.specs.declared.entry.Entry.{Entry}
 use Rattle.esm_model.specs.declared.entry.Entry.TheVariants as entry
 use Rattle.esm_model.specs.declared.verdict.QueueReading.{QueueReading}
 use Rattle.esm_model.specs.Moment.{moment_after, capped_moment}
-use Rattle.esm_model.specs.Entries.{is_running, last_call, batch_of}
+use Rattle.esm_model.specs.Entries.{last_call, batch_of}
 use Rattle.esm_model.specs.QueueReading.{queue_reading}
-use Rattle.esm_model.specs.Items.{queue_kind}
-use Rattle.esm_model.specs.Valid.{is_stream}
 use Rattle.esm_model.specs.ValidMessage.{IsValidMessage}
 use Rattle.esm_book.specs.Decided.{written_of, IsLineWithin}
 use Rattle.esm_journal_record.specs.EntryPayload.{ids_at}
 use Rattle.esm_queue_model.specs.declared.stored.Stored.{Stored}
-use Rattle.esm_queue_model.specs.Queue.{QueueState, stored_at, receivable, is_deleted_at}
+use Rattle.esm_queue_model.specs.Queue.{QueueState, receivable, is_deleted_at}
 use Rattle.esm_queue_model.specs.QueueSetting as settings
 use Rattle.esm_queue_model.specs.QueueSetting.{QueueSetting, message_at, is_fifo, over_messages}
 use Rattle.esm_queue_model.specs.QueueEntries.{queue_lane, queue_of, is_deleted}
@@ -37,26 +32,26 @@ use Rattle.esm_queue_model.specs.QueueBatch.{queue_event, queue_fits, queue_batc
 use Rattle.esm_queue_model.specs.QueueStep.{succeeded_by}
 use Rattle.esm_queue_core.specs.declared.next.Counts.{Counts}
 use Rattle.esm_queue_core.specs.declared.owed.First.{First}
-use Rattle.esm_queue_core.specs.declared.owed.First.TheVariants.{Came, Began, Ended}
+use Rattle.esm_queue_core.specs.declared.owed.First.TheVariants.{Came, Ended}
 use Rattle.esm_queue_core.specs.CoreView.{moment_for}
 use Rattle.esm_queue_core.specs.Coming.{gave_entries}
 use Rattle.esm_queue_core.specs.Next.{IsToldBy, next_for, next_entries}
 use Rattle.esm_queue_core.specs.Kept.{MayBeGiven, IsBegunBy, IsRisingFrom, messages_stored}
 use Rattle.esm_queue_core.proofs.Named.{longest_few, may_be_given, rising-filter, rising-succeeded, few-succeeded, few-filter, ids_long}
-use Rattle.esm_queue_core.proofs.Beginning.{IsCalled, called_by, batch_receivable}
+use Rattle.esm_queue_core.proofs.Beginning.{called_by, batch_receivable}
 use Rattle.esm_queue_core.proofs.Giving.{all_in}
 use Rattle.esm_queue_core.proofs.Choosing.{queue_size}
 use Rattle.esm_queue_core.proofs.Settling.{ended_is, In-succeeded}
 use Rattle.esm_queue_model.proofs.Places.{In-filter}
 use Rattle.esm_redrive_core.specs.Sound.{ended_places}
-use Rattle.esm_redrive_model.specs.RedriveSetting.{RedriveSetting}
 use Rattle.esm_redrive_model.specs.DeadLetter.{dead_letter}
 use Rattle.esm_redrive.specs.Limited.{Limited, due_in}
+use Rattle.esm_redrive.specs.ReadsBack.{IsUtf8Message}
 use Rattle.esm_redrive_core.specs.declared.owed.Gift.{Gift}
 use Rattle.esm_redrive_core.specs.RedriveView.{RedriveView, IsRunningJob, owing}
 use Rattle.esm_redrive_core.specs.Ready.{IsReadyFor}
 use Rattle.esm_redrive_core.specs.Adding.{moved_entry, ended_entries}
-use Rattle.esm_redrive_core.specs.Kept.{Parts, IsKept, IsBatch, IsGiftOf, HaveLineFirst, CanAddFirst, CanBegin, own, setting_of, seen_of, gift_line, gift_entry, gift_entries, owed_entries, cost, first_cost}
+use Rattle.esm_redrive_core.specs.Kept.{Parts, IsKept, IsGiftOf, CanAddFirst, CanBegin, own, setting_of, seen_of, gift_line, gift_entry, gift_entries, owed_entries, cost, first_cost}
 use Rattle.esm_redrive_core.proofs.Keeping.{within_of, none_coming, own_valid, goes_itself, cost_low}
 use Rattle.esm_redrive_core.proofs.Owing.{Decides, deciding, owed_none, kept_decided, seen_decided}
 use Rattle.esm_redrive_core.proofs.Lines.{one_line_first, no_lines_first, first_of}
@@ -128,6 +123,7 @@ kept_rest p q capacity k none nothing same limit grown =
       same = same;
       limit = limit;
       valid = All-nil (IsValidMessage p.config.kind);
+      texts = All-nil IsUtf8Message;
       few = few_own p k;
       room = omega (arith, low, room, grown);
       short = omega (arith, low, short);
@@ -150,11 +146,6 @@ kept_grown p q capacity old new k owed same limit grown past_is number_is new_is
 
 -- a message is moved
 
-pub kind_is : (kind : Kind) → is_stream kind ≡ false → queue_kind (is_fifo kind) ≡ kind
-kind_is kinds.Stream queue = absurd (cc)
-kind_is kinds.Standard queue = refl
-kind_is kinds.Fifo queue = refl
-
 pub moved_given : (p : Parts) (place m : ℕ) → IsKept p → place < length p.limited.state.messages → m ≤ MAX_MOMENT → MayBeGiven (messages_stored p.limited.state ++ []) (place ∷ []) Exhausted m
 moved_given p place m k low within =
     let all = messages_stored p.limited.state in
@@ -170,6 +161,7 @@ moved_decides p q capacity gift k none same limit written line room short =
       same = same;
       limit = limit;
       valid = All-nil (IsValidMessage p.config.kind);
+      texts = All-nil IsUtf8Message;
       few = few_own p k;
       room = cost_few p None (gift ∷ []) capacity (omega arith) room;
       short = cost_few p None (gift ∷ []) (2 ^ 40) (omega arith) short;
@@ -229,6 +221,7 @@ module _ (p : Parts) (q : Limited) (capacity m : ℕ) (k : IsKept p) where
     same = f.same;
     limit = f.limit;
     valid = All-nil (IsValidMessage p.config.kind);
+    texts = All-nil IsUtf8Message;
     few = few_own p k;
     room = cost_few p began [] capacity (omega (arith, low)) f.room;
     short = cost_few p began [] (2 ^ 40) (omega (arith, low)) f.short;
@@ -291,12 +284,13 @@ begun_decided p v q capacity m old new answer began k seen nothing f past_is num
 -- messages come
 
 pub came_decides : (p : Parts) (q : Limited) (capacity : ℕ) (items : List Message) (gifts : List Gift) (from count m : ℕ) → IsKept p → from ≡ length p.limited.state.messages → count ≡ length items
-    → q.state ≡ p.limited.state → q.max_receives ≡ p.limited.max_receives → All (IsValidMessage p.config.kind) items → length (messages_stored p.limited.state ++ items) < 2 ^ 32 → length items ≤ q.spare → m ≤ MAX_MOMENT
+    → q.state ≡ p.limited.state → q.max_receives ≡ p.limited.max_receives → All (IsValidMessage p.config.kind) items → All IsUtf8Message items → length (messages_stored p.limited.state ++ items) < 2 ^ 32 → length items ≤ q.spare → m ≤ MAX_MOMENT
     → All (IsGiftOf (messages_stored p.limited.state ++ items)) gifts → written_of gift_line gifts ≡ [] → length gifts ≤ 2 → p.number + 5 ≤ capacity → p.number + 5 ≤ 2 ^ 40 → Decides p q capacity items (Some (Came from count m)) gifts
-came_decides p q capacity items gifts from count m k at many same limit valid few spare within written no_lines low room short = record {
+came_decides p q capacity items gifts from count m k at many same limit valid texts few spare within written no_lines low room short = record {
   same = same;
   limit = limit;
   valid = valid;
+  texts = texts;
   few = few;
   room = cost_few p (Some (Came from count m)) gifts capacity (omega (arith, low)) room;
   short = cost_few p (Some (Came from count m)) gifts (2 ^ 40) (omega (arith, low)) short;
@@ -374,6 +368,7 @@ module _ (p : Parts) (v : RedriveView) (job : Job) (slice : List ℕ) (none : Li
     same = same_state;
     limit = limit;
     valid = All-nil (IsValidMessage p.config.kind);
+    texts = All-nil IsUtf8Message;
     few = few_own p k;
     room = cost_few p (Some (Ended job.lane reply m)) gifts capacity (omega (arith, low)) room;
     short = cost_few p (Some (Ended job.lane reply m)) gifts (2 ^ 40) (omega (arith, low)) short;

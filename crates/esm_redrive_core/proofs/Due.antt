@@ -1,5 +1,5 @@
 -- The first message that is due, as the queue of a core tells it.
-use Rattle.std.proofs.Common.{◌≡◌, ℕ, ◌+◌, ◌<◌, ◌≤◌, ◌^◌, List, [], ◌∷◌, length, max, min, reverse, refl, sym, ap, ap₂, ◌∙◌, subst, arith, Option, Some, None}
+use Rattle.std.proofs.Common.{◌≡◌, ℕ, ◌+◌, ◌<◌, ◌≤◌, ◌^◌, List, [], ◌∷◌, length, max, min, reverse, refl, sym, ap, ◌∙◌, subst, arith, Option, Some, None}
 use Rattle.std.specs.Prelude.{slice_get}
 use Rattle.std.proofs.lemmas.List.{length-map, length-reverse}
 use Rattle.std.proofs.lemmas.Option.{none-some, same_Some}
@@ -13,7 +13,6 @@ use Rattle.esm_queue_model.specs.Queue.{QueueState, eligible, is_eligible}
 use Rattle.esm_queue_model.specs.QueueEntries.{queue_of}
 use Rattle.esm_queue_model.proofs.Places.{In, In-here, In-filter, In-below}
 use Rattle.esm_queue_core.specs.CoreView.{moment_for}
-use Rattle.esm_queue_core.specs.Kept.{messages_stored}
 use Rattle.esm_queue_core.specs.Next.{next_for, next_entries}
 use Rattle.esm_redrive.specs.Limited.{due_in, is_spent}
 use Rattle.esm_redrive_core.specs.Adding.{next_due, entries_due, moved_entry, redrive_next, redrive_next_entries}

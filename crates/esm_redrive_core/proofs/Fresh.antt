@@ -1,5 +1,5 @@
 -- What is kept of a core in which no message came.
-use Rattle.std.proofs.Common.{◌≡◌, ℕ, ◌+◌, ◌<◌, ◌≤◌, ◌^◌, false, List, [], ◌++◌, length, refl, sym, ap, ◌∙◌, subst, arith, None}
+use Rattle.std.proofs.Common.{◌≡◌, ℕ, ◌<◌, ◌≤◌, ◌^◌, false, List, [], ◌++◌, length, refl, sym, ap, ◌∙◌, subst, arith, None}
 use Rattle.std.specs.List.{All}
 use Rattle.std.proofs.lemmas.List.Elements.{All-nil}
 use Rattle.std.proofs.lemmas.Option.{none-some}
@@ -17,6 +17,7 @@ use Rattle.esm_queue_core.specs.Next.{deleted_number, IsValidStored}
 use Rattle.esm_queue_core.specs.Kept.{messages_stored}
 use Rattle.esm_redrive.specs.declared.limited.TheConstants.{MAX_RECEIVES}
 use Rattle.esm_redrive.specs.Limited.{Limited}
+use Rattle.esm_redrive.specs.ReadsBack.{IsUtf8Message}
 use Rattle.esm_redrive_core.specs.declared.owed.Gift.{Gift}
 use Rattle.esm_redrive_core.specs.Kept.{Parts, IsKept, IsCovered, IsGiftOf}
 
@@ -49,6 +50,7 @@ module _ (config : Config) (calls visibility : ℕ) (deletions : List FoundDelet
     config = good;
     criteria = judges;
     valid = subst (λ (r : QueueState). All (IsValidMessage config.kind) (messages_stored r ++ [])) (sym is) (All-nil (IsValidMessage config.kind));
+    texts = subst (λ (r : QueueState). All IsUtf8Message (messages_stored r ++ [])) (sym is) (All-nil IsUtf8Message);
     few = subst (λ (r : QueueState). length (messages_stored r ++ []) < 2 ^ 32) (sym is) (omega arith);
     queue = λ messages goes. is;
     stored = subst (λ (r : QueueState). All (IsValidStored config.kind) r.messages) (sym is) (All-nil (IsValidStored config.kind));

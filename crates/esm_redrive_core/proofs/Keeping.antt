@@ -1,13 +1,12 @@
 -- What is kept of the core of a redrive stays true where an owed entry is added, is given up, or is noted.
-use Rattle.std.proofs.Common.{◌≡◌, ℕ, zero, suc, ◌+◌, ◌<◌, ◌≤◌, ◌^◌, Bool, true, false, cond, ◌&&◌, List, [], ◌∷◌, ◌++◌, length, take, drop, map, reverse, refl, sym, ap, ap₂, ◌∙◌, subst, inl, inr, arith, Option, Some, None}
-use Rattle.std.specs.Prelude.{◌==◌, nat_le, nat_lt, slice_get, count_by}
-use Rattle.std.specs.List.{All, cons_option}
-use Rattle.std.proofs.lemmas.List.{append-nil, length-append, length-map, length-take, take_all, drop-take, reverse-append}
+use Rattle.std.proofs.Common.{◌≡◌, ℕ, zero, suc, ◌+◌, ◌<◌, ◌≤◌, ◌^◌, Bool, true, false, cond, List, [], ◌∷◌, ◌++◌, length, take, drop, reverse, refl, sym, ap, ap₂, ◌∙◌, subst, inl, inr, arith, Option, Some, None}
+use Rattle.std.specs.Prelude.{nat_le, nat_lt, slice_get}
+use Rattle.std.specs.List.{All}
+use Rattle.std.proofs.lemmas.List.{append-nil, length-append, length-map, drop-take, reverse-append}
 use Rattle.std.proofs.lemmas.List.Elements.{All-nil, All-cons, All-head, All-tail, All-append}
-use Rattle.std.proofs.lemmas.List.Sums.{count_by-le-length}
 use Rattle.std.proofs.lemmas.Option.{none-some}
-use Rattle.std.proofs.lemmas.Bool.{and_from, and_left, and_right, eq-eqb, le-leb, lt-leb, lt-ltb}
-use Rattle.esm_model.specs.declared.limits.TheConstants.{MAX_BATCH, MAX_LINE}
+use Rattle.std.proofs.lemmas.Bool.{and_from, and_left, le-leb, lt-leb, lt-ltb}
+use Rattle.esm_model.specs.declared.limits.TheConstants.{MAX_BATCH}
 use Rattle.esm_model.specs.declared.moment.TheConstants.{MAX_MOMENT}
 use Rattle.esm_model.specs.declared.config.Kind.{Kind}
 use Rattle.esm_model.specs.declared.item.Message.{Message}
@@ -17,7 +16,7 @@ use Rattle.esm_model.specs.declared.entry.Entry.{Entry}
 use Rattle.esm_model.specs.declared.entry.Entry.TheVariants as entry
 use Rattle.esm_model.specs.Lane.{same_lane}
 use Rattle.esm_model.specs.Fates.{below}
-use Rattle.esm_model.specs.Entries.{is_shut, is_running, calls_begun, moment_of, last_moment, last_call, batch_of, covers, came_moment}
+use Rattle.esm_model.specs.Entries.{is_shut, is_running, calls_begun, moment_of, last_call, batch_of, covers, came_moment}
 use Rattle.esm_model.specs.ValidMessage.{IsValidMessage}
 use Rattle.esm_queue_model.specs.declared.stored.Stored.{Stored}
 use Rattle.esm_queue_model.specs.Queue.{QueueState, received_once, deleted_once, after_receipt, after_deletion, eligible, is_eligible, receivable, stored_at}
@@ -39,13 +38,12 @@ use Rattle.esm_queue_core.proofs.Added.{messages_came, messages_received, messag
 use Rattle.esm_queue_core.proofs.Named.{rising_of}
 use Rattle.esm_queue_core.proofs.Giving.{all_in}
 use Rattle.esm_queue_core.proofs.Bringing.{with_coming}
-use Rattle.esm_book.specs.Decided.{written_of, IsLineWithin}
-use Rattle.esm_redrive_model.specs.RedriveSetting.{RedriveSetting}
-use Rattle.esm_redrive.specs.Limited.{Limited, due_in}
+use Rattle.esm_redrive.specs.Limited.{Limited}
+use Rattle.esm_redrive.specs.ReadsBack.{IsUtf8Message}
 use Rattle.esm_redrive_core.specs.declared.owed.Gift.{Gift}
 use Rattle.esm_redrive_core.specs.RedriveView.{RedriveView, paid, forgotten}
 use Rattle.esm_redrive_core.proofs.Lines.{fewer_lines}
-use Rattle.esm_redrive_core.specs.Kept.{Parts, IsKept, IsBatch, IsGiftOf, IsCovered, HaveLineFirst, CanAddFirst, CanBegin, own, setting_of, seen_of, all_of, gift_line, gift_entry, gift_entries, owed_entries, cost, first_cost}
+use Rattle.esm_redrive_core.specs.Kept.{Parts, IsKept, IsBatch, IsGiftOf, IsCovered, HaveLineFirst, CanAddFirst, own, setting_of, seen_of, all_of, gift_entry, gift_entries, owed_entries, cost}
 
 -- lists that go on
 
@@ -180,6 +178,7 @@ kept_added p q e begun deleted running gifts k a =
       config = k.config;
       criteria = k.criteria;
       valid = subst (All (IsValidMessage p.config.kind)) (sym all) k.valid;
+      texts = subst (All IsUtf8Message) (sym all) k.texts;
       few = subst (λ (ms : List Message). length ms < 2 ^ 32) (sym all) k.few;
       queue = λ messages goes. a.state messages (goes_same (all_of p) (messages_stored q.state) messages (sym a.messages) goes);
       stored = a.stored;
@@ -304,7 +303,7 @@ came_adds p q from count m deleted k is brings limit deleted_is =
 
 -- a call begins
 
-same_lane-refl : (lane : LaneId) → same_lane lane lane ≡ true
+pub same_lane-refl : (lane : LaneId) → same_lane lane lane ≡ true
 same_lane-refl lane = grind arith
 
 cost_began : (g r s : ℕ) → 0 + g + 1 + s + 1 ≤ 2 + g + r + s
@@ -403,12 +402,15 @@ gave_adds p q g rest deleted k none is state limit deleted_is =
 abbrev pub forgetting : Parts → Parts
 forgetting p = record p { coming = []; first = None; gifts = [] }
 
-front_valid : (kind : Kind) (xs ys : List Message) → All (IsValidMessage kind) (xs ++ ys) → All (IsValidMessage kind) xs
-front_valid kind [] ys all = All-nil (IsValidMessage kind)
-front_valid kind (x ∷ xs) ys all = All-cons (IsValidMessage kind) x xs (All-head (IsValidMessage kind) x (xs ++ ys) all) (front_valid kind xs ys (All-tail (IsValidMessage kind) x (xs ++ ys) all))
+front_all : (P : Message → Type 0) (xs ys : List Message) → All P (xs ++ ys) → All P xs
+front_all P [] ys all = All-nil P
+front_all P (x ∷ xs) ys all = All-cons P x xs (All-head P x (xs ++ ys) all) (front_all P xs ys (All-tail P x (xs ++ ys) all))
 
 pub own_valid : (p : Parts) → IsKept p → All (IsValidMessage p.config.kind) (messages_stored p.limited.state)
-own_valid p k = front_valid p.config.kind (messages_stored p.limited.state) p.coming k.valid
+own_valid p k = front_all (IsValidMessage p.config.kind) (messages_stored p.limited.state) p.coming k.valid
+
+pub own_texts : (p : Parts) → IsKept p → All IsUtf8Message (messages_stored p.limited.state)
+own_texts p k = front_all IsUtf8Message (messages_stored p.limited.state) p.coming k.texts
 
 pub cost_low : (f : Option First) (g : List Gift) (r s : Bool) → cost None [] r s ≤ cost f g r s
 cost_low f g r s = omega arith
@@ -420,6 +422,7 @@ kept_forgotten p k =
       config = k.config;
       criteria = k.criteria;
       valid = subst (All (IsValidMessage p.config.kind)) (sym (append-nil (messages_stored p.limited.state))) (own_valid p k);
+      texts = subst (All IsUtf8Message) (sym (append-nil (messages_stored p.limited.state))) (own_texts p k);
       few = (let f = k.few in omega (arith, f, length-append (messages_stored p.limited.state) p.coming, length-append (messages_stored p.limited.state) []));
       queue = k.queue;
       stored = k.stored;
@@ -493,49 +496,3 @@ owed_first p f is = ap (λ (o : Option First). owed_entries o p.gifts) is
 
 pub owed_gift : (p : Parts) (g : Gift) (rest : List Gift) → p.first ≡ None → p.gifts ≡ g ∷ rest → owed_entries p.first p.gifts ≡ gift_entry g ∷ gift_entries rest
 owed_gift p g rest none is = ap₂ (λ (o : Option First) (gs : List Gift). owed_entries o gs) none is
-
--- room
-
-pub first_room : (p : Parts) (f : First) → IsKept p → p.first ≡ Some f → p.number < p.capacity
-first_room p f k is =
-    let room : p.number + cost (Some f) p.gifts p.running p.shut ≤ p.capacity = subst (λ (o : Option First). p.number + cost o p.gifts p.running p.shut ≤ p.capacity) is k.room in
-    let some = some_cost f p.gifts p.running p.shut in
-    omega (arith, room, some)
-  where
-    some_cost : (f : First) (g : List Gift) (r s : Bool) → 1 ≤ cost (Some f) g r s
-    some_cost (Came from count m) g r s = omega arith
-    some_cost (Began lane places m) g r s = omega arith
-    some_cost (Ended lane reply m) g r s = omega arith
-
-pub gift_room : (p : Parts) (g : Gift) (rest : List Gift) → IsKept p → p.first ≡ None → p.gifts ≡ g ∷ rest → p.number < p.capacity
-gift_room p g rest k none is =
-    let room : p.number + cost None (g ∷ rest) p.running p.shut ≤ p.capacity = subst (λ (gs : List Gift). p.number + cost None gs p.running p.shut ≤ p.capacity) is (subst (λ (o : Option First). p.number + cost o p.gifts p.running p.shut ≤ p.capacity) none k.room) in
-    let some : 1 ≤ cost None (g ∷ rest) p.running p.shut = omega arith in
-    omega (arith, room, some)
-
--- so many deletions fit 32 bits
-pub deleted_within : (p : Parts) (q : Limited) → IsKept p → messages_stored q.state ≡ all_of p → deleted_number q.state < 2 ^ 32
-deleted_within p q k is =
-    let few = k.few in
-    let sized : length (all_of p) ≡ length q.state.messages = sym (ap (λ (ms : List Message). length ms) is) ∙ length-map q.state.messages (λ (x : Stored). x.message) in
-    let most = count_by-le-length (λ (x : Stored). x.deleted) q.state.messages in
-    omega (arith, few, sized, most)
-
--- as many calls began as fit 64 bits
-calls_few : (h : List Entry) → calls_begun h ≤ length h
-calls_few [] = omega arith
-calls_few (entry.Came shard first count m ∷ h) = let rest = calls_few h in omega arith
-calls_few (entry.Began lane places closing m ∷ h) = let rest = calls_few h in omega arith
-calls_few (entry.Ended lane reply m ∷ h) = let rest = calls_few h in omega arith
-calls_few (entry.Gave by shard places fate line state m ∷ h) = let rest = calls_few h in omega arith
-calls_few (entry.Tried lane places closing tries m ∷ h) = let rest = calls_few h in omega arith
-calls_few (entry.Closed lane window m ∷ h) = let rest = calls_few h in omega arith
-calls_few (entry.Replayed shard places m ∷ h) = let rest = calls_few h in omega arith
-calls_few (entry.Shut m ∷ h) = let rest = calls_few h in omega arith
-
-pub begun_few : (p : Parts) → IsKept p → length p.past ≡ p.number → p.begun ≤ 2 ^ 40
-begun_few p k number_is =
-    let few = calls_few p.past in
-    let begun = k.begun in
-    let short = k.short in
-    omega (arith, few, begun, short, number_is)

@@ -1,6 +1,7 @@
 pub mod Settling
 pub mod Lines
 pub mod Keeping
+pub mod Room
 pub mod Noting
 pub mod Owing
 pub mod Deciding

@@ -1,5 +1,5 @@
 -- The line of a message that is moved is a text, no longer than a line may be.
-use Rattle.std.proofs.Common.{◌≡◌, ℕ, zero, suc, ◌<◌, ◌≤◌, Bool, true, false, cond, List, [], ◌∷◌, ◌++◌, length, refl, sym, ap, ◌∙◌, subst, inl, inr, arith, Option, Some, None, Result, Ok, Err}
+use Rattle.std.proofs.Common.{◌≡◌, ℕ, zero, suc, ◌≤◌, Bool, cond, List, [], ◌∷◌, length, refl, sym, ap, ◌∙◌, subst, inl, inr, Option, Some, None, Result, Ok, Err}
 use Rattle.std.specs.Prelude.{nat_lt, slice_get, option_map}
 use Rattle.std.specs.Option.{ok_or}
 use Rattle.std.specs.Str.{IsUtf8, is_utf8}
@@ -75,10 +75,10 @@ pub stored_valid : (kind : Kind) (q : QueueState) (i : ℕ) (m : Message) → Al
 stored_valid kind q i m valid at = valid_at kind (messages_stored q) i m valid at
 
 pub letter_short : (fifo : Bool) (m : Message) (line : List ℕ) → IsValidMessage (queue_kind fifo) m → ReadsBack m line → length line ≤ MAX_LINE
-letter_short fifo m line valid reads = read_short (kinds.Queue fifo) line (Some (items.Queue m)) (reads fifo valid)
+letter_short fifo m line valid reads = read_short (kinds.Queue fifo) line (Some (items.Queue m)) (reads fifo valid).read
 
 pub letter_utf8 : (fifo : Bool) (m : Message) (line : List ℕ) → IsValidMessage (queue_kind fifo) m → ReadsBack m line → IsUtf8 line
-letter_utf8 fifo m line valid reads = read_utf8 fifo line (items.Queue m) (reads fifo valid)
+letter_utf8 fifo m line valid reads = read_utf8 fifo line (items.Queue m) (reads fifo valid).read
 
 -- one line that is short
 pub within_short : (g : Gift) (line : List ℕ) → gift_line g ≡ Some line → length line ≤ MAX_LINE → IsLineWithin (written_of gift_line (g ∷ [])) MAX_LINE

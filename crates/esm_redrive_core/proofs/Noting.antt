@@ -1,5 +1,5 @@
 -- What is kept of the core of a redrive stays true where an entry is noted.
-use Rattle.std.proofs.Common.{◌≡◌, ℕ, ◌+◌, ◌<◌, ◌≤◌, Bool, true, false, cond, List, ◌∷◌, length, refl, sym, ◌∙◌, subst, arith, Option}
+use Rattle.std.proofs.Common.{◌≡◌, ℕ, ◌+◌, ◌<◌, ◌≤◌, Bool, true, false, cond, ◌∷◌, length, refl, sym, ◌∙◌, subst, arith, Option}
 use Rattle.std.proofs.lemmas.List.Elements.{All-cons}
 use Rattle.esm_model.specs.declared.moment.TheConstants.{MAX_MOMENT}
 use Rattle.esm_model.specs.declared.entry.Reply.{Reply}
@@ -32,6 +32,7 @@ kept_noted p e shut running k n = record {
   config = k.config;
   criteria = k.criteria;
   valid = k.valid;
+  texts = k.texts;
   few = k.few;
   queue = λ messages goes. k.queue messages goes ∙ sym (n.plain (over_messages (own p) messages));
   stored = k.stored;

@@ -1,10 +1,10 @@
 -- The places of messages that come, and what a decision owes.
-use Rattle.std.proofs.Common.{◌≡◌, ℕ, zero, suc, ◌+◌, ◌<◌, ◌≤◌, ◌^◌, Bool, true, false, List, [], ◌∷◌, ◌++◌, length, take, drop, map, reverse, refl, sym, ap, ap₂, ◌∙◌, subst, inl, inr, arith, Option, Some, None}
+use Rattle.std.proofs.Common.{◌≡◌, ℕ, ◌+◌, ◌<◌, ◌≤◌, ◌^◌, Bool, true, List, [], ◌∷◌, ◌++◌, length, reverse, refl, sym, ap, ap₂, ◌∙◌, subst, inl, inr, arith, Option, Some, None}
 use Rattle.std.specs.List.{All, cons_option}
-use Rattle.std.proofs.lemmas.List.{append-nil, length-append, length-map, map-append, reverse-append}
+use Rattle.std.proofs.lemmas.List.{length-append, reverse-append}
 use Rattle.std.proofs.lemmas.List.Elements.{All-nil, All-cons, All-append}
 use Rattle.std.proofs.lemmas.Bool.{cases_Bool}
-use Rattle.esm_model.specs.declared.limits.TheConstants.{MAX_BATCH, MAX_LINE, MAX_PAYLOAD}
+use Rattle.esm_model.specs.declared.limits.TheConstants.{MAX_BATCH, MAX_PAYLOAD}
 use Rattle.esm_model.specs.declared.moment.TheConstants.{MAX_MOMENT}
 use Rattle.esm_model.specs.declared.config.Kind.{Kind}
 use Rattle.esm_model.specs.declared.item.Message.{Message}
@@ -16,23 +16,24 @@ use Rattle.esm_model.specs.ValidMessage.{IsValidMessage}
 use Rattle.esm_journal_record.specs.declared.said.Said.TheVariants.{Deleted}
 use Rattle.esm_journal_record.specs.Payload.{payload_of, is_deletion}
 use Rattle.esm_journal_record.specs.EntryPayload.{ids_at}
-use Rattle.esm_queue_model.specs.QueueSetting.{QueueSetting, ExtendsMessages, over_messages}
+use Rattle.esm_queue_model.specs.QueueSetting.{ExtendsMessages, over_messages}
 use Rattle.esm_model.specs.Entries.{last_call, batch_of}
 use Rattle.esm_queue_model.specs.Queue.{QueueState, stored_at}
 use Rattle.esm_queue_model.specs.QueueEntries.{queue_lane}
 use Rattle.esm_queue_core.specs.Next.{deleted_number, IsValidStored}
-use Rattle.esm_book.specs.Decided.{written_of, IsLineWithin}
+use Rattle.esm_book.specs.Decided.{written_of}
 use Rattle.esm_queue_core.specs.declared.owed.First.{First}
 use Rattle.esm_queue_core.specs.Coming.{gave_entries}
 use Rattle.esm_queue_core.specs.Kept.{IsRisingFrom, MayBeGiven, messages_stored}
 use Rattle.esm_queue_core.proofs.Named.{rising_lower, may_be_given, deletion_short}
 use Rattle.esm_redrive.specs.declared.limited.TheConstants.{MAX_RECEIVES}
 use Rattle.esm_redrive.specs.Limited.{Limited}
+use Rattle.esm_redrive.specs.ReadsBack.{IsUtf8Message}
 use Rattle.esm_redrive_core.specs.declared.owed.Gift.{Gift}
 use Rattle.esm_redrive_core.specs.Coming.{places_from}
 use Rattle.esm_redrive_core.specs.RedriveView.{RedriveView, owing, forgotten}
-use Rattle.esm_redrive_core.specs.Kept.{Parts, IsKept, IsBatch, IsGiftOf, IsCovered, CanAddFirst, own, setting_of, seen_of, all_of, HaveLineFirst, gift_line, gift_entry, gift_entries, owed_entries, cost}
-use Rattle.esm_redrive_core.proofs.Keeping.{own_valid}
+use Rattle.esm_redrive_core.specs.Kept.{Parts, IsKept, IsBatch, IsGiftOf, IsCovered, CanAddFirst, own, seen_of, HaveLineFirst, gift_line, gift_entry, gift_entries, owed_entries, cost}
+use Rattle.esm_redrive_core.proofs.Keeping.{own_valid, own_texts}
 
 -- places of messages that come
 
@@ -84,6 +85,7 @@ pub record Decides (p : Parts) (q : Limited) (capacity : ℕ) (coming : List Mes
   pub same : q.state ≡ p.limited.state
   pub limit : q.max_receives ≡ p.limited.max_receives
   pub valid : All (IsValidMessage p.config.kind) coming
+  pub texts : All IsUtf8Message coming
   pub few : length (messages_stored p.limited.state ++ coming) < 2 ^ 32
   pub room : p.number + cost first gifts p.running p.shut ≤ capacity
   pub short : p.number + cost first gifts p.running p.shut ≤ 2 ^ 40
@@ -98,6 +100,7 @@ kept_decided p q capacity coming first gifts k d =
       config = k.config;
       criteria = k.criteria;
       valid = subst (λ (r : QueueState). All (IsValidMessage p.config.kind) (messages_stored r ++ coming)) back (All-append (IsValidMessage p.config.kind) (messages_stored p.limited.state) coming (own_valid p k) d.valid);
+      texts = subst (λ (r : QueueState). All IsUtf8Message (messages_stored r ++ coming)) back (All-append IsUtf8Message (messages_stored p.limited.state) coming (own_texts p k) d.texts);
       few = subst (λ (r : QueueState). length (messages_stored r ++ coming) < 2 ^ 32) back d.few;
       queue = λ messages goes. d.same ∙ k.queue messages (subst (λ (r : QueueState). ExtendsMessages (messages_stored r) messages) d.same goes);
       stored = subst (λ (r : QueueState). All (IsValidStored p.config.kind) r.messages) back k.stored;

@@ -23,10 +23,11 @@ use Rattle.esm_queue_model.specs.Queue.{changed_from, received_once, deleted_onc
 use Rattle.esm_queue_model.specs.QueueSetting.{QueueSetting, message_at, is_found, ExtendsMessages}
 use Rattle.esm_queue_model.specs.QueueEntries.{queue_lane, queue_of, queue_count, is_deleted, coming_from}
 use Rattle.esm_queue_model.specs.QueueStep.{is_refused_message, unsorted_messages, succeeded_places, owed_places}
-use Rattle.esm_queue_model.proofs.Places.{In, In-here, In-there, In-none, filter-In, In-below}
+use Rattle.esm_queue_model.proofs.Places.{In, filter-In, In-below}
 use Rattle.esm_redrive_model.specs.RedriveSetting.{RedriveSetting, has_dead_id, redrive_over}
 use Rattle.esm_redrive_model.specs.Due.{known}
 use Rattle.esm_redrive_model.specs.RedriveStep.{MayMove, MayBeginRedrive, LegalRedrive}
+use Rattle.esm_queue_core.proofs.Settling.{filter_none, none_of}
 use Rattle.esm_redrive_model.proofs.Built.{Built, stored_count, succeeded_came}
 use Rattle.esm_redrive_model.proofs.Named.{built_of}
 use Rattle.esm_redrive_model.proofs.Ends.{gone_in, gone_right, gone_same, gone_more}
@@ -41,19 +42,6 @@ sound_over s h after goes sound = record {
   legal = redrive_over_more_in s h after goes sound.legal;
   settled = settled_over_more s h after goes sound.legal sound.settled;
 }
-
--- filters
-
-filter_none : (p : ℕ → Bool) (xs : List ℕ) → ((i : ℕ) → In xs i → p i ≡ true → ⊥) → filter p xs ≡ []
-filter_none p [] none = refl
-filter_none p (x ∷ xs) none =
-    elim (cases_Bool (p x)) [
-      | inl is ↦ absurd (none x (In-here x xs x refl) is)
-      | inr fails ↦ rw fails (filter_none p xs (λ i member passes. none i (In-there x xs i member) passes))
-    ]
-
-none_of : (p : ℕ → Bool) (xs : List ℕ) (i : ℕ) → filter p xs ≡ [] → In xs i → p i ≡ true → ⊥
-none_of p xs i none member passes = In-none i (subst (λ ys. In ys i) none (filter-In p xs i member passes))
 
 -- deleted messages stay deleted
 

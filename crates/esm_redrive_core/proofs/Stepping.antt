@@ -1,5 +1,5 @@
 -- What each call decides leaves of a sound history of a redrive.
-use Rattle.std.proofs.Common.{◌≡◌, ℕ, zero, suc, ◌+◌, ◌-◌, ◌<◌, ◌≤◌, false, true, not, List, [], ◌∷◌, ◌++◌, length, take, reverse, refl, sym, ap, ap₂, ◌∙◌, subst, arith, Option, Some, None, append-nil}
+use Rattle.std.proofs.Common.{◌≡◌, ℕ, zero, suc, ◌+◌, ◌-◌, ◌<◌, ◌≤◌, false, not, List, [], ◌∷◌, ◌++◌, length, take, reverse, refl, sym, ap, ◌∙◌, subst, arith, Option, Some, None, append-nil}
 use Rattle.std.specs.Prelude.{slice_get, option_map, unwrap_or}
 use Rattle.std.specs.Str.{bytes_eq}
 use Rattle.std.proofs.lemmas.Bool.{not-false}
@@ -7,20 +7,17 @@ use Rattle.esm_model.specs.declared.item.Message.{Message}
 use Rattle.esm_model.specs.declared.moment.TheConstants.{MAX_MOMENT}
 use Rattle.esm_model.specs.declared.setup.FoundDeletion.{FoundDeletion}
 use Rattle.esm_model.specs.declared.lane.LaneId.{LaneId}
-use Rattle.esm_model.specs.declared.book.Job.{Job}
 use Rattle.esm_model.specs.declared.book.Next.{Next}
 use Rattle.esm_model.specs.declared.book.Next.TheVariants as next
-use Rattle.esm_model.specs.declared.entry.Fate.{Fate}
 use Rattle.esm_model.specs.declared.entry.Fate.TheVariants.{Succeeded, Filtered, Exhausted}
-use Rattle.esm_model.specs.declared.entry.Reply.{Reply}
 use Rattle.esm_model.specs.declared.entry.Entry.{Entry}
 use Rattle.esm_model.specs.declared.entry.Entry.TheVariants.{Came, Began, Ended}
 use Rattle.esm_model.specs.Fates.{below}
-use Rattle.esm_model.specs.Entries.{is_running, is_shut, last_moment}
+use Rattle.esm_model.specs.Entries.{is_running, last_moment}
 use Rattle.esm_model.specs.Step.{IsLater}
 use Rattle.esm_queue_model.specs.Queue.{is_eligible, eligible}
-use Rattle.esm_queue_model.specs.QueueSetting.{QueueSetting, message_at, ExtendsMessages}
-use Rattle.esm_queue_model.specs.QueueEntries.{queue_lane, queue_of, queue_count}
+use Rattle.esm_queue_model.specs.QueueSetting.{message_at, ExtendsMessages}
+use Rattle.esm_queue_model.specs.QueueEntries.{queue_lane, queue_of}
 use Rattle.esm_queue_model.specs.QueueStep.{IsKeptMessage}
 use Rattle.esm_queue_model.proofs.Groups.{bytes_eq-true}
 use Rattle.esm_queue_model.proofs.Places.{In, In-here, In-filter, In-below}
@@ -43,8 +40,8 @@ use Rattle.esm_redrive_core.specs.declared.decisions.RedriveAnswer.{RedriveAnswe
 use Rattle.esm_redrive_core.specs.declared.decisions.RedriveAnswer.TheVariants as answer
 use Rattle.esm_redrive_core.specs.Coming.{known_from, dropped_from}
 use Rattle.esm_redrive_core.specs.RedriveView.{RedriveView, owing}
-use Rattle.esm_redrive_core.specs.Adding.{came_from, came_entries, entries_due, redrive_next_entries, ended_entries}
-use Rattle.esm_redrive_core.specs.Sound.{Sound, Brings, gave_on, recorded_on, ended_places}
+use Rattle.esm_redrive_core.specs.Adding.{came_entries, entries_due, redrive_next_entries, ended_entries}
+use Rattle.esm_redrive_core.specs.Sound.{Sound, Brings, gave_on, ended_places}
 use Rattle.esm_redrive_core.specs.Told.{MayCome, MayAsk, IsAnswer, coming_by, entries_by}
 use Rattle.esm_redrive_core.specs.Ahead.{IsConsistent, SoundAhead}
 use Rattle.esm_redrive_core.proofs.Settling.{sound_over, came_sound, moved_sound, began_sound, ended_sound}

@@ -1,39 +1,44 @@
 -- The entries of a redrive's core as they are told: the same over more messages; and what is written of them.
-use Rattle.std.proofs.Common.{◌≡◌, ℕ, ◌+◌, ◌<◌, ◌≤◌, List, [], ◌∷◌, ◌++◌, length, take, drop, map, reverse, refl, sym, ap, ap₂, ◌∙◌, subst, false, arith, append_assoc, append-nil, Option, Some, None}
+use Rattle.std.proofs.Common.{◌≡◌, ℕ, Bool, ◌+◌, ◌<◌, ◌≤◌, List, [], ◌∷◌, ◌++◌, length, take, drop, map, reverse, refl, sym, ap, ap₂, ◌∙◌, subst, false, arith, append-nil, Option, Some, None}
 use Rattle.std.specs.Prelude.{slice_get}
 use Rattle.std.specs.List.{All, cons_option}
 use Rattle.std.proofs.lemmas.List.{map-append, reverse-append, length-drop, length-map, take-append-le, drop-append-le}
-use Rattle.std.proofs.lemmas.List.Elements.{All-head, All-tail}
+use Rattle.std.proofs.lemmas.List.Elements.{All-nil, All-cons, All-head, All-tail}
 use Rattle.esm_model.specs.declared.moment.TheConstants.{MAX_MOMENT}
+use Rattle.esm_model.specs.declared.config.Kind.{Kind}
+use Rattle.esm_model.specs.declared.config.Kind.TheVariants as kinds
 use Rattle.esm_model.specs.declared.item.Message.{Message}
-use Rattle.esm_model.specs.declared.setup.Told.{Told}
 use Rattle.esm_model.specs.declared.entry.Entry.{Entry}
 use Rattle.esm_model.specs.declared.entry.Entry.TheVariants.{Came, Began, Ended, Gave, Tried, Closed, Replayed, Shut}
 use Rattle.esm_model.specs.Books.{entry_line}
-use Rattle.esm_model.specs.Entries.{last_moment}
+use Rattle.esm_model.specs.Items.{queue_kind}
+use Rattle.esm_model.specs.Valid.{is_stream}
+use Rattle.esm_model.specs.ValidMessage.{IsValidMessage}
 use Rattle.esm_journal_record.specs.Payload.{payload_of}
 use Rattle.esm_journal_record.specs.declared.said.Said.TheVariants.{Deleted}
 use Rattle.esm_journal_record.specs.EntryPayload.{ids_at, queue_payload}
 use Rattle.esm_book.specs.Decided.{written_of}
 use Rattle.esm_queue_model.specs.declared.stored.Stored.{Stored}
 use Rattle.esm_queue_model.specs.Queue.{QueueState}
-use Rattle.esm_queue_model.specs.QueueBooks.{messages_with, messages_told}
+use Rattle.esm_queue_model.specs.QueueBooks.{messages_told}
 use Rattle.esm_queue_model.specs.QueueEntries.{queue_of, queue_after}
-use Rattle.esm_queue_model.specs.QueueSetting.{QueueSetting, over_messages}
+use Rattle.esm_queue_model.specs.QueueSetting.{QueueSetting, over_messages, is_fifo}
 use Rattle.esm_queue_core.proofs.Added.{messages_came, messages_received, messages_deleted}
 use Rattle.esm_queue_core.specs.Kept.{messages_stored}
+use Rattle.esm_queue_core.proofs.ToldMessages.{messages-append}
 use Rattle.esm_queue_core.proofs.More.{filter_map_same, extends_append}
 use Rattle.esm_queue_core.proofs.Named.{within_at}
 use Rattle.esm_queue_core.specs.declared.owed.First.{First}
 use Rattle.esm_queue_core.specs.declared.owed.First.TheVariants as first
 use Rattle.esm_redrive.specs.Limited.{Limited}
+use Rattle.esm_redrive.specs.ReadsBack.{IsUtf8Message, HasLetter}
 use Rattle.esm_redrive_core.specs.declared.owed.Gift.{Gift}
 use Rattle.esm_redrive_core.specs.declared.decisions.RedriveEntry.{RedriveEntry}
 use Rattle.esm_redrive_core.specs.Ahead.{IsConsistent, comes_first}
 use Rattle.esm_redrive_core.specs.Kept.{Parts, IsKept, IsCovered, CanAddFirst, own, all_of, seen_of, owed_entries}
-use Rattle.esm_redrive_core.specs.RedriveView.{RedriveView, all_messages, owing}
-use Rattle.esm_redrive_core.specs.Told.{redrive_entry, redrive_entries, told_entries, history_of, owed_of}
-use Rattle.esm_redrive_core.proofs.Keeping.{within_of}
+use Rattle.esm_redrive_core.specs.RedriveView.{RedriveView, owing}
+use Rattle.esm_redrive_core.specs.Told.{redrive_entry, redrive_entries, told_entries, history_of}
+use Rattle.esm_redrive_core.proofs.Keeping.{within_of, own_valid, own_texts}
 
 -- over more messages
 
@@ -67,16 +72,10 @@ entries_over a b (e ∷ h) all =
 
 -- the messages that are told
 
-told-append : (messages : List Message) (es more : List Entry) → told_entries messages (es ++ more) ≡ told_entries messages es ++ told_entries messages more
+pub told-append : (messages : List Message) (es more : List Entry) → told_entries messages (es ++ more) ≡ told_entries messages es ++ told_entries messages more
 told-append messages es more =
     ap (map (λ (x : RedriveEntry). x.told)) (map-append (redrive_entry messages) es more)
     ∙ map-append (λ (x : RedriveEntry). x.told) (redrive_entries messages es) (redrive_entries messages more)
-
-messages-append : (history more : List Told) → messages_told (history ++ more) ≡ messages_told history ++ messages_told more
-messages-append [] more = refl
-messages-append (t ∷ history) more =
-    ap (λ (ms : List Message). messages_with t.messages t.entry ++ ms) (messages-append history more)
-    ∙ sym (append_assoc (messages_with t.messages t.entry) (messages_told history) (messages_told more))
 
 -- an entry brings those that it tells
 brings : (s : QueueSetting) (q : QueueState) (e : Entry) → messages_stored (queue_after s q e) ≡ messages_stored q ++ messages_told (told_entries s.messages (e ∷ []))
@@ -106,9 +105,25 @@ rests_kept q coming (Some (first.Came from count m)) gifts can none = absurd (cc
 rests_kept q coming (Some (first.Began lane places m)) gifts can none = can.0
 rests_kept q coming (Some (first.Ended lane reply m)) gifts can none = can.0
 
+-- the messages have letters
+pub kind_is : (kind : Kind) → is_stream kind ≡ false → queue_kind (is_fifo kind) ≡ kind
+kind_is kinds.Stream queue = absurd (cc)
+kind_is kinds.Standard queue = refl
+kind_is kinds.Fifo queue = refl
+
+abbrev pub GivesLetter : Type 0
+GivesLetter = (fifo : Bool) (m : Message) → IsUtf8Message m → IsValidMessage (queue_kind fifo) m → HasLetter fifo m
+
+all_letters : GivesLetter → (kind : Kind) (xs : List Message) → is_stream kind ≡ false → All (IsValidMessage kind) xs → All IsUtf8Message xs → All (HasLetter (is_fifo kind)) xs
+all_letters gives kind [] queue valid texts = All-nil (HasLetter (is_fifo kind))
+all_letters gives kind (x ∷ xs) queue valid texts =
+    All-cons (HasLetter (is_fifo kind)) x xs
+    (gives (is_fifo kind) x (All-head IsUtf8Message x xs texts) (subst (λ (k : Kind). IsValidMessage k x) (sym (kind_is kind queue)) (All-head (IsValidMessage kind) x xs valid)))
+    (all_letters gives kind xs queue (All-tail (IsValidMessage kind) x xs valid) (All-tail IsUtf8Message x xs texts))
+
 -- of a core
-pub consistent : (p : Parts) → IsKept p → IsConsistent (seen_of p)
-consistent p k =
+pub consistent : GivesLetter → (p : Parts) → IsKept p → IsConsistent (seen_of p)
+consistent gives p k =
     let long : length (messages_stored p.limited.state) ≡ length p.limited.state.messages = length-map p.limited.state.messages (λ (x : Stored). x.message) in
     record {
       queue = k.config.kind;
@@ -117,6 +132,8 @@ consistent p k =
       count = sym (long ∙ k.count);
       messages = ap messages_stored (k.queue (all_of p) (extends_append (messages_stored p.limited.state) p.coming)) ∙ messages-queue_of (over_messages (own p) (all_of p)) p.past;
       stays = λ more. entries_over (messages_stored p.limited.state) more p.past (subst (λ (n : ℕ). All (IsCovered n) p.past) (sym long) k.covered);
+      valid = own_valid p k;
+      letters = all_letters gives p.config.kind (messages_stored p.limited.state) k.config.kind (own_valid p k) (own_texts p k);
       rests = λ none. rests_kept p.limited p.coming p.first p.gifts k.first none;
       in_time = subst (λ m. m ≤ MAX_MOMENT) k.last k.in_time;
     }

@@ -1,16 +1,19 @@
 -- What is true of each core of a redrive, and what its decisions leave of a history that is legal and settled. This product's
 -- own.
-use Rattle.std.specs.Prelude.{◌≡◌, ℕ, ◌≤◌, Bool, true, false, List, [], ◌∷◌, ◌++◌, length, reverse}
+use Rattle.std.specs.Prelude.{◌≡◌, ◌≤◌, Bool, true, false, List, [], ◌∷◌, ◌++◌, length, reverse}
+use Rattle.std.specs.List.{All}
 use Rattle.esm_model.specs.declared.item.Message.{Message}
 use Rattle.esm_model.specs.declared.moment.TheConstants.{MAX_MOMENT}
 use Rattle.esm_model.specs.declared.entry.Entry.{Entry}
 use Rattle.esm_model.specs.declared.entry.Entry.TheVariants.{Came}
 use Rattle.esm_model.specs.Entries.{last_moment}
 use Rattle.esm_model.specs.Valid.{is_stream}
-use Rattle.esm_queue_model.specs.QueueSetting.{ExtendsMessages}
+use Rattle.esm_model.specs.ValidMessage.{IsValidMessage}
+use Rattle.esm_queue_model.specs.QueueSetting.{ExtendsMessages, is_fifo}
 use Rattle.esm_queue_model.specs.QueueEntries.{queue_count}
 use Rattle.esm_queue_model.specs.QueueBooks.{messages_told}
 use Rattle.esm_redrive.specs.declared.limited.TheConstants.{MAX_RECEIVES}
+use Rattle.esm_redrive.specs.ReadsBack.{HasLetter}
 use Rattle.esm_redrive_model.specs.RedriveSetting.{redrive_over}
 use Rattle.esm_redrive_core.specs.RedriveView.{RedriveView, all_messages}
 use Rattle.esm_redrive_core.specs.Sound.{Sound}
@@ -26,7 +29,8 @@ comes_first [] = false
 comes_first (e ∷ es) = is_coming e
 
 -- it is a queue's, with a limit that may be set; the messages that came are those that its history tells, and it is told alike
--- over each list that goes on from them; and messages are coming only where their `Came` is owed first
+-- over each list that goes on from them; each is valid, and its dead letter is found as this message again; and messages are
+-- coming only where their `Came` is owed first
 pub record IsConsistent (v : RedriveView) : Type 0 where
   pub queue : is_stream v.setting.queue.config.kind ≡ false
   pub some_receives : 1 ≤ v.setting.max_receives
@@ -34,6 +38,8 @@ pub record IsConsistent (v : RedriveView) : Type 0 where
   pub count : queue_count v.past ≡ length v.setting.queue.messages
   pub messages : v.setting.queue.messages ≡ messages_told (told_of v)
   pub stays : (more : List Message) → redrive_entries (v.setting.queue.messages ++ more) v.past ≡ redrive_entries v.setting.queue.messages v.past
+  pub valid : All (IsValidMessage v.setting.queue.config.kind) v.setting.queue.messages
+  pub letters : All (HasLetter (is_fifo v.setting.queue.config.kind)) v.setting.queue.messages
   pub rests : comes_first v.owed ≡ false → v.coming ≡ []
   pub in_time : last_moment v.past ≤ MAX_MOMENT
 

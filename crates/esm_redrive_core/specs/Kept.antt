@@ -1,5 +1,5 @@
 -- What is kept of the core of a redrive. Only this crate's proofs cite this.
-use Rattle.std.specs.Prelude.{◌≡◌, ℕ, ◌+◌, ◌<◌, ◌≤◌, ◌^◌, Bool, true, false, List, [], ◌∷◌, ◌++◌, length, map, Option, Some, None, ⊤, if◌then◌else◌}
+use Rattle.std.specs.Prelude.{◌≡◌, ℕ, ◌+◌, ◌<◌, ◌≤◌, ◌^◌, Bool, List, [], ◌∷◌, ◌++◌, length, map, Option, Some, None, ⊤, if◌then◌else◌}
 use Rattle.std.specs.List.{All}
 use Rattle.esm_model.specs.declared.limits.TheConstants.{MAX_BATCH, MAX_LINE, MAX_PAYLOAD}
 use Rattle.esm_model.specs.declared.moment.TheConstants.{MAX_MOMENT}
@@ -27,6 +27,7 @@ use Rattle.esm_queue_core.specs.Kept.{messages_stored, first_entries, IsRisingFr
 use Rattle.esm_redrive_model.specs.RedriveSetting.{RedriveSetting}
 use Rattle.esm_redrive.specs.declared.limited.TheConstants.{MAX_RECEIVES}
 use Rattle.esm_redrive.specs.Limited.{Limited, due_in}
+use Rattle.esm_redrive.specs.ReadsBack.{IsUtf8Message}
 use Rattle.esm_redrive_core.specs.declared.owed.Gift.{Gift}
 use Rattle.esm_redrive_core.specs.RedriveView.{RedriveView}
 
@@ -151,6 +152,7 @@ pub record IsKept (p : Parts) : Type 0 where
   pub config : IsQueueConfig p.config
   pub criteria : JudgesMessages p.config.kind p.config.filters p.criteria
   pub valid : All (IsValidMessage p.config.kind) (all_of p)
+  pub texts : All IsUtf8Message (all_of p)
   pub few : length (all_of p) < 2 ^ 32
   -- the queue is that of the history over all lists that go on from the messages that came
   pub queue : (messages : List Message) → ExtendsMessages (messages_stored p.limited.state) messages → p.limited.state ≡ queue_of (over_messages (own p) messages) p.past

@@ -1,5 +1,5 @@
 // What a list of messages brings to a redrive.
-ghost use Rattle.std.specs.Prelude.{◌≡◌, ◌+◌, ◌<◌, ◌≤◌, ◌^◌, ◌++◌, [], All, IfOk, None, length, reverse};
+ghost use Rattle.std.specs.Prelude.{◌≡◌, ◌+◌, ◌<◌, ◌≤◌, ◌^◌, ◌++◌, [], All, IfOk, OnOk, None, length, reverse};
 ghost use Rattle.esm_model.specs.declared.limits.TheConstants.{MAX_BATCH};
 ghost use Rattle.esm_model.specs.declared.moment.TheConstants.{MAX_MOMENT};
 ghost use Rattle.esm_model.specs.declared.entry.Fate.TheVariants.{Filtered, Exhausted};
@@ -9,6 +9,7 @@ ghost use Rattle.esm_filter.specs.Criteria.{JudgesMessages};
 ghost use Rattle.esm_book.specs.Decided.{written_of};
 ghost use Rattle.esm_queue_core.specs.Coming.{gave_entries};
 ghost use Rattle.esm_queue_core.specs.Kept.{messages_stored};
+ghost use Rattle.esm_redrive.specs.ReadsBack.{IsUtf8Message};
 ghost use Rattle.esm_redrive_model.specs.RedriveSetting.{RedriveSetting};
 ghost use Rattle.esm_redrive_core.specs.Kept.{gift_line, gift_entries, IsGiftOf};
 ghost use Rattle.esm_redrive_core.specs.Coming.{is_known_at, is_dropped_at, known_from, dropped_from};
@@ -20,7 +21,7 @@ use esm_filter::Criteria;
 use esm_journal_state::Says;
 use esm_model::{Config, Fate, Message, OutOfMemory};
 use esm_queue::Queue;
-use esm_redrive::DeadIds;
+use esm_redrive::{DeadIds, has_texts};
 use std::alloc::Global;
 
 /// Whether the message that comes at the place was not found deleted, and its line stands in the dead-letter file.
@@ -54,6 +55,15 @@ fn is_dropped(
     }
 }
 
+/// The texts of the messages are UTF-8. Does nothing.
+fn have_texts(items: &[Message])
+    ensures { All IsUtf8Message items.now }
+{
+    for place in 0..items.len() {
+        has_texts(&items[place]);
+    }
+}
+
 /// The places of the messages, from the place `from` on, whose line was found.
 pub(crate) fn known(
     alloc: Global,
@@ -63,7 +73,8 @@ pub(crate) fn known(
     from: u32,
 ) -> Result<Vec<u32>, OutOfMemory>
     requires { from + length items.now < 2 ^ 32 }
-    ensures { IfOk result (λ places. (s : RedriveSetting) → s.queue.deletions ≡ said.now.deletions → s.dead_ids ≡ dead.now → places.items ≡ known_from s from items.now) }
+    ensures { IfOk result (λ places. (s : RedriveSetting) → s.queue.deletions ≡ said.now.deletions → s.dead_ids ≡ dead.now →
+        places.items ≡ known_from s from items.now) }
 {
     let mut places = Vec::new(alloc);
     for (i, item) in items.iter().enumerate() {
@@ -117,11 +128,15 @@ pub(crate) fn gifts_for(
     requires few { length items.now ≤ MAX_BATCH }
     requires places { length (messages_stored queue.now.state ++ items.now) < 2 ^ 32 }
     requires in_time { moment ≤ MAX_MOMENT }
-    ensures entries { IfOk result (λ gifts. (s : RedriveSetting) → IsJudgedBy s said.now dead.now criteria.now → gift_entries (reverse gifts.items) ≡ gave_entries None (known_from s from items.now) Exhausted moment ++ gave_entries None (dropped_from s from items.now) Filtered moment) }
+    ensures entries { IfOk result (λ gifts. (s : RedriveSetting) → IsJudgedBy s said.now dead.now criteria.now →
+        gift_entries (reverse gifts.items)
+        ≡ gave_entries None (known_from s from items.now) Exhausted moment ++ gave_entries None (dropped_from s from items.now) Filtered moment) }
+    ensures texts { OnOk result (All IsUtf8Message items.now) }
     ensures written { IfOk result (λ gifts. All (IsGiftOf (messages_stored queue.now.state ++ items.now)) (reverse gifts.items)) }
     ensures no_lines { IfOk result (λ gifts. written_of gift_line (reverse gifts.items) ≡ []) }
     ensures short { IfOk result (λ gifts. length gifts.items ≤ 2) }
 {
+    have_texts(items);
     let mut gifts = Vec::new(alloc);
     let refused = dropped(alloc, said, dead, criteria, items, from)?;
     owe_first(

@@ -70,7 +70,8 @@ pub(crate) fn owe_first(
 ) -> Result<(), OutOfMemory>
     requires may { MayBeGiven (messages_stored queue.now.state ++ coming.now) places.items fate moment }
     requires all { All (IsGiftOf (messages_stored queue.now.state ++ coming.now)) (reverse gifts.old.items) }
-    ensures entries { OnOk result (gift_entries (reverse gifts.new.items) ≡ gave_entries by places.items fate moment ++ gift_entries (reverse gifts.old.items)) }
+    ensures entries { OnOk result (gift_entries (reverse gifts.new.items)
+        ≡ gave_entries by places.items fate moment ++ gift_entries (reverse gifts.old.items)) }
     ensures all { OnOk result (All (IsGiftOf (messages_stored queue.now.state ++ coming.now)) (reverse gifts.new.items)) }
     ensures lines { OnOk result (written_of gift_line (reverse gifts.new.items) ≡ written_of gift_line (reverse gifts.old.items)) }
     ensures few { OnOk result (length gifts.new.items ≤ length gifts.old.items + 1) }
@@ -106,7 +107,8 @@ pub(crate) fn move_of(
     requires within { place < length queue.now.state.messages }
     requires valid { (fifo : Bool) × All (IsValidMessage (queue_kind fifo)) (messages_stored queue.now.state) }
     requires may { MayBeGiven (messages_stored queue.now.state ++ []) (place ∷ []) Exhausted moment }
-    ensures entry { IfOk result (λ gift. gift_entry gift ≡ Gave (Some (queue_lane 0)) 0 (place ∷ []) Exhausted (option_map dead_letter (slice_get (messages_stored queue.now.state) place)) None moment) }
+    ensures entry { IfOk result (λ gift. gift_entry gift
+        ≡ Gave (Some (queue_lane 0)) 0 (place ∷ []) Exhausted (option_map dead_letter (slice_get (messages_stored queue.now.state) place)) None moment) }
     ensures written { IfOk result (IsGiftOf (messages_stored queue.now.state ++ [])) }
     ensures line { IfOk result (λ gift. IsLineWithin (written_of gift_line (gift ∷ [])) MAX_LINE) }
 {

@@ -48,8 +48,8 @@ pub fn shut_is_sound()
 
 /// What a call that may be made decides, over a history that is legal and settled: with it the history is so too.
 pub fn decided_is_sound()
-    ensures { (v : RedriveView) (asked : RedriveCall) (given : RedriveAnswer) → IsConsistent v → Sound v.setting v.past → MayAsk v asked → IsAnswer v asked given →
-        SoundAhead (owing v (coming_by asked) (entries_by v asked)) }
+    ensures { (v : RedriveView) (asked : RedriveCall) (given : RedriveAnswer) → IsConsistent v → Sound v.setting v.past →
+        MayAsk v asked → IsAnswer v asked given → SoundAhead (owing v (coming_by asked) (entries_by v asked)) }
 {
     due_by_queue();
 }

@@ -7,6 +7,7 @@ mod arriving;
 mod decisions;
 mod giving;
 pub mod laws;
+mod notes;
 mod owed;
 mod paying;
 mod redrive_core;

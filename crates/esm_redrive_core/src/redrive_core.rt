@@ -1,6 +1,6 @@
 // The core of a redrive: its history, the calls, moves and deletions that it decides on, and the entries it owes.
-ghost use Rattle.std.specs.Prelude.{◌≡◌, ◌+◌, ◌<◌, ◌≤◌, ◌^◌, ◌∷◌, [], min, max, IfOk, IfErr, IfSome, IfNone, OnOk, OnErr, All, length, take, reverse, false, true, if◌then◌else◌};
-ghost use Rattle.std.specs.Vec.{vec_capacity};
+ghost use Rattle.std.specs.Prelude.{◌≡◌, ◌+◌, ◌<◌, ◌≤◌, ◌^◌, ◌∷◌, [], All, length, take, reverse, false, true};
+ghost use Rattle.std.specs.Prelude.{IfOk, IfErr, IfSome, IfNone, OnOk, OnErr};
 ghost use Rattle.esm_model.specs.declared.limits.TheConstants.{MAX_BATCH, MAX_LINE, MAX_PAYLOAD};
 ghost use Rattle.esm_model.specs.declared.moment.TheConstants.{MAX_MOMENT};
 ghost use Rattle.esm_model.specs.QueueEvent.{IsQueueConfig};
@@ -11,7 +11,6 @@ ghost use Rattle.esm_filter.specs.Criteria.{JudgesMessages};
 ghost use Rattle.esm_book.specs.Decided.{written_of, lengths_of, IsLineWithin, IsRefused};
 ghost use Rattle.esm_model.specs.Books.{entry_line};
 ghost use Rattle.esm_journal_record.specs.EntryPayload.{queue_payload};
-ghost use Rattle.esm_queue_model.specs.QueueSetting.{is_fifo};
 ghost use Rattle.esm_redrive.specs.declared.limited.TheConstants.{MAX_RECEIVES};
 ghost use Rattle.esm_queue_model.specs.QueueEntries.{queue_lane, queue_of};
 ghost use Rattle.esm_queue_core.specs.CoreView.{moment_for};
@@ -26,20 +25,19 @@ ghost use Rattle.esm_redrive_core.specs.Ahead.{IsConsistent};
 
 use crate::arriving::gifts_for;
 use crate::giving::{move_of, owe_first};
+use crate::notes::{is_fifo, make_room, may_decide, past_of, raised_to};
 use crate::owed::{Gift, lengths_in};
 use crate::paying::{bring, delete_all, prepare_for};
 use esm_book::Refusal;
 use esm_filter::Criteria;
 use esm_journal_state::Says;
-use esm_model::{
-    Config, Entry, Fate, Job, Kind, MAX_ENTRIES, MAX_MOMENT, Message, Next, OutOfMemory, PastReply,
-    Reply,
-};
+use esm_model::{Config, Entry, Fate, Job, Message, Next, OutOfMemory, PastReply, Reply};
 use esm_queue_core::coming::{change_at, first_changed};
 use esm_queue_core::ending::succeeded;
 use esm_queue_core::gift::ids_at;
 use esm_queue_core::next::{Counts, began_by, decide_next};
 use esm_queue_core::owed::First;
+use esm_redrive::laws::has_letter;
 use esm_redrive::{DeadIds, LimitedQueue};
 use esm_verdict::read_queue;
 use std::alloc::Global;
@@ -87,49 +85,6 @@ impl Model for RedriveCore {
     ghost view = { view_of };
 
     ghost invariant = { IsCore };
-}
-
-fn is_fifo(kind: Kind) -> bool
-    ensures { result ≡ is_fifo kind }
-{
-    match kind {
-        Kind::Fifo => true,
-        Kind::Standard | Kind::Stream => false,
-    }
-}
-
-/// The moment that is noted: not before the last one.
-fn raised_to(last: u64, moment: u64) -> u64
-    requires { last ≤ MAX_MOMENT }
-    ensures value { result ≡ min (max moment last) MAX_MOMENT }
-    ensures goes_on { last ≤ result }
-    ensures in_time { result ≤ MAX_MOMENT }
-{
-    moment.max(last).min(MAX_MOMENT)
-}
-
-/// Room for what a call owes, for the end of the call that runs, and for the end of the input.
-fn make_room(history: &mut Vec<Entry>) -> Result<(), OutOfMemory>
-    ensures items { history.new.items ≡ history.old.items }
-    ensures capacity { vec_capacity history.old ≤ vec_capacity history.new }
-    ensures ok { OnOk result (length history.old.items + 5 ≤ vec_capacity history.new) }
-{
-    history.reserve(5)?;
-    Ok(())
-}
-
-/// The reply as a history has it.
-fn past_of(reply: Reply) -> PastReply
-    ensures { result ≡ reply }
-{
-    PastReply::of(&reply)
-}
-
-/// Whether a history of so many entries finds place for what a call may owe.
-fn may_decide(entries: usize) -> bool
-    ensures { result ≡ true → entries + 5 ≤ 2 ^ 40 }
-{
-    entries <= MAX_ENTRIES - 5
 }
 
 impl RedriveCore {
@@ -184,7 +139,8 @@ impl RedriveCore {
         requires valid { All (IsValidMessage self.old.setting.queue.config.kind) items.items }
         requires places { length self.old.setting.queue.messages + length items.items < 2 ^ 32 }
         ensures owes { OnOk result (self.new ≡ owing self.old items.items (came_entries self.old items.items moment)) }
-        ensures alike { OnOk result (NoneHasChanged self.old.setting.queue.deletions (length self.old.setting.queue.messages) items.items (length items.items)) }
+        ensures alike { OnOk result (NoneHasChanged self.old.setting.queue.deletions (length self.old.setting.queue.messages)
+            items.items (length items.items)) }
         ensures refused { IfErr result (IsRefused (IsFirstChange self.old items.items)) }
         ensures unchanged { OnErr result (self.new ≡ self.old) }
         ensures undone { OnOk result (forgotten self.new ≡ self.old) }
@@ -454,6 +410,7 @@ impl RedriveCore {
     pub fn keeps(&self)
         ensures { IsConsistent self.now }
     {
+        has_letter();
         let _ = &self.config;
     }
 
@@ -526,14 +483,6 @@ impl RedriveCore {
                 Some(line) => Some(line.as_slice()),
             },
         }
-    }
-
-    /// The number of entries of the history. Takes no memory.
-    pub fn entries(&self) -> u64
-        ensures value { result ≡ length self.now.past }
-        ensures few { result ≤ 2 ^ 40 }
-    {
-        self.history.len() as u64
     }
 
     /// The history, oldest entry first. Takes no memory.

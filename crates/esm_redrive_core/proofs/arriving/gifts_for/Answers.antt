@@ -1,15 +1,14 @@
-use Rattle.std.proofs.Common.{◌≡◌, ◌++◌, ◌∙◌, [], List, length, refl, sym, ap, subst}
+use Rattle.std.proofs.Common.{◌++◌, ◌∙◌, [], List, refl, sym, subst}
 use Rattle.std.specs.Prelude.{reverse}
 use Rattle.std.specs.List.{All}
 use Rattle.std.proofs.lemmas.List.{length-map}
 use Rattle.std.proofs.lemmas.List.Elements.{All-nil}
-use Rattle.esm_model.specs.declared.entry.Entry.{Entry}
 use Rattle.esm_queue_model.specs.declared.stored.Stored.{Stored}
 use Rattle.esm_queue_core.specs.Kept.{messages_stored}
 use Rattle.esm_redrive_model.specs.RedriveSetting.{RedriveSetting}
 use Rattle.esm_redrive_core.specs.declared.owed.Gift.{Gift}
 use Rattle.esm_redrive_core.specs.Coming.{is_known_at, is_dropped_at}
-use Rattle.esm_redrive_core.specs.Kept.{IsGiftOf, gift_entries}
+use Rattle.esm_redrive_core.specs.Kept.{IsGiftOf}
 use Rattle.esm_redrive_core.proofs.Owing.{places_given}
 use Rattle.esm_redrive_core.proofs.arriving.gifts_for.Goals as goal
 

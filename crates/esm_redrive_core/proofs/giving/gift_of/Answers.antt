@@ -1,4 +1,4 @@
-use Rattle.std.proofs.Common.{◌++◌, List, ℕ, ap, ap₂, sym, ◌∙◌}
+use Rattle.std.proofs.Common.{◌++◌, List, ℕ, ap, ap₂, ◌∙◌}
 use Rattle.esm_journal_record.specs.declared.said.Said.TheVariants.{Deleted}
 use Rattle.esm_journal_record.specs.Payload.{payload_of}
 use Rattle.esm_journal_record.specs.EntryPayload.{ids_at}

@@ -1,6 +1,5 @@
-use Rattle.std.proofs.Common.{◌≡◌, ◌≤◌, List, ℕ, length, true, false, sym, subst, IsUtf8}
-use Rattle.esm_model.specs.declared.limits.TheConstants.{MAX_LINE}
-use Rattle.esm_redrive_core.proofs.Moving.{letter_short, letter_utf8}
+use Rattle.std.proofs.Common.{◌≡◌, true, false}
+use Rattle.esm_redrive_core.proofs.Moving.{letter_utf8}
 use Rattle.esm_redrive_core.proofs.giving.letter_of.Goals as goal
 
 pub unreachable-requires : goal.unreachable-requires

@@ -1,4 +1,4 @@
-use Rattle.std.proofs.Common.{◌≡◌, ◌∙◌, ◌∷◌, [], List, ℕ, Option, Some, None, sym, ap, ap₂}
+use Rattle.std.proofs.Common.{◌∙◌, List, ℕ, Option, Some, None, sym, ap, ap₂}
 use Rattle.std.specs.Prelude.{option_map}
 use Rattle.esm_model.specs.declared.entry.Entry.TheVariants.{Gave}
 use Rattle.esm_model.specs.declared.entry.Fate.TheVariants.{Exhausted}

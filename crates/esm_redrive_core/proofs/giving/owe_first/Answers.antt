@@ -1,7 +1,6 @@
-use Rattle.std.proofs.Common.{◌≡◌, ◌≤◌, ◌++◌, vec_len, length, sym, ◌∙◌, arith}
+use Rattle.std.proofs.Common.{◌≤◌, ◌++◌, vec_len, length, sym, ◌∙◌, arith}
 use Rattle.std.proofs.lemmas.Bool.{eqb-true, eqb-false}
 use Rattle.esm_queue_core.specs.Kept.{messages_stored}
-use Rattle.esm_redrive_core.specs.Kept.{gift_entries}
 use Rattle.esm_redrive_core.proofs.Owing.{owed_before, all_before, lines_before, nothing_gave}
 use Rattle.esm_redrive_core.proofs.giving.owe_first.Goals as goal
 

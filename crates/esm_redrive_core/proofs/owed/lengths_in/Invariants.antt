@@ -1,5 +1,4 @@
 use Rattle.std.proofs.Common.{◌≡◌, ◌≤◌, drop, reverse, length}
-use Rattle.std.specs.List.{All}
 use Rattle.esm_book.specs.Decided.{lengths_of}
 use Rattle.esm_redrive_core.specs.Kept.{payloads_in}
 use Rattle.esm_redrive_core.proofs.owed.lengths_in.Given as goal

@@ -1,16 +1,14 @@
-use Rattle.std.proofs.Common.{◌≡◌, ◌∙◌, ◌<◌, ◌≤◌, ◌++◌, [], List, rules, arith, length, vec_len, refl, sym, ap, subst}
-use Rattle.std.specs.List.{All}
+use Rattle.std.proofs.Common.{◌≡◌, ◌∙◌, ◌<◌, ◌≤◌, [], rules, arith, length, vec_len, refl, sym, ap, subst}
 use Rattle.std.specs.Vec.{vec_capacity}
 use Rattle.std.proofs.lemmas.Bool.{eqb-false}
 use Rattle.std.proofs.lemmas.List.{length-reverse}
-use Rattle.esm_model.specs.ValidMessage.{IsValidMessage}
 use Rattle.esm_queue_model.specs.Queue.{QueueState}
-use Rattle.esm_queue_core.specs.Coming.{HasChangedFirst, NoneHasChanged}
+use Rattle.esm_queue_core.specs.Coming.{HasChangedFirst}
 use Rattle.esm_queue_core.proofs.Comes.{changed_there}
 use Rattle.esm_redrive_core.specs.RedriveView.{RedriveView}
 use Rattle.esm_redrive_core.specs.Kept.{owed_entries}
 use Rattle.esm_redrive_core.specs.Inside.{parts_of}
-use Rattle.esm_redrive_core.proofs.Arrived.{refused_for, places_few, slice_valid, slice_few, none_changed, came_decided}
+use Rattle.esm_redrive_core.proofs.Arrived.{refused_for, slice_valid, slice_few, came_decided}
 use Rattle.esm_redrive_core.proofs.Deciding.{kept_grown}
 use Rattle.esm_redrive_core.proofs.redrive_core.RedriveCore.came.Goals as goal
 
@@ -65,7 +63,7 @@ invariant_of-self-2 c =
     let done = came_decided p c.args.self.now c.args.items.items c.as_slice-2.result.now c.len-from.result c.raised_to-now.result c.self.invariant c.self.view_is c.as_slice-2.ensures.value from_is c.requires.valid c.requires.places
     c.reserve.new.self (vec_capacity c.make_room.new.history) c.self.inside.history.items c.make_room.new.history.items c.self.inside.said c.self.inside.dead c.in_ok-gifts.gifts.items c.queue-2.result.now.state c.len-count.result c.args.moment refl refl c.queue-2.ensures.state count some
     c.reserve.ensures.state c.reserve.ensures.limit (omega (arith, c.in_ok-reserve.ensures.ok, count)) c.raised_to-now.ensures.value
-    c.in_ok-gifts.ensures.entries c.in_ok-gifts.ensures.written c.in_ok-gifts.ensures.no_lines c.in_ok-gifts.ensures.short (length-reverse c.in_ok-gifts.gifts.items) (omega (arith, c.in_ok-make_room.ensures.ok)) (omega (arith, all, c.len.ensures, c.may_decide.ensures c.if-not-may_decide.false)) refl refl c.make_room.ensures.items in
+    c.in_ok-gifts.ensures.entries c.in_ok-gifts.ensures.texts c.in_ok-gifts.ensures.written c.in_ok-gifts.ensures.no_lines c.in_ok-gifts.ensures.short (length-reverse c.in_ok-gifts.gifts.items) (omega (arith, c.in_ok-make_room.ensures.ok)) (omega (arith, all, c.len.ensures, c.may_decide.ensures c.if-not-may_decide.false)) refl refl c.make_room.ensures.items in
     done.kept
 
 pub returns-clause-owes : goal.returns-clause-owes
@@ -80,5 +78,5 @@ returns-clause-owes c =
     let done = came_decided p c.args.self.now c.args.items.items c.as_slice-2.result.now c.len-from.result c.raised_to-now.result c.self.invariant c.self.view_is c.as_slice-2.ensures.value from_is c.requires.valid c.requires.places
     c.reserve.new.self (vec_capacity c.make_room.new.history) c.self.inside.history.items c.make_room.new.history.items c.self.inside.said c.self.inside.dead c.in_ok-gifts.gifts.items c.queue-2.result.now.state c.len-count.result c.args.moment refl refl c.queue-2.ensures.state count some
     c.reserve.ensures.state c.reserve.ensures.limit (omega (arith, c.in_ok-reserve.ensures.ok, count)) c.raised_to-now.ensures.value
-    c.in_ok-gifts.ensures.entries c.in_ok-gifts.ensures.written c.in_ok-gifts.ensures.no_lines c.in_ok-gifts.ensures.short (length-reverse c.in_ok-gifts.gifts.items) (omega (arith, c.in_ok-make_room.ensures.ok)) (omega (arith, all, c.len.ensures, c.may_decide.ensures c.if-not-may_decide.false)) refl refl c.make_room.ensures.items in
+    c.in_ok-gifts.ensures.entries c.in_ok-gifts.ensures.texts c.in_ok-gifts.ensures.written c.in_ok-gifts.ensures.no_lines c.in_ok-gifts.ensures.short (length-reverse c.in_ok-gifts.gifts.items) (omega (arith, c.in_ok-make_room.ensures.ok)) (omega (arith, all, c.len.ensures, c.may_decide.ensures c.if-not-may_decide.false)) refl refl c.make_room.ensures.items in
     done.owes

@@ -1,4 +1,4 @@
-use Rattle.std.proofs.Common.{◌≡◌, ◌∙◌, ◌<◌, ◌≤◌, ◌++◌, ◌∷◌, [], List, arith, length, refl, sym, ap, subst}
+use Rattle.std.proofs.Common.{◌≡◌, ◌∙◌, ◌<◌, ◌++◌, ◌∷◌, [], List, arith, length, refl, sym, ap, subst}
 use Rattle.std.specs.List.{All}
 use Rattle.std.specs.Vec.{vec_capacity}
 use Rattle.std.proofs.lemmas.List.{length-map}
@@ -16,7 +16,8 @@ use Rattle.esm_redrive_core.specs.Kept.{owed_entries}
 use Rattle.esm_redrive_core.specs.Inside.{parts_of}
 use Rattle.esm_redrive_core.proofs.Keeping.{own_valid}
 use Rattle.esm_redrive_core.proofs.Owing.{owed_none}
-use Rattle.esm_redrive_core.proofs.Deciding.{kind_is, moved_given, moved_decided, kept_grown}
+use Rattle.esm_redrive_core.proofs.Telling.{kind_is}
+use Rattle.esm_redrive_core.proofs.Deciding.{moved_given, moved_decided, kept_grown}
 use Rattle.esm_redrive_core.proofs.Due.{short_by}
 use Rattle.esm_redrive_core.proofs.redrive_core.RedriveCore.move_out.Goals as goal
 

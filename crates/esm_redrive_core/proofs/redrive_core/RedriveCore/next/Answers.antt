@@ -1,8 +1,8 @@
-use Rattle.std.proofs.Common.{◌≡◌, ◌∙◌, ◌∷◌, [], List, ℕ, rules, arith, length, vec_len, refl, sym, ap, subst, IfOk, OnOk}
+use Rattle.std.proofs.Common.{◌≡◌, ◌∙◌, [], List, ℕ, rules, length, vec_len, refl, sym, ap, subst, IfOk, OnOk}
 use Rattle.esm_model.specs.declared.book.Next.{Next}
 use Rattle.esm_model.specs.declared.entry.Entry.{Entry}
-use Rattle.esm_redrive_core.specs.RedriveView.{RedriveView, owing}
-use Rattle.esm_redrive_core.specs.Adding.{moved_entry, redrive_next, redrive_next_entries}
+use Rattle.esm_redrive_core.specs.RedriveView.{owing}
+use Rattle.esm_redrive_core.specs.Adding.{redrive_next, redrive_next_entries}
 use Rattle.esm_redrive_core.specs.Inside.{parts_of}
 use Rattle.esm_redrive_core.proofs.Due.{due_at, none_due, moment_is, short_of}
 use Rattle.esm_redrive_core.proofs.redrive_core.RedriveCore.next.Goals as goal

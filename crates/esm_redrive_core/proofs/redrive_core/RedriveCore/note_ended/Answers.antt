@@ -6,7 +6,6 @@ use Rattle.esm_model.specs.declared.entry.Entry.TheVariants.{Ended}
 use Rattle.esm_model.specs.Entries.{is_running}
 use Rattle.esm_queue_model.specs.QueueEntries.{queue_lane}
 use Rattle.esm_redrive_core.specs.RedriveView.{RedriveView}
-use Rattle.esm_redrive_core.specs.Kept.{IsKept}
 use Rattle.esm_redrive_core.specs.Inside.{parts_of}
 use Rattle.esm_redrive_core.proofs.Keeping.{kept_pushed, pushed_past, pushed_number}
 use Rattle.esm_redrive_core.proofs.Noting.{noting, kept_noted, end_notes, end_room}

@@ -1,4 +1,4 @@
-use Rattle.std.proofs.Common.{◌≡◌, ◌∙◌, ◌+◌, ◌<◌, ◌++◌, ◌∷◌, [], List, ℕ, Option, Some, None, true, false, refl, sym, ap, ap₂, subst, arith, length, reverse}
+use Rattle.std.proofs.Common.{◌≡◌, ◌∙◌, ◌+◌, ◌<◌, ◌++◌, ◌∷◌, [], List, ℕ, Some, None, true, false, refl, sym, ap, ap₂, subst, arith, length, reverse}
 use Rattle.std.specs.List.{All}
 use Rattle.std.specs.Vec.{vec_capacity}
 use Rattle.std.proofs.lemmas.List.{length-map, length-reverse}
@@ -16,7 +16,8 @@ use Rattle.esm_redrive_core.specs.declared.owed.Gift.{Gift}
 use Rattle.esm_redrive_core.specs.Kept.{Parts, IsKept, IsGiftOf, all_of, gift_entry}
 use Rattle.esm_redrive_core.specs.Inside.{parts_of}
 use Rattle.esm_redrive_core.proofs.Lines.{first_of}
-use Rattle.esm_redrive_core.proofs.Keeping.{all_own, is_paid, owed_first, owed_gift, can_first, none_coming, came_adds, began_adds, ended_adds, gave_adds, begun_few, deleted_within}
+use Rattle.esm_redrive_core.proofs.Keeping.{all_own, is_paid, owed_first, owed_gift, can_first, none_coming, came_adds, began_adds, ended_adds, gave_adds}
+use Rattle.esm_redrive_core.proofs.Room.{begun_few, deleted_within}
 use Rattle.esm_redrive_core.proofs.redrive_core.RedriveCore.pay.Goals as goal
 
 gift_within : (p : Parts) (g : Gift) (rest : List Gift) → IsKept p → p.first ≡ None → p.gifts ≡ g ∷ rest → All (λ i. i < length p.limited.state.messages) g.places
