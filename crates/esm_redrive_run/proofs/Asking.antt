@@ -36,7 +36,7 @@ use Rattle.esm_redrive_model.specs.RedriveStep.{LegalRedrive}
 use Rattle.esm_redrive_core.specs.declared.decisions.RedriveEntry.{RedriveEntry}
 use Rattle.esm_redrive_core.specs.Adding.{next_due, redrive_next, moved_entry, entries_due, redrive_next_entries}
 use Rattle.esm_redrive_core.specs.Told.{redrive_entries}
-use Rattle.esm_redrive_book.specs.Calls.{Added, AddedAll, AddedSome, RunsCall, IsSame, WasWriting, hand_of}
+use Rattle.esm_redrive_book.specs.Calls.{Added, AddedAll, AddedSome, RunsCall, IsSame, WasWriting, hand_of, tried_of}
 use Rattle.esm_serial.specs.Adding.{IsAnswered}
 use Rattle.esm_redrive_run.specs.Book.{Book, IsLegalBook, DoesRest, RunsJob, HasFinished, IsNoneDue, IsSpent}
 use Rattle.esm_redrive_run.proofs.Bringing.{no_trouble}
@@ -189,8 +189,8 @@ module _ {D : Type 0} (m : DiskMeaning D) (n : DestMeaning (JournalState D)) (t 
   abbrev now : ℕ
   now = moment_for old.core.past t
 
-  step_of : (es : List Entry) (hand : List RedriveEntry) → Added m n old.core.setting.queue.messages old new es hand → Each (IsAtMoment now) es → Each IsNoEnd es → Each (BeginsLater old.core.past) es → HasStepped t old new no_calls
-  step_of es hand added at ends begins =
+  step_of : (es : List Entry) (hand tried : List RedriveEntry) → Added m n old.core.setting.queue.messages old new es hand tried → Each (IsAtMoment now) es → Each IsNoEnd es → Each (BeginsLater old.core.past) es → HasStepped t old new no_calls
+  step_of es hand tried added at ends begins =
       stepped t old new old.core.setting.queue.messages es no_calls added.past added.setting added.found added.found_dest legal at
       (λ sends. ap (λ (s : RedriveSetting). redrive_calls s sends (reverse es ++ old.core.past)) added.setting
       ∙ (no_end_in old.core.setting.queue sends es old.core.past ends ∙ sym (append-nil (redrive_calls old.core.setting sends old.core.past))))
@@ -203,7 +203,7 @@ module _ {D : Type 0} (m : DiskMeaning D) (n : DestMeaning (JournalState D)) (t 
       let was : old.trouble ≡ None = no_trouble old.trouble up in
       let past : new.core.past ≡ reverse es ++ old.core.past = all.added.past in
       record {
-        step = step_of es [] all.added at ends begins;
+        step = step_of es [] [] all.added at ends begins;
         messages = ap (λ (s : RedriveSetting). s.queue.messages) all.added.setting;
         change = ap change_of all.trouble ∙ sym (ap change_of was);
         shut = λ is. ap is_shut past ∙ shut_more es old.core.past is;
@@ -236,7 +236,7 @@ module _ {D : Type 0} (m : DiskMeaning D) (n : DestMeaning (JournalState D)) (t 
       let was : old.trouble ≡ None = no_trouble old.trouble up in
       let shut : is_shut old.core.past ≡ true = rests.shut was in
       record {
-        step = step_of (Began job.lane job.places job.closing now ∷ []) [] all.added (refl, tt) (tt, tt) ((λ is. shut), tt);
+        step = step_of (Began job.lane job.places job.closing now ∷ []) [] [] all.added (refl, tt) (tt, tt) ((λ is. shut), tt);
         messages = ap (λ (s : RedriveSetting). s.queue.messages) all.added.setting;
         change = ap change_of all.trouble ∙ sym (ap change_of was);
         shut = λ is. ap is_shut all.added.past ∙ is;
@@ -307,8 +307,10 @@ module _ {D : Type 0} (m : DiskMeaning D) (n : DestMeaning (JournalState D)) (t 
       let s : RedriveSetting = old.core.setting in
       let was : old.trouble ≡ None = no_trouble old.trouble up in
       let front : some.front ≡ [] = none_before some.front some.rest (redrive_next_entries s old.core.past now) (one_at_most s now (due_in s.max_receives (queue_of s.queue old.core.past) now) (next_for s.queue old.core.past 0 now)) some.split (some_rest s.queue.messages why_down some.rest some.writing) in
-      let added : Added m n s.queue.messages old new [] (redrive_entries s.queue.messages (hand_of why_down some.rest)) = subst (λ (l : List Entry). Added m n s.queue.messages old new l (redrive_entries s.queue.messages (hand_of why_down some.rest))) front some.added in
-      refused e (step_of [] (redrive_entries s.queue.messages (hand_of why_down some.rest)) added tt tt tt) added.past added.setting (ap change_of some.trouble_is ∙ (none ∙ sym (ap change_of was))) (λ is. was) (inr (ap is_some some.trouble_is))
+      let hand : List RedriveEntry = redrive_entries s.queue.messages (hand_of why_down some.rest) in
+      let tried : List RedriveEntry = redrive_entries s.queue.messages (tried_of why_down some.rest) in
+      let added : Added m n s.queue.messages old new [] hand tried = subst (λ (l : List Entry). Added m n s.queue.messages old new l hand tried) front some.added in
+      refused e (step_of [] hand tried added tt tt tt) added.past added.setting (ap change_of some.trouble_is ∙ (none ∙ sym (ap change_of was))) (λ is. was) (inr (ap is_some some.trouble_is))
 
 pub asked : {D : Type 0} (m : DiskMeaning D) (n : DestMeaning (JournalState D)) (t : ℕ) (old new : Book D) (r : Result Next BookError) → NextDid m n t old new r → DoesRest old → IsQueueBefore old → IsLegalBook new → HasAsked t old new r
 asked {D} m n t old new (Ok x) did rests before legal =

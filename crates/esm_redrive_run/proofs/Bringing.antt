@@ -34,7 +34,7 @@ use Rattle.esm_redrive_core.specs.Adding.{came_from, came_entries}
 use Rattle.esm_redrive_core.specs.Ahead.{IsConsistent}
 use Rattle.esm_redrive_core.specs.Refusing.{IsFirstChange}
 use Rattle.esm_redrive_core.specs.Told.{MayCome, redrive_entries}
-use Rattle.esm_redrive_book.specs.Calls.{Added, AddedAll, AddedSome, AddedOne, IsSame, hand_of}
+use Rattle.esm_redrive_book.specs.Calls.{Added, AddedAll, AddedSome, AddedOne, IsSame, hand_of, tried_of}
 use Rattle.esm_redrive_book.specs.Keeping.{IsSound}
 use Rattle.esm_redrive_run.specs.Book.{Book, AreArrivals, IsLegalBook}
 use Rattle.esm_redrive_run.proofs.Following.{Each, each_front, each_both, IsAtMoment, IsArrival, arrivals_more, arrivals_open, arrivals_idle, arrivals_uncalled, arrivals_follow}
@@ -125,8 +125,8 @@ module _ {D : Type 0} (m : DiskMeaning D) (n : DestMeaning (JournalState D)) (t 
   entries = came_entries old.core list t
 
   -- entries that came, to the front of those that were to come
-  front_step : (front rest : List Entry) (hand : List RedriveEntry) → front ++ rest ≡ entries → Added m n all old new front hand → AreArrivals old.core.past → IsLegalBook new → HasStepped t old new no_calls
-  front_step front rest hand split added going legal =
+  front_step : (front rest : List Entry) (hand tried : List RedriveEntry) → front ++ rest ≡ entries → Added m n all old new front hand tried → AreArrivals old.core.past → IsLegalBook new → HasStepped t old new no_calls
+  front_step front rest hand tried split added going legal =
       let each : Each IsArrival front = each_front IsArrival front rest (subst (Each IsArrival) (sym split) (came_arrive old.core.setting (length old.core.setting.queue.messages) list now)) in
       let now_going : AreArrivals (reverse front ++ old.core.past) = arrivals_more front old.core.past each going in
       stepped t old new all front no_calls added.past added.setting added.found added.found_dest legal
@@ -134,22 +134,22 @@ module _ {D : Type 0} (m : DiskMeaning D) (n : DestMeaning (JournalState D)) (t 
       (λ sends. arrivals_uncalled new.core.setting.queue sends (reverse front ++ old.core.past) now_going ∙ sym (ap (λ (cs : List Called). cs ++ []) (arrivals_uncalled old.core.setting.queue sends old.core.past going)))
       (λ before. arrivals_follow (reverse front ++ old.core.past) now_going)
 
-  front_going : (front rest : List Entry) (hand : List RedriveEntry) → front ++ rest ≡ entries → Added m n all old new front hand → AreArrivals old.core.past → AreArrivals new.core.past
-  front_going front rest hand split added going =
+  front_going : (front rest : List Entry) (hand tried : List RedriveEntry) → front ++ rest ≡ entries → Added m n all old new front hand tried → AreArrivals old.core.past → AreArrivals new.core.past
+  front_going front rest hand tried split added going =
       subst AreArrivals (sym added.past)
       (arrivals_more front old.core.past (each_front IsArrival front rest (subst (Each IsArrival) (sym split) (came_arrive old.core.setting (length old.core.setting.queue.messages) list now))) going)
 
-  all_came : (es : List Entry) (hand : List RedriveEntry) → Added m n all old new es hand → new.core.setting.queue.messages ≡ old.core.setting.queue.messages ++ list
-  all_came es hand added = ap (λ (s : RedriveSetting). s.queue.messages) added.setting
+  all_came : (es : List Entry) (hand tried : List RedriveEntry) → Added m n all old new es hand tried → new.core.setting.queue.messages ≡ old.core.setting.queue.messages ++ list
+  all_came es hand tried added = ap (λ (s : RedriveSetting). s.queue.messages) added.setting
 
 pub come : {D : Type 0} (m : DiskMeaning D) (n : DestMeaning (JournalState D)) (t : ℕ) (list : List Message) (old new : Book D) (r : Result (Unit {0}) CameError) → CameDid m n t list old new r → AreArrivals old.core.past → IsLegalBook new → HasCome t list old new r
 come {D} m n t list old new (Ok x) did going legal =
     let added : AddedAll m n (old.core.setting.queue.messages ++ list) old new (came_entries old.core list t) = did.added in
     let up : is_some old.trouble ≡ true → ⊥ = λ is. (let never : Ok x ≡ Err refusal.Down = did.down.1 is in absurd (cc)) in
-    let came : new.core.setting.queue.messages ≡ old.core.setting.queue.messages ++ list = all_came m n t list old new (came_entries old.core list t) [] added.added in
+    let came : new.core.setting.queue.messages ≡ old.core.setting.queue.messages ++ list = all_came m n t list old new (came_entries old.core list t) [] [] added.added in
     record {
-      step = front_step m n t list old new (came_entries old.core list t) [] [] (append-nil (came_entries old.core list t)) added.added going legal;
-      going = front_going m n t list old new (came_entries old.core list t) [] [] (append-nil (came_entries old.core list t)) added.added going;
+      step = front_step m n t list old new (came_entries old.core list t) [] [] [] (append-nil (came_entries old.core list t)) added.added going legal;
+      going = front_going m n t list old new (came_entries old.core list t) [] [] [] (append-nil (came_entries old.core list t)) added.added going;
       came = came;
       some = ([], sym came ∙ sym (append-nil new.core.setting.queue.messages));
       up = ap is_some added.trouble;
@@ -160,11 +160,12 @@ come {D} m n t list old new (Ok x) did going legal =
 come {D} m n t list old new (Err refusal.DiskFault) did going legal =
     let some : AddedSome m n (old.core.setting.queue.messages ++ list) old new (came_entries old.core list t) trouble.Disk = did.stopped refl in
     let hand = redrive_entries (old.core.setting.queue.messages ++ list) (hand_of trouble.Disk some.rest) in
+    let tried = redrive_entries (old.core.setting.queue.messages ++ list) (tried_of trouble.Disk some.rest) in
     let up : is_some old.trouble ≡ true → ⊥ = λ is. (let never : Err refusal.DiskFault ≡ Err refusal.Down = did.down.1 is in absurd (cc)) in
-    let came : new.core.setting.queue.messages ≡ old.core.setting.queue.messages ++ list = all_came m n t list old new some.front hand some.added in
+    let came : new.core.setting.queue.messages ≡ old.core.setting.queue.messages ++ list = all_came m n t list old new some.front hand tried some.added in
     record {
-      step = front_step m n t list old new some.front some.rest hand some.split some.added going legal;
-      going = front_going m n t list old new some.front some.rest hand some.split some.added going;
+      step = front_step m n t list old new some.front some.rest hand tried some.split some.added going legal;
+      going = front_going m n t list old new some.front some.rest hand tried some.split some.added going;
       came = tt;
       some = ([], sym came ∙ sym (append-nil new.core.setting.queue.messages));
       up = tt;

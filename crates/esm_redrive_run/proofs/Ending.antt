@@ -26,7 +26,7 @@ use Rattle.esm_redrive_core.specs.Adding.{ended_entries}
 use Rattle.esm_redrive_core.specs.RedriveView.{RedriveView, IsRunningJob}
 use Rattle.esm_redrive_core.specs.Sound.{ended_places}
 use Rattle.esm_redrive_core.specs.Told.{redrive_entries}
-use Rattle.esm_redrive_book.specs.Calls.{Added, AddedAll, AddedSome, AddedOne, IsSame, WasWriting, hand_of}
+use Rattle.esm_redrive_book.specs.Calls.{Added, AddedAll, AddedSome, AddedOne, IsSame, WasWriting, hand_of, tried_of}
 use Rattle.esm_serial.specs.Adding.{call_to}
 use Rattle.esm_redrive_run.specs.Book.{Book, IsLegalBook, DoesRest, RunsJob}
 use Rattle.esm_redrive_run.proofs.Asking.{none_before, some_rest}
@@ -145,8 +145,9 @@ ended {D} m n t job reply old new (Err why.DiskFault) did runs legal =
     let messages : List Message = old.core.setting.queue.messages in
     let some = did.stopped refl in
     let hand : List RedriveEntry = redrive_entries messages (hand_of trouble.Disk some.rest) in
+    let tried : List RedriveEntry = redrive_entries messages (tried_of trouble.Disk some.rest) in
     let alone : some.front ≡ Ended (queue_lane 0) reply at ∷ [] = end_alone messages reply at (ended_places old.core.setting old.core.past reply at) some.front some.rest some.split some.writing in
-    let added : Added m n messages old new (Ended (queue_lane 0) reply at ∷ []) hand = subst (λ (es : List Entry). Added m n messages old new es hand) alone some.added in
+    let added : Added m n messages old new (Ended (queue_lane 0) reply at ∷ []) hand tried = subst (λ (es : List Entry). Added m n messages old new es hand tried) alone some.added in
     let up : is_some old.trouble ≡ true → ⊥ = λ is. (let never : Err why.DiskFault ≡ Err why.Down = did.down.1 is in absurd (cc)) in
     let was : old.trouble ≡ None = no_trouble old.trouble up in
     noted_end t job reply old new (Err why.DiskFault) (Ended (queue_lane 0) reply at ∷ []) runs legal (inl refl)

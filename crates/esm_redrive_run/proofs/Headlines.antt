@@ -1,48 +1,62 @@
 -- The headline of a redrive, from what is left of its run.
-use Rattle.std.proofs.Common.{◌≡◌, ◌∙◌, ℕ, Bool, true, false, List, [], ◌∷◌, ◌++◌, map, take, Option, Some, None, ap, ap₂, append-nil, arith, inl, inr, refl, subst, sym}
+use Rattle.std.proofs.Common.{◌≡◌, ◌∙◌, ℕ, ◌<◌, ◌≤◌, ◌^◌, Bool, true, false, List, [], ◌∷◌, ◌++◌, length, map, take, Option, Some, None, ap, ap₂, append-nil, append_assoc, arith, inl, inr, refl, subst, sym}
 use Rattle.std.specs.Prelude.{reverse, if◌then◌else◌}
 use Rattle.std.proofs.lemmas.List.Elements.{filter_map-append}
 use Rattle.esm_io.specs.Faults.{Rose}
+use Rattle.esm_io.specs.Images.{Only}
 use Rattle.esm_io.specs.Meanings.{DiskMeaning}
 use Rattle.esm_journal.specs.File.{header_of}
 use Rattle.esm_journal.specs.Pair.{PairOpensTo, PairState, first_disk, second_disk}
-use Rattle.esm_journal.specs.State.{JournalState, Keeps, StillOpens}
+use Rattle.esm_journal.specs.State.{JournalState, Keeps, OpensTo}
 use Rattle.esm_model.specs.declared.book.Trouble.{Trouble}
 use Rattle.esm_model.specs.declared.book.Trouble.TheVariants.{Disk, Dest, Changed}
 use Rattle.esm_model.specs.declared.entry.Entry.{Entry}
+use Rattle.esm_model.specs.Books.{entry_line}
 use Rattle.esm_model.specs.Entries.{CallsFollowShut}
+use Rattle.esm_queue_model.specs.QueueSetting.{is_fifo}
 use Rattle.esm_book.specs.Decided.{written_of}
-use Rattle.esm_book.specs.Growth.{OpensToFront}
-use Rattle.esm_book.specs.State.{in_hand, is_dest, is_disk}
-use Rattle.esm_folder.specs.Upkeep.{AreHonest, OneRose, PairHolds}
+use Rattle.esm_book.specs.Growth.{IsHeld, OpensToFront, ReadsFront}
+use Rattle.esm_book.specs.State.{in_delivery, in_hand, is_dest, is_disk}
+use Rattle.esm_folder.specs.Upkeep.{AreHonest, AreSettled, OneRose, PairHolds}
 use Rattle.esm_folder.proofs.OpenedDisks.{are_honest, pair_holds}
 use Rattle.esm_journal_record.specs.EntryPayload.{queue_payload}
 use Rattle.esm_queue_book.specs.Books.{payloads_in}
 use Rattle.esm_redrive_core.specs.Told.{redrive_entry}
 use Rattle.esm_redrive_book.specs.Books.{redrive_meaning, payload_in, line_in}
-use Rattle.esm_redrive_book.specs.Keeping.{entries_left}
+use Rattle.esm_redrive_core.specs.Told.{owed_of}
+use Rattle.esm_redrive_book.specs.Keeping.{FollowsFront, entries_left}
 use Rattle.esm_redrive_model.specs.RedriveSetting.{RedriveSetting, HaveSameIds, redrive_over, with_dead_ids}
+use Rattle.esm_redrive_life.specs.Content.{HasValidMessages, IsOpenedOver}
 use Rattle.esm_redrive_model.specs.RedriveLaws.{HaveDifferentIds}
+use Rattle.esm_redrive_model.specs.RedriveStep.{SettledRedrive}
 use Rattle.esm_runner.specs.Files.{FilesState}
 use Rattle.esm_runner.specs.Given.{AreGiven}
 use Rattle.esm_runner.specs.Headline.{PairStopped}
 use Rattle.esm_runner.proofs.Headlines.{in_hand_few, is_in_hand, not_disk}
 use Rattle.esm_runner.proofs.Stopped.{HasGoneDown, filter_map_few, pair_stopped}
 use Rattle.esm_redrive_run.specs.Book.{Book}
-use Rattle.esm_redrive_run.specs.Headline.{CrashKept, DeadLettersKept, Disks, Headline, JournalKept, JournalStopped, LinesKept, LinesStopped, OpensToFrontOf, dead_letters}
+use Rattle.esm_redrive_run.specs.Headline.{CrashKept, DeadLettersKept, Disks, Headline, IsTried, JournalKept, JournalStopped, LettersCrashKept, LinesKept, LinesStandFirst, LinesStopped, OpensToFrontOf, OpensToLettersOf, OpensWithLetters, dead_letters}
 use Rattle.esm_redrive_run.specs.Laws.{AreLaws}
 use Rattle.esm_redrive_run.specs.Runs.{IsLeft, dead_file}
 use Rattle.esm_redrive_run.proofs.Earned.{only_earned}
 use Rattle.esm_redrive_run.proofs.Orderly.{deleted_once_in, order_per_group_in, replies_logged}
 use Rattle.esm_redrive_run.proofs.Reasons.{found_for_these}
 use Rattle.esm_redrive_run.proofs.Settling.{settled_ids, settled_why}
-use Rattle.esm_redrive_run.proofs.Written.{left_is, letters_are, paid_is, parted, payloads_are, sent_same}
+use Rattle.esm_redrive_run.proofs.Written.{all_lines_are, first_letters, left_is, lines_left_are, paid_is, parted, payloads_are, tried_lines_are}
 
 -- of the disks of a pair, by their order in it, the one in use failed
 one_rose : {D : Type 0} (m : DiskMeaning D) (swapped : Bool) (used spare now other : D) → Rose (m.faults used) (m.faults now)
     → OneRose m (if swapped then spare else used) (if swapped then used else spare) (if swapped then other else now) (if swapped then now else other)
 one_rose m false used spare now other rose = inl rose
 one_rose m true used spare now other rose = inr rose
+
+-- an entry is tried where the file failed, and then one at most
+is_tried_so : (why : Option Trouble) (owed : List Entry) → IsTried why (in_delivery why owed)
+is_tried_so None owed = refl
+is_tried_so (Some Disk) owed = refl
+is_tried_so (Some Dest) [] = omega arith
+is_tried_so (Some Dest) (e ∷ owed) = omega arith
+is_tried_so (Some (Changed change)) owed = refl
 
 -- the devices are those of the book
 pub record AreOf {D : Type 0} (b : Book D) (new : Disks D) : Type 0 where
@@ -56,6 +70,9 @@ module _ {D : Type 0} (m : DiskMeaning D) (f : FilesState D) (b : Book D) (left 
 
   abbrev hand : List Entry
   hand = in_hand b.trouble b.core.owed
+
+  abbrev tried : List Entry
+  tried = in_delivery b.trouble b.core.owed
 
   -- the journal
 
@@ -141,12 +158,60 @@ module _ {D : Type 0} (m : DiskMeaning D) (f : FilesState D) (b : Book D) (left 
       let lines = map (λ line. line) (written_of line_in (entries_left b)) in
       let grown : ◌≡◌ {A = Option (List (List ℕ))} (Some b.dest.payloads) (Some (b.found_dest.payloads ++ lines)) = left.written.grown.delivered.told in
       let told : b.dest.payloads ≡ b.found_dest.payloads ++ lines = cc in
-      let same : lines ≡ dead_letters (reverse b.core.past ++ hand) =
-      sent_same (written_of line_in (entries_left b)) ∙ (ap (written_of line_in) (left_is b left.sound left.consistent) ∙ letters_are own.queue.messages (reverse b.core.past ++ hand)) in
-      told ∙ ap₂ (λ (d : JournalState D) (ls : List (List ℕ)). d.payloads ++ ls) left.found_dest same
+      told ∙ ap₂ (λ (d : JournalState D) (ls : List (List ℕ)). d.payloads ++ ls) left.found_dest (lines_left_are b left.sound left.consistent)
 
   dest_honest : m.honest f.failures ≡ true → m.honest b.dest.disk ≡ true
   dest_honest honest = left.written.grown.delivered.honesty ∙ (ap (λ (d : JournalState D). m.honest d.disk) left.found_dest ∙ (left.files.lines_read.honesty ∙ honest))
+
+  found_honest : m.honest f.failures ≡ true → m.honest b.found_dest.disk ≡ true
+  found_honest honest = ap (λ (d : JournalState D). m.honest d.disk) left.found_dest ∙ (left.files.lines_read.honesty ∙ honest)
+
+  found_lines_told : ◌≡◌ {A = Option (List (List ℕ))} (Some b.found_dest.payloads) (Some f.dest.payloads)
+  found_lines_told = ap (λ (d : JournalState D). Some d.payloads) left.found_dest
+
+  -- as it was opened it has the lines found, and no others
+  held_at_first : m.honest f.failures ≡ true → IsHeld (dead_file m) b.found_dest f.dest.payloads
+  held_at_first honest bytes since =
+      let opened : m.honest f.dest.disk ≡ true = left.files.lines_read.honesty ∙ honest in
+      let keeps : Keeps m (header_of 1) f.dest.payloads f.dest.disk = left.files.lines_kept opened left.files.dest_up in
+      let now : m.since f.dest.disk (m.moment f.dest.disk) bytes = subst (λ (d : JournalState D). m.since d.disk (m.moment d.disk) bytes) left.found_dest since in
+      subst (OpensTo (header_of 1) f.dest.payloads) (sym (keeps.durable bytes (left.only_now f.dest.disk bytes opened now))) keeps.opens
+
+  -- the first lines of these entries, behind those
+  letters_of : (before : List (List ℕ)) (es : List Entry) (lines : List (List ℕ)) (bytes : List ℕ) → lines ≡ dead_letters es
+      → ReadsFront (λ left lines. OpensTo (header_of 1) lines left) before lines bytes → OpensToLettersOf before es bytes
+  letters_of before es lines bytes are read =
+      let first = first_letters es read.front read.rest (read.split ∙ are) in
+      record { front = first.front; rest = first.rest; split = first.split; opens = subst (λ (ls : List (List ℕ)). OpensTo (header_of 1) (before ++ ls) bytes) (sym first.are) read.reads }
+
+  -- each image now
+  letters_now : m.honest f.failures ≡ true → (bytes : List ℕ) → m.image b.dest.disk bytes → OpensToLettersOf (f.dest.payloads ++ dead_letters (reverse b.core.past ++ hand)) tried bytes
+  letters_now honest bytes image =
+      let lines = map (λ line. line) (written_of line_in (entries_left b)) in
+      let further = map (λ line. line) (written_of line_in (in_delivery b.trouble (owed_of b.core))) in
+      let reads : List ℕ → List (List ℕ) → Type 0 = λ left lines. OpensTo (header_of 1) lines left in
+      let since : m.since b.dest.disk (m.moment b.dest.disk) bytes = left.counts_now b.dest.disk (m.moment b.dest.disk) bytes (dest_honest honest) (omega arith) image in
+      let read : ReadsFront reads (f.dest.payloads ++ lines) further bytes =
+      left.written.grown.delivered.durable (found_honest honest) f.dest.payloads found_lines_told (held_at_first honest) bytes since in
+      letters_of (f.dest.payloads ++ dead_letters (reverse b.core.past ++ hand)) tried further bytes (tried_lines_are b left.sound left.consistent)
+      (subst (λ (ls : List (List ℕ)). ReadsFront reads (f.dest.payloads ++ ls) further bytes) (lines_left_are b left.sound left.consistent) read)
+
+  -- and each since the run's start
+  letters_since : m.honest f.failures ≡ true → Only (m.content f.failures) (m.image f.failures) → (bytes : List ℕ) → m.since b.dest.disk (m.moment f.failures) bytes
+      → OpensToLettersOf f.dest.payloads (reverse b.core.past ++ hand ++ tried) bytes
+  letters_since honest settled bytes since =
+      let all : List Entry = reverse b.core.past ++ hand ++ tried in
+      let lines = map (λ line. line) (written_of line_in (entries_left b ++ in_delivery b.trouble (owed_of b.core))) in
+      let read = left.files.lines_read.any_moment honest in
+      let takes = left.written.grown.delivered.images (found_honest honest) f.dest.payloads found_lines_told in
+      let early : m.moment f.failures ≤ m.moment b.found_dest.disk = subst (λ (d : JournalState D). m.moment f.failures ≤ m.moment d.disk) (sym left.found_dest) read.later in
+      elim (takes.images (m.moment f.failures) bytes early since) [
+        | inl was ↦
+            (let image : m.image f.failures bytes = read.each bytes (subst (λ (d : JournalState D). m.since d.disk (m.moment f.failures) bytes) left.found_dest was) in
+            let opens : OpensTo (header_of 1) f.dest.payloads bytes = subst (OpensTo (header_of 1) f.dest.payloads) (sym (settled bytes image)) (left.files.opens_lines honest) in
+            record { front = []; rest = all; split = refl; opens = subst (λ (ls : List (List ℕ)). OpensTo (header_of 1) ls bytes) (sym (append-nil f.dest.payloads)) opens })
+        | inr front ↦ letters_of f.dest.payloads all lines bytes (all_lines_are b left.sound left.consistent) front
+      ]
 
   -- and the devices as they were handed back
 
@@ -175,46 +240,88 @@ module _ {D : Type 0} (m : DiskMeaning D) (f : FilesState D) (b : Book D) (left 
         subst (λ (x : D). Keeps m (header_of 1) (f.dest.payloads ++ lines) x) (sym of.dead)
         (subst (λ (list : List (List ℕ)). Keeps m (header_of 1) list b.dest.disk) grown (left.dest_kept (dest_honest honest) up))
 
-    lines_down : (lines : List (List ℕ)) → b.dest.payloads ≡ f.dest.payloads ++ lines → b.dest.down ≡ true → LinesStopped m f lines new
-    lines_down lines grown down honest =
-        subst (λ (x : D). StillOpens m (header_of 1) (f.dest.payloads ++ lines) x) (sym of.dead)
-        (subst (λ (list : List (List ℕ)). StillOpens m (header_of 1) list b.dest.disk) grown (left.dest_stopped (dest_honest honest) down))
-
-    letters_kept : (why : Option Trouble) → b.trouble ≡ why → DeadLettersKept m f why b.core.past (in_hand why b.core.owed) new
+    letters_kept : (why : Option Trouble) → b.trouble ≡ why → DeadLettersKept m f why b.core.past (in_hand why b.core.owed) (in_delivery why b.core.owed) new
     letters_kept why is =
         at why (subst (λ (x : Option Trouble). b.dest.payloads ≡ f.dest.payloads ++ dead_letters (reverse b.core.past ++ in_hand x b.core.owed)) is letters_grown) (left.written.dest_failed ∙ ap is_dest is)
+        (subst (λ (x : Option Trouble). m.honest f.failures ≡ true → (bytes : List ℕ) → m.image b.dest.disk bytes → OpensToLettersOf (f.dest.payloads ++ dead_letters (reverse b.core.past ++ in_hand x b.core.owed)) (in_delivery x b.core.owed) bytes) is letters_now)
       where
-        at : (x : Option Trouble) → b.dest.payloads ≡ f.dest.payloads ++ dead_letters (reverse b.core.past ++ in_hand x b.core.owed) → b.dest.down ≡ is_dest x → DeadLettersKept m f x b.core.past (in_hand x b.core.owed) new
-        at None grown failed = lines_up (dead_letters (reverse b.core.past ++ [])) grown failed
-        at (Some Disk) grown failed = lines_up (dead_letters (reverse b.core.past ++ take 1 b.core.owed)) grown failed
-        at (Some Dest) grown failed = lines_down (dead_letters (reverse b.core.past)) (grown ∙ ap (λ (es : List Entry). f.dest.payloads ++ dead_letters es) (append-nil (reverse b.core.past))) failed
-        at (Some (Changed change)) grown failed = lines_up (dead_letters (reverse b.core.past ++ [])) grown failed
+        at : (x : Option Trouble) → b.dest.payloads ≡ f.dest.payloads ++ dead_letters (reverse b.core.past ++ in_hand x b.core.owed) → b.dest.down ≡ is_dest x
+            → (m.honest f.failures ≡ true → (bytes : List ℕ) → m.image b.dest.disk bytes → OpensToLettersOf (f.dest.payloads ++ dead_letters (reverse b.core.past ++ in_hand x b.core.owed)) (in_delivery x b.core.owed) bytes)
+            → DeadLettersKept m f x b.core.past (in_hand x b.core.owed) (in_delivery x b.core.owed) new
+        at None grown failed now = lines_up (dead_letters (reverse b.core.past ++ [])) grown failed
+        at (Some Disk) grown failed now = lines_up (dead_letters (reverse b.core.past ++ take 1 b.core.owed)) grown failed
+        at (Some Dest) grown failed now = λ honest bytes image.
+            subst (λ (h : List Entry). OpensToLettersOf (f.dest.payloads ++ dead_letters h) (take 1 b.core.owed) bytes) (append-nil (reverse b.core.past))
+            (now honest bytes (subst (λ (d : D). m.image d bytes) of.dead image))
+        at (Some (Changed change)) grown failed now = lines_up (dead_letters (reverse b.core.past ++ [])) grown failed
+
+    letters_crash : LettersCrashKept m f b.core.past hand tried new
+    letters_crash honest settled bytes since = letters_since honest settled bytes (subst (λ (d : D). m.since d (m.moment f.failures) bytes) of.dead since)
+
+    stand_first : LinesStandFirst m f own b.core.past hand new
+    stand_first honest settled dead one other bytes since other_since image =
+        let o = crash_kept honest settled one other since other_since in
+        let now = letters_now dead bytes (subst (λ (d : D). m.image d bytes) of.dead image) in
+        let both : dead_letters (reverse b.core.past ++ hand) ≡ dead_letters o.front ++ dead_letters o.rest = ap dead_letters (sym o.split) ∙ filter_map-append entry_line o.front o.rest in
+        let further : List (List ℕ) = dead_letters now.front in
+        record {
+          front = o.front;
+          rest = o.rest;
+          split = o.split;
+          opens = o.opens;
+          more = dead_letters o.rest ++ further;
+          lines_open = subst (λ (ls : List (List ℕ)). OpensTo (header_of 1) ls bytes)
+              (ap (λ (ls : List (List ℕ)). (f.dest.payloads ++ ls) ++ further) both
+              ∙ (ap (λ (ls : List (List ℕ)). ls ++ further) (sym (append_assoc f.dest.payloads (dead_letters o.front) (dead_letters o.rest)))
+              ∙ append_assoc (f.dest.payloads ++ dead_letters o.front) (dead_letters o.rest) further))
+              now.opens;
+        }
+
+    -- an entry follows a front, over other ids of the same lines
+    follows_ids : (ids : List (List ℕ)) → HaveSameIds own.dead_ids ids → AreLaws → (e : Entry) → FollowsFront own b.core.past e → FollowsFront (with_dead_ids own ids) b.core.past e
+    follows_ids ids same laws e front = record {
+      before = front.before;
+      later = front.later;
+      split = front.split;
+      ends = front.ends;
+      follows = λ messages goes. (laws.same (redrive_over own messages) ids (e ∷ front.before) same).legal (front.follows messages goes);
+    }
 
     -- all of it, over other ids of the same lines
-    pub headline : (gave : ℕ → Bool) (ids : List (List ℕ)) → HaveSameIds own.dead_ids ids → own.queue.deletions ≡ f.said.deletions → HaveDifferentIds own.queue.messages → AreLaws → AreGiven gave b.core.past → CallsFollowShut b.core.past
-        → Headline m gave f (with_dead_ids own ids) b.core.past b.trouble hand new
-    headline gave ids same deletions different laws given later =
+    pub headline : (gave : ℕ → Bool) (ids : List (List ℕ)) → HaveSameIds own.dead_ids ids → own.queue.deletions ≡ f.said.deletions → HaveDifferentIds own.queue.messages → length own.queue.messages < 2 ^ 32 → AreLaws → AreGiven gave b.core.past → CallsFollowShut b.core.past
+        → Headline m gave f (with_dead_ids own ids) b.core.past b.trouble hand tried new
+    headline gave ids same deletions different few laws given later =
+        let s : RedriveSetting = with_dead_ids own ids in
         let legal = (laws.same own ids b.core.past same).legal left.sound.legal in
+        let valid : HasValidMessages s.queue = record { valid = left.consistent.valid; few = few } in
+        let opened : IsOpenedOver s.queue f.pair.payloads = record { told = f.said; tells = left.files.tells; found = deletions } in
+        let settled : (b.trouble ≡ Some Disk → ⊥) → (b.trouble ≡ Some Dest → ⊥) → SettledRedrive s b.core.past =
+        λ disk dest. settled_ids own ids b.core.past (laws.same own ids b.core.past same) (settled_why own b.core.past b.trouble left.sound.settled left.sound.changed left.sound.legal later disk dest) in
         record {
           legal_trace = λ messages goes. laws.more (with_dead_ids own ids) b.core.past messages goes legal;
           messages_came = left.consistent.count;
-          settled = λ disk dest. settled_ids own ids b.core.past (laws.same own ids b.core.past same) (settled_why own b.core.past b.trouble left.sound.settled left.sound.changed left.sound.legal later disk dest);
+          settled = settled;
           moments = given;
           read_first = later;
           journal_kept = journal_kept;
           journal_stopped = journal_stopped;
           in_hand = is_in_hand b.trouble b.core.owed;
-          hand_follows = λ e some.
-              let front = left.sound.hand e some in
-              record {
-                before = front.before;
-                later = front.later;
-                split = front.split;
-                ends = front.ends;
-                follows = λ messages goes. (laws.same (redrive_over own messages) ids (e ∷ front.before) same).legal (front.follows messages goes);
-              };
+          hand_follows = λ e some. follows_ids ids same laws e (left.sound.hand e some);
           crash = crash_kept;
           dead_letters_kept = letters_kept b.trouble refl;
+          is_tried = is_tried_so b.trouble b.core.owed;
+          tried_follows = λ e some. follows_ids ids same laws e (left.sound.tried e some);
+          tried_moves = λ e line some has.
+              (let front = follows_ids ids same laws e (left.sound.tried e some) in
+              record { front = front; due = laws.due s front.before e line (front.follows own.queue.messages (λ i x at. at)) has });
+          letters_crash = letters_crash;
+          lines_stand_first = stand_first;
+          deletions_are_recorded = laws.recorded s b.core.past f.pair.payloads opened valid legal;
+          valid = valid;
+          letters = left.consistent.letters;
+          letters_go_on = λ letters. laws.goes (is_fifo own.queue.config.kind) f.dest.payloads s b.core.past left.consistent.letters legal letters;
+          leaves_moves_lined = laws.leaves s b.core.past legal;
+          moved_where_lined = λ disk dest found. laws.moved s b.core.past found different legal (settled disk dest).recorded;
           different = different;
           each_has_one_end = laws.ends (with_dead_ids own ids) b.core.past (found_for_these (with_dead_ids own ids) f.said (reverse f.pair.payloads) left.files.tells deletions) legal;
           moved_once = laws.once (with_dead_ids own ids) b.core.past legal;

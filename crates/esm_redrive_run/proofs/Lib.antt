@@ -16,3 +16,4 @@ pub mod KeptIds
 pub mod Ways
 pub mod Begins
 pub mod Telling
+pub mod OneStage

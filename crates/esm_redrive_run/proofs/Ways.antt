@@ -1,5 +1,5 @@
 -- How the run of a redrive ended, from how its caller came to its end.
-use Rattle.std.proofs.Common.{◌≡◌, ◌∙◌, ◌+◌, ℕ, Bool, true, false, cond, List, [], ◌∷◌, ◌++◌, length, Result, Ok, Err, Option, Some, None, ap, append-nil, append_assoc, inl, inr, refl, subst, sym}
+use Rattle.std.proofs.Common.{◌≡◌, ◌∙◌, ◌+◌, ◌<◌, ◌≤◌, ◌^◌, ℕ, Bool, true, false, cond, List, [], ◌∷◌, ◌++◌, length, Result, Ok, Err, Option, Some, None, ap, append-nil, append_assoc, arith, inl, inr, length-append, refl, subst, sym}
 use Rattle.std.specs.Prelude.{◌⊎◌, IfOk, IsErr, IsSome, OnErr, OnOk, is_some, map, slice_get, ◌==◌}
 use Rattle.esm_io.specs.Faults.{Rose}
 use Rattle.esm_io.specs.Meanings.{DiskMeaning}
@@ -16,12 +16,13 @@ use Rattle.esm_model.specs.declared.item.Item.{Item}
 use Rattle.esm_model.specs.declared.item.Item.TheVariants.{Stream, Queue}
 use Rattle.esm_model.specs.declared.item.LineKind.{LineKind}
 use Rattle.esm_model.specs.declared.item.Message.{Message}
+use Rattle.esm_model.specs.declared.limits.TheConstants.{MAX_RECORDS}
 use Rattle.esm_model.specs.declared.memory.OutOfMemory.{OutOfMemory}
 use Rattle.esm_model.specs.declared.setup.FoundDeletion.{FoundDeletion}
 use Rattle.esm_model.specs.Coming.{items_of, AreCome, AreSomeCome}
 use Rattle.esm_model.specs.Entries.{is_shut, CallsFollowShut}
 use Rattle.esm_model.specs.Kept.{change_of}
-use Rattle.esm_book.specs.State.{in_hand}
+use Rattle.esm_book.specs.State.{in_delivery, in_hand}
 use Rattle.esm_input.specs.declared.ending.InputEnd.{InputEnd}
 use Rattle.esm_input.specs.Positions.{from_start}
 use Rattle.esm_input.specs.Reading.{InputState, IsInput, handed, items_read}
@@ -96,6 +97,19 @@ some_told b items come =
           ∙ (items_both (map Queue b.core.setting.queue.messages) rest
           ∙ ap (λ (l : List Message). l ++ messages_in_items rest) (messages_back b.core.setting.queue.messages))),
     )
+
+-- the messages are as few as the items of an input
+
+messages_few : (xs : List Item) → length (messages_in_items xs) ≤ length xs
+messages_few [] = omega arith
+messages_few (Stream r ∷ xs) = (let rest = messages_few xs in omega (arith, rest))
+messages_few (Queue m ∷ xs) = (let rest = messages_few xs in omega (arith, rest))
+
+few_of : (own rest : List Message) (items : List Item) → messages_in_items items ≡ own ++ rest → length items ≤ MAX_RECORDS → length own < 2 ^ 32
+few_of own rest items split few =
+    let all = messages_few items in
+    let both : length (messages_in_items items) ≡ length own + length rest = ap (λ (l : List Message). length l) split ∙ length-append own rest in
+    omega (arith, all, both, few)
 
 -- a serial run's book is seen as a redrive's
 pub record Means {B D : Type 0} (m : Serial B) (see : B → Book D) : Type 0 where
@@ -286,13 +300,26 @@ module _ {B D F : Type 0} (m : Serial B) (see : B → Book D) (means : Means m s
       (changed_so calls since i change (changed change (means.change now ∙ ap change_of is.1)), λ sends. never_called (see now).core.setting sends past left.sound.legal (left.sound.changed change is.1).going (later_so calls since))
   cause_of calls since start log i new r (end.BadLine index) left of cause came so changed is = absurd is
 
-  head_of : (calls : List Called) → m.since clock_gave sent first now calls → HaveDifferentIds own.queue.messages → AreLaws → IsLeft t.disk f (see now) → (new : Disks D) → AreOf (see now) new → Headline t.disk clock_gave f own past (see now).trouble (in_hand (see now).trouble (see now).core.owed) new
-  head_of calls since different laws left new of = headline t.disk f (see now) left new of clock_gave ids (same_ids calls since) (deletions_of now calls since) different laws (given_so calls since) (later_so calls since)
+  abbrev hand_now : List Entry
+  hand_now = in_hand (see now).trouble (see now).core.owed
+
+  abbrev tried_now : List Entry
+  tried_now = in_delivery (see now).trouble (see now).core.owed
+
+  head_of : (calls : List Called) → m.since clock_gave sent first now calls → HaveDifferentIds own.queue.messages → length own.queue.messages < 2 ^ 32 → AreLaws → IsLeft t.disk f (see now) → (new : Disks D) → AreOf (see now) new
+      → Headline t.disk clock_gave f own past (see now).trouble hand_now tried_now new
+  head_of calls since different few laws left new of =
+      headline t.disk f (see now) left new of clock_gave ids (same_ids calls since) (deletions_of now calls since) different few laws (given_so calls since) (later_so calls since)
 
   different_handed : {S : Type 0} (i : InputState S) (start log : Option (List Called)) (r : RunEnd) → serial.CameSo m clock_gave first now i start log r → HaveDifferentIds own.queue.messages
   different_handed i start log r came =
       let some = some_came i start log r came in
       came_apart own.queue.messages (messages_in_items (handed i)) some.0 (handed_apart i.start i.kind i.factor i.whole i.bytes) some.1
+
+  few_handed : {S : Type 0} (i : InputState S) (start log : Option (List Called)) (r : RunEnd) → AreLaws → serial.CameSo m clock_gave first now i start log r → length own.queue.messages < 2 ^ 32
+  few_handed i start log r laws came =
+      let some = some_came i start log r came in
+      few_of own.queue.messages some.0 (handed i) some.1 (laws.within i.kind i.factor i.start i.whole i.bytes (handed i) [] (sym (append-nil (handed i)))).few
 
   pub ended : {S : Type 0} (faults : S → ℕ) (left_in : S → Option (List ℕ)) (old : S) (i : InputState S) (old_caller new_caller : F) (new : Disks D) (r : RunEnd) (e : RedriveEnd) → AreLaws → IsLeft t.disk f (see now) → AreOf (see now) new → IsCauseIn t.disk (see now) (see now).trouble
       → IsMadeFor w.config old i → i.failed ≡ false → IsInput faults left_in i → serial.HasCalled m clock_gave sent first now (t.callers.log old_caller) (t.callers.log new_caller) → m.rests now → serial.EndsSo m now r
@@ -304,8 +331,10 @@ module _ {B D F : Type 0} (m : Serial B) (see : B → Book D) (means : Means m s
     read_to = refl;
     setting = own;
     is_setting = record { opened = opened_so called.calls called.since; came = some_came i (t.callers.log old_caller) (t.callers.log new_caller) r came; letters = stood.letters };
-    hand = in_hand (see now).trouble (see now).core.owed;
-    headline = subst (λ (why : Option Trouble). Headline t.disk clock_gave f own past why (in_hand (see now).trouble (see now).core.owed) new) (trouble_is i.end r e so is) (head_of called.calls called.since (different_handed i (t.callers.log old_caller) (t.callers.log new_caller) r came) laws left new of);
+    hand = hand_now;
+    tried = tried_now;
+    headline = subst (λ (why : Option Trouble). Headline t.disk clock_gave f own past why hand_now tried_now new) (trouble_is i.end r e so is)
+        (head_of called.calls called.since (different_handed i (t.callers.log old_caller) (t.callers.log new_caller) r came) (few_handed i (t.callers.log old_caller) (t.callers.log new_caller) r laws came) laws left new of);
     calls_made = subst (Grows (t.callers.log old_caller) (t.callers.log new_caller)) (sym (calls_so called.calls called.since)) called.logged;
     rests = (means.rests now rests).idle;
     cause = cause_of called.calls called.since (t.callers.log old_caller) (t.callers.log new_caller) i new r e left of cause came so changed is;
@@ -333,6 +362,12 @@ module _ {B D F : Type 0} (m : Serial B) (see : B → Book D) (means : Means m s
       let read = read_for old i whole bytes made came in
       came_apart own.queue.messages (messages_in_items (from_start w.config.start (items_read (line_kind w.config) w.config.factor whole bytes).items)) read.0 (handed_apart w.config.start (line_kind w.config) w.config.factor whole bytes) read.1
 
+  few_read : {S : Type 0} (old : S) (i : InputState S) (whole : Bool) (bytes : List ℕ) → AreLaws → IsMadeFor w.config old i → AreSomeCome (m.items now) (from_start i.start (items_read i.kind i.factor whole bytes).items) → length own.queue.messages < 2 ^ 32
+  few_read old i whole bytes laws made came =
+      let read = read_for old i whole bytes made came in
+      let items = from_start w.config.start (items_read (line_kind w.config) w.config.factor whole bytes).items in
+      few_of own.queue.messages read.0 items read.1 (laws.within (line_kind w.config) w.config.factor w.config.start whole bytes items [] (sym (append-nil items))).few
+
   -- the end of the input was noted after its reading had ended
   read_so : {S : Type 0} (i : InputState S) → IsSome i.end ⊎ m.going now → is_shut past ≡ true → IsSome i.end
   read_so i unended shut = elim unended [
@@ -353,8 +388,9 @@ module _ {B D F : Type 0} (m : Serial B) (see : B → Book D) (means : Means m s
     trouble = (see now).trouble;
     shut_when_read = read_so i unended;
     fault = fault_in new (see now).trouble (sym (means.change now) ∙ no_change) left of cause;
-    hand = in_hand (see now).trouble (see now).core.owed;
-    headline = head_of calls since (different_read old i cut.whole cut.bytes made cut.some) laws left new of;
+    hand = hand_now;
+    tried = tried_now;
+    headline = head_of calls since (different_read old i cut.whole cut.bytes made cut.some) (few_read old i cut.whole cut.bytes laws made cut.some) laws left new of;
     calls_made = logged;
   }
 

@@ -73,7 +73,8 @@ pub record HasRun {S D F : Type 0} (t : Telling D F) (faults : S → ℕ) (left 
   pub setting : RedriveSetting
   pub is_setting : IsSettingOf w f (messages_in_items (handed input)) setting
   pub hand : List Entry
-  pub headline : Headline t.disk t.callers.gave f setting h (trouble_of e) hand new
+  pub tried : List Entry
+  pub headline : Headline t.disk t.callers.gave f setting h (trouble_of e) hand tried new
   -- the caller's log, where told, grew by the calls of batcher 0, and no call is without its end
   pub calls_made : Grows (t.callers.log old_caller) (t.callers.log new_caller) (redrive_calls setting t.callers.sends h)
   pub rests : is_running h (queue_lane 0) ≡ false
@@ -116,7 +117,8 @@ pub record HasStopped {S D F : Type 0} (t : Telling D F) (left : S → Option (L
   pub trouble : Option Trouble
   pub fault : IsFaultOf t.disk f new trouble
   pub hand : List Entry
-  pub headline : Headline t.disk t.callers.gave f setting h trouble hand new
+  pub tried : List Entry
+  pub headline : Headline t.disk t.callers.gave f setting h trouble hand tried new
   pub calls_made : HasLogged t.callers.sends setting.queue h 0 (t.callers.log old_caller) (t.callers.log new_caller)
 
 -- or it stopped before it began

@@ -1,10 +1,11 @@
 -- What a run of a redrive leaves of its history and of its disks. This product's own.
-use Rattle.std.specs.Prelude.{◌≡◌, ◌++◌, ℕ, Bool, true, List, [], ◌∷◌, length, Option, Some, reverse}
-use Rattle.std.specs.List.{filter_map}
+use Rattle.std.specs.Prelude.{◌≡◌, ◌≤◌, ◌++◌, ℕ, Bool, true, List, [], ◌∷◌, length, Option, Some, reverse}
+use Rattle.std.specs.List.{All, filter_map}
+use Rattle.esm_io.specs.Images.{Only}
 use Rattle.esm_io.specs.Meanings.{DiskMeaning}
 use Rattle.esm_journal.specs.File.{header_of}
 use Rattle.esm_journal.specs.Pair.{PairOpensTo}
-use Rattle.esm_journal.specs.State.{Keeps, StillOpens}
+use Rattle.esm_journal.specs.State.{Keeps, OpensTo}
 use Rattle.esm_model.specs.declared.book.Trouble.{Trouble}
 use Rattle.esm_model.specs.declared.book.Trouble.TheVariants.{Disk, Dest}
 use Rattle.esm_model.specs.declared.config.Config.{Config}
@@ -22,8 +23,12 @@ use Rattle.esm_queue_model.specs.QueueEntries.{queue_count}
 use Rattle.esm_queue_model.specs.QueueBatch.{last_queue_event}
 use Rattle.esm_queue_model.specs.HistoryLaws.{DeletedOnce, OrderPerGroup}
 use Rattle.esm_queue_book.specs.Books.{payloads_in}
-use Rattle.esm_redrive.specs.DeadFile.{AreLetters, dead_ids}
+use Rattle.esm_redrive.specs.DeadFile.{AreLetters, GoesOnWith, dead_ids}
+use Rattle.esm_redrive.specs.ReadsBack.{HasLetter}
 use Rattle.esm_redrive_core.specs.RedriveView.{new_setting}
+use Rattle.esm_redrive_life.specs.Content.{DeletionsAreRecorded, HasValidMessages}
+use Rattle.esm_redrive_model.specs.Due.{moved_ids}
+use Rattle.esm_redrive_model.specs.RedriveLines.{FoundMovesAreLined, IsLineOfDue, LeavesMovesLined, MovedWhereLined}
 use Rattle.esm_redrive_model.specs.RedriveSetting.{RedriveSetting, redrive_over}
 use Rattle.esm_redrive_model.specs.RedriveReport.{redrive_calls}
 use Rattle.esm_redrive_model.specs.RedriveStep.{LegalRedrive, SettledRedrive}
@@ -95,19 +100,61 @@ CrashKept m f s h hand new =
 
 -- the dead-letter file
 
+-- a file opens to these lines, and then to those of the first of these entries, or of all of them
+pub record OpensToLettersOf (before : List (List ℕ)) (es : List Entry) (bytes : List ℕ) : Type 0 where
+  pub front : List Entry
+  pub rest : List Entry
+  pub split : front ++ rest ≡ es
+  pub opens : OpensTo (header_of 1) (before ++ dead_letters front) bytes
+
 -- its lines are the old ones followed by these, and so they are in each image of it
 abbrev pub LinesKept : {D : Type 0} → DiskMeaning D → FilesState D → List (List ℕ) → Disks D → Type 0
 LinesKept m f lines new = m.honest f.failures ≡ true → Keeps m (header_of 1) (f.dest.payloads ++ lines) new.dead
 
--- while a line was added the file failed: each image has these lines, or these and one more
-abbrev pub LinesStopped : {D : Type 0} → DiskMeaning D → FilesState D → List (List ℕ) → Disks D → Type 0
-LinesStopped m f lines new = m.honest f.failures ≡ true → StillOpens m (header_of 1) (f.dest.payloads ++ lines) new.dead
+-- while the line of the tried entry was added the file failed: each image has these lines, or these and that one
+abbrev pub LinesStopped : {D : Type 0} → DiskMeaning D → FilesState D → List (List ℕ) → (tried : List Entry) → Disks D → Type 0
+LinesStopped m f lines tried new = m.honest f.failures ≡ true → (bytes : List ℕ) → m.image new.dead bytes → OpensToLettersOf (f.dest.payloads ++ lines) tried bytes
 
 -- The lines of the history; after a fault of the journal also that of the entry in hand, which stands before its deletion is
--- written. So the line of each entry whose payload stands in any image of the journal stands in every image of the file.
-abbrev pub DeadLettersKept : {D : Type 0} → DiskMeaning D → FilesState D → Option Trouble → List Entry → (hand : List Entry) → Disks D → Type 0
-DeadLettersKept m f (Some Dest) h hand new = LinesStopped m f (dead_letters (reverse h)) new
-DeadLettersKept m f _ h hand new = LinesKept m f (dead_letters (reverse h ++ hand)) new
+-- written, and after one of the file perhaps that of the tried entry.
+abbrev pub DeadLettersKept : {D : Type 0} → DiskMeaning D → FilesState D → Option Trouble → List Entry → (hand tried : List Entry) → Disks D → Type 0
+DeadLettersKept m f (Some Dest) h hand tried new = LinesStopped m f (dead_letters (reverse h)) tried new
+DeadLettersKept m f _ h hand tried new = LinesKept m f (dead_letters (reverse h ++ hand)) new
+
+-- Each image of the file since the run's start opens to the lines found, followed by those of the first entries of the history,
+-- in their order; where a device failed, the line of the entry in hand or of the tried one may follow all of them.
+abbrev pub LettersCrashKept : {D : Type 0} → DiskMeaning D → FilesState D → List Entry → (hand tried : List Entry) → Disks D → Type 0
+LettersCrashKept m f h hand tried new =
+    m.honest f.failures ≡ true → Only (m.content f.failures) (m.image f.failures) → (bytes : List ℕ) → m.since new.dead (m.moment f.failures) bytes →
+    OpensToLettersOf f.dest.payloads (reverse h ++ hand ++ tried) bytes
+
+-- two disks open to the payloads found, and then to those of the first of these entries, or of all of them; and a file opens to
+-- the lines found, those of the same entries, and perhaps more
+pub record OpensWithLetters (messages : List Message) (epoch : ℕ) (before lines : List (List ℕ)) (es : List Entry) (one other bytes : List ℕ) : Type 0 where
+  pub front : List Entry
+  pub rest : List Entry
+  pub split : front ++ rest ≡ es
+  pub opens : PairOpensTo (header_of 2) epoch (before ++ payloads_in messages front) one other
+  pub more : List (List ℕ)
+  pub lines_open : OpensTo (header_of 1) (lines ++ dead_letters front ++ more) bytes
+
+-- The line stands first, then its deletion: each image that is left of the dead-letter file has the line of each deletion that
+-- stands in any image of the journal since the run's start.
+abbrev pub LinesStandFirst : {D : Type 0} → DiskMeaning D → FilesState D → RedriveSetting → List Entry → (hand : List Entry) → Disks D → Type 0
+LinesStandFirst m f s h hand new =
+    AreHonest m f.journal f.spare → AreSettled m f.journal f.spare → m.honest f.failures ≡ true → (one other bytes : List ℕ) →
+    m.since new.journal (m.moment f.journal) one → m.since new.spare (m.moment f.spare) other → m.image new.dead bytes →
+    OpensWithLetters s.queue.messages f.pair.epoch f.pair.payloads f.dest.payloads (reverse h ++ hand) one other bytes
+
+-- the entries whose line was being delivered when the dead-letter file failed: one at most, and only there
+abbrev pub IsTried : Option Trouble → List Entry → Type 0
+IsTried (Some Dest) tried = length tried ≤ 1
+IsTried _ tried = tried ≡ []
+
+-- the tried entry follows a front of the history, and its line is that of the first message that was due there
+pub record IsTriedMove (s : RedriveSetting) (h : List Entry) (e : Entry) (line : List ℕ) : Type 0 where
+  pub front : FollowsFront s h e
+  pub due : IsLineOfDue s front.before e line
 
 -- each reply is the one that stands with its event among the calls, whatever the caller sends for an event
 abbrev pub RepliesAreLogged : RedriveSetting → List Entry → Type 0
@@ -117,7 +164,7 @@ RepliesAreLogged s h =
     × (redrive_calls s sends h ≡ earlier ++ record { name = s.queue.config.function; event = sends (last_queue_event s.queue before lane); reply = reply } ∷ rest)
 
 -- What holds of a history, newest entry first, and of the disks after it, whatever ended the run.
-pub record Headline {D : Type 0} (m : DiskMeaning D) (gave : ℕ → Bool) (f : FilesState D) (s : RedriveSetting) (h : List Entry) (trouble : Option Trouble) (hand : List Entry) (new : Disks D) : Type 0 where
+pub record Headline {D : Type 0} (m : DiskMeaning D) (gave : ℕ → Bool) (f : FilesState D) (s : RedriveSetting) (h : List Entry) (trouble : Option Trouble) (hand tried : List Entry) (new : Disks D) : Type 0 where
   -- each entry may follow those before it, over every list of messages that goes on from those that came
   pub legal_trace : LegalOver s h
   -- the messages of the setting are those that came in the history
@@ -138,8 +185,27 @@ pub record Headline {D : Type 0} (m : DiskMeaning D) (gave : ℕ → Bool) (f : 
   pub hand_follows : (e : Entry) → hand ≡ e ∷ [] → FollowsFront s h e
   -- what a crash leaves since the run's start: the old content followed by a prefix of the payloads of the trace
   pub crash : CrashKept m f s h hand new
-  -- the dead-letter file has the old lines followed by those of the trace; where a device failed, one further line may follow
-  pub dead_letters_kept : DeadLettersKept m f trouble h hand new
+  -- the dead-letter file has the old lines followed by those of the trace; where a device failed, one further line may follow,
+  -- that of the entry in hand or of the tried one
+  pub dead_letters_kept : DeadLettersKept m f trouble h hand tried new
+  -- an entry is tried only where the dead-letter file failed, and then one at most: it may follow a front of the history, after
+  -- which calls and the input ended alone, and its line is that of the first message that was due
+  pub is_tried : IsTried trouble tried
+  pub tried_follows : (e : Entry) → tried ≡ e ∷ [] → FollowsFront s h e
+  pub tried_moves : (e : Entry) (line : List ℕ) → tried ≡ e ∷ [] → entry_line e ≡ Some line → IsTriedMove s h e line
+  -- what a crash leaves of it since the run's start: the old lines followed by a prefix of those
+  pub letters_crash : LettersCrashKept m f h hand tried new
+  -- each deletion that a crash leaves has its line there
+  pub lines_stand_first : LinesStandFirst m f s h hand new
+  -- the journal's content says what it said, and then the deletions of the history with their fates and ids, and no others
+  pub deletions_are_recorded : DeletionsAreRecorded f.pair.payloads s.queue h
+  -- the messages that came are valid, and each is read back from its dead letter
+  pub valid : HasValidMessages s.queue
+  pub letters : All (HasLetter (is_fifo s.queue.config.kind)) s.queue.messages
+  -- so the lines are good for the next redrive, which finds the ids of the moved messages behind those that stood there
+  pub letters_go_on : AreLetters (is_fifo s.queue.config.kind) f.dest.payloads (length f.dest.payloads) → GoesOnWith (is_fifo s.queue.config.kind) f.dest.payloads (dead_letters (reverse h)) (moved_ids s h)
+  -- and each deletion of a moved message that the history gives has its line there
+  pub leaves_moves_lined : LeavesMovesLined s h
   -- the messages that came have different ids
   pub different : HaveDifferentIds s.queue.messages
   -- each message that came is exactly one of waiting, succeeded, filtered and moved
@@ -162,3 +228,6 @@ pub record Headline {D : Type 0} (m : DiskMeaning D) (gave : ℕ → Bool) (f : 
   pub received_at_most : ReceivedAtMost s h
   -- so no more calls began than the messages that came may be received
   pub calls_are_few : CallsAreFew s h
+  -- where no device failed a message that came is moved exactly where its line stands there and it was not found deleted for
+  -- another reason; of the file that was found this is asked: it has a line for each message that the journal told to be moved
+  pub moved_where_lined : (trouble ≡ Some Disk → ⊥) → (trouble ≡ Some Dest → ⊥) → FoundMovesAreLined s → MovedWhereLined s h

@@ -6,3 +6,4 @@ pub mod Ending
 pub mod Laws
 pub mod Runs
 pub mod Report
+pub mod Stages

@@ -1,9 +1,10 @@
 -- A run of a redrive that is to begin, and what it leaves. Only this crate's proofs cite this.
-use Rattle.std.specs.Prelude.{◌≡◌, ℕ, true, false, List, [], length, Result, Ok, Err, Some, None}
+use Rattle.std.specs.Prelude.{◌≡◌, ◌≤◌, ℕ, true, false, List, [], length, Result, Ok, Err, Some, None}
 use Rattle.esm_io.specs.Images.{Only}
 use Rattle.esm_io.specs.Meanings.{DiskMeaning, DestMeaning}
 use Rattle.esm_journal.specs.Pair.{PairState, PairKeepsWhileUp, first_disk, second_disk}
-use Rattle.esm_journal.specs.State.{JournalState, KeepsWhileUp, KeepsWhileDown}
+use Rattle.esm_journal.specs.File.{header_of}
+use Rattle.esm_journal.specs.State.{JournalState, KeepsWhileUp, OpensTo}
 use Rattle.esm_journal.specs.Stopped.{PairKeepsWhileDown}
 use Rattle.esm_book.specs.Growth.{LeavesFronts, OpensToFront}
 use Rattle.esm_book.specs.State.{IsKept}
@@ -76,7 +77,16 @@ files_of journal spare failures said b = record { journal = journal; spare = spa
 
 -- a dead-letter file as the destination of lines
 abbrev pub dead_file : {D : Type 0} → DiskMeaning D → DestMeaning (JournalState D)
-dead_file m = record { honest = λ d. m.honest d.disk; faults = λ d. m.faults d.disk; lines = λ d. Some d.payloads; sends = λ line. line; failed = λ d. d.down }
+dead_file m = record {
+  honest = λ d. m.honest d.disk;
+  faults = λ d. m.faults d.disk;
+  lines = λ d. Some d.payloads;
+  sends = λ line. line;
+  failed = λ d. d.down;
+  moment = λ d. m.moment d.disk;
+  since = λ d. m.since d.disk;
+  reads_as = λ left lines. OpensTo (header_of 1) lines left;
+}
 
 -- what a crash leaves of the disks since they were handed in
 abbrev pub LeavesSince : {D : Type 0} → DiskMeaning D → FilesState D → Book D → Type 0
@@ -98,4 +108,6 @@ pub record IsLeft {D : Type 0} (m : DiskMeaning D) (f : FilesState D) (b : Book 
   pub pair_kept : PairKeepsWhileUp m b.pair
   pub pair_stopped : PairKeepsWhileDown m b.pair
   pub dest_kept : KeepsWhileUp m b.dest
-  pub dest_stopped : KeepsWhileDown m b.dest
+  -- since now there are the images now, and no others
+  pub only_now : (d : D) (bytes : List ℕ) → m.honest d ≡ true → m.since d (m.moment d) bytes → m.image d bytes
+  pub counts_now : (d : D) (t : ℕ) (bytes : List ℕ) → m.honest d ≡ true → t ≤ m.moment d → m.image d bytes → m.since d t bytes

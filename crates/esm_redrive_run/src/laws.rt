@@ -1,10 +1,13 @@
 // The laws by which the headline of a redrive holds, as one.
 ghost use Rattle.esm_redrive_run.specs.Laws.{AreLaws};
 
+use esm_input::laws::handed_is_within;
 use esm_queue_model::history_laws::queue_calls_kept;
+use esm_redrive::laws::lines_go_on;
+use esm_redrive_life::content::deletions_are_recorded;
 use esm_redrive_model::laws::{
-    calls_are_few, each_has_one_end, moved_after_receives, moved_once, received_at_most,
-    redrive_over_more, same_over_same_ids,
+    calls_are_few, each_has_one_end, leaves_moves_lined, line_of_due, moved_after_receives,
+    moved_once, moved_where_lined, received_at_most, redrive_over_more, same_over_same_ids,
 };
 
 /// What holds of every history of a redrive. Does nothing.
@@ -19,4 +22,10 @@ pub(crate) fn laws_hold()
     redrive_over_more();
     queue_calls_kept();
     same_over_same_ids();
+    deletions_are_recorded();
+    lines_go_on();
+    leaves_moves_lined();
+    moved_where_lined();
+    line_of_due();
+    handed_is_within();
 }

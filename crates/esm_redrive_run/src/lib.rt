@@ -8,6 +8,7 @@ mod laws;
 mod redrive_run;
 mod report;
 mod run;
+pub mod stages;
 
 pub use redrive_run::run_redrive;
 pub use report::messages_text;

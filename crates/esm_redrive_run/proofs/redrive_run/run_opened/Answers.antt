@@ -105,7 +105,8 @@ returns g c =
       pair_kept = c.trouble.ensures.kept;
       pair_stopped = rw (← c.into_parts-history.ensures.pair) c.closed.ensures.pair_stopped;
       dest_kept = rw (← c.into_parts-history.ensures.dead) (rw (← c.into_journal.ensures) c.closed.ensures.dead_kept);
-      dest_stopped = rw (← c.into_parts-history.ensures.dead) (rw (← c.into_journal.ensures) c.closed.ensures.dead_stopped);
+      only_now = λ d bytes honest since. g.met.D.Disk.only_now d bytes honest since;
+      counts_now = λ d t bytes honest early image. g.met.D.Disk.counts_now d t bytes honest early image;
     } in
     let of : AreOf b new = record {
       journal = rw (← c.into_parts-history.ensures.pair) c.closed.ensures.journal;
