@@ -6,7 +6,10 @@ pub mod Laid
 pub mod Lengths
 pub mod LineLaws
 pub mod Loops
+pub mod Moments
 pub mod OneLine
+pub mod OwnEvents
+pub mod OwnParts
 pub mod Places
 pub mod ReadBack
 pub mod RecordText
@@ -15,4 +18,5 @@ pub mod RunEvents
 pub mod Sizes
 pub mod Steps
 pub mod Told
+pub mod Trees
 pub mod TurnedPieces

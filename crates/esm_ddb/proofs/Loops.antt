@@ -3,12 +3,14 @@ use Rattle.std.proofs.Common.{◌≡◌, ◌∙◌, ℕ, zero, suc, ◌+◌, ◌
 use Rattle.std.proofs.lemmas.List.{take_all}
 use Rattle.std.specs.Prelude.{is_some, nat_eq}
 use Rattle.std.specs.List.{starts_with}
+use Rattle.std.specs.Borrow.{Bor}
+use Rattle.std.specs.declared.alloc.Global.{Global}
+use Rattle.json.specs.Value.{items_view, members_view, value_view}
+use Rattle.json.specs.declared.value.Value.{Value}
 use Rattle.serde_json.specs.Find.{as_str}
-use Rattle.serde_json.specs.View.{view, items_view, members_view}
-use Rattle.serde_json.specs.declared.value.Value.{Value}
-use Rattle.serde_json.proofs.Views.{Entry}
 use Rattle.esm_ddb.specs.Attribute.{are_attributes, are_key_values, are_keys, are_texts, is_attribute, is_item, is_key_value}
 use Rattle.esm_ddb.specs.FailureLine.{first_place, stream_part}
+use Rattle.esm_ddb.specs.Tree.{data_in, items_in, members_in}
 
 pub none_left : {X : Type 0} (xs : List X) (i : ℕ) → length xs ≤ i → drop i xs ≡ []
 none_left [] zero h = refl
@@ -25,45 +27,62 @@ rest_is line at = take_all (length line - at) (drop at line) (omega (arith, leng
 
 -- items
 
-pub good_item : (vs : List Value) (i : ℕ) (v : Value) → i < length vs → v ≡ get_or vs i v → is_attribute (view v) ≡ true
-    → are_attributes (items_view (drop i vs)) ≡ are_attributes (items_view (drop (i + 1) vs))
+abbrev Member : Type 0
+Member = Bor (List ℕ) × Value Global
+
+pub good_item : (vs : List (Value Global)) (i : ℕ) (v : Value Global) → i < length vs → v ≡ get_or vs i v → is_attribute (data_in (value_view v)) ≡ true
+    → are_attributes (items_in (items_view (drop i vs))) ≡ are_attributes (items_in (items_view (drop (i + 1) vs)))
 good_item vs i v within is e =
-    ap (λ ws. are_attributes (items_view ws)) (next vs i v within is) ∙ ap (λ b. b && are_attributes (items_view (drop (i + 1) vs))) e
+    ap (λ (ws : List (Value Global)). are_attributes (items_in (items_view ws))) (next vs i v within is) ∙ ap (λ b. b && are_attributes (items_in (items_view (drop (i + 1) vs)))) e
 
-pub bad_item : (vs : List Value) (i : ℕ) (v : Value) → i < length vs → v ≡ get_or vs i v → is_attribute (view v) ≡ false
-    → are_attributes (items_view (drop i vs)) ≡ false
+pub bad_item : (vs : List (Value Global)) (i : ℕ) (v : Value Global) → i < length vs → v ≡ get_or vs i v → is_attribute (data_in (value_view v)) ≡ false
+    → are_attributes (items_in (items_view (drop i vs))) ≡ false
 bad_item vs i v within is e =
-    ap (λ ws. are_attributes (items_view ws)) (next vs i v within is) ∙ ap (λ b. b && are_attributes (items_view (drop (i + 1) vs))) e
+    ap (λ (ws : List (Value Global)). are_attributes (items_in (items_view ws))) (next vs i v within is) ∙ ap (λ b. b && are_attributes (items_in (items_view (drop (i + 1) vs)))) e
 
-pub all_items : (vs : List Value) (i : ℕ) → length vs ≤ i → are_attributes (items_view (drop i vs)) ≡ true
-all_items vs i h = ap (λ ws. are_attributes (items_view ws)) (none_left vs i h)
+pub all_items : (vs : List (Value Global)) (i : ℕ) → length vs ≤ i → are_attributes (items_in (items_view (drop i vs))) ≡ true
+all_items vs i h = ap (λ (ws : List (Value Global)). are_attributes (items_in (items_view ws))) (none_left vs i h)
 
-pub good_text : (vs : List Value) (i : ℕ) (v : Value) → i < length vs → v ≡ get_or vs i v → is_some (as_str (view v)) ≡ true
-    → are_texts (items_view (drop i vs)) ≡ are_texts (items_view (drop (i + 1) vs))
+pub good_text : (vs : List (Value Global)) (i : ℕ) (v : Value Global) → i < length vs → v ≡ get_or vs i v → is_some (as_str (data_in (value_view v))) ≡ true
+    → are_texts (items_in (items_view (drop i vs))) ≡ are_texts (items_in (items_view (drop (i + 1) vs)))
 good_text vs i v within is e =
-    ap (λ ws. are_texts (items_view ws)) (next vs i v within is) ∙ ap (λ b. b && are_texts (items_view (drop (i + 1) vs))) e
+    ap (λ (ws : List (Value Global)). are_texts (items_in (items_view ws))) (next vs i v within is) ∙ ap (λ b. b && are_texts (items_in (items_view (drop (i + 1) vs)))) e
 
-pub bad_text : (vs : List Value) (i : ℕ) (v : Value) → i < length vs → v ≡ get_or vs i v → is_some (as_str (view v)) ≡ false
-    → are_texts (items_view (drop i vs)) ≡ false
+pub bad_text : (vs : List (Value Global)) (i : ℕ) (v : Value Global) → i < length vs → v ≡ get_or vs i v → is_some (as_str (data_in (value_view v))) ≡ false
+    → are_texts (items_in (items_view (drop i vs))) ≡ false
 bad_text vs i v within is e =
-    ap (λ ws. are_texts (items_view ws)) (next vs i v within is) ∙ ap (λ b. b && are_texts (items_view (drop (i + 1) vs))) e
+    ap (λ (ws : List (Value Global)). are_texts (items_in (items_view ws))) (next vs i v within is) ∙ ap (λ b. b && are_texts (items_in (items_view (drop (i + 1) vs)))) e
 
-pub all_texts : (vs : List Value) (i : ℕ) → length vs ≤ i → are_texts (items_view (drop i vs)) ≡ true
-all_texts vs i h = ap (λ ws. are_texts (items_view ws)) (none_left vs i h)
+pub all_texts : (vs : List (Value Global)) (i : ℕ) → length vs ≤ i → are_texts (items_in (items_view (drop i vs))) ≡ true
+all_texts vs i h = ap (λ (ws : List (Value Global)). are_texts (items_in (items_view ws))) (none_left vs i h)
 
 -- members
 
-pub good_member : (e : Entry) (es : List Entry) → is_attribute (view e.1) ≡ true → is_item (members_view (e ∷ es)) ≡ is_item (members_view es)
-good_member e es h = ap (λ b. b && is_item (members_view es)) h
+pub good_member : (vs : List Member) (i : ℕ) (v : Member) → i < length vs → v ≡ get_or vs i v → is_attribute (data_in (value_view v.1)) ≡ true
+    → is_item (members_in (members_view (drop i vs))) ≡ is_item (members_in (members_view (drop (i + 1) vs)))
+good_member vs i v within is e =
+    ap (λ (ws : List Member). is_item (members_in (members_view ws))) (next vs i v within is) ∙ ap (λ b. b && is_item (members_in (members_view (drop (i + 1) vs)))) e
 
-pub bad_member : (e : Entry) (es : List Entry) → is_attribute (view e.1) ≡ false → is_item (members_view (e ∷ es)) ≡ false
-bad_member e es h = ap (λ b. b && is_item (members_view es)) h
+pub bad_member : (vs : List Member) (i : ℕ) (v : Member) → i < length vs → v ≡ get_or vs i v → is_attribute (data_in (value_view v.1)) ≡ false
+    → is_item (members_in (members_view (drop i vs))) ≡ false
+bad_member vs i v within is e =
+    ap (λ (ws : List Member). is_item (members_in (members_view ws))) (next vs i v within is) ∙ ap (λ b. b && is_item (members_in (members_view (drop (i + 1) vs)))) e
 
-pub good_key : (e : Entry) (es : List Entry) → is_key_value (view e.1) ≡ true → are_key_values (members_view (e ∷ es)) ≡ are_key_values (members_view es)
-good_key e es h = ap (λ b. b && are_key_values (members_view es)) h
+pub all_members : (vs : List Member) (i : ℕ) → length vs ≤ i → is_item (members_in (members_view (drop i vs))) ≡ true
+all_members vs i h = ap (λ (ws : List Member). is_item (members_in (members_view ws))) (none_left vs i h)
 
-pub bad_key : (e : Entry) (es : List Entry) → is_key_value (view e.1) ≡ false → are_key_values (members_view (e ∷ es)) ≡ false
-bad_key e es h = ap (λ b. b && are_key_values (members_view es)) h
+pub good_key : (vs : List Member) (i : ℕ) (v : Member) → i < length vs → v ≡ get_or vs i v → is_key_value (data_in (value_view v.1)) ≡ true
+    → are_key_values (members_in (members_view (drop i vs))) ≡ are_key_values (members_in (members_view (drop (i + 1) vs)))
+good_key vs i v within is e =
+    ap (λ (ws : List Member). are_key_values (members_in (members_view ws))) (next vs i v within is) ∙ ap (λ b. b && are_key_values (members_in (members_view (drop (i + 1) vs)))) e
+
+pub bad_key : (vs : List Member) (i : ℕ) (v : Member) → i < length vs → v ≡ get_or vs i v → is_key_value (data_in (value_view v.1)) ≡ false
+    → are_key_values (members_in (members_view (drop i vs))) ≡ false
+bad_key vs i v within is e =
+    ap (λ (ws : List Member). are_key_values (members_in (members_view ws))) (next vs i v within is) ∙ ap (λ b. b && are_key_values (members_in (members_view (drop (i + 1) vs)))) e
+
+pub all_keys : (vs : List Member) (i : ℕ) → length vs ≤ i → are_key_values (members_in (members_view (drop i vs))) ≡ true
+all_keys vs i h = ap (λ (ws : List Member). are_key_values (members_in (members_view ws))) (none_left vs i h)
 
 -- places
 
@@ -110,6 +129,6 @@ no_place line at h = ap (λ t. option_map (λ k. at + k) (first_place stream_par
 
 -- keys
 
-pub some_keys : (es : List Entry) → 0 < length es → are_keys (members_view es) ≡ are_key_values (members_view es)
+pub some_keys : (es : List Member) → 0 < length es → are_keys (members_in (members_view es)) ≡ are_key_values (members_in (members_view es))
 some_keys [] h = absurd (omega arith)
 some_keys (e ∷ es) h = refl

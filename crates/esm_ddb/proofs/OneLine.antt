@@ -16,9 +16,10 @@ use Rattle.esm_model.specs.Sequence.{is_sequence}
 use Rattle.esm_model.specs.declared.item.Record.{Record}
 use Rattle.esm_model.proofs.NumberLemmas.{length-last_digits}
 use Rattle.esm_record.specs.Input.{is_blank, is_line_feed}
+use Rattle.esm_ddb.specs.OwnForm.{is_plain}
 use Rattle.esm_ddb.specs.ReadsBack.{IsOneLine}
 use Rattle.esm_ddb.specs.Turned.{record_line}
-use Rattle.esm_ddb.proofs.ReadBack.{IsWritten, is_plain, line_is, line_of_texts, plain_line}
+use Rattle.esm_ddb.proofs.ReadBack.{IsWritten, line_is, line_of_texts, plain_line}
 
 feed_one : (x : ℕ) → is_plain x ≡ true → is_line_feed x ≡ false
 feed_one x h = grind (arith, nat_tests)

@@ -38,16 +38,11 @@ use Rattle.esm_record.proofs.Digits.{a_digit}
 use Rattle.esm_record.specs.Line.{object_of, record_of, line_of, field_of, judged, of_text, shard_number, sequence_number, partition_key, payload, moment, only_if}
 use Rattle.esm_record.specs.declared.error.Field.TheVariants as field
 use Rattle.esm_record.specs.declared.error.LineError.TheVariants.{BadField}
+use Rattle.esm_ddb.specs.OwnForm.{is_plain, is_unescaped}
 use Rattle.esm_ddb.specs.ReadsBack.{is_byte}
 use Rattle.esm_ddb.specs.Turned.{record_line}
 
 -- ---- characters that need no escape
-
-abbrev pub is_plain : ℕ → Bool
-is_plain b = nat_le 32 b && nat_lt b 128
-
-abbrev pub is_unescaped : ℕ → Bool
-is_unescaped b = is_plain b && not (b == 34) && not (b == 92)
 
 escape_one : (x : ℕ) → is_unescaped x ≡ true → escape_byte x ≡ x ∷ []
 escape_one x h = escape_byte_plain x (grind (arith, nat_tests)) (grind (arith, nat_tests)) (grind (arith, nat_tests))

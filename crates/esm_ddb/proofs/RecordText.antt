@@ -1,44 +1,36 @@
 -- The text of a record in a stream's event is the print of an object, and one element of the event.
-use Rattle.std.proofs.Common.{◌≡◌, ◌∙◌, ℕ, zero, suc, ◌+◌, ◌-◌, ◌/◌, ◌%◌, ◌^◌, ◌<◌, ◌≤◌, lit<, arith, Bool, true, false, cond, ◌||◌, ◌==◌, nat_lt, refl, sym, ap, List, [], ◌∷◌, ◌++◌, append_assoc, append-nil, codes, length, length-append, get_or, Some, None}
-use Rattle.std.specs.Char.{is_ascii_digit}
-use Rattle.std.specs.Fmt.{decimal}
+use Rattle.std.proofs.Common.{◌≡◌, ◌∙◌, ℕ, ◌+◌, ◌-◌, lit<, arith, Bool, true, false, cond, ◌==◌, nat_lt, refl, sym, ap, List, [], ◌∷◌, ◌++◌, append_assoc, codes, length, length-append, get_or, Some, None}
 use Rattle.std.specs.List.{flat_map, list_all}
 use Rattle.std.specs.Result.{result_ok}
-use Rattle.std.specs.Str.Parse.{AllDigits}
 use Rattle.std.proofs.lemmas.Bool.{and_parts}
 use Rattle.std.proofs.lemmas.Bool.Decides.{nat_tests}
-use Rattle.std.proofs.lemmas.Fmt.{decimal_is_IsNumeral, decimal_digit, first_decimal}
 use Rattle.std.proofs.lemmas.List.{get_or_at}
 use Rattle.std.proofs.lemmas.List.Folds.{list_all-append}
 use Rattle.base64.specs.Engines.{standard}
 use Rattle.base64.specs.GeneralPurpose.{decode_of}
-use Rattle.fast_float.specs.Text.{Parts}
-use Rattle.ryu.specs.Plain.{IsPlain}
 use Rattle.json.specs.Lex.{Class, operator, space, other, class, Mode, between, in_word, in_string}
 use Rattle.json.specs.Word.{is_operator, is_space}
 use Rattle.json.specs.Json.{Json, number, string, object, no_members, member}
-use Rattle.json.specs.Print.{escape_byte, IsNumber, print, print_from}
+use Rattle.json.specs.Print.{escape_byte, print, print_from}
 use Rattle.json.specs.Tree.{json_tokens}
-use Rattle.json.proofs.Printed.Floats.{IsNumber-plain}
 use Rattle.esm_model.specs.EventText.{base64_text, record_text, seconds_text, shard_id}
-use Rattle.esm_model.specs.JsonText.{escape_letter, escaped_byte, escaped_with}
-use Rattle.esm_model.specs.Numbers.{padded_decimal}
+use Rattle.esm_model.specs.JsonText.{escape_letter, escaped_byte, escaped_with, quoted}
 use Rattle.esm_model.specs.State.{size}
 use Rattle.esm_model.specs.declared.config.Config.{Config}
 use Rattle.esm_model.specs.declared.item.Record.{Record}
-use Rattle.esm_model.proofs.NumberLemmas.{length-last_digits}
-use Rattle.esm_record.proofs.Digits.{a_digit}
 use Rattle.esm_window.specs.Layout.{next, mode_at}
 use Rattle.esm_ddb.specs.Event.{payload_of}
 use Rattle.esm_ddb.specs.Lexemes.{places_from}
+use Rattle.esm_ddb.specs.OwnForm.{AreUnescaped, Texts, is_kept, is_number_byte, is_plain, is_unescaped, part_a, part_b, part_c, part_d, part_e, part_f, part_g, part_h, whole_text}
 use Rattle.esm_ddb.proofs.Laid.{mode_append, places_append, printed_count}
-use Rattle.esm_ddb.proofs.ReadBack.{is_unescaped, escape_unescaped, decimal_digits, digits_all}
+use Rattle.esm_ddb.proofs.Moments.{moment_bytes, moment_number}
+use Rattle.esm_ddb.proofs.ReadBack.{escape_unescaped, plain_unescaped}
 use Rattle.esm_ddb.proofs.Replaced.{IsElement}
 
 -- ---- texts whose characters need no escape
 
 -- they stand in the event as they are
-own_one : (x : ℕ) → is_unescaped x ≡ true → escaped_byte x ≡ x ∷ []
+own_one : (x : ℕ) → is_kept x ≡ true → escaped_byte x ≡ x ∷ []
 unfolding escaped_byte
 own_one x h =
     let a : (x == 34) ≡ false = grind (arith, nat_tests) in
@@ -53,11 +45,29 @@ own_one x h =
     let plain : escaped_with None x ≡ x ∷ [] = rw i refl in
     ap (λ o. escaped_with o x) none ∙ plain
 
-own_unescaped : (s : List ℕ) → list_all is_unescaped s ≡ true → flat_map escaped_byte s ≡ s
-own_unescaped [] h = refl
-own_unescaped (x ∷ xs) h =
+pub own_kept : (s : List ℕ) → list_all is_kept s ≡ true → flat_map escaped_byte s ≡ s
+own_kept [] h = refl
+own_kept (x ∷ xs) h =
+    let p = and_parts (is_kept x) (list_all is_kept xs) h in
+    rw (own_one x p.0, own_kept xs p.1) refl
+
+-- a text is written by its bytes between quotation marks
+pub quoted_kept : (old one two new text : List ℕ) → list_all is_kept text ≡ true → one ≡ old ++ codes "\"" → two ≡ one ++ text → new ≡ two ++ codes "\"" → new ≡ old ++ quoted text
+quoted_kept old one two new text kept a b c =
+    let q : List ℕ = codes "\"" in
+    c ∙ ap (λ (l : List ℕ). l ++ q) (b ∙ ap (λ (l : List ℕ). l ++ text) a) ∙ regrouped old q text ∙ ap (λ (l : List ℕ). old ++ (q ++ l ++ q)) (sym (own_kept text kept))
+  where
+    regrouped : (a q t : List ℕ) → ((a ++ q) ++ t) ++ q ≡ a ++ ((q ++ t) ++ q)
+    regrouped a q t = simp append_assoc
+
+kept_one : (x : ℕ) → is_unescaped x ≡ true → is_kept x ≡ true
+kept_one x h = grind (arith, nat_tests)
+
+all_kept : (s : List ℕ) → list_all is_unescaped s ≡ true → list_all is_kept s ≡ true
+all_kept [] h = refl
+all_kept (x ∷ xs) h =
     let p = and_parts (is_unescaped x) (list_all is_unescaped xs) h in
-    rw (own_one x p.0, own_unescaped xs p.1) refl
+    rw (kept_one x p.0, all_kept xs p.1) refl
 
 -- within a string they leave the lexer there
 string_one : (x : ℕ) → is_unescaped x ≡ true → next in_string (class x) ≡ in_string
@@ -78,9 +88,6 @@ string_kept (x ∷ xs) h =
     ap (λ m. mode_at m xs) (string_one x p.0) ∙ string_kept xs p.1
 
 -- ---- the moment, a number
-
-abbrev pub is_number_byte : ℕ → Bool
-is_number_byte b = is_ascii_digit b || (b == 46)
 
 number_one : (x : ℕ) → is_number_byte x ≡ true → class x ≡ other
 number_one x h =
@@ -111,94 +118,7 @@ number_kept (x ∷ xs) rest h =
     let p = and_parts (is_number_byte x) (list_all is_number_byte xs) h in
     ap (λ (k : Class). mode_at (next between k) (xs ++ 125 ∷ rest)) (number_one x p.0) ∙ mode_append in_word xs (125 ∷ rest) ∙ ap (λ m. mode_at m (125 ∷ rest)) (word_kept xs p.1)
 
-digit_byte : (x : ℕ) → is_ascii_digit x ≡ true → is_number_byte x ≡ true
-digit_byte x h = rw h refl
-
-digit_bytes : (ds : List ℕ) → list_all is_ascii_digit ds ≡ true → list_all is_number_byte ds ≡ true
-digit_bytes [] h = refl
-digit_bytes (x ∷ xs) h =
-    let p = and_parts (is_ascii_digit x) (list_all is_ascii_digit xs) h in
-    rw (digit_byte x p.0, digit_bytes xs p.1) refl
-
-pub seconds_bytes : (ms : ℕ) → ms ≤ 253402300799999 → list_all is_number_byte (seconds_text ms) ≡ true
-seconds_bytes ms h =
-    let whole = digit_bytes (decimal (ms / 1000)) (decimal_digits (ms / 1000) (omega (arith, h))) in
-    let part = digit_bytes (padded_decimal 3 (ms % 1000)) (digits_all 3 (ms % 1000)) in
-    list_all-append is_number_byte (decimal (ms / 1000) ++ codes ".") (padded_decimal 3 (ms % 1000))
-    ∙ rw (list_all-append is_number_byte (decimal (ms / 1000)) (codes "."), whole, part) refl
-
-all_digits : (ds : List ℕ) → list_all is_ascii_digit ds ≡ true → AllDigits 10 ds
-all_digits [] h = tt
-all_digits (d ∷ ds) h =
-    let both = and_parts (is_ascii_digit d) (list_all is_ascii_digit ds) h in
-    let digit = a_digit d both.0 in
-    (omega arith, all_digits ds both.1)
-
-no_leading : (n : ℕ) → n < 2 ^ 64 → get_or (decimal n) 0 0 ≡ 48 → length (decimal n) ≡ 1
-no_leading zero h e = ap (λ l. length l) (decimal_digit 0 (omega arith))
-no_leading (suc n) h e = absurd (omega (arith, first_decimal (suc n) (omega arith) h, e))
-
-abbrev seconds_parts : ℕ → Parts
-seconds_parts ms = record { whole = decimal (ms / 1000); point = true; fraction = padded_decimal 3 (ms % 1000); exponent_negative = false; exponent = []; len = length (decimal (ms / 1000) ++ (46 ∷ padded_decimal 3 (ms % 1000) ++ [])) }
-
-plain_seconds : (ms : ℕ) → ms ≤ 253402300799999 → IsPlain (seconds_parts ms)
-plain_seconds ms h =
-    let numeral = (decimal_is_IsNumeral (ms / 1000) (omega (arith, h))).0 in
-    let size = length-last_digits 10 3 (ms % 1000) in
-    record {
-      well_formed = record { whole_digits = numeral.1; fraction_digits = all_digits (padded_decimal 3 (ms % 1000)) (digits_all 3 (ms % 1000)); exponent_digits = tt; no_point = λ no. absurd (cc); no_exponent = λ _. refl; len_is = refl };
-      whole = numeral.0;
-      no_leading_zero = no_leading (ms / 1000) (omega (arith, h));
-      fraction = λ _. omega (arith, size);
-      marked = λ no. absurd (cc);
-    }
-
-pub seconds_number : (ms : ℕ) → ms ≤ 253402300799999 → IsNumber (seconds_text ms)
-seconds_number ms h =
-    let whole = decimal (ms / 1000) in
-    let part = padded_decimal 3 (ms % 1000) in
-    let same : seconds_text ms ≡ whole ++ (46 ∷ part ++ []) = append_assoc whole (codes ".") part ∙ ap (λ l. whole ++ 46 ∷ l) (sym (append-nil part)) in
-    IsNumber-plain (seconds_text ms) (false, seconds_parts ms, same, plain_seconds ms h)
-
 -- ---- the object
-
-abbrev part_a : List ℕ
-part_a = codes "{\"kinesis\":{\"kinesisSchemaVersion\":\"1.0\",\"partitionKey\":\""
-
-abbrev part_b : List ℕ
-part_b = codes "\",\"sequenceNumber\":\""
-
-abbrev part_c : List ℕ
-part_c = codes "\",\"data\":\""
-
-abbrev part_d : List ℕ
-part_d = codes "\",\"approximateArrivalTimestamp\":"
-
-abbrev part_e : List ℕ
-part_e = codes ",\"eventSource\":\"aws:kinesis\",\"eventVersion\":\"1.0\",\"eventID\":\""
-
-abbrev part_f : List ℕ
-part_f = codes "\",\"eventName\":\"aws:kinesis:record\",\"invokeIdentityArn\":\""
-
-abbrev part_g : List ℕ
-part_g = codes "\",\"awsRegion\":\""
-
-abbrev part_h : List ℕ
-part_h = codes "\",\"eventSourceARN\":\""
-
--- its texts, none of which needs an escape, and its moment
-pub record Texts : Type 0 where
-  pub key : List ℕ
-  pub seq : List ℕ
-  pub bytes : List ℕ
-  pub moment : List ℕ
-  pub id : List ℕ
-  pub role : List ℕ
-  pub region : List ℕ
-  pub arn : List ℕ
-
-abbrev pub whole_text : Texts → List ℕ
-whole_text t = part_a ++ t.key ++ part_b ++ t.seq ++ part_c ++ t.bytes ++ part_d ++ (t.moment ++ 125 ∷ part_e) ++ t.id ++ part_f ++ t.role ++ part_g ++ t.region ++ part_h ++ t.arn ++ codes "\"" ++ codes "}"
 
 abbrev kinesis_json : Texts → Json
 kinesis_json t =
@@ -210,17 +130,6 @@ texts_json t =
     object (member (codes "kinesis") (kinesis_json t) (member (codes "eventSource") (string (codes "aws:kinesis")) (member (codes "eventVersion") (string (codes "1.0"))
     (member (codes "eventID") (string t.id) (member (codes "eventName") (string (codes "aws:kinesis:record")) (member (codes "invokeIdentityArn") (string t.role)
     (member (codes "awsRegion") (string t.region) (member (codes "eventSourceARN") (string t.arn) no_members))))))))
-
-pub record AreUnescaped (t : Texts) : Type 0 where
-  pub key : list_all is_unescaped t.key ≡ true
-  pub seq : list_all is_unescaped t.seq ≡ true
-  pub bytes : list_all is_unescaped t.bytes ≡ true
-  pub id : list_all is_unescaped t.id ≡ true
-  pub role : list_all is_unescaped t.role ≡ true
-  pub region : list_all is_unescaped t.region ≡ true
-  pub arn : list_all is_unescaped t.arn ≡ true
-  pub moment : list_all is_number_byte t.moment ≡ true
-  pub number : IsNumber t.moment
 
 -- the quotation mark that ends a text goes with what follows it
 joined : (a k x b q c d e t f i g r h n j u z : List ℕ)
@@ -244,6 +153,28 @@ printed t h =
     (codes "},\"eventSource\":\"aws:kinesis\",\"eventVersion\":\"1.0\",\"eventID\":\"") t.id (codes ",\"eventName\":\"aws:kinesis:record\",\"invokeIdentityArn\":\"") t.role
     (codes ",\"awsRegion\":\"") t.region (codes ",\"eventSourceARN\":\"") t.arn (codes "}"))
 
+-- ---- its characters
+
+number_plain_one : (x : ℕ) → is_number_byte x ≡ true → is_plain x ≡ true
+number_plain_one x h = grind (arith, nat_tests)
+
+number_plain : (s : List ℕ) → list_all is_number_byte s ≡ true → list_all is_plain s ≡ true
+number_plain [] h = refl
+number_plain (x ∷ xs) h =
+    let p = and_parts (is_number_byte x) (list_all is_number_byte xs) h in
+    rw (number_plain_one x p.0, number_plain xs p.1) refl
+
+plain_parts : (k q d m i r n u : List ℕ) → list_all is_plain k ≡ true → list_all is_plain q ≡ true → list_all is_plain d ≡ true → list_all is_plain m ≡ true → list_all is_plain i ≡ true
+    → list_all is_plain r ≡ true → list_all is_plain n ≡ true → list_all is_plain u ≡ true
+    → list_all is_plain (part_a ++ k ++ part_b ++ q ++ part_c ++ d ++ part_d ++ (m ++ 125 ∷ part_e) ++ i ++ part_f ++ r ++ part_g ++ n ++ part_h ++ u ++ codes "\"" ++ codes "}") ≡ true
+plain_parts k q d m i r n u hk hq hd hm hi hr hn hu = simp (list_all-append, hk, hq, hd, hm, hi, hr, hn, hu)
+
+pub whole_plain : (t : Texts) → AreUnescaped t → list_all is_plain (whole_text t) ≡ true
+whole_plain t h =
+    plain_parts t.key t.seq t.bytes t.moment t.id t.role t.region t.arn
+    (plain_unescaped t.key h.key) (plain_unescaped t.seq h.seq) (plain_unescaped t.bytes h.bytes) (number_plain t.moment (moment_bytes t.moment h.moment))
+    (plain_unescaped t.id h.id) (plain_unescaped t.role h.role) (plain_unescaped t.region h.region) (plain_unescaped t.arn h.arn)
+
 -- ---- its lexemes
 
 then_at : (front more : List ℕ) (m n : Mode) → mode_at between front ≡ m → mode_at m more ≡ n → mode_at between (front ++ more) ≡ n
@@ -261,7 +192,7 @@ mode_before t h =
     let s4 = then_at (part_a ++ t.key ++ part_b ++ t.seq ++ part_c) t.bytes in_string in_string s3 (string_kept t.bytes h.bytes) in
     let s5 = then_at (part_a ++ t.key ++ part_b ++ t.seq ++ part_c ++ t.bytes) part_d in_string between s4 refl in
     let f5 : List ℕ = part_a ++ t.key ++ part_b ++ t.seq ++ part_c ++ t.bytes ++ part_d in
-    let s6 = then_at f5 (t.moment ++ 125 ∷ part_e) between in_string s5 (number_kept t.moment part_e h.moment) in
+    let s6 = then_at f5 (t.moment ++ 125 ∷ part_e) between in_string s5 (number_kept t.moment part_e (moment_bytes t.moment h.moment)) in
     let f6 : List ℕ = f5 ++ (t.moment ++ 125 ∷ part_e) in
     let s7 = then_at f6 t.id in_string in_string s6 (string_kept t.id h.id) in
     let s8 = then_at (f6 ++ t.id) part_f in_string in_string s7 refl in
@@ -295,7 +226,7 @@ data_in t payload h = h
 pub texts_element : (t : Texts) (payload : List ℕ) → AreUnescaped t → result_ok (decode_of standard t.bytes) ≡ Some payload → IsElement (whole_text t) (texts_json t) payload
 texts_element t payload h reads =
     let counted : (p : ℕ) → length (places_from between p (whole_text t)) ≡ size (texts_json t) =
-    λ p. ap (λ l. length (places_from between p l)) (sym (printed t h)) ∙ printed_count (texts_json t) p ((tt, (tt, (tt, (tt, (h.number, tt))))), (tt, (tt, (tt, (tt, (tt, (tt, (tt, tt)))))))) in
+    λ p. ap (λ l. length (places_from between p l)) (sym (printed t h)) ∙ printed_count (texts_json t) p ((tt, (tt, (tt, (tt, (moment_number t.moment h.moment, tt))))), (tt, (tt, (tt, (tt, (tt, (tt, (tt, tt)))))))) in
     let mode = mode_before t h in
     record {
       some = lit< tt;
@@ -328,6 +259,6 @@ regrouped a x k b q c d e t w f s o g p u h i r j n y z = simp append_assoc
 pub record_is : (c : Config) (r : Record) → list_all is_unescaped r.key ≡ true → record_text c r ≡ whole_text (texts_of c r)
 unfolding record_text
 record_is c r key =
-    rw (own_unescaped r.key key)
+    rw (own_kept r.key (all_kept r.key key))
     (regrouped (codes "{\"kinesis\":{\"kinesisSchemaVersion\":\"1.0\",\"partitionKey\":") (codes "\"") r.key (codes ",\"sequenceNumber\":\"") r.seq part_c (base64_text r.payload) part_d (seconds_text r.arrival)
     (codes "}") part_e (shard_id r.shard) (codes ":") part_f (codes "arn:aws:iam::") c.account (codes ":role/esm") part_g c.region part_h c.source_arn (codes "\"") (codes "}"))

@@ -7,12 +7,14 @@ pub mod Gives
 pub mod GoesOn
 pub mod ItemText
 pub mod Lexemes
+pub mod OwnForm
 pub mod ReadsBack
 pub mod RunEvent
 pub mod Said
 pub mod States
 pub mod Translating
 pub mod Translation
+pub mod Tree
 pub mod Turned
 pub mod TurnedInput
 pub mod TurnedSoFar

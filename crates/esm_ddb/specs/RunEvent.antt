@@ -1,9 +1,8 @@
 -- The event of records that carry elements, without a tumbling window, as the function gets it.
-use Rattle.std.specs.Prelude.{◌≡◌, ℕ, List, ◌++◌, codes, is_some, true, Ok, None}
+use Rattle.std.specs.Prelude.{◌≡◌, ℕ, List, ◌++◌, codes, true, Ok, None}
 use Rattle.std.specs.List.{All, join_by, list_all}
 use Rattle.serde_json.specs.Data.{Data}
 use Rattle.esm_model.specs.EventText.{event_text}
-use Rattle.esm_model.specs.Json.{read_json}
 use Rattle.esm_model.specs.Valid.{IsStreamConfig}
 use Rattle.esm_model.specs.declared.config.Config.{Config}
 use Rattle.esm_model.specs.declared.item.Record.{Record}
@@ -25,7 +24,7 @@ pub record IsOfChange (s : Source) (r : Record) : Type 0 where
 abbrev pub elements_event : List Record → List ℕ
 elements_event rs = codes "{\"Records\":[" ++ join_by (λ r. r.payload) (codes ",") rs ++ codes "]}"
 
--- Without a window, an event that reads as JSON becomes the event whose `Records` are exactly the elements that its records carry.
+-- Without a window, an event becomes the event whose `Records` are exactly the elements that its records carry.
 abbrev pub HasItsElements : Type 0
 HasItsElements = (c : Config) (s : Source) (rs : List Record) → IsStreamConfig c → All (IsOfChange s) rs
-    → is_some (read_json (event_text c rs None)) ≡ true → ddb_event (event_text c rs None) ≡ elements_event rs
+    → ddb_event (event_text c rs None) ≡ elements_event rs

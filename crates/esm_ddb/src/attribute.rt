@@ -1,10 +1,12 @@
 //! Whether a value is an attribute value, an item or the keys of one.
 ghost use Rattle.std.specs.Prelude.{◌≡◌};
 ghost use Rattle.serde_json.specs.Data.{array};
-ghost use Rattle.serde_json.specs.View.{items_view, members_view, view};
+ghost use Rattle.json.specs.Value.{items_view, members_view, value_view};
 ghost use Rattle.esm_ddb.specs.Attribute.{are_attributes, are_key_values, are_keys, are_texts, is_attribute, is_item, is_key_typed, is_key_value, is_of_type, is_set_type, is_text_type, is_typed};
+ghost use Rattle.esm_ddb.specs.Tree.{data_in, items_in, members_in};
 
-use serde_json::{Map, Value};
+use crate::tree::{members_of, text_in};
+use json::Value;
 
 fn is_text_type(tag: &str) -> bool
     ensures { result ≡ is_text_type tag.now }
@@ -18,11 +20,11 @@ fn is_set_type(tag: &str) -> bool
     tag == "SS" || tag == "NS" || tag == "BS"
 }
 
-fn are_texts(items: &Vec<Value>) -> bool
-    ensures { result ≡ are_texts (items_view items.now.items) }
+fn are_texts(items: &Vec<Value<'_>>) -> bool
+    ensures { result ≡ are_texts (items_in (items_view items.now.items)) }
 {
     for item in items {
-        if !item.is_string() {
+        if text_in(item).is_none() {
             return false;
         }
     }
@@ -31,8 +33,8 @@ fn are_texts(items: &Vec<Value>) -> bool
 
 /// Whether the value is an object with one member, whose name is the type of its value.
 #[cycle(attributes)]
-pub fn is_attribute(value: &Value) -> bool
-    ensures { result ≡ is_attribute (view value.now) }
+pub fn is_attribute(value: &Value<'_>) -> bool
+    ensures { result ≡ is_attribute (data_in (value_view value.now)) }
 {
     match value {
         Value::Object(members) => is_typed(members),
@@ -42,22 +44,22 @@ pub fn is_attribute(value: &Value) -> bool
 }
 
 #[cycle(attributes)]
-fn is_typed(members: &Map<String, Value>) -> bool
-    ensures { result ≡ is_typed (members_view members.now.entries) }
+fn is_typed(members: &Vec<(&str, Value<'_>)>) -> bool
+    ensures { result ≡ is_typed (members_in (members_view members.now.items)) }
 {
     let mut entries = members.iter();
-    let Some((tag, value)) = entries.next() else {
+    let Some(member) = entries.next() else {
         return false;
     };
     match entries.next() {
-        None => is_of_type(tag.as_str(), value),
+        None => is_of_type(member.0, &member.1),
         Some(_) => false,
     }
 }
 
 #[cycle(attributes)]
-fn is_of_type(tag: &str, value: &Value) -> bool
-    ensures { result ≡ is_of_type tag.now (view value.now) }
+fn is_of_type(tag: &str, value: &Value<'_>) -> bool
+    ensures { result ≡ is_of_type tag.now (data_in (value_view value.now)) }
 {
     match value {
         Value::Bool(truth) => tag == "BOOL" || (*truth && tag == "NULL"),
@@ -69,8 +71,8 @@ fn is_of_type(tag: &str, value: &Value) -> bool
 }
 
 #[cycle(attributes)]
-fn is_list_of_type(tag: &str, items: &Vec<Value>) -> bool
-    ensures { result ≡ is_of_type tag.now (array (items_view items.now.items)) }
+fn is_list_of_type(tag: &str, items: &Vec<Value<'_>>) -> bool
+    ensures { result ≡ is_of_type tag.now (array (items_in (items_view items.now.items))) }
 {
     if is_set_type(tag) && are_texts(items) {
         return true;
@@ -79,8 +81,8 @@ fn is_list_of_type(tag: &str, items: &Vec<Value>) -> bool
 }
 
 #[cycle(attributes)]
-fn are_attributes(items: &Vec<Value>) -> bool
-    ensures { result ≡ are_attributes (items_view items.now.items) }
+fn are_attributes(items: &Vec<Value<'_>>) -> bool
+    ensures { result ≡ are_attributes (items_in (items_view items.now.items)) }
 {
     for item in items {
         if !is_attribute(item) {
@@ -92,46 +94,44 @@ fn are_attributes(items: &Vec<Value>) -> bool
 
 /// Whether each member is an attribute and its value.
 #[cycle(attributes)]
-pub fn is_item(members: &Map<String, Value>) -> bool
-    ensures { result ≡ is_item (members_view members.now.entries) }
+pub fn is_item(members: &Vec<(&str, Value<'_>)>) -> bool
+    ensures { result ≡ is_item (members_in (members_view members.now.items)) }
 {
-    for (name, value) in members.iter() {
-        let _ = name;
-        if !is_attribute(value) {
+    for member in members {
+        if !is_attribute(&member.1) {
             return false;
         }
     }
     true
 }
 
-fn is_key_typed(members: &Map<String, Value>) -> bool
-    ensures { result ≡ is_key_typed (members_view members.now.entries) }
+fn is_key_typed(members: &Vec<(&str, Value<'_>)>) -> bool
+    ensures { result ≡ is_key_typed (members_in (members_view members.now.items)) }
 {
     let mut entries = members.iter();
-    let Some((tag, value)) = entries.next() else {
+    let Some(member) = entries.next() else {
         return false;
     };
     match entries.next() {
-        None => is_text_type(tag.as_str()) && value.is_string(),
+        None => is_text_type(member.0) && text_in(&member.1).is_some(),
         Some(_) => false,
     }
 }
 
-fn is_key_value(value: &Value) -> bool
-    ensures { result ≡ is_key_value (view value.now) }
+fn is_key_value(value: &Value<'_>) -> bool
+    ensures { result ≡ is_key_value (data_in (value_view value.now)) }
 {
-    match value.as_object() {
+    match members_of(value) {
         Some(members) => is_key_typed(members),
         None => false,
     }
 }
 
-fn are_key_values(members: &Map<String, Value>) -> bool
-    ensures { result ≡ are_key_values (members_view members.now.entries) }
+fn are_key_values(members: &Vec<(&str, Value<'_>)>) -> bool
+    ensures { result ≡ are_key_values (members_in (members_view members.now.items)) }
 {
-    for (name, value) in members.iter() {
-        let _ = name;
-        if !is_key_value(value) {
+    for member in members {
+        if !is_key_value(&member.1) {
             return false;
         }
     }
@@ -139,8 +139,8 @@ fn are_key_values(members: &Map<String, Value>) -> bool
 }
 
 /// Whether each member is a key and its value, and there is one at least.
-pub fn are_keys(members: &Map<String, Value>) -> bool
-    ensures { result ≡ are_keys (members_view members.now.entries) }
+pub fn are_keys(members: &Vec<(&str, Value<'_>)>) -> bool
+    ensures { result ≡ are_keys (members_in (members_view members.now.items)) }
 {
     members.len() != 0 && are_key_values(members)
 }

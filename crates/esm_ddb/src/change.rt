@@ -1,45 +1,46 @@
 //! The change of an item that a line of a DynamoDB stream tells.
-ghost use Rattle.std.specs.Prelude.{◌≡◌, codes, option_and_then, option_map};
+ghost use Rattle.std.specs.Prelude.{◌≡◌, option_and_then, option_map, true, IfSome};
 ghost use Rattle.std.specs.List.{list_all};
 ghost use Rattle.std.specs.Result.{result_map_both};
-ghost use Rattle.serde_json.specs.Find.{get};
-ghost use Rattle.serde_json.specs.View.{view};
+ghost use Rattle.json.specs.Value.{value_view};
 ghost use Rattle.esm_model.specs.Valid.{is_word};
 ghost use Rattle.esm_record.specs.Line.{moment, of_text, sequence_number, shard_number};
 ghost use Rattle.esm_ddb.specs.Change as spec;
 ghost use Rattle.esm_ddb.specs.Said.{change_view, data_of, record_view};
+ghost use Rattle.esm_ddb.specs.Tree.{data_in, is_ordered};
 
 use crate::attribute::{are_keys, is_item};
 use crate::error::{DdbError, DdbField};
+use crate::tree::{member, members_of, text_in, whole_in};
 use esm_model::MAX_MOMENT;
 use esm_model::spelling::is_sequence;
 use esm_record::shard_number;
-use serde_json::Value;
+use json::Value;
 
 /// The greatest size of an item in bytes that a line may tell.
 const MAX_SIZE: u64 = 9_007_199_254_740_992;
 
 /// What the table's stream says of the item.
 #[derive(Clone, Copy)]
-pub struct StreamRecord<'a> {
-    pub keys: &'a Value,
-    pub new_image: Option<&'a Value>,
-    pub old_image: Option<&'a Value>,
-    pub seq: &'a str,
+pub struct StreamRecord<'a, 't> {
+    pub keys: &'a Value<'t>,
+    pub new_image: Option<&'a Value<'t>>,
+    pub old_image: Option<&'a Value<'t>>,
+    pub seq: &'t str,
     /// In bytes.
     pub size: u64,
-    pub view: &'a str,
+    pub view: &'t str,
 }
 
 /// The change of an item.
 #[derive(Clone, Copy)]
-pub struct Change<'a> {
+pub struct Change<'a, 't> {
     pub shard: u64,
     /// Milliseconds since 1970.
     pub arrival: u64,
-    pub id: &'a str,
-    pub name: &'a str,
-    pub item: StreamRecord<'a>,
+    pub id: &'t str,
+    pub name: &'t str,
+    pub item: StreamRecord<'a, 't>,
 }
 
 fn are_visible(text: &[u8]) -> bool
@@ -69,19 +70,19 @@ fn is_view_type(text: &str) -> bool
         || text == "NEW_AND_OLD_IMAGES"
 }
 
-fn shard_in(value: &Value) -> Option<u64>
-    ensures { result ≡ of_text shard_number (view value.now) }
+fn shard_in(value: &Value<'_>) -> Option<u64>
+    ensures { result ≡ of_text shard_number (data_in (value_view value.now)) }
 {
-    match value.as_str() {
+    match text_in(value) {
         Some(text) => shard_number(text.as_bytes()),
         None => None,
     }
 }
 
-fn moment_in(value: &Value) -> Option<u64>
-    ensures { result ≡ moment (view value.now) }
+fn moment_in(value: &Value<'_>) -> Option<u64>
+    ensures { result ≡ moment (data_in (value_view value.now)) }
 {
-    match value.as_u64() {
+    match whole_in(value) {
         Some(moment) => {
             if moment <= MAX_MOMENT {
                 Some(moment)
@@ -93,10 +94,10 @@ fn moment_in(value: &Value) -> Option<u64>
     }
 }
 
-fn event_id_in(value: &Value) -> Option<&str>
-    ensures { option_map (λ s. s.now) result ≡ of_text spec.event_id (view value.entry.now) }
+fn event_id_in<'t>(value: &Value<'t>) -> Option<&'t str>
+    ensures { option_map (λ s. s.now) result ≡ of_text spec.event_id (data_in (value_view value.entry.now)) }
 {
-    match value.as_str() {
+    match text_in(value) {
         Some(text) => {
             if is_event_id(text.as_bytes()) {
                 Some(text)
@@ -108,10 +109,10 @@ fn event_id_in(value: &Value) -> Option<&str>
     }
 }
 
-fn event_name_in(value: &Value) -> Option<&str>
-    ensures { option_map (λ s. s.now) result ≡ of_text spec.event_name (view value.entry.now) }
+fn event_name_in<'t>(value: &Value<'t>) -> Option<&'t str>
+    ensures { option_map (λ s. s.now) result ≡ of_text spec.event_name (data_in (value_view value.entry.now)) }
 {
-    match value.as_str() {
+    match text_in(value) {
         Some(text) => {
             if is_event_name(text) {
                 Some(text)
@@ -123,11 +124,11 @@ fn event_name_in(value: &Value) -> Option<&str>
     }
 }
 
-fn view_type_in(field: Option<&Value>) -> Option<&str>
+fn view_type_in<'t>(field: Option<&Value<'t>>) -> Option<&'t str>
     ensures { option_map (λ s. s.now) result ≡ option_and_then (of_text spec.view_type) (data_of field.entry) }
 {
     match field {
-        Some(value) => match value.as_str() {
+        Some(value) => match text_in(value) {
             Some(text) => { if is_view_type(text) { Some(text) } else { None } }
             None => None,
         },
@@ -135,11 +136,11 @@ fn view_type_in(field: Option<&Value>) -> Option<&str>
     }
 }
 
-fn sequence_number_in(field: Option<&Value>) -> Option<&str>
+fn sequence_number_in<'t>(field: Option<&Value<'t>>) -> Option<&'t str>
     ensures { option_map (λ s. s.now) result ≡ option_and_then (of_text sequence_number) (data_of field.entry) }
 {
     match field {
-        Some(value) => match value.as_str() {
+        Some(value) => match text_in(value) {
             Some(text) => {
                 if is_sequence(text.as_bytes()) {
                     Some(text)
@@ -153,11 +154,11 @@ fn sequence_number_in(field: Option<&Value>) -> Option<&str>
     }
 }
 
-fn size_in(field: Option<&Value>) -> Option<u64>
+fn size_in(field: Option<&Value<'_>>) -> Option<u64>
     ensures { result ≡ option_and_then spec.size_of (data_of field.entry) }
 {
     match field {
-        Some(value) => match value.as_u64() {
+        Some(value) => match whole_in(value) {
             Some(size) => { if size <= MAX_SIZE { Some(size) } else { None } }
             None => None,
         },
@@ -165,11 +166,11 @@ fn size_in(field: Option<&Value>) -> Option<u64>
     }
 }
 
-fn keys_in(field: Option<&Value>) -> Option<&Value>
+fn keys_in<'a, 't>(field: Option<&'a Value<'t>>) -> Option<&'a Value<'t>>
     ensures { data_of result ≡ option_and_then spec.keys_of (data_of field.entry) }
 {
     match field {
-        Some(value) => match value.as_object() {
+        Some(value) => match members_of(value) {
             Some(members) => { if are_keys(members) { Some(value) } else { None } }
             None => None,
         },
@@ -178,11 +179,11 @@ fn keys_in(field: Option<&Value>) -> Option<&Value>
 }
 
 /// An image, which may be absent.
-fn image_in(field: Option<&Value>) -> Option<Option<&Value>>
+fn image_in<'a, 't>(field: Option<&'a Value<'t>>) -> Option<Option<&'a Value<'t>>>
     ensures { option_map data_of result ≡ spec.image_of (data_of field.entry) }
 {
     match field {
-        Some(value) => match value.as_object() {
+        Some(value) => match members_of(value) {
             Some(members) => {
                 if is_item(members) {
                     Some(Some(value))
@@ -197,25 +198,26 @@ fn image_in(field: Option<&Value>) -> Option<Option<&Value>>
 }
 
 /// What the member `dynamodb` says.
-fn stream_record(value: &Value) -> Option<StreamRecord<'_>>
-    ensures { option_map record_view result ≡ spec.stream_record (view value.entry.now) }
+fn stream_record<'a, 't>(value: &'a Value<'t>) -> Option<StreamRecord<'a, 't>>
+    requires { is_ordered (value_view value.now) ≡ true }
+    ensures { option_map record_view result ≡ spec.stream_record (data_in (value_view value.entry.now)) }
 {
-    let Some(keys) = keys_in(value.get("Keys")) else {
+    let Some(keys) = keys_in(member(value, "Keys")) else {
         return None;
     };
-    let Some(new_image) = image_in(value.get("NewImage")) else {
+    let Some(new_image) = image_in(member(value, "NewImage")) else {
         return None;
     };
-    let Some(old_image) = image_in(value.get("OldImage")) else {
+    let Some(old_image) = image_in(member(value, "OldImage")) else {
         return None;
     };
-    let Some(seq) = sequence_number_in(value.get("SequenceNumber")) else {
+    let Some(seq) = sequence_number_in(member(value, "SequenceNumber")) else {
         return None;
     };
-    let Some(size) = size_in(value.get("SizeBytes")) else {
+    let Some(size) = size_in(member(value, "SizeBytes")) else {
         return None;
     };
-    match view_type_in(value.get("StreamViewType")) {
+    match view_type_in(member(value, "StreamViewType")) {
         Some(view) => Some(StreamRecord {
             keys,
             new_image,
@@ -228,29 +230,32 @@ fn stream_record(value: &Value) -> Option<StreamRecord<'_>>
     }
 }
 
-fn shard_of(line: &Value) -> Result<u64, DdbError>
-    ensures { result ≡ spec.field_of DdbField.ShardId (of_text shard_number) (view line.now) }
+fn shard_of(line: &Value<'_>) -> Result<u64, DdbError>
+    requires { is_ordered (value_view line.now) ≡ true }
+    ensures { result ≡ spec.field_of DdbField.ShardId (of_text shard_number) (data_in (value_view line.now)) }
 {
-    match line.get("shardId") {
+    match member(line, "shardId") {
         Some(value) => shard_in(value).ok_or(DdbError::BadField(DdbField::ShardId)),
         None => Err(DdbError::Missing(DdbField::ShardId)),
     }
 }
 
-fn arrival_of(line: &Value) -> Result<u64, DdbError>
-    ensures { result ≡ spec.field_of DdbField.ApproximateArrivalTimestamp moment (view line.now) }
+fn arrival_of(line: &Value<'_>) -> Result<u64, DdbError>
+    requires { is_ordered (value_view line.now) ≡ true }
+    ensures { result ≡ spec.field_of DdbField.ApproximateArrivalTimestamp moment (data_in (value_view line.now)) }
 {
     let field = DdbField::ApproximateArrivalTimestamp;
-    match line.get("approximateArrivalTimestamp") {
+    match member(line, "approximateArrivalTimestamp") {
         Some(value) => moment_in(value).ok_or(DdbError::BadField(field)),
         None => Err(DdbError::Missing(field)),
     }
 }
 
-fn event_id_of(line: &Value) -> Result<&str, DdbError>
-    ensures { result_map_both (λ s. s.now) (λ e. e) result ≡ spec.field_of DdbField.EventId (of_text spec.event_id) (view line.entry.now) }
+fn event_id_of<'t>(line: &Value<'t>) -> Result<&'t str, DdbError>
+    requires { is_ordered (value_view line.now) ≡ true }
+    ensures { result_map_both (λ s. s.now) (λ e. e) result ≡ spec.field_of DdbField.EventId (of_text spec.event_id) (data_in (value_view line.entry.now)) }
 {
-    match line.get("eventID") {
+    match member(line, "eventID") {
         Some(value) => match event_id_in(value) {
             Some(id) => Ok(id),
             None => Err(DdbError::BadField(DdbField::EventId)),
@@ -259,10 +264,11 @@ fn event_id_of(line: &Value) -> Result<&str, DdbError>
     }
 }
 
-fn event_name_of(line: &Value) -> Result<&str, DdbError>
-    ensures { result_map_both (λ s. s.now) (λ e. e) result ≡ spec.field_of DdbField.EventName (of_text spec.event_name) (view line.entry.now) }
+fn event_name_of<'t>(line: &Value<'t>) -> Result<&'t str, DdbError>
+    requires { is_ordered (value_view line.now) ≡ true }
+    ensures { result_map_both (λ s. s.now) (λ e. e) result ≡ spec.field_of DdbField.EventName (of_text spec.event_name) (data_in (value_view line.entry.now)) }
 {
-    match line.get("eventName") {
+    match member(line, "eventName") {
         Some(value) => match event_name_in(value) {
             Some(name) => Ok(name),
             None => Err(DdbError::BadField(DdbField::EventName)),
@@ -271,10 +277,11 @@ fn event_name_of(line: &Value) -> Result<&str, DdbError>
     }
 }
 
-fn item_of(line: &Value) -> Result<StreamRecord<'_>, DdbError>
-    ensures { result_map_both record_view (λ e. e) result ≡ spec.field_of DdbField.Dynamodb spec.stream_record (view line.entry.now) }
+fn item_of<'a, 't>(line: &'a Value<'t>) -> Result<StreamRecord<'a, 't>, DdbError>
+    requires { is_ordered (value_view line.now) ≡ true }
+    ensures { result_map_both record_view (λ e. e) result ≡ spec.field_of DdbField.Dynamodb spec.stream_record (data_in (value_view line.entry.now)) }
 {
-    match line.get("dynamodb") {
+    match member(line, "dynamodb") {
         Some(value) => match stream_record(value) {
             Some(item) => Ok(item),
             None => Err(DdbError::BadField(DdbField::Dynamodb)),
@@ -284,8 +291,9 @@ fn item_of(line: &Value) -> Result<StreamRecord<'_>, DdbError>
 }
 
 /// The change that the object tells; the first of its fields that is absent or wrong.
-pub fn change_of(line: &Value) -> Result<Change<'_>, DdbError>
-    ensures { result_map_both change_view (λ e. e) result ≡ spec.change_of (view line.entry.now) }
+pub fn change_of<'a, 't>(line: &'a Value<'t>) -> Result<Change<'a, 't>, DdbError>
+    requires { is_ordered (value_view line.now) ≡ true }
+    ensures { result_map_both change_view (λ e. e) result ≡ spec.change_of (data_in (value_view line.entry.now)) }
 {
     let shard = shard_of(line)?;
     let arrival = arrival_of(line)?;

@@ -49,6 +49,14 @@ impl<T: Dest> Dest for DdbDest<T> {
 
     ghost failed = { λ d. T.failed d.inner };
 
+    ghost moment = { λ d. T.moment d.inner };
+
+    ghost image_since = { λ d. T.image_since d.inner };
+
+    ghost reads_as = { T.reads_as };
+
+    ghost counts_now = { λ d t left honest early since. T.counts_now d.inner t left honest early since };
+
     ghost has_room = { λ d n. HasRoomBeside (T.has_room d.inner) (vec_capacity d.room) n };
 
     fn reserve(&mut self, alloc: Global, bytes: u64) -> Result<(), OutOfMemory> {

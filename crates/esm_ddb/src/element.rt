@@ -1,19 +1,23 @@
 //! The element of an event's `Records` that a change of an item is.
 ghost use Rattle.std.specs.Prelude.{◌≡◌, ◌++◌, OnOk, IfOk};
-ghost use Rattle.serde_json.specs.View.{view};
+ghost use Rattle.json.specs.Value.{value_view};
 ghost use Rattle.esm_ddb.specs.Element.{element, event_part, image_part, images_part, place_part};
 ghost use Rattle.esm_ddb.specs.ItemText.{value_text};
 ghost use Rattle.esm_ddb.specs.Said.{change_view, data_of, record_view};
+ghost use Rattle.esm_ddb.specs.Tree.{data_in};
 
 use crate::change::{Change, StreamRecord};
 use crate::item_text::push_value;
+use crate::quoted::push_quoted;
 use crate::source::Source;
 use esm_event::bytes::push_bytes;
 use esm_event::digits::push_decimal;
-use esm_event::json::push_quoted;
 use esm_model::OutOfMemory;
-use serde_json::Value;
+use json::Value;
 use std::alloc::Global;
+
+/// The bytes that most elements have room in.
+const ROOM: usize = 1024;
 
 fn push_event(out: &mut Vec<u8>, source: &Source, change: &Change) -> Result<(), OutOfMemory>
     ensures { OnOk result (out.new.items ≡ out.old.items ++ event_part source.now (change_view change.now)) }
@@ -31,7 +35,7 @@ fn push_event(out: &mut Vec<u8>, source: &Source, change: &Change) -> Result<(),
 }
 
 /// Appends the image after its name, where there is one.
-fn push_image(out: &mut Vec<u8>, name: &[u8], image: Option<&Value>) -> Result<(), OutOfMemory>
+fn push_image(out: &mut Vec<u8>, name: &[u8], image: Option<&Value<'_>>) -> Result<(), OutOfMemory>
     ensures { OnOk result (out.new.items ≡ out.old.items ++ image_part name.now (data_of image.entry)) }
 {
     match image {
@@ -45,7 +49,7 @@ fn push_image(out: &mut Vec<u8>, name: &[u8], image: Option<&Value>) -> Result<(
 }
 
 fn push_images(out: &mut Vec<u8>, keys: &[u8], item: &StreamRecord) -> Result<(), OutOfMemory>
-    requires { keys.now ≡ value_text (view item.now.keys.now) }
+    requires { keys.now ≡ value_text (data_in (value_view item.now.keys.now)) }
     ensures { OnOk result (out.new.items ≡ out.old.items ++ images_part (record_view item.now)) }
 {
     push_bytes(out, b",\"Keys\":")?;
@@ -74,7 +78,7 @@ fn push_element(
     change: &Change,
     keys: &[u8],
 ) -> Result<(), OutOfMemory>
-    requires { keys.now ≡ value_text (view change.now.item.keys.now) }
+    requires { keys.now ≡ value_text (data_in (value_view change.now.item.keys.now)) }
     ensures { OnOk result (out.new.items ≡ out.old.items ++ element source.now (change_view change.now)) }
 {
     push_event(out, source, change)?;
@@ -95,10 +99,10 @@ pub fn element(
     change: &Change,
     keys: &[u8],
 ) -> Result<Vec<u8>, OutOfMemory>
-    requires { keys.now ≡ value_text (view change.now.item.keys.now) }
+    requires { keys.now ≡ value_text (data_in (value_view change.now.item.keys.now)) }
     ensures { IfOk result (λ text. text.items ≡ element source.now (change_view change.now)) }
 {
-    let mut out = Vec::new(alloc);
+    let mut out = Vec::with_capacity(alloc, ROOM)?;
     push_element(&mut out, source, change, keys)?;
     Ok(out)
 }

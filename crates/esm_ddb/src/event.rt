@@ -1,43 +1,56 @@
 //! The event of a DynamoDB stream's records.
-ghost use Rattle.std.specs.Prelude.{◌≡◌, ◌++◌, OnOk, IfOk, option_map, slice_range};
+ghost use Rattle.std.specs.Prelude.{◌≡◌, ◌++◌, [], if◌then◌else◌, None, OnOk, IfOk, is_some, option_map, slice_range};
 ghost use Rattle.json.specs.Value.{value_view};
-ghost use Rattle.esm_ddb.specs.Event.{ddb_event, event_elements, event_with, read_elements, replaced};
+ghost use Rattle.serde_json.specs.Read.{read};
+ghost use Rattle.esm_model.specs.State.{places};
+ghost use Rattle.esm_ddb.specs.Event.{ddb_event, event_elements, event_with, object_elements, read_elements, replaced};
+ghost use Rattle.esm_ddb.specs.Tree.{is_ranged};
 
 use crate::elements::{Element, object_elements};
+use crate::error::Refusal;
 use crate::lexeme::places;
+use crate::own_event::own_event;
+use crate::tree::{is_ranged, read_value};
 use esm_event::bytes::push_bytes;
-use esm_model::{OutOfMemory, parse_json};
-use json::{Error, Reader, Scratch, Value};
+use esm_model::OutOfMemory;
+use json::{Reader, Scratch, Value};
 use std::alloc::Global;
 use std::str::from_utf8;
 
-/// How deep arrays and objects may nest.
-const MAX_DEPTH: usize = 127;
+/// The elements of the object that the text is, where its numbers are in range.
+fn ranged_elements(
+    alloc: Global,
+    text: &[u8],
+    object: &Value<'_>,
+) -> Result<Option<Vec<Element>>, OutOfMemory>
+    ensures { IfOk result (λ o. option_map (λ v. v.items) o
+        ≡ (if is_ranged (value_view object.now) then object_elements (places [] text.now) (value_view object.now) else None)) }
+{
+    if !is_ranged(object) {
+        return Ok(None);
+    }
+    let places = places(alloc, text)?;
+    object_elements(alloc, places.as_slice(), object)
+}
 
-/// The elements of a text that is JSON, where it is an object whose `Records` is a list of such elements.
-fn read_elements(alloc: Global, text: &str) -> Result<Option<Vec<Element>>, OutOfMemory>
-    ensures { IfOk result (λ o. option_map (λ v. v.items) o ≡ read_elements text.now) }
+/// The elements of a text that reads as JSON, where it is an object whose `Records` is a list of such elements.
+fn text_elements(alloc: Global, text: &str) -> Result<Option<Vec<Element>>, OutOfMemory>
+    ensures { IfOk result (λ o. option_map (λ v. v.items) o ≡ (if is_some (read text.now) then read_elements text.now else None)) }
 {
     let mut scratch = Scratch::new(alloc);
     let mut reader = Reader::new(text, &mut scratch)?;
-    match Value::read(alloc, &mut reader, MAX_DEPTH) {
-        Ok(object) => {
-            let places = places(alloc, text.as_bytes())?;
-            object_elements(alloc, places.as_slice(), &object)
-        }
-        Err(Error::OutOfMemory) => Err(OutOfMemory),
-        Err(_) => Ok(None),
+    match read_value(alloc, &mut reader) {
+        Ok(object) => ranged_elements(alloc, text.as_bytes(), &object),
+        Err(Refusal::OutOfMemory) => Err(OutOfMemory),
+        Err(Refusal::Line(_)) => Ok(None),
     }
 }
 
 fn event_elements(alloc: Global, event: &[u8]) -> Result<Option<Vec<Element>>, OutOfMemory>
     ensures { IfOk result (λ o. option_map (λ v. v.items) o ≡ event_elements event.now) }
 {
-    if parse_json(alloc, event)?.is_none() {
-        return Ok(None);
-    }
     match from_utf8(event) {
-        Ok(text) => read_elements(alloc, text),
+        Ok(text) => text_elements(alloc, text),
         Err(_) => Ok(None),
     }
 }
@@ -77,15 +90,25 @@ fn push_event(
     }
 }
 
-/// The event of a DynamoDB stream that a stream's event becomes: the bytes of its data in place of each element of `Records`,
-/// where the event reads as a JSON object whose last `Records` is a list of objects, each with an object `kinesis` whose
-/// `data` is standard padded base64. Any other bytes stay as they are.
+/// What the event becomes, found by parsing it.
 #[tactic(auto, unfolding(crate::specs::Event::ddb_event))]
-pub fn ddb_event(alloc: Global, event: &[u8]) -> Result<Vec<u8>, OutOfMemory>
+fn parsed_event(alloc: Global, event: &[u8]) -> Result<Vec<u8>, OutOfMemory>
     ensures { IfOk result (λ text. text.items ≡ ddb_event event.now) }
 {
     let elements = event_elements(alloc, event)?;
     let mut out = Vec::new(alloc);
     push_event(&mut out, event, &elements)?;
     Ok(out)
+}
+
+/// The event of a DynamoDB stream that a stream's event becomes: the bytes of its data in place of each element of `Records`,
+/// where the event reads as a JSON object whose last `Records` is a list of objects, each with an object `kinesis` whose
+/// `data` is standard padded base64. Any other bytes stay as they are.
+pub fn ddb_event(alloc: Global, event: &[u8]) -> Result<Vec<u8>, OutOfMemory>
+    ensures { IfOk result (λ text. text.items ≡ ddb_event event.now) }
+{
+    match own_event(alloc, event)? {
+        Some(text) => Ok(text),
+        None => parsed_event(alloc, event),
+    }
 }

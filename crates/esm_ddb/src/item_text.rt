@@ -1,13 +1,15 @@
 //! The texts of an item's keys and images.
 ghost use Rattle.std.specs.Prelude.{◌≡◌, ◌++◌, false, OnOk, codes};
-ghost use Rattle.serde_json.specs.View.{items_view, members_view, view};
+ghost use Rattle.json.specs.Value.{items_view, members_view, value_view};
 ghost use Rattle.esm_model.specs.JsonText.{quoted};
 ghost use Rattle.esm_ddb.specs.ItemText.{comma_if, items_text, members_text, value_text};
+ghost use Rattle.esm_ddb.specs.Tree.{data_in, items_in, members_in};
 
+use crate::quoted::push_quoted;
 use esm_event::bytes::push_bytes;
-use esm_event::json::{push_quoted, push_truth};
+use esm_event::json::push_truth;
 use esm_model::OutOfMemory;
-use serde_json::{Map, Value};
+use json::Value;
 
 fn push_comma(out: &mut Vec<u8>, later: bool) -> Result<(), OutOfMemory>
     ensures { OnOk result (out.new.items ≡ out.old.items ++ comma_if later) }
@@ -30,8 +32,8 @@ fn push_name(out: &mut Vec<u8>, later: bool, name: &str) -> Result<(), OutOfMemo
 
 /// Appends the value's text. After an `Err` a part of it may stand there.
 #[cycle(values)]
-pub fn push_value(out: &mut Vec<u8>, value: &Value) -> Result<(), OutOfMemory>
-    ensures { OnOk result (out.new.items ≡ out.old.items ++ value_text (view value.now)) }
+pub fn push_value(out: &mut Vec<u8>, value: &Value<'_>) -> Result<(), OutOfMemory>
+    ensures { OnOk result (out.new.items ≡ out.old.items ++ value_text (data_in (value_view value.now))) }
 {
     match value {
         Value::Null => push_bytes(out, b"null"),
@@ -44,8 +46,8 @@ pub fn push_value(out: &mut Vec<u8>, value: &Value) -> Result<(), OutOfMemory>
 }
 
 #[cycle(values)]
-fn push_items(out: &mut Vec<u8>, items: &Vec<Value>) -> Result<(), OutOfMemory>
-    ensures { OnOk result (out.new.items ≡ out.old.items ++ (codes "[" ++ items_text false (items_view items.now.items))) }
+fn push_items(out: &mut Vec<u8>, items: &Vec<Value<'_>>) -> Result<(), OutOfMemory>
+    ensures { OnOk result (out.new.items ≡ out.old.items ++ (codes "[" ++ items_text false (items_in (items_view items.now.items)))) }
 {
     push_bytes(out, b"[")?;
     let mut later = false;
@@ -58,14 +60,14 @@ fn push_items(out: &mut Vec<u8>, items: &Vec<Value>) -> Result<(), OutOfMemory>
 }
 
 #[cycle(values)]
-fn push_members(out: &mut Vec<u8>, members: &Map<String, Value>) -> Result<(), OutOfMemory>
-    ensures { OnOk result (out.new.items ≡ out.old.items ++ (codes "{" ++ members_text false (members_view members.now.entries))) }
+fn push_members(out: &mut Vec<u8>, members: &Vec<(&str, Value<'_>)>) -> Result<(), OutOfMemory>
+    ensures { OnOk result (out.new.items ≡ out.old.items ++ (codes "{" ++ members_text false (members_in (members_view members.now.items)))) }
 {
     push_bytes(out, b"{")?;
     let mut later = false;
-    for (name, value) in members.iter() {
-        push_name(out, later, name.as_str())?;
-        push_value(out, value)?;
+    for member in members {
+        push_name(out, later, member.0)?;
+        push_value(out, &member.1)?;
         later = true;
     }
     push_bytes(out, b"}")

@@ -14,8 +14,8 @@ pub fn turned_goes_on()
     ensures { IsCarriedOn }
 {}
 
-/// The event of a stream's batch without a tumbling window, which reads as JSON and whose records are those of changes, with
-/// bytes as their data, becomes the event of exactly the elements that they carry, in the batch's order.
+/// The event of a stream's batch without a tumbling window, whose records are those of changes, with bytes as their data, becomes
+/// the event of exactly the elements that they carry, in the batch's order.
 pub fn event_has_its_elements()
     ensures { HasItsElements }
 {}

@@ -18,13 +18,18 @@ mod input;
 mod item_text;
 pub mod laws;
 mod lexeme;
+mod number;
+mod own_element;
+mod own_event;
 mod piece;
+mod quoted;
 mod size;
 mod source;
 mod splitter;
 #[cfg(test)]
 mod tests;
 mod translator;
+mod tree;
 mod turned;
 
 pub use caller::DdbCaller;

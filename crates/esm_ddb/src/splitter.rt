@@ -12,6 +12,7 @@ use crate::source::Source;
 use crate::turned::turned;
 use esm_event::bytes::push_bytes;
 use esm_model::{MAX_LINE, OutOfMemory};
+use json::Scratch;
 use memchr::memchr;
 use std::alloc::Global;
 
@@ -38,6 +39,7 @@ fn first_line(bytes: &[u8]) -> Option<(&[u8], &[u8])>
 /// What the line becomes that has begun so and ends with this rest. No line has begun then.
 fn turned_whole(
     alloc: Global,
+    scratch: &mut Scratch,
     source: &Source,
     begun: &mut Vec<u8>,
     rest: &[u8],
@@ -46,13 +48,13 @@ fn turned_whole(
     ensures ended { OnOk result (begun.new.items ≡ []) }
 {
     if begun.is_empty() {
-        return turned(alloc, source, rest);
+        return turned(alloc, scratch, source, rest);
     }
     if rest.len() > MAX_LINE.saturating_sub(begun.len()) {
         return Err(Refusal::Line(DdbError::LineTooLong));
     }
     begun.extend_from_slice(rest)?;
-    let line = turned(alloc, source, begun.as_slice())?;
+    let line = turned(alloc, scratch, source, begun.as_slice())?;
     begun.clear();
     Ok(line)
 }
@@ -62,6 +64,7 @@ impl Splitter {
     fn end_line(
         &mut self,
         alloc: Global,
+        scratch: &mut Scratch,
         out: &mut Vec<u8>,
         rest: &[u8],
         end: &[u8],
@@ -75,7 +78,7 @@ impl Splitter {
         let Some(number) = self.good.checked_add(1) else {
             return Err(OutOfMemory);
         };
-        match turned_whole(alloc, &self.source, &mut self.begun, rest) {
+        match turned_whole(alloc, scratch, &self.source, &mut self.begun, rest) {
             Ok(line) => {
                 push_bytes(out, line.as_slice())?;
                 push_bytes(out, end)?;
@@ -134,9 +137,10 @@ impl Splitter {
             → HasRead (bytes ++ piece.now) before out.new.items (state_of self.new)) }
         ensures source { self.new.source ≡ self.old.source }
     {
+        let mut scratch = Scratch::new(alloc);
         let mut rest = piece;
         while let Some((line, after)) = first_line(rest) {
-            self.end_line(alloc, out, line, b"\n")?;
+            self.end_line(alloc, &mut scratch, out, line, b"\n")?;
             if self.bad.is_some() {
                 return Ok(());
             }
@@ -171,6 +175,7 @@ impl Splitter {
         if self.bad.is_some() {
             return Ok(());
         }
-        self.end_line(alloc, out, &[], &[])
+        let mut scratch = Scratch::new(alloc);
+        self.end_line(alloc, &mut scratch, out, &[], &[])
     }
 }

@@ -10,6 +10,7 @@ use crate::translator::Translator;
 use crate::turned::turned;
 use esm_io::{Dest, MemDest, MemSource};
 use esm_model::{Bytes, Config, Text, parse_json};
+use json::Scratch;
 use std::alloc::Global;
 use std::test::Fail;
 
@@ -115,7 +116,7 @@ fn source(alloc: Global) -> Result<Source, Fail> {
 /// Why the line is refused, if it is.
 fn why(alloc: Global, line: &[u8]) -> Result<Option<DdbError>, Fail> {
     let source = source(alloc)?;
-    match turned(alloc, &source, line) {
+    match turned(alloc, &mut Scratch::new(alloc), &source, line) {
         Ok(_) => Ok(None),
         Err(Refusal::Line(why)) => Ok(Some(why)),
         Err(Refusal::OutOfMemory) => Ok(None),
@@ -137,7 +138,7 @@ fn change_of_an_item(rt: HostRuntime) -> Result<(), Fail> {
     let alloc = rt.alloc();
     let line = format!(in alloc; "{LINE}}}}}")?;
     let source = source(alloc)?;
-    match turned(alloc, &source, line.as_bytes()) {
+    match turned(alloc, &mut Scratch::new(alloc), &source, line.as_bytes()) {
         Ok(text) => assert_eq!(rt; text.as_slice(), TURNED.as_bytes()),
         Err(_) => return Err(Fail::from("refused")),
     }
@@ -207,7 +208,19 @@ fn whole_input(rt: HostRuntime) -> Result<(), Fail> {
 }
 
 /// Events, and what they become.
-const EVENTS: [(&str, &str); 6] = [
+const EVENTS: [(&str, &str); 9] = [
+    (
+        "{\"Records\":[{\"kinesis\":{\"kinesisSchemaVersion\":\"1.0\",\"partitionKey\":\"k\",\"sequenceNumber\":\"1\",\"data\":\"YQ==\",\"approximateArrivalTimestamp\":12.345},\"eventSource\":\"aws:kinesis\",\"eventVersion\":\"1.0\",\"eventID\":\"shardId-000000000000:1\",\"eventName\":\"aws:kinesis:record\",\"invokeIdentityArn\":\"r\",\"awsRegion\":\"us-east-1\",\"eventSourceARN\":\"arn\"},{\"kinesis\":{\"kinesisSchemaVersion\":\"1.0\",\"partitionKey\":\"l\",\"sequenceNumber\":\"1\",\"data\":\"Yg==\",\"approximateArrivalTimestamp\":1.000},\"eventSource\":\"aws:kinesis\",\"eventVersion\":\"1.0\",\"eventID\":\"shardId-000000000000:1\",\"eventName\":\"aws:kinesis:record\",\"invokeIdentityArn\":\"r\",\"awsRegion\":\"us-east-1\",\"eventSourceARN\":\"arn\"}]}",
+        "{\"Records\":[a,b]}",
+    ),
+    (
+        "{\"Records\":[{\"kinesis\":{\"kinesisSchemaVersion\":\"1.0\",\"partitionKey\":\"k\",\"sequenceNumber\":\"1\",\"data\":\"YQ==\",\"approximateArrivalTimestamp\":12.345},\"eventSource\":\"aws:kinesis\",\"eventVersion\":\"1.0\",\"eventID\":\"shardId-000000000000:1\",\"eventName\":\"aws:kinesis:record\",\"invokeIdentityArn\":\"r\",\"awsRegion\":\"us-east-1\",\"eventSourceARN\":\"arn\"},{\"kinesis\":{\"kinesisSchemaVersion\":\"1.0\",\"partitionKey\":\"\\\"\",\"sequenceNumber\":\"1\",\"data\":\"Yg==\",\"approximateArrivalTimestamp\":0.005},\"eventSource\":\"aws:kinesis\",\"eventVersion\":\"1.0\",\"eventID\":\"shardId-000000000000:1\",\"eventName\":\"aws:kinesis:record\",\"invokeIdentityArn\":\"r\",\"awsRegion\":\"us-east-1\",\"eventSourceARN\":\"arn\"}]}",
+        "{\"Records\":[a,b]}",
+    ),
+    (
+        "{\"Records\":[{\"kinesis\":{\"kinesisSchemaVersion\":\"1.0\",\"partitionKey\":\"k\",\"sequenceNumber\":\"1\",\"data\":\"YQ==\",\"approximateArrivalTimestamp\":12.345},\"eventSource\":\"aws:kinesis\",\"eventVersion\":\"1.0\",\"eventID\":\"shardId-000000000000:1\",\"eventName\":\"aws:kinesis:record\",\"invokeIdentityArn\":\"r\",\"awsRegion\":\"us-east-1\",\"eventSourceARN\":\"arn\"},{\"kinesis\":{\"kinesisSchemaVersion\":\"1.0\",\"partitionKey\":\"l\",\"sequenceNumber\":\"1\",\"data\":\"Yg=\",\"approximateArrivalTimestamp\":1.000},\"eventSource\":\"aws:kinesis\",\"eventVersion\":\"1.0\",\"eventID\":\"shardId-000000000000:1\",\"eventName\":\"aws:kinesis:record\",\"invokeIdentityArn\":\"r\",\"awsRegion\":\"us-east-1\",\"eventSourceARN\":\"arn\"}]}",
+        "{\"Records\":[{\"kinesis\":{\"kinesisSchemaVersion\":\"1.0\",\"partitionKey\":\"k\",\"sequenceNumber\":\"1\",\"data\":\"YQ==\",\"approximateArrivalTimestamp\":12.345},\"eventSource\":\"aws:kinesis\",\"eventVersion\":\"1.0\",\"eventID\":\"shardId-000000000000:1\",\"eventName\":\"aws:kinesis:record\",\"invokeIdentityArn\":\"r\",\"awsRegion\":\"us-east-1\",\"eventSourceARN\":\"arn\"},{\"kinesis\":{\"kinesisSchemaVersion\":\"1.0\",\"partitionKey\":\"l\",\"sequenceNumber\":\"1\",\"data\":\"Yg=\",\"approximateArrivalTimestamp\":1.000},\"eventSource\":\"aws:kinesis\",\"eventVersion\":\"1.0\",\"eventID\":\"shardId-000000000000:1\",\"eventName\":\"aws:kinesis:record\",\"invokeIdentityArn\":\"r\",\"awsRegion\":\"us-east-1\",\"eventSourceARN\":\"arn\"}]}",
+    ),
     (
         "{\"Records\":[{\"kinesis\":{\"data\":\"YQ==\"},\"x\":[1]} , {\"kinesis\":{\"data\":\"\",\"data\":\"Yw==\"}}],\"window\":{}}",
         "{\"Records\":[a , c],\"window\":{}}",

@@ -1,6 +1,7 @@
 //! The line of a stream's input that a line of a DynamoDB stream becomes.
-ghost use Rattle.std.specs.Prelude.{◌≡◌, ◌++◌, Some, OnOk, IfOk};
-ghost use Rattle.serde_json.specs.View.{view};
+ghost use Rattle.std.specs.Prelude.{◌≡◌, ◌++◌, Some, true, OnOk, IfOk};
+ghost use Rattle.json.specs.Value.{value_view};
+ghost use Rattle.serde_json.specs.Read.{read};
 ghost use Rattle.md5.specs.Md5.{md5};
 ghost use Rattle.esm_model.specs.QueueEvent.{hexadecimal};
 ghost use Rattle.esm_record.specs.Input.{is_blank};
@@ -8,6 +9,7 @@ ghost use Rattle.esm_ddb.specs.Element.{element};
 ghost use Rattle.esm_ddb.specs.Gives.{Gives};
 ghost use Rattle.esm_ddb.specs.ItemText.{value_text};
 ghost use Rattle.esm_ddb.specs.Said.{change_view};
+ghost use Rattle.esm_ddb.specs.Tree.{data_in, is_ordered};
 ghost use Rattle.esm_ddb.specs.Turned.{content_part, place_part, record_line, turned, turned_change, turned_object, turned_record, turned_value};
 
 use crate::change::{Change, change_of};
@@ -15,13 +17,18 @@ use crate::element::element;
 use crate::error::{DdbError, DdbField, Refusal};
 use crate::item_text::push_value;
 use crate::source::Source;
+use crate::tree::{is_object, is_ordered, read_value};
 use esm_event::bytes::push_bytes;
 use esm_event::digits::{push_decimal, push_hexadecimal};
 use esm_event::record::{push_base64, push_shard_id};
-use esm_model::{MAX_DATA, MAX_LINE, OutOfMemory, parse_json};
+use esm_model::{MAX_DATA, MAX_LINE, OutOfMemory, parse_json_text};
+use json::{Reader, Scratch, Value};
 use md5::{Digest, Md5};
-use serde_json::Value;
 use std::alloc::Global;
+use std::str::from_utf8;
+
+/// The bytes that most lines have room in besides their data, and most keys.
+const ROOM: usize = 256;
 
 /// Appends each byte by two lower-case hexadecimal digits.
 #[tactic(auto, unfolding(esm_model::specs::QueueEvent::hexadecimal))]
@@ -80,7 +87,7 @@ fn push_record(
     keys: &[u8],
     payload: &[u8],
 ) -> Result<(), OutOfMemory>
-    requires keys { keys.now ≡ value_text (view change.now.item.keys.now) }
+    requires keys { keys.now ≡ value_text (data_in (value_view change.now.item.keys.now)) }
     requires payload { payload.now ≡ element source.now (change_view change.now) }
     ensures { OnOk result (out.new.items ≡ out.old.items ++ record_line (turned_record source.now (change_view change.now))) }
 {
@@ -96,20 +103,21 @@ fn record_line(
     keys: &[u8],
     payload: &[u8],
 ) -> Result<Vec<u8>, OutOfMemory>
-    requires keys { keys.now ≡ value_text (view change.now.item.keys.now) }
+    requires keys { keys.now ≡ value_text (data_in (value_view change.now.item.keys.now)) }
     requires payload { payload.now ≡ element source.now (change_view change.now) }
     ensures { IfOk result (λ text. text.items ≡ record_line (turned_record source.now (change_view change.now))) }
 {
-    let mut out = Vec::new(alloc);
+    let room = (payload.len() / 3).saturating_mul(4).saturating_add(ROOM);
+    let mut out = Vec::with_capacity(alloc, room)?;
     push_record(&mut out, source, change, keys, payload)?;
     Ok(out)
 }
 
 /// The text of the item's keys.
-fn keys_text(alloc: Global, keys: &Value) -> Result<Vec<u8>, OutOfMemory>
-    ensures { IfOk result (λ text. text.items ≡ value_text (view keys.now)) }
+fn keys_text(alloc: Global, keys: &Value<'_>) -> Result<Vec<u8>, OutOfMemory>
+    ensures { IfOk result (λ text. text.items ≡ value_text (data_in (value_view keys.now))) }
 {
-    let mut text = Vec::new(alloc);
+    let mut text = Vec::with_capacity(alloc, ROOM)?;
     push_value(&mut text, keys)?;
     Ok(text)
 }
@@ -126,10 +134,11 @@ fn turned_change(alloc: Global, source: &Source, change: &Change) -> Result<Vec<
     Ok(record_line(alloc, source, change, keys.as_slice(), payload.as_slice())?)
 }
 
-fn turned_value(alloc: Global, source: &Source, value: &Value) -> Result<Vec<u8>, Refusal>
-    ensures { Gives (λ v. v.items) result (turned_value source.now (Some (view value.now))) }
+fn turned_value(alloc: Global, source: &Source, value: &Value<'_>) -> Result<Vec<u8>, Refusal>
+    requires { is_ordered (value_view value.now) ≡ true }
+    ensures { Gives (λ v. v.items) result (turned_value source.now (Some (data_in (value_view value.now)))) }
 {
-    if !value.is_object() {
+    if !is_object(value) {
         return Err(Refusal::Line(DdbError::NotJson));
     }
     match change_of(value) {
@@ -138,12 +147,61 @@ fn turned_value(alloc: Global, source: &Source, value: &Value) -> Result<Vec<u8>
     }
 }
 
-fn turned_object(alloc: Global, source: &Source, line: &[u8]) -> Result<Vec<u8>, Refusal>
+#[tactic(auto, using(crate::proofs::Trees::gives_none, crate::proofs::Trees::gives_tree))]
+fn turned_text(
+    alloc: Global,
+    scratch: &mut Scratch,
+    source: &Source,
+    text: &str,
+) -> Result<Vec<u8>, Refusal>
+    ensures { Gives (λ v. v.items) result (turned_value source.now (read text.now)) }
+{
+    let mut reader = Reader::new(text, scratch)?;
+    let value = read_value(alloc, &mut reader)?;
+    if is_ordered(&value) {
+        turned_value(alloc, source, &value)
+    } else {
+        turned_unordered(alloc, source, text)
+    }
+}
+
+/// What a text becomes that has an object whose members are not in the order of their names.
+fn turned_unordered(alloc: Global, source: &Source, text: &str) -> Result<Vec<u8>, Refusal>
+    ensures { Gives (λ v. v.items) result (turned_value source.now (read text.now)) }
+{
+    let Some(value) = parse_json_text(alloc, text)? else {
+        return Err(Refusal::Line(DdbError::NotJson));
+    };
+    let ordered = value.to_string(alloc)?;
+    turned_ordered(alloc, source, ordered.as_str())
+}
+
+/// What a text becomes in which the members of each object are in the order of their names.
+#[tactic(auto, using(crate::proofs::Trees::gives_none, crate::proofs::Trees::gives_tree))]
+fn turned_ordered(alloc: Global, source: &Source, text: &str) -> Result<Vec<u8>, Refusal>
+    ensures { Gives (λ v. v.items) result (turned_value source.now (read text.now)) }
+{
+    let mut scratch = Scratch::new(alloc);
+    let mut reader = Reader::new(text, &mut scratch)?;
+    let value = read_value(alloc, &mut reader)?;
+    if is_ordered(&value) {
+        turned_value(alloc, source, &value)
+    } else {
+        Err(Refusal::OutOfMemory)
+    }
+}
+
+fn turned_object(
+    alloc: Global,
+    scratch: &mut Scratch,
+    source: &Source,
+    line: &[u8],
+) -> Result<Vec<u8>, Refusal>
     ensures { Gives (λ v. v.items) result (turned_object source.now line.now) }
 {
-    match parse_json(alloc, line)? {
-        Some(value) => turned_value(alloc, source, &value),
-        None => Err(Refusal::Line(DdbError::NotJson)),
+    match from_utf8(line) {
+        Ok(text) => turned_text(alloc, scratch, source, text),
+        Err(_) => Err(Refusal::Line(DdbError::NotJson)),
     }
 }
 
@@ -155,7 +213,12 @@ fn is_blank(line: &[u8]) -> bool
 }
 
 /// What the line becomes, which stands without its line feed: nothing where it is blank.
-pub fn turned(alloc: Global, source: &Source, line: &[u8]) -> Result<Vec<u8>, Refusal>
+pub fn turned(
+    alloc: Global,
+    scratch: &mut Scratch,
+    source: &Source,
+    line: &[u8],
+) -> Result<Vec<u8>, Refusal>
     ensures { Gives (λ v. v.items) result (turned source.now line.now) }
 {
     if line.len() > MAX_LINE {
@@ -164,5 +227,5 @@ pub fn turned(alloc: Global, source: &Source, line: &[u8]) -> Result<Vec<u8>, Re
     if is_blank(line) {
         return Ok(Vec::new(alloc));
     }
-    turned_object(alloc, source, line)
+    turned_object(alloc, scratch, source, line)
 }
