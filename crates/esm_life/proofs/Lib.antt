@@ -24,3 +24,6 @@ pub mod GoesOn
 pub mod OpenTries
 pub mod GoodContent
 pub mod Lives
+pub mod RedriveFiles
+pub mod ReplayStages
+pub mod QueueFiles

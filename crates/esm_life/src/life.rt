@@ -1,10 +1,11 @@
 // What holds over the life of a stream's mapping: over runs that end or are stopped at any moment, and rewritings of the
 // journal between them. What came last stands first.
-ghost use Rattle.std.specs.Prelude.{◌≡◌, ◌∷◌, ◌++◌, true, List, reverse};
+ghost use Rattle.std.specs.Prelude.{◌≡◌, ◌∷◌, ◌++◌, ℕ, true, List, reverse};
 ghost use Rattle.esm_journal_state.specs.Meaning.{are_good};
 ghost use Rattle.esm_model.specs.Valid.{HasStreamFields};
+ghost use Rattle.esm_folder.specs.Upkeep.{AreCompacted};
 ghost use Rattle.esm_life.specs.Content.{GoesOnFrom};
-ghost use Rattle.esm_life.specs.Life.{Run, Stage, Ran, content, IsLife, FateStays, EachIsEarned, NoneIsCalledAgain, KeysInOrder, CheckpointStays, CheckpointIsRuns};
+ghost use Rattle.esm_life.specs.Life.{Run, Stage, Ran, content, IsLife, SaysTheSame, FateStays, EachIsEarned, NoneIsCalledAgain, KeysInOrder, CheckpointStays, CheckpointIsRuns};
 
 /// What a run finds is what the run before it knew when its journal's last payload was written.
 pub fn each_run_goes_on()
@@ -44,4 +45,9 @@ pub fn recorded_checkpoint_is_the_runs()
 /// No payload of the content is ever bad for a book.
 pub fn content_is_good()
     ensures { (life : List Stage) → IsLife life → are_good (reverse (content life)) ≡ true }
+{}
+
+/// What a compaction writes says the same as what it found, and may stand in its place between runs.
+pub fn compaction_says_the_same()
+    ensures { (payloads list : List (List ℕ)) → AreCompacted payloads list → SaysTheSame list payloads }
 {}

@@ -1,0 +1,35 @@
+-- A run of a replay of which the headline holds is one of the life of its mapping.
+use Rattle.std.proofs.Common.{◌≡◌, ℕ, ◌≤◌, Bool, List, [], ◌∷◌, length, arith, Option, Some, None}
+use Rattle.esm_io.specs.Meanings.{DiskMeaning}
+use Rattle.esm_model.specs.declared.book.Trouble.{Trouble}
+use Rattle.esm_model.specs.declared.book.Trouble.TheVariants.{Disk, Dest, Changed}
+use Rattle.esm_model.specs.declared.config.Config.{Config}
+use Rattle.esm_model.specs.declared.entry.Entry.{Entry}
+use Rattle.esm_model.specs.declared.item.Record.{Record}
+use Rattle.esm_replay_model.specs.ReplaySetting.{ReplaySetting}
+use Rattle.esm_runner.specs.Files.{FilesState}
+use Rattle.esm_runner.specs.Headline.{IsInHand}
+use Rattle.esm_replay_run.specs.Headline.{Disks}
+use Rattle.esm_life.specs.Replays.{IsStage}
+
+none_in_hand : (hand : List Entry) → hand ≡ [] → length hand ≤ 1
+none_in_hand [] none = omega arith
+none_in_hand (e ∷ hand) none = absurd (cc)
+
+few_in_hand : (trouble : Option Trouble) (hand : List Entry) → IsInHand trouble hand → length hand ≤ 1
+few_in_hand (Some Disk) hand in_hand = in_hand
+few_in_hand (Some Dest) hand in_hand = none_in_hand hand in_hand
+few_in_hand (Some (Changed change)) hand in_hand = none_in_hand hand in_hand
+few_in_hand None hand in_hand = none_in_hand hand in_hand
+
+pub stage : {D : Type 0} (m : DiskMeaning D) (gave : ℕ → Bool) (config : Config) (calls : ℕ) (f : FilesState D) (came : List Record) (s : ReplaySetting) (h : List Entry) (trouble : Option Trouble) (hand : List Entry) (new : Disks D) (left rest : List (List ℕ))
+    → IsStage m gave config calls f came s h trouble hand new left rest
+stage m gave config calls f came s h trouble hand new left rest opened setting unchanged headline kept = record {
+  is_setting = record { told = f.said; tells = opened.tells; config = config; calls = calls; ranges = setting.ranges; came = came; unchanged = unchanged; is = setting.is };
+  legal_trace = headline.legal_trace;
+  hand_is_run = headline.hand_is_run;
+  in_hand = few_in_hand trouble hand headline.in_hand;
+  may_be_said = headline.may_be_said;
+  rest = rest;
+  kept = kept;
+}
