@@ -109,6 +109,7 @@ module _ {D F : Type 0} (t : Telling D F) where
     journal_stopped = is.journal_stopped;
     failure_lines_kept = lines_under f o h hand new is.failure_lines_kept;
     in_hand = is.in_hand;
+    hand_follows = is.hand_follows;
     crash = is.crash;
     one_fate = is.one_fate;
     fate_is_earned = is.fate_is_earned;

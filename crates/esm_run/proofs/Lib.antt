@@ -35,5 +35,6 @@ pub mod OneOpened
 pub mod ReplaySettings
 pub mod OneReplay
 pub mod OneRedrive
+pub mod CompleteRedrive
 pub mod OneOutcome
 pub mod Cuts

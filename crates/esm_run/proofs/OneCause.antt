@@ -41,7 +41,7 @@ none_tells : (e : Ending) → None ≡ Some e → ⊥
 none_tells e is = cc
 
 -- want of memory tells no ending
-not_memory : (why : MappingError) (e : Ending) → ending_of_mapping why ≡ Some e → why ≢ OutOfMemory
+pub not_memory : (why : MappingError) (e : Ending) → ending_of_mapping why ≡ Some e → why ≢ OutOfMemory
 not_memory why e tells memory = none_tells e (sym (ap ending_of_mapping memory) ∙ tells)
 
 refused_twice : {S D F : Type 0} (o : RunTells S D F) (a : Asks D) (old new : Seen S D F) (e d : Ending) → IsOneAsked a old.disks.registry new.disks.registry
@@ -93,7 +93,7 @@ one_cause o r h old new t u e d laws once sound (inr (inr one)) (inr (inl other)
 
 -- an output that did not fail tells the status of the ending
 
-told_status : (faults_before faults_now : ℕ) (before after : Option (List ℕ)) (text : List ℕ) (e : Ending) (status : ℕ)
+pub told_status : (faults_before faults_now : ℕ) (before after : Option (List ℕ)) (text : List ℕ) (e : Ending) (status : ℕ)
     → ¬ Rose faults_before faults_now → IsTold faults_before faults_now before after text e status → status ≡ status_of e
 told_status faults_before faults_now before after text e status sound (inl told) = told.0
 told_status faults_before faults_now before after text e status sound (inr failed) = absurd (sound failed.1.fault)

@@ -1,6 +1,5 @@
 -- A failure file that is honest gives one list of lines, and no disk of a run failed since its files were opened.
-use Rattle.std.proofs.Common.{◌≡◌, ◌∙◌, ◌<◌, ◌≤◌, ℕ, List, arith, inl, inr, subst, sym}
-use Rattle.std.specs.Prelude.{◌⊎◌}
+use Rattle.std.proofs.Common.{◌≡◌, ◌∙◌, ◌<◌, ◌≤◌, ℕ, arith, inl, inr, subst, sym}
 use Rattle.esm_io.specs.Faults.{Rose}
 use Rattle.esm_io.specs.Meanings.{DiskMeaning}
 use Rattle.esm_journal.specs.File.{Holding}
@@ -16,7 +15,7 @@ use Rattle.esm_run.proofs.OneReady.{IsFaultless, faultless}
 
 -- the lines that were found
 
-lines_at : {S D F : Type 0} (o : RunTells S D F) (x : Asks D) (old new : Seen S D F) (mapping : NamedMapping) (f : FilesState D) → AreSoundDevices o old new → IsReadyFor o.run.disk x old new mapping f
+pub lines_at : {S D F : Type 0} (o : RunTells S D F) (x : Asks D) (old new : Seen S D F) (mapping : NamedMapping) (f : FilesState D) → AreSoundDevices o old new → IsReadyFor o.run.disk x old new mapping f
     → (epoch : ℕ) × (found_lines o.run.disk old.disks.failures ≡ Holding epoch f.dest.payloads)
 lines_at o x old new mapping f sound ready =
     subst (λ d. AreFoundLines o.run.disk d f.dest.payloads) ready.failures ready.opened.opens_lines sound.honest_failures

@@ -100,7 +100,7 @@ one_queue_end t f g s z h xs ys i j l new (end.Changed change) end.CallsSpent so
 one_queue_end t f g s z h xs ys i j l new (end.Changed change) (end.Changed other_change) sound sound_too shared one other = refl
 
 -- the input of a queue's run
-read_from : {S : Type 0} (faults : S → ℕ) (left : S → Option (List ℕ)) (c : Config) (old new : S) (i : InputState S) → IsInputOf faults left c old new i
+pub read_from : {S : Type 0} (faults : S → ℕ) (left : S → Option (List ℕ)) (c : Config) (old new : S) (i : InputState S) → IsInputOf faults left c old new i
     → IsReadFrom faults left (line_kind c) c.factor c.start old new i
 read_from faults left c old new i is = record {
   kind_is = is.kind;

@@ -1,6 +1,6 @@
 -- One world gives one mapping that may run, or one reason why there is none, and its files say one thing, where no device of a
 -- run failed.
-use Rattle.std.proofs.Common.{◌≡◌, ◌∙◌, ℕ, List, true, ap, inl, subst, sym}
+use Rattle.std.proofs.Common.{◌≡◌, ◌∙◌, ℕ, List, true, ap, arith, inl, subst, sym}
 use Rattle.std.specs.Prelude.{◌≢◌}
 use Rattle.esm_cli.specs.declared.command.RunWords.{RunWords}
 use Rattle.esm_cli.specs.declared.command.Which.{Which}
@@ -96,17 +96,23 @@ text_once e text old new laws = record { one_mapping = laws.one_mapping e text; 
 pub record IsFaultless {D F : Type 0} (m : DiskMeaning D) (f : FilesState D) (new : Devices D F) : Type 0 where
   pub pair : OneRose m f.journal f.spare new.journal new.spare → ⊥
   pub failures : Rose (m.faults f.failures) (m.faults new.failures) → ⊥
+  pub opened_failures : Rose (m.faults f.dest.disk) (m.faults new.failures) → ⊥
 
 pub faultless : {S D F : Type 0} (o : RunTells S D F) (a : Asks D) (old new : Seen S D F) (mapping : NamedMapping) (f : FilesState D)
     → AreSoundDevices o old new → IsReadyFor o.run.disk a old new mapping f → IsFaultless o.run.disk f (devices_of new)
-faultless o a old new mapping f sound ready = record {
-  pair = subst (λ d. OneRose o.run.disk d f.spare new.disks.journal new.disks.spare → ⊥) (sym ready.journal)
-      (subst (λ d. OneRose o.run.disk old.disks.journal d new.disks.journal new.disks.spare → ⊥) (sym ready.spare) sound.no_fault);
-  failures = subst (λ d. Rose (o.run.disk.faults d) (o.run.disk.faults new.disks.failures) → ⊥) (sym ready.failures) sound.no_failures_fault;
-}
+faultless o a old new mapping f sound ready =
+    let failures : Rose (o.run.disk.faults f.failures) (o.run.disk.faults new.disks.failures) → ⊥ =
+    subst (λ d. Rose (o.run.disk.faults d) (o.run.disk.faults new.disks.failures) → ⊥) (sym ready.failures) sound.no_failures_fault in
+    let later = ready.opened.lines_read.never_falls in
+    record {
+      pair = subst (λ d. OneRose o.run.disk d f.spare new.disks.journal new.disks.spare → ⊥) (sym ready.journal)
+          (subst (λ d. OneRose o.run.disk old.disks.journal d new.disks.journal new.disks.spare → ⊥) (sym ready.spare) sound.no_fault);
+      failures = failures;
+      opened_failures = λ rose. failures (λ below. (let above = rose below in omega (arith, later, above)));
+    }
 
 -- the pair was found so
-opens_to : {S D F : Type 0} (o : RunTells S D F) (a : Asks D) (old new : Seen S D F) (mapping : NamedMapping) (f : FilesState D) → AreSoundDevices o old new → IsReadyFor o.run.disk a old new mapping f
+pub opens_to : {S D F : Type 0} (o : RunTells S D F) (a : Asks D) (old new : Seen S D F) (mapping : NamedMapping) (f : FilesState D) → AreSoundDevices o old new → IsReadyFor o.run.disk a old new mapping f
     → found o.run.disk old.disks.journal old.disks.spare ≡ Holding f.pair.epoch f.pair.payloads
 opens_to o a old new mapping f sound ready =
     ap (λ d. found o.run.disk d old.disks.spare) (sym ready.journal)

@@ -84,7 +84,7 @@ cause_as t f s h messages reading left new disks (redrive_end.BadLine index) no_
 
 -- a run over good lines found no bad one
 
-no_bad_letter : (fifo : Bool) (lines : List (List ℕ)) (i : ℕ) → AreLetters fifo lines (length lines) → IsFirstBad fifo lines i → ⊥
+pub no_bad_letter : (fifo : Bool) (lines : List (List ℕ)) (i : ℕ) → AreLetters fifo lines (length lines) → IsFirstBad fifo lines i → ⊥
 no_bad_letter fifo lines i letters bad =
     let some : is_some (dead_message fifo bad.payload) ≡ true = letters i bad.payload (slice_get_within lines i bad.payload bad.at) bad.at in
     let both : true ≡ false = sym some ∙ ap is_some bad.bad in

@@ -1,5 +1,5 @@
 -- Two outcomes of `replay` over the same worlds that left the same history have one status, where no device failed.
-use Rattle.std.proofs.Common.{◌≡◌, ◌∙◌, ℕ, List, [], ◌++◌, Option, Some, None, ap, inl, inr, refl, subst, sym}
+use Rattle.std.proofs.Common.{◌≡◌, ◌∙◌, ℕ, List, [], Option, Some, None, ap, inl, inr, refl, subst, sym}
 use Rattle.std.specs.Option.{option_or}
 use Rattle.std.specs.Prelude.{◌⊎◌}
 use Rattle.esm_input.specs.declared.ending.InputEnd.{InputEnd}
@@ -18,11 +18,11 @@ use Rattle.esm_replay_book.proofs.Deciding.{change-append}
 use Rattle.esm_replay.specs.Records.{of_shard}
 use Rattle.esm_replay_book.specs.Opening.{IsFirstBadLine}
 use Rattle.esm_replay_book.specs.Serving.{records_in_items}
-use Rattle.esm_replay_core.specs.Coming.{first_change}
+use Rattle.esm_replay.specs.Coming.{first_change}
 use Rattle.esm_replay_model.specs.ReplayRun.{pieces_left}
 use Rattle.esm_replay_model.specs.ReplaySetting.{ReplaySetting}
 use Rattle.esm_replay_run.specs.Ended.{AllCame, HasEnded, HasRun, IsCauseOf, IsInputOf}
-use Rattle.esm_replay_run.specs.Headline.{Disks, IsSettingOf}
+use Rattle.esm_replay_run.specs.Headline.{Disks}
 use Rattle.esm_replay_run.specs.declared.report.ReplayCounts.{ReplayCounts}
 use Rattle.esm_replay_run.specs.declared.run.ReplayEnd.{ReplayEnd}
 use Rattle.esm_replay_run.specs.declared.run.ReplayEnd.TheVariants as end
@@ -34,7 +34,7 @@ use Rattle.esm_run.specs.Replay.{IsReplayRun, ReplayCause, ReplayOutcome, replay
 use Rattle.esm_run.specs.World.{RunTells, Seen, Written}
 use Rattle.esm_run.proofs.Fronts.{IsFront}
 use Rattle.esm_run.proofs.OneCause.{AreLaws, run_or_unrun, told_once, unrun_twice}
-use Rattle.esm_run.proofs.OneOpened.{NoneRose, none_rose, same_lines}
+use Rattle.esm_run.proofs.OneOpened.{none_rose, same_lines}
 use Rattle.esm_run.proofs.OneReading.{IsReadFrom, WholeGoesOn, one_end, one_front, one_handed, some_of}
 use Rattle.esm_run.proofs.OneReady.{IsOneAsked, same_said, text_once}
 use Rattle.esm_run.proofs.OneSetting.{SameTold}

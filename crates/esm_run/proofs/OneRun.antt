@@ -48,9 +48,9 @@ pub one_stream_end : {D F : Type 0} (t : Telling D F) (f g : FilesState D) (s z 
     → ((c k : Change) → status_of (tell (end.Changed c)) ≡ status_of (tell (end.Changed k))) → IsFaultless t.disk f new → IsFaultless t.disk g new → IsShared s z xs ys i j bytes_left
     → IsCauseOf t f s h xs i bytes_left new e → IsCauseOf t g z h ys j bytes_left new d → status_of (tell e) ≡ status_of (tell d)
 one_stream_end t f g s z h xs ys i j l new tell end.DiskFault d changed sound sound_too shared one other = absurd (sound.pair one)
-one_stream_end t f g s z h xs ys i j l new tell end.DestFault d changed sound sound_too shared one other = absurd (sound.failures one)
+one_stream_end t f g s z h xs ys i j l new tell end.DestFault d changed sound sound_too shared one other = absurd (sound.opened_failures one)
 one_stream_end t f g s z h xs ys i j l new tell e end.DiskFault changed sound sound_too shared one other = absurd (sound_too.pair other)
-one_stream_end t f g s z h xs ys i j l new tell e end.DestFault changed sound sound_too shared one other = absurd (sound_too.failures other)
+one_stream_end t f g s z h xs ys i j l new tell e end.DestFault changed sound sound_too shared one other = absurd (sound_too.opened_failures other)
 one_stream_end t f g s z h xs ys i j l new tell (end.Finished why) (end.Finished cause) changed sound sound_too shared one other =
     ap (λ w. status_of (tell (end.Finished w))) (shared.ends why cause one.1 other.1)
 one_stream_end t f g s z h xs ys i j l new tell (end.Finished why) end.CallsSpent changed sound sound_too shared one other =

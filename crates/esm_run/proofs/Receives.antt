@@ -1,5 +1,5 @@
 -- How often a message may be received, as the words of a redrive say it.
-use Rattle.std.proofs.Common.{◌≡◌, ◌≤◌, ℕ, List, Option, Some, None}
+use Rattle.std.proofs.Common.{◌≤◌, ℕ, List, Option, Some, None}
 use Rattle.esm_cli.specs.Words.{IsNumberFrom, spells}
 use Rattle.esm_cli.specs.declared.command.Command.TheVariants.{Redrive}
 use Rattle.esm_cli.specs.declared.table.TheConstants.{MAX_RECEIVES}

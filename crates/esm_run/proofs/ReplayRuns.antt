@@ -1,5 +1,5 @@
 -- How `replay` came to its ending, or was stopped by want of memory.
-use Rattle.std.proofs.Common.{◌≡◌, ◌∷◌, ℕ, List, refl, sym, subst, inl, inr, Option, Result, Ok, Err}
+use Rattle.std.proofs.Common.{ℕ, List, refl, sym, subst, inl, inr, Option, Result, Ok, Err}
 use Rattle.std.specs.Prelude.{IfOk, OnErr}
 use Rattle.esm_input.specs.declared.ending.InputEnd.{InputEnd}
 use Rattle.esm_mapping.specs.declared.named.NamedMapping.{NamedMapping}

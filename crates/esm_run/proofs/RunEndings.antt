@@ -76,6 +76,7 @@ headline_of t read_first f s h trouble ending hand old new is calls rests later 
   journal_stopped = is.journal_stopped;
   crash_kept = is.crash;
   in_hand = is.in_hand;
+  hand_follows = is.hand_follows;
   failure_lines_kept = is.failure_lines_kept;
   report_told = refl;
   order_per_key = is.order_per_key;

@@ -34,7 +34,7 @@ use Rattle.esm_run.specs.Built.{SpellsBuilt}
 use Rattle.esm_run.specs.Endings.{IsTold, ending_of, ending_of_files, ending_of_mapping}
 use Rattle.esm_run.specs.Headline.{Headline}
 use Rattle.esm_run.specs.Tended.{IsSoundDisk}
-use Rattle.esm_run.specs.World.{RunTells, Seen, Written, devices_of, disks}
+use Rattle.esm_run.specs.World.{RunTells, Seen, Written, devices_of}
 
 -- nothing came, and input and callers are as before
 pub record IsUntouched {S D F : Type 0} (h : List Entry) (old new : Seen S D F) : Type 0 where

@@ -1,6 +1,6 @@
 -- The commands that are built so far. Words that spell another one are refused as bad words, as words that spell none: a
 -- command leaves this file when it is built. This product's own.
-use Rattle.std.specs.Prelude.{◌≡◌, ℕ, Bool, true, false, List}
+use Rattle.std.specs.Prelude.{◌≡◌, ℕ, Bool, true, List}
 use Rattle.esm_cli.specs.Words.{spells}
 use Rattle.esm_cli.specs.declared.command.Command.{Command}
 use Rattle.esm_cli.specs.declared.command.Command.TheVariants.{Init, Run, Show, Failures, Gen, Compact, Serve, Migrate, Ddb, Redrive, Replay}

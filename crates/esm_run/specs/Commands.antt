@@ -9,7 +9,7 @@ use Rattle.esm_run.specs.Asks.{IsRegistryLeft}
 use Rattle.esm_run.specs.Built.{SpellsBuilt}
 use Rattle.esm_run.specs.Ddb.{DdbOutcome, IsDdbCut}
 use Rattle.esm_run.specs.Generated.{GenOutcome, IsGenCut}
-use Rattle.esm_run.specs.Redrive.{IsRedriveCut, RedriveOutcome}
+use Rattle.esm_run.specs.Redrive.{IsRedriveCut, MayComplete, RedriveOutcome}
 use Rattle.esm_run.specs.Replay.{IsReplayCut, ReplayOutcome}
 use Rattle.esm_run.specs.Serve.{IsServeCut, IsSoundServe, ServeOutcome}
 use Rattle.esm_run.specs.Tended.{AreLeft, AreSoundUnder, FilesOutcome, IsCompactCut}
@@ -70,6 +70,17 @@ IsSound t _ old new = Unit {0}
 pub record NoneFailed {S K D C F L N : Type 0} (t : DevicesTell S K D F L N) (words : List (List ℕ)) (old new : World S K D C F L) : Type 0 where
   pub output_told : ¬ Rose (t.output_faults old.out) (t.output_faults new.out)
   pub command : (c : Command) → SpellsBuilt words c → IsSound t c old new
+
+-- completeness
+
+-- over this world the command comes to its end with nothing left, where no device fails
+abbrev pub Completes : {S K D C F L N : Type 0} → DevicesTell S K D F L N → Command → (old : World S K D C F L) → (status : ℕ) → Type 0
+Completes t (Redrive config receives calls visibility timeout) old status = MayComplete (of_run t) (redrive_words config receives calls visibility timeout) (seen old) → status ≡ 0
+Completes t _ old status = Unit {0}
+
+-- so does the command that the words spell
+abbrev pub IsComplete : {S K D C F L N : Type 0} → DevicesTell S K D F L N → List (List ℕ) → (old new : World S K D C F L) → (status : ℕ) → Type 0
+IsComplete t words old new status = NoneFailed t words old new → (c : Command) → SpellsBuilt words c → Completes t c old status
 
 -- what stays, whatever the status
 

@@ -46,7 +46,8 @@ ddb_why_text (ddb.Missing field) = codes "Missing " ++ ddb_name_of field
 ddb_why_text (ddb.BadField field) = codes "BadField " ++ ddb_name_of field
 ddb_why_text ddb.LineTooLong = codes "LineTooLong"
 
--- where every record or message has its fate, and no window is outstanding
+-- where nothing is left: in a run every record or message has its fate, and no window is outstanding; in a redrive every message
+-- is deleted; in a replay each named record was replayed, or its last call left it
 abbrev pub ending_of_reading : InputEnd → Ending
 ending_of_reading ends.End = ending.Done
 ending_of_reading (ends.BadLine bad) = ending.BadLine bad.line (why_text bad.why)

@@ -13,7 +13,7 @@ use Rattle.esm_runner.specs.Ran.{NoneRuns}
 use Rattle.esm_report.specs.Report.{report_text}
 use Rattle.esm_report.specs.declared.ending.Ending.{Ending}
 use Rattle.esm_runner.specs.Files.{FilesState}
-use Rattle.esm_runner.specs.Headline.{AnswersAreLogged, CallsMade, CheckpointIsRecorded, CrashKept, FailureLinesKept, FatesAreRecorded, IsInHand, JournalKept, JournalStopped, Devices, Telling}
+use Rattle.esm_runner.specs.Headline.{AnswersAreLogged, CallsMade, CheckpointIsRecorded, CrashKept, FailureLinesKept, FatesAreRecorded, HandFollows, IsInHand, JournalKept, JournalStopped, Devices, Telling}
 
 -- The run over these files and this setting left this history, newest entry first, and this text, and ended so, by this trouble
 -- of the book, if by any. In hand is the entry, if there is one, whose payload may stand in the journal though it is not in the
@@ -34,6 +34,8 @@ pub record Headline {D F : Type 0} (t : Telling D F) (first : Bool) (f : FilesSt
   -- the journal failed, perhaps by one further, that of the entry in hand
   pub crash_kept : CrashKept t f s h hand new
   pub in_hand : IsInHand trouble hand
+  -- the entry in hand may follow the history, or a front of it after which calls and the input ended alone
+  pub hand_follows : HandFollows s h hand
   -- the failure file's lines are the old ones followed by what is delivered of those of the history, in order; where a disk
   -- failed, perhaps by one further line
   pub failure_lines_kept : FailureLinesKept t f trouble h hand new

@@ -1,14 +1,20 @@
 -- How the command `redrive` ended, and what it left. A queue's mapping runs by one caller, and a message that was received as often
 -- as it may be is moved to the dead-letter file, which is the failure file; the input is read first. Source: Amazon SQS Developer
 -- Guide, "Using dead-letter queues"; that the file takes the place of a queue is this product's own.
-use Rattle.std.specs.Prelude.{◌≡◌, ◌⊎◌, ◌*◌, ℕ, List, Option}
+use Rattle.std.specs.Prelude.{◌≡◌, ◌⊎◌, ◌*◌, ◌<◌, ℕ, true, List, length, Option, Some, reverse, slice_get}
 use Rattle.esm_input.specs.declared.ending.InputEnd.{InputEnd}
+use Rattle.esm_input.specs.Positions.{from_start}
+use Rattle.esm_input.specs.Reading.{IsGood, items_read}
+use Rattle.esm_journal_state.specs.declared.kept.KeptFate.{KeptFate}
+use Rattle.esm_journal_state.specs.Meaning.{deletion_said, history}
 use Rattle.esm_mapping.specs.declared.expected.Expected.TheVariants.{Queue}
 use Rattle.esm_mapping.specs.declared.named.NamedMapping.{NamedMapping}
+use Rattle.esm_mapping.specs.Named.{IsExpected}
 use Rattle.esm_model.specs.declared.config.Config.{Config}
 use Rattle.esm_model.specs.declared.entry.Entry.{Entry}
+use Rattle.esm_model.specs.declared.item.Message.{Message}
 use Rattle.esm_queue_model.specs.QueueSetting.{is_fifo}
-use Rattle.esm_redrive.specs.DeadFile.{IsFirstBad}
+use Rattle.esm_redrive.specs.DeadFile.{AreLetters, IsFirstBad}
 use Rattle.esm_redrive_run.specs.Ended as redrive
 use Rattle.esm_redrive_run.specs.Headline.{Disks, Words}
 use Rattle.esm_redrive_run.specs.declared.run.RedriveEnd.{RedriveEnd}
@@ -16,7 +22,9 @@ use Rattle.esm_redrive_run.specs.declared.run.RedriveEnd.TheVariants as end
 use Rattle.esm_report.specs.Report.{last_line}
 use Rattle.esm_report.specs.declared.ending.Ending.{Ending}
 use Rattle.esm_runner.specs.Files.{FilesState}
-use Rattle.esm_run.specs.Answers.{HasCome, HasNotBegun, HasNotRun, HasTold, IsReadyFor}
+use Rattle.esm_runner.specs.QueueComing.{messages_in_items}
+use Rattle.esm_runner.specs.QueueEnded.{line_kind}
+use Rattle.esm_run.specs.Answers.{AreGoodFiles, HasCome, HasNotBegun, HasNotRun, HasTold, IsReadyFor}
 use Rattle.esm_run.specs.Asks.{Asks, by_text}
 use Rattle.esm_run.specs.Endings.{ending_of_redrive}
 use Rattle.esm_run.specs.FirstCaller.{IsFirstUsed}
@@ -95,3 +103,27 @@ abbrev pub IsRedriveCut : {S D F : Type 0} → RunTells S D F → RedriveWords �
 IsRedriveCut o w h old new =
     HasNotBegun o.run.disk (redrive_asks w) h old new
     ⊎ (IsStoppedRedrive o w h old new ⊎ ((e : Ending) × HasCome (RedriveCause o w h old new) e))
+
+-- completeness
+
+-- the messages of the lines of these bytes
+abbrev pub messages_given : Config → List ℕ → List Message
+messages_given config bytes = messages_in_items (from_start config.start (items_read (line_kind config) config.factor true bytes).items)
+
+-- each message of which these payloads tell a deletion comes with the id that they kept of it
+abbrev pub HaveKeptIds : (payloads : List (List ℕ)) → List Message → Type 0
+HaveKeptIds payloads messages = (i : ℕ) (m : Message) (k : KeptFate) → slice_get messages i ≡ Some m → deletion_said (history (reverse payloads)) i ≡ Some k → m.id ≡ k.text
+
+-- What a redrive is handed so that it comes to the end of its input with nothing left, where no device fails: the text of a
+-- queue's mapping that may run; good files, a dead-letter file of lines of the queue's kind among them; a good input within the
+-- limits whose messages have the ids that the journal kept of them; and more calls than its messages may be received.
+pub record MayComplete {S D F : Type 0} (o : RunTells S D F) (w : RedriveWords) (old : Seen S D F) : Type 0 where
+  pub mapping : NamedMapping
+  pub named : IsExpected Queue w.config mapping
+  pub good : AreGoodFiles o.run.disk old.disks
+  pub letters : AreLetters (is_fifo mapping.config.kind) good.lines (length good.lines)
+  pub bytes : List ℕ
+  pub input : o.left old.input ≡ Some bytes
+  pub good_input : IsGood (line_kind mapping.config) mapping.config.factor true bytes
+  pub kept_ids : HaveKeptIds good.payloads.payloads (messages_given mapping.config bytes)
+  pub enough : length (messages_given mapping.config bytes) * w.max_receives < w.calls

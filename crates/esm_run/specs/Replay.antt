@@ -40,7 +40,9 @@ pub record IsReplayRun {S D F : Type 0} (o : RunTells S D F) (config : List ℕ)
   pub caller : F
   pub caller_left : F
   pub first_used : IsFirstUsed old.callers new.callers caller caller_left
-  -- how it ended, and why, with the replay theorem of the run
+  -- How it ended, and why, with the replay theorem of the run: where nothing is left to call, as with status 0, each named record
+  -- was replayed or its last call left it; and the calls that the report and the caller's log tell are at most twice as many as
+  -- the named records that the report tells.
   pub end : ReplayEnd
   pub reading : Option InputEnd
   pub counts : ReplayCounts

@@ -67,7 +67,8 @@ fn bad_parameter(alloc: Global, param: Param) -> Result<Ending, OutOfMemory>
     Ok(Ending::BadParameter { name })
 }
 
-/// The ending of a run in which every record or message that came has its fate.
+/// The ending of a run in which every record or message that came has its fate, or of a replay in which nothing is left to
+/// call.
 fn ending_of_reading(alloc: Global, end: InputEnd) -> Result<Ending, OutOfMemory>
     ensures { IfOk result (λ ending. ending ≡ ending_of_reading end) }
 {

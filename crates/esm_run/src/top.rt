@@ -4,7 +4,7 @@ ghost use Rattle.std.specs.String.{string_bytes};
 ghost use Rattle.esm_model.specs.declared.limits.TheConstants.{MAX_LANES};
 ghost use Rattle.esm_cli.specs.declared.command.Command.{Command};
 ghost use Rattle.esm_run.specs.Built.{SpellsBuilt};
-ghost use Rattle.esm_run.specs.Commands.{IsLeft, IsStopped, NoneFailed, Outcome};
+ghost use Rattle.esm_run.specs.Commands.{IsComplete, IsLeft, IsStopped, NoneFailed, Outcome};
 ghost use Rattle.esm_run.specs.World.{devices};
 
 use crate::asked::{Asked, asked_by};
@@ -59,6 +59,8 @@ pub fn esm<
         (map string_bytes words.now) world result.world
         → (other : ℕ) → Outcome (devices C.Clock F.Caller D.Disk S.Source K.Sink L.Door L.Conn.Link)
         (map string_bytes words.now) world result.world other → other ≡ result.status }
+    ensures complete { result.status ≢ 70 → IsComplete (devices C.Clock F.Caller D.Disk S.Source K.Sink L.Door L.Conn.Link)
+        (map string_bytes words.now) world result.world result.status }
     ensures bad_words { result.status ≡ 2 → (c : Command) → ¬ SpellsBuilt (map string_bytes words.now) c }
     ensures spelled { result.status ≢ 2 → result.status ≢ 70 → (c : Command) × SpellsBuilt (map string_bytes words.now) c }
     // Want of memory.
