@@ -7,12 +7,12 @@ PROGRAM is what takes the words of the command line, as `./esm`. Each case is a 
 input, the answers of a function, and the report and exit status that they must give. The functions are served here, on
 127.0.0.1, and remember which records each call held. Further cases try what the outside can do (`try_outside.py`);
 `--quick` leaves out those that take half a minute. Those of `replay` stand in `try_replay.py`, those of `redrive` in
-`try_redrive.py`. `--kills N` runs more cases: a command over a folder that is killed at N random moments and begun again
-each time. Of a run every record has one fate in the journal then, and no call held a record that had one; of a replay
-every record was replayed once, and no call held one that was; of a redrive every message has one deletion, no call held
-one that had, and each message that was moved has one line. Each case is told in a line, and the numbers of those that
-passed and failed in the last. Python's standard library is all that is needed. The exit status is 0 where no case
-failed.
+`try_redrive.py`, those of the lines that `from_aws.py` makes in `try_from_aws.py`. `--kills N` runs more cases: a command
+over a folder that is killed at N random moments and begun again each time. Of a run every record has one fate in the journal
+then, and no call held a record that had one; of a replay every record was replayed once, and no call held one that was; of a
+redrive every message has one deletion, no call held one that had, and each message that was moved has one line. Each case is
+told in a line, and the numbers of those that passed and failed in the last. Python's standard library is all that is needed.
+The exit status is 0 where no case failed.
 """
 
 import argparse
@@ -25,6 +25,7 @@ import time
 
 sys.dont_write_bytecode = True
 
+import try_from_aws
 import try_outside
 import try_redrive
 import try_replay
@@ -397,6 +398,7 @@ CASES = [
     migrate_once, cut_journals, queues, queue_restart, fifo, *try_outside.CASES,
     *try_replay.CASES,
     *try_redrive.CASES,
+    *try_from_aws.CASES,
 ]
 KILLED = [
     killed,
