@@ -44,6 +44,7 @@ class Refused(Exception):
 def load(file, function):
     """The function of that name in the file."""
     spec = importlib.util.spec_from_file_location(file.stem, file)
+    sys.dont_write_bytecode = True  # no __pycache__ is left beside the handler
     module = importlib.util.module_from_spec(spec)
     sys.modules[spec.name] = module  # where dataclasses, pickle and typing look for it
     sys.path.insert(0, str(file.parent))

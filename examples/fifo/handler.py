@@ -1,0 +1,9 @@
+"""Prints each message with its group and how often it was received, and raises when it receives order 1 first."""
+
+
+def handler(event, context):
+    for record in event["Records"]:
+        attributes = record["attributes"]
+        print(attributes["MessageGroupId"], record["messageId"], "receive", attributes["ApproximateReceiveCount"], flush=True)
+        if record["messageId"] == "order-1" and attributes["ApproximateReceiveCount"] == "1":
+            raise RuntimeError("the bank is busy")
