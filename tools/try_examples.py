@@ -1,10 +1,10 @@
 #!/usr/bin/env python3
-"""Try the examples: type what each session says, and compare what is printed.
+"""Try the examples: type what each transcript says, and compare what is printed.
 
     tools/try_examples.py PROGRAM [--only NAME]
 
 PROGRAM is what takes the words of the command line, as `./esm` once it is built. Each folder of `examples/` with a
-`session.txt` is one example, and `examples/session.txt` is another, `readme`: the commands of the README. A session's lines are
+`transcript.txt` is one example, and `examples/transcript.txt` is another, `readme`: the commands of the README. A transcript's lines are
 typed in a folder that has `esm`, `examples` and `tools`, as the repository has them:
 
     # TEXT         says what comes
@@ -36,8 +36,8 @@ PORT = re.compile(r"--port (\d+)")
 MOMENT = re.compile(r'"timestamp":"\d{4}-\d\d-\d\dT\d\d:\d\d:\d\d\.\d{3}Z"')
 
 
-def read_session(path):
-    """The commands of a session: of each its sign, its text, the lines it prints and its status."""
+def read_transcript(path):
+    """The commands of a transcript: of each its sign, its text, the lines it prints and its status."""
     steps = []
     for line in filter(None, path.read_text().splitlines()):
         if line[:2] in ("& ", "$ "):
@@ -66,19 +66,19 @@ def begin(command, folder, port):
 
 
 def compare(command, lines, status, ended):
-    """What a command printed or answered otherwise than its session says."""
+    """What a command printed or answered otherwise than its transcript says."""
     pairs = [("lines", lines, ended.stdout.splitlines()), ("status", status, ended.returncode)]
     return [f"{command}: {what}: wanted {wanted}, got {got}" for what, wanted, got in pairs
             if MOMENT.sub("", str(wanted)) != MOMENT.sub("", str(got))]
 
 
 def play(path, program):
-    """What came out otherwise than the session says."""
+    """What came out otherwise than the transcript says."""
     ports, servers, wrong = {}, [], []
     with tempfile.TemporaryDirectory(prefix="esm-examples-") as folder:
         make_folder(Path(folder), program)
         try:
-            for sign, command, lines, status in read_session(path):
+            for sign, command, lines, status in read_transcript(path):
                 if sign == "&":
                     port = PORT.search(command)[1]
                     ports[port] = free_port()
@@ -96,9 +96,9 @@ def play(path, program):
 
 
 def readme(program):
-    """What of the README's commands came out otherwise, and what of their session does not stand there."""
-    page, path = (TOP / "README.md").read_text(), TOP / "examples/session.txt"
-    told = [line for _, command, lines, _ in read_session(path) for line in [command, *lines]]
+    """What of the README's commands came out otherwise, and what of their transcript does not stand there."""
+    page, path = (TOP / "README.md").read_text(), TOP / "examples/transcript.txt"
+    told = [line for _, command, lines, _ in read_transcript(path) for line in [command, *lines]]
     return [f"not in README.md: {line}" for line in told if MOMENT.sub("", line) not in MOMENT.sub("", page)] + play(path, program)
 
 
@@ -117,7 +117,7 @@ def main():
     parser.add_argument("--only", action="append", default=[])
     words = parser.parse_args()
     program = [os.path.abspath(words.program[0]), *words.program[1:]]
-    examples = {path.parent.name: lambda path=path: play(path, program) for path in sorted(TOP.glob("examples/*/session.txt"))}
+    examples = {path.parent.name: lambda path=path: play(path, program) for path in sorted(TOP.glob("examples/*/transcript.txt"))}
     examples.update(readme=lambda: readme(program), consumer_test=lambda: consumer_test(program))
     if unknown := {*words.only} - {*examples}:
         parser.error(f"no example {', '.join(sorted(unknown))}")
