@@ -1,5 +1,5 @@
 -- What a payload of kind 7 is read as names as many places as texts. Only this crate's proofs cite this.
-use Rattle.std.proofs.Common.{◌≡◌, ℕ, zero, suc, Bool, cond, eqb, leb, List, [], ◌∷◌, length, Option, Some, None, refl, ap, subst, inl, inr}
+use Rattle.std.proofs.Common.{◌≡◌, ◌⊎◌, ℕ, zero, suc, Bool, true, false, cond, eqb, leb, List, [], ◌∷◌, length, Option, Some, None, refl, ap, subst, inl, inr}
 use Rattle.std.specs.Prelude.{IfSome}
 use Rattle.std.specs.Int.{w32}
 use Rattle.std.proofs.lemmas.Option.{cond_some}
@@ -8,12 +8,29 @@ use Rattle.esm_journal_record.specs.declared.said.Said.{Said}
 use Rattle.esm_journal_record.specs.declared.said.Said.TheVariants as said
 use Rattle.esm_journal_record.specs.Payload.{is_message_id, may_keep, is_deletion, rises}
 use Rattle.esm_journal_record.specs.Parsing.{◌>>=◌, ◌⊗◌, only, made, number_at, byte_at, shard_at, moment_at, tries_at, fate_at, text_at, state_of, flagged_at, name_at, names_at, named_at, fates_at, closed_at, deleted_at, state_at, tried_at, window_tried_at, replayed_at, said_at, said_of}
-use Rattle.esm_journal_record.proofs.Fields.{bind_some, some_is, chosen}
 
 -- a payload of kind 7 names as many places as texts
 abbrev pub HasSameLengths : Said → Type 0
 HasSameLengths (said.Replayed shard moment places texts) = length texts ≡ length places
 HasSameLengths _ = Unit {0}
+
+-- choices
+
+-- the value of a step that did not fail
+bind_some : {A B : Type 0} (r : Option A) (f : A → Option B) (y : B) → (r >>= f) ≡ Some y → (x : A) × (r ≡ Some x) × (f x ≡ Some y)
+bind_some (Some x) f y e = (x, refl, e)
+bind_some None f y e = absurd cc
+
+abbrev some : {A : Type 0} → A → Option A
+some x = Some x
+
+some_is : {A : Type 0} (x y : A) → some x ≡ some y → x ≡ y
+some_is x y e = cc
+
+-- which way a choice went
+chosen : {A : Type 0} (b : Bool) (x y z : A) → cond b x y ≡ z → ((b ≡ true) × (x ≡ z)) ⊎ ((b ≡ false) × (y ≡ z))
+chosen true x y z e = inl (refl, e)
+chosen false x y z e = inr (refl, e)
 
 -- fields
 
