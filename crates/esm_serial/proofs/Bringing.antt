@@ -1,10 +1,12 @@
 -- What one list that comes leaves of a book.
 use Rattle.std.proofs.Common.{◌≡◌, ◌⊎◌, ℕ, Bool, true, List, [], refl, sym, ap, ◌∙◌, subst, append-nil, Option, Some, None, Result, Ok, Err, OnOk, IfErr, inl, inr}
-use Rattle.std.specs.Prelude.{IsErrOf}
+use Rattle.std.specs.Prelude.{IsErrOf, ◌≤◌, length}
 use Rattle.esm_model.specs.declared.book.CameError.{CameError}
 use Rattle.esm_model.specs.declared.book.CameError.TheVariants as refusal
 use Rattle.esm_model.specs.declared.book.Change.{Change}
 use Rattle.esm_model.specs.declared.item.Item.{Item}
+use Rattle.esm_model.specs.declared.limits.TheConstants.{MAX_BATCH}
+use Rattle.esm_model.specs.Coming.{StayAsTheyAre}
 use Rattle.esm_model.specs.GoingOn.{change_told}
 use Rattle.esm_serial.specs.declared.reading.Stop.{Stop}
 use Rattle.esm_serial.specs.declared.reading.Stop.TheVariants.{Down}
@@ -46,9 +48,13 @@ module _ {B : Type 0} (m : Serial B) (gave : ℕ → Bool) where
     function = function;
   }
 
-  module _ (old new : B) (list : List Item) (going : m.going old) where
+  module _ (old new : B) (list : List Item) (going : m.going old) (few : length list ≤ MAX_BATCH) where
+    -- the list was refused whole for this change
+    abbrev pub Refuses : Change → Type 0
+    Refuses change = m.differs old list change × StayAsTheyAre (m.items old) (m.items new)
+
     down_as : (e : CameError) → (e ≡ refusal.OutOfMemory → ⊥) → (e ≡ refusal.OutOfMemory) ⊎ (m.down new ≡ true)
-        → ((change : Change) → m.change new ≡ Some change → m.differs old list change) → IsStopFor m gave old list new Down
+        → ((change : Change) → m.change new ≡ Some change → Refuses change) → IsStopFor m gave old list new Down
     down_as e other down changed = (
       elim down [ inl none ↦ absurd (other none) | inr down_now ↦ down_now ],
       λ change is. record {
@@ -57,14 +63,16 @@ module _ {B : Type 0} (m : Serial B) (gave : ℕ → Bool) where
         front = [];
         list = list;
         rest = [];
+        few = few;
         parts = sym (append-nil list);
         came = λ n. sym (append-nil (m.items old n));
-        differs_so = changed change is;
+        stay = (changed change is).1;
+        differs_so = (changed change is).0;
       },
     )
 
     stop_as : (r : Result (Unit {0}) CameError) → m.change new ≡ change_told None r
-        → IfErr r (λ e. (e ≡ refusal.OutOfMemory) ⊎ (m.down new ≡ true)) → ((change : Change) → IsErrOf r (refusal.StreamChanged change) → m.differs old list change)
+        → IfErr r (λ e. (e ≡ refusal.OutOfMemory) ⊎ (m.down new ≡ true)) → ((change : Change) → IsErrOf r (refusal.StreamChanged change) → Refuses change)
         → IfErr (stop_of r) (IsStopFor m gave old list new)
     stop_as (Ok u) tells down changed = tt
     stop_as (Err (refusal.StreamChanged change)) tells down changed = down_as (refusal.StreamChanged change) (λ e. absurd (let h = e in cc)) down
@@ -74,7 +82,7 @@ module _ {B : Type 0} (m : Serial B) (gave : ℕ → Bool) where
     stop_as (Err refusal.OutOfMemory) tells down changed = tells
 
     pub err_stop : (r : Result (Unit {0}) CameError) (q : Result (Unit {0}) Stop) → q ≡ stop_of r → m.change old ≡ None → m.change new ≡ change_told (m.change old) r
-        → IfErr r (λ e. (e ≡ refusal.OutOfMemory) ⊎ (m.down new ≡ true)) → ((change : Change) → IsErrOf r (refusal.StreamChanged change) → m.differs old list change)
+        → IfErr r (λ e. (e ≡ refusal.OutOfMemory) ⊎ (m.down new ≡ true)) → ((change : Change) → IsErrOf r (refusal.StreamChanged change) → Refuses change)
         → IfErr q (IsStopFor m gave old list new)
     err_stop r q is_stop none tells down changed =
         subst (λ z. IfErr z (IsStopFor m gave old list new)) (sym is_stop) (stop_as r (tells ∙ ap (λ b. change_told b r) none) down changed)

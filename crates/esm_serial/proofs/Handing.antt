@@ -74,26 +74,28 @@ regrouped a b c d e =
     let three : a ++ (b ++ c) ≡ (a ++ b) ++ c = sym (append_assoc a b c) in
     ap (λ l. a ++ l) one ∙ (two ∙ ap (λ l. l ++ (d ++ e)) three)
 
-module _ {B : Type 0} (m : Serial B) (gave : ℕ → Bool) (old mid : B) (were : ℕ → List Item) (brings : Brings m gave old mid) (all rest list later : List Item)
+module _ {B : Type 0} (m : Serial B) (gave : ℕ → Bool) (old mid new : B) (were : ℕ → List Item) (brings : Brings m gave old mid) (all rest list later : List Item)
     (handing : IsHanding were (m.items mid) all rest) (parts : rest ≡ list ++ later) where
   -- a change among the items of the list is one among all
-  pub change_within : (change : Change) → IsNextChange m gave mid (m.items mid) list change → IsNextChange m gave old were all change
+  pub change_within : (change : Change) → IsNextChange m gave mid (m.items mid) list new change → IsNextChange m gave old were all new change
   change_within change next = record {
     before = next.before;
     brings = brings_then m gave old mid next.before brings next.brings;
     front = handing.front ++ next.front;
     list = next.list;
     rest = next.rest ++ later;
+    few = next.few;
     parts = handing.parts ∙ (ap (λ l. handing.front ++ l) (parts ∙ ap (λ l. l ++ later) next.parts) ∙ regrouped handing.front next.front next.list next.rest later);
     came = λ n. next.came n ∙ (ap (λ l. l ++ items_of n next.front) (handing.came n)
         ∙ (append_assoc (were n) (items_of n handing.front) (items_of n next.front) ∙ ap (λ l. were n ++ l) (sym (items_both n handing.front next.front))));
+    stay = next.stay;
     differs_so = next.differs_so;
   }
 
 module _ {B : Type 0} (m : Serial B) (gave : ℕ → Bool) (old mid new : B) (brings : Brings m gave old mid) (all rest list later : List Item)
     (handing : IsHanding (m.items old) (m.items mid) all rest) (parts : rest ≡ list ++ later) where
   pub handing_stop : (t : Stop) → IsStopFor m gave mid list new t → IsStopFor m gave old all new t
-  handing_stop Down stop = (stop.0, λ change is. change_within m gave old mid (m.items old) brings all rest list later handing parts change (stop.1 change is))
+  handing_stop Down stop = (stop.0, λ change is. change_within m gave old mid new (m.items old) brings all rest list later handing parts change (stop.1 change is))
   handing_stop OutOfMemory stop = stop
 
   pub handing_stop_if : (r : Result (Unit {0}) Stop) → IfErr r (IsStopFor m gave mid list new) → IfErr r (IsStopFor m gave old all new)

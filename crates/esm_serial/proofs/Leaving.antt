@@ -5,7 +5,7 @@ use Rattle.esm_io.specs.Told.{Grows}
 use Rattle.esm_model.specs.declared.book.Change.{Change}
 use Rattle.esm_model.specs.declared.called.Called.{Called}
 use Rattle.esm_model.specs.declared.item.Item.{Item}
-use Rattle.esm_model.specs.Coming.{items_of, AreCome}
+use Rattle.esm_model.specs.Coming.{items_of, StayAsTheyAre, AreCome}
 use Rattle.esm_input.specs.Reading.{InputState, handed}
 use Rattle.esm_serial.specs.declared.reading.Stop.{Stop}
 use Rattle.esm_serial.specs.declared.reading.Stop.TheVariants as stop
@@ -64,16 +64,18 @@ pub short_of : {B S : Type 0} (m : Serial B) (gave : ℕ → Bool) (left : S →
 short_of m gave left old i new r is stopped = subst (λ z. IfErr z (IsStopOf m gave left old i new)) is stopped
 
 -- a change that was told while the input was read
-pub change_of : {B S : Type 0} (m : Serial B) (gave : ℕ → Bool) (sends : List ℕ → List ℕ) (first : B) (i : InputState S) (change : Change) → m.since gave sends first first []
-    → IsNextChange m gave first (λ _. []) (handed i) change → IsChangeOf m gave sends first i change
-change_of m gave sends first i change begins next = record {
+pub change_of : {B S : Type 0} (m : Serial B) (gave : ℕ → Bool) (sends : List ℕ → List ℕ) (first read now : B) (i : InputState S) (change : Change) → m.since gave sends first first []
+    → StayAsTheyAre (m.items read) (m.items now) → IsNextChange m gave first (λ _. []) (handed i) read change → IsChangeOf m gave sends first now i change
+change_of m gave sends first read now i change begins same next = record {
   before = next.before;
   since = next.brings.since sends first [] begins;
   front = next.front;
   list = next.list;
   rest = next.rest;
+  few = next.few;
   handed_out = next.parts;
-  came = next.came;
+  had_come = next.came;
+  came = λ n. same n ∙ (next.stay n ∙ next.came n);
   differs_so = next.differs_so;
 }
 

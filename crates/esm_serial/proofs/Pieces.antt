@@ -1,5 +1,5 @@
 -- The items of an input that came, piece by piece.
-use Rattle.std.proofs.Common.{◌≡◌, ◌≤◌, ℕ, suc, Bool, cond, List, [], ◌∷◌, ◌++◌, length, sym, ap, ◌∙◌, subst, append-nil, append_assoc, arith, Option, Some, None, inl, inr}
+use Rattle.std.proofs.Common.{◌≡◌, ◌≤◌, ℕ, suc, Bool, false, cond, List, [], ◌∷◌, ◌++◌, length, sym, ap, ◌∙◌, subst, append-nil, append_assoc, arith, Option, Some, None, inl, inr}
 use Rattle.std.specs.Prelude.{filter}
 use Rattle.std.proofs.lemmas.Bool.{cases_Bool}
 use Rattle.esm_io.specs.Told.{TakesFront}
@@ -9,7 +9,7 @@ use Rattle.esm_model.specs.declared.item.Item.{Item}
 use Rattle.esm_model.specs.declared.item.LineKind.{LineKind}
 use Rattle.esm_model.specs.Coming.{is_of, items_of, Come, SomeCome, AreCome, AreSomeCome, FitBehind}
 use Rattle.esm_input.specs.Positions.{from_start}
-use Rattle.esm_input.specs.Reading.{InputState, IsInput, items_read, handed}
+use Rattle.esm_input.specs.Reading.{InputState, IsInput, StandsSo, items_read, handed}
 use Rattle.esm_input.specs.Within.{HandedWithin}
 use Rattle.esm_serial.specs.declared.reading.Stop.{Stop}
 use Rattle.esm_serial.specs.declared.reading.Stop.TheVariants.{Down, OutOfMemory}
@@ -60,17 +60,23 @@ cut_coming faults left i came input some = record {
   more = [];
   whole = i.whole;
   taken = subst (TakesFront (left i.found) (left i.source)) (sym (append-nil i.bytes)) input.taken;
+  at_end = input.at_end;
   some = some;
 }
 
+-- the source of an input that has not ended may have more
+not_whole : {S : Type 0} (faults : S → ℕ) (left : S → Option (List ℕ)) (i : InputState S) → IsInput faults left i → i.failed ≡ false → i.end ≡ None → i.whole ≡ false
+not_whole faults left i input good going = (subst (StandsSo i.kind i.factor (faults i.found) (faults i.source) i.whole i.bytes) going (input.stands good)).0
+
 -- or while more was read
-pub cut_reading : {S : Type 0} (faults : S → ℕ) (left : S → Option (List ℕ)) (i j : InputState S) (came : ℕ → List Item) → IsInput faults left i
+pub cut_reading : {S : Type 0} (faults : S → ℕ) (left : S → Option (List ℕ)) (i j : InputState S) (came : ℕ → List Item) → IsInput faults left i → i.failed ≡ false → i.end ≡ None
     → (j.kind ≡ i.kind) × (j.factor ≡ i.factor) × (j.start ≡ i.start) → j.found ≡ i.found → (more : List ℕ) × TakesFront (left i.source) (left j.source) more → AreCome came (handed i) → IsCut left j came
-cut_reading {S} faults left i j came input kept found taken come = record {
+cut_reading {S} faults left i j came input good going kept found taken come = record {
   bytes = i.bytes;
   more = taken.0;
   whole = i.whole;
   taken = subst (λ (s : S). TakesFront (left s) (left j.source) (i.bytes ++ taken.0)) (sym found) (takes_then (left i.found) (left i.source) (left j.source) i.bytes taken.0 input.taken taken.1);
+  at_end = λ whole. absurd (let other = not_whole faults left i input good going in cc);
   some =
       let same : handed i ≡ from_start j.start (items_read j.kind j.factor i.whole i.bytes).items =
       ap (λ (k : Start). from_start k (items_read i.kind i.factor i.whole i.bytes).items) (sym kept.2)
@@ -88,7 +94,7 @@ come_stop m gave left old mid new i j list Down brings is come some short stop =
   some = come_some (m.items mid) (m.items new) (handed i) list (handed j) is come some;
   changed = λ change told.
       let handing : IsHanding (λ _. []) (m.items mid) (handed j) list = record { front = handed i; parts = is; came = come } in
-      change_within m gave old mid (λ _. []) brings (handed j) list list [] handing (sym (append-nil list)) change (stop.1 change told);
+      change_within m gave old mid new (λ _. []) brings (handed j) list list [] handing (sym (append-nil list)) change (stop.1 change told);
 }
 come_stop m gave left old mid new i j list OutOfMemory brings is come some short stop = (stop, short)
 
@@ -107,5 +113,6 @@ module _ (before after : ℕ → List Item) (same : (n : ℕ) → after n ≡ be
     more = cut.more;
     whole = cut.whole;
     taken = cut.taken;
+    at_end = cut.at_end;
     some = some_as (from_start i.start (items_read i.kind i.factor cut.whole cut.bytes).items) cut.some;
   }

@@ -1,11 +1,12 @@
 -- What reading leaves of a book and of its input. Only this crate's proofs cite this.
-use Rattle.std.specs.Prelude.{◌≡◌, ◌++◌, ℕ, Bool, true, List, [], Option, Some, None, Result, Ok, Err}
+use Rattle.std.specs.Prelude.{◌≡◌, ◌≤◌, ◌++◌, ℕ, Bool, true, List, [], length, Option, Some, None, Result, Ok, Err}
 use Rattle.esm_model.specs.declared.book.CameError.{CameError}
 use Rattle.esm_model.specs.declared.book.CameError.TheVariants as refusal
 use Rattle.esm_model.specs.declared.book.Change.{Change}
 use Rattle.esm_model.specs.declared.called.Called.{Called}
 use Rattle.esm_model.specs.declared.item.Item.{Item}
-use Rattle.esm_model.specs.Coming.{Come, AreSomeCome}
+use Rattle.esm_model.specs.declared.limits.TheConstants.{MAX_BATCH}
+use Rattle.esm_model.specs.Coming.{Come, StayAsTheyAre, AreSomeCome}
 use Rattle.esm_input.specs.Reading.{InputState, handed}
 use Rattle.esm_serial.specs.declared.reading.Stop.{Stop}
 use Rattle.esm_serial.specs.declared.reading.Stop.TheVariants.{Down, OutOfMemory}
@@ -32,28 +33,30 @@ stop_of (Err refusal.Down) = Err Down
 stop_of (Err refusal.OutOfMemory) = Err OutOfMemory
 
 -- The change is of the first item of a list that differs: of the items all before the list had come behind those that were
--- there, to the book that the old one had come to then.
-pub record IsNextChange {B : Type 0} (m : Serial B) (gave : ℕ → Bool) (old : B) (were : ℕ → List Item) (items : List Item) (change : Change) : Type 0 where
+-- there, to the book that the old one had come to then, and the list was refused whole.
+pub record IsNextChange {B : Type 0} (m : Serial B) (gave : ℕ → Bool) (old : B) (were : ℕ → List Item) (items : List Item) (new : B) (change : Change) : Type 0 where
   pub before : B
   pub brings : Brings m gave old before
   pub front : List Item
   pub list : List Item
   pub rest : List Item
+  pub few : length list ≤ MAX_BATCH
   pub parts : items ≡ front ++ list ++ rest
   pub came : Come were (m.items before) front
+  pub stay : StayAsTheyAre (m.items before) (m.items new)
   pub differs_so : m.differs before list change
 
 -- Why no more of the items are handed on: the book is down, and a change that it was told is of one of them; or memory was
 -- wanting, and it was told none.
 abbrev pub IsStopFor : {B : Type 0} → Serial B → (gave : ℕ → Bool) → (old : B) → List Item → (new : B) → Stop → Type 0
-IsStopFor m gave old items new Down = (m.down new ≡ true) × ((change : Change) → m.change new ≡ Some change → IsNextChange m gave old (m.items old) items change)
+IsStopFor m gave old items new Down = (m.down new ≡ true) × ((change : Change) → m.change new ≡ Some change → IsNextChange m gave old (m.items old) items new change)
 IsStopFor m gave old items new OutOfMemory = m.change new ≡ None
 
 -- the book is down, the first of the items came, and a change that it was told is of one of them
 pub record IsDownAt {B S : Type 0} (m : Serial B) (gave : ℕ → Bool) (old : B) (i : InputState S) (new : B) : Type 0 where
   pub down : m.down new ≡ true
   pub some : AreSomeCome (m.items new) (handed i)
-  pub changed : (change : Change) → m.change new ≡ Some change → IsNextChange m gave old (λ _. []) (handed i) change
+  pub changed : (change : Change) → m.change new ≡ Some change → IsNextChange m gave old (λ _. []) (handed i) new change
 
 -- why reading stopped: the book is down; or memory was wanting, and it was told no change
 abbrev pub IsStopOf : {B S : Type 0} → Serial B → (gave : ℕ → Bool) → (left : S → Option (List ℕ)) → (old : B) → InputState S → (new : B) → Stop → Type 0

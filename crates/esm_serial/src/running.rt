@@ -1,9 +1,9 @@
 // A run of a book whose input is read first, and whose calls one caller makes.
-ghost use Rattle.std.specs.Prelude.{◌≡◌, ◌⊎◌, ℕ, List, [], Some, None, false, IsSome, IfOk, OnOk, OnErr};
+ghost use Rattle.std.specs.Prelude.{◌≡◌, ◌⊎◌, ℕ, List, [], Some, None, false, IfOk, OnOk, OnErr};
 ghost use Rattle.esm_model.specs.declared.book.Change.{Change};
 ghost use Rattle.esm_model.specs.Coming.{StayAsTheyAre};
 ghost use Rattle.esm_input.specs.Reading.{IsInput, handed};
-ghost use Rattle.esm_serial.specs.Ran.{IsSameInput, HasCalled, HasOneMore, EndsSo, CameSo, IsChangeOf, IsCut};
+ghost use Rattle.esm_serial.specs.Ran.{IsSameInput, HasCalled, HasOneMore, EndsSo, CameSo, StopsSo, IsChangeOf};
 ghost use Rattle.esm_serial.specs.Readings.{EndsReading};
 
 use crate::calling::call_all;
@@ -51,7 +51,7 @@ fn note_end<B: Serial, C: Clock>(book: &mut B, clock: &C)
 /// Reads the input whole and hands its items to the book, in lists of at most 10,000; notes its end; and then asks and calls, one
 /// call after the other, and pauses, for a second at most, until nothing is left, all calls allowed were made, or the book is down.
 /// Where the book is down once the input was read, nothing is asked. `name` is the function's. Want of memory ends the run at any
-/// point; where it comes while the input is read, no end of the input is noted.
+/// point; where it comes while the input is read, no end of the input is noted, and no call was made.
 pub fn run_serial<R: Wait, B: Serial, S: Source, C: Clock, F: Caller>(
     rt: &R,
     alloc: Global,
@@ -74,14 +74,13 @@ pub fn run_serial<R: Wait, B: Serial, S: Source, C: Clock, F: Caller>(
     // How it ended, and what came of the input.
     ensures ended { IfOk result.end (EndsSo B.Serial result.book) }
     ensures came { IfOk result.end (CameSo B.Serial C.gave book result.book result.input (F.log caller.old) (F.log caller.new)) }
-    ensures changed { (change : Change) → B.change result.book ≡ Some change → IsChangeOf B.Serial C.gave F.sends book result.input change }
+    ensures changed { (change : Change) → B.change result.book ≡ Some change → IsChangeOf B.Serial C.gave F.sends book result.book result.input change }
     ensures no_change { OnErr result.end (B.change result.book ≡ None) }
     ensures unasked { (change : Change) → B.change result.book ≡ Some change → F.log caller.new ≡ F.log caller.old }
     ensures uncalled { (change : Change) → B.change result.book ≡ Some change → (sends : List ℕ → List ℕ) → B.since C.gave sends book result.book [] }
     ensures read { OnOk result.end (IsInput S.faults S.left result.input) }
     ensures good { OnOk result.end (result.input.failed ≡ false) }
-    ensures cut { OnErr result.end (IsCut S.left result.input (B.items result.book)) }
-    ensures unended { OnErr result.end (IsSome result.input.end ⊎ B.going result.book) }
+    ensures cut { OnErr result.end (StopsSo B.Serial C.gave S.faults S.left book result.book result.input (F.log caller.old) (F.log caller.new)) }
     ensures input { IsSameInput input result.input }
 {
     book.begins();

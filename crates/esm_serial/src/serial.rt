@@ -90,6 +90,7 @@ pub trait Serial {
         ensures up { OnOk result (down self.new ≡ false) }
         ensures down { IfErr result (λ e. (e ≡ refusal.OutOfMemory) ⊎ (down self.new ≡ true)) }
         ensures changed { (change : Change) → IsErrOf result (refusal.StreamChanged change) → differs self.old list.items change }
+        ensures refused { (change : Change) → IsErrOf result (refusal.StreamChanged change) → StayAsTheyAre (items self.old) (items self.new) }
         ensures tells { change self.new ≡ change_told (change self.old) result };
 
     /// The input ended, at the moment, in milliseconds; that is noted where the book is not down. Takes no memory.

@@ -1,4 +1,4 @@
-use Rattle.std.proofs.Common.{◌∙◌, ap}
+use Rattle.std.proofs.Common.{◌∙◌, ap, rules}
 use Rattle.esm_input.specs.Reading.{handed, InputState}
 use Rattle.esm_serial.specs.Readings.{IsStopOf}
 use Rattle.esm_serial.specs.declared.reading.Stop.TheVariants as stop
@@ -8,7 +8,7 @@ use Rattle.esm_serial.proofs.reading.read_all.Goals as goal
 
 pub returns-in_err-items-clause-stop : goal.returns-in_err-items-clause-stop
 returns-in_err-items-clause-stop g c = err_as c.from_residual.result stop.OutOfMemory (IsStopOf g.B.Serial g.C.Clock.gave g.S.Source.left c.args.book.now c.read.new.self c.loop.book) c.from_residual.ensures.1
-    (c.loop.invariant.3, cut_reading g.S.Source.faults g.S.Source.left c.loop.input c.read.new.self (g.B.Serial.items c.loop.book) (c.stands.ensures c.loop.invariant.6) c.read.ensures.kept c.read.ensures.found c.read.ensures.taken c.loop.invariant.5)
+    (c.loop.invariant.3, cut_reading g.S.Source.faults g.S.Source.left c.loop.input c.read.new.self (g.B.Serial.items c.loop.book) (c.stands.ensures c.loop.invariant.6) c.loop.invariant.6 (search rules) c.read.ensures.kept c.read.ensures.found c.read.ensures.taken c.loop.invariant.5)
 
 pub hand_on-requires-clause-within : goal.hand_on-requires-clause-within
 hand_on-requires-clause-within g c = next_fits c.handed_is_within.ensures (g.B.Serial.items c.loop.book) c.loop.input c.read.new.self c.in_ok-items.items.items c.in_ok-items.ensures.handed c.loop.invariant.5
