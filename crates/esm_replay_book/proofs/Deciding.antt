@@ -8,7 +8,7 @@ use Rattle.esm_model.specs.declared.book.Change.{Change}
 use Rattle.esm_model.specs.declared.book.Job.{Job}
 use Rattle.esm_model.specs.declared.entry.Reply.{Reply}
 use Rattle.esm_model.specs.declared.entry.Entry.{Entry}
-use Rattle.esm_model.specs.declared.entry.Entry.TheVariants.{Ended}
+use Rattle.esm_model.specs.declared.entry.Entry.TheVariants.{Ended, Replayed}
 use Rattle.esm_model.specs.Entries.{calls_begun}
 use Rattle.esm_journal_state.specs.SaidLists.{SaidLists}
 use Rattle.esm_replay_model.specs.ReplaySetting.{ReplaySetting}
@@ -28,6 +28,7 @@ use Rattle.esm_replay_core.specs.Told.{came_entries, added_entries, MayAsk, Adds
 use Rattle.esm_replay_book.specs.Books.{payloads_in}
 use Rattle.esm_replay_book.specs.Calls.{RunsCall}
 use Rattle.esm_replay_book.specs.Carried.{records_after, entries_by, IsAnswer, IsDone}
+use Rattle.esm_replay_book.specs.Keeping.{OwesReplay}
 
 -- the records that come with a call
 abbrev pub coming_by : ReplayCall → List Record
@@ -147,6 +148,24 @@ ended_front s n m places lane reply (e ∷ f ∷ front) rest is left writing =
     let short = short_replayed n places m in
     let both : length ((f ∷ front) ++ rest) ≡ length (f ∷ front) + length rest = length-append (f ∷ front) rest in
     absurd (omega (arith, long, both, short, left))
+
+-- and what follows it is owed: the `Replayed` of what succeeded, where anything did
+front_end : (e : Entry) (front rest es : List Entry) → front ≡ e ∷ [] → front ++ rest ≡ e ∷ es → rest ≡ es
+front_end e front rest es is split = (let all : e ∷ rest ≡ e ∷ es = ap (λ (xs : List Entry). xs ++ rest) (sym is) ∙ split in cc)
+
+replayed_owed : (n : ℕ) (places : List ℕ) (m : ℕ) (rest : List Entry) → rest ≡ replayed_entries n places m → 0 < length rest → (1 ≤ length places) × (rest ≡ Replayed n places m ∷ [])
+replayed_owed n [] m rest is left = (let short : length rest ≡ 0 = ap (λ (es : List Entry). length es) is in absurd (omega (arith, short, left)))
+replayed_owed n (i ∷ places) m rest is left = (omega arith, is)
+
+pub ended_owes : (s t : ReplaySetting) (m : ℕ) (lane : LaneId) (reply : Reply) (front rest h : List Entry)
+    → front ++ rest ≡ Ended lane reply m ∷ replayed_entries (succeeded_of s (call_out h) reply).shard (succeeded_of s (call_out h) reply).places m
+    → 0 < length rest → 0 < length (payloads_in t (take 1 rest)) → OwesReplay s (reverse front ++ h) rest
+ended_owes s t m lane reply front rest h is left writing =
+    let call = succeeded_of s (call_out h) reply in
+    let front_is : front ≡ Ended lane reply m ∷ [] = ended_front t call.shard m call.places lane reply front rest is left writing in
+    let owed = replayed_owed call.shard call.places m rest (front_end (Ended lane reply m) front rest (replayed_entries call.shard call.places m) front_is is) left in
+    let ended : OwesReplay s (Ended lane reply m ∷ h) rest = record { some = owed.0; is = owed.1 } in
+    subst (λ (es : List Entry). OwesReplay s (reverse es ++ h) rest) (sym front_is) ended
 
 -- so no call is out
 pub ended_rests : (s : ReplaySetting) (n m : ℕ) (places : List ℕ) (lane : LaneId) (reply : Reply) (front rest h : List Entry) → front ++ rest ≡ Ended lane reply m ∷ replayed_entries n places m

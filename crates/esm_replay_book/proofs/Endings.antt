@@ -31,10 +31,10 @@ use Rattle.esm_replay.specs.Coming.{first_change}
 use Rattle.esm_replay_core.specs.Told.{came_entries, added_entries, owed_of, payload_in, MayAsk, Decides, Refuses}
 use Rattle.esm_replay_book.specs.Books.{BookState, payloads_in}
 use Rattle.esm_replay_book.specs.Calls.{Added, RunsCall, IsSame}
-use Rattle.esm_replay_book.specs.Keeping.{IsUncalled, IsSound}
+use Rattle.esm_replay_book.specs.Keeping.{IsUncalled, OwesReplay, IsSound}
 use Rattle.esm_replay_book.specs.Carried.{records_after, entries_by, IsDone, CarriedAll, CarriedSome, FoundChange, CarriedNone}
 use Rattle.esm_replay_book.proofs.Entries.{records_in, entries_in, records-append, entries-append, records_came, records_added, entries_came, entries_added, owed_records, owed_entries, none_coming, none_owed, records_grow, written_came, written_added, written-append, payloads-append, none_writing, parts_of, take-added}
-use Rattle.esm_replay_book.proofs.Deciding.{coming_by, decided_so, records_after_is, unchanged_both, paid_after, unwritten, ended_rests, runs_call}
+use Rattle.esm_replay_book.proofs.Deciding.{coming_by, decided_so, records_after_is, unchanged_both, paid_after, unwritten, ended_owes, ended_rests, runs_call}
 use Rattle.esm_replay_book.proofs.Going.{replay_meaning, Went, same_setting, added_so, leaves_first}
 
 -- what is told of records that come and of entries that are added
@@ -129,6 +129,7 @@ module _ {D : Type 0} (m : DiskMeaning D) (n : DestMeaning Nowhere) (old new : B
           none_owed = λ none. none_owed new.core owed;
           settled = λ none. paid_over old.core new.core asked may w.origin records added.past (sound.settled was);
           down_rests = λ down. absurd (down trouble);
+          owes = λ disk. absurd (cc (sym trouble ∙ disk));
           uncalled = subst (λ (t : Option Trouble). IsUncalled t new.core.past) (sym trouble) tt;
         };
       }
@@ -208,6 +209,10 @@ module _ {D : Type 0} (m : DiskMeaning D) (n : DestMeaning Nowhere) (old new : B
           down_rests = λ down.
               subst (λ (h : List Entry). (call_out h).places ≡ []) (sym added.past)
               (ended_rests s (succeeded_of s (call_out old.core.past) reply).shard m' (succeeded_of s (call_out old.core.past) reply).places job.lane reply front rest old.core.past split (some_left rest s writing) writing);
+          owes = λ disk.
+              subst (λ (t : ReplaySetting). OwesReplay t new.core.past rest) same
+              (subst (λ (h : List Entry). OwesReplay s h rest) (sym added.past)
+              (ended_owes s s m' job.lane reply front rest old.core.past split (some_left rest s writing) writing));
           uncalled = subst (λ (t : Option Trouble). IsUncalled t new.core.past) (sym trouble) tt;
         };
       }
@@ -247,6 +252,7 @@ found_change {D} old new asked change sound up may refuses is =
       none_owed = λ none. sound.none_owed up;
       settled = λ none. sound.settled up;
       down_rests = λ none. ap (λ (h : List Entry). (call_out h).places) (early_refused old.core asked change may refuses);
+      owes = λ disk. absurd (cc);
       uncalled = early_refused old.core asked change may refuses;
     } in
     record { refuses = refuses; rest = is; sound = subst IsSound (sym is) kept }
@@ -265,6 +271,7 @@ carried_none {D} old new sound same =
       none_owed = sound.none_owed;
       settled = sound.settled;
       down_rests = sound.down_rests;
+      owes = sound.owes;
       uncalled = sound.uncalled;
     } in
     record { same = same; sound = subst IsSound (sym same) kept }

@@ -63,7 +63,12 @@ pub record Brought {D : Type 0} (t : ℕ) (old new : BookState D) (list : List I
   pub up : OnOk result (is_down new ≡ false)
   pub down : IfErr result (λ e. (e ≡ refusal.OutOfMemory) ⊎ (is_down new ≡ true))
   pub changed : (change : Change) → IsErrOf result (refusal.StreamChanged change) → Differs old list change
+  pub refused : (change : Change) → IsErrOf result (refusal.StreamChanged change) → StayAsTheyAre (items_in old) (items_in new)
   pub tells : change_in new ≡ change_told (change_in old) result
+
+-- the items of a book with the same records
+items_stay : {D : Type 0} (old new : BookState D) → new.core.records ≡ old.core.records → StayAsTheyAre (items_in old) (items_in new)
+items_stay old new same n = ap (λ (rs : List Record). map item_of (of_shard n rs)) same
 
 -- where the records stay, none of the list came
 none_come : {D : Type 0} (old new : BookState D) (list : List Item) → new.core ≡ old.core → SomeCome (items_in old) (items_in new) list
@@ -90,6 +95,7 @@ module _ {D : Type 0} (m : DiskMeaning D) (t : ℕ) (old new : BookState D) (lis
         up = ap (λ (o : Option Trouble). is_some o) c.added.trouble;
         down = tt;
         changed = λ change is. absurd (cc);
+        refused = λ change is. absurd (cc);
         tells = ap change_of (c.added.trouble ∙ sym was);
       }
 
@@ -104,6 +110,7 @@ module _ {D : Type 0} (m : DiskMeaning D) (t : ℕ) (old new : BookState D) (lis
     up = tt;
     down = down;
     changed = changed;
+    refused = λ change is. items_stay old new (ap (λ (v : ReplayView). v.records) core);
     tells = tells;
   }
 
@@ -135,14 +142,11 @@ not_brought t b list going = record {
   up = tt;
   down = inl refl;
   changed = λ change same. absurd (cc);
+  refused = λ change same. absurd (cc);
   tells = refl;
 }
 
 -- what is asked
-
--- the items of a book with the same records
-items_stay : {D : Type 0} (old new : BookState D) → new.core.records ≡ old.core.records → StayAsTheyAre (items_in old) (items_in new)
-items_stay old new same n = ap (λ (rs : List Record). map item_of (of_shard n rs)) same
 
 -- what a call of `next` promises
 pub record AskBy {D : Type 0} (m : DiskMeaning D) (t : ℕ) (old new : BookState D) (result : Result ReplayNext BookError) : Type 0 where

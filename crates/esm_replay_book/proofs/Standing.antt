@@ -23,8 +23,8 @@ uncalled_none (Some Dest) = tt
 uncalled_none (Some (Changed change)) = refl
 
 -- a book in which no record came
-pub sound_new : {D : Type 0} (b : BookState D) (opened : Opened) → b.core ≡ new_view opened → IsSound b
-sound_new {D} b opened is =
+pub sound_new : {D : Type 0} (b : BookState D) (opened : Opened) → b.trouble ≡ None → b.core ≡ new_view opened → IsSound b
+sound_new {D} b opened up is =
     let fresh : BookState D = record b { core = new_view opened } in
     let sound : IsSound fresh = record {
       run = tt;
@@ -36,6 +36,7 @@ sound_new {D} b opened is =
       none_owed = λ up. refl;
       settled = λ up. refl;
       down_rests = λ down. refl;
+      owes = λ disk. absurd (cc (sym up ∙ disk));
       uncalled = uncalled_none b.trouble;
     } in
     subst (λ (v : ReplayView). IsSound (record b { core = v })) (sym is) sound

@@ -1,12 +1,15 @@
 -- What is true of every replay's book, whoever made its calls. This product's own.
-use Rattle.std.specs.Prelude.{◌≡◌, ◌++◌, List, [], Option, Some, None, false, reverse}
+use Rattle.std.specs.Prelude.{◌≡◌, ◌≤◌, ◌++◌, ◌∷◌, List, [], length, Option, Some, None, false, reverse}
 use Rattle.std.specs.List.{All}
 use Rattle.esm_io.specs.Meanings.{DiskMeaning}
 use Rattle.esm_model.specs.declared.book.Trouble.{Trouble}
 use Rattle.esm_model.specs.declared.book.Trouble.TheVariants.{Disk, Dest, Changed}
 use Rattle.esm_model.specs.declared.entry.Entry.{Entry}
+use Rattle.esm_model.specs.declared.entry.Entry.TheVariants.{Replayed}
+use Rattle.esm_model.specs.Entries.{last_moment}
 use Rattle.esm_model.specs.Valid.{IsValidRecord}
 use Rattle.esm_book.specs.State.{is_disk, in_hand}
+use Rattle.esm_replay_model.specs.ReplaySetting.{ReplaySetting}
 use Rattle.esm_replay_model.specs.ReplayRun.{call_out, owed_replay, IsReplay}
 use Rattle.esm_replay_core.specs.declared.decisions.Opened.{Opened}
 use Rattle.esm_replay_core.specs.View.{setting_of, RunAhead, SaidAhead}
@@ -21,9 +24,15 @@ IsUncalled (Some Disk) h = Unit {0}
 IsUncalled (Some Dest) h = Unit {0}
 IsUncalled (Some (Changed change)) h = h ≡ []
 
+-- The last call ended, some of its records succeeded, and one entry is owed: the `Replayed` of exactly these.
+pub record OwesReplay (s : ReplaySetting) (h owed : List Entry) : Type 0 where
+  pub some : 1 ≤ length (owed_replay s h).places
+  pub is : owed ≡ Replayed (owed_replay s h).shard (owed_replay s h).places (last_moment h) ∷ []
+
 -- The history is a run of the replay over the records that came, of which none was kept with another text; it stays one with
 -- the entries that are owed, so that the first of them, which may be on the disk, may follow it. What the journal has of all
--- this may be said. Where the book is not down nothing is owed, also of what succeeded in the last call; where it is down no call is out.
+-- this may be said. Where the book is not down nothing is owed, also of what succeeded in the last call; where it is down no call
+-- is out, and where a disk failed the `Replayed` of what succeeded in the last call is owed.
 pub record IsSound {D : Type 0} (b : BookState D) : Type 0 where
   pub run : IsReplay (setting_of b.core) b.core.past
   pub ahead : RunAhead b.core
@@ -34,6 +43,7 @@ pub record IsSound {D : Type 0} (b : BookState D) : Type 0 where
   pub none_owed : b.trouble ≡ None → b.core.owed ≡ []
   pub settled : b.trouble ≡ None → (owed_replay (setting_of b.core) b.core.past).places ≡ []
   pub down_rests : (b.trouble ≡ None → ⊥) → (call_out b.core.past).places ≡ []
+  pub owes : b.trouble ≡ Some Disk → OwesReplay (setting_of b.core) b.core.past b.core.owed
   pub uncalled : IsUncalled b.trouble b.core.past
 
 -- why a book is down: a disk failed since the opening, or a record was kept with another text than it came with

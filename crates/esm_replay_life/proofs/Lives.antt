@@ -14,7 +14,7 @@ use Rattle.esm_journal_record.specs.declared.said.Said.{Said}
 use Rattle.esm_journal_record.specs.declared.said.Said.TheVariants as said
 use Rattle.esm_journal_record.specs.Parsing.{said_of}
 use Rattle.esm_journal_record.specs.EntryPayload.{entry_said, history_payloads, AllMayBeSaid}
-use Rattle.esm_journal_state.specs.Meaning.{any_named, are_good, differs, fate_said, has_failed, history, is_good, is_good_said, is_no_replay, known, known_text, replayed_said, tries_said}
+use Rattle.esm_journal_state.specs.Meaning.{any_named, are_good, differs, fate_said, has_failed, history, is_good, is_good_said, is_no_replay, known, known_text, replayed_said, state_said, tries_said, window_tries_said}
 use Rattle.esm_journal_state.proofs.Histories.{holds_pair, not_any}
 use Rattle.esm_replay_model.specs.ReplaySetting.{ReplaySetting, is_given_up, is_in_lines, is_found_replayed, is_named}
 use Rattle.esm_replay_model.specs.ReplayReport.{is_replayed}
@@ -39,6 +39,29 @@ not_found s n i named =
     let given = and_parts (is_given_up s n i) (is_in_lines s n i && not (is_found_replayed s n i)) named in
     not_true (is_found_replayed s n i) (and_parts (is_in_lines s n i) (not (is_found_replayed s n i)) given.1).1
 
+-- windows, by what a run says over what was said
+record WindowsOf (s : ReplaySetting) (h : List Entry) (old : List Said) (n w : ℕ) : Type 0 where
+  states : state_said (filter_map (entry_said s.base) h ++ old) n w ≡ state_said old n w
+  tries : window_tries_said (filter_map (entry_said s.base) h ++ old) n w ≡ window_tries_said old n w
+
+windows_of : (s : ReplaySetting) (h : List Entry) (old : List Said) (n w : ℕ) → IsReplay s h → WindowsOf s h old n w
+windows_of s [] old n w run = record { states = refl; tries = refl }
+windows_of s (Began lane places None m ∷ h) old n w run =
+    let before : WindowsOf s h old n w = windows_of s h old n w run.0 in
+    record { states = before.states; tries = before.tries }
+windows_of s (Began lane places (Some window) m ∷ h) old n w run = absurd run.1.1
+windows_of s (Ended lane reply m ∷ h) old n w run =
+    let before : WindowsOf s h old n w = windows_of s h old n w run.0 in
+    record { states = before.states; tries = before.tries }
+windows_of s (Replayed shard places m ∷ h) old n w run =
+    let before : WindowsOf s h old n w = windows_of s h old n w run.0 in
+    record { states = before.states; tries = before.tries }
+windows_of s (Came shard first count m ∷ h) old n w run = absurd run.1.1
+windows_of s (Gave by shard places fate line state m ∷ h) old n w run = absurd run.1.1
+windows_of s (Tried lane places closing tries m ∷ h) old n w run = absurd run.1.1
+windows_of s (Closed lane window m ∷ h) old n w run = absurd run.1.1
+windows_of s (Shut m ∷ h) old n w run = absurd run.1.1
+
 module _ (r : ReplayRun) (old : List (List ℕ)) (is : IsReplayRunOver r old) where
   kept : Recorded r
   kept = recorded_of r old is
@@ -58,6 +81,18 @@ module _ (r : ReplayRun) (old : List (List ℕ)) (is : IsReplayRunOver r old) wh
 
   tries_after : (n i : ℕ) → tries_said (history (reverse (old ++ r.left))) n i ≡ tries_said (history (reverse old)) n i
   tries_after n i = ap (λ (ps : List (List ℕ)). tries_said (history (reverse ps)) n i) left_is ∙ says.tries n i
+
+  states_after : (n w : ℕ) → state_said (history (reverse (old ++ r.left))) n w ≡ state_said (history (reverse old)) n w
+  states_after n w =
+      ap (λ (ps : List (List ℕ)). state_said (history (reverse ps)) n w) left_is
+      ∙ (ap (λ (g : List Said). state_said g n w) (history_says r.setting.base kept.recorded old kept.may)
+      ∙ (windows_of r.setting kept.recorded (history (reverse old)) n w kept.run).states)
+
+  window_tries_after : (n w : ℕ) → window_tries_said (history (reverse (old ++ r.left))) n w ≡ window_tries_said (history (reverse old)) n w
+  window_tries_after n w =
+      ap (λ (ps : List (List ℕ)). window_tries_said (history (reverse ps)) n w) left_is
+      ∙ (ap (λ (g : List Said). window_tries_said g n w) (history_says r.setting.base kept.recorded old kept.may)
+      ∙ (windows_of r.setting kept.recorded (history (reverse old)) n w kept.run).tries)
 
   replays_after : (n i : ℕ) → replayed_said (history (reverse (old ++ r.left))) n i ≡ (replayed_said (history (reverse old)) n i || is_replayed kept.recorded n i)
   replays_after n i = ap (λ (ps : List (List ℕ)). replayed_said (history (reverse ps)) n i) left_is ∙ says.replays n i
@@ -211,17 +246,24 @@ answered r before life = each_answered r (content before) life.1
 -- fates and tries
 
 pub fates_stay : (later before : List Stage) → IsLife (later ++ before) → AreReplays later → FatesAndTriesStay later before
-fates_stay [] before life all = record { fates = λ n i. refl; tries = λ n i. refl }
+fates_stay [] before life all = record { fates = λ n i. refl; tries = λ n i. refl; states = λ n w. refl; window_tries = λ n w. refl }
 fates_stay (Replay r ∷ later) before life all =
     let was = fates_stay later before life.0 all in
     record {
       fates = λ n i. fates_after r (content (later ++ before)) life.1 n i ∙ was.fates n i;
       tries = λ n i. tries_after r (content (later ++ before)) life.1 n i ∙ was.tries n i;
+      states = λ n w. states_after r (content (later ++ before)) life.1 n w ∙ was.states n w;
+      window_tries = λ n w. window_tries_after r (content (later ++ before)) life.1 n w ∙ was.window_tries n w;
     }
 fates_stay (Added payloads ∷ later) before life all = absurd all
 fates_stay (Rewritten list ∷ later) before life all =
     let was = fates_stay later before life.0 all in
-    record { fates = λ n i. life.1.same.fates n i ∙ was.fates n i; tries = λ n i. life.1.same.tries n i ∙ was.tries n i }
+    record {
+      fates = λ n i. life.1.same.fates n i ∙ was.fates n i;
+      tries = λ n i. life.1.same.tries n i ∙ was.tries n i;
+      states = λ n w. life.1.same.states n w ∙ was.states n w;
+      window_tries = λ n w. life.1.same.window_tries n w ∙ was.window_tries n w;
+    }
 
 -- payloads
 

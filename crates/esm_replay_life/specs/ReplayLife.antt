@@ -15,7 +15,7 @@ use Rattle.esm_journal_record.specs.declared.said.Said.TheVariants as said
 use Rattle.esm_journal_record.specs.EntryPayload.{entry_payload, AllMayBeSaid}
 use Rattle.esm_journal_record.specs.Parsing.{said_of}
 use Rattle.esm_journal_state.specs.Compact.{SameSaid}
-use Rattle.esm_journal_state.specs.Meaning.{history, are_good, fate_said, tries_said, replayed_said}
+use Rattle.esm_journal_state.specs.Meaning.{history, are_good, fate_said, tries_said, state_said, window_tries_said, replayed_said}
 use Rattle.esm_journal_state.specs.SaidLists.{SaidLists}
 use Rattle.esm_journal_state.specs.Tells.{Tells}
 use Rattle.esm_replay.specs.Coming.{first_change}
@@ -162,7 +162,9 @@ pub record IsOfAnswer (r : ReplayRun) (payload : List ℕ) : Type 0 where
 abbrev pub EachIsAnswered : ReplayRun → Type 0
 EachIsAnswered r = (front back : List (List ℕ)) (payload : List ℕ) → r.left ≡ front ++ payload ∷ back → IsOfAnswer r payload
 
--- fates and tries are as they were
+-- fates and tries are as they were, and so are the states of windows and the tries of their final calls
 pub record FatesAndTriesStay (later before : List Stage) : Type 0 where
   pub fates : (n i : ℕ) → fate_said (saids (later ++ before)) n i ≡ fate_said (saids before) n i
   pub tries : (n i : ℕ) → tries_said (saids (later ++ before)) n i ≡ tries_said (saids before) n i
+  pub states : (n w : ℕ) → state_said (saids (later ++ before)) n w ≡ state_said (saids before) n w
+  pub window_tries : (n w : ℕ) → window_tries_said (saids (later ++ before)) n w ≡ window_tries_said (saids before) n w

@@ -29,7 +29,7 @@ pub fn each_is_answered()
     ensures { (r : ReplayRun) (before : List Stage) → IsLife (Replay r ∷ before) → EachIsAnswered r }
 {}
 
-/// Replays leave fates and tries as they were, and so do rewritings between them.
+/// Replays leave fates and tries as they were, also what is kept of windows, and so do rewritings between them.
 pub fn fates_and_tries_stay()
     ensures { (later before : List Stage) → IsLife (later ++ before) → AreReplays later → FatesAndTriesStay later before }
 {}

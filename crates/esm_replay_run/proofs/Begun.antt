@@ -36,7 +36,7 @@ module _ {S D F : Type 0} (t : Telling D F) (faults : S → ℕ) (left : S → O
   refused (Ok e) none is = refused_end e none is
   refused (Err memory) none is = tt
 
-  pub stopped_before : (why : Result ReplayEnd OutOfMemory) → HasNotBegun t f old new reading old_caller new_caller h disks → OnErr why (HasStoppedRun t left config calls f old new reading old_caller new_caller h counts disks)
+  pub stopped_before : (why : Result ReplayEnd OutOfMemory) → HasNotBegun t f old new reading old_caller new_caller h disks → OnErr why (HasStoppedRun t faults left config calls f old new reading old_caller new_caller h counts disks)
   stopped_before (Ok e) none = tt
   stopped_before (Err memory) none = inl none
 

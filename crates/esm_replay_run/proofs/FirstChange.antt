@@ -69,12 +69,16 @@ same_behind told a b (r ∷ rs) same =
 or_some : (a b : Option Change) (change : Change) → a ≡ Some change → option_or a b ≡ Some change
 or_some a b change is = ap (λ (o : Option Change). option_or o b) is
 
+-- behind lists of each shard that are the same a list brings the same change
+pub differs_behind : (told : SaidLists) (own front list : List Record) (change : Change) → ((n : ℕ) → of_shard n own ≡ of_shard n front) → first_change told own list ≡ Some change → first_change told front list ≡ Some change
+differs_behind told own front list change came differs = same_behind told front own list (λ n. ap (λ (xs : List Record). length xs) (sym (came n))) ∙ differs
+
 -- behind the first records, none of which was kept otherwise, a list brings the change
 pub first_is : (told : SaidLists) (own front list rest : List Record) (change : Change) → first_change told [] own ≡ None → ((n : ℕ) → of_shard n own ≡ of_shard n front) → first_change told own list ≡ Some change
     → first_change told [] (front ++ (list ++ rest)) ≡ Some change
 first_is told own front list rest change none came differs =
     let unchanged : NoneDiffers told front = first_unchanged told front own (λ n. ([], came n ∙ sym (append-nil (of_shard n front)))) (none_differs told own none) in
-    let here : first_change told front list ≡ Some change = same_behind told front own list (λ n. ap (λ (xs : List Record). length xs) (sym (came n))) ∙ differs in
+    let here : first_change told front list ≡ Some change = differs_behind told own front list change came differs in
     change-append told [] front (list ++ rest)
     ∙ (ap (λ (o : Option Change). option_or o (first_change told front (list ++ rest))) (none_first told front unchanged)
     ∙ (change-append told front list rest ∙ or_some (first_change told front list) (first_change told (front ++ list) rest) change here))

@@ -12,22 +12,23 @@ use Rattle.esm_model.specs.declared.book.Trouble.TheVariants.{Disk, Dest, Change
 use Rattle.esm_model.specs.declared.entry.Entry.{Entry}
 use Rattle.esm_book.specs.State.{in_hand, is_disk}
 use Rattle.esm_journal_record.specs.EntryPayload.{entry_payload, AllMayBeSaid}
+use Rattle.esm_journal_state.specs.Meaning.{replayed_said}
 use Rattle.esm_journal_state.specs.SaidLists.{SaidLists, is_replay_told}
 use Rattle.esm_folder.specs.Upkeep.{AreHonest, OneRose, PairHolds}
 use Rattle.esm_folder.proofs.OpenedDisks.{are_honest, pair_holds}
-use Rattle.esm_replay_model.specs.ReplaySetting.{ReplaySetting}
+use Rattle.esm_replay_model.specs.ReplaySetting.{ReplaySetting, is_found_replayed}
 use Rattle.esm_replay_model.specs.ReplayRun.{owed_replay, IsReplay}
 use Rattle.esm_replay_core.specs.declared.decisions.Opened.{Opened}
 use Rattle.esm_replay_core.specs.View.{setting_of}
 use Rattle.esm_replay_book.specs.Books.{BookState, OpensToFirst, payloads_in}
-use Rattle.esm_replay_book.specs.Keeping.{entries_left, IsCause, IsSound, IsUncalled}
+use Rattle.esm_replay_book.specs.Keeping.{entries_left, IsCause, IsSound, IsUncalled, OwesReplay}
 use Rattle.esm_replay_book.specs.Serving.{AreGiven}
 use Rattle.esm_runner.specs.Files.{FilesState}
 use Rattle.esm_runner.specs.Headline.{PairStopped}
 use Rattle.esm_runner.proofs.Headlines.{in_hand_few, is_in_hand, not_disk}
 use Rattle.esm_runner.proofs.Stopped.{HasGoneDown, filter_map_few, pair_stopped}
 use Rattle.esm_replay_run.specs.Ended.{JournalRose}
-use Rattle.esm_replay_run.specs.Headline.{Disks, CrashKept, Headline, JournalKept, JournalStopped}
+use Rattle.esm_replay_run.specs.Headline.{Disks, CrashKept, Headline, JournalKept, JournalStopped, said_before}
 use Rattle.esm_replay_run.specs.Laws.{AreLaws}
 use Rattle.esm_replay_run.specs.Runs.{IsLeft}
 use Rattle.esm_replay_run.proofs.Sayings.{says_after}
@@ -161,21 +162,32 @@ hand_run s (Some Disk) owed h run ahead = first_run s owed h run ahead
 hand_run s (Some Dest) owed h run ahead = run
 hand_run s (Some (Changed change)) owed h run ahead = run
 
+-- where a disk failed it is what is owed
+hand_owed : {D : Type 0} (b : BookState D) → OwesReplay (setting_of b.core) b.core.past b.core.owed → b.trouble ≡ Some Disk → OwesReplay (setting_of b.core) b.core.past (in_hand b.trouble b.core.owed)
+hand_owed b owes disk = record {
+  some = owes.some;
+  is = ap (λ (why : Option Trouble). in_hand why b.core.owed) disk ∙ (ap (λ (es : List Entry). take 1 es) owes.is);
+}
+
 -- all of it
 pub headline : {D : Type 0} (m : DiskMeaning D) (gave : ℕ → Bool) (f : FilesState D) (b : BookState D) (new : Disks D) → AreLaws → IsLeft m f b → AreOf f b new → b.core.opened.said ≡ f.said → AreGiven gave b.core.past
     → Headline m gave f (setting_of b.core) b.core.past b.trouble (in_hand b.trouble b.core.owed) new
 headline {D} m gave f b new laws left of said given =
     let s = setting_of b.core in
     let hand : IsReplay s (in_hand b.trouble b.core.owed ++ b.core.past) = hand_run s b.trouble b.core.owed b.core.past left.run left.ahead in
+    let may : AllMayBeSaid s.base (in_hand b.trouble b.core.owed ++ b.core.past) = hand_said s b.trouble b.core.owed b.core.past left.may_be_said in
+    let found : (n i : ℕ) → is_found_replayed s n i ≡ replayed_said (said_before f) n i = λ n i. ap (λ (told : SaidLists). is_replay_told told n i) said ∙ left.files.tells.replays n i in
     record {
       legal_trace = left.run;
       hand_is_run = hand;
       moments = given;
       journal_kept = journal_kept m f b new left of;
       journal_stopped = journal_stopped m f b new left of;
-      may_be_said = hand_said s b.trouble b.core.owed b.core.past left.may_be_said;
-      journal_says = says_after f s b.core.past laws left.run (front_said s (reverse b.core.owed) b.core.past left.may_be_said) (λ n i. ap (λ (told : SaidLists). is_replay_told told n i) said ∙ left.files.tells.replays n i);
+      may_be_said = may;
+      journal_says = says_after f s b.core.past laws left.run (front_said s (reverse b.core.owed) b.core.past left.may_be_said) found;
+      hand_says = says_after f s (in_hand b.trouble b.core.owed ++ b.core.past) laws hand may found;
       in_hand = is_in_hand b.trouble b.core.owed;
+      hand_is_owed = λ disk. hand_owed b (left.owes disk) disk;
       crash = crash_kept m f b new left of;
       failures_same = of.failures;
       failures_read = subst (λ (d : D). IsOnlyRead m f.failures d) (sym of.failures) left.files.lines_read;
@@ -185,6 +197,7 @@ headline {D} m gave f b new laws left of said given =
       replayed_as_answered = laws.answered s b.core.past left.run;
       succeeded_are_replayed = laws.succeeded s b.core.past left.run;
       hand_replayed_once = laws.once s (in_hand b.trouble b.core.owed ++ b.core.past) hand;
+      hand_calls_named = laws.named s (in_hand b.trouble b.core.owed ++ b.core.past) hand;
       hand_as_answered = laws.answered s (in_hand b.trouble b.core.owed ++ b.core.past) hand;
       replayed_or_left = laws.left s b.core.past left.run;
       calls_within = laws.within s b.core.past left.run;

@@ -1,6 +1,7 @@
 -- How a run ended, from how its caller did.
-use Rattle.std.proofs.Common.{◌≡◌, ◌∙◌, ◌*◌, ◌≤◌, ◌⊎◌, ℕ, Bool, true, false, List, [], ◌∷◌, ◌++◌, length, Result, Ok, Err, Option, Some, None, ap, refl, subst, sym, inl, inr, append-nil, append_assoc}
+use Rattle.std.proofs.Common.{◌≡◌, ◌∙◌, ◌+◌, ◌*◌, ◌≤◌, ◌⊎◌, ℕ, Bool, true, false, List, [], ◌∷◌, ◌++◌, length, Result, Ok, Err, Option, Some, None, ap, arith, refl, subst, sym, inl, inr, append-nil, append_assoc}
 use Rattle.std.specs.Prelude.{IfOk, IsErr, OnErr, OnOk, is_some}
+use Rattle.std.proofs.lemmas.List.{length-append}
 use Rattle.esm_io.specs.Faults.{Rose}
 use Rattle.esm_io.specs.Meanings.{DiskMeaning}
 use Rattle.esm_io.specs.Told.{Grows, TakesFront}
@@ -11,8 +12,10 @@ use Rattle.esm_model.specs.declared.called.Called.{Called}
 use Rattle.esm_model.specs.declared.config.Config.{Config}
 use Rattle.esm_model.specs.declared.config.Start.{Start}
 use Rattle.esm_model.specs.declared.entry.Entry.{Entry}
+use Rattle.esm_model.specs.declared.entry.Entry.TheVariants.{Came, Began, Ended, Gave, Tried, Closed, Replayed, Shut}
 use Rattle.esm_model.specs.Entries.{calls_begun}
 use Rattle.esm_model.specs.declared.item.Item.{Item}
+use Rattle.esm_model.specs.declared.item.Item.TheVariants.{Stream, Queue}
 use Rattle.esm_model.specs.declared.item.Record.{Record}
 use Rattle.esm_model.specs.declared.item.LineKind.{LineKind}
 use Rattle.esm_model.specs.declared.item.LineKind.TheVariants as kinds
@@ -20,18 +23,18 @@ use Rattle.esm_model.specs.declared.memory.OutOfMemory.{OutOfMemory}
 use Rattle.esm_model.specs.Coming.{AreCome, AreSomeCome}
 use Rattle.esm_book.specs.State.{in_hand}
 use Rattle.esm_input.specs.Positions.{from_start}
-use Rattle.esm_input.specs.Reading.{InputState, IsInput, handed, items_read}
+use Rattle.esm_input.specs.Reading.{InputState, IsInput, StandsSo, handed, items_read}
 use Rattle.esm_journal_state.specs.SaidLists.{SaidLists}
 use Rattle.esm_serial.specs.declared.serial.Serial.{Ghosts as Serial}
 use Rattle.esm_serial.specs.declared.running.RunEnd.{RunEnd}
 use Rattle.esm_serial.specs.declared.running.RunEnd.TheVariants as ran
 use Rattle.esm_serial.specs.Adding.{call_to}
-use Rattle.esm_serial.specs.Ran.{IsSameInput, HasCalled, HasOneMore as OneMoreRuns, EndsSo, CameSo, AllCame as AllItemsCame, IsChangeOf, IsCut}
+use Rattle.esm_serial.specs.Ran.{IsSameInput, HasCalled, HasOneMore as OneMoreRuns, EndsSo, CameSo, StopsSo, AllCame as AllItemsCame, IsChangeOf, IsCut}
 use Rattle.esm_replay.specs.Records.{of_shard, setting_with}
 use Rattle.esm_replay_model.specs.declared.range.Range.{Range}
 use Rattle.esm_replay_model.specs.Pieces.{replay_event}
 use Rattle.esm_replay_model.specs.ReplaySetting.{ReplaySetting, replay_config}
-use Rattle.esm_replay_model.specs.ReplayRun.{call_out, replay_calls, IsReplay}
+use Rattle.esm_replay_model.specs.ReplayRun.{call_out, owed_replay, replay_calls, IsReplay}
 use Rattle.esm_replay_core.specs.declared.decisions.Opened.{Opened}
 use Rattle.esm_replay_core.specs.View.{ReplayView, setting_of, new_view}
 use Rattle.esm_replay.specs.Coming.{first_change}
@@ -46,11 +49,11 @@ use Rattle.esm_replay_run.specs.declared.run.ReplayEnd.{ReplayEnd}
 use Rattle.esm_replay_run.specs.declared.run.ReplayEnd.TheVariants as end
 use Rattle.esm_replay_run.specs.Counts.{AreCounts, AreFewCalls}
 use Rattle.esm_replay_run.specs.Headline.{Disks, Headline, IsSettingOf, SomeCame}
-use Rattle.esm_replay_run.specs.Ended.{Telling, AllCame, trouble_of, IsCauseOf, HasRun, IsFaultOf, HasLogged, HasStopped}
+use Rattle.esm_replay_run.specs.Ended.{Telling, AllCame, IsChanged, trouble_of, IsCauseOf, HasRun, IsFaultOf, HasLogged, WasReadFirst, HasStopped}
 use Rattle.esm_replay_run.specs.Ending.{IsReason, HasReason, EndsBy, IsEndOf}
 use Rattle.esm_replay_run.specs.Laws.{AreLaws}
 use Rattle.esm_replay_run.specs.Runs.{IsLeft, new_input}
-use Rattle.esm_replay_run.proofs.FirstChange.{first_is, none_is}
+use Rattle.esm_replay_run.proofs.FirstChange.{differs_behind, first_is, none_is}
 use Rattle.esm_replay_run.proofs.Headlines.{AreOf, disk_rose, headline}
 
 -- a replay's book as one caller calls for it
@@ -101,11 +104,11 @@ pub record HasCome {S D F : Type 0} (t : Telling D F) (faults : S → ℕ) (left
       ⊎ OneMoreRuns replays t.callers.gave t.callers.sends before b (t.callers.log old_caller) (t.callers.log new_caller))
   pub ended : IfOk r (EndsSo replays b)
   pub came : IfOk r (CameSo replays t.callers.gave before b i (t.callers.log old_caller) (t.callers.log new_caller))
-  pub changed : (change : Change) → change_in b ≡ Some change → IsChangeOf replays t.callers.gave t.callers.sends before i change
+  pub changed : (change : Change) → change_in b ≡ Some change → IsChangeOf replays t.callers.gave t.callers.sends before b i change
   pub no_change : OnErr r (change_in b ≡ None)
   pub read : OnOk r (IsInput faults left i)
   pub good : OnOk r (i.failed ≡ false)
-  pub cut : OnErr r (IsCut left i (items_in b))
+  pub cut : OnErr r (StopsSo replays t.callers.gave faults left before b i (t.callers.log old_caller) (t.callers.log new_caller))
   pub input : IsSameInput begun i
 
 -- what went on since the opening
@@ -160,6 +163,33 @@ all_records f i b said unchanged came =
       unchanged = none_is f.said b.core.records (records_in_items (handed i)) (unchanged_in f b said unchanged) lists;
     }
 
+-- where what succeeded in a call is owed, a call was made
+
+none_owed : 1 ≤ 0 → ⊥
+none_owed less = absurd (omega (arith, less))
+
+owes_called : (s : ReplaySetting) (sends : List ℕ → List ℕ) (h : List Entry) → 1 ≤ length (owed_replay s h).places → replay_calls s sends h ≡ [] → ⊥
+owes_called s sends [] some none = none_owed some
+owes_called s sends (Ended lane reply m ∷ h) some none =
+    let last : Called = record { name = s.base.config.function; event = sends (replay_event s (call_out h)); reply = reply } in
+    let both : length (replay_calls s sends h ++ last ∷ []) ≡ length (replay_calls s sends h) + 1 = length-append (replay_calls s sends h) (last ∷ []) in
+    let short : length (replay_calls s sends h ++ last ∷ []) ≡ 0 = ap (λ (cs : List Called). length cs) none in
+    absurd (omega (arith, both, short))
+owes_called s sends (Came shard first count m ∷ h) some none = none_owed some
+owes_called s sends (Began lane places closing m ∷ h) some none = none_owed some
+owes_called s sends (Gave by shard places fate line state m ∷ h) some none = none_owed some
+owes_called s sends (Tried lane places closing tries m ∷ h) some none = none_owed some
+owes_called s sends (Closed lane window m ∷ h) some none = none_owed some
+owes_called s sends (Replayed shard places m ∷ h) some none = none_owed some
+owes_called s sends (Shut m ∷ h) some none = none_owed some
+
+-- so a book that is down by a disk was not refused
+disk_came : {S D : Type 0} (config : Config) (calls : ℕ) (gave : ℕ → Bool) (sends : List ℕ → List ℕ) (f : FilesState D) (before b : BookState D) (i : InputState S) (log log' : Option (List Called))
+    → StoodSo config calls f before → IsSound b → b.trouble ≡ Some trouble.Disk → CameSo replays gave before b i log log' ran.Down → AllItemsCame replays b i
+disk_came config calls gave sends f before b i log log' stood sound disk (inl all) = all
+disk_came config calls gave sends f before b i log log' stood sound disk (inr refused) =
+    absurd (owes_called (setting_of b.core) sends b.core.past (sound.owes disk).some (went_on config calls gave sends f before b [] stood (refused.uncalled sends)).called)
+
 -- why it ended
 
 abbrev pub IsCauseIn : {D : Type 0} → DiskMeaning D → BookState D → Option Trouble → Type 0
@@ -188,22 +218,39 @@ reason_of m gave before i b log log' (Err none) cause came so = tt
 
 -- the change
 
-change_first : {S D : Type 0} (config : Config) (calls : ℕ) (gave : ℕ → Bool) (sends : List ℕ → List ℕ) (f : FilesState D) (before : BookState D) (i : InputState S) (change : Change) → StoodSo config calls f before
-    → IsChangeOf replays gave sends before i change → first_change f.said [] (records_in_items (handed i)) ≡ Some change
-change_first config calls gave sends f before i change stood of =
+few_records : (xs : List Item) → length (records_in_items xs) ≤ length xs
+few_records [] = omega arith
+few_records (Stream r ∷ xs) = (let few = few_records xs in omega (arith, few))
+few_records (Queue m ∷ xs) = (let few = few_records xs in omega (arith, few))
+
+change_is : {S D : Type 0} (config : Config) (calls : ℕ) (gave : ℕ → Bool) (sends : List ℕ → List ℕ) (f : FilesState D) (before b : BookState D) (i : InputState S) (change : Change) → StoodSo config calls f before
+    → IsChangeOf replays gave sends before b i change → b.core.past ≡ [] → IsChanged f.said b.core.records b.core.past (records_in_items (handed i)) change
+change_is config calls gave sends f before b i change stood of uncalled =
     let w = of.before in
     let went = went_on config calls gave sends f before w [] stood of.since in
     let front = records_in_items of.front in
     let list = records_in_items of.list in
     let rest = records_in_items of.rest in
-    let parts : records_in_items (handed i) ≡ front ++ (list ++ rest)
+    let parts : records_in_items (handed i) ≡ (front ++ list) ++ rest
     = ap records_in_items of.handed_out
     ∙ (items-append (of.front ++ of.list) of.rest
-    ∙ (ap (λ (rs : List Record). rs ++ rest) (items-append of.front of.list)
-    ∙ append_assoc front list rest)) in
+    ∙ ap (λ (rs : List Record). rs ++ rest) (items-append of.front of.list)) in
+    let had_come = all_come w of.front of.had_come in
+    let fewer = few_records of.list in
+    let within = of.few in
     let unchanged : first_change f.said [] w.core.records ≡ None = ap (λ (told : SaidLists). first_change told [] w.core.records) (sym went.said) ∙ went.unchanged in
     let differs : first_change f.said w.core.records list ≡ Some change = ap (λ (told : SaidLists). first_change told w.core.records list) (sym went.said) ∙ of.differs_so in
-    ap (first_change f.said []) parts ∙ first_is f.said w.core.records front list rest change unchanged (all_come w of.front of.came) differs
+    record {
+      first = ap (first_change f.said []) (parts ∙ append_assoc front list rest) ∙ first_is f.said w.core.records front list rest change unchanged had_come differs;
+      front = front;
+      list = list;
+      rest = rest;
+      parts = parts;
+      few = omega (arith, fewer, within);
+      lists = all_come b of.front of.came;
+      differs = differs_behind f.said w.core.records front list change had_come differs;
+      uncalled = uncalled;
+    }
 
 -- how many calls
 
@@ -225,7 +272,7 @@ module _ {S D F : Type 0} (t : Telling D F) (faults : S → ℕ) (left_in : S �
   LogNow = t.callers.log new_caller
 
   cause_of : (e : ReplayEnd) (r : RunEnd) → AreLaws → StoodSo config calls f before → IsLeft t.disk f b → AreOf f b new → IsCauseIn t.disk b b.trouble → IsSound b → b.core.opened.said ≡ f.said → IsUnchanged b
-      → ((change : Change) → change_in b ≡ Some change → IsChangeOf replays t.callers.gave t.callers.sends before i change) → CameSo replays t.callers.gave before b i Log LogNow r → EndsSo replays b r → IsEndOf r b.trouble i.end e
+      → ((change : Change) → change_in b ≡ Some change → IsChangeOf replays t.callers.gave t.callers.sends before b i change) → CameSo replays t.callers.gave before b i Log LogNow r → EndsSo replays b r → IsEndOf r b.trouble i.end e
       → IsCauseOf t.disk f (setting_of b.core) b.core.records b.core.past (records_in_items (handed i)) i.end new e
   cause_of (end.Finished why) r laws stood left of cause sound said unchanged changed came so is =
       let all = subst (CameSo replays t.callers.gave before b i Log LogNow) is.0 came in
@@ -237,13 +284,12 @@ module _ {S D F : Type 0} (t : Telling D F) (faults : S → ℕ) (left_in : S �
       let over = subst (EndsSo replays b) is so in
       (all_records f i b said unchanged all, all.ended, over.1.calls, over.1.left)
   cause_of end.DiskFault r laws stood left of cause sound said unchanged changed came so is =
-      disk_rose t.disk f b new left of (subst (IsCauseIn t.disk b) is.1 cause)
+      let down = subst (CameSo replays t.callers.gave before b i Log LogNow) is.0 came in
+      let all = disk_came config calls t.callers.gave t.callers.sends f before b i Log LogNow stood sound is.1 down in
+      (all_records f i b said unchanged all, all.ended, disk_rose t.disk f b new left of (subst (IsCauseIn t.disk b) is.1 cause))
   cause_of (end.Changed change) r laws stood left of cause sound said unchanged changed came so is =
       let told : change_in b ≡ Some change = ap (λ (why : Option Trouble). change_in (record b { trouble = why })) is.1 in
-      record {
-        first = change_first config calls t.callers.gave t.callers.sends f before i change stood (changed change told);
-        uncalled = subst (λ (why : Option Trouble). IsUncalled why b.core.past) is.1 sound.uncalled;
-      }
+      change_is config calls t.callers.gave t.callers.sends f before b i change stood (changed change told) (subst (λ (why : Option Trouble). IsUncalled why b.core.past) is.1 sound.uncalled)
   cause_of (end.BadLine index) r laws stood left of cause sound said unchanged changed came so is = is
 
   trouble_is : (e : ReplayEnd) (r : RunEnd) → EndsSo replays b r → IsEndOf r b.trouble i.end e → b.trouble ≡ trouble_of e
@@ -254,7 +300,7 @@ module _ {S D F : Type 0} (t : Telling D F) (faults : S → ℕ) (left_in : S �
   trouble_is (end.BadLine index) r so is = absurd is
 
   ended : (e : ReplayEnd) (r : RunEnd) → AreLaws → StoodSo config calls f before → IsLeft t.disk f b → AreOf f b new → IsCauseIn t.disk b b.trouble → IsSound b → AreCounts (setting_of b.core) b.core.past counts → IsMadeFor config old i
-      → ((change : Change) → change_in b ≡ Some change → IsChangeOf replays t.callers.gave t.callers.sends before i change)
+      → ((change : Change) → change_in b ≡ Some change → IsChangeOf replays t.callers.gave t.callers.sends before b i change)
       → HasCalled replays t.callers.gave t.callers.sends before b Log LogNow → DoesRest b → i.failed ≡ false → IsInput faults left_in i → CameSo replays t.callers.gave before b i Log LogNow r → EndsSo replays b r → IsEndOf r b.trouble i.end e
       → HasRun t faults left_in config calls f old i.source i.end old_caller new_caller b.core.past counts new e
   ended e r laws stood left of cause sound are_counts made changed called rests good read came so is =
@@ -312,21 +358,55 @@ module _ {S D F : Type 0} (t : Telling D F) (faults : S → ℕ) (left_in : S �
             (subst (λ (event : List ℕ). Grows Log LogNow (more.calls ++ call_to (function_in b) t.callers.sends event more.reply ∷ [])) more.running.event more.logged);
       })
 
-  stopped : AreLaws → StoodSo config calls f before → IsLeft t.disk f b → AreOf f b new → IsCauseIn t.disk b b.trouble → AreCounts (setting_of b.core) b.core.past counts → IsMadeFor config old i → Logged → IsCut left_in i (items_in b) → change_in b ≡ None
-      → HasStopped t left_in config calls f old i.source old_caller new_caller b.core.past counts new
-  stopped laws stood left of cause are_counts made logged cut no_change =
+  -- the input, where want of memory came
+
+  abbrev IsCutSo : Type 0
+  IsCutSo = (cut : IsCut left_in i (items_in b)) × ((b.core.past ≡ [] → ⊥) → WasReadFirst faults config f.said old i.source cut.whole cut.bytes cut.more b.core.records i.end)
+
+  cut_so : IsMadeFor config old i → b.core.opened.said ≡ f.said → IsUnchanged b → StopsSo replays t.callers.gave faults left_in before b i Log LogNow → IsCutSo
+  cut_so made said unchanged (inl was) =
+      let items : LineKind → ℕ → Start → List Item = λ kind factor start. from_start start (items_read kind factor i.whole i.bytes).items in (
+        record {
+          bytes = i.bytes;
+          more = [];
+          whole = i.whole;
+          taken = subst (TakesFront (left_in i.found) (left_in i.source)) (sym (append-nil i.bytes)) was.read.taken;
+          at_end = was.read.at_end;
+          some = λ n. ([], sym (was.all.items n) ∙ sym (append-nil (items_in b n)));
+        },
+        λ called. record {
+          ended = was.all.ended;
+          stands = subst (λ (kind : LineKind). StandsSo kind config.factor (faults old) (faults i.source) i.whole i.bytes i.end) made.kind
+              (subst (λ (factor : ℕ). StandsSo i.kind factor (faults old) (faults i.source) i.whole i.bytes i.end) made.factor
+              (subst (λ (s : S). StandsSo i.kind i.factor (faults s) (faults i.source) i.whole i.bytes i.end) made.found (was.read.stands was.good)));
+          nothing_more = refl;
+          all = subst (λ (kind : LineKind). AllCame f.said b.core.records (records_in_items (items kind config.factor config.start))) made.kind
+              (subst (λ (factor : ℕ). AllCame f.said b.core.records (records_in_items (items i.kind factor config.start))) made.factor
+              (subst (λ (start : Start). AllCame f.said b.core.records (records_in_items (items i.kind i.factor start))) made.start
+              (all_records f i b said unchanged was.all)));
+        },
+      )
+  cut_so made said unchanged (inr was) = (was.cut, λ called. absurd (called was.going))
+
+  stopped : AreLaws → StoodSo config calls f before → IsLeft t.disk f b → AreOf f b new → IsCauseIn t.disk b b.trouble → AreCounts (setting_of b.core) b.core.past counts → IsMadeFor config old i → Logged
+      → StopsSo replays t.callers.gave faults left_in before b i Log LogNow → change_in b ≡ None → HasStopped t faults left_in config calls f old i.source i.end old_caller new_caller b.core.past counts new
+  stopped laws stood left of cause are_counts made logged stops no_change =
       let on = (went stood logged).1 in
+      let so = cut_so made on.said on.unchanged stops in
+      let cut = so.0 in
       let items : LineKind → ℕ → Start → List Item = λ kind factor start. from_start start (items_read kind factor cut.whole cut.bytes).items in
       record {
         bytes = cut.bytes;
         more = cut.more;
         whole = cut.whole;
         taken = subst (λ (s : S). TakesFront (left_in s) (left_in i.source) (cut.bytes ++ cut.more)) made.found cut.taken;
+        at_end = cut.at_end;
         came = b.core.records;
         some_came = subst (λ (kind : LineKind). SomeCame b.core.records (records_in_items (items kind config.factor config.start))) made.kind
             (subst (λ (factor : ℕ). SomeCame b.core.records (records_in_items (items i.kind factor config.start))) made.factor
             (subst (λ (start : Start). SomeCame b.core.records (records_in_items (items i.kind i.factor start))) made.start
             (some_come b (items i.kind i.factor i.start) cut.some)));
+        called_last = so.1;
         unchanged = unchanged_in f b on.said on.unchanged;
         setting = setting_of b.core;
         is_setting = on.is_setting;
@@ -348,7 +428,7 @@ module _ {S D F : Type 0} (t : Telling D F) (faults : S → ℕ) (left_in : S �
   ended_by begun (Err none) e laws stood left of cause sound are_counts made come is = absurd is
 
   pub stopped_by : (begun : InputState S) (r : Result RunEnd OutOfMemory) → AreLaws → StoodSo config calls f before → IsLeft t.disk f b → AreOf f b new → IsCauseIn t.disk b b.trouble → AreCounts (setting_of b.core) b.core.past counts → IsMadeFor config old i
-      → HasCome t faults left_in before b begun i old_caller new_caller r → IsErr r → HasStopped t left_in config calls f old i.source old_caller new_caller b.core.past counts new
+      → HasCome t faults left_in before b begun i old_caller new_caller r → IsErr r → HasStopped t faults left_in config calls f old i.source i.end old_caller new_caller b.core.past counts new
   stopped_by begun (Ok r) laws stood left of cause are_counts made come short = absurd (let clash : false ≡ true = short in cc)
   stopped_by begun (Err none) laws stood left of cause are_counts made come short = stopped laws stood left of cause are_counts made come.stopped come.cut come.no_change
 

@@ -1,7 +1,7 @@
 -- Why a run of a replay ended so, and what it left. This product's own.
-use Rattle.std.specs.Prelude.{◌≡◌, ◌⊎◌, ◌*◌, ◌≤◌, ◌∷◌, ◌++◌, ℕ, Bool, false, List, [], length, Option, Some, None, IsSome}
+use Rattle.std.specs.Prelude.{◌≡◌, ◌⊎◌, ◌*◌, ◌≤◌, ◌∷◌, ◌++◌, ℕ, Bool, true, false, List, [], length, Option, Some, None, IsSome}
 use Rattle.esm_io.specs.Meanings.{DiskMeaning}
-use Rattle.esm_io.specs.Told.{Grows, TakesFront}
+use Rattle.esm_io.specs.Told.{Grows, TakesFront, IsAtEnd}
 use Rattle.esm_journal.specs.Pair.{first_disk, second_disk}
 use Rattle.esm_model.specs.declared.book.Change.{Change}
 use Rattle.esm_model.specs.declared.book.Trouble.{Trouble}
@@ -12,11 +12,12 @@ use Rattle.esm_model.specs.declared.entry.Entry.{Entry}
 use Rattle.esm_model.specs.declared.entry.Reply.{Reply}
 use Rattle.esm_model.specs.declared.item.Record.{Record}
 use Rattle.esm_model.specs.declared.item.LineKind.TheVariants as kinds
+use Rattle.esm_model.specs.declared.limits.TheConstants.{MAX_BATCH}
 use Rattle.esm_model.specs.Entries.{calls_begun}
 use Rattle.esm_folder.specs.Upkeep.{OneRose}
 use Rattle.esm_input.specs.declared.ending.InputEnd.{InputEnd}
 use Rattle.esm_input.specs.Positions.{from_start}
-use Rattle.esm_input.specs.Reading.{InputState, IsInput, items_read, handed}
+use Rattle.esm_input.specs.Reading.{InputState, IsInput, StandsSo, items_read, handed}
 use Rattle.esm_workers.specs.Working.{Outside}
 use Rattle.esm_replay.specs.Records.{of_shard}
 use Rattle.esm_replay_model.specs.ReplaySetting.{ReplaySetting}
@@ -55,9 +56,17 @@ trouble_of end.DiskFault = Some trouble.Disk
 trouble_of (end.Changed change) = Some (trouble.Changed change)
 trouble_of (end.BadLine index) = None
 
--- the record that changed is the first of the input that did, and no call was made
-pub record IsChanged (said : SaidLists) (h : List Entry) (records : List Record) (change : Change) : Type 0 where
+-- The record that changed is the first of the input that did. The list that it is in, of at most `MAX_BATCH` records, was
+-- refused whole: exactly the records before the list came, and no call was made.
+pub record IsChanged (said : SaidLists) (came : List Record) (h : List Entry) (records : List Record) (change : Change) : Type 0 where
   pub first : first_change said [] records ≡ Some change
+  pub front : List Record
+  pub list : List Record
+  pub rest : List Record
+  pub parts : records ≡ front ++ list ++ rest
+  pub few : length list ≤ MAX_BATCH
+  pub lists : (n : ℕ) → of_shard n came ≡ of_shard n front
+  pub differs : first_change said front list ≡ Some change
   pub uncalled : h ≡ []
 
 -- the faults of a disk of the journal rose since it was opened
@@ -65,13 +74,13 @@ abbrev pub JournalRose : {D : Type 0} → DiskMeaning D → FilesState D → Dis
 JournalRose m f new = OneRose m (first_disk f.pair) (second_disk f.pair) new.journal new.spare
 
 -- why: nothing is left to call, so that each named record was replayed or its last call left it, and the reading ended for
--- this; all calls allowed began, and something is left to call; the faults of a disk of the journal rose in the run; or a
--- record came with another text than was kept of its place, the first of the input that did
+-- this; all calls allowed began, and something is left to call; the faults of a disk of the journal rose in the run, once all
+-- records had come; or a record came with another text than was kept of its place, the first of the input that did
 abbrev pub IsCauseOf : {D : Type 0} → DiskMeaning D → FilesState D → ReplaySetting → (came : List Record) → List Entry → (records : List Record) → (reading : Option InputEnd) → Disks D → ReplayEnd → Type 0
 IsCauseOf m f s came h records reading new (end.Finished why) = AllCame f.said came records × (reading ≡ Some why) × (pieces_left s h ≡ []) × AllReplayedOrLeft s h
 IsCauseOf m f s came h records reading new end.CallsSpent = AllCame f.said came records × IsSome reading × (calls_begun h ≡ s.base.calls) × (pieces_left s h ≡ [] → ⊥)
-IsCauseOf m f s came h records reading new end.DiskFault = JournalRose m f new
-IsCauseOf m f s came h records reading new (end.Changed change) = IsChanged f.said h records change
+IsCauseOf m f s came h records reading new end.DiskFault = AllCame f.said came records × IsSome reading × JournalRose m f new
+IsCauseOf m f s came h records reading new (end.Changed change) = IsChanged f.said came h records change
 IsCauseOf m f s came h records reading new (end.BadLine index) = ⊥
 
 -- the input of a run of the configuration, as it was read
@@ -136,15 +145,28 @@ pub record HasOneMore (sends : List ℕ → List ℕ) (s : ReplaySetting) (h : L
 abbrev pub HasLogged : (List ℕ → List ℕ) → ReplaySetting → List Entry → (old new : Option (List Called)) → Type 0
 HasLogged sends s h old new = Grows old new (replay_calls s sends h) ⊎ HasOneMore sends s h old new
 
+-- the records of these bytes of the input
+abbrev pub records_read : Config → Bool → List ℕ → List Record
+records_read config whole bytes = records_in_items (from_start config.start (items_read kinds.Stream config.factor whole bytes).items)
+
+-- the reading of the input had ended for this, with these bytes, and all their records had come
+pub record WasReadFirst {S : Type 0} (faults : S → ℕ) (config : Config) (said : SaidLists) (old_input new_input : S) (whole : Bool) (bytes more : List ℕ) (came : List Record) (reading : Option InputEnd) : Type 0 where
+  pub ended : IsSome reading
+  pub stands : StandsSo kinds.Stream config.factor (faults old_input) (faults new_input) whole bytes reading
+  pub nothing_more : more ≡ []
+  pub all : AllCame said came (records_read config whole bytes)
+
 -- Want of memory stopped it: these bytes were read, the records of their lines came, or the first of them, and more bytes may
--- have been read after them. A disk may have failed beside it.
-pub record HasStopped {S D F : Type 0} (t : Telling D F) (left : S → Option (List ℕ)) (config : Config) (calls : ℕ) (f : FilesState D) (old_input new_input : S) (old_caller new_caller : F) (h : List Entry) (counts : ReplayCounts) (new : Disks D) : Type 0 where
+-- have been read after them. A call began only once all records had come. A disk may have failed beside it.
+pub record HasStopped {S D F : Type 0} (t : Telling D F) (faults : S → ℕ) (left : S → Option (List ℕ)) (config : Config) (calls : ℕ) (f : FilesState D) (old_input new_input : S) (reading : Option InputEnd) (old_caller new_caller : F) (h : List Entry) (counts : ReplayCounts) (new : Disks D) : Type 0 where
   pub bytes : List ℕ
   pub more : List ℕ
   pub whole : Bool
   pub taken : TakesFront (left old_input) (left new_input) (bytes ++ more)
+  pub at_end : whole ≡ true → IsAtEnd (left new_input)
   pub came : List Record
-  pub some_came : SomeCame came (records_in_items (from_start config.start (items_read kinds.Stream config.factor whole bytes).items))
+  pub some_came : SomeCame came (records_read config whole bytes)
+  pub called_last : (h ≡ [] → ⊥) → WasReadFirst faults config f.said old_input new_input whole bytes more came reading
   -- none of which was kept with another text
   pub unchanged : first_change f.said [] came ≡ None
   pub setting : ReplaySetting
@@ -158,6 +180,6 @@ pub record HasStopped {S D F : Type 0} (t : Telling D F) (left : S → Option (L
   pub calls_made : HasLogged t.callers.sends setting h (t.callers.log old_caller) (t.callers.log new_caller)
 
 -- or it stopped before it began
-abbrev pub HasStoppedRun : {S D F : Type 0} → Telling D F → (left : S → Option (List ℕ)) → Config → (calls : ℕ) → FilesState D → (old_input new_input : S) → (reading : Option InputEnd) → (old_caller new_caller : F) → List Entry → ReplayCounts → Disks D → Type 0
-HasStoppedRun t left config calls f old_input new_input reading old_caller new_caller h counts new =
-    HasNotBegun t f old_input new_input reading old_caller new_caller h new ⊎ HasStopped t left config calls f old_input new_input old_caller new_caller h counts new
+abbrev pub HasStoppedRun : {S D F : Type 0} → Telling D F → (faults : S → ℕ) (left : S → Option (List ℕ)) → Config → (calls : ℕ) → FilesState D → (old_input new_input : S) → (reading : Option InputEnd) → (old_caller new_caller : F) → List Entry → ReplayCounts → Disks D → Type 0
+HasStoppedRun t faults left config calls f old_input new_input reading old_caller new_caller h counts new =
+    HasNotBegun t f old_input new_input reading old_caller new_caller h new ⊎ HasStopped t faults left config calls f old_input new_input reading old_caller new_caller h counts new

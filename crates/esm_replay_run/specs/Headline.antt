@@ -9,7 +9,7 @@ use Rattle.esm_model.specs.declared.entry.Entry.{Entry}
 use Rattle.esm_model.specs.declared.item.Record.{Record}
 use Rattle.esm_journal_record.specs.declared.said.Said.{Said}
 use Rattle.esm_journal_record.specs.EntryPayload.{AllMayBeSaid}
-use Rattle.esm_journal_state.specs.Meaning.{history, fate_said, tries_said, replayed_said}
+use Rattle.esm_journal_state.specs.Meaning.{history, fate_said, tries_said, state_said, window_tries_said, replayed_said}
 use Rattle.esm_folder.specs.Upkeep.{AreHonest, AreSettled, PairHolds}
 use Rattle.esm_replay.specs.Records.{of_shard, setting_with}
 use Rattle.esm_replay_model.specs.declared.range.Range.{Range}
@@ -18,6 +18,7 @@ use Rattle.esm_replay_model.specs.ReplayReport.{is_replayed}
 use Rattle.esm_replay_model.specs.ReplayRun.{IsReplay, owed_replay}
 use Rattle.esm_replay_model.specs.ReplayLaws.{ReplayedOnce, CallsNamed, ReplayedAsAnswered, SucceededAreReplayed, ReplayedOrLeft, CallsWithin}
 use Rattle.esm_replay_book.specs.Books.{payloads_in, OpensToFirst}
+use Rattle.esm_replay_book.specs.Keeping.{OwesReplay}
 use Rattle.esm_replay_book.specs.Opening.{GiveRanges}
 use Rattle.esm_replay_book.specs.Serving.{AreGiven}
 use Rattle.esm_runner.specs.Files.{FilesState}
@@ -66,11 +67,13 @@ said_before f = history (reverse f.pair.payloads)
 abbrev pub said_after : {D : Type 0} → FilesState D → ReplaySetting → List Entry → List Said
 said_after f s h = history (reverse (f.pair.payloads ++ payloads_in s (reverse h)))
 
--- By the journal's content fates and tries are as they were, and those records are replayed that were before and those that
--- the history replays.
+-- By the journal's content fates, tries and what is kept of windows are as they were, and those records are replayed that were
+-- before and those that the history replays.
 pub record JournalSays {D : Type 0} (f : FilesState D) (s : ReplaySetting) (h : List Entry) : Type 0 where
   pub fates : (n i : ℕ) → fate_said (said_after f s h) n i ≡ fate_said (said_before f) n i
   pub tries : (n i : ℕ) → tries_said (said_after f s h) n i ≡ tries_said (said_before f) n i
+  pub states : (n w : ℕ) → state_said (said_after f s h) n w ≡ state_said (said_before f) n w
+  pub window_tries : (n w : ℕ) → window_tries_said (said_after f s h) n w ≡ window_tries_said (said_before f) n w
   pub replays : (n i : ℕ) → replayed_said (said_after f s h) n i ≡ (is_found_replayed s n i || is_replayed h n i)
 
 -- What holds of a history, newest entry first, and of the disks after it, whatever ended the run.
@@ -87,10 +90,13 @@ pub record Headline {D : Type 0} (m : DiskMeaning D) (gave : ℕ → Bool) (f : 
   pub journal_stopped : trouble ≡ Some Disk → JournalStopped m f s h hand new
   -- each of these payloads is one that may be said, so that a later run reads it
   pub may_be_said : AllMayBeSaid s.base (hand ++ h)
-  -- what the journal's content then says
+  -- what the journal's content then says, also with the payload of the entry in hand
   pub journal_says : JournalSays f s h
-  -- an entry is in hand only where a disk of the journal failed, and then one at most
+  pub hand_says : JournalSays f s (hand ++ h)
+  -- an entry is in hand only where a disk of the journal failed: then it is the `Replayed` of what the last reply counts as
+  -- succeeded
   pub in_hand : IsInHand trouble hand
+  pub hand_is_owed : trouble ≡ Some Disk → OwesReplay s h hand
   -- what a crash leaves since the run's start: the old content followed by a prefix of the payloads of the trace
   pub crash : CrashKept m f s h hand new
   -- the failure file is as it was opened, and was only read
@@ -108,6 +114,7 @@ pub record Headline {D : Type 0} (m : DiskMeaning D) (gave : ℕ → Bool) (f : 
   pub succeeded_are_replayed : SucceededAreReplayed s h
   -- so it is also of what is in hand
   pub hand_replayed_once : ReplayedOnce s (hand ++ h)
+  pub hand_calls_named : CallsNamed s (hand ++ h)
   pub hand_as_answered : ReplayedAsAnswered s (hand ++ h)
   -- once nothing is left to call, each named record was replayed or its last call left it
   pub replayed_or_left : ReplayedOrLeft s h

@@ -15,7 +15,7 @@ use Rattle.esm_replay_model.specs.ReplaySetting.{replay_config}
 use Rattle.esm_replay_model.specs.ReplayRun.{IsReplay, owed_replay}
 use Rattle.esm_replay_core.specs.View.{setting_of, new_view, RunAhead, SaidAhead}
 use Rattle.esm_replay_book.specs.Books.{BookState, OpensToFirst, LeavesFirst, payloads_in}
-use Rattle.esm_replay_book.specs.Keeping.{HasJournal, entries_left}
+use Rattle.esm_replay_book.specs.Keeping.{HasJournal, OwesReplay, entries_left}
 use Rattle.esm_replay_book.specs.Opening.{GiveRanges, IsFirstBadLine}
 use Rattle.esm_runner.specs.Files.{FilesState, IsOpenedFiles}
 use Rattle.esm_replay_book.specs.declared.opening.ReplayOpen.{ReplayOpen}
@@ -80,6 +80,7 @@ pub record IsLeft {D : Type 0} (m : DiskMeaning D) (f : FilesState D) (b : BookS
   pub ahead : RunAhead b.core
   pub may_be_said : SaidAhead b.core
   pub settled : (b.trouble ≡ Some Disk → ⊥) → (owed_replay (setting_of b.core) b.core.past).places ≡ []
+  pub owes : b.trouble ≡ Some Disk → OwesReplay (setting_of b.core) b.core.past b.core.owed
   pub journal : HasJournal m b
   pub since : LeavesSince m f b
   pub pair_kept : PairKeepsWhileUp m b.pair

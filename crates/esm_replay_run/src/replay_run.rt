@@ -125,7 +125,7 @@ fn run_opened<R: Wait, S: Source, D: Disk, C: Clock, F: Caller>(
         (files_of before.now.journal.value before.now.spare.value before.now.failures.value said run.book.pair lines)
         run.input.source result.input result.reading.value caller.old caller.new (reverse result.trace.items) result.counts
         (record { journal = result.journal; spare = result.spare; failures = result.failures })) }
-    ensures stopped { OnErr result.end (HasStoppedRun (telling (outside C.gave F.sends F.log) (meaning D.Disk)) S.left
+    ensures stopped { OnErr result.end (HasStoppedRun (telling (outside C.gave F.sends F.log) (meaning D.Disk)) S.faults S.left
         before.now.config.value run.book.core.opened.calls
         (files_of before.now.journal.value before.now.spare.value before.now.failures.value said run.book.pair lines)
         run.input.source result.input result.reading.value caller.old caller.new (reverse result.trace.items) result.counts
@@ -172,7 +172,7 @@ pub fn run_replay<R: Wait, S: Source, D: Disk, C: Clock, F: Caller>(
     ensures ended { IfOk result.end (HasEnded (telling (outside C.gave F.sends F.log) (meaning D.Disk)) S.faults S.left
         config calls files input result.input result.reading.value caller.old caller.new (reverse result.trace.items) result.counts
         (record { journal = result.journal; spare = result.spare; failures = result.failures })) }
-    ensures stopped { OnErr result.end (HasStoppedRun (telling (outside C.gave F.sends F.log) (meaning D.Disk)) S.left
+    ensures stopped { OnErr result.end (HasStoppedRun (telling (outside C.gave F.sends F.log) (meaning D.Disk)) S.faults S.left
         config calls files input result.input result.reading.value caller.old caller.new (reverse result.trace.items) result.counts
         (record { journal = result.journal; spare = result.spare; failures = result.failures })) }
     ensures said { result.said ≡ files.said }

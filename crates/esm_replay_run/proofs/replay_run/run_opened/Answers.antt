@@ -69,6 +69,7 @@ returns g c =
       ahead = sound.ahead;
       may_be_said = sound.said;
       settled = settled_but _ b sound c.trouble.ensures.cause;
+      owes = sound.owes;
       journal = c.trouble.ensures.journal;
       since = c.since_before.ensures;
       pair_kept = c.trouble.ensures.kept;
@@ -94,7 +95,7 @@ returns g c =
     (c.counts_of-counts.ensures.replayed ∙ (ap (λ (xs : List Entry). replayed_in xs) c.as_slice.ensures.value ∙ sym (replayed-reverse c.into_parts-history.result.history.items)))
     (c.counts_of-counts.ensures.left ∙ ap₂ (λ (n k : ℕ). n - k) c.named-named.ensures (ap (λ (xs : List Entry). replayed_in xs) c.as_slice.ensures.value ∙ sym (replayed-reverse c.into_parts-history.result.history.items))))) in
     let P : ReplayEnd → Type 0 = HasEnded t g.S.Source.faults g.S.Source.left config calls files c.args.run.input.source out.input out.reading.value old_caller new_caller (reverse out.trace.items) out.counts new in
-    let Q : Type 0 = HasStoppedRun t g.S.Source.left config calls files c.args.run.input.source out.input out.reading.value old_caller new_caller (reverse out.trace.items) out.counts new in
+    let Q : Type 0 = HasStoppedRun t g.S.Source.faults g.S.Source.left config calls files c.args.run.input.source out.input out.reading.value old_caller new_caller (reverse out.trace.items) out.counts new in
     record {
       ended = subst (λ r. IfOk r P) (sym c.closed.ensures.end)
           (IfOk-weaker c.end_of-end.result (EndsBy ran c.into_parts-history.result.trouble c.into_parts-source.result.1) P
@@ -111,8 +112,9 @@ returns g c =
       stopped = subst (λ r. OnErr r Q) (sym c.closed.ensures.end)
           (on_err_weaker c.end_of-end.result
           (λ is.
-          subst (λ (x : g.row.S.Denot). HasStoppedRun t g.S.Source.left config calls files c.args.run.input.source x out.reading.value old_caller new_caller (reverse out.trace.items) out.counts new) (sym source)
-          (subst (λ (h : List Entry). HasStoppedRun t g.S.Source.left config calls files c.args.run.input.source i.source out.reading.value old_caller new_caller h out.counts new) (sym trace)
+          subst (λ (x : g.row.S.Denot × Option InputEnd). HasStoppedRun t g.S.Source.faults g.S.Source.left config calls files c.args.run.input.source x.0 x.1 old_caller new_caller (reverse out.trace.items) out.counts new)
+          (λ k. (sym source k, sym reading k))
+          (subst (λ (h : List Entry). HasStoppedRun t g.S.Source.faults g.S.Source.left config calls files c.args.run.input.source i.source i.end old_caller new_caller h out.counts new) (sym trace)
           (inr (stopped_by t g.S.Source.faults g.S.Source.left config calls files c.args.run.input.source i old_caller new_caller before b out.counts new c.args.run.input ran laws stood left of c.trouble.ensures.cause counts made come is))))
           c.end_of-end.ensures.stopped);
       said = c.closed.ensures.said;

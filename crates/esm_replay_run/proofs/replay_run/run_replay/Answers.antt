@@ -30,7 +30,7 @@ returns g c =
     } in
     let why : IfOk c.in-Err.refused.why (IsRefusal f.dest.payloads) = subst (λ (lines : List (List ℕ)). IfOk c.in-Err.refused.why (IsRefusal lines)) (c.payloads.ensures.payloads ∙ ap (λ (d : JournalState g.row.D.Denot). d.payloads) dest) c.in-Err.ensures.why in
     let P = HasEnded t g.S.Source.faults g.S.Source.left c.args.config c.args.calls f c.args.input out.input out.reading.value c.args.caller.now c.args.caller.now (reverse out.trace.items) out.counts new in
-    let Q = HasStoppedRun t g.S.Source.left c.args.config c.args.calls f c.args.input out.input out.reading.value c.args.caller.now c.args.caller.now (reverse out.trace.items) out.counts new in
+    let Q = HasStoppedRun t g.S.Source.faults g.S.Source.left c.args.config c.args.calls f c.args.input out.input out.reading.value c.args.caller.now c.args.caller.now (reverse out.trace.items) out.counts new in
     record {
       ended = subst (λ r. IfOk r P) (sym c.closed.ensures.end)
           (refused t g.S.Source.faults g.S.Source.left c.args.config c.args.calls f c.args.input out.input out.reading.value c.args.caller.now c.args.caller.now (reverse out.trace.items) out.counts new c.in-Err.refused.why none why);

@@ -8,4 +8,4 @@ pub invariant_of-result : goal.invariant_of-result
 invariant_of-result g c =
     let over = c.in-Ok.ensures.opened in
     let is = ap (λ (b : BookState g.row.D.Denot). b.core) c.new.ensures ∙ over.is in
-    (sound_new c.new.result _ is, sym (ap (λ v. length v.records) is))
+    (sound_new c.new.result _ (ap (λ (b : BookState g.row.D.Denot). b.trouble) c.new.ensures) is, sym (ap (λ v. length v.records) is))

@@ -20,7 +20,7 @@ came-came-requires-clause-valid g c = subst (All IsValidRecord) (sym c.in-Ok.ens
 pub returns-in_default : goal.returns-in_default
 returns-in_default g c =
     let b = not_brought c.args.moment c.args.self.now c.args.list.items c.requires.going in
-    record { since = b.since; going = b.going; came = b.came; some = b.some; kind = refl; function = b.function; up = b.up; down = b.down; changed = b.changed; tells = b.tells }
+    record { since = b.since; going = b.going; came = b.came; some = b.some; kind = refl; function = b.function; up = b.up; down = b.down; changed = b.changed; refused = b.refused; tells = b.tells }
 
 pub returns : goal.returns
 returns g c =
@@ -32,4 +32,4 @@ returns g c =
     let given : CameBy (disk g.D.Disk) old new c.in-Ok.records.items r = record { added = e.added; no_fault = e.no_fault; changed = e.changed; down = e.down; left = e.left; no_memory = e.no_memory } in
     let by : CameBy (disk g.D.Disk) old new (records_in_items list) r = subst (λ (rs : List Record). CameBy (disk g.D.Disk) old new rs r) c.in-Ok.ensures given in
     let b = brought (disk g.D.Disk) c.args.moment old new list (are_records list c.requires.valid) c.requires.going c.know.ensures.unchanged r by in
-    record { since = b.since; going = b.going; came = b.came; some = b.some; kind = refl; function = b.function; up = b.up; down = b.down; changed = b.changed; tells = b.tells }
+    record { since = b.since; going = b.going; came = b.came; some = b.some; kind = refl; function = b.function; up = b.up; down = b.down; changed = b.changed; refused = b.refused; tells = b.tells }
