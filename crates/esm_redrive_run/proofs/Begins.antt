@@ -87,7 +87,7 @@ as_ended t faults left w f old_input new_input reading old_caller new_caller h n
 -- nothing ran
 pub not_run : {S D F : Type 0} (t : Telling D F) (faults : S → ℕ) (left : S → Option (List ℕ)) (w : Words) (f : FilesState D) (old_input new_input : S) (reading : Option InputEnd) (old_caller new_caller : F) (h : List Entry) (new : Disks D) (why : Result RedriveEnd OutOfMemory)
     → IsRefusal w f.dest.payloads why → HasNotBegun t f old_input new_input reading old_caller new_caller h new
-    → IfOk why (HasEnded t faults left w f old_input new_input reading old_caller new_caller h new) × OnErr why (HasStoppedRun t left w f old_input new_input reading old_caller new_caller h new)
+    → IfOk why (HasEnded t faults left w f old_input new_input reading old_caller new_caller h new) × OnErr why (HasStoppedRun t faults left w f old_input new_input reading old_caller new_caller h new)
 not_run t faults left w f old_input new_input reading old_caller new_caller h new (Ok (end.BadLine index)) refusal none = ((refusal, none), tt)
 not_run t faults left w f old_input new_input reading old_caller new_caller h new (Ok (end.Finished why)) refusal none = absurd refusal
 not_run t faults left w f old_input new_input reading old_caller new_caller h new (Ok end.CallsSpent) refusal none = absurd refusal
@@ -96,9 +96,9 @@ not_run t faults left w f old_input new_input reading old_caller new_caller h ne
 not_run t faults left w f old_input new_input reading old_caller new_caller h new (Ok (end.Changed change)) refusal none = absurd refusal
 not_run t faults left w f old_input new_input reading old_caller new_caller h new (Err short) refusal none = (tt, inl none)
 
-pub as_stopped : {S D F : Type 0} (t : Telling D F) (left : S → Option (List ℕ)) (w : Words) (f : FilesState D) (old_input new_input : S) (reading : Option InputEnd) (old_caller new_caller : F) (h : List Entry) (new : Disks D)
-    → HasStopped t left w f old_input new_input reading old_caller new_caller h new → HasStoppedRun t left w f old_input new_input reading old_caller new_caller h new
-as_stopped t left w f old_input new_input reading old_caller new_caller h new has = inr has
+pub as_stopped : {S D F : Type 0} (t : Telling D F) (faults : S → ℕ) (left : S → Option (List ℕ)) (w : Words) (f : FilesState D) (old_input new_input : S) (reading : Option InputEnd) (old_caller new_caller : F) (h : List Entry) (new : Disks D)
+    → HasStopped t faults left w f old_input new_input reading old_caller new_caller h new → HasStoppedRun t faults left w f old_input new_input reading old_caller new_caller h new
+as_stopped t faults left w f old_input new_input reading old_caller new_caller h new has = inr has
 
 -- nothing was written
 pub unwritten : {D : Type 0} (m : DiskMeaning D) (f : FilesState D) (journal spare dead : D) → IsOpenedFiles m f → journal ≡ first_disk f.pair → spare ≡ second_disk f.pair → dead ≡ f.dest.disk → AreClosed m f journal spare dead

@@ -98,6 +98,7 @@ pub record HasCome {D : Type 0} (t : ℕ) (list : List Message) (old new : Book 
   pub up : OnOk r (is_some new.trouble ≡ false)
   pub down : IfErr r (λ (e : CameError). (e ≡ refusal.OutOfMemory) ⊎ (is_some new.trouble ≡ true))
   pub changed : (change : Change) → IsErrOf r (refusal.StreamChanged change) → IsFirstChange old.core list change
+  pub refused : (change : Change) → IsErrOf r (refusal.StreamChanged change) → new.core.setting.queue.messages ≡ old.core.setting.queue.messages
   pub tells : change_of new.trouble ≡ change_told (change_of old.trouble) r
 
 -- nothing came
@@ -111,6 +112,7 @@ none_came t list old new e core found found_dest going cause changed tells = rec
   up = tt;
   down = cause;
   changed = λ change is. changed change (cc);
+  refused = λ change is. ap (λ (v : RedriveView). v.setting.queue.messages) core;
   tells = tells;
 }
 
@@ -155,6 +157,7 @@ come {D} m n t list old new (Ok x) did going legal =
       up = ap is_some added.trouble;
       down = tt;
       changed = λ change is. absurd (cc);
+      refused = λ change is. absurd (cc);
       tells = ap change_of added.trouble ∙ sym (ap change_of (no_trouble old.trouble up));
     }
 come {D} m n t list old new (Err refusal.DiskFault) did going legal =
@@ -171,6 +174,7 @@ come {D} m n t list old new (Err refusal.DiskFault) did going legal =
       up = tt;
       down = inr (ap is_some some.trouble_is);
       changed = λ change is. absurd (cc);
+      refused = λ change is. absurd (cc);
       tells = ap change_of some.trouble_is ∙ sym (ap change_of (no_trouble old.trouble up));
     }
 come {D} m n t list old new (Err (refusal.StreamChanged change)) did going legal =

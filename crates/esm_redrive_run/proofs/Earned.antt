@@ -1,8 +1,9 @@
--- A message of a redrive is deleted only where that is earned.
-use Rattle.std.proofs.Common.{◌≡◌, ◌∙◌, ◌≤◌, ℕ, suc, Bool, true, false, not, cond, List, [], ◌∷◌, Option, Some, None, ap, arith, inl, inr, refl, subst, sym}
-use Rattle.std.specs.Prelude.{◌⊎◌, ◌==◌, ◌&&◌, is_some, option_map, unwrap_or}
+-- A message of a redrive has a fate only where that is earned.
+use Rattle.std.proofs.Common.{◌≡◌, ◌≤◌, ℕ, suc, Bool, true, false, not, cond, List, [], ◌∷◌, Option, Some, None, ap, arith, inl, inr, refl, subst}
+use Rattle.std.specs.Prelude.{◌⊎◌, ◌==◌, ◌&&◌, option_map, unwrap_or}
 use Rattle.std.specs.Option.{option_or}
 use Rattle.std.proofs.lemmas.Bool.{and_parts, both_ways, cases_Bool, not-true}
+use Rattle.std.proofs.lemmas.Option.{none-some, same_Some}
 use Rattle.esm_model.specs.declared.entry.Entry.{Entry}
 use Rattle.esm_model.specs.declared.entry.Entry.TheVariants.{Came, Began, Ended, Gave, Tried, Closed, Replayed, Shut}
 use Rattle.esm_model.specs.declared.entry.Fate.{Fate}
@@ -15,7 +16,7 @@ use Rattle.esm_model.specs.Entries.{holds}
 use Rattle.esm_model.specs.Fates.{below, given}
 use Rattle.esm_model.specs.Filter.{passes_message}
 use Rattle.esm_model.specs.Lane.{same_lane}
-use Rattle.esm_queue_model.specs.QueueEntries.{is_deleted, queue_count, queue_lane, deletion_fate}
+use Rattle.esm_queue_model.specs.QueueEntries.{is_deleted, queue_count, queue_lane}
 use Rattle.esm_queue_model.specs.QueueSetting.{QueueSetting, found_deletion, message_at}
 use Rattle.esm_queue_model.specs.QueueStep.{is_refused_message, is_unsorted_message, succeeded_places}
 use Rattle.esm_queue_model.proofs.Places.{In, In-filter, In-none}
@@ -23,11 +24,9 @@ use Rattle.esm_queue_model.proofs.QueueTests.{same_lane-true}
 use Rattle.esm_redrive_model.specs.Due.{is_known, receives}
 use Rattle.esm_redrive_model.specs.RedriveSetting.{RedriveSetting, has_dead_id}
 use Rattle.esm_redrive_model.specs.RedriveStep.{LegalRedrive}
-use Rattle.esm_redrive_model.proofs.Ends.{deleted_is}
 use Rattle.esm_redrive_model.proofs.Moves.{moved_after_receives_in}
-use Rattle.esm_redrive_model.proofs.Named.{built_of}
 use Rattle.esm_runner.specs.Earned.{FailsFilter, HasSucceeded}
-use Rattle.esm_redrive_run.specs.Earned.{DeletedOnlyEarned, HasLine, IsEarned}
+use Rattle.esm_redrive_run.specs.Earned.{DeletedOnlyEarned, EarnsIt, HasLine, IsEarnedAs}
 
 -- one more entry leaves what is earned
 
@@ -56,12 +55,12 @@ received_more h (Closed lane window m) i = one_or_same false (receives h i)
 received_more h (Replayed shard places m) i = one_or_same false (receives h i)
 received_more h (Shut m) i = one_or_same false (receives h i)
 
-earned_more : (s : RedriveSetting) (h : List Entry) (e : Entry) (i : ℕ) → IsEarned s h i → IsEarned s (e ∷ h) i
-earned_more s h e i (inl (inl found)) = inl (inl found)
-earned_more s h e i (inl (inr (inl has))) = inl (inr (inl (succeeded_more s.queue h e i has)))
-earned_more s h e i (inl (inr (inr fails))) = inl (inr (inr fails))
-earned_more s h e i (inr (inl line)) = inr (inl line)
-earned_more s h e i (inr (inr full)) = inr (inr (let more = received_more h e i in omega (arith, full, more)))
+earned_more : (s : RedriveSetting) (h : List Entry) (e : Entry) (i : ℕ) (fate : Fate) → EarnsIt s h i fate → EarnsIt s (e ∷ h) i fate
+earned_more s h e i Succeeded has = succeeded_more s.queue h e i has
+earned_more s h e i Filtered fails = fails
+earned_more s h e i Exhausted (inl line) = inl line
+earned_more s h e i Exhausted (inr full) = inr (let more = received_more h e i in omega (arith, full, more))
+earned_more s h e i Expired never = never
 
 -- what a deletion names is earned
 
@@ -100,47 +99,46 @@ has_line : (s : RedriveSetting) (i : ℕ) (o : Option Message) → message_at s.
 has_line s i None at stands = absurd (both_ways false refl stands)
 has_line s i (Some x) at stands = record { message = x; at = at; stands = stands }
 
-given_here : (s : RedriveSetting) (h : List Entry) (by : Option LaneId) (shard : ℕ) (places : List ℕ) (f : Fate) (line : Option (List ℕ)) (state : Option WindowState) (m i : ℕ) → LegalRedrive s (Gave by shard places f line state m ∷ h) → In places i → IsEarned s h i
+given_here : (s : RedriveSetting) (h : List Entry) (by : Option LaneId) (shard : ℕ) (places : List ℕ) (f : Fate) (line : Option (List ℕ)) (state : Option WindowState) (m i : ℕ) → LegalRedrive s (Gave by shard places f line state m ∷ h) → In places i → EarnsIt s h i f
 given_here s h None shard places Exhausted line state m i legal member =
     let passes : is_known s h i ≡ true = (In-filter (is_known s h) (below (queue_count h)) i (subst (λ (ps : List ℕ). In ps i) legal.1.1.exact member)).1 in
-    inr (inl (has_line s i (message_at s.queue i) refl (and_parts (not (is_deleted s.queue h i)) (unwrap_or (option_map (has_dead_id s) (message_at s.queue i)) false) passes).1))
+    inl (has_line s i (message_at s.queue i) refl (and_parts (not (is_deleted s.queue h i)) (unwrap_or (option_map (has_dead_id s) (message_at s.queue i)) false) passes).1)
 given_here s h None shard places Filtered line state m i legal member =
     let passes : is_unsorted_message s.queue h i ≡ true = (In-filter (is_unsorted_message s.queue h) (below (queue_count h)) i (subst (λ (ps : List ℕ). In ps i) legal.1.1.filters.exact member)).1 in
-    inl (inr (inr (fails_filter s.queue i (message_at s.queue i) refl (and_parts (not (is_deleted s.queue h i)) (unwrap_or (option_map (is_refused_message s.queue) (message_at s.queue i)) false) passes).1)))
+    fails_filter s.queue i (message_at s.queue i) refl (and_parts (not (is_deleted s.queue h i)) (unwrap_or (option_map (is_refused_message s.queue) (message_at s.queue i)) false) passes).1
 given_here s h (Some lane) shard places Exhausted line state m i legal member =
-    inr (inr (moved_after_receives_in s (Gave (Some lane) shard places Exhausted line state m ∷ h) legal [] h lane shard places line state m refl i member))
+    inr (moved_after_receives_in s (Gave (Some lane) shard places Exhausted line state m ∷ h) legal [] h lane shard places line state m refl i member)
 given_here s h (Some lane) shard places Succeeded line state m i legal member =
-    inl (inr (inl (succeeded_there s.queue h (queue_lane 0) i (In-filter (λ j. not (is_deleted s.queue h j)) (succeeded_places s.queue h (queue_lane 0)) i (subst (λ (ps : List ℕ). In ps i) legal.1.1.deletes.exact member)).0)))
+    succeeded_there s.queue h (queue_lane 0) i (In-filter (λ j. not (is_deleted s.queue h j)) (succeeded_places s.queue h (queue_lane 0)) i (subst (λ (ps : List ℕ). In ps i) legal.1.1.deletes.exact member)).0
 given_here s h None shard places Succeeded line state m i legal member = absurd legal.1.1
 given_here s h None shard places Expired line state m i legal member = absurd legal.1.1
 given_here s h (Some lane) shard places Filtered line state m i legal member = absurd legal.1.1
 given_here s h (Some lane) shard places Expired line state m i legal member = absurd legal.1.1
 
-before_or_here : (g : Option Fate) (b : Bool) (f : Fate) → is_some (option_or g (cond b (Some f) None)) ≡ true → (is_some g ≡ true) ⊎ (b ≡ true)
-before_or_here (Some x) b f is = inl refl
-before_or_here None true f is = inr refl
-before_or_here None false f is = absurd (both_ways false refl is)
+before_or_here : (g : Option Fate) (b : Bool) (f fate : Fate) → option_or g (cond b (Some f) None) ≡ Some fate → (g ≡ Some fate) ⊎ ((b ≡ true) × (f ≡ fate))
+before_or_here (Some x) b f fate is = inl is
+before_or_here None true f fate is = inr (refl, same_Some f fate is)
+before_or_here None false f fate is = absurd (none-some fate is)
 
-given_earned : (s : RedriveSetting) (h : List Entry) → LegalRedrive s h → (i : ℕ) → is_some (given h 0 i) ≡ true → IsEarned s h i
-given_earned s [] legal i is = absurd (both_ways false refl is)
-given_earned s (Gave by shard places f line state m ∷ h) legal i is =
-    elim (before_or_here (given h 0 i) ((shard == 0) && holds places i) f is) [
-      | inl before ↦ earned_more s h (Gave by shard places f line state m) i (given_earned s h legal.0 i before)
-      | inr named ↦ earned_more s h (Gave by shard places f line state m) i (given_here s h by shard places f line state m i legal (and_parts (shard == 0) (holds places i) named).1)
+given_earned : (s : RedriveSetting) (h : List Entry) → LegalRedrive s h → (i : ℕ) (fate : Fate) → given h 0 i ≡ Some fate → EarnsIt s h i fate
+given_earned s [] legal i fate is = absurd (none-some fate is)
+given_earned s (Gave by shard places f line state m ∷ h) legal i fate is =
+    elim (before_or_here (given h 0 i) ((shard == 0) && holds places i) f fate is) [
+      | inl before ↦ earned_more s h (Gave by shard places f line state m) i fate (given_earned s h legal.0 i fate before)
+      | inr named ↦ earned_more s h (Gave by shard places f line state m) i fate
+          (subst (EarnsIt s h i) named.1 (given_here s h by shard places f line state m i legal (and_parts (shard == 0) (holds places i) named.0).1))
     ]
-given_earned s (Came shard first count m ∷ h) legal i is = earned_more s h (Came shard first count m) i (given_earned s h legal.0 i is)
-given_earned s (Began lane places closing m ∷ h) legal i is = earned_more s h (Began lane places closing m) i (given_earned s h legal.0 i is)
-given_earned s (Ended lane reply m ∷ h) legal i is = earned_more s h (Ended lane reply m) i (given_earned s h legal.0 i is)
-given_earned s (Tried lane places closing tries m ∷ h) legal i is = earned_more s h (Tried lane places closing tries m) i (given_earned s h legal.0 i is)
-given_earned s (Closed lane window m ∷ h) legal i is = earned_more s h (Closed lane window m) i (given_earned s h legal.0 i is)
-given_earned s (Replayed shard places m ∷ h) legal i is = earned_more s h (Replayed shard places m) i (given_earned s h legal.0 i is)
-given_earned s (Shut m ∷ h) legal i is = earned_more s h (Shut m) i (given_earned s h legal.0 i is)
+given_earned s (Came shard first count m ∷ h) legal i fate is = earned_more s h (Came shard first count m) i fate (given_earned s h legal.0 i fate is)
+given_earned s (Began lane places closing m ∷ h) legal i fate is = earned_more s h (Began lane places closing m) i fate (given_earned s h legal.0 i fate is)
+given_earned s (Ended lane reply m ∷ h) legal i fate is = earned_more s h (Ended lane reply m) i fate (given_earned s h legal.0 i fate is)
+given_earned s (Tried lane places closing tries m ∷ h) legal i fate is = earned_more s h (Tried lane places closing tries m) i fate (given_earned s h legal.0 i fate is)
+given_earned s (Closed lane window m ∷ h) legal i fate is = earned_more s h (Closed lane window m) i fate (given_earned s h legal.0 i fate is)
+given_earned s (Replayed shard places m ∷ h) legal i fate is = earned_more s h (Replayed shard places m) i fate (given_earned s h legal.0 i fate is)
+given_earned s (Shut m ∷ h) legal i fate is = earned_more s h (Shut m) i fate (given_earned s h legal.0 i fate is)
 
-found_or_given : (s : RedriveSetting) (h : List Entry) (i : ℕ) (o : Option FoundDeletion) → LegalRedrive s h → found_deletion s.queue i ≡ o → is_some (option_or (option_map (λ (f : FoundDeletion). f.fate) o) (given h 0 i)) ≡ true → IsEarned s h i
-found_or_given s h i None legal at is = given_earned s h legal i is
-found_or_given s h i (Some f) legal at is = inl (inl (ap is_some at))
+found_or_given : (s : RedriveSetting) (h : List Entry) (i : ℕ) (fate : Fate) (o : Option FoundDeletion) → LegalRedrive s h → found_deletion s.queue i ≡ o → option_or (option_map (λ (f : FoundDeletion). f.fate) o) (given h 0 i) ≡ Some fate → IsEarnedAs s h i fate
+found_or_given s h i fate None legal at is = inr (given_earned s h legal i fate is)
+found_or_given s h i fate (Some f) legal at is = inl (record { found = f; deletion = at; fate_is = same_Some f.fate fate is })
 
 pub only_earned : (s : RedriveSetting) (h : List Entry) → LegalRedrive s h → DeletedOnlyEarned s h
-only_earned s h legal i low is =
-    let fated : is_some (deletion_fate s.queue h i) ≡ true = sym (deleted_is s.queue h (built_of s h legal) i low) ∙ is in
-    found_or_given s h i (found_deletion s.queue i) legal refl fated
+only_earned s h legal i fate is = found_or_given s h i fate (found_deletion s.queue i) legal refl is

@@ -5,7 +5,7 @@ use Rattle.std.proofs.lemmas.List.{reverse-append}
 use Rattle.esm_model.specs.declared.entry.Entry.{Entry}
 use Rattle.esm_model.specs.declared.entry.Entry.TheVariants.{Came, Began, Ended, Gave, Tried, Closed, Replayed, Shut}
 use Rattle.esm_model.specs.Moment.{capped_moment}
-use Rattle.esm_model.specs.Entries.{moment_of, last_moment, is_shut, is_shut_entry, is_running, is_beginning, CallsFollowShut}
+use Rattle.esm_model.specs.Entries.{moment_of, last_moment, is_shut, is_shut_entry, is_running, is_beginning, calls_begun, CallsFollowShut}
 use Rattle.esm_queue_core.specs.CoreView.{moment_for}
 use Rattle.esm_queue_model.specs.QueueSetting.{QueueSetting}
 use Rattle.esm_queue_model.specs.QueueEntries.{queue_lane}
@@ -99,6 +99,17 @@ arrivals_uncalled s sends (Tried lane places closing tries m ∷ h) all = absurd
 arrivals_uncalled s sends (Closed lane window m ∷ h) all = absurd all
 arrivals_uncalled s sends (Replayed shard places m ∷ h) all = absurd all
 arrivals_uncalled s sends (Shut m ∷ h) all = absurd all
+
+pub arrivals_unbegun : (h : List Entry) → AreArrivals h → calls_begun h ≡ 0
+arrivals_unbegun [] all = refl
+arrivals_unbegun (Came shard first count m ∷ h) all = arrivals_unbegun h all
+arrivals_unbegun (Gave by shard places f line state m ∷ h) all = arrivals_unbegun h all
+arrivals_unbegun (Began lane places closing m ∷ h) all = absurd all
+arrivals_unbegun (Ended lane reply m ∷ h) all = absurd all
+arrivals_unbegun (Tried lane places closing tries m ∷ h) all = absurd all
+arrivals_unbegun (Closed lane window m ∷ h) all = absurd all
+arrivals_unbegun (Replayed shard places m ∷ h) all = absurd all
+arrivals_unbegun (Shut m ∷ h) all = absurd all
 
 pub arrivals_follow : (h : List Entry) → AreArrivals h → CallsFollowShut h
 arrivals_follow [] all = tt

@@ -38,7 +38,9 @@ use Rattle.esm_redrive_run.specs.Book.{Book}
 use Rattle.esm_redrive_run.specs.Headline.{CrashKept, DeadLettersKept, Disks, Headline, IsTried, JournalKept, JournalStopped, LettersCrashKept, LinesKept, LinesStandFirst, LinesStopped, OpensToFrontOf, OpensToLettersOf, OpensWithLetters, dead_letters}
 use Rattle.esm_redrive_run.specs.Laws.{AreLaws}
 use Rattle.esm_redrive_run.specs.Runs.{IsLeft, dead_file}
+use Rattle.esm_redrive_run.proofs.AllEarned.{all_earned}
 use Rattle.esm_redrive_run.proofs.Earned.{only_earned}
+use Rattle.esm_redrive_run.proofs.Moving.{further_moves}
 use Rattle.esm_redrive_run.proofs.Orderly.{deleted_once_in, order_per_group_in, replies_logged}
 use Rattle.esm_redrive_run.proofs.Reasons.{found_for_these}
 use Rattle.esm_redrive_run.proofs.Settling.{settled_ids, settled_why}
@@ -311,9 +313,8 @@ module _ {D : Type 0} (m : DiskMeaning D) (f : FilesState D) (b : Book D) (left 
           dead_letters_kept = letters_kept b.trouble refl;
           is_tried = is_tried_so b.trouble b.core.owed;
           tried_follows = λ e some. follows_ids ids same laws e (left.sound.tried e some);
-          tried_moves = λ e line some has.
-              (let front = follows_ids ids same laws e (left.sound.tried e some) in
-              record { front = front; due = laws.due s front.before e line (front.follows own.queue.messages (λ i x at. at)) has });
+          hand_moves = λ e line some has. further_moves s b.core.past e line (laws.due s) different (follows_ids ids same laws e (left.sound.hand e some)) has;
+          tried_moves = λ e line some has. further_moves s b.core.past e line (laws.due s) different (follows_ids ids same laws e (left.sound.tried e some)) has;
           letters_crash = letters_crash;
           lines_stand_first = stand_first;
           deletions_are_recorded = laws.recorded s b.core.past f.pair.payloads opened valid legal;
@@ -326,6 +327,7 @@ module _ {D : Type 0} (m : DiskMeaning D) (f : FilesState D) (b : Book D) (left 
           each_has_one_end = laws.ends (with_dead_ids own ids) b.core.past (found_for_these (with_dead_ids own ids) f.said (reverse f.pair.payloads) left.files.tells deletions) legal;
           moved_once = laws.once (with_dead_ids own ids) b.core.past legal;
           only_earned = only_earned (with_dead_ids own ids) b.core.past legal;
+          all_earned = λ disk dest. all_earned s b.core.past legal (settled disk dest);
           deleted_once = deleted_once_in (with_dead_ids own ids) b.core.past legal;
           order_per_group = order_per_group_in (with_dead_ids own ids) b.core.past legal;
           replies_are_logged = replies_logged laws.calls (with_dead_ids own ids) b.core.past legal;

@@ -10,9 +10,12 @@ pub mod Settling
 pub mod Different
 pub mod Reasons
 pub mod Earned
+pub mod AllEarned
+pub mod Moving
 pub mod Orderly
 pub mod Headlines
 pub mod KeptIds
+pub mod InputRead
 pub mod Ways
 pub mod Begins
 pub mod Telling

@@ -1,6 +1,7 @@
 -- How the run of a redrive ended, from how its caller came to its end.
 use Rattle.std.proofs.Common.{◌≡◌, ◌∙◌, ◌+◌, ◌<◌, ◌≤◌, ◌^◌, ℕ, Bool, true, false, cond, List, [], ◌∷◌, ◌++◌, length, Result, Ok, Err, Option, Some, None, ap, append-nil, append_assoc, arith, inl, inr, length-append, refl, subst, sym}
-use Rattle.std.specs.Prelude.{◌⊎◌, IfOk, IsErr, IsSome, OnErr, OnOk, is_some, map, slice_get, ◌==◌}
+use Rattle.std.proofs.lemmas.Option.{slice_get_within}
+use Rattle.std.specs.Prelude.{◌⊎◌, IfOk, IsErr, OnErr, OnOk, is_some, map, slice_get, ◌==◌}
 use Rattle.esm_io.specs.Faults.{Rose}
 use Rattle.esm_io.specs.Meanings.{DiskMeaning}
 use Rattle.esm_io.specs.Told.{Grows, TakesFront}
@@ -9,18 +10,17 @@ use Rattle.esm_model.specs.declared.book.Job.{Job}
 use Rattle.esm_model.specs.declared.book.Trouble.{Trouble}
 use Rattle.esm_model.specs.declared.book.Trouble.TheVariants as trouble
 use Rattle.esm_model.specs.declared.called.Called.{Called}
-use Rattle.esm_model.specs.declared.config.Config.{Config}
 use Rattle.esm_model.specs.declared.config.Start.{Start}
 use Rattle.esm_model.specs.declared.entry.Entry.{Entry}
 use Rattle.esm_model.specs.declared.item.Item.{Item}
 use Rattle.esm_model.specs.declared.item.Item.TheVariants.{Stream, Queue}
 use Rattle.esm_model.specs.declared.item.LineKind.{LineKind}
 use Rattle.esm_model.specs.declared.item.Message.{Message}
-use Rattle.esm_model.specs.declared.limits.TheConstants.{MAX_RECORDS}
+use Rattle.esm_model.specs.declared.limits.TheConstants.{MAX_BATCH, MAX_RECORDS}
 use Rattle.esm_model.specs.declared.memory.OutOfMemory.{OutOfMemory}
 use Rattle.esm_model.specs.declared.setup.FoundDeletion.{FoundDeletion}
 use Rattle.esm_model.specs.Coming.{items_of, AreCome, AreSomeCome}
-use Rattle.esm_model.specs.Entries.{is_shut, CallsFollowShut}
+use Rattle.esm_model.specs.Entries.{CallsFollowShut}
 use Rattle.esm_model.specs.Kept.{change_of}
 use Rattle.esm_book.specs.State.{in_delivery, in_hand}
 use Rattle.esm_input.specs.declared.ending.InputEnd.{InputEnd}
@@ -52,16 +52,17 @@ use Rattle.esm_serial.specs.declared.serial.Serial.{Ghosts as Serial}
 use Rattle.esm_serial.specs.Ran as serial
 use Rattle.esm_redrive_run.specs.Book.{Book, HasGoneOn, IsGoing, IsLegalBook, IsShut, DoesRest, RunsJob, HasFinished, IsSpent, items_in, Differs}
 use Rattle.esm_redrive_run.specs.Headline.{Disks, Headline, Words, setting_before}
-use Rattle.esm_redrive_run.specs.Ended.{AllCame, HasRun, HasStopped, IsCauseOf, IsFaultOf, Telling, trouble_of}
+use Rattle.esm_redrive_run.specs.Ended.{AllCame, CallsAfterAll, HasRun, HasStopped, IsCauseOf, IsFaultOf, IsOfNext, Telling, trouble_of}
 use Rattle.esm_redrive_run.specs.Ending.{EndsBy, HasReason, IsEndOf}
 use Rattle.esm_redrive_run.specs.Laws.{AreLaws}
-use Rattle.esm_redrive_run.specs.Runs.{IsLeft, new_input}
+use Rattle.esm_redrive_run.specs.Runs.{IsLeft}
 use Rattle.esm_redrive_run.specs.declared.run.RedriveEnd.{RedriveEnd}
 use Rattle.esm_redrive_run.specs.declared.run.RedriveEnd.TheVariants as end
 use Rattle.esm_redrive_run.proofs.Different.{came_apart, handed_apart}
-use Rattle.esm_redrive_run.proofs.Following.{arrivals_open}
+use Rattle.esm_redrive_run.proofs.Following.{arrivals_open, arrivals_unbegun}
 use Rattle.esm_redrive_run.proofs.Headlines.{AreOf, headline, disk_rose, dest_rose}
-use Rattle.esm_redrive_run.proofs.Settling.{never_called}
+use Rattle.esm_redrive_run.proofs.InputRead.{IsMadeFor, IsReadSo, read_in_part, read_whole}
+use Rattle.esm_redrive_run.proofs.Settling.{never_called, none_begun}
 use Rattle.esm_redrive_run.proofs.KeptIds.{none_came_changed, none_before}
 
 -- the messages of items
@@ -132,13 +133,6 @@ pub record StoodSo {D : Type 0} (w : Words) (f : FilesState D) (first : Book D) 
   pub ids : List (List ℕ)
   pub same_ids : HaveSameIds ids (dead_ids (is_fifo w.config.kind) f.dest.payloads)
   pub core : first.core ≡ new_view (new_setting w.config w.calls w.visibility f.said.deletions w.max_receives ids)
-
--- the input was made for the configuration, over this source
-pub record IsMadeFor {S : Type 0} (config : Config) (old : S) (i : InputState S) : Type 0 where
-  pub kind : i.kind ≡ line_kind config
-  pub factor : i.factor ≡ config.factor
-  pub start : i.start ≡ config.start
-  pub found : i.found ≡ old
 
 -- why the book is down, where it is
 abbrev pub IsCauseIn : {D : Type 0} → DiskMeaning D → Book D → Option Trouble → Type 0
@@ -224,16 +218,16 @@ module _ {B D F : Type 0} (m : Serial B) (see : B → Book D) (means : Means m s
     came = subst (λ (v : RedriveView). queue_count v.past ≡ length v.setting.queue.messages) (sym stood.core) refl;
   })
 
-  handed_is : {S : Type 0} (i : InputState S) (change : Change) (of : serial.IsChangeOf m clock_gave sent first i change)
+  handed_is : {S : Type 0} (i : InputState S) (change : Change) (of : serial.IsChangeOf m clock_gave sent first now i change)
       → messages_in_items (handed i) ≡ (see of.before).core.setting.queue.messages ++ (messages_in_items of.list ++ messages_in_items of.rest)
   handed_is i change of =
       ap messages_in_items of.handed_out
       ∙ (items_both (of.front ++ of.list) of.rest
       ∙ (ap (λ (l : List Message). l ++ messages_in_items of.rest) (items_both of.front of.list)
       ∙ (append_assoc (messages_in_items of.front) (messages_in_items of.list) (messages_in_items of.rest)
-      ∙ ap (λ (l : List Message). l ++ (messages_in_items of.list ++ messages_in_items of.rest)) (sym (all_told (see of.before) of.front (come_seen of.before of.front of.came))))))
+      ∙ ap (λ (l : List Message). l ++ (messages_in_items of.list ++ messages_in_items of.rest)) (sym (all_told (see of.before) of.front (come_seen of.before of.front of.had_come))))))
 
-  changed_so : {S : Type 0} (calls : List Called) → m.since clock_gave sent first now calls → (i : InputState S) (change : Change) → serial.IsChangeOf m clock_gave sent first i change → IsChanged own.queue (messages_in_items (handed i)) change
+  changed_so : {S : Type 0} (calls : List Called) → m.since clock_gave sent first now calls → (i : InputState S) (change : Change) → serial.IsChangeOf m clock_gave sent first now i change → IsChanged own.queue (messages_in_items (handed i)) change
   changed_so calls since i change of =
       let differs : IsFirstChange (see of.before).core (messages_in_items of.list) change = means.differs of.before of.list change of.differs_so in
       let told : List Message = (see of.before).core.setting.queue.messages in
@@ -263,6 +257,20 @@ module _ {B D F : Type 0} (m : Serial B) (see : B → Book D) (means : Means m s
             (subst (λ (k : ℕ). NoneHasChanged deletions 0 (told ++ (list ++ rest)) k) (sym is.place_is) none));
       }
 
+  -- it is of the list that came next
+  next_so : {S : Type 0} (i : InputState S) (change : Change) → IsLeft t.disk f (see now) → serial.IsChangeOf m clock_gave sent first now i change → IsOfNext past change
+  next_so i change left of =
+      let differs : IsFirstChange (see of.before).core (messages_in_items of.list) change = means.differs of.before of.list change of.differs_so in
+      let told : List Message = (see of.before).core.setting.queue.messages in
+      let list : List Message = messages_in_items of.list in
+      let same : told ≡ own.queue.messages = all_told (see of.before) of.front (come_seen of.before of.front of.had_come) ∙ sym (all_told (see now) of.front (come_seen now of.front of.came)) in
+      let count : queue_count past ≡ length told = left.consistent.count ∙ ap (λ (ms : List Message). length ms) (sym same) in
+      let place : change.place ≡ length told + differs.position = differs.change_is.place_is in
+      let within : differs.position < length list = slice_get_within list differs.position differs.message differs.at in
+      let fewer : length list ≤ length of.list = messages_few of.list in
+      let few : length of.list ≤ MAX_BATCH = of.few in
+      record { behind = omega (arith, count, place); near = omega (arith, count, place, within, fewer, few) }
+
   -- why it ended
 
   trouble_is : (reading : Option InputEnd) (r : RunEnd) (e : RedriveEnd) → serial.EndsSo m now r → IsEndOf r (see now).trouble reading e → (see now).trouble ≡ trouble_of e
@@ -284,7 +292,7 @@ module _ {B D F : Type 0} (m : Serial B) (see : B → Book D) (means : Means m s
       }
 
   cause_of : {S : Type 0} (calls : List Called) → m.since clock_gave sent first now calls → (start log : Option (List Called)) (i : InputState S) (new : Disks D) (r : RunEnd) (e : RedriveEnd) → IsLeft t.disk f (see now) → AreOf (see now) new → IsCauseIn t.disk (see now) (see now).trouble
-      → serial.CameSo m clock_gave first now i start log r → serial.EndsSo m now r → ((change : Change) → m.change now ≡ Some change → serial.IsChangeOf m clock_gave sent first i change) → IsEndOf r (see now).trouble i.end e
+      → serial.CameSo m clock_gave first now i start log r → serial.EndsSo m now r → ((change : Change) → m.change now ≡ Some change → serial.IsChangeOf m clock_gave sent first now i change) → IsEndOf r (see now).trouble i.end e
       → IsCauseOf t.disk f own past (messages_in_items (handed i)) i.end new e
   cause_of calls since start log i new r (end.Finished last) left of cause came so changed is =
       let all = subst (serial.CameSo m clock_gave first now i start log) is.0 came in
@@ -297,8 +305,19 @@ module _ {B D F : Type 0} (m : Serial B) (see : B → Book D) (means : Means m s
   cause_of calls since start log i new r end.DiskFault left of cause came so changed is = disk_rose t.disk f (see now) left new of (subst (IsCauseIn t.disk (see now)) is.1 cause)
   cause_of calls since start log i new r end.DestFault left of cause came so changed is = dest_rose t.disk f (see now) left new of (subst (IsCauseIn t.disk (see now)) is.1 cause)
   cause_of calls since start log i new r (end.Changed change) left of cause came so changed is =
-      (changed_so calls since i change (changed change (means.change now ∙ ap change_of is.1)), λ sends. never_called (see now).core.setting sends past left.sound.legal (left.sound.changed change is.1).going (later_so calls since))
+      let found = changed change (means.change now ∙ ap change_of is.1) in
+      (changed_so calls since i change found, next_so i change left found, λ sends. never_called (see now).core.setting sends past left.sound.legal (left.sound.changed change is.1).going (later_so calls since))
   cause_of calls since start log i new r (end.BadLine index) left of cause came so changed is = absurd is
+
+  -- all of the input came before the first call
+  after_all : {S : Type 0} (calls : List Called) → m.since clock_gave sent first now calls → IsLeft t.disk f (see now) → (start log : Option (List Called)) (i : InputState S) (r : RunEnd) → m.rests now → serial.CameSo m clock_gave first now i start log r
+      → CallsAfterAll own past (messages_in_items (handed i)) i.end
+  after_all calls since left start log i ran.Finished rests came = inl (all_came calls since left i came, came.ended)
+  after_all calls since left start log i ran.Spent rests came = inl (all_came calls since left i came, came.ended)
+  after_all calls since left start log i ran.Down rests came = elim came [
+    | inl all ↦ inl (all_came calls since left i all, all.ended)
+    | inr refused ↦ inr (none_begun (see now).core.setting sent past left.sound.legal (means.rests now rests).idle (calls_so [] (refused.uncalled sent)))
+  ]
 
   abbrev hand_now : List Entry
   hand_now = in_hand (see now).trouble (see now).core.owed
@@ -323,7 +342,7 @@ module _ {B D F : Type 0} (m : Serial B) (see : B → Book D) (means : Means m s
 
   pub ended : {S : Type 0} (faults : S → ℕ) (left_in : S → Option (List ℕ)) (old : S) (i : InputState S) (old_caller new_caller : F) (new : Disks D) (r : RunEnd) (e : RedriveEnd) → AreLaws → IsLeft t.disk f (see now) → AreOf (see now) new → IsCauseIn t.disk (see now) (see now).trouble
       → IsMadeFor w.config old i → i.failed ≡ false → IsInput faults left_in i → serial.HasCalled m clock_gave sent first now (t.callers.log old_caller) (t.callers.log new_caller) → m.rests now → serial.EndsSo m now r
-      → serial.CameSo m clock_gave first now i (t.callers.log old_caller) (t.callers.log new_caller) r → ((change : Change) → m.change now ≡ Some change → serial.IsChangeOf m clock_gave sent first i change) → IsEndOf r (see now).trouble i.end e
+      → serial.CameSo m clock_gave first now i (t.callers.log old_caller) (t.callers.log new_caller) r → ((change : Change) → m.change now ≡ Some change → serial.IsChangeOf m clock_gave sent first now i change) → IsEndOf r (see now).trouble i.end e
       → HasRun t faults left_in w f old i.source i.end old_caller new_caller past new e
   ended faults left_in old i old_caller new_caller new r e laws left of cause made good read called rests so came changed is = record {
     input = i;
@@ -337,6 +356,7 @@ module _ {B D F : Type 0} (m : Serial B) (see : B → Book D) (means : Means m s
         (head_of called.calls called.since (different_handed i (t.callers.log old_caller) (t.callers.log new_caller) r came) (few_handed i (t.callers.log old_caller) (t.callers.log new_caller) r laws came) laws left new of);
     calls_made = subst (Grows (t.callers.log old_caller) (t.callers.log new_caller)) (sym (calls_so called.calls called.since)) called.logged;
     rests = (means.rests now rests).idle;
+    calls_after_all = after_all called.calls called.since left (t.callers.log old_caller) (t.callers.log new_caller) i r rests came;
     cause = cause_of called.calls called.since (t.callers.log old_caller) (t.callers.log new_caller) i new r e left of cause came so changed is;
   }
 
@@ -368,25 +388,28 @@ module _ {B D F : Type 0} (m : Serial B) (see : B → Book D) (means : Means m s
       let items = from_start w.config.start (items_read (line_kind w.config) w.config.factor whole bytes).items in
       few_of own.queue.messages read.0 items read.1 (laws.within (line_kind w.config) w.config.factor w.config.start whole bytes items [] (sym (append-nil items))).few
 
-  -- the end of the input was noted after its reading had ended
-  read_so : {S : Type 0} (i : InputState S) → IsSome i.end ⊎ m.going now → is_shut past ≡ true → IsSome i.end
-  read_so i unended shut = elim unended [
-    | inl read ↦ read
-    | inr going ↦ absurd (let open_still : is_shut past ≡ false = arrivals_open past (means.going now going) in cc)
+  -- all of the input came, or no call began
+  read_so : {S : Type 0} (faults : S → ℕ) (left_in : S → Option (List ℕ)) (old : S) (i : InputState S) (start log : Option (List Called)) (calls : List Called) → m.since clock_gave sent first now calls → IsLeft t.disk f (see now) → IsMadeFor w.config old i
+      → serial.StopsSo m clock_gave faults left_in first now i start log → IsReadSo faults left_in w old i (m.items now) own past
+  read_so faults left_in old i start log calls since left made stops = elim stops [
+    | inl was ↦ read_whole m faults left_in w old i now own past made (all_came calls since left i was.all) was
+    | inr cut ↦ read_in_part faults left_in w old i (m.items now) own past cut.cut
+        (record { open_still = arrivals_open past (means.going now cut.going); uncalled = arrivals_unbegun past (means.going now cut.going) })
   ]
 
-  stopped_with : {S : Type 0} (left_in : S → Option (List ℕ)) (old : S) (i : InputState S) (old_caller new_caller : F) (new : Disks D) (calls : List Called) → m.since clock_gave sent first now calls → AreLaws → IsLeft t.disk f (see now) → AreOf (see now) new → IsCauseIn t.disk (see now) (see now).trouble
-      → IsMadeFor w.config old i → serial.IsCut left_in i (m.items now) → HasLogged sent own.queue past 0 (t.callers.log old_caller) (t.callers.log new_caller) → m.change now ≡ None → IsSome i.end ⊎ m.going now
-      → HasStopped t left_in w f old i.source i.end old_caller new_caller past new
-  stopped_with {S = S} left_in old i old_caller new_caller new calls since laws left of cause made cut logged no_change unended = record {
+  stopped_with : {S : Type 0} (faults : S → ℕ) (left_in : S → Option (List ℕ)) (old : S) (i : InputState S) (old_caller new_caller : F) (new : Disks D) (calls : List Called) → m.since clock_gave sent first now calls → AreLaws → IsLeft t.disk f (see now) → AreOf (see now) new → IsCauseIn t.disk (see now) (see now).trouble
+      → IsMadeFor w.config old i → IsReadSo faults left_in w old i (m.items now) own past → HasLogged sent own.queue past 0 (t.callers.log old_caller) (t.callers.log new_caller) → m.change now ≡ None
+      → HasStopped t faults left_in w f old i.source i.end old_caller new_caller past new
+  stopped_with {S = S} faults left_in old i old_caller new_caller new calls since laws left of cause made cut logged no_change = record {
     bytes = cut.bytes;
     more = cut.more;
     whole = cut.whole;
     taken = subst (λ (s : S). TakesFront (left_in s) (left_in i.source) (cut.bytes ++ cut.more)) made.found cut.taken;
+    at_end = cut.at_end;
     setting = own;
     is_setting = record { opened = opened_so calls since; came = read_for old i cut.whole cut.bytes made cut.some; letters = stood.letters };
+    calls_after_all = cut.after;
     trouble = (see now).trouble;
-    shut_when_read = read_so i unended;
     fault = fault_in new (see now).trouble (sym (means.change now) ∙ no_change) left of cause;
     hand = hand_now;
     tried = tried_now;
@@ -394,34 +417,24 @@ module _ {B D F : Type 0} (m : Serial B) (see : B → Book D) (means : Means m s
     calls_made = logged;
   }
 
-  pub stopped : {S : Type 0} (left_in : S → Option (List ℕ)) (old : S) (i : InputState S) (old_caller new_caller : F) (new : Disks D) → AreLaws → IsLeft t.disk f (see now) → AreOf (see now) new → IsCauseIn t.disk (see now) (see now).trouble
-      → IsMadeFor w.config old i → serial.IsCut left_in i (m.items now)
-      → serial.HasCalled m clock_gave sent first now (t.callers.log old_caller) (t.callers.log new_caller) ⊎ serial.HasOneMore m clock_gave sent first now (t.callers.log old_caller) (t.callers.log new_caller) → m.change now ≡ None → IsSome i.end ⊎ m.going now
-      → HasStopped t left_in w f old i.source i.end old_caller new_caller past new
-  stopped left_in old i old_caller new_caller new laws left of cause made cut called no_change unended = elim called [
-    | inl all ↦ stopped_with left_in old i old_caller new_caller new all.calls all.since laws left of cause made cut
-        (inl (subst (Grows (t.callers.log old_caller) (t.callers.log new_caller)) (sym (calls_so all.calls all.since)) all.logged)) no_change unended
+  pub stopped : {S : Type 0} (faults : S → ℕ) (left_in : S → Option (List ℕ)) (old : S) (i : InputState S) (old_caller new_caller : F) (new : Disks D) → AreLaws → IsLeft t.disk f (see now) → AreOf (see now) new → IsCauseIn t.disk (see now) (see now).trouble
+      → IsMadeFor w.config old i → serial.StopsSo m clock_gave faults left_in first now i (t.callers.log old_caller) (t.callers.log new_caller)
+      → serial.HasCalled m clock_gave sent first now (t.callers.log old_caller) (t.callers.log new_caller) ⊎ serial.HasOneMore m clock_gave sent first now (t.callers.log old_caller) (t.callers.log new_caller) → m.change now ≡ None
+      → HasStopped t faults left_in w f old i.source i.end old_caller new_caller past new
+  stopped faults left_in old i old_caller new_caller new laws left of cause made stops called no_change = elim called [
+    | inl all ↦ stopped_with faults left_in old i old_caller new_caller new all.calls all.since laws left of cause made (read_so faults left_in old i (t.callers.log old_caller) (t.callers.log new_caller) all.calls all.since left made stops)
+        (inl (subst (Grows (t.callers.log old_caller) (t.callers.log new_caller)) (sym (calls_so all.calls all.since)) all.logged)) no_change
     | inr more ↦
         (let runs : RunsJob (see now) more.job = means.runs now more.job more.running in
-        stopped_with left_in old i old_caller new_caller new more.calls more.since laws left of cause made cut
+        stopped_with faults left_in old i old_caller new_caller new more.calls more.since laws left of cause made (read_so faults left_in old i (t.callers.log old_caller) (t.callers.log new_caller) more.calls more.since left made stops)
         (inr (record {
           runs = runs.runs;
           reply = more.reply;
           logged = subst (λ (cs : List Called). Grows (t.callers.log old_caller) (t.callers.log new_caller) (cs ++ record { name = own.queue.config.function; event = sent (last_queue_event own.queue past (queue_lane 0)); reply = more.reply } ∷ [])) (sym (calls_so more.calls more.since))
               (subst (λ (e : List ℕ). Grows (t.callers.log old_caller) (t.callers.log new_caller) (more.calls ++ record { name = own.queue.config.function; event = sent e; reply = more.reply } ∷ [])) runs.event
               (subst (λ (name : List ℕ). Grows (t.callers.log old_caller) (t.callers.log new_caller) (more.calls ++ record { name = name; event = sent more.job.event; reply = more.reply } ∷ [])) (means.function now) more.logged));
-        })) no_change unended)
+        })) no_change)
   ]
-
--- the input
-
-pub made_for : {S : Type 0} (config : Config) (old : S) (begun i : InputState S) → begun ≡ new_input config old → serial.IsSameInput begun i → IsMadeFor config old i
-made_for {S} config old begun i is same = record {
-  kind = same.kind ∙ ap (λ (j : InputState S). j.kind) is;
-  factor = same.factor ∙ ap (λ (j : InputState S). j.factor) is;
-  start = same.start ∙ ap (λ (j : InputState S). j.start) is;
-  found = same.found ∙ ap (λ (j : InputState S). j.found) is;
-}
 
 -- both
 
@@ -432,12 +445,11 @@ pub record HasCome {B S F : Type 0} (m : Serial B) (gave : ℕ → Bool) (sends 
   pub stopped : OnErr r (serial.HasCalled m gave sends first now (log old) (log new) ⊎ serial.HasOneMore m gave sends first now (log old) (log new))
   pub ended : IfOk r (serial.EndsSo m now)
   pub came : IfOk r (serial.CameSo m gave first now i (log old) (log new))
-  pub changed : (change : Change) → m.change now ≡ Some change → serial.IsChangeOf m gave sends first i change
+  pub changed : (change : Change) → m.change now ≡ Some change → serial.IsChangeOf m gave sends first now i change
   pub read : OnOk r (IsInput faults left_in i)
   pub good : OnOk r (i.failed ≡ false)
-  pub cut : OnErr r (serial.IsCut left_in i (m.items now))
+  pub cut : OnErr r (serial.StopsSo m gave faults left_in first now i (log old) (log new))
   pub no_change : OnErr r (m.change now ≡ None)
-  pub unended : OnErr r (IsSome i.end ⊎ m.going now)
 
 pub ended_by : {B D S F : Type 0} (m : Serial B) (see : B → Book D) (means : Means m see) (t : Telling D F) (w : Words) (f : FilesState D) (first now : B) (stood : StoodSo w f (see first)) (faults : S → ℕ) (left_in : S → Option (List ℕ)) (old : S) (i : InputState S) (old_caller new_caller : F) (new : Disks D)
     → (r : Result RunEnd OutOfMemory) (e : RedriveEnd) → AreLaws → IsLeft t.disk f (see now) → AreOf (see now) new → IsCauseIn t.disk (see now) (see now).trouble → IsMadeFor w.config old i → HasCome m t.callers.gave t.callers.sends t.callers.log faults left_in first now i old_caller new_caller r
@@ -448,10 +460,10 @@ ended_by m see means t w f first now stood faults left_in old i old_caller new_c
 
 pub stopped_by : {B D S F : Type 0} (m : Serial B) (see : B → Book D) (means : Means m see) (t : Telling D F) (w : Words) (f : FilesState D) (first now : B) (stood : StoodSo w f (see first)) (faults : S → ℕ) (left_in : S → Option (List ℕ)) (old : S) (i : InputState S) (old_caller new_caller : F) (new : Disks D)
     → (r : Result RunEnd OutOfMemory) → AreLaws → IsLeft t.disk f (see now) → AreOf (see now) new → IsCauseIn t.disk (see now) (see now).trouble → IsMadeFor w.config old i → HasCome m t.callers.gave t.callers.sends t.callers.log faults left_in first now i old_caller new_caller r
-    → IsErr r → HasStopped t left_in w f old i.source i.end old_caller new_caller (see now).core.past new
+    → IsErr r → HasStopped t faults left_in w f old i.source i.end old_caller new_caller (see now).core.past new
 stopped_by m see means t w f first now stood faults left_in old i old_caller new_caller new (Ok r) laws left of cause made come short = absurd (let clash : false ≡ true = short in cc)
 stopped_by m see means t w f first now stood faults left_in old i old_caller new_caller new (Err none) laws left of cause made come short =
-    stopped m see means t w f first now stood left_in old i old_caller new_caller new laws left of cause made come.cut come.stopped come.no_change come.unended
+    stopped m see means t w f first now stood faults left_in old i old_caller new_caller new laws left of cause made come.cut come.stopped come.no_change
 
 -- what stays, and the reason of an end
 

@@ -1,18 +1,20 @@
 -- Why a run of a redrive ended so, and what it left. This product's own.
-use Rattle.std.specs.Prelude.{◌≡◌, ◌⊎◌, ◌++◌, ℕ, Bool, true, false, List, [], length, Option, Some, None, IsSome}
+use Rattle.std.specs.Prelude.{◌≡◌, ◌⊎◌, ◌+◌, ◌<◌, ◌≤◌, ◌++◌, ℕ, Bool, true, false, List, [], length, Option, Some, None, IsSome}
 use Rattle.esm_io.specs.Faults.{Rose}
 use Rattle.esm_io.specs.Meanings.{DiskMeaning}
-use Rattle.esm_io.specs.Told.{Grows, TakesFront}
+use Rattle.esm_io.specs.Told.{Grows, IsAtEnd, TakesFront}
 use Rattle.esm_journal.specs.Pair.{first_disk, second_disk}
+use Rattle.esm_model.specs.declared.book.Change.{Change}
 use Rattle.esm_model.specs.declared.book.Trouble.{Trouble}
 use Rattle.esm_model.specs.declared.book.Trouble.TheVariants as trouble
 use Rattle.esm_model.specs.declared.entry.Entry.{Entry}
 use Rattle.esm_model.specs.declared.item.Message.{Message}
+use Rattle.esm_model.specs.declared.limits.TheConstants.{MAX_BATCH}
 use Rattle.esm_model.specs.Entries.{is_shut, is_running, calls_begun}
 use Rattle.esm_folder.specs.Upkeep.{OneRose}
 use Rattle.esm_input.specs.declared.ending.InputEnd.{InputEnd}
 use Rattle.esm_input.specs.Positions.{from_start}
-use Rattle.esm_input.specs.Reading.{InputState, items_read, handed}
+use Rattle.esm_input.specs.Reading.{EndsBy, InputState, items_read, handed}
 use Rattle.esm_queue_model.specs.QueueSetting.{is_fifo}
 use Rattle.esm_queue_model.specs.QueueEntries.{queue_lane, queue_count}
 use Rattle.esm_queue_book.specs.Coming.{messages_in_items}
@@ -45,6 +47,15 @@ pub record AllCame (s : RedriveSetting) (h : List Entry) (messages : List Messag
   pub unchanged : NoneDiffersBefore s.queue.deletions messages (length messages)
   pub shut : is_shut h ≡ true
 
+-- the input is read before the first call: all of its messages came and its reading had ended, or no call began
+abbrev pub CallsAfterAll : RedriveSetting → List Entry → List Message → (reading : Option InputEnd) → Type 0
+CallsAfterAll s h messages reading = (AllCame s h messages × IsSome reading) ⊎ (calls_begun h ≡ 0)
+
+-- the change is of a message of the list that came next behind those that came, and which was refused whole
+pub record IsOfNext (h : List Entry) (change : Change) : Type 0 where
+  pub behind : queue_count h ≤ change.place
+  pub near : change.place < queue_count h + MAX_BATCH
+
 -- the book's trouble, where the run ended by one
 abbrev pub trouble_of : RedriveEnd → Option Trouble
 trouble_of (end.Finished why) = None
@@ -56,13 +67,13 @@ trouble_of (end.BadLine index) = None
 
 -- why: each message is deleted, and the reading ended for this; all calls allowed began, and a message is not deleted, though
 -- none is due; the faults of a disk of the journal rose in this run, or those of the dead-letter file; or a message was found
--- deleted and came with another id, the first of the input that did, and no call was made
+-- deleted and came with another id, the first of the input that did, in the list that came next, and no call was made
 abbrev pub IsCauseOf : {D : Type 0} → DiskMeaning D → FilesState D → RedriveSetting → List Entry → List Message → (reading : Option InputEnd) → Disks D → RedriveEnd → Type 0
 IsCauseOf m f s h messages reading new (end.Finished why) = AllCame s h messages × (reading ≡ Some why) × AllDeleted s.queue h
 IsCauseOf m f s h messages reading new end.CallsSpent = AllCame s h messages × (calls_begun h ≡ s.queue.calls) × HasWaiting s.queue h × IsSome reading × IsNoneDue s h
 IsCauseOf m f s h messages reading new end.DiskFault = OneRose m (first_disk f.pair) (second_disk f.pair) new.journal new.spare
 IsCauseOf m f s h messages reading new end.DestFault = Rose (m.faults f.dest.disk) (m.faults new.dead)
-IsCauseOf m f s h messages reading new (end.Changed change) = IsChanged s.queue messages change × ((sends : List ℕ → List ℕ) → redrive_calls s sends h ≡ [])
+IsCauseOf m f s h messages reading new (end.Changed change) = IsChanged s.queue messages change × IsOfNext h change × ((sends : List ℕ → List ℕ) → redrive_calls s sends h ≡ [])
 IsCauseOf m f s h messages reading new (end.BadLine index) = ⊥
 
 -- the run over these files and this input, the reading of which ended so or came to no end, left this history, and it ended so
@@ -78,6 +89,8 @@ pub record HasRun {S D F : Type 0} (t : Telling D F) (faults : S → ℕ) (left 
   -- the caller's log, where told, grew by the calls of batcher 0, and no call is without its end
   pub calls_made : Grows (t.callers.log old_caller) (t.callers.log new_caller) (redrive_calls setting t.callers.sends h)
   pub rests : is_running h (queue_lane 0) ≡ false
+  -- and no call began before all of the input had come
+  pub calls_after_all : CallsAfterAll setting h (messages_in_items (handed input)) reading
   pub cause : IsCauseOf t.disk f setting h (messages_in_items (handed input)) reading new e
 
 -- nothing ran: nothing was read or called, and nothing was written
@@ -102,18 +115,36 @@ IsFaultOf m f new (Some trouble.Dest) = Rose (m.faults f.dest.disk) (m.faults ne
 IsFaultOf m f new (Some (trouble.Changed change)) = ⊥
 IsFaultOf m f new None = Unit {0}
 
+-- the messages of these bytes, as a run with these words reads them
+abbrev pub messages_read : Words → (whole : Bool) → (bytes : List ℕ) → List Message
+messages_read w whole bytes = messages_in_items (from_start w.config.start (items_read (line_kind w.config) w.config.factor whole bytes).items)
+
+-- all that was read came: these bytes and no more, where the reading ended for this
+pub record HasReadAll {S : Type 0} (faults : S → ℕ) (w : Words) (old_input new_input : S) (whole : Bool) (bytes more : List ℕ) (s : RedriveSetting) (h : List Entry) (reading : Option InputEnd) : Type 0 where
+  pub all : AllCame s h (messages_read w whole bytes)
+  pub no_more : more ≡ []
+  pub why : InputEnd
+  pub read_to : reading ≡ Some why
+  pub ends : EndsBy (line_kind w.config) w.config.factor (faults old_input) (faults new_input) whole bytes why
+
+-- no call began, and the end of the input was not noted
+pub record HasNotCalled (h : List Entry) : Type 0 where
+  pub open_still : is_shut h ≡ false
+  pub uncalled : calls_begun h ≡ 0
+
 -- Want of memory stopped it: these bytes were read, the messages of their lines came, or the first of them, and more bytes may
 -- have been read after them. A device may have failed beside it. The caller's log grew by the calls of batcher 0, and perhaps
 -- by one further call, which still runs.
-pub record HasStopped {S D F : Type 0} (t : Telling D F) (left : S → Option (List ℕ)) (w : Words) (f : FilesState D) (old_input new_input : S) (reading : Option InputEnd) (old_caller new_caller : F) (h : List Entry) (new : Disks D) : Type 0 where
+pub record HasStopped {S D F : Type 0} (t : Telling D F) (faults : S → ℕ) (left : S → Option (List ℕ)) (w : Words) (f : FilesState D) (old_input new_input : S) (reading : Option InputEnd) (old_caller new_caller : F) (h : List Entry) (new : Disks D) : Type 0 where
   pub bytes : List ℕ
   pub more : List ℕ
   pub whole : Bool
   pub taken : TakesFront (left old_input) (left new_input) (bytes ++ more)
+  pub at_end : whole ≡ true → IsAtEnd (left new_input)
   pub setting : RedriveSetting
-  pub is_setting : IsSettingOf w f (messages_in_items (from_start w.config.start (items_read (line_kind w.config) w.config.factor whole bytes).items)) setting
-  -- the end of the input was noted only where its reading had ended
-  pub shut_when_read : is_shut h ≡ true → IsSome reading
+  pub is_setting : IsSettingOf w f (messages_read w whole bytes) setting
+  -- all of the input came, and its reading had ended; or no call began, nor was its end noted
+  pub calls_after_all : HasReadAll faults w old_input new_input whole bytes more setting h reading ⊎ HasNotCalled h
   pub trouble : Option Trouble
   pub fault : IsFaultOf t.disk f new trouble
   pub hand : List Entry
@@ -122,6 +153,6 @@ pub record HasStopped {S D F : Type 0} (t : Telling D F) (left : S → Option (L
   pub calls_made : HasLogged t.callers.sends setting.queue h 0 (t.callers.log old_caller) (t.callers.log new_caller)
 
 -- or it stopped before it began
-abbrev pub HasStoppedRun : {S D F : Type 0} → Telling D F → (left : S → Option (List ℕ)) → Words → FilesState D → (old_input new_input : S) → (reading : Option InputEnd) → (old_caller new_caller : F) → List Entry → Disks D → Type 0
-HasStoppedRun t left w f old_input new_input reading old_caller new_caller h new =
-    HasNotBegun t f old_input new_input reading old_caller new_caller h new ⊎ HasStopped t left w f old_input new_input reading old_caller new_caller h new
+abbrev pub HasStoppedRun : {S D F : Type 0} → Telling D F → (faults : S → ℕ) (left : S → Option (List ℕ)) → Words → FilesState D → (old_input new_input : S) → (reading : Option InputEnd) → (old_caller new_caller : F) → List Entry → Disks D → Type 0
+HasStoppedRun t faults left w f old_input new_input reading old_caller new_caller h new =
+    HasNotBegun t f old_input new_input reading old_caller new_caller h new ⊎ HasStopped t faults left w f old_input new_input reading old_caller new_caller h new

@@ -1,5 +1,5 @@
 -- What a run of a redrive leaves of its history and of its disks. This product's own.
-use Rattle.std.specs.Prelude.{◌≡◌, ◌≤◌, ◌++◌, ℕ, Bool, true, List, [], ◌∷◌, length, Option, Some, reverse}
+use Rattle.std.specs.Prelude.{◌≡◌, ◌≤◌, ◌++◌, ℕ, Bool, true, false, List, [], ◌∷◌, length, Option, Some, reverse}
 use Rattle.std.specs.List.{All, filter_map}
 use Rattle.esm_io.specs.Images.{Only}
 use Rattle.esm_io.specs.Meanings.{DiskMeaning}
@@ -19,7 +19,7 @@ use Rattle.esm_model.specs.Books.{entry_line}
 use Rattle.esm_model.specs.Entries.{CallsFollowShut}
 use Rattle.esm_folder.specs.Upkeep.{AreHonest, AreSettled, PairHolds}
 use Rattle.esm_queue_model.specs.QueueSetting.{ExtendsMessages, is_fifo}
-use Rattle.esm_queue_model.specs.QueueEntries.{queue_count}
+use Rattle.esm_queue_model.specs.QueueEntries.{queue_count, is_deleted}
 use Rattle.esm_queue_model.specs.QueueBatch.{last_queue_event}
 use Rattle.esm_queue_model.specs.HistoryLaws.{DeletedOnce, OrderPerGroup}
 use Rattle.esm_queue_book.specs.Books.{payloads_in}
@@ -28,7 +28,7 @@ use Rattle.esm_redrive.specs.ReadsBack.{HasLetter}
 use Rattle.esm_redrive_core.specs.RedriveView.{new_setting}
 use Rattle.esm_redrive_life.specs.Content.{DeletionsAreRecorded, HasValidMessages}
 use Rattle.esm_redrive_model.specs.Due.{moved_ids}
-use Rattle.esm_redrive_model.specs.RedriveLines.{FoundMovesAreLined, IsLineOfDue, LeavesMovesLined, MovedWhereLined}
+use Rattle.esm_redrive_model.specs.RedriveLines.{FoundMovesAreLined, IsLineOfDue, LeavesMovesLined, MovedWhereLined, is_lined}
 use Rattle.esm_redrive_model.specs.RedriveSetting.{RedriveSetting, redrive_over}
 use Rattle.esm_redrive_model.specs.RedriveReport.{redrive_calls}
 use Rattle.esm_redrive_model.specs.RedriveStep.{LegalRedrive, SettledRedrive}
@@ -36,7 +36,7 @@ use Rattle.esm_redrive_model.specs.RedriveLaws.{EachHasOneEnd, HaveDifferentIds,
 use Rattle.esm_redrive_book.specs.Keeping.{FollowsFront}
 use Rattle.esm_runner.specs.Files.{FilesState}
 use Rattle.esm_runner.specs.Given.{AreGiven}
-use Rattle.esm_redrive_run.specs.Earned.{DeletedOnlyEarned}
+use Rattle.esm_redrive_run.specs.Earned.{DeletedAllEarned, DeletedOnlyEarned}
 use Rattle.esm_runner.specs.Headline.{IsInHand, PairStopped}
 
 -- the disks as a run left them: the journal with its spare, and the dead-letter file
@@ -151,10 +151,13 @@ abbrev pub IsTried : Option Trouble → List Entry → Type 0
 IsTried (Some Dest) tried = length tried ≤ 1
 IsTried _ tried = tried ≡ []
 
--- the tried entry follows a front of the history, and its line is that of the first message that was due there
+-- an entry in hand, or a tried one, follows a front of the history, and its line is that of the first message that was due there;
+-- after the whole history that message waits, and its id stands in no line
 pub record IsTriedMove (s : RedriveSetting) (h : List Entry) (e : Entry) (line : List ℕ) : Type 0 where
   pub front : FollowsFront s h e
   pub due : IsLineOfDue s front.before e line
+  pub waits : is_deleted s.queue h due.place ≡ false
+  pub fresh : is_lined s h due.message.id ≡ false
 
 -- each reply is the one that stands with its event among the calls, whatever the caller sends for an event
 abbrev pub RepliesAreLogged : RedriveSetting → List Entry → Type 0
@@ -181,15 +184,17 @@ pub record Headline {D : Type 0} (m : DiskMeaning D) (gave : ℕ → Bool) (f : 
   pub journal_stopped : trouble ≡ Some Disk → JournalStopped m f s h hand new
   -- an entry is in hand only where a disk of the journal failed, and then one at most
   pub in_hand : IsInHand trouble hand
-  -- it may follow a front of the history, after which calls and the input ended alone
+  -- it may follow a front of the history, after which calls and the input ended alone; where it has a line it moves the first
+  -- message that was due, which waits and had none
   pub hand_follows : (e : Entry) → hand ≡ e ∷ [] → FollowsFront s h e
+  pub hand_moves : (e : Entry) (line : List ℕ) → hand ≡ e ∷ [] → entry_line e ≡ Some line → IsTriedMove s h e line
   -- what a crash leaves since the run's start: the old content followed by a prefix of the payloads of the trace
   pub crash : CrashKept m f s h hand new
   -- the dead-letter file has the old lines followed by those of the trace; where a device failed, one further line may follow,
   -- that of the entry in hand or of the tried one
   pub dead_letters_kept : DeadLettersKept m f trouble h hand tried new
   -- an entry is tried only where the dead-letter file failed, and then one at most: it may follow a front of the history, after
-  -- which calls and the input ended alone, and its line is that of the first message that was due
+  -- which calls and the input ended alone, and its line is that of the first message that was due, which waits and had none
   pub is_tried : IsTried trouble tried
   pub tried_follows : (e : Entry) → tried ≡ e ∷ [] → FollowsFront s h e
   pub tried_moves : (e : Entry) (line : List ℕ) → tried ≡ e ∷ [] → entry_line e ≡ Some line → IsTriedMove s h e line
@@ -213,9 +218,12 @@ pub record Headline {D : Type 0} (m : DiskMeaning D) (gave : ℕ → Bool) (f : 
   -- the lines are those of the messages that were moved, in order; an id stands in one of them at most, and in none where it
   -- stood in the dead-letter file
   pub moved_once : MovedOnce s h
-  -- a message that came is deleted only where it was found deleted, a reply counts it as succeeded, it does not pass the filter,
-  -- its line was found in the dead-letter file, or it was received as often as it may be
+  -- a message has a fate only where it was found deleted with it, or that is earned: it succeeded where a reply counts it as
+  -- succeeded, was filtered where it does not pass the filter, and was moved where its line was found in the dead-letter file or it
+  -- was received as often as it may be
   pub only_earned : DeletedOnlyEarned s h
+  -- and where no device failed each message whose deletion is earned, but by its receives alone, is deleted
+  pub all_earned : (trouble ≡ Some Disk → ⊥) → (trouble ≡ Some Dest → ⊥) → DeletedAllEarned s h
   -- no message is deleted twice, and none that was found deleted
   pub deleted_once : DeletedOnce s.queue h
   -- of a FIFO queue no batch overtakes an earlier message of one of its groups

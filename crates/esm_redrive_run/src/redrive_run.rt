@@ -166,7 +166,7 @@ fn run_opened<R: Wait, S: Source, D: Disk, C: Clock, F: Caller>(
         (words_of run.book.redrive) (files_of before.now.journal.value before.now.spare.value before.now.failures.value said run.book.redrive)
         run.input.source result.input result.reading.value caller.old caller.new (reverse result.trace.items)
         (record { journal = result.journal; spare = result.spare; dead = result.dead })) }
-    ensures stopped { OnErr result.end (HasStopped (telling (outside C.gave F.sends F.log) (meaning D.Disk)) S.left
+    ensures stopped { OnErr result.end (HasStopped (telling (outside C.gave F.sends F.log) (meaning D.Disk)) S.faults S.left
         (words_of run.book.redrive) (files_of before.now.journal.value before.now.spare.value before.now.failures.value said run.book.redrive)
         run.input.source result.input result.reading.value caller.old caller.new (reverse result.trace.items)
         (record { journal = result.journal; spare = result.spare; dead = result.dead })) }
@@ -226,7 +226,7 @@ pub fn run_redrive<R: Wait, S: Source, D: Disk, C: Clock, F: Caller>(
         (record { config = config; calls = calls; visibility = visibility_ms; max_receives = max_receives }) files
         input result.input result.reading.value caller.old caller.new (reverse result.trace.items)
         (record { journal = result.journal; spare = result.spare; dead = result.dead })) }
-    ensures stopped { OnErr result.end (HasStoppedRun (telling (outside C.gave F.sends F.log) (meaning D.Disk)) S.left
+    ensures stopped { OnErr result.end (HasStoppedRun (telling (outside C.gave F.sends F.log) (meaning D.Disk)) S.faults S.left
         (record { config = config; calls = calls; visibility = visibility_ms; max_receives = max_receives }) files
         input result.input result.reading.value caller.old caller.new (reverse result.trace.items)
         (record { journal = result.journal; spare = result.spare; dead = result.dead })) }

@@ -21,7 +21,8 @@ use Rattle.esm_redrive_run.specs.Laws.{AreLaws}
 use Rattle.esm_redrive_run.specs.Runs.{IsLeft, files_of, words_of}
 use Rattle.esm_redrive_run.specs.declared.run.RedriveEnd.{RedriveEnd}
 use Rattle.esm_redrive_run.proofs.Headlines.{AreOf}
-use Rattle.esm_redrive_run.proofs.Ways.{HasCome, IsMadeFor, Means, StoodSo, ended_by, found_ran, found_stays, made_for, reason_so, stopped_by}
+use Rattle.esm_redrive_run.proofs.InputRead.{IsMadeFor, made_for}
+use Rattle.esm_redrive_run.proofs.Ways.{HasCome, Means, StoodSo, ended_by, found_ran, found_stays, reason_so, stopped_by}
 use Rattle.esm_redrive_run.proofs.redrive_run.run_opened.Goals as goal
 
 abbrev see : {D : Type 0} → SerialRedrive D → Book D
@@ -73,7 +74,6 @@ returns g c =
       came = e.came;
       changed = e.changed;
       no_change = e.no_change;
-      unended = e.unended;
       read = e.read;
       good = e.good;
       cut = e.cut;
@@ -118,7 +118,7 @@ returns g c =
     let source_is : out.input ≡ i.source = c.closed.ensures.input ∙ c.into_parts-source.ensures.source in
     let reading : out.reading.value ≡ i.end = c.closed.ensures.reading ∙ (c.of-read_to.ensures ∙ c.into_parts-source.ensures.end) in
     let P : RedriveEnd → Type 0 = HasRun t faults left_in w f source out.input out.reading.value old caller (reverse out.trace.items) new in
-    let Q : Type 0 = HasStopped t left_in w f source out.input out.reading.value old caller (reverse out.trace.items) new in
+    let Q : Type 0 = HasStopped t faults left_in w f source out.input out.reading.value old caller (reverse out.trace.items) new in
     record {
       ended = subst (λ x. IfOk x P) (sym c.closed.ensures.end)
           (IfOk-weaker c.end_of-end.result (EndsBy r c.into_parts-history.result.trouble c.into_parts-source.result.1) P
@@ -134,9 +134,9 @@ returns g c =
       stopped = subst (λ x. OnErr x Q) (sym c.closed.ensures.end)
           (on_err_weaker c.end_of-end.result
           (λ is.
-          subst (λ (v : g.row.S.Denot × Option InputEnd). HasStopped t left_in w f source v.0 v.1 old caller (reverse out.trace.items) new)
+          subst (λ (v : g.row.S.Denot × Option InputEnd). HasStopped t faults left_in w f source v.0 v.1 old caller (reverse out.trace.items) new)
           (λ k. (sym source_is k, sym reading k))
-          (subst (λ (h : List Entry). HasStopped t left_in w f source i.source i.end old caller h new) (sym trace)
+          (subst (λ (h : List Entry). HasStopped t faults left_in w f source i.source i.end old caller h new) (sym trace)
           (stopped_by _ see means t w f first now stood faults left_in source i old caller new r laws left of c.trouble.ensures.cause made come is)))
           c.end_of-end.ensures.stopped);
       said = c.closed.ensures.said;

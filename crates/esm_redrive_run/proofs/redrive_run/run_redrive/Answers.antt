@@ -54,7 +54,7 @@ returns g c =
     let both = not_run t g.S.Source.faults g.S.Source.left w f c.args.input out.input out.reading.value c.args.caller.now c.args.caller.now (reverse out.trace.items) new refused.why lines none in
     record {
       ended = subst (λ r. IfOk r (HasEnded t g.S.Source.faults g.S.Source.left w f c.args.input out.input out.reading.value c.args.caller.now c.args.caller.now (reverse out.trace.items) new)) (sym c.closed.ensures.end) both.0;
-      stopped = subst (λ r. OnErr r (HasStoppedRun t g.S.Source.left w f c.args.input out.input out.reading.value c.args.caller.now c.args.caller.now (reverse out.trace.items) new)) (sym c.closed.ensures.end) both.1;
+      stopped = subst (λ r. OnErr r (HasStoppedRun t g.S.Source.faults g.S.Source.left w f c.args.input out.input out.reading.value c.args.caller.now c.args.caller.now (reverse out.trace.items) new)) (sym c.closed.ensures.end) both.1;
       said = c.closed.ensures.said ∙ parts.ensures.said;
     }
 
@@ -88,10 +88,10 @@ returns-in-Ok g c =
           (subst (λ (s : g.row.S.Denot). HasRun t faults left (words_of run.book.redrive) (files_of parts.result.journal.value parts.result.spare.value parts.result.failures.value parts.result.said run.book.redrive) s out.input out.reading.value old caller h new e) source has))))
           c.run_opened.ensures.ended;
       stopped = on_err_weaker out.end
-          (λ has. as_stopped t left w f c.args.input out.input out.reading.value old caller h new
-          (subst (λ (v : Words). HasStopped t left v f c.args.input out.input out.reading.value old caller h new) words
-          (subst (λ (x : FilesState g.row.D.Denot). HasStopped t left (words_of run.book.redrive) x c.args.input out.input out.reading.value old caller h new) files
-          (subst (λ (s : g.row.S.Denot). HasStopped t left (words_of run.book.redrive) (files_of parts.result.journal.value parts.result.spare.value parts.result.failures.value parts.result.said run.book.redrive) s out.input out.reading.value old caller h new) source has))))
+          (λ has. as_stopped t faults left w f c.args.input out.input out.reading.value old caller h new
+          (subst (λ (v : Words). HasStopped t faults left v f c.args.input out.input out.reading.value old caller h new) words
+          (subst (λ (x : FilesState g.row.D.Denot). HasStopped t faults left (words_of run.book.redrive) x c.args.input out.input out.reading.value old caller h new) files
+          (subst (λ (s : g.row.S.Denot). HasStopped t faults left (words_of run.book.redrive) (files_of parts.result.journal.value parts.result.spare.value parts.result.failures.value parts.result.said run.book.redrive) s out.input out.reading.value old caller h new) source has))))
           c.run_opened.ensures.stopped;
       said = c.run_opened.ensures.said ∙ parts.ensures.said;
     }

@@ -12,7 +12,7 @@ use Rattle.esm_queue_book.proofs.Items.{are_messages, few_messages, valid_messag
 use Rattle.esm_redrive_core.specs.Told.{MayCome}
 use Rattle.esm_redrive_run.specs.Book.{Book, IsLegalBook, items_in}
 use Rattle.esm_redrive_run.proofs.Bringing.{CameDid, HasCome, come, legal_book, may_come, none_came}
-use Rattle.esm_redrive_run.proofs.Items.{all_come, some_come, room_for}
+use Rattle.esm_redrive_run.proofs.Items.{all_come, some_come, room_for, stay_as}
 use Rattle.esm_redrive_run.proofs.Stays.{kind_stays, function_stays, if_ok}
 use Rattle.esm_redrive_run.specs.Runs.{dead_file}
 use Rattle.esm_redrive_run.proofs.Stepping.{gone_none, no_calls}
@@ -51,6 +51,7 @@ returns-in_default g c =
       up = tt;
       down = inl refl;
       changed = λ change is. absurd (cc);
+      refused = λ change is n. refl;
       tells = refl;
     }
 
@@ -78,5 +79,6 @@ returns g c =
       up = has.up;
       down = has.down;
       changed = has.changed;
+      refused = λ change is. stay_as old new (has.refused change is);
       tells = has.tells;
     }
