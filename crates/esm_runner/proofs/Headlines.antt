@@ -28,6 +28,7 @@ use Rattle.esm_runner.specs.Files.{FilesState}
 use Rattle.esm_runner.specs.Headline.{AnswersAreLogged, CrashKept, Devices, FailureLinesKept, Headline, IsInHand, JournalKept, JournalStopped, LinesKept, LinesStopped, OpensToFrontOf, PairStopped, Telling}
 use Rattle.esm_runner.specs.Runs.{IsLeft, file_dest}
 use Rattle.esm_runner.specs.Laws.{AreLaws, PayloadsStay}
+use Rattle.esm_runner.proofs.FailureImages.{dest_honest, lines_crash}
 use Rattle.esm_runner.proofs.Payloads.{all_stay, left_stays, own_legal}
 use Rattle.esm_runner.proofs.Stopped.{HasGoneDown, filter_map_few, pair_stopped}
 
@@ -99,10 +100,6 @@ lines_grown {D} {line} m f b left =
     let grown : ◌≡◌ {A = Option (List (List ℕ))} (Some b.dest.payloads) (Some (b.found_dest.payloads ++ lines)) = left.lines.lines in
     let told : b.dest.payloads ≡ b.found_dest.payloads ++ lines = cc in
     told ∙ ap (λ (d : JournalState D). d.payloads ++ lines) left.found_dest
-
-dest_honest : {D : Type 0} {line : List ℕ → List ℕ} (m : DiskMeaning D) (f : FilesState D) (b : BookState D (JournalState D)) → IsLeft m line f b → m.honest f.failures ≡ true → m.honest b.dest.disk ≡ true
-dest_honest {D} m f b left honest =
-    left.lines.honesty ∙ (ap (λ (d : JournalState D). m.honest d.disk) left.found_dest ∙ (left.files.lines_read.honesty ∙ honest))
 
 lines_up : {D F : Type 0} (t : Telling D F) (f : FilesState D) (d : JournalState D) (lines : List (List ℕ)) (new : Devices D F) → d.payloads ≡ f.dest.payloads ++ lines → d.down ≡ false
     → (t.disk.honest f.failures ≡ true → t.disk.honest d.disk ≡ true) → KeepsWhileUp t.disk d → new.failures ≡ d.disk → LinesKept t f lines new
@@ -220,19 +217,22 @@ headline t f b new laws left of given =
     let own = own_legal b.core.setting b.core.past left.legal in
     record {
       legal_trace = left.legal;
+      settled = left.settled;
+      can_be_said = left.can_be_said;
       moments = given;
       journal_kept = journal_kept t f b new laws.stay left of;
       journal_stopped = journal_stopped t f b new laws.stay left of;
-      failure_lines_kept = lines_kept t f b.dest b.trouble b.core.past b.core.owed new (lines_grown t.disk f b left) left.lines.failed (dest_honest t.disk f b left) left.dest_kept left.dest_stopped of.failures;
+      failure_lines_kept = lines_kept t f b.dest b.trouble b.core.past b.core.owed new (lines_grown t.disk f b left) left.lines.failed (dest_honest t.disk t.line f b left) left.dest_kept left.dest_stopped of.failures;
+      failure_lines_crash = lines_crash t f b new left of.failures;
       in_hand = is_in_hand b.trouble b.core.owed;
       hand_follows = left.hand_follows;
       crash = crash_kept t f b new laws.stay left of;
       one_fate = laws.one b.core.setting b.core.past own;
       fate_is_earned = laws.earned b.core.setting b.core.past own;
       answers_are_logged = answers_logged t b.core.setting b.core.past laws;
-      fates_are_recorded = laws.fates b.core.setting b.core.past f.said f.pair.payloads own left.may_be_said left.files.tells left.fates;
+      fates_are_recorded = laws.fates b.core.setting b.core.past f.said f.pair.payloads own left.can_be_said.entries left.files.tells left.fates;
       checkpoint_is_longest = laws.longest b.core.setting b.core.past;
-      checkpoint_is_recorded = laws.kept b.core.setting b.core.past f.said f.pair.payloads own left.may_be_said left.files.tells left.fates;
+      checkpoint_is_recorded = laws.kept b.core.setting b.core.past f.said f.pair.payloads own left.can_be_said.entries left.files.tells left.fates;
       order_per_key = laws.order b.core.setting b.core.past own;
       no_repeat = laws.once b.core.setting b.core.past own;
       every_record_counted = laws.counted b.core.setting b.core.past;

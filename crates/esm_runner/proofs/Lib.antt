@@ -1,4 +1,5 @@
 pub mod Goods
+pub mod FailureImages
 pub mod Headlines
 pub mod Openings
 pub mod Payloads

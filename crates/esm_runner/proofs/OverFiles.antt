@@ -1,5 +1,5 @@
 -- A run over a destination that stands over its failure file, as a run over the file.
-use Rattle.std.proofs.Common.{◌≡◌, ◌∙◌, ℕ, false, List, [], ◌∷◌, ◌++◌, map, Result, Ok, Err, Option, Some, None, ap, ap₂, refl, subst, sym}
+use Rattle.std.proofs.Common.{◌≡◌, ◌∙◌, ◌≤◌, ℕ, true, false, List, [], ◌∷◌, ◌++◌, map, Result, Ok, Err, Option, Some, None, ap, ap₂, inl, inr, refl, subst, sym}
 use Rattle.std.specs.Prelude.{IfOk, OnErr, OnOk}
 use Rattle.esm_io.specs.Faults.{Rose}
 use Rattle.esm_io.specs.Meanings.{DestMeaning, DiskMeaning}
@@ -18,7 +18,9 @@ use Rattle.esm_stream_core.specs.CoreView.{lines_of}
 use Rattle.esm_stream_core.specs.Told.{opened}
 use Rattle.esm_stream_core.specs.declared.decisions.Opened.{Opened}
 use Rattle.esm_stream_book.specs.Books.{BookState, LeavesFirst, OpensToFirst, sent_of}
-use Rattle.esm_stream_book.specs.Keeping.{HasJournal, HasLines, IsCause, IsSound, entries_left}
+use Rattle.esm_book.specs.Growth.{IsHeld, ReadsFront, Takes}
+use Rattle.esm_book.specs.State.{in_delivery}
+use Rattle.esm_stream_book.specs.Keeping.{HasJournal, HasLines, IsCause, IsSound, entries_left, lines_left}
 use Rattle.esm_workers.specs.Working.{Outside}
 use Rattle.esm_runner.specs.FailureFile.{DeliversTo}
 use Rattle.esm_runner.specs.Headline.{Telling}
@@ -29,7 +31,7 @@ use Rattle.esm_runner.proofs.Ways.{HasCome, IsCauseIn}
 -- the book
 
 pub sound_over : {D T : Type 0} (file : T → JournalState D) (b : BookState D T) → IsSound b → IsSound (over_file file b)
-sound_over file b sound = record { records = sound.records; of_stream = sound.of_stream; legal = sound.legal; settled = sound.settled; hand_follows = sound.hand_follows }
+sound_over file b sound = record { records = sound.records; of_stream = sound.of_stream; legal = sound.legal; settled = sound.settled; hand_follows = sound.hand_follows; tried_follows = sound.tried_follows }
 
 pub journal_over : {D T : Type 0} (m : DiskMeaning D) (file : T → JournalState D) (b : BookState D T) → HasJournal m b → HasJournal m (over_file file b)
 journal_over m file b has = record { payloads = has.payloads; down = has.down; found_up = has.found_up; epoch = has.epoch; swapped = has.swapped; spare = has.spare; honesty = has.honesty }
@@ -111,6 +113,36 @@ module _ {D T : Type 0} (m : DiskMeaning D) (n : DestMeaning T) (file : T → Jo
   sent_over : (es : List Entry) → sent_of n es ≡ map line (lines_of es)
   sent_over es = sent_alike n.sends line means.sends (lines_of es)
 
+  reads_over : (held : List (List ℕ)) (es : List Entry) (left : List ℕ) → ReadsFront n.reads_as held (sent_of n es) left → ReadsFront (file_dest m line).reads_as held (map line (lines_of es)) left
+  reads_over held es left r = record { front = r.front; rest = r.rest; split = r.split ∙ sent_over es; reads = (means.reads_as left (held ++ r.front)).0 r.reads }
+
+  held_under : (d : T) (held : List (List ℕ)) → IsHeld (file_dest m line) (file d) held → IsHeld n d held
+  held_under d held only left since =
+      (means.reads_as left held).1 (only left (subst (λ (t : ℕ). m.since (file d).disk t left) (means.moment d) ((means.since d (n.moment d) left).0 since)))
+
+  takes_over : (old new : T) (held : List (List ℕ)) (es : List Entry) → Takes n old new held (sent_of n es) → Takes (file_dest m line) (file old) (file new) held (map line (lines_of es))
+  takes_over old new held es takes = record {
+    later = subst (λ (t : ℕ). t ≤ m.moment (file new).disk) (means.moment old) (subst (λ (t : ℕ). n.moment old ≤ t) (means.moment new) takes.later);
+    images = λ t left early since.
+        elim (takes.images t left (subst (λ (u : ℕ). t ≤ u) (sym (means.moment old)) early) ((means.since new t left).1 since)) [
+          | inl was ↦ inl ((means.since old t left).0 was)
+          | inr front ↦ inr (reads_over held es left front)
+        ];
+  }
+
+  images_over : (b : BookState D T) → HasLines n b → m.honest (file b.found_dest).disk ≡ true → (held : List (List ℕ)) → ◌≡◌ {A = Option (List (List ℕ))} (Some (file b.found_dest).payloads) (Some held)
+      → Takes (file_dest m line) (file b.found_dest) (file b.dest) held (map line (lines_of (lines_left b)))
+  images_over b has honest held told = takes_over b.found_dest b.dest held (lines_left b) (has.images (means.honest b.found_dest ∙ honest) held (means.lines b.found_dest ∙ told))
+
+  durable_over : (b : BookState D T) → HasLines n b → m.honest (file b.found_dest).disk ≡ true → (held : List (List ℕ)) → ◌≡◌ {A = Option (List (List ℕ))} (Some (file b.found_dest).payloads) (Some held)
+      → IsHeld (file_dest m line) (file b.found_dest) held → (left : List ℕ) → m.since (file b.dest).disk (m.moment (file b.dest).disk) left
+      → ReadsFront (file_dest m line).reads_as (held ++ map line (lines_of (entries_left b))) (map line (lines_of (in_delivery b.trouble b.core.owed))) left
+  durable_over b has honest held told only left since =
+      let under : n.since b.dest (n.moment b.dest) left = (means.since b.dest (n.moment b.dest) left).1 (subst (λ (t : ℕ). m.since (file b.dest).disk t left) (sym (means.moment b.dest)) since) in
+      let read = has.durable (means.honest b.found_dest ∙ honest) held (means.lines b.found_dest ∙ told) (held_under b.found_dest held only) left under in
+      subst (λ (lines : List (List ℕ)). ReadsFront (file_dest m line).reads_as (held ++ lines) (map line (lines_of (in_delivery b.trouble b.core.owed))) left) (sent_over (entries_left b))
+      (reads_over (held ++ sent_of n (entries_left b)) (in_delivery b.trouble b.core.owed) left read)
+
   pub lines_over : (b : BookState D T) → HasLines n b → HasLines (file_dest m line) (over_file file b)
   lines_over b has = record {
     lines = subst (λ (lines : List (List ℕ)). Grows (Some (file b.found_dest).payloads) (Some (file b.dest).payloads) lines) (sent_over (entries_left b))
@@ -118,6 +150,8 @@ module _ {D T : Type 0} (m : DiskMeaning D) (n : DestMeaning T) (file : T → Jo
     failed = sym (means.failed b.dest) ∙ has.failed;
     found_usable = sym (means.failed b.found_dest) ∙ has.found_usable;
     honesty = sym (means.honest b.dest) ∙ (has.honesty ∙ means.honest b.found_dest);
+    images = images_over b has;
+    durable = durable_over b has;
   }
 
   -- what a crash leaves

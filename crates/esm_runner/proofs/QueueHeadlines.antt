@@ -168,6 +168,8 @@ pub headline : {D F : Type 0} (t : Telling D F) (f : FilesState D) (b : BookStat
 headline {D} t f b new laws left of given = record {
   legal_trace = λ messages goes. laws.more b.core.setting b.core.past messages goes left.legal;
   messages_came = left.came;
+  valid = left.valid;
+  few = left.few;
   moments = given;
   journal_kept = journal_kept t f b new left of;
   journal_stopped = journal_stopped t f b new left of;

@@ -1,5 +1,5 @@
 -- A run that want of memory stopped before it began.
-use Rattle.std.proofs.Common.{◌≡◌, ◌∙◌, ℕ, Bool, true, false, List, [], Result, Ok, Err, Option, Some, None, ap, inl, refl, subst, sym}
+use Rattle.std.proofs.Common.{◌≡◌, ◌∙◌, ℕ, Bool, true, false, List, [], ◌++◌, Result, Ok, Err, Option, Some, None, ap, arith, inl, refl, subst, sym}
 use Rattle.std.specs.Prelude.{OnErr, if◌then◌else◌, slice_index_or}
 use Rattle.std.proofs.lemmas.List.{append-nil}
 use Rattle.esm_io.specs.Images.{Only}
@@ -8,7 +8,7 @@ use Rattle.esm_io.specs.Told.{Grows, TakesFront}
 use Rattle.esm_journal.specs.File.{header_of}
 use Rattle.esm_journal.specs.Pair.{PairKeeps, PairOpensTo, first_disk, second_disk}
 use Rattle.esm_journal.specs.Reads.{IsOnlyRead}
-use Rattle.esm_journal.specs.State.{JournalState}
+use Rattle.esm_journal.specs.State.{JournalState, OpensTo}
 use Rattle.esm_model.specs.declared.config.Config.{Config}
 use Rattle.esm_model.specs.declared.config.Start.{Start}
 use Rattle.esm_ingest.specs.Coming.{of_shard}
@@ -19,11 +19,12 @@ use Rattle.esm_input.specs.Positions.{from_start}
 use Rattle.esm_input.specs.Reading.{items_read}
 use Rattle.esm_folder.proofs.OpenedDisks.{are_honest}
 use Rattle.esm_stream_book.specs.Books.{BookState}
+use Rattle.esm_stream_book.specs.Keeping.{HasLines}
 use Rattle.esm_runner.specs.Coming.{records_in_items}
 use Rattle.esm_runner.specs.Ended.{HasStoppedRun}
 use Rattle.esm_runner.specs.Files.{FilesState, IsOpenedFiles}
 use Rattle.esm_runner.specs.Headline.{Devices, Telling}
-use Rattle.esm_runner.specs.Runs.{IsLeft, LeavesSince, new_input}
+use Rattle.esm_runner.specs.Runs.{CountsNow, IsLeft, LeavesSince, file_dest, new_input}
 use Rattle.esm_runner.specs.Laws.{AreLaws}
 use Rattle.esm_runner.proofs.Headlines.{AreOf, headline}
 use Rattle.esm_runner.proofs.Ways.{stopped}
@@ -71,16 +72,34 @@ leaves_all m line config calls f files honest other_honest only other_only one o
   delivered = ([], ap Some (sym (append-nil f.dest.payloads)));
 }
 
-left_new : {D : Type 0} (m : DiskMeaning D) (line : List ℕ → List ℕ) (config : Config) (calls : ℕ) (f : FilesState D) → IsOpenedFiles m f → IsLeft m line f (new_book config calls f)
-left_new m line config calls f files = record {
+-- the lines that were found are all that is left of the failure file
+lines_found : {D : Type 0} (m : DiskMeaning D) (line : List ℕ → List ℕ) (config : Config) (calls : ℕ) (f : FilesState D) → IsOpenedFiles m f → HasLines (file_dest m line) (new_book config calls f)
+lines_found m line config calls f files = record {
+  lines = ap Some (sym (append-nil f.dest.payloads));
+  failed = files.dest_up;
+  found_usable = files.dest_up;
+  honesty = refl;
+  images = λ honest held told. record { later = omega arith; images = λ t left early since. inl since };
+  durable = λ honest held told only left since. record {
+    front = [];
+    rest = [];
+    split = refl;
+    reads = subst (λ (ls : List (List ℕ)). OpensTo (header_of 1) ls left) (sym (append-nil (held ++ [])))
+        (subst (λ (ls : List (List ℕ)). OpensTo (header_of 1) ls left) (sym (append-nil held)) (only left since));
+  };
+}
+
+left_new : {D : Type 0} (m : DiskMeaning D) (line : List ℕ → List ℕ) (config : Config) (calls : ℕ) (f : FilesState D) → CountsNow m → IsOpenedFiles m f → IsLeft m line f (new_book config calls f)
+left_new m line config calls f now files = record {
   files = files;
   found = refl;
   found_dest = refl;
   legal = λ streams extends. tt;
+  settled = λ up streams extends. record { sorted = λ n. refl; paid = λ lane. refl };
   fates = refl;
-  may_be_said = tt;
+  can_be_said = record { counted = λ n. omega arith; entries = tt; in_hand = λ e some. absurd (cc) };
   journal = record { payloads = sym (append-nil f.pair.payloads); down = files.up; found_up = files.up; epoch = refl; swapped = refl; spare = refl; honesty = refl };
-  lines = record { lines = ap Some (sym (append-nil f.dest.payloads)); failed = files.dest_up; found_usable = files.dest_up; honesty = refl };
+  lines = lines_found m line config calls f files;
   since = leaves_all m line config calls f files;
   pair_kept = files.kept;
   opened_since = λ disk. absurd (cc);
@@ -89,13 +108,15 @@ left_new m line config calls f files = record {
   dest_stopped = λ honest down. absurd (let up = files.dest_up in cc);
   hand = refl;
   hand_follows = λ e some. absurd (cc);
+  tried_follows = λ e some. absurd (cc);
+  now = now;
 }
 
-pub not_begun : {S D F : Type 0} (t : Telling D F) (left_in : S → Option (List ℕ)) (config : Config) (start : Start) (calls : ℕ) (f : FilesState D) (old : S) (callers : List F) (new : Devices D F) → AreLaws → IsOpenedFiles t.disk f
+pub not_begun : {S D F : Type 0} (t : Telling D F) (left_in : S → Option (List ℕ)) (config : Config) (start : Start) (calls : ℕ) (f : FilesState D) (old : S) (callers : List F) (new : Devices D F) → AreLaws → CountsNow t.disk → IsOpenedFiles t.disk f
     → new.journal ≡ first_disk f.pair → new.spare ≡ second_disk f.pair → new.failures ≡ f.dest.disk → new.callers ≡ callers → HasStoppedRun t left_in config start calls f old old callers [] new
-not_begun {S} {D} {F} t left_in config start calls f old callers new laws files first second lines same =
+not_begun {S} {D} {F} t left_in config start calls f old callers new laws now files first second lines same =
     let b : BookState D (JournalState D) = new_book config calls f in
-    let left : IsLeft t.disk t.line f b = left_new t.disk t.line config calls f files in
+    let left : IsLeft t.disk t.line f b = left_new t.disk t.line config calls f now files in
     let of : AreOf b new = record { journal = first; spare = second; failures = lines } in
     stopped t left_in config start calls f old (new_input config start old) callers b b new laws (record { core = refl }) left of tt
     (record { kind = refl; factor = refl; start_is = refl; found = refl }) refl (headline t f b new laws left of tt)

@@ -13,11 +13,10 @@ use Rattle.esm_model.specs.declared.config.Start.{Start}
 use Rattle.esm_model.specs.declared.item.Record.{Record}
 use Rattle.esm_model.specs.declared.memory.OutOfMemory.{OutOfMemory}
 use Rattle.esm_model.specs.Setting.{Setting, over}
-use Rattle.esm_journal_record.specs.EntryPayload.{AllMayBeSaid}
-use Rattle.esm_record_bounds.specs.Bounds.{AreWithinBounds}
+use Rattle.esm_record_bounds.specs.Bounds.{AreCountedInFourBytes}
 use Rattle.esm_book.specs.State.{in_hand}
 use Rattle.esm_ledger.specs.Ledger.{opened_with}
-use Rattle.esm_stream_core.specs.CoreView.{CoreView, full_setting, new_view}
+use Rattle.esm_stream_core.specs.CoreView.{CoreView, new_view}
 use Rattle.esm_stream_core.specs.Told.{opened}
 use Rattle.esm_model.specs.declared.item.LineKind.{LineKind}
 use Rattle.esm_model.specs.declared.item.LineKind.TheVariants as kinds
@@ -39,7 +38,7 @@ use Rattle.esm_runner.specs.declared.run.MappingEnd.TheVariants as end
 use Rattle.esm_runner.specs.Laws.{AreLaws}
 use Rattle.esm_runner.proofs.Headlines.{AreOf, dest_rose, disk_rose, headline}
 use Rattle.esm_runner.proofs.FirstChange.{none_is}
-use Rattle.esm_runner.proofs.Records.{came_all, may_be_said}
+use Rattle.esm_runner.proofs.Records.{came_all, counted}
 
 -- what the book had at its opening
 pub record StoodSo {D : Type 0} (config : Config) (calls : ℕ) (f : FilesState D) (before : BookState D (JournalState D)) : Type 0 where
@@ -216,17 +215,17 @@ fates_found t faults left_in config calls f before b i callers new_callers (Ok r
 fates_found t faults left_in config calls f before b i callers new_callers (Err none) stood come =
     ap (λ (s : Setting). s.fates) (opened_so config calls f before b stood come.stopped.opened)
 
--- each entry that the journal keeps may be said
-said_within : {S D : Type 0} (i : InputState S) (b : BookState D (JournalState D)) (whole : Bool) (bytes : List ℕ) → AreLaws → IsSound b → AreWithinBounds (full_setting b.core)
-    → SomeCame b (records_in_items (from_start i.start (items_read i.kind i.factor whole bytes).items)) → AllMayBeSaid b.core.setting b.core.past
-said_within i b whole bytes laws sound bounds came =
+-- no shard has more records than four bytes count
+counted_within : {S D : Type 0} (i : InputState S) (b : BookState D (JournalState D)) (whole : Bool) (bytes : List ℕ) → AreLaws → IsSound b
+    → SomeCame b (records_in_items (from_start i.start (items_read i.kind i.factor whole bytes).items)) → AreCountedInFourBytes b.core.past
+counted_within i b whole bytes laws sound came =
     let items = from_start i.start (items_read i.kind i.factor whole bytes).items in
-    may_be_said b items laws sound bounds (laws.within i.kind i.factor i.start whole bytes items [] (sym (append-nil items))).few came
+    counted b items sound (laws.within i.kind i.factor i.start whole bytes items [] (sym (append-nil items))).few came
 
-pub said_so : {S D F : Type 0} (t : Telling D F) (faults : S → ℕ) (left_in : S → Option (List ℕ)) (before b : BookState D (JournalState D)) (i : InputState S) (callers new_callers : List F) (r : Result RunEnd OutOfMemory)
-    → AreLaws → IsSound b → AreWithinBounds (full_setting b.core) → HasCome t faults left_in before b i callers new_callers r → AllMayBeSaid b.core.setting b.core.past
-said_so t faults left_in before b i callers new_callers (Ok r) laws sound bounds come = said_within i b i.whole i.bytes laws sound bounds (some_came i b r come.came)
-said_so t faults left_in before b i callers new_callers (Err none) laws sound bounds come = said_within i b come.cut.whole come.cut.bytes laws sound bounds come.cut.came
+pub counted_so : {S D F : Type 0} (t : Telling D F) (faults : S → ℕ) (left_in : S → Option (List ℕ)) (before b : BookState D (JournalState D)) (i : InputState S) (callers new_callers : List F) (r : Result RunEnd OutOfMemory)
+    → AreLaws → IsSound b → HasCome t faults left_in before b i callers new_callers r → AreCountedInFourBytes b.core.past
+counted_so t faults left_in before b i callers new_callers (Ok r) laws sound come = counted_within i b i.whole i.bytes laws sound (some_came i b r come.came)
+counted_so t faults left_in before b i callers new_callers (Err none) laws sound come = counted_within i b come.cut.whole come.cut.bytes laws sound come.cut.came
 
 -- the reason of an end
 

@@ -1,10 +1,11 @@
 -- The headline: what a run of a stream's mapping leaves. This product's own.
-use Rattle.std.specs.Prelude.{◌≡◌, ◌⊎◌, ◌<◌, ◌≤◌, ◌∷◌, ◌++◌, ℕ, true, List, [], length, map, take_while, slice_index_or, Option, Some, is_some, option_map, reverse}
+use Rattle.std.specs.Prelude.{◌≡◌, ◌⊎◌, ◌<◌, ◌≤◌, ◌∷◌, ◌++◌, ℕ, true, List, [], length, map, take_while, slice_index_or, Option, Some, None, is_some, option_map, reverse, IfSome}
+use Rattle.esm_io.specs.Images.{Only}
 use Rattle.esm_io.specs.Told.{Grows}
 use Rattle.esm_io.specs.Meanings.{DiskMeaning}
 use Rattle.esm_journal.specs.File.{header_of}
 use Rattle.esm_journal.specs.Pair.{PairOpensTo, first_disk, second_disk}
-use Rattle.esm_journal.specs.State.{Keeps, StillOpens}
+use Rattle.esm_journal.specs.State.{Keeps, OpensTo, StillOpens}
 use Rattle.esm_model.specs.declared.config.Config.{Config}
 use Rattle.esm_model.specs.declared.item.Record.{Record}
 use Rattle.esm_model.specs.declared.lane.LaneId.{LaneId}
@@ -23,6 +24,10 @@ use Rattle.esm_ingest.specs.Coming.{of_shard}
 use Rattle.esm_ledger.specs.Ledger.{LegalOver, opened_with}
 use Rattle.esm_stream_core.specs.CoreView.{MayFollowFront, lines_of}
 use Rattle.esm_journal_record.specs.declared.said.Said.{Said}
+use Rattle.esm_journal_record.specs.EntryPayload.{AllMayBeSaid, entry_said}
+use Rattle.esm_journal_record.specs.Payload.{IsSaid}
+use Rattle.esm_record_bounds.specs.Bounds.{AreCountedInFourBytes}
+use Rattle.esm_outcome.specs.Ending.{SettledOver}
 use Rattle.esm_journal_state.specs.declared.kept.KeptFate.{KeptFate}
 use Rattle.esm_journal_state.specs.Meaning.{fate_said, history}
 use Rattle.esm_journal_state.specs.SaidLists.{SaidLists}
@@ -96,6 +101,13 @@ abbrev pub FailureLinesKept : {D F : Type 0} → Telling D F → FilesState D �
 FailureLinesKept t f (Some Dest) h hand new = LinesStopped t f (map t.line (lines_of (reverse h))) new
 FailureLinesKept t f _ h hand new = LinesKept t f (map t.line (lines_of (reverse h ++ hand))) new
 
+-- a file opens to these lines, and then to what is delivered of those of the first of these entries, or of all of them
+pub record OpensToLinesOf (line : List ℕ → List ℕ) (before : List (List ℕ)) (es : List Entry) (bytes : List ℕ) : Type 0 where
+  pub front : List Entry
+  pub rest : List Entry
+  pub split : front ++ rest ≡ es
+  pub opens : OpensTo (header_of 1) (before ++ map line (lines_of front)) bytes
+
 -- the entries whose payloads may stand in the journal though they are not in the history: one at most, and only where a disk
 -- failed
 abbrev pub IsInHand : Option Trouble → List Entry → Type 0
@@ -106,6 +118,24 @@ IsInHand _ hand = hand ≡ []
 -- records that goes on from those that came
 abbrev pub HandFollows : Setting → List Entry → (hand : List Entry) → Type 0
 HandFollows s h hand = (e : Entry) → hand ≡ e ∷ [] → MayFollowFront s h e
+
+-- the entries whose line was being delivered when the failure file failed: one at most, and only there
+abbrev pub IsTried : Option Trouble → List Entry → Type 0
+IsTried (Some Dest) tried = length tried ≤ 1
+IsTried _ tried = tried ≡ []
+
+-- Each image of the failure file since the run's start opens to the lines found, followed by those of the first entries of the
+-- history, in their order; where a device failed, the line of the entry in hand, or that of the tried one, may follow all of
+-- them. Each image that a crash now leaves has all but the tried one's, which it may have. The tried entry may follow the history,
+-- or a front of it after which calls and the input ended alone.
+pub record FailureLinesCrashKept {D F : Type 0} (t : Telling D F) (f : FilesState D) (s : Setting) (h : List Entry) (trouble : Option Trouble) (hand : List Entry) (new : Devices D F) : Type 0 where
+  pub tried : List Entry
+  pub is_tried : IsTried trouble tried
+  pub tried_follows : HandFollows s h tried
+  pub since : t.disk.honest f.failures ≡ true → Only (t.disk.content f.failures) (t.disk.image f.failures) → (bytes : List ℕ) → t.disk.since new.failures (t.disk.moment f.failures) bytes →
+      OpensToLinesOf t.line f.dest.payloads (reverse h ++ hand ++ tried) bytes
+  pub now : t.disk.honest f.failures ≡ true → (bytes : List ℕ) → t.disk.image new.failures bytes →
+      OpensToLinesOf t.line (f.dest.payloads ++ map t.line (lines_of (reverse h ++ hand))) tried bytes
 
 -- two disks open to the payloads found, and then to those of the first of these entries, or of all of them
 pub record OpensToFrontOf (s : Setting) (epoch : ℕ) (before : List (List ℕ)) (es : List Entry) (one other : List ℕ) : Type 0 where
@@ -135,6 +165,17 @@ FatesAreRecorded f s h = (n i : ℕ) → option_map (λ (k : KeptFate). k.fate) 
 abbrev pub CheckpointIsRecorded : {D : Type 0} → FilesState D → Setting → List Entry → Type 0
 CheckpointIsRecorded f s h = (n : ℕ) → checkpoint s h n ≡ length (take_while (λ i. is_some (fate_said (said_after f s h) n i)) (came_places h n))
 
+-- where there is no trouble nothing is called for: each open record passes the filter, and no lane is owed anything
+abbrev pub SettledUnless : Option Trouble → Setting → List Entry → Type 0
+SettledUnless trouble s h = trouble ≡ None → SettledOver s h
+
+-- no shard has more records than four bytes count; and what the journal keeps of an entry of the history, or of the one in hand,
+-- can be said
+pub record CanBeSaid (s : Setting) (h : List Entry) (hand : List Entry) : Type 0 where
+  pub counted : AreCountedInFourBytes h
+  pub entries : AllMayBeSaid s h
+  pub in_hand : (e : Entry) → hand ≡ e ∷ [] → IfSome (entry_said s e) IsSaid
+
 -- the answer of each call that ended is the one that stands with its event among the calls of its lane's batcher, by which the
 -- log of that caller grew
 abbrev pub AnswersAreLogged : {D F : Type 0} → Telling D F → Setting → List Entry → Type 0
@@ -147,6 +188,10 @@ AnswersAreLogged t s h =
 pub record Headline {D F : Type 0} (t : Telling D F) (f : FilesState D) (s : Setting) (h : List Entry) (trouble : Option Trouble) (hand : List Entry) (new : Devices D F) : Type 0 where
   -- each entry may follow those before it, over every list of records that goes on from those that came
   pub legal_trace : LegalOver s h
+  -- where no device failed and no record was found changed, nothing is called for
+  pub settled : SettledUnless trouble s h
+  -- what the journal keeps of an entry, or of the one in hand, can be said
+  pub can_be_said : CanBeSaid s h hand
   -- each moment is one that the clock gave, at most the greatest, or that of the entry before it where that is later
   pub moments : AreGiven t.callers.gave h
   -- the journal's content is the old one followed by the payloads of the trace
@@ -156,6 +201,8 @@ pub record Headline {D F : Type 0} (t : Telling D F) (f : FilesState D) (s : Set
   -- the failure file's lines are the old ones followed by what is delivered of the trace's lines; where a disk failed, one
   -- further line may follow
   pub failure_lines_kept : FailureLinesKept t f trouble h hand new
+  -- what a crash leaves of it since the run's start: the old lines followed by a prefix of those
+  pub failure_lines_crash : FailureLinesCrashKept t f s h trouble hand new
   -- an entry is in hand only where a disk of the journal failed, and then one at most; and it is one that may follow
   pub in_hand : IsInHand trouble hand
   pub hand_follows : HandFollows s h hand

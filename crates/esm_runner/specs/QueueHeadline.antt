@@ -1,5 +1,6 @@
 -- The headline of a queue: what a run of its mapping leaves. This product's own.
-use Rattle.std.specs.Prelude.{◌≡◌, ◌<◌, [], ◌∷◌, ◌++◌, ℕ, List, length, slice_index_or, Option, Some, is_some, option_map, reverse}
+use Rattle.std.specs.Prelude.{◌≡◌, ◌<◌, ◌^◌, [], ◌∷◌, ◌++◌, ℕ, List, length, slice_index_or, Option, Some, is_some, option_map, reverse}
+use Rattle.std.specs.List.{All}
 use Rattle.esm_io.specs.Told.{Grows}
 use Rattle.esm_journal.specs.Reads.{IsOnlyRead}
 use Rattle.esm_model.specs.declared.config.Config.{Config}
@@ -11,6 +12,7 @@ use Rattle.esm_model.specs.declared.entry.Entry.TheVariants.{Ended}
 use Rattle.esm_model.specs.declared.called.Called.{Called}
 use Rattle.esm_model.specs.declared.book.Trouble.{Trouble}
 use Rattle.esm_model.specs.declared.book.Trouble.TheVariants.{Disk}
+use Rattle.esm_model.specs.ValidMessage.{IsValidMessage}
 use Rattle.esm_queue_model.specs.QueueSetting.{QueueSetting, ExtendsMessages, over_messages}
 use Rattle.esm_queue_model.specs.QueueEntries.{queue_count, is_deleted, deletion_fate}
 use Rattle.esm_queue_model.specs.QueueBatch.{queue_calls, last_queue_event}
@@ -93,6 +95,9 @@ pub record Headline {D F : Type 0} (t : Telling D F) (f : FilesState D) (s : Que
   pub legal_trace : LegalOver s h
   -- the messages of the setting are those that came in the history
   pub messages_came : queue_count h ≡ length s.messages
+  -- each of them is valid, and four bytes count them
+  pub valid : All (IsValidMessage s.config.kind) s.messages
+  pub few : length s.messages < 2 ^ 32
   -- each moment is one that the clock gave, at most the greatest, or that of the entry before it where that is later
   pub moments : AreGiven t.callers.gave h
   -- the journal's content is the old one followed by the payloads of the trace

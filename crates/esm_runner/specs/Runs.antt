@@ -1,5 +1,5 @@
 -- A run that is to begin, and what it leaves. Only this crate's proofs cite this.
-use Rattle.std.specs.Prelude.{◌≡◌, ℕ, true, false, List, [], Some, None}
+use Rattle.std.specs.Prelude.{◌≡◌, ◌≤◌, ℕ, true, false, List, [], Some, None}
 use Rattle.esm_io.specs.Images.{Only}
 use Rattle.esm_io.specs.Meanings.{DiskMeaning, DestMeaning}
 use Rattle.esm_journal.specs.Pair.{PairState, PairKeepsWhileUp, first_disk, second_disk}
@@ -9,8 +9,7 @@ use Rattle.esm_journal.specs.Stopped.{PairKeepsWhileDown}
 use Rattle.esm_model.specs.declared.book.Trouble.TheVariants as trouble
 use Rattle.esm_model.specs.declared.config.Config.{Config}
 use Rattle.esm_model.specs.declared.config.Start.{Start}
-use Rattle.esm_journal_record.specs.EntryPayload.{AllMayBeSaid}
-use Rattle.esm_book.specs.State.{in_hand}
+use Rattle.esm_book.specs.State.{in_hand, in_delivery}
 use Rattle.esm_ledger.specs.Ledger.{opened_with, LegalOver}
 use Rattle.esm_stream_core.specs.CoreView.{new_view, full_setting}
 use Rattle.esm_model.specs.declared.item.LineKind.TheVariants as kinds
@@ -19,7 +18,7 @@ use Rattle.esm_journal_state.specs.SaidLists.{SaidLists}
 use Rattle.esm_stream_book.specs.Books.{BookState, LeavesFirst, OpensToFirst, payloads_in}
 use Rattle.esm_stream_book.specs.Keeping.{HasJournal, HasLines, entries_left}
 use Rattle.esm_runner.specs.Files.{FilesState, IsOpenedFiles}
-use Rattle.esm_runner.specs.Headline.{HandFollows}
+use Rattle.esm_runner.specs.Headline.{CanBeSaid, HandFollows, SettledUnless}
 
 -- what begins
 
@@ -68,15 +67,21 @@ LeavesSince m line f b =
     m.since (first_disk b.pair) (m.moment f.journal) one → m.since (second_disk b.pair) (m.moment f.spare) other →
     OpensToFirst (file_dest m line) (full_setting b.core) b.found.epoch b.found.payloads b.found_dest b.dest (entries_left b) one other
 
+-- what a crash since now leaves of an honest disk is what one now leaves, and counts for one since an earlier moment
+pub record CountsNow {D : Type 0} (m : DiskMeaning D) : Type 0 where
+  pub only_now : (d : D) (bytes : List ℕ) → m.honest d ≡ true → m.since d (m.moment d) bytes → m.image d bytes
+  pub counts_now : (d : D) (t : ℕ) (bytes : List ℕ) → m.honest d ≡ true → t ≤ m.moment d → m.image d bytes → m.since d t bytes
+
 -- the book was opened over these files, and this holds of it and of its devices
 pub record IsLeft {D : Type 0} (m : DiskMeaning D) (line : List ℕ → List ℕ) (f : FilesState D) (b : BookState D (JournalState D)) : Type 0 where
   pub files : IsOpenedFiles m f
   pub found : b.found ≡ f.pair
   pub found_dest : b.found_dest ≡ f.dest
   pub legal : LegalOver b.core.setting b.core.past
-  -- the found fates are those that the journal told of, and each entry that it keeps may be said
+  pub settled : SettledUnless b.trouble b.core.setting b.core.past
+  -- the found fates are those that the journal told of, and each entry that it keeps may be said, the one in hand too
   pub fates : b.core.setting.fates ≡ f.said.fates
-  pub may_be_said : AllMayBeSaid b.core.setting b.core.past
+  pub can_be_said : CanBeSaid b.core.setting b.core.past (in_hand b.trouble b.core.owed)
   pub journal : HasJournal m b
   pub lines : HasLines (file_dest m line) b
   pub since : LeavesSince m line f b
@@ -88,5 +93,7 @@ pub record IsLeft {D : Type 0} (m : DiskMeaning D) (line : List ℕ → List ℕ
   pub dest_stopped : KeepsWhileDown m b.dest
   -- no records are coming that the entry in hand names
   pub hand : payloads_in (full_setting b.core) (in_hand b.trouble b.core.owed) ≡ payloads_in b.core.setting (in_hand b.trouble b.core.owed)
-  -- and it may follow
+  -- and it may follow, and so may the entry whose line was being delivered
   pub hand_follows : HandFollows b.core.setting b.core.past (in_hand b.trouble b.core.owed)
+  pub tried_follows : HandFollows b.core.setting b.core.past (in_delivery b.trouble b.core.owed)
+  pub now : CountsNow m

@@ -1,7 +1,10 @@
-// The laws by which the headline holds, as one.
+// The laws by which the headline holds, as one, and those of its disks.
+ghost use Rattle.esm_io.specs.Meanings.{disk as meaning};
 ghost use Rattle.esm_runner.specs.Laws.{AreLaws};
+ghost use Rattle.esm_runner.specs.Runs.{CountsNow};
 
 use esm_input::laws::handed_is_within;
+use esm_io::Disk;
 use esm_journal_record::laws::history_payloads_stay;
 use esm_journal_state::laws::{checkpoint_is_kept, fates_are_kept};
 use esm_model::laws::{
@@ -28,3 +31,9 @@ pub(crate) fn laws_hold()
     checkpoint_is_kept();
     handed_is_within();
 }
+
+/// What a crash since now leaves of an honest disk is what one now leaves, and counts for one since an earlier moment. Does
+/// nothing.
+pub(crate) fn disks_count_now<D: Disk>()
+    ensures { CountsNow (meaning D.Disk) }
+{}

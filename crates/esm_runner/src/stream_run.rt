@@ -18,7 +18,7 @@ ghost use Rattle.esm_runner.specs.Runs.{IsBegun, files_of, over_file};
 use crate::failure_file::FailureFile;
 use crate::files::Files;
 use crate::run::{Before, MappingRun, closed, end_of};
-use crate::stream_laws::laws_hold;
+use crate::stream_laws::{disks_count_now, laws_hold};
 use crate::stream_running::{Ran, run_lanes};
 use esm_input::{Input, InputEnd};
 use esm_io::{Caller, Clock, Dest, Disk, Source};
@@ -170,6 +170,7 @@ fn run_opened<
         read_first,
     );
     laws_hold();
+    disks_count_now::<D>();
     W::means();
     book.since_before(&before.journal, &before.spare);
     let _ = book.trouble();
@@ -243,6 +244,7 @@ pub fn run_stream<
         failures,
     };
     laws_hold();
+    disks_count_now::<D>();
     match begin::<_, _, W>(alloc, config, start, calls, &said, pair, dest, input) {
         Ok(run) => run_opened::<_, _, _, _, _, W>(
             rt, alloc, run, said, callers, clock, read_first, &before,

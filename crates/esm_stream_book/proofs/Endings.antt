@@ -15,7 +15,7 @@ use Rattle.esm_model.specs.Books.{entry_line}
 use Rattle.esm_ingest.specs.Parts.{parts_of}
 use Rattle.esm_book.specs.Decided.{written_of}
 use Rattle.esm_book.specs.Growth.{LeavesFronts}
-use Rattle.esm_book.specs.State.{in_hand}
+use Rattle.esm_book.specs.State.{in_hand, in_delivery}
 use Rattle.esm_stream_core.specs.declared.decisions.StreamCall.{StreamCall}
 use Rattle.esm_stream_core.specs.declared.decisions.StreamCall.TheVariants as call
 use Rattle.esm_stream_core.specs.declared.decisions.StreamAnswer.{StreamAnswer}
@@ -29,7 +29,7 @@ use Rattle.esm_stream_book.specs.Keeping.{IsSound}
 use Rattle.esm_stream_book.specs.Carried.{coming_by, setting_by, entries_by, CarriedAll, CarriedSome, Undelivered, FoundChange, CarriedNone}
 use Rattle.esm_stream_book.proofs.Entries.{both_none, entry_in, owed_entries, parted, parts_are, take-entries}
 use Rattle.esm_stream_book.proofs.Tellings.{none_owed, payload_in, line_in, payloads_told, lines_told}
-use Rattle.esm_stream_book.proofs.Hands.{none_delivered, hand_follows}
+use Rattle.esm_stream_book.proofs.Hands.{none_delivered, none_tried, hand_follows, tried_follows}
 use Rattle.esm_stream_book.proofs.Bringing.{parts_silent}
 use Rattle.esm_stream_book.proofs.Deciding.{decided_so}
 use Rattle.esm_stream_book.proofs.Going.{stream_meaning, Went, added_so, leaves_first, setting_all, sound_all, sound_some}
@@ -73,8 +73,9 @@ module _ {D T : Type 0} (m : DiskMeaning D) (n : DestMeaning T) (old new : BookS
       → WasWriting trouble (setting_by old.core asked) new.core.owed → hand ≡ stream_entries (setting_by old.core asked) (hand_of trouble new.core.owed)
       → Grows (n.lines old.dest) (n.lines new.dest) (map n.sends (written_of line_in (X ++ hand))) → LeavesFronts stream_meaning m n old.pair new.pair old.dest new.dest (X ++ hand)
       → ((e : Entry) → in_hand new.trouble new.core.owed ≡ e ∷ [] → MayFollowFront new.core.setting new.core.past e)
+      → ((e : Entry) → in_delivery new.trouble new.core.owed ≡ e ∷ [] → MayFollowFront new.core.setting new.core.past e)
       → AddedSome m n (setting_by old.core asked) old new (entries_by old.core asked) trouble × IsSound new
-  added_some trouble hand sound rests decides w is writing written_so sent leaves follows =
+  added_some trouble hand sound rests decides w is writing written_so sent leaves follows tried =
       let d = decided_so old.core asked given (X ++ owed_of new.core) decides in
       let s = setting_by old.core asked in
       let es = entries_by old.core asked in
@@ -95,7 +96,7 @@ module _ {D T : Type 0} (m : DiskMeaning D) (n : DestMeaning T) (old new : BookS
           delivered = lines_sent n old.dest new.dest (X ++ hand) s left all sent;
           images = leaves_first m n old.pair new.pair old.dest new.dest (X ++ hand) s left all leaves;
         },
-        sound_some old new X (coming_by old.core asked) front rest es w first split d.legal rests sound (λ up. absurd (cc (sym is ∙ up))) follows,
+        sound_some old new X (coming_by old.core asked) front rest es w first split d.legal rests sound (λ up. absurd (cc (sym is ∙ up))) follows tried,
       )
 
   -- what is owed is so over the records that came with the call
@@ -115,17 +116,19 @@ module _ {D T : Type 0} (m : DiskMeaning D) (n : DestMeaning T) (old new : BookS
       let s = setting_by old.core asked in
       let hand = first_owed decides in
       let was : WasWriting Disk s new.core.owed = subst (λ (texts : List (List ℕ)). 0 < length texts) (ap (written_of payload_in) hand ∙ payloads_told s (take 1 new.core.owed)) writing in
-      let so = added_some Disk (take 1 (owed_of new.core)) sound rests decides w is was hand sent leaves (λ e some. hand_follows new.core new.trouble e follows alone writing is some) in
+      let so = added_some Disk (take 1 (owed_of new.core)) sound rests decides w is was hand sent leaves (λ e some. hand_follows new.core new.trouble e follows alone writing is some)
+      (λ e some. absurd (none_tried new.trouble new.core.owed e is some)) in
       record { added = so.0; cause = cause; no_change = (decided_so old.core asked given (X ++ owed_of new.core) decides).no_change; sound = so.1 }
 
   -- the destination failed in it
   pub undelivered : IsSound old → old.core.coming ≡ [] → Decides old.core asked given (X ++ owed_of new.core) → Went old new X → new.trouble ≡ Some Dest → 0 < length (written_of line_in (take 1 (owed_of new.core)))
       → Grows (n.lines old.dest) (n.lines new.dest) (map n.sends (written_of line_in (X ++ []))) → LeavesFronts stream_meaning m n old.pair new.pair old.dest new.dest (X ++ []) → Rose (n.faults old.dest) (n.faults new.dest)
-      → Undelivered m n old new asked
-  undelivered sound rests decides w is writing sent leaves cause =
+      → HandFollows new.core → (0 < length (payloads_in (full_setting new.core) (take 1 new.core.owed)) → new.core.coming ≡ []) → Undelivered m n old new asked
+  undelivered sound rests decides w is writing sent leaves cause follows alone =
       let s = setting_by old.core asked in
       let was : WasWriting Dest s new.core.owed = subst (λ (texts : List (List ℕ)). 0 < length texts) (ap (written_of line_in) (first_owed decides) ∙ lines_told s (take 1 new.core.owed)) writing in
-      let so = added_some Dest [] sound rests decides w is was refl sent leaves (λ e some. absurd (none_delivered new.trouble new.core.owed e is some)) in
+      let so = added_some Dest [] sound rests decides w is was refl sent leaves (λ e some. absurd (none_delivered new.trouble new.core.owed e is some))
+      (λ e some. tried_follows new.core new.trouble e follows alone was is some) in
       record { added = so.0; cause = cause; no_change = (decided_so old.core asked given (X ++ owed_of new.core) decides).no_change; sound = so.1 }
 
 -- where no line is to be delivered the destination does not fail
@@ -159,12 +162,12 @@ all_delivered m n old new (call.Done job reply moment) is ended = is
 pub found_change : {D T : Type 0} (old new : BookState D T) (asked : StreamCall) (change : Change) → IsSound old → Refuses old.core asked change → new ≡ record old { trouble = Some (Changed change) } → FoundChange old new asked change
 found_change {D} {T} old new asked change sound refuses is =
     let down : BookState D T = record old { trouble = Some (Changed change) } in
-    let kept : IsSound down = record { records = sound.records; of_stream = sound.of_stream; legal = sound.legal; settled = λ none. absurd (cc); hand_follows = λ e some. absurd (cc) } in
+    let kept : IsSound down = record { records = sound.records; of_stream = sound.of_stream; legal = sound.legal; settled = λ none. absurd (cc); hand_follows = λ e some. absurd (cc); tried_follows = λ e some. absurd (cc) } in
     record { refuses = refuses; rest = is; sound = subst IsSound (sym is) kept }
 
 -- there was no memory for it
 pub carried_none : {D T : Type 0} (n : DestMeaning T) (old new : BookState D T) → IsSound old → IsSame n old new → CarriedNone n old new
 carried_none {D} {T} n old new sound same =
     let roomy : BookState D T = record old { pair = record old.pair { room = new.pair.room }; dest = new.dest } in
-    let kept : IsSound roomy = record { records = sound.records; of_stream = sound.of_stream; legal = sound.legal; settled = sound.settled; hand_follows = sound.hand_follows } in
+    let kept : IsSound roomy = record { records = sound.records; of_stream = sound.of_stream; legal = sound.legal; settled = sound.settled; hand_follows = sound.hand_follows; tried_follows = sound.tried_follows } in
     record { same = same; sound = subst IsSound (sym same.rest) kept }

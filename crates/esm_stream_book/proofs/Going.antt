@@ -18,7 +18,7 @@ use Rattle.esm_model.proofs.Histories.{legal_before}
 use Rattle.esm_book.specs.Decided.{written_of}
 use Rattle.esm_book.specs.Meanings.{CoreMeaning}
 use Rattle.esm_book.specs.Growth.{LeavesFronts, OpensToFront, AreTold}
-use Rattle.esm_book.specs.State.{in_hand}
+use Rattle.esm_book.specs.State.{in_hand, in_delivery}
 use Rattle.esm_ledger.specs.Ledger.{LegalOver}
 use Rattle.esm_outcome.specs.Ending.{SettledOver}
 use Rattle.esm_record_bounds.specs.Bounds.{AreWithinBounds}
@@ -32,7 +32,7 @@ use Rattle.esm_stream_book.specs.Calls.{Added}
 use Rattle.esm_stream_book.specs.Keeping.{IsSound}
 use Rattle.esm_stream_book.proofs.Entries.{entry_in, past_grows, told_grows, reversed_back, parted, parts_are}
 use Rattle.esm_stream_book.proofs.Tellings.{told-append, told_stays, payload_in, line_in, payloads_told, lines_told}
-use Rattle.esm_stream_book.proofs.Hands.{none_in_hand}
+use Rattle.esm_stream_book.proofs.Hands.{none_in_hand, none_in_delivery}
 use Rattle.esm_stream_book.proofs.Records.{entries_same, told_front, AllCame, told_streams, all_came, all_of_stream}
 use Rattle.esm_stream_book.proofs.Bringing.{BringAll, all_brought}
 
@@ -151,8 +151,8 @@ module _ {D T : Type 0} (old new : BookState D T) (X : List StreamEntry) (coming
 
   -- a part was added
   pub sound_some : (rest es : List Entry) → Went old new X → X ≡ stream_entries over_all front → front ++ rest ≡ es → LegalOver over_all (reverse es ++ old.core.past) → old.core.coming ≡ [] → IsSound old → (new.trouble ≡ None → ⊥)
-      → ((e : Entry) → in_hand new.trouble new.core.owed ≡ e ∷ [] → MayFollowFront new.core.setting new.core.past e) → IsSound new
-  sound_some rest es w is split over rests sound down hand =
+      → ((e : Entry) → in_hand new.trouble new.core.owed ≡ e ∷ [] → MayFollowFront new.core.setting new.core.past e) → ((e : Entry) → in_delivery new.trouble new.core.owed ≡ e ∷ [] → MayFollowFront new.core.setting new.core.past e) → IsSound new
+  sound_some rest es w is split over rests sound down hand tried =
       let past = past_grows old.core new.core over_all front X w.history is in
       let legal = subst (Legal over_all) (sym past) (legal_front over_all front rest es old.core.past split over) in
       record {
@@ -161,6 +161,7 @@ module _ {D T : Type 0} (old new : BookState D T) (X : List StreamEntry) (coming
         legal = legal_after w is rests sound legal;
         settled = λ up. absurd (down up);
         hand_follows = hand;
+        tried_follows = tried;
       }
 
   -- all was added
@@ -185,4 +186,5 @@ module _ {D T : Type 0} (old new : BookState D T) (X : List StreamEntry) (coming
         legal = subst (λ (s : Setting). LegalOver s new.core.past) setting (subst (LegalOver over_all) (sym past) over_them);
         settled = λ up. subst (λ (s : Setting). SettledOver s new.core.past) setting (subst (SettledOver over_all) (sym past) settled);
         hand_follows = λ e some. absurd (none_in_hand new.trouble new.core.owed e owed some);
+        tried_follows = λ e some. absurd (none_in_delivery new.trouble new.core.owed e owed some);
       }

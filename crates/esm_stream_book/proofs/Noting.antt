@@ -16,7 +16,7 @@ use Rattle.esm_model.specs.Step.{IsLater}
 use Rattle.esm_model.specs.Books.{entries_told, came_with, records_told, stream_told, streams_told, IsOfStream}
 use Rattle.esm_model.proofs.TellingFacts.{entries_more, records-append}
 use Rattle.esm_book.specs.Hand.{is_end}
-use Rattle.esm_book.specs.State.{in_hand}
+use Rattle.esm_book.specs.State.{in_hand, in_delivery}
 use Rattle.esm_ledger.specs.Ledger.{LegalOver}
 use Rattle.esm_outcome.specs.Ending.{SettledOver}
 use Rattle.esm_stream_core.specs.CoreView.{full_setting, MayFollowFront}
@@ -107,6 +107,11 @@ module _ {D T : Type 0} (old new : BookState D T) (X : List StreamEntry) (e : En
               subst (λ (s : Setting). MayFollowFront s new.core.past x) (sym same)
               (subst (λ (h : List Entry). MayFollowFront old.core.setting h x) past
               (follows_on (λ before y. LegalOver old.core.setting (y ∷ before)) old.core.past e x ends (sound.hand_follows x was)));
+          tried_follows = λ x some.
+              let was : in_delivery old.trouble old.core.owed ≡ x ∷ [] = sym (ap₂ (λ (why : Option Trouble) (es : List Entry). in_delivery why es) up added.owed) ∙ some in
+              subst (λ (s : Setting). MayFollowFront s new.core.past x) (sym same)
+              (subst (λ (h : List Entry). MayFollowFront old.core.setting h x) past
+              (follows_on (λ before y. LegalOver old.core.setting (y ∷ before)) old.core.past e x ends (sound.tried_follows x was)));
         };
       }
 

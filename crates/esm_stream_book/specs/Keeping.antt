@@ -1,5 +1,5 @@
 -- What is true of every stream's book, whoever made its calls. This product's own.
-use Rattle.std.specs.Prelude.{◌≡◌, ◌++◌, List, [], ◌∷◌, Option, Some, None, false, reverse}
+use Rattle.std.specs.Prelude.{◌≡◌, ◌++◌, ℕ, List, [], ◌∷◌, Option, Some, None, true, false, reverse}
 use Rattle.std.specs.List.{All}
 use Rattle.esm_io.specs.Meanings.{DiskMeaning, DestMeaning}
 use Rattle.esm_io.specs.Told.{Grows}
@@ -8,7 +8,8 @@ use Rattle.esm_model.specs.declared.book.Trouble.TheVariants.{Disk, Dest, Change
 use Rattle.esm_model.specs.declared.entry.Entry.{Entry}
 use Rattle.esm_model.specs.declared.setup.Setup.{Setup}
 use Rattle.esm_model.specs.Books.{IsOfStream, streams_told}
-use Rattle.esm_book.specs.State.{is_disk, is_dest, in_hand}
+use Rattle.esm_book.specs.Growth.{IsHeld, ReadsFront, Takes}
+use Rattle.esm_book.specs.State.{is_disk, is_dest, in_hand, in_delivery}
 use Rattle.esm_ledger.specs.Ledger.{LegalOver}
 use Rattle.esm_outcome.specs.Ending.{SettledOver}
 use Rattle.esm_stream_core.specs.CoreView.{full_setting, MayFollowFront}
@@ -19,13 +20,14 @@ use Rattle.esm_stream_book.specs.Books.{BookState, payloads_in, sent_of}
 -- The setting has the records that the history tells, each `Came` stands with those that it covers, and the history is
 -- legal over all lists of records that go on from them. Where the book is not down, nothing is called for over any of them.
 -- The entry that was being written when a disk failed may follow the history, or a front of it after which calls and the
--- input ended alone, over all of them.
+-- input ended alone, over all of them, and so may the one whose line was being delivered when the destination failed.
 pub record IsSound {D T : Type 0} (b : BookState D T) : Type 0 where
   pub records : b.core.setting.streams ≡ streams_told (told_of b.core)
   pub of_stream : All IsOfStream (told_of b.core)
   pub legal : LegalOver b.core.setting b.core.past
   pub settled : b.trouble ≡ None → SettledOver b.core.setting b.core.past
   pub hand_follows : (e : Entry) → in_hand b.trouble b.core.owed ≡ e ∷ [] → MayFollowFront b.core.setting b.core.past e
+  pub tried_follows : (e : Entry) → in_delivery b.trouble b.core.owed ≡ e ∷ [] → MayFollowFront b.core.setting b.core.past e
 
 -- the setup is that of the book, whatever it says of the devices
 pub record IsSetupOf {D T : Type 0} (setup : Setup) (b : BookState D T) : Type 0 where
@@ -48,6 +50,10 @@ IsCause disk_failed dest_failed o (Some (Changed change)) = IsChange o change
 abbrev pub entries_left : {D T : Type 0} → BookState D T → List Entry
 entries_left b = reverse b.core.past ++ in_hand b.trouble b.core.owed
 
+-- and those whose lines it may leave: those, and where the destination failed the one whose line was being delivered
+abbrev pub lines_left : {D T : Type 0} → BookState D T → List Entry
+lines_left b = entries_left b ++ in_delivery b.trouble b.core.owed
+
 -- The journal has what was found and then the payloads of the history. It is the pair that was opened, and down exactly where
 -- a disk failed.
 pub record HasJournal {D T : Type 0} (m : DiskMeaning D) (b : BookState D T) : Type 0 where
@@ -60,9 +66,14 @@ pub record HasJournal {D T : Type 0} (m : DiskMeaning D) (b : BookState D T) : T
   pub honesty : m.honest b.pair.used ≡ m.honest b.found.used
 
 -- The destination has what was found and then the lines of the history; where a disk failed, that of the entry that was
--- being written may follow. It has failed exactly where the trouble says so.
+-- being written may follow. It has failed exactly where the trouble says so. Whatever a crash left of it since the opening is
+-- read as the lines that were found, and then as the first of those; and what one leaves now as all of them, where it failed
+-- perhaps with the line that was being delivered.
 pub record HasLines {D T : Type 0} (n : DestMeaning T) (b : BookState D T) : Type 0 where
   pub lines : Grows (n.lines b.found_dest) (n.lines b.dest) (sent_of n (entries_left b))
   pub failed : n.failed b.dest ≡ is_dest b.trouble
   pub found_usable : n.failed b.found_dest ≡ false
   pub honesty : n.honest b.dest ≡ n.honest b.found_dest
+  pub images : n.honest b.found_dest ≡ true → (held : List (List ℕ)) → n.lines b.found_dest ≡ Some held → Takes n b.found_dest b.dest held (sent_of n (lines_left b))
+  pub durable : n.honest b.found_dest ≡ true → (held : List (List ℕ)) → n.lines b.found_dest ≡ Some held → IsHeld n b.found_dest held → (left : List ℕ) → n.since b.dest (n.moment b.dest) left →
+      ReadsFront n.reads_as (held ++ sent_of n (entries_left b)) (sent_of n (in_delivery b.trouble b.core.owed)) left

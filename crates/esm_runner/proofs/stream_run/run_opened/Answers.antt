@@ -11,6 +11,7 @@ use Rattle.esm_model.specs.declared.entry.Entry.{Entry}
 use Rattle.esm_model.specs.declared.book.Trouble.{Trouble}
 use Rattle.esm_model.specs.Entries.{CallsFollowShut}
 use Rattle.esm_input.specs.declared.ending.InputEnd.{InputEnd}
+use Rattle.esm_record_bounds.specs.Bounds.{AreCountedInFourBytes}
 use Rattle.esm_input.specs.Reading.{InputState}
 use Rattle.esm_stream_core.specs.CoreView.{full_setting}
 use Rattle.esm_stream_book.specs.Books.{BookState}
@@ -26,7 +27,8 @@ use Rattle.esm_runner.specs.declared.run.MappingEnd.{MappingEnd}
 use Rattle.esm_runner.specs.Laws.{AreLaws}
 use Rattle.esm_runner.proofs.Headlines.{AreOf}
 use Rattle.esm_runner.proofs.OverFiles.{cause_over, come_over, journal_over, leaves_over, lines_over, opens_over, sound_over}
-use Rattle.esm_runner.proofs.Ways.{HasCome, IsCauseIn, IsMadeFor, StoodSo, ended_by, fates_found, found_ran, found_stays, made_for, reason_of, said_so, stopped_by}
+use Rattle.esm_runner.proofs.Ways.{HasCome, IsCauseIn, IsMadeFor, StoodSo, ended_by, fates_found, found_ran, found_stays, made_for, reason_of, counted_so, stopped_by}
+use Rattle.esm_runner.proofs.Records.{hand_said, may_be_said}
 use Rattle.esm_runner.proofs.stream_run.run_opened.Goals as goal
 
 pub returns : goal.returns
@@ -58,13 +60,15 @@ returns g c =
     let dest : c.file.result ≡ b.dest = c.file.ensures ∙ ap file c.into_parts-history.ensures.dest in
     let stays = found_stays t g.S.Source.faults g.S.Source.left before b i callers new.callers ran come in
     let stood : StoodSo config calls files before = record { core = c.requires.begun.core } in
+    let counted : AreCountedInFourBytes b.core.past = counted_so t g.S.Source.faults g.S.Source.left before b i callers new.callers ran laws sound come in
     let left : IsLeft m line files b = record {
       files = c.requires.files;
       found = stays.0 ∙ c.requires.begun.found;
       found_dest = stays.1 ∙ c.requires.begun.found_dest;
       legal = sound.legal;
+      settled = sound.settled;
       fates = fates_found t g.S.Source.faults g.S.Source.left config calls files before b i callers new.callers ran stood come;
-      may_be_said = said_so t g.S.Source.faults g.S.Source.left before b i callers new.callers ran laws sound c.trouble.ensures.bounds come;
+      can_be_said = record { counted = counted; entries = may_be_said b laws sound c.trouble.ensures.bounds counted; in_hand = hand_said b laws sound c.trouble.ensures.bounds counted };
       journal = journal_over m file under c.trouble.ensures.journal;
       lines = lines_over m n file line means under c.trouble.ensures.lines;
       since = λ honest other_honest only other_only one other since other_since.
@@ -77,6 +81,8 @@ returns g c =
       dest_stopped = subst (λ (d : JournalState g.row.D.Denot). KeepsWhileDown m d) dest c.closed.ensures.dest_stopped;
       hand = c.trouble.ensures.hand;
       hand_follows = sound.hand_follows;
+      tried_follows = sound.tried_follows;
+      now = c.disks_count_now.ensures;
     } in
     let of : AreOf b new = record {
       journal = rw (← c.into_parts-history.ensures.pair) c.closed.ensures.journal;

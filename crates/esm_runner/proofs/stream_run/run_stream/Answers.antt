@@ -10,6 +10,7 @@ use Rattle.esm_runner.specs.Ended.{HasStoppedRun}
 use Rattle.esm_runner.specs.Files.{FilesState, IsOpenedFiles}
 use Rattle.esm_runner.specs.Headline.{Devices, Telling, telling}
 use Rattle.esm_runner.specs.Laws.{AreLaws}
+use Rattle.esm_runner.specs.Runs.{CountsNow}
 use Rattle.esm_runner.proofs.Unbegun.{not_begun, on_any_err}
 use Rattle.esm_runner.proofs.stream_run.run_stream.Goals as goal
 
@@ -21,6 +22,7 @@ returns-clause-stopped g c =
     let out = c.closed.result in
     let new : Devices g.row.D.Denot g.row.F.Denot = record { journal = out.journal; spare = out.spare; failures = out.failures; callers = out.callers.items } in
     let laws : AreLaws = c.laws_hold.ensures in
+    let now : CountsNow m = c.disks_count_now.ensures in
     let files : IsOpenedFiles m f = rw (← c.files.view_is) c.files.invariant in
     let back : c.in-Err.refused.back ≡ (c.files.inside.pair, c.files.inside.dest, c.args.input) = c.in-Err.ensures.back in
     let pair : c.in-Err.refused.back.0 ≡ f.pair =
@@ -30,7 +32,7 @@ returns-clause-stopped g c =
     let input : out.input ≡ c.args.input = c.closed.ensures.input ∙ ap (λ (x : PairState g.row.D.Denot × JournalState g.row.D.Denot × g.row.S.Denot). x.2) back in
     let none : reverse out.trace.items ≡ [] = rw (c.closed.ensures.trace, c.new.ensures.items) refl in
     let all : HasStoppedRun t g.S.Source.left c.args.config c.args.start c.args.calls f c.args.input c.args.input c.args.callers.items [] new =
-    not_begun t g.S.Source.left c.args.config c.args.start c.args.calls f c.args.input c.args.callers.items new laws files
+    not_begun t g.S.Source.left c.args.config c.args.start c.args.calls f c.args.input c.args.callers.items new laws now files
     (c.closed.ensures.journal ∙ ap first_disk pair) (c.closed.ensures.spare ∙ ap second_disk pair)
     (c.closed.ensures.failures ∙ ap (λ (d : JournalState g.row.D.Denot). d.disk) dest) (rw c.closed.ensures.callers refl) in
     on_any_err out.end

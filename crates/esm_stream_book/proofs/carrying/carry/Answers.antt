@@ -48,7 +48,7 @@ returns-in-Err-DestFault g c =
     let grown = e.grown c.requires.up in
     undelivered m n old new c.args.call begun.0 (added (history_of old.core) (history_of new.core)) c.requires.sound (c.keeps.ensures.rests (c.keeps.ensures.settled c.requires.up)) begun.1
     (record { history = e.history; origin = e.origin; payloads = grown.appended.payloads; found = e.found; found_dest = e.found_dest; records = k.records; bounds = k.bounds })
-    (e.trouble ∙ ap (λ x. trouble_after {A = StreamAnswer} (Err x) old.trouble) is) (e.delivering (ap Err is)) (rw is at grown.delivered.told) (rw is at (e.images (c.keeps.ensures.up c.requires.up))) (e.dest_fault (ap Err is))
+    (e.trouble ∙ ap (λ x. trouble_after {A = StreamAnswer} (Err x) old.trouble) is) (e.delivering (ap Err is)) (rw is at grown.delivered.told) (rw is at (e.images (c.keeps.ensures.up c.requires.up))) (e.dest_fault (ap Err is)) k.hand k.alone
 
 pub returns-in-Err-Changed : goal.returns-in-Err-Changed
 returns-in-Err-Changed g c =
