@@ -1,3 +1,4 @@
+pub mod Digest
 pub mod Feeds
 pub mod Finding
 pub mod Growing
@@ -9,6 +10,9 @@ pub mod Loops
 pub mod Moments
 pub mod OneLine
 pub mod OwnEvents
+pub mod OwnItems
+pub mod OwnLines
+pub mod OwnPieces
 pub mod OwnParts
 pub mod Places
 pub mod ReadBack

@@ -8,6 +8,7 @@ pub mod GoesOn
 pub mod ItemText
 pub mod Lexemes
 pub mod OwnForm
+pub mod OwnLine
 pub mod ReadsBack
 pub mod RunEvent
 pub mod Said

@@ -18,7 +18,7 @@ use esm_record::shard_number;
 use json::Value;
 
 /// The greatest size of an item in bytes that a line may tell.
-const MAX_SIZE: u64 = 9_007_199_254_740_992;
+pub const MAX_SIZE: u64 = 9_007_199_254_740_992;
 
 /// What the table's stream says of the item.
 #[derive(Clone, Copy)]
@@ -49,25 +49,25 @@ fn are_visible(text: &[u8]) -> bool
     text.iter().all(|b| 33 <= *b && *b <= 126)
 }
 
-fn is_event_id(text: &[u8]) -> bool
+pub fn is_event_id(text: &[u8]) -> bool
     ensures { result ≡ is_word spec.is_visible 1 100 text.now }
 {
     1 <= text.len() && text.len() <= 100 && are_visible(text)
 }
 
-fn is_event_name(text: &str) -> bool
+pub fn is_event_name(text: &[u8]) -> bool
     ensures { result ≡ spec.is_event_name text.now }
 {
-    text == "INSERT" || text == "MODIFY" || text == "REMOVE"
+    text == b"INSERT".as_slice() || text == b"MODIFY".as_slice() || text == b"REMOVE".as_slice()
 }
 
-fn is_view_type(text: &str) -> bool
+pub fn is_view_type(text: &[u8]) -> bool
     ensures { result ≡ spec.is_view_type text.now }
 {
-    text == "KEYS_ONLY"
-        || text == "NEW_IMAGE"
-        || text == "OLD_IMAGE"
-        || text == "NEW_AND_OLD_IMAGES"
+    text == b"KEYS_ONLY".as_slice()
+        || text == b"NEW_IMAGE".as_slice()
+        || text == b"OLD_IMAGE".as_slice()
+        || text == b"NEW_AND_OLD_IMAGES".as_slice()
 }
 
 fn shard_in(value: &Value<'_>) -> Option<u64>
@@ -114,7 +114,7 @@ fn event_name_in<'t>(value: &Value<'t>) -> Option<&'t str>
 {
     match text_in(value) {
         Some(text) => {
-            if is_event_name(text) {
+            if is_event_name(text.as_bytes()) {
                 Some(text)
             } else {
                 None
@@ -129,7 +129,13 @@ fn view_type_in<'t>(field: Option<&Value<'t>>) -> Option<&'t str>
 {
     match field {
         Some(value) => match text_in(value) {
-            Some(text) => { if is_view_type(text) { Some(text) } else { None } }
+            Some(text) => {
+                if is_view_type(text.as_bytes()) {
+                    Some(text)
+                } else {
+                    None
+                }
+            }
             None => None,
         },
         None => None,

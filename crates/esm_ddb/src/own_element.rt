@@ -6,10 +6,8 @@ ghost use Rattle.esm_ddb.specs.OwnForm.{AreParts, IsDecoded, IsMoment, Passes, P
 
 use base64::DecodeAllocError;
 use base64::engine::general_purpose::STANDARD;
-use esm_event::bytes::push_bytes;
 use esm_model::OutOfMemory;
 use memchr::memchr;
-use std::alloc::Global;
 
 /// What follows the part, where the text begins with it.
 pub fn after_part<'a>(text: &'a [u8], part: &[u8]) -> Option<&'a [u8]>
@@ -98,14 +96,11 @@ fn after_number(text: &[u8]) -> Option<&[u8]>
 }
 
 /// Appends the bytes that the text stands for; whether it is standard padded base64.
-fn push_decoded(alloc: Global, out: &mut Vec<u8>, text: &[u8]) -> Result<bool, OutOfMemory>
+fn push_decoded(out: &mut Vec<u8>, text: &[u8]) -> Result<bool, OutOfMemory>
     ensures { IfOk result (λ is. IsTrue is → IsDecoded text.now out.old.items out.new.items) }
 {
-    match STANDARD.decode(alloc, text) {
-        Ok(bytes) => {
-            push_bytes(out, bytes.as_slice())?;
-            Ok(true)
-        }
+    match STANDARD.decode_vec(text, out) {
+        Ok(()) => Ok(true),
         Err(DecodeAllocError::DecodeError(_)) => Ok(false),
         Err(DecodeAllocError::OutOfMemory) => Err(OutOfMemory),
     }
@@ -113,17 +108,13 @@ fn push_decoded(alloc: Global, out: &mut Vec<u8>, text: &[u8]) -> Result<bool, O
 
 /// Appends the bytes that the text up to the next quotation mark stands for, and gives what follows it; `None` where it is no
 /// standard padded base64.
-fn push_data<'a>(
-    alloc: Global,
-    out: &mut Vec<u8>,
-    text: &'a [u8],
-) -> Result<Option<&'a [u8]>, OutOfMemory>
+fn push_data<'a>(out: &mut Vec<u8>, text: &'a [u8]) -> Result<Option<&'a [u8]>, OutOfMemory>
     ensures { IfOk result (λ o. IfSome o (λ rest. PassesData text.entry.now rest.now out.old.items out.new.items)) }
 {
     let Some(at) = memchr(b'"', text) else {
         return Ok(None);
     };
-    let is_data = push_decoded(alloc, out, &text[..at])?;
+    let is_data = push_decoded(out, &text[..at])?;
     if is_data {
         Ok(Some(&text[at..]))
     } else {
@@ -145,17 +136,13 @@ fn after_id(text: &[u8]) -> Option<&[u8]>
 }
 
 /// Appends the data of the element, and gives what follows its id; `None` where it is not in that form.
-pub fn push_front<'a>(
-    alloc: Global,
-    out: &mut Vec<u8>,
-    text: &'a [u8],
-) -> Result<Option<&'a [u8]>, OutOfMemory>
+pub fn push_front<'a>(out: &mut Vec<u8>, text: &'a [u8]) -> Result<Option<&'a [u8]>, OutOfMemory>
     ensures { IfOk result (λ o. IfSome o (λ rest. PassesFront text.entry.now rest.now out.old.items out.new.items)) }
 {
     let Some(data) = after_number(text) else {
         return Ok(None);
     };
-    let Some(behind) = push_data(alloc, out, data)? else {
+    let Some(behind) = push_data(out, data)? else {
         return Ok(None);
     };
     Ok(after_id(behind))

@@ -10,7 +10,6 @@ use std::alloc::Global;
 
 /// Appends the data of the element that ends with this tail, and gives what follows it; `None` where there is no such element.
 fn push_own<'a>(
-    alloc: Global,
     out: &mut Vec<u8>,
     tail: &[u8],
     text: &'a [u8],
@@ -18,7 +17,7 @@ fn push_own<'a>(
     requires { IsTail tail.now }
     ensures { IfOk result (λ o. IfSome o (λ rest. PassesOwn text.entry.now rest.now out.old.items out.new.items)) }
 {
-    let Some(behind) = push_front(alloc, out, text)? else {
+    let Some(behind) = push_front(out, text)? else {
         return Ok(None);
     };
     Ok(after_part(behind, tail))
@@ -31,19 +30,14 @@ fn is_end(text: &[u8]) -> bool
 }
 
 /// Appends the data of the elements that are left, each after its comma; whether these are all and the event's end follows.
-fn push_others(
-    alloc: Global,
-    out: &mut Vec<u8>,
-    tail: &[u8],
-    left: &[u8],
-) -> Result<bool, OutOfMemory>
+fn push_others(out: &mut Vec<u8>, tail: &[u8], left: &[u8]) -> Result<bool, OutOfMemory>
     requires { IsTail tail.now }
     ensures { IfOk result (λ is. IsTrue is → (event : List ℕ) → Becomes event out.old.items left.now → ddb_event event ≡ out.new.items) }
 {
     let mut left = left;
     while let Some(next) = after_part(left, b",") {
         push_bytes(out, b",")?;
-        let Some(rest) = push_own(alloc, out, tail, next)? else {
+        let Some(rest) = push_own(out, tail, next)? else {
             return Ok(false);
         };
         left = rest;
@@ -54,7 +48,7 @@ fn push_others(
 }
 
 /// Appends what the event becomes; whether it has elements in that form alone.
-fn push_event(alloc: Global, out: &mut Vec<u8>, event: &[u8]) -> Result<bool, OutOfMemory>
+fn push_event(out: &mut Vec<u8>, event: &[u8]) -> Result<bool, OutOfMemory>
     requires { out.old.items ≡ [] }
     ensures { IfOk result (λ is. IsTrue is → out.new.items ≡ ddb_event event.now) }
 {
@@ -62,13 +56,13 @@ fn push_event(alloc: Global, out: &mut Vec<u8>, event: &[u8]) -> Result<bool, Ou
         return Ok(false);
     };
     push_bytes(out, b"{\"Records\":[")?;
-    let Some(behind) = push_front(alloc, out, elements)? else {
+    let Some(behind) = push_front(out, elements)? else {
         return Ok(false);
     };
     let Some((tail, left)) = tail_of(behind) else {
         return Ok(false);
     };
-    push_others(alloc, out, tail, left)
+    push_others(out, tail, left)
 }
 
 /// What the event becomes, where it has elements, and is written as a stream's events are, without a window.
@@ -76,6 +70,6 @@ pub fn own_event(alloc: Global, event: &[u8]) -> Result<Option<Vec<u8>>, OutOfMe
     ensures { IfOk result (λ o. IfSome o (λ text. text.items ≡ ddb_event event.now)) }
 {
     let mut out = Vec::with_capacity(alloc, event.len())?;
-    let is_own = push_event(alloc, &mut out, event)?;
+    let is_own = push_event(&mut out, event)?;
     if is_own { Ok(Some(out)) } else { Ok(None) }
 }

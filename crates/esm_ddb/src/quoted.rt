@@ -8,7 +8,8 @@ use esm_event::bytes::push_bytes;
 use esm_event::json;
 use esm_model::OutOfMemory;
 
-fn are_kept(text: &[u8]) -> bool
+/// Whether each byte stands in a JSON text for itself.
+pub fn are_kept(text: &[u8]) -> bool
     ensures { result ≡ list_all is_kept text.now }
 {
     text.iter().all(|b| 32 <= *b && *b != b'"' && *b != b'\\')

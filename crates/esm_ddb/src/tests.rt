@@ -145,6 +145,19 @@ fn change_of_an_item(rt: HostRuntime) -> Result<(), Fail> {
     Ok(())
 }
 
+/// The space keeps the line from being recognised, so that it is parsed.
+#[test]
+fn change_of_a_parsed_item(rt: HostRuntime) -> Result<(), Fail> {
+    let alloc = rt.alloc();
+    let line = format!(in alloc; "{LINE}}} }}")?;
+    let source = source(alloc)?;
+    match turned(alloc, &mut Scratch::new(alloc), &source, line.as_bytes()) {
+        Ok(text) => assert_eq!(rt; text.as_slice(), TURNED.as_bytes()),
+        Err(_) => return Err(Fail::from("refused")),
+    }
+    Ok(())
+}
+
 const MAPPING: &str =
     "{\"EventSourceArn\":\"arn:aws:dynamodb:us-east-1:123456789012:table/tab/stream/1\",\"FunctionName\":\"f\",\"StartingPosition\":\"TRIM_HORIZON\"}";
 

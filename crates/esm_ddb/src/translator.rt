@@ -11,6 +11,9 @@ use esm_model::{Bytes, Config, OutOfMemory};
 use std::alloc::Global;
 use std::marker::Model;
 
+/// Most lines become lines of fewer bytes than so many times their own.
+const GROWTH: usize = 3;
+
 /// What a call of `Translator` gives: what the lines that it completes became, in their order, and the first bad line of all
 /// the input so far, if there is one.
 #[derive(Drop, Debug)]
@@ -44,7 +47,7 @@ fn feed_piece(alloc: Global, reading: &mut Splitter, piece: &[u8]) -> Result<Tur
     ensures bad { IfOk result (λ turned. turned.bad ≡ reading.new.bad) }
     ensures source { reading.new.source ≡ reading.old.source }
 {
-    let mut out = Vec::new(alloc);
+    let mut out = Vec::with_capacity(alloc, piece.len().saturating_mul(GROWTH))?;
     reading.read_more(alloc, &mut out, piece)?;
     Ok(Turned {
         bytes: Bytes::from_vec(out),

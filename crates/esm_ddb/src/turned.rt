@@ -1,8 +1,10 @@
 //! The line of a stream's input that a line of a DynamoDB stream becomes.
-ghost use Rattle.std.specs.Prelude.{◌≡◌, ◌++◌, Some, true, OnOk, IfOk};
+ghost use Rattle.std.specs.Prelude.{◌≡◌, ◌<◌, ◌++◌, Some, false, true, OnOk, IfOk};
+ghost use Rattle.std.specs.Fmt.{digit_glyph};
 ghost use Rattle.json.specs.Value.{value_view};
 ghost use Rattle.serde_json.specs.Read.{read};
 ghost use Rattle.md5.specs.Md5.{md5};
+ghost use Rattle.esm_model.specs.Numbers.{padded_hexadecimal};
 ghost use Rattle.esm_model.specs.QueueEvent.{hexadecimal};
 ghost use Rattle.esm_record.specs.Input.{is_blank};
 ghost use Rattle.esm_ddb.specs.Element.{element};
@@ -16,10 +18,11 @@ use crate::change::{Change, change_of};
 use crate::element::element;
 use crate::error::{DdbError, DdbField, Refusal};
 use crate::item_text::push_value;
+use crate::own_turned::own_turned;
 use crate::source::Source;
 use crate::tree::{is_object, is_ordered, read_value};
 use esm_event::bytes::push_bytes;
-use esm_event::digits::{push_decimal, push_hexadecimal};
+use esm_event::digits::push_decimal;
 use esm_event::record::{push_base64, push_shard_id};
 use esm_model::{MAX_DATA, MAX_LINE, OutOfMemory, parse_json_text};
 use json::{Reader, Scratch, Value};
@@ -30,13 +33,34 @@ use std::str::from_utf8;
 /// The bytes that most lines have room in besides their data, and most keys.
 const ROOM: usize = 256;
 
+/// The lower-case hexadecimal digit.
+fn digit(value: u8) -> u8
+    requires { value < 16 }
+    ensures { result ≡ digit_glyph false value }
+{
+    if value < 10 {
+        b'0' + value
+    } else {
+        b'a' + (value - 10)
+    }
+}
+
+/// Appends the byte by two lower-case hexadecimal digits.
+fn push_byte(out: &mut Vec<u8>, byte: u8) -> Result<(), OutOfMemory>
+    ensures { OnOk result (out.new.items ≡ out.old.items ++ padded_hexadecimal 2 byte) }
+{
+    out.push(digit(byte / 16))?;
+    out.push(digit(byte % 16))?;
+    Ok(())
+}
+
 /// Appends each byte by two lower-case hexadecimal digits.
 #[tactic(auto, unfolding(esm_model::specs::QueueEvent::hexadecimal))]
 fn push_hexadecimal_bytes(out: &mut Vec<u8>, bytes: &[u8]) -> Result<(), OutOfMemory>
     ensures { OnOk result (out.new.items ≡ out.old.items ++ hexadecimal bytes.now) }
 {
     for byte in bytes {
-        push_hexadecimal(out, 2, *byte as u64)?;
+        push_byte(out, *byte)?;
     }
     Ok(())
 }
@@ -50,18 +74,18 @@ fn push_digest(out: &mut Vec<u8>, keys: &[u8]) -> Result<(), OutOfMemory>
 }
 
 /// Appends shard and sequence number of the line.
-fn push_place(out: &mut Vec<u8>, change: &Change) -> Result<(), OutOfMemory>
-    ensures { OnOk result (out.new.items ≡ out.old.items ++ place_part change.now.shard change.now.item.seq.now) }
+pub fn push_place(out: &mut Vec<u8>, shard: u64, seq: &[u8]) -> Result<(), OutOfMemory>
+    ensures { OnOk result (out.new.items ≡ out.old.items ++ place_part shard seq.now) }
 {
     push_bytes(out, b"{\"shardId\":\"")?;
-    push_shard_id(out, change.shard)?;
+    push_shard_id(out, shard)?;
     push_bytes(out, b"\",\"sequenceNumber\":\"")?;
-    push_bytes(out, change.item.seq.as_bytes())?;
+    push_bytes(out, seq)?;
     Ok(())
 }
 
 /// Appends partition key, data and moment of arrival of the line.
-fn push_content(
+pub fn push_content(
     out: &mut Vec<u8>,
     keys: &[u8],
     payload: &[u8],
@@ -91,9 +115,14 @@ fn push_record(
     requires payload { payload.now ≡ element source.now (change_view change.now) }
     ensures { OnOk result (out.new.items ≡ out.old.items ++ record_line (turned_record source.now (change_view change.now))) }
 {
-    push_place(out, change)?;
+    push_place(out, change.shard, change.item.seq.as_bytes())?;
     push_content(out, keys, payload, change.arrival)?;
     Ok(())
+}
+
+/// The bytes that the line has room in of a record with this data.
+pub fn room_for(payload: &[u8]) -> usize {
+    (payload.len() / 3).saturating_mul(4).saturating_add(ROOM)
 }
 
 fn record_line(
@@ -107,8 +136,7 @@ fn record_line(
     requires payload { payload.now ≡ element source.now (change_view change.now) }
     ensures { IfOk result (λ text. text.items ≡ record_line (turned_record source.now (change_view change.now))) }
 {
-    let room = (payload.len() / 3).saturating_mul(4).saturating_add(ROOM);
-    let mut out = Vec::with_capacity(alloc, room)?;
+    let mut out = Vec::with_capacity(alloc, room_for(payload))?;
     push_record(&mut out, source, change, keys, payload)?;
     Ok(out)
 }
@@ -191,6 +219,21 @@ fn turned_ordered(alloc: Global, source: &Source, text: &str) -> Result<Vec<u8>,
     }
 }
 
+/// What a text becomes that is a line.
+fn turned_line(
+    alloc: Global,
+    scratch: &mut Scratch,
+    source: &Source,
+    text: &str,
+) -> Result<Vec<u8>, Refusal>
+    ensures { Gives (λ v. v.items) result (turned_value source.now (read text.now)) }
+{
+    match own_turned(alloc, source, text.as_bytes())? {
+        Some(line) => Ok(line),
+        None => turned_text(alloc, scratch, source, text),
+    }
+}
+
 fn turned_object(
     alloc: Global,
     scratch: &mut Scratch,
@@ -200,7 +243,7 @@ fn turned_object(
     ensures { Gives (λ v. v.items) result (turned_object source.now line.now) }
 {
     match from_utf8(line) {
-        Ok(text) => turned_text(alloc, scratch, source, text),
+        Ok(text) => turned_line(alloc, scratch, source, text),
         Err(_) => Err(Refusal::Line(DdbError::NotJson)),
     }
 }

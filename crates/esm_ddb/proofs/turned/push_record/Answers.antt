@@ -6,4 +6,4 @@ pub returns : goal.returns
 unfolding record_line
 returns c =
     let old = c.args.out.now.items in
-    then old c.push_place.new.out.items c.push_content.new.out.items _ _ c.in_ok-push_place.ensures (rw (c.requires.keys, c.requires.payload) at c.in_ok-push_content.ensures)
+    then old c.push_place.new.out.items c.push_content.new.out.items _ _ (rw c.as_bytes.ensures.value at c.in_ok-push_place.ensures) (rw (c.requires.keys, c.requires.payload) at c.in_ok-push_content.ensures)
