@@ -19,18 +19,12 @@ use Rattle.esm_model.proofs.Steps.{span, below_more}
 use Rattle.esm_model.proofs.Earning.{earned_of_legal}
 use Rattle.esm_model.proofs.Histories.{no_repeat_of_legal, order_of_legal}
 use Rattle.esm_journal_state.specs.declared.kept.KeptFate.{KeptFate}
-use Rattle.esm_journal_state.specs.Meaning.{fate_said, history, are_good}
+use Rattle.esm_journal_state.specs.Meaning.{fate_said, history}
 use Rattle.esm_journal_state.proofs.KeptFates.{checkpoint_kept}
-use Rattle.esm_model.specs.Valid.{HasStreamFields}
-use Rattle.esm_life.specs.Content.{GoesOnFrom}
-use Rattle.esm_life.specs.Life.{Run, Stage, Ran, Rewritten, content, IsRunOver, SaysTheSame, IsLife, recorded_fate, FateStays, EachIsEarned, NoneIsCalledAgain, KeysInOrder, CheckpointStays, CheckpointIsRuns}
-use Rattle.esm_life.proofs.GoesOn.{fate_found, fates_after, goes_on}
-use Rattle.esm_life.proofs.GoodContent.{stays_good}
-
--- what is found is what was known
-
-pub knows : (r next : Run) (before : List Stage) → IsLife (Ran next ∷ Ran r ∷ before) → HasStreamFields r.setting.config → GoesOnFrom r.setting r.recorded next.setting
-knows r next before life fields = goes_on r.setting next.setting r.recorded (content before) fields life.0.1.legal_recorded life.0.1.may_be_said life.0.1.opened life.1.opened
+use Rattle.esm_life.specs.Life.{Run, Stage, Ran, Replay, Rewritten, content, IsRunOver, SaysTheSame, IsLife, recorded_fate, FateStays, EachIsEarned, NoneIsCalledAgain, KeysInOrder, CheckpointStays, CheckpointIsRuns}
+use Rattle.esm_history.proofs.GoesOn.{fate_found, fates_after}
+use Rattle.esm_life.specs.ReplayLaws.{AreReplayLaws}
+use Rattle.esm_life.proofs.ReplayLives.{replay_fate}
 
 -- one stage
 
@@ -52,10 +46,11 @@ or_stands (Some g) b f is = is
 
 -- a recorded fate stays
 
-pub stays : (later before : List Stage) → IsLife (later ++ before) → FateStays later before
-stays [] before life n i f is = is
-stays (Ran r ∷ later) before life n i f is = run_fate r (later ++ before) life.1 n i ∙ or_stands (recorded_fate (later ++ before) n i) (given r.recorded n i) f (stays later before life.0 n i f is)
-stays (Rewritten list ∷ later) before life n i f is = rewritten_fate list (later ++ before) life.1 n i ∙ stays later before life.0 n i f is
+pub stays : AreReplayLaws → (later before : List Stage) → IsLife (later ++ before) → FateStays later before
+stays laws [] before life n i f is = is
+stays laws (Ran r ∷ later) before life n i f is = run_fate r (later ++ before) life.1 n i ∙ or_stands (recorded_fate (later ++ before) n i) (given r.recorded n i) f (stays laws later before life.0 n i f is)
+stays laws (Replay r ∷ later) before life n i f is = replay_fate laws r (later ++ before) life n i ∙ stays laws later before life.0 n i f is
+stays laws (Rewritten list ∷ later) before life n i f is = rewritten_fate list (later ++ before) life.1 n i ∙ stays laws later before life.0 n i f is
 
 -- each is earned
 
@@ -158,18 +153,18 @@ in_order r before life later earlier lane places closing m is i j one other at_i
 
 -- the checkpoint
 
-some_stays : (later before : List Stage) → IsLife (later ++ before) → (n i : ℕ) → is_some (recorded_fate before n i) ≡ true → is_some (recorded_fate (later ++ before) n i) ≡ true
-some_stays later before life n i some = by_fate (recorded_fate before n i) refl some
+some_stays : AreReplayLaws → (later before : List Stage) → IsLife (later ++ before) → (n i : ℕ) → is_some (recorded_fate before n i) ≡ true → is_some (recorded_fate (later ++ before) n i) ≡ true
+some_stays laws later before life n i some = by_fate (recorded_fate before n i) refl some
   where
     by_fate : (o : Option Fate) → recorded_fate before n i ≡ o → is_some o ≡ true → is_some (recorded_fate (later ++ before) n i) ≡ true
     by_fate None is none = cc
-    by_fate (Some f) is some = ap is_some (stays later before life n i f is)
+    by_fate (Some f) is some = ap is_some (stays laws later before life n i f is)
 
-pub checkpoint_stays : (later before : List Stage) → IsLife (later ++ before) → CheckpointStays later before
-checkpoint_stays later before life n count more low =
+pub checkpoint_stays : AreReplayLaws → (later before : List Stage) → IsLife (later ++ before) → CheckpointStays later before
+checkpoint_stays laws later before life n count more low =
     subst (λ xs. length (take_while (λ i. is_some (recorded_fate before n i)) (below count)) ≤ length (take_while (λ i. is_some (recorded_fate (later ++ before) n i)) xs))
     (sym (below_more count (more - count)) ∙ ap below (sum_back count more low))
-    (take_while_longer (λ i. is_some (recorded_fate before n i)) (λ i. is_some (recorded_fate (later ++ before) n i)) (some_stays later before life n) (below count) (span count (more - count)))
+    (take_while_longer (λ i. is_some (recorded_fate before n i)) (λ i. is_some (recorded_fate (later ++ before) n i)) (some_stays laws later before life n) (below count) (span count (more - count)))
   where
     sum_back : (a b : ℕ) → a ≤ b → (b - a) + a ≡ b
     sum_back a b le = omega arith
@@ -186,10 +181,3 @@ checkpoint_is r before life n =
   where
     take_while_same : (p q : ℕ → Bool) (xs : List ℕ) → ((i : ℕ) → p i ≡ q i) → length (take_while p xs) ≡ length (take_while q xs)
     take_while_same p q xs same = ap length (take_while_agree p q xs (λ i member. same i))
-
--- payloads
-
-pub good : (life : List Stage) → IsLife life → are_good (reverse (content life)) ≡ true
-good [] life = refl
-good (Ran r ∷ stages) life = stays_good r.setting r.recorded (content stages) (good stages life.0) life.1.legal_recorded life.1.may_be_said life.1.opened
-good (Rewritten list ∷ stages) life = life.1.good

@@ -98,7 +98,8 @@ OrdinaryRunGoesOn = (s : QueueSetting) (h : List Entry) (old : List (List ℕ)) 
 
 pub gone_on : {D F : Type 0} (m : DiskMeaning D) → OrdinaryRunGoesOn → (callers : Outside F) (line : List ℕ → List ℕ) (config : Config) (calls visibility : ℕ) (f : FilesState D) (messages : List Message) (s : QueueSetting) (h : List Entry) (trouble : Option Trouble)
     (hand : List Entry) (new : Devices D F) (one other bytes : List ℕ) (fifo : Bool) (life : List Stage) → IsGoneOnWith m callers line config calls visibility f messages s h trouble hand new one other bytes fifo life
-gone_on m goes callers line config calls visibility f messages s h trouble hand new one other bytes fifo life opened setting headline valid may is_life found =
+gone_on m goes callers line config calls visibility f messages s h trouble hand new one other bytes fifo life opened setting headline may is_life found =
+    let valid : HasValidMessages s = record { valid = headline.valid; few = headline.few } in
     let o = headline.crash may.honest may.settled one other may.journal_since may.spare_since in
     let first = first_texts (queue_payload s.messages) (reverse h ++ hand) o.front o.rest o.split in
     let kept = kept_of s h hand first.front first.rest (legal_here s h headline.legal_trace) headline.hand_follows (few_in_hand trouble hand headline.in_hand) first.split in

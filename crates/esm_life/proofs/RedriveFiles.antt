@@ -6,8 +6,11 @@ use Rattle.std.proofs.lemmas.Bool.{or_left}
 use Rattle.std.proofs.lemmas.List.{reverse-append, reverse-reverse}
 use Rattle.std.proofs.lemmas.List.Elements.{filter_map-append}
 use Rattle.std.proofs.lemmas.List.Folds.{list_any-append}
+use Rattle.esm_io.specs.Images.{Only}
 use Rattle.esm_io.specs.Meanings.{DiskMeaning}
 use Rattle.esm_book.specs.Hand.{is_end}
+use Rattle.esm_folder.specs.declared.disks.Disks.{Disks as FolderDisks}
+use Rattle.esm_folder.specs.Init.{fresh_bytes}
 use Rattle.esm_journal.specs.File.{header_of, Holding, Opening, opened as file_opened}
 use Rattle.esm_journal.specs.Pair.{PairOpensTo, pair_opened}
 use Rattle.esm_journal.specs.State.{OpensTo}
@@ -19,6 +22,7 @@ use Rattle.esm_model.specs.declared.book.Trouble.TheVariants.{Disk, Dest, Change
 use Rattle.esm_model.specs.declared.entry.Entry.{Entry}
 use Rattle.esm_model.specs.declared.entry.Entry.TheVariants.{Came, Began, Ended, Gave, Tried, Closed, Replayed, Shut}
 use Rattle.esm_model.specs.declared.item.Message.{Message}
+use Rattle.esm_model.specs.declared.names.FileName.TheVariants as file
 use Rattle.esm_model.specs.Books.{entry_line, lines_of}
 use Rattle.esm_model.specs.Entries.{holds}
 use Rattle.esm_queue_model.specs.QueueSetting.{is_fifo}
@@ -32,7 +36,7 @@ use Rattle.esm_runner.specs.Files.{FilesState}
 use Rattle.esm_runner.specs.Headline.{IsInHand}
 use Rattle.esm_redrive_run.specs.Headline.{Disks, Headline, LinesKept, LinesStopped, Words, dead_letters}
 use Rattle.esm_redrive_run.specs.Stages.{IsLeftOf, IsStage}
-use Rattle.esm_life.specs.Redrives.{GoesOnWithStage, IsCompactedLife, IsFoundAgain, IsLeftByStage, IsLeftWhole, IsSameLife, IsWholeStage, LeftBy, MayBeLeft, OpensToLife, stage_of}
+use Rattle.esm_life.specs.Redrives.{GoesOnWithStage, IsCompactedLife, IsFoundAgain, IsLeftByStage, IsLeftWhole, IsLifeBegun, IsSameLife, IsWholeStage, LeftBy, MayBeLeft, OpensToLife, stage_of}
 
 -- what ends a call or the input writes nothing
 
@@ -355,3 +359,26 @@ same_life m fifo life epoch journal spare failures journal' spare' failures' one
     subst (λ (x : List ℕ). OpensToLife fifo life epoch x other bytes) (sym first)
     (subst (λ (y : List ℕ). OpensToLife fifo life epoch (m.content journal) y bytes) (sym second)
     (subst (OpensToLife fifo life epoch (m.content journal) (m.content spare)) (sym third) opens))
+
+-- fresh files open to nothing
+
+pub settled_so : (bytes content : List ℕ) (images : List ℕ → Type 0) → content ≡ bytes → Only bytes images → Only content images
+settled_so bytes content images is only image at = only image at ∙ sym is
+
+pub life_begun : {D : Type 0} (m : DiskMeaning D) (old new : FolderDisks D) (fifo : Bool) → IsLifeBegun m old new fifo
+life_begun m old new fifo made honest =
+    let journal = made file.Journal (honest file.Journal) in
+    let spare = made file.Spare (honest file.Spare) in
+    let lines = made file.Failures (honest file.Failures) in
+    record {
+      settled = (
+        settled_so (fresh_bytes file.Journal) (m.content new.journal) (m.image new.journal) journal.1 journal.2,
+        settled_so (fresh_bytes file.Spare) (m.content new.spare) (m.image new.spare) spare.1 spare.2,
+      );
+      settled_lines = settled_so (fresh_bytes file.Failures) (m.content new.failures) (m.image new.failures) lines.1 lines.2;
+      opens =
+          subst (λ (x : List ℕ). OpensToLife fifo [] 1 x (m.content new.spare) (m.content new.failures)) (sym journal.1)
+          (subst (λ (y : List ℕ). OpensToLife fifo [] 1 (fresh_bytes file.Journal) y (m.content new.failures)) (sym spare.1)
+          (subst (OpensToLife fifo [] 1 (fresh_bytes file.Journal) (fresh_bytes file.Spare)) (sym lines.1)
+          (record { is_life = tt; content_is = refl; lines_are = (1, refl) })));
+    }

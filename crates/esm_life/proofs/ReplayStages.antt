@@ -1,6 +1,8 @@
--- A run of a replay of which the headline holds is one of the life of its mapping.
-use Rattle.std.proofs.Common.{◌≡◌, ℕ, ◌≤◌, Bool, List, [], ◌∷◌, length, arith, Option, Some, None}
+-- A run of a replay of which the headline holds is a stage of the life of its mapping.
+use Rattle.std.proofs.Common.{◌≡◌, ℕ, ◌≤◌, Bool, List, [], ◌∷◌, ◌++◌, length, arith, Option, Some, None, subst}
 use Rattle.esm_io.specs.Meanings.{DiskMeaning}
+use Rattle.esm_journal.specs.File.{header_of, Holding}
+use Rattle.esm_journal.specs.Pair.{pair_opened}
 use Rattle.esm_model.specs.declared.book.Trouble.{Trouble}
 use Rattle.esm_model.specs.declared.book.Trouble.TheVariants.{Disk, Dest, Changed}
 use Rattle.esm_model.specs.declared.config.Config.{Config}
@@ -9,8 +11,11 @@ use Rattle.esm_model.specs.declared.item.Record.{Record}
 use Rattle.esm_replay_model.specs.ReplaySetting.{ReplaySetting}
 use Rattle.esm_runner.specs.Files.{FilesState}
 use Rattle.esm_runner.specs.Headline.{IsInHand}
+use Rattle.esm_replay_life.specs.ReplayLife.{IsReplayRunOver}
 use Rattle.esm_replay_run.specs.Headline.{Disks}
-use Rattle.esm_life.specs.Replays.{IsStage}
+use Rattle.esm_life.specs.Life.{Stage}
+use Rattle.esm_life.specs.Replays.{IsStage, IsLeftByStage}
+use Rattle.esm_life.specs.Streams.{IsReplayedLife, replay_of}
 
 none_in_hand : (hand : List Entry) → hand ≡ [] → length hand ≤ 1
 none_in_hand [] none = omega arith
@@ -33,3 +38,25 @@ stage m gave config calls f came s h trouble hand new left rest opened setting u
   rest = rest;
   kept = kept;
 }
+
+pub left_by : {D : Type 0} (m : DiskMeaning D) (gave : ℕ → Bool) (config : Config) (calls : ℕ) (f : FilesState D) (came : List Record) (s : ReplaySetting) (h : List Entry) (trouble : Option Trouble) (hand : List Entry) (new : Disks D) (one other : List ℕ)
+    → IsLeftByStage m gave config calls f came s h trouble hand new one other
+left_by m gave config calls f came s h trouble hand new one other opened setting unchanged headline honest settled since other_since =
+    let o = headline.crash honest settled one other since other_since in
+    record {
+      left = o.front;
+      content_is = o.opens;
+      stage = stage m gave config calls f came s h trouble hand new o.front o.rest opened setting unchanged headline o.split;
+    }
+
+pub goes_on : {D : Type 0} (m : DiskMeaning D) (gave : ℕ → Bool) (config : Config) (calls : ℕ) (f : FilesState D) (came : List Record) (s : ReplaySetting) (h : List Entry) (trouble : Option Trouble) (hand : List Entry) (new : Disks D) (one other : List ℕ) (life : List Stage)
+    → IsReplayedLife m gave config calls f came s h trouble hand new one other life
+goes_on m gave config calls f came s h trouble hand new one other life opened setting unchanged headline may found =
+    let by = left_by m gave config calls f came s h trouble hand new one other opened setting unchanged headline may.honest may.settled may.journal_since may.spare_since in
+    record {
+      left = by.left;
+      opens = record {
+        is_life = (found.0, subst (IsReplayRunOver (replay_of s h hand by.left)) found.1 by.stage);
+        content_is = subst (λ (old : List (List ℕ)). pair_opened (header_of 2) one other ≡ Holding f.pair.epoch (old ++ by.left)) found.1 by.content_is.0;
+      };
+    }

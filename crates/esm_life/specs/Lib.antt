@@ -1,5 +1,5 @@
-pub mod Completeness
-pub mod Content
 pub mod Life
 pub mod Redrives
+pub mod ReplayLaws
 pub mod Replays
+pub mod Streams

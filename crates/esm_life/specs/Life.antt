@@ -1,13 +1,14 @@
--- The life of a stream's mapping: its runs, however each stopped, and what was written in place of its journal's content
--- between them. What came last stands first. This product's own.
+-- The life of a stream's mapping: its runs and its replays, however each stopped, and what was written in place of its journal's
+-- content between them. What came last stands first. This product's own.
 use Rattle.std.specs.Prelude.{◌≡◌, ◌⊎◌, ℕ, ◌<◌, ◌≤◌, Bool, true, false, IsTrue, IsSome, List, [], ◌∷◌, ◌++◌, length, Option, Some, None, is_some, option_map, reverse, take_while}
 use Rattle.std.specs.List.{list_any, list_all}
+use Rattle.esm_book.specs.Hand.{is_end}
 use Rattle.esm_model.specs.declared.item.Record.{Record}
 use Rattle.esm_model.specs.declared.lane.LaneId.{LaneId}
 use Rattle.esm_model.specs.declared.entry.Fate.{Fate}
 use Rattle.esm_model.specs.declared.entry.WindowState.{WindowState}
 use Rattle.esm_model.specs.declared.entry.Entry.{Entry}
-use Rattle.esm_model.specs.declared.entry.Entry.TheVariants.{Began, Ended, Gave, Shut}
+use Rattle.esm_model.specs.declared.entry.Entry.TheVariants.{Began, Gave}
 use Rattle.esm_model.specs.Setting.{Setting, record_at}
 use Rattle.esm_model.specs.Entries.{holds, came_count}
 use Rattle.esm_model.specs.Fates.{below, names_place}
@@ -16,9 +17,11 @@ use Rattle.esm_model.specs.Step.{Legal}
 use Rattle.esm_model.specs.Earned.{IsEarned}
 use Rattle.esm_journal_record.specs.EntryPayload.{AllMayBeSaid}
 use Rattle.esm_journal_state.specs.declared.kept.KeptFate.{KeptFate}
-use Rattle.esm_journal_state.specs.Meaning.{fate_said, history, are_good}
+use Rattle.esm_journal_state.specs.Meaning.{fate_said, history, are_good, replayed_said}
 use Rattle.esm_journal_state.specs.Compact.{SameSaid}
-use Rattle.esm_life.specs.Content.{IsOpenedOver, content_after}
+use Rattle.esm_history.specs.Content.{IsOpenedOver, content_after}
+use Rattle.esm_replay_life.specs.ReplayLife.{IsReplayRunOver, ReplayRun, replays_naming}
+use Rattle.esm_replay_model.specs.ReplayReport.{is_replayed}
 
 -- a run: what happened in it, and what of that its journal kept
 pub record Run : Type 0 where
@@ -26,24 +29,20 @@ pub record Run : Type 0 where
   pub happened : List Entry
   pub recorded : List Entry
 
--- a run, or a list of payloads that was written in place of the content, the oldest first
+-- a run, a replay, or a list of payloads that was written in place of the content, the oldest first
 pub data Stage : Type 0 where
   Ran : Run → Stage
+  Replay : ReplayRun → Stage
   Rewritten : List (List ℕ) → Stage
 
 -- the journal's content after the stages; it begins empty
 abbrev pub content : List Stage → List (List ℕ)
 content [] = []
 content (Ran r ∷ stages) = content_after r.setting r.recorded (content stages)
+content (Replay r ∷ stages) = content stages ++ r.left
 content (Rewritten list ∷ stages) = list
 
 -- what a run may leave
-
--- the entry ends a call or the input
-abbrev pub is_end : Entry → Bool
-is_end (Ended lane reply moment) = true
-is_end (Shut moment) = true
-is_end _ = false
 
 -- an entry was in hand when a disk failed: it may follow a front of what happened, after which calls and the input ended alone
 pub record HasHand (happened recorded : List Entry) : Type 0 where
@@ -71,10 +70,11 @@ pub record SaysTheSame (list old : List (List ℕ)) : Type 0 where
   pub same : SameSaid (history (reverse list)) (history (reverse old))
   pub good : are_good (reverse list) ≡ true
 
--- each run found what the stages before it left
+-- each run and each replay found what the stages before it left
 abbrev pub IsLife : List Stage → Type 0
 IsLife [] = Unit {0}
 IsLife (Ran r ∷ stages) = IsLife stages × IsRunOver r (content stages)
+IsLife (Replay r ∷ stages) = IsLife stages × IsReplayRunOver r (content stages)
 IsLife (Rewritten list ∷ stages) = IsLife stages × SaysTheSame list (content stages)
 
 -- what is recorded
@@ -86,6 +86,13 @@ recorded_fate life n i = option_map (λ (k : KeptFate). k.fate) (fate_said (hist
 -- of so many records of the shard the longest prefix in which each has a fate by the content
 abbrev pub recorded_checkpoint : List Stage → ℕ → ℕ → ℕ
 recorded_checkpoint life n count = length (take_while (λ i. is_some (recorded_fate life n i)) (below count))
+
+-- replays and rewritings, and no run
+abbrev pub AreBetween : List Stage → Type 0
+AreBetween [] = Unit {0}
+AreBetween (Ran r ∷ stages) = ⊥
+AreBetween (Replay r ∷ stages) = AreBetween stages
+AreBetween (Rewritten list ∷ stages) = AreBetween stages
 
 -- laws
 
@@ -125,6 +132,25 @@ KeysInOrder r before =
     → (i j : ℕ) (one other : Record) → record_at r.setting lane.shard i ≡ Some one → record_at r.setting lane.shard j ≡ Some other → other.key ≡ one.key
     → IsTrue (holds places i) → j < i
     → IsTrue (holds places j) ⊎ (IsSome (recorded_fate before lane.shard j) ⊎ IsTrue (list_any (names_place lane.shard j) earlier))
+
+-- one payload of the content at most says of a record that it was replayed
+abbrev pub EachReplayedOnce : List Stage → Type 0
+EachReplayedOnce life = (n i : ℕ) → replays_naming (history (reverse (content life))) n i ≤ 1
+
+-- by the content the record was replayed
+abbrev pub is_recorded_replayed : List Stage → ℕ → ℕ → Bool
+is_recorded_replayed life n i = replayed_said (history (reverse (content life))) n i
+
+-- what is recorded as replayed stays so
+abbrev pub ReplaysStay : (later before : List Stage) → Type 0
+ReplaysStay later before = (n i : ℕ) → is_recorded_replayed before n i ≡ true → is_recorded_replayed (later ++ before) n i ≡ true
+
+-- no call of the replay holds a record that was recorded as replayed when it began, or that it replayed before the call
+abbrev pub NoneIsReplayedAgain : ReplayRun → List Stage → Type 0
+NoneIsReplayedAgain r before =
+    (later earlier : List Entry) (lane : LaneId) (places : List ℕ) (closing : Option ℕ) (m : ℕ) → r.hand ++ r.happened ≡ later ++ Began lane places closing m ∷ earlier
+    → (i : ℕ) → IsTrue (holds places i)
+    → (is_recorded_replayed before lane.shard i ≡ false) × (is_replayed earlier lane.shard i ≡ false)
 
 -- the checkpoint by the content never falls, however many more records there are
 abbrev pub CheckpointStays : (later before : List Stage) → Type 0

@@ -1,7 +1,10 @@
 -- What the files hold after a run of a redrive, as what a stage of the life of its queue leaves. This product's own.
-use Rattle.std.specs.Prelude.{◌≡◌, ◌⊎◌, ◌+◌, ◌++◌, ◌∷◌, ℕ, Bool, true, List, Option, Some}
+use Rattle.std.specs.Prelude.{◌≡◌, ◌⊎◌, ◌+◌, ◌++◌, ◌∷◌, [], ℕ, Bool, true, List, Option, Some}
 use Rattle.esm_io.specs.Images.{Only}
 use Rattle.esm_io.specs.Meanings.{DiskMeaning}
+use Rattle.esm_folder.specs.declared.disks.Disks.{Disks as FolderDisks}
+use Rattle.esm_folder.specs.declared.files.InitEnd.TheVariants.{Done}
+use Rattle.esm_folder.specs.Init.{AreHonest as AllAreHonest, IsInitEnd}
 use Rattle.esm_folder.specs.Upkeep.{AreHonest, AreSettled, IsCompacting, PairHolds}
 use Rattle.esm_journal.specs.File.{header_of, Holding}
 use Rattle.esm_journal.specs.Pair.{PairOpensTo, pair_opened}
@@ -13,7 +16,7 @@ use Rattle.esm_model.specs.declared.entry.Entry.{Entry}
 use Rattle.esm_model.specs.declared.item.Message.{Message}
 use Rattle.esm_model.specs.Books.{lines_of}
 use Rattle.esm_queue_model.specs.QueueSetting.{QueueSetting, is_fifo}
-use Rattle.esm_redrive_life.specs.Content.{HasValidMessages, content_after}
+use Rattle.esm_redrive_life.specs.Content.{content_after}
 use Rattle.esm_redrive_life.specs.Life.{IsLife, IsRedriveOver, IsWhole, Redrive, Redriven, Rewritten, Stage, content, dead_lines}
 use Rattle.esm_redrive_model.specs.RedriveSetting.{RedriveSetting}
 use Rattle.esm_runner.specs.Files.{AreUnwritten, FilesState, IsOpenedFiles}
@@ -71,6 +74,15 @@ pub record OpensToLife (fifo : Bool) (life : List Stage) (epoch : ℕ) (one othe
   pub content_is : pair_opened (header_of 2) one other ≡ Holding epoch (content life)
   pub lines_are : OpensTo (header_of 1) (dead_lines life) bytes
 
+-- the files that `init` made open to what a life without stages leaves, and a crash leaves nothing else of them
+pub record HasBegunLife {D : Type 0} (m : DiskMeaning D) (new : FolderDisks D) (fifo : Bool) : Type 0 where
+  pub settled : AreSettled m new.journal new.spare
+  pub settled_lines : Only (m.content new.failures) (m.image new.failures)
+  pub opens : OpensToLife fifo [] 1 (m.content new.journal) (m.content new.spare) (m.content new.failures)
+
+abbrev pub IsLifeBegun : {D : Type 0} → DiskMeaning D → (old new : FolderDisks D) → Bool → Type 0
+IsLifeBegun m old new fifo = IsInitEnd m old new Done → AllAreHonest m old → HasBegunLife m new fifo
+
 -- the files were opened to the content and to the lines that a life leaves
 pub record HasFoundLife {D : Type 0} (f : FilesState D) (life : List Stage) : Type 0 where
   pub content_is : f.pair.payloads ≡ content life
@@ -112,11 +124,10 @@ pub record MayBeLeftSince {D : Type 0} (m : DiskMeaning D) (f : FilesState D) (j
   pub spare_since : m.since spare (m.moment f.spare) other
   pub lines_since : m.since failures (m.moment f.failures) bytes
 
--- Whatever a crash leaves of an ordinary run of the queue that found what a life leaves, the life has a further stage. The messages
--- that came are asked to be valid, since the headline of an ordinary run does not tell it.
+-- whatever a crash leaves of an ordinary run of the queue that found what a life leaves, the life has a further stage
 abbrev pub IsGoneOnWith : {D F : Type 0} → DiskMeaning D → Outside F → (List ℕ → List ℕ) → Config → (calls visibility : ℕ) → FilesState D → List Message → QueueSetting → List Entry → Option Trouble → (hand : List Entry) → Devices D F → (one other bytes : List ℕ) → Bool → List Stage → Type 0
 IsGoneOnWith m callers line config calls visibility f messages s h trouble hand new one other bytes fifo life =
-    IsOpenedFiles m f → IsQueueSettingOf config calls visibility f.said messages s → QueueHeadline (telling callers m line) f s h trouble hand new → HasValidMessages s →
+    IsOpenedFiles m f → IsQueueSettingOf config calls visibility f.said messages s → QueueHeadline (telling callers m line) f s h trouble hand new →
     MayBeLeftSince m f new.journal new.spare new.failures one other bytes → IsLife fifo life → HasFoundLife f life →
     (list : List (List ℕ)) × OpensToLife fifo (Rewritten list ∷ life) f.pair.epoch one other bytes
 

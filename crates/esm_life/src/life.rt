@@ -1,21 +1,29 @@
-// What holds over the life of a stream's mapping: over runs that end or are stopped at any moment, and rewritings of the
-// journal between them. What came last stands first.
+// What holds over the life of a stream's mapping: over runs and replays that end or are stopped at any moment, and rewritings of
+// the journal between them. What came last stands first.
 ghost use Rattle.std.specs.Prelude.{◌≡◌, ◌∷◌, ◌++◌, ℕ, true, List, reverse};
 ghost use Rattle.esm_journal_state.specs.Meaning.{are_good};
 ghost use Rattle.esm_model.specs.Valid.{HasStreamFields};
 ghost use Rattle.esm_folder.specs.Upkeep.{AreCompacted};
-ghost use Rattle.esm_life.specs.Content.{GoesOnFrom};
-ghost use Rattle.esm_life.specs.Life.{Run, Stage, Ran, content, IsLife, SaysTheSame, FateStays, EachIsEarned, NoneIsCalledAgain, KeysInOrder, CheckpointStays, CheckpointIsRuns};
+ghost use Rattle.esm_history.specs.Content.{GoesOnFrom};
+ghost use Rattle.esm_life.specs.Life.{AreBetween, Run, Stage, Ran, content, IsLife, SaysTheSame, FateStays, EachIsEarned, NoneIsCalledAgain, KeysInOrder, CheckpointStays, CheckpointIsRuns, EachReplayedOnce, NoneIsReplayedAgain, Replay, ReplaysStay};
+ghost use Rattle.esm_replay_life.specs.ReplayLife.{EachIsAnswered, ReplayRun};
 
-/// What a run finds is what the run before it knew when its journal's last payload was written.
+use crate::laws::replay_laws_hold;
+
+/// What a run finds is what the run before it knew when its journal's last payload was written, whatever replays and rewritings
+/// stand between them.
 pub fn each_run_goes_on()
-    ensures { (r next : Run) (before : List Stage) → IsLife (Ran next ∷ Ran r ∷ before) → HasStreamFields r.setting.config → GoesOnFrom r.setting r.recorded next.setting }
-{}
+    ensures { (r next : Run) (between before : List Stage) → IsLife (Ran next ∷ between ++ Ran r ∷ before) → AreBetween between → HasStreamFields r.setting.config → GoesOnFrom r.setting r.recorded next.setting }
+{
+    replay_laws_hold();
+}
 
 /// Each record has at most one recorded fate, and it never changes.
 pub fn fate_stays()
     ensures { (later before : List Stage) → IsLife (later ++ before) → FateStays later before }
-{}
+{
+    replay_laws_hold();
+}
 
 /// Each recorded fate is earned in the run that wrote it.
 pub fn each_is_earned()
@@ -35,7 +43,9 @@ pub fn keys_in_order()
 /// The checkpoint by the content never falls from one stage to the next.
 pub fn recorded_checkpoint_stays()
     ensures { (later before : List Stage) → IsLife (later ++ before) → CheckpointStays later before }
-{}
+{
+    replay_laws_hold();
+}
 
 /// After a run the checkpoint by the content is that of the history that its journal kept.
 pub fn recorded_checkpoint_is_the_runs()
@@ -45,7 +55,37 @@ pub fn recorded_checkpoint_is_the_runs()
 /// No payload of the content is ever bad for a book.
 pub fn content_is_good()
     ensures { (life : List Stage) → IsLife life → are_good (reverse (content life)) ≡ true }
-{}
+{
+    replay_laws_hold();
+}
+
+/// Each record is recorded as replayed by one payload at most, however many replays there are.
+pub fn each_is_replayed_once()
+    ensures { (life : List Stage) → IsLife life → EachReplayedOnce life }
+{
+    replay_laws_hold();
+}
+
+/// What is recorded as replayed stays so.
+pub fn replays_stay()
+    ensures { (later before : List Stage) → IsLife (later ++ before) → ReplaysStay later before }
+{
+    replay_laws_hold();
+}
+
+/// No replay calls a record that was recorded as replayed when it began, or that it replayed itself.
+pub fn none_is_replayed_again()
+    ensures { (r : ReplayRun) (before : List Stage) → IsLife (Replay r ∷ before) → NoneIsReplayedAgain r before }
+{
+    replay_laws_hold();
+}
+
+/// Each payload that a replay left names exactly the records that an answer in its caller's log counts as succeeded.
+pub fn each_replay_is_answered()
+    ensures { (r : ReplayRun) (before : List Stage) → IsLife (Replay r ∷ before) → EachIsAnswered r }
+{
+    replay_laws_hold();
+}
 
 /// What a compaction writes says the same as what it found, and may stand in its place between runs.
 pub fn compaction_says_the_same()

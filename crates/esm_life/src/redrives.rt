@@ -1,6 +1,7 @@
 // That what a run of a redrive leaves on its files is that of a stage of the life of its queue.
 ghost use Rattle.std.specs.Prelude.{ℕ, Bool, List, Option};
 ghost use Rattle.esm_io.specs.Meanings.{disk as meaning};
+ghost use Rattle.esm_folder.specs.declared.disks.Disks.{Disks as FolderDisks};
 ghost use Rattle.esm_model.specs.declared.book.Trouble.{Trouble};
 ghost use Rattle.esm_model.specs.declared.config.Config.{Config};
 ghost use Rattle.esm_model.specs.declared.entry.Entry.{Entry};
@@ -12,7 +13,7 @@ ghost use Rattle.esm_runner.specs.Files.{FilesState};
 ghost use Rattle.esm_runner.specs.Headline.{Devices};
 ghost use Rattle.esm_workers.specs.Working.{Outside};
 ghost use Rattle.esm_redrive_run.specs.Headline.{Disks, Words};
-ghost use Rattle.esm_life.specs.Redrives.{IsLeftByStage, IsWholeStage, GoesOnWithStage, IsFoundAgain, IsCompactedLife, IsGoneOnWith, IsSameLife};
+ghost use Rattle.esm_life.specs.Redrives.{IsLeftByStage, IsWholeStage, GoesOnWithStage, IsFoundAgain, IsCompactedLife, IsGoneOnWith, IsLifeBegun, IsSameLife};
 
 use esm_io::{Caller, Disk};
 use esm_redrive_life::life::{compaction_goes_on, ordinary_run_goes_on};
@@ -41,6 +42,11 @@ pub fn life_goes_on<D: Disk>()
     run_is_stage::<D>();
 }
 
+/// A life begins where `init` has made the files: whatever a crash then leaves of them is what a life without stages leaves.
+pub fn life_begins<D: Disk>()
+    ensures { (old new : FolderDisks D) (fifo : Bool) → IsLifeBegun (meaning D.Disk) old new fifo }
+{}
+
 /// The next run finds that.
 pub fn life_is_found<D: Disk>()
     ensures { (f : FilesState D) (fifo : Bool) (life : List Stage) (epoch : ℕ) → IsFoundAgain (meaning D.Disk) f fifo life epoch }
@@ -54,7 +60,7 @@ pub fn compacted_life_goes_on<D: Disk>()
     compaction_goes_on();
 }
 
-/// An ordinary run of the queue between two redrives, however it stops, adds a stage to the life where its messages are valid.
+/// An ordinary run of the queue between two redrives, however it stops, adds a stage to the life.
 pub fn ordinary_life_goes_on<D: Disk, F: Caller>()
     ensures { (callers : Outside F) (line : List ℕ → List ℕ) (config : Config) (calls visibility : ℕ) (f : FilesState D) (messages : List Message) (s : QueueSetting) (h : List Entry)
         (trouble : Option Trouble) (hand : List Entry) (new : Devices D F) (one other bytes : List ℕ) (fifo : Bool) (life : List Stage) →

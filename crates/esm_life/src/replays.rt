@@ -14,10 +14,12 @@ ghost use Rattle.esm_replay_model.specs.ReplaySetting.{ReplaySetting};
 ghost use Rattle.esm_runner.specs.Files.{FilesState};
 ghost use Rattle.esm_replay_run.specs.Headline.{Disks};
 ghost use Rattle.esm_replay_life.specs.ReplayLife.{AreFurther, SaysTheSame};
-ghost use Rattle.esm_life.specs.Content.{IsOpenedOver};
-ghost use Rattle.esm_life.specs.Replays.{IsStage};
+ghost use Rattle.esm_history.specs.Content.{IsOpenedOver};
+ghost use Rattle.esm_life.specs.Life.{IsLife, Stage};
+ghost use Rattle.esm_life.specs.Replays.{IsStage, IsLeftByStage, IsUnderReplays};
 
-use crate::content::content_stays_good;
+use crate::laws::replay_laws_hold;
+use esm_history::content::content_stays_good;
 use esm_io::Disk;
 use esm_replay_life::life::runs_replay_nothing;
 
@@ -26,6 +28,21 @@ pub fn run_is_stage<D: Disk>()
     ensures { (gave : ℕ → Bool) (config : Config) (calls : ℕ) (f : FilesState D) (came : List Record) (s : ReplaySetting) (h : List Entry) (trouble : Option Trouble)
         (hand : List Entry) (new : Disks D) (left rest : List (List ℕ)) → IsStage (meaning D.Disk) gave config calls f came s h trouble hand new left rest }
 {}
+
+/// Whatever a crash leaves of the journal after such a run, at any moment since its start, is the content of a stage over what was
+/// found.
+pub fn left_is_stage<D: Disk>()
+    ensures { (gave : ℕ → Bool) (config : Config) (calls : ℕ) (f : FilesState D) (came : List Record) (s : ReplaySetting) (h : List Entry) (trouble : Option Trouble)
+        (hand : List Entry) (new : Disks D) (one other : List ℕ) → IsLeftByStage (meaning D.Disk) gave config calls f came s h trouble hand new one other }
+{}
+
+/// The life of a mapping, of runs, replays and rewritings, is one of replays to which each run added payloads: so those laws hold of
+/// all that the program does to a journal.
+pub fn life_is_under_replays()
+    ensures { (life : List Stage) → IsLife life → IsUnderReplays life }
+{
+    replay_laws_hold();
+}
 
 /// A legal history of a stream's run may come between replays: its payloads are of no kind 7, and none is bad for a book.
 pub fn run_may_come_between()

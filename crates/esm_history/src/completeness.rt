@@ -1,0 +1,25 @@
+// How many calls a legal history can have. A history is written newest entry first.
+ghost use Rattle.std.specs.Prelude.{ℕ, ◌≡◌, ◌≤◌, ◌*◌, ◌+◌, List, Some};
+ghost use Rattle.esm_model.specs.declared.entry.Entry.{Entry};
+ghost use Rattle.esm_model.specs.Setting.{Setting};
+ghost use Rattle.esm_model.specs.Step.{Legal};
+ghost use Rattle.esm_model.specs.Entries.{calls_begun};
+ghost use Rattle.esm_model.specs.CallBound.{call_bound, record_count};
+ghost use Rattle.esm_history.specs.Completeness.{batch_calls, batch_calls_not_run, IsFinite, IsWithinBound};
+
+/// With finite retries the calls of batches are at most so many for each record that came, and those that were not run:
+/// one failed try less than gives it up, one call that gives it its fate, and one that cuts a batch before it.
+pub fn batch_calls_are_bounded()
+    ensures { (s : Setting) (h : List Entry) (retries : ℕ) → IsFinite s.config retries → Legal s h →
+        batch_calls h ≤ record_count h * (retries + 2) + batch_calls_not_run s h }
+{}
+
+/// With finite retries no legal history has more calls than its bound.
+pub fn calls_are_bounded()
+    ensures { (s : Setting) (h : List Entry) (retries : ℕ) → IsFinite s.config retries → Legal s h → calls_begun h ≤ call_bound s h }
+{}
+
+/// And while a record came, it has fewer, by one for each record.
+pub fn bound_is_not_reached()
+    ensures { (s : Setting) (h : List Entry) (retries : ℕ) → IsFinite s.config retries → Legal s h → IsWithinBound s h }
+{}

@@ -1,5 +1,0 @@
-use Rattle.esm_life.proofs.Charges.{batches_bounded}
-use Rattle.esm_life.proofs.completeness.batch_calls_are_bounded.Goals as goal
-
-pub returns : goal.returns
-returns c = batches_bounded

@@ -1,5 +1,0 @@
-use Rattle.esm_life.proofs.Bound.{within_bound}
-use Rattle.esm_life.proofs.completeness.bound_is_not_reached.Goals as goal
-
-pub returns : goal.returns
-returns c = within_bound

@@ -1,5 +1,0 @@
-use Rattle.esm_life.proofs.GoodContent.{stays_good}
-use Rattle.esm_life.proofs.content.content_stays_good.Goals as goal
-
-pub returns : goal.returns
-returns c = stays_good

@@ -1,5 +1,0 @@
-use Rattle.esm_life.proofs.GoesOn.{goes_on}
-use Rattle.esm_life.proofs.content.next_run_goes_on.Goals as goal
-
-pub returns : goal.returns
-returns c = goes_on

@@ -1,0 +1,6 @@
+use Rattle.esm_io.specs.Meanings.{disk as meaning}
+use Rattle.esm_life.proofs.StreamFiles.{found_again}
+use Rattle.esm_life.proofs.streams.life_is_found.Goals as goal
+
+pub returns : goal.returns
+returns g c = found_again (meaning g.D.Disk)
