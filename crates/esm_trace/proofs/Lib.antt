@@ -1,0 +1,6 @@
+pub mod Cutting
+pub mod Texts
+pub mod Escapes
+pub mod MemberTexts
+pub mod Lines
+pub mod Histories

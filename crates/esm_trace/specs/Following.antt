@@ -1,0 +1,6 @@
+-- The elements of a list that are not its first, each behind a comma. Only this crate's proofs cite this.
+use Rattle.std.specs.Prelude.{ℕ, List, ◌++◌, codes}
+use Rattle.esm_model.specs.Numbers.{decimal}
+
+unfoldable pub following_place : ℕ → List ℕ
+following_place place = codes "," ++ decimal place

@@ -1,0 +1,4 @@
+pub mod Trace
+pub mod Following
+pub mod Within
+pub mod Worked

@@ -1,0 +1,17 @@
+//! The text of a run's history, a line for each entry, the oldest first, which tells all of it.
+//! It knows entries and replies, and neither books nor devices.
+//! Pure: values in, bytes out. No device, clock or thread.
+#![tactic(auto)]
+
+mod entry;
+mod kinds;
+pub mod laws;
+mod members;
+mod trace;
+pub mod worked;
+
+pub use entry::push_entry;
+pub use trace::push_trace;
+
+#[cfg(test)]
+mod tests;
