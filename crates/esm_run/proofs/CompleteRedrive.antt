@@ -1,14 +1,11 @@
 -- A redrive of a good input over good files comes to its end with nothing left, where no device fails and more calls are allowed
 -- than its messages may be received.
-use Rattle.std.proofs.Common.{◌≡◌, ◌∙◌, ◌*◌, ◌<◌, ◌≤◌, ℕ, true, List, [], ◌++◌, length, Option, Some, None, ap, ap₂, arith, inl, inr, refl, subst, sym}
-use Rattle.std.specs.Prelude.{find, option_map, reverse, slice_get, ◌==◌}
+use Rattle.std.proofs.Common.{◌≡◌, ◌∙◌, ◌*◌, ◌<◌, ◌≤◌, ℕ, true, List, length, Some, ap, ap₂, arith, inl, inr, subst, sym}
+use Rattle.std.specs.Prelude.{find, option_map, reverse, ◌==◌}
 use Rattle.esm_input.specs.declared.ending.InputEnd.{InputEnd}
 use Rattle.esm_input.specs.declared.ending.InputEnd.TheVariants as ends
-use Rattle.esm_input.specs.Limits.{Limited}
-use Rattle.esm_input.specs.Positions.{from_start}
-use Rattle.esm_input.specs.Reading.{InputState, IsGood, handed, items_read}
+use Rattle.esm_input.specs.Reading.{InputState, IsGood, handed}
 use Rattle.esm_io.specs.Faults.{Rose}
-use Rattle.esm_io.specs.Told.{IsAtEnd, TakesFront}
 use Rattle.esm_journal_state.specs.Meaning.{deletion_said, history}
 use Rattle.esm_journal_state.specs.Tells.{deletion_of_found}
 use Rattle.esm_mapping.specs.declared.expected.Expected.TheVariants.{Queue}
@@ -16,7 +13,6 @@ use Rattle.esm_mapping.specs.declared.named.NamedMapping.{NamedMapping}
 use Rattle.esm_model.specs.declared.book.Change.{Change}
 use Rattle.esm_model.specs.declared.config.Config.{Config}
 use Rattle.esm_model.specs.declared.entry.Entry.{Entry}
-use Rattle.esm_model.specs.declared.item.Item.{Item}
 use Rattle.esm_model.specs.declared.item.Message.{Message}
 use Rattle.esm_model.specs.declared.setup.FoundDeletion.{FoundDeletion}
 use Rattle.esm_model.specs.Entries.{calls_begun}
@@ -31,7 +27,7 @@ use Rattle.esm_report.specs.declared.ending.Ending.{Ending}
 use Rattle.esm_runner.specs.Files.{FilesState}
 use Rattle.esm_runner.specs.QueueComing.{messages_in_items}
 use Rattle.esm_runner.specs.QueueEnded.{IsChanged, line_kind}
-use Rattle.esm_run.specs.Answers.{AreSoundDevices, HasNotRun, IsReadyFor}
+use Rattle.esm_run.specs.Answers.{AreSoundDevices, IsReadyFor}
 use Rattle.esm_run.specs.Commands.{Completes}
 use Rattle.esm_run.specs.Endings.{ending_of_redrive, status_of}
 use Rattle.esm_run.specs.Redrive.{HaveKeptIds, HasRefusedLine, IsRedriveRun, MayComplete, RedriveCause, RedriveOutcome, messages_given, redrive_asks, redrive_disks}
@@ -43,73 +39,37 @@ use Rattle.esm_run.specs.declared.tending.FilesCommand.TheVariants.{Init, Upkeep
 use Rattle.esm_run.specs.declared.tending.Upkeep.TheVariants.{Compact, Failures, Migrate, Show}
 use Rattle.esm_run.specs.declared.world.World.{World}
 use Rattle.esm_run.proofs.BadPayloads.{same_payloads}
-use Rattle.esm_run.proofs.Fronts.{IsFront, messages_front, place_front, start_front}
-use Rattle.esm_run.proofs.MoreBytes.{ends_in, front_in}
-use Rattle.esm_run.proofs.OneCause.{AreLaws, not_memory, told_status}
-use Rattle.esm_run.proofs.OneOpened.{NoneRose, lines_at, none_rose}
+use Rattle.esm_run.proofs.Fronts.{messages_front}
+use Rattle.esm_run.proofs.KeptIds.{kept_ids}
+use Rattle.esm_run.proofs.OneCause.{AreLaws, good_or_unrun, told_status}
+use Rattle.esm_run.proofs.OneOpened.{NoneRose, found_payloads, lines_at, none_rose}
 use Rattle.esm_run.proofs.OneQueueRun.{read_from}
-use Rattle.esm_run.proofs.OneReading.{IsReadFrom, WholeGoesOn, at_end, ends_by, handed_is, some_of, taken_is}
-use Rattle.esm_run.proofs.OneReady.{IsOneAsked, opens_to, text_once}
+use Rattle.esm_run.proofs.OneReading.{IsReadFrom, WholeGoesOn, some_of}
+use Rattle.esm_run.proofs.OneReady.{IsOneAsked, text_once}
 use Rattle.esm_run.proofs.OneRedrive.{no_bad_letter}
-use Rattle.esm_run.proofs.OneRefusal.{refused_files}
+use Rattle.esm_run.proofs.ReadThrough.{IsReadThrough, items_given, read_through}
 
 too_few : (begun most calls : ℕ) → begun ≤ most → most < calls → begun ≡ calls → ⊥
 too_few begun most calls few enough same = omega (arith, few, enough, same)
-
--- what is left of a source of these bytes
-
-record LeavesRest (bytes read : List ℕ) (left : Option (List ℕ)) : Type 0 where
-  pub rest : List ℕ
-  pub split : bytes ≡ read ++ rest
-  pub is : left ≡ Some rest
-
-rest_of : (before left : Option (List ℕ)) (bytes read : List ℕ) → before ≡ Some bytes → TakesFront before left read → LeavesRest bytes read left
-rest_of None left bytes read told taken = absurd (let clash : ◌≡◌ {A = Option (List ℕ)} None (Some bytes) = told in cc)
-rest_of (Some old) left bytes read told taken =
-    let same : old ≡ bytes = cc in
-    record { rest = taken.0; split = sym same ∙ taken.1; is = taken.2 }
-
-nothing_left : (left : Option (List ℕ)) (rest : List ℕ) → left ≡ Some rest → IsAtEnd left → rest ≡ []
-nothing_left left rest is ended = subst IsAtEnd is ended
 
 module _ {S D F : Type 0} (o : RunTells S D F) (w : RedriveWords) (h : List Entry) (old new : Seen S D F) (goes : WholeGoesOn) (sound : AreSoundDevices o old new) where
   -- over the mapping of the run
 
   module _ (c : Config) (payloads : List (List ℕ)) (bytes : List ℕ) (told : o.left old.input ≡ Some bytes) (good : IsGood (line_kind c) c.factor true bytes) (ids : HaveKeptIds payloads (messages_given c bytes)) (enough : length (messages_given c bytes) * w.max_receives < w.calls) where
     module _ (i : InputState S) (read : IsReadFrom o.faults o.left (line_kind c) c.factor c.start old.input new.input i) where
-      left : LeavesRest bytes i.bytes (o.left new.input)
-      left = rest_of (o.left old.input) (o.left new.input) bytes i.bytes told (taken_is o.faults o.left (line_kind c) c.factor c.start old.input new.input i read)
-
-      all_read : i.whole ≡ true → left.rest ≡ []
-      all_read whole = nothing_left (o.left new.input) left.rest left.is (subst (λ (s : S). IsAtEnd (o.left s)) read.source (read.read.at_end whole))
+      through : IsReadThrough i (items_given (line_kind c) c.factor c.start bytes)
+      through = read_through o.faults o.left (line_kind c) c.factor c.start old.input new.input bytes i goes told sound.no_input_fault good read
 
       -- how its reading ended, where it did
       ended_so : (e : InputEnd) → i.end ≡ Some e → (e ≡ ends.End) × (messages_in_items (handed i) ≡ messages_given c bytes)
-      ended_so e ended =
-          let all = ends_in (line_kind c) c.factor (o.faults old.input) (o.faults new.input) i.whole i.bytes left.rest bytes e goes sound.no_input_fault left.split all_read
-          (ends_by o.faults o.left (line_kind c) c.factor c.start old.input new.input i e read ended) in
-          let own = at_end (line_kind c) c.factor (o.faults old.input) (o.faults new.input) true bytes ends.End sound.no_input_fault (goes (line_kind c) bytes) (refl, good) in (
-            all.0 ∙ sym own.0,
-            ap messages_in_items (handed_is o.faults o.left (line_kind c) c.factor c.start old.input new.input i read ∙ ap (λ (l : Limited). from_start c.start l.items) all.1),
-          )
-
-      -- what was handed out is the first of it
-      first_handed : IsFront (messages_in_items (handed i)) (messages_given c bytes)
-      first_handed =
-          let items = (items_read (line_kind c) c.factor i.whole i.bytes).items in
-          let all = (items_read (line_kind c) c.factor true bytes).items in
-          let front : IsFront items all = front_in (line_kind c) c.factor i.whole i.bytes left.rest bytes goes left.split all_read in
-          messages_front (handed i) (from_start c.start all)
-          (subst (λ (xs : List Item). IsFront xs (from_start c.start all)) (sym (handed_is o.faults o.left (line_kind c) c.factor c.start old.input new.input i read)) (start_front c.start items all front))
+      ended_so e ended = (let is = through.ended e ended in (is.0, ap messages_in_items is.1))
 
       -- no message comes with another id
       none_changed : (f : FilesState D) (s : RedriveSetting) (change : Change) → payloads ≡ f.pair.payloads
           → ((k : ℕ) → option_map deletion_of_found (found_deletion s.queue k) ≡ deletion_said (history (reverse f.pair.payloads)) k) → IsChanged s.queue (messages_in_items (handed i)) change → ⊥
       none_changed f s change same tells is =
-          let at : slice_get (messages_given c bytes) change.place ≡ Some is.message = place_front (messages_in_items (handed i)) (messages_given c bytes) change.place is.message first_handed is.at in
-          let said : deletion_said (history (reverse payloads)) change.place ≡ Some (deletion_of_found is.found) =
-          ap (λ (ps : List (List ℕ)). deletion_said (history (reverse ps)) change.place) same ∙ (sym (tells change.place) ∙ ap (option_map deletion_of_found) is.deletion) in
-          is.differs (is.given ∙ (ids change.place is.message (deletion_of_found is.found) at said ∙ sym is.kept))
+          kept_ids s.queue payloads f.pair.payloads (messages_given c bytes) (messages_in_items (handed i)) change same tells ids
+          (messages_front (handed i) (items_given (line_kind c) c.factor c.start bytes) through.front) is
 
       module _ (f : FilesState D) (s : RedriveSetting) (none : NoneRose o.run.disk f new.disks.journal new.disks.spare new.disks.failures) (same : payloads ≡ f.pair.payloads)
           (tells : (k : ℕ) → option_map deletion_of_found (found_deletion s.queue k) ≡ deletion_said (history (reverse f.pair.payloads)) k) (few : calls_begun h ≤ queue_count h * s.max_receives) (calls : s.queue.calls ≡ w.calls) (receives : s.max_receives ≡ w.max_receives) where
@@ -126,11 +86,6 @@ module _ {S D F : Type 0} (o : RunTells S D F) (w : RedriveWords) (h : List Entr
         cause_status (redrive_end.BadLine index) cause = absurd cause
 
   -- what the files are found as
-
-  payloads_found : (may : MayComplete o w old) (mapping : NamedMapping) (f : FilesState D) → IsReadyFor o.run.disk (redrive_asks w) old new mapping f → may.good.payloads.payloads ≡ f.pair.payloads
-  payloads_found may mapping f ready =
-      let first = may.good.payloads.are_found sound.honest in
-      same_payloads first.0 f.pair.epoch may.good.payloads.payloads f.pair.payloads (sym first.1 ∙ opens_to o (redrive_asks w) old new mapping f sound ready)
 
   lines_found : (may : MayComplete o w old) (mapping : NamedMapping) (f : FilesState D) → IsReadyFor o.run.disk (redrive_asks w) old new mapping f → may.good.lines ≡ f.dest.payloads
   lines_found may mapping f ready =
@@ -158,7 +113,7 @@ module _ {S D F : Type 0} (o : RunTells S D F) (w : RedriveWords) (h : List Entr
         (subst (λ (n : NamedMapping). IsGood (line_kind n.config) n.config.factor true may.bytes) same may.good_input)
         (subst (λ (n : NamedMapping). HaveKeptIds may.good.payloads.payloads (messages_given n.config may.bytes)) same may.kept_ids)
         (subst (λ (n : NamedMapping). length (messages_given n.config may.bytes) * w.max_receives < w.calls) same may.enough)
-        one.run.input (read_from o.faults o.left c old.input new.input one.run.input one.run.is_input) f s none (payloads_found may one.mapping f one.ready) tells one.run.headline.calls_are_few
+        one.run.input (read_from o.faults o.left c old.input new.input one.run.input one.run.is_input) f s none (found_payloads o (redrive_asks w) old new may.good one.mapping f sound one.ready) tells one.run.headline.calls_are_few
         (ap (λ (v : RedriveSetting). v.queue.calls) one.run.is_setting.opened) (ap (λ (v : RedriveSetting). v.max_receives) one.run.is_setting.opened) one.end_is
         (subst (λ reading. IsCauseOf o.run.disk f s h messages reading (redrive_disks new) one.end_is) (sym one.run.read_to) one.run.cause)
 
@@ -169,14 +124,8 @@ module _ {S D F : Type 0} (o : RunTells S D F) (w : RedriveWords) (h : List Entr
         no_bad_letter (is_fifo one.mapping.config.kind) one.files.dest.payloads one.index
         (subst (λ (ls : List (List ℕ)). AreLetters (is_fifo one.mapping.config.kind) ls (length ls)) (lines_found may one.mapping one.files one.ready) letters) one.first_bad
 
-    unrun : (t : List ℕ) (e : Ending) → HasNotRun o.run.disk (redrive_asks w) h old new t e → ⊥
-    unrun t e one = elim one.why [
-      | inl refused ↦ (refused_files o old new e sound refused).1 may.good
-      | inr refused ↦ not_memory refused.why e refused.tells (once.no_reason may.mapping refused.why may.named refused.refused)
-    ]
-
     cause_complete : (t : List ℕ) (e : Ending) → RedriveCause o w h old new t e → status_of e ≡ 0
-    cause_complete t e (inl one) = absurd (unrun t e one)
+    cause_complete t e (inl one) = absurd (good_or_unrun o (redrive_asks w) old new may.mapping e once sound may.good may.named one.why)
     cause_complete t e (inr (inl one)) = absurd (line_refused t e one)
     cause_complete t e (inr (inr one)) = run_status t e one
 
@@ -187,9 +136,9 @@ complete_redrive o w output h old new status laws sound told outcome may =
     ∙ cause_complete o w h old new laws.whole_goes_on sound may (text_once Queue w.config old.disks.registry new.disks.registry laws.one_expected) outcome.ended.text outcome.ending outcome.ended.cause_is
 
 -- of a command over the files alone nothing more is said
-pub files_complete : {S K D C F L N : Type 0} (t : DevicesTell S K D F L N) (f : FilesCommand) (old : World S K D C F L) (status : ℕ) → Completes t (command_of f) old status
-files_complete t Init old status = tt
-files_complete t (Upkeep Show) old status = tt
-files_complete t (Upkeep Failures) old status = tt
-files_complete t (Upkeep Compact) old status = tt
-files_complete t (Upkeep Migrate) old status = tt
+pub files_complete : {S K D C F L N : Type 0} (t : DevicesTell S K D F L N) (f : FilesCommand) (old new : World S K D C F L) (status : ℕ) → Completes t (command_of f) old new status
+files_complete t Init old new status = tt
+files_complete t (Upkeep Show) old new status = tt
+files_complete t (Upkeep Failures) old new status = tt
+files_complete t (Upkeep Compact) old new status = tt
+files_complete t (Upkeep Migrate) old new status = tt

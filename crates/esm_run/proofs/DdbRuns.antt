@@ -28,7 +28,7 @@ use Rattle.esm_runner.specs.Ended as stream
 use Rattle.esm_runner.specs.Ended.{IsCauseOf, IsFaultOf, trouble_of}
 use Rattle.esm_runner.specs.Files.{AreRefused, FilesState}
 use Rattle.esm_runner.specs.Headline as runner
-use Rattle.esm_runner.specs.Headline.{CallsMade, CallsMadeOrOneMore, Devices, FailureLinesKept, Telling, telling}
+use Rattle.esm_runner.specs.Headline.{CallsMade, CallsMadeOrOneMore, Devices, FailureLinesCrashKept, FailureLinesKept, Telling, telling}
 use Rattle.esm_runner.specs.Stopping.{HasLogged}
 use Rattle.esm_runner.specs.declared.files.FilesError.{FilesError}
 use Rattle.esm_runner.specs.declared.run.MappingEnd.{MappingEnd}
@@ -86,6 +86,10 @@ module _ {D F : Type 0} (t : Telling D F) where
   lines_under f (Some trouble.Dest) h hand new kept = kept
   lines_under f (Some (trouble.Changed change)) h hand new kept = kept
 
+  crash_under : (f : FilesState D) (s : Setting) (h : List Entry) (o : Option Trouble) (hand : List Entry) (new : Devices D (DdbCaller F))
+      → FailureLinesCrashKept (tells_over t) f s h o hand new → FailureLinesCrashKept t f s h o hand (devices_under new)
+  crash_under f s h o hand new is = record { tried = is.tried; is_tried = is.is_tried; tried_follows = is.tried_follows; since = is.since; now = is.now }
+
   fault_under : (f : FilesState D) (o : Option Trouble) (new : Devices D (DdbCaller F)) → IsFaultOf (tells_over t) f new o → IsFaultOf t f (devices_under new) o
   fault_under f None new fault = fault
   fault_under f (Some trouble.Disk) new fault = fault
@@ -104,10 +108,13 @@ module _ {D F : Type 0} (t : Telling D F) where
       → runner.Headline (tells_over t) f s h o hand new → runner.Headline t f s h o hand (devices_under new)
   headline_under f s h o hand new is = record {
     legal_trace = is.legal_trace;
+    settled = is.settled;
+    can_be_said = is.can_be_said;
     moments = is.moments;
     journal_kept = is.journal_kept;
     journal_stopped = is.journal_stopped;
     failure_lines_kept = lines_under f o h hand new is.failure_lines_kept;
+    failure_lines_crash = crash_under f s h o hand new is.failure_lines_crash;
     in_hand = is.in_hand;
     hand_follows = is.hand_follows;
     crash = is.crash;

@@ -8,6 +8,7 @@ use Rattle.esm_io.specs.Meanings.{DiskMeaning}
 use Rattle.esm_io.specs.Talks.{Closed}
 use Rattle.esm_journal.specs.File.{header_of}
 use Rattle.esm_journal.specs.State.{JournalState, KeepsWhileDown, KeepsWhileUp, OpensTo}
+use Rattle.esm_registry.specs.Lists.{Mappings}
 use Rattle.esm_registry.specs.Machine.{Asked, step}
 use Rattle.esm_registry.specs.State.{OpensToStep, RegistryState}
 use Rattle.esm_api.specs.Request.{Judgement, Unfinished, Refused, Asks}
@@ -67,35 +68,47 @@ front_behind found more further bytes opens = record {
   opens = subst (λ ps. OpensTo (header_of 1) ps bytes) (append_assoc found more opens.front) opens.opens;
 }
 
--- what one connection does to the registry's journal
-record Steps {D : Type 0} (m : DiskMeaning D) (old new : JournalState D) (payload : Option (List ℕ)) : Type 0 where
-  payloads : new.payloads ≡ old.payloads ++ option_to_list payload
-  kept : KeepsWhileUp m old → KeepsWhileUp m new
-  stopped : KeepsWhileDown m old → KeepsWhileDown m new
+-- what one connection does to the registry, at a moment
+record Steps {D : Type 0} (m : DiskMeaning D) (old new : RegistryState D) (moment : ℕ) (payload : Option (List ℕ)) : Type 0 where
+  payloads : new.journal.payloads ≡ old.journal.payloads ++ option_to_list payload
+  kept : KeepsWhileUp m old.journal → KeepsWhileUp m new.journal
+  stopped : KeepsWhileDown m old.journal → KeepsWhileDown m new.journal
   further : List (List ℕ)
-  no_further : new.down ≡ false → further ≡ []
+  no_further : new.journal.down ≡ false → further ≡ []
   at_most_one : length further ≤ 1
-  images : (new ≡ old) ⊎ (m.honest old.disk ≡ true → LeavesOnly m.moment m.since old.disk new.disk (OpensToFront old.payloads (option_to_list payload ++ further)))
+  of_command : (one : List ℕ) → further ≡ one ∷ [] → (asked : Asked) × ((step new.mappings asked moment).payload ≡ Some one)
+  images : (new.journal ≡ old.journal)
+      ⊎ (m.honest old.journal.disk ≡ true → LeavesOnly m.moment m.since old.journal.disk new.journal.disk (OpensToFront old.journal.payloads (option_to_list payload ++ further)))
 
-steps_none : {D : Type 0} (m : DiskMeaning D) (old new : JournalState D) → new ≡ old → Steps m old new None
-steps_none {D} m old new same = record {
-  payloads = ap (λ (j : JournalState D). j.payloads) same ∙ sym (append-nil old.payloads);
-  kept = λ kept. subst (KeepsWhileUp m) (sym same) kept;
-  stopped = λ stopped. subst (KeepsWhileDown m) (sym same) stopped;
+none_further : (one : List ℕ) → ◌≡◌ {A = List (List ℕ)} [] (one ∷ []) → ⊥
+none_further one is = cc
+
+steps_none : {D : Type 0} (m : DiskMeaning D) (old new : RegistryState D) (moment : ℕ) → new ≡ old → Steps m old new moment None
+steps_none {D} m old new moment same = record {
+  payloads = ap (λ (r : RegistryState D). r.journal.payloads) same ∙ sym (append-nil old.journal.payloads);
+  kept = λ kept. subst (λ (r : RegistryState D). KeepsWhileUp m r.journal) (sym same) kept;
+  stopped = λ stopped. subst (λ (r : RegistryState D). KeepsWhileDown m r.journal) (sym same) stopped;
   further = [];
   no_further = λ up. refl;
   at_most_one = omega arith;
-  images = inl same;
+  of_command = λ one is. absurd (none_further one is);
+  images = inl (ap (λ (r : RegistryState D). r.journal) same);
 }
 
 one_at_most : {A : Type 0} (o : Option A) → length (option_to_list o) ≤ 1
 one_at_most None = omega arith
 one_at_most (Some x) = omega arith
 
-abbrev StepsBy : {D : Type 0} → DiskMeaning D → JournalState D → JournalState D → Type 0
-StepsBy m old new = (payload : Option (List ℕ)) × Steps m old new payload
+same_option : {A : Type 0} (x y : Option A) → option_to_list x ≡ option_to_list y → x ≡ y
+same_option None None same = refl
+same_option None (Some y) same = absurd (cc)
+same_option (Some x) None same = absurd (cc)
+same_option (Some x) (Some y) same = (let is : x ≡ y = cc in ap Some is)
 
-steps_applied : {D : Type 0} (m : DiskMeaning D) (old new : RegistryState D) (asked : Asked) (moment : ℕ) (failed : Bool) → IsApplied m old new asked moment failed → StepsBy m old.journal new.journal
+abbrev StepsBy : {D : Type 0} → DiskMeaning D → RegistryState D → RegistryState D → ℕ → Type 0
+StepsBy m old new moment = (payload : Option (List ℕ)) × Steps m old new moment payload
+
+steps_applied : {D : Type 0} (m : DiskMeaning D) (old new : RegistryState D) (asked : Asked) (moment : ℕ) (failed : Bool) → IsApplied m old new asked moment failed → StepsBy m old new moment
 steps_applied m old new asked moment false applied =
     let payload : Option (List ℕ) = (step old.mappings asked moment).payload in (
       payload,
@@ -106,6 +119,7 @@ steps_applied m old new asked moment false applied =
         further = [];
         no_further = λ up. refl;
         at_most_one = omega arith;
+        of_command = λ one is. absurd (none_further one is);
         images = inr (λ honest. leaves_weaker m.moment m.since old.journal.disk new.journal.disk (OpensToStep old.journal.payloads payload)
             (OpensToFront old.journal.payloads (option_to_list payload ++ []))
             (λ bytes opens. subst (λ l. OpensToFront old.journal.payloads l bytes) (sym (append-nil (option_to_list payload))) (front_of_step old.journal.payloads payload bytes opens))
@@ -122,6 +136,7 @@ steps_applied m old new asked moment true applied =
         further = option_to_list payload;
         no_further = λ up. absurd (true≢false (sym applied.down ∙ up));
         at_most_one = one_at_most payload;
+        of_command = λ one is. (asked, ap (λ (s : Mappings). (step s asked moment).payload) applied.mappings ∙ same_option payload (Some one) is);
         images = inr (λ honest. leaves_weaker m.moment m.since old.journal.disk new.journal.disk (OpensToStep old.journal.payloads payload)
             (OpensToFront old.journal.payloads (option_to_list payload))
             (front_of_step old.journal.payloads payload)
@@ -129,23 +144,23 @@ steps_applied m old new asked moment true applied =
       },
     )
 
-steps_same : {D : Type 0} (m : DiskMeaning D) (old new : RegistryState D) → new ≡ old → StepsBy m old.journal new.journal
-steps_same {D} m old new same = (None, steps_none m old.journal new.journal (ap (λ (r : RegistryState D). r.journal) same))
+steps_same : {D : Type 0} (m : DiskMeaning D) (old new : RegistryState D) (moment : ℕ) → new ≡ old → StepsBy m old new moment
+steps_same m old new moment same = (None, steps_none m old new moment same)
 
-steps_left : {D : Type 0} (m : DiskMeaning D) (old new : RegistryState D) (judgement : Judgement) (moment : ℕ) (failed : Bool) → Leaves m old new judgement moment failed → StepsBy m old.journal new.journal
-steps_left m old new Unfinished moment failed left = steps_same m old new left
-steps_left m old new (Refused row) moment failed left = steps_same m old new left.0
+steps_left : {D : Type 0} (m : DiskMeaning D) (old new : RegistryState D) (judgement : Judgement) (moment : ℕ) (failed : Bool) → Leaves m old new judgement moment failed → StepsBy m old new moment
+steps_left m old new Unfinished moment failed left = steps_same m old new moment left
+steps_left m old new (Refused row) moment failed left = steps_same m old new moment left.0
 steps_left m old new (Asks asked) moment failed left = steps_applied m old new asked moment failed left
 
-steps_stands : {C D : Type 0} (o : ServeTells C D) (c : Connection C) (old new : RegistryState D) (moment : ℕ) → StandsServed o c old new moment → StepsBy o.disk old.journal new.journal
+steps_stands : {C D : Type 0} (o : ServeTells C D) (c : Connection C) (old new : RegistryState D) (moment : ℕ) → StandsServed o c old new moment → StepsBy o.disk old new moment
 steps_stands o c old new moment (inl answered) = steps_left o.disk old new answered.1.judgement moment answered.1.failed answered.1.leaves
-steps_stands o c old new moment (inr (inl cut)) = steps_same o.disk old new cut.0.same
-steps_stands o c old new moment (inr (inr (fault, inl waits))) = steps_same o.disk old new waits.same
+steps_stands o c old new moment (inr (inl cut)) = steps_same o.disk old new moment cut.0.same
+steps_stands o c old new moment (inr (inr (fault, inl waits))) = steps_same o.disk old new moment waits.same
 steps_stands o c old new moment (inr (inr (fault, inr (status, unsent, responds)))) = steps_left o.disk old new responds.judgement moment responds.failed responds.leaves
 
-steps_unanswered : {C D : Type 0} (o : ServeTells C D) (c : Connection C) (old new : RegistryState D) (moment : ℕ) → IsUnanswered (o.told c.came) (o.told c.left) o.disk old new moment → StepsBy o.disk old.journal new.journal
+steps_unanswered : {C D : Type 0} (o : ServeTells C D) (c : Connection C) (old new : RegistryState D) (moment : ℕ) → IsUnanswered (o.told c.came) (o.told c.left) o.disk old new moment → StepsBy o.disk old new moment
 steps_unanswered o c old new moment unanswered = elim unanswered.leaves [
-  | inl same ↦ steps_same o.disk old new same
+  | inl same ↦ steps_same o.disk old new moment same
   | inr applied ↦ steps_applied o.disk old new applied.0 moment applied.1 applied.3
 ]
 
@@ -155,26 +170,22 @@ cancel : {A : Type 0} (front x y : List A) → front ++ x ≡ front ++ y → x �
 cancel [] x y same = same
 cancel (a ∷ front) x y same = cancel front x y (cc)
 
-same_option : {A : Type 0} (x y : Option A) → option_to_list x ≡ option_to_list y → x ≡ y
-same_option None None same = refl
-same_option None (Some y) same = absurd (cc)
-same_option (Some x) None same = absurd (cc)
-same_option (Some x) (Some y) same = (let is : x ≡ y = cc in ap Some is)
+steps_of : {D : Type 0} (m : DiskMeaning D) (old new : RegistryState D) (moment : ℕ) (payload : Option (List ℕ)) → new.journal.payloads ≡ old.journal.payloads ++ option_to_list payload → StepsBy m old new moment
+    → Steps m old new moment payload
+steps_of m old new moment payload is (other, steps) =
+    subst (Steps m old new moment) (same_option other payload (cancel old.journal.payloads (option_to_list other) (option_to_list payload) (sym steps.payloads ∙ is))) steps
 
-steps_of : {D : Type 0} (m : DiskMeaning D) (old new : JournalState D) (payload : Option (List ℕ)) → new.payloads ≡ old.payloads ++ option_to_list payload → StepsBy m old new → Steps m old new payload
-steps_of m old new payload is (other, steps) =
-    subst (Steps m old new) (same_option other payload (cancel old.payloads (option_to_list other) (option_to_list payload) (sym steps.payloads ∙ is))) steps
+-- the registry, with a journal as honest as the disk was and with a count that did not fall
 
--- the journal, as honest as the disk was and with a count that did not fall
+pub record Holds {C D : Type 0} (o : ServeTells C D) (disk : D) (found more : List (List ℕ)) (registry : RegistryState D) : Type 0 where
+  pub holds : HoldsMore o disk found more registry
+  pub honesty : o.disk.honest registry.journal.disk ≡ o.disk.honest disk
+  pub never_falls : o.disk.faults disk ≤ o.disk.faults registry.journal.disk
 
-pub record Holds {D : Type 0} (m : DiskMeaning D) (disk : D) (found more : List (List ℕ)) (journal : JournalState D) : Type 0 where
-  pub holds : HoldsMore m disk found more journal
-  pub honesty : m.honest journal.disk ≡ m.honest disk
-  pub never_falls : m.faults disk ≤ m.faults journal.disk
-
-extended : {D : Type 0} (m : DiskMeaning D) (disk : D) (found more : List (List ℕ)) (payload : Option (List ℕ)) (old new : JournalState D)
-    → m.honest old.disk ≡ m.honest disk → old.down ≡ false → HoldsMore m disk found more old → Steps m old new payload → HoldsMore m disk found (more ++ option_to_list payload) new
-extended {D} m disk found more payload old new honesty up holds steps =
+extended : {C D : Type 0} (o : ServeTells C D) (disk : D) (found more : List (List ℕ)) (payload : Option (List ℕ)) (old new : RegistryState D) (moment : ℕ) → o.gave moment ≡ true
+    → o.disk.honest old.journal.disk ≡ o.disk.honest disk → old.journal.down ≡ false → HoldsMore o disk found more old → Steps o.disk old new moment payload → HoldsMore o disk found (more ++ option_to_list payload) new
+extended {C} {D} o disk found more payload old new moment given honesty up holds steps =
+    let m : DiskMeaning D = o.disk in
     let paid : List (List ℕ) = option_to_list payload in
     let all : List (List ℕ) = more ++ paid ++ steps.further in
     let none : more ++ holds.further ≡ more = ap (λ l. more ++ l) (holds.no_further up) ∙ append-nil more in
@@ -192,10 +203,11 @@ extended {D} m disk found more payload old new honesty up holds steps =
       further = steps.further;
       no_further = steps.no_further;
       at_most_one = steps.at_most_one;
+      of_command = λ one is. (let command = steps.of_command one is in record { asked = command.0; moment = moment; given = given; written = command.1 });
       any_moment = λ honest. elim steps.images [
         | inl same ↦ subst (λ (j : JournalState D). LeavesOnly m.moment m.since disk j.disk After) (sym same)
-            (leaves_weaker m.moment m.since disk old.disk Before After from_before (holds.any_moment honest))
-        | inr leaves ↦ leaves_then m.moment m.since disk old.disk new.disk Before (OpensToFront old.payloads (paid ++ steps.further)) After
+            (leaves_weaker m.moment m.since disk old.journal.disk Before After from_before (holds.any_moment honest))
+        | inr leaves ↦ leaves_then m.moment m.since disk old.journal.disk new.journal.disk Before (OpensToFront old.journal.payloads (paid ++ steps.further)) After
             from_before
             (λ bytes opens. inr (subst (λ l. OpensToFront found l bytes) (sym (append_assoc more paid steps.further))
             (front_behind found more (paid ++ steps.further) bytes (subst (λ ps. OpensToFront ps (paid ++ steps.further) bytes) holds.payloads opens))))
@@ -204,36 +216,36 @@ extended {D} m disk found more payload old new honesty up holds steps =
     }
 
 visited : {C D : Type 0} (o : ServeTells C D) (c : Connection C) (old new : RegistryState D) (moment : ℕ) (disk : D) (found more : List (List ℕ))
-    → IsVisit o c old new moment → StepsBy o.disk old.journal new.journal → Holds o.disk disk found more old.journal → Holds o.disk disk found (more ++ option_to_list c.payload) new.journal
+    → IsVisit o c old new moment → StepsBy o.disk old new moment → Holds o disk found more old → Holds o disk found (more ++ option_to_list c.payload) new
 visited o c old new moment disk found more visit steps before = record {
-  holds = extended o.disk disk found more c.payload old.journal new.journal before.honesty visit.up before.holds
-      (steps_of o.disk old.journal new.journal c.payload visit.payload_is steps);
+  holds = extended o disk found more c.payload old new moment visit.given before.honesty visit.up before.holds
+      (steps_of o.disk old new moment c.payload visit.payload_is steps);
   honesty = visit.honesty ∙ before.honesty;
   never_falls = omega (arith, visit.never_falls, before.never_falls);
 }
 
 visited_served : {C D : Type 0} (o : ServeTells C D) (c : Connection C) (old new : RegistryState D) (disk : D) (found more : List (List ℕ))
-    → IsServed o c old new → Holds o.disk disk found more old.journal → Holds o.disk disk found (more ++ option_to_list c.payload) new.journal
+    → IsServed o c old new → Holds o disk found more old → Holds o disk found (more ++ option_to_list c.payload) new
 visited_served o c old new disk found more served before =
     visited o c old new served.moment disk found more served.visit (steps_stands o c old new served.moment served.stands) before
 
 visited_dropped : {C D : Type 0} (o : ServeTells C D) (c : Connection C) (old new : RegistryState D) (disk : D) (found more : List (List ℕ))
-    → IsDropped o c old new → Holds o.disk disk found more old.journal → Holds o.disk disk found (more ++ option_to_list c.payload) new.journal
+    → IsDropped o c old new → Holds o disk found more old → Holds o disk found (more ++ option_to_list c.payload) new
 visited_dropped o c old new disk found more dropped before =
     visited o c old new dropped.moment disk found more dropped.visit (steps_unanswered o c old new dropped.moment dropped.unanswered) before
 
 -- over all connections
 
-abbrev HoldsAt : {D : Type 0} → DiskMeaning D → D → List (List ℕ) → JournalState D → List (List ℕ) → Type 0
-HoldsAt m disk found journal more = Holds m disk found more journal
+abbrev HoldsAt : {C D : Type 0} → ServeTells C D → D → List (List ℕ) → RegistryState D → List (List ℕ) → Type 0
+HoldsAt o disk found registry more = Holds o disk found more registry
 
 pub holds_served : {C D : Type 0} (o : ServeTells C D) (disk : D) (found more : List (List ℕ)) (first last : RegistryState D) (cs : List (Connection C))
-    → AreServed o first cs last → Holds o.disk disk found more first.journal → Holds o.disk disk found (more ++ payloads_of cs) last.journal
-holds_served {C} {D} o disk found more first last [] served before =
-    subst (λ (r : RegistryState D). Holds o.disk disk found (more ++ []) r.journal) (sym served)
-    (subst (HoldsAt o.disk disk found first.journal) (sym (append-nil more)) before)
+    → AreServed o first cs last → Holds o disk found more first → Holds o disk found (more ++ payloads_of cs) last
+holds_served o disk found more first last [] served before =
+    subst (Holds o disk found (more ++ [])) (sym served)
+    (subst (HoldsAt o disk found first) (sym (append-nil more)) before)
 holds_served o disk found more first last (c ∷ cs) served before =
-    subst (HoldsAt o.disk disk found last.journal) (append_assoc more (option_to_list c.payload) (payloads_of cs))
+    subst (HoldsAt o disk found last) (append_assoc more (option_to_list c.payload) (payloads_of cs))
     (holds_served o disk found (more ++ option_to_list c.payload) served.0 last cs served.2 (visited_served o c first served.0 disk found more served.1 before))
 
 payloads_then : {C : Type 0} (cs : List (Connection C)) (o : Option (Connection C)) → payloads_of (cs ++ option_to_list o) ≡ payloads_of cs ++ payloads_of (option_to_list o)
@@ -241,25 +253,25 @@ payloads_then [] o = refl
 payloads_then (c ∷ cs) o = ap (λ l. option_to_list c.payload ++ l) (payloads_then cs o) ∙ sym (append_assoc (option_to_list c.payload) (payloads_of cs) (payloads_of (option_to_list o)))
 
 holds_cut_at : {C D : Type 0} (o : ServeTells C D) (disk : D) (found more : List (List ℕ)) (middle last : RegistryState D) (before after : Option (List Closed)) (at_last : Option (Connection C))
-    → IsCutAt o middle at_last last before after → Holds o.disk disk found more middle.journal → Holds o.disk disk found (more ++ payloads_of (option_to_list at_last)) last.journal
-holds_cut_at {C} {D} o disk found more middle last before after None cut holds =
-    subst (λ (r : RegistryState D). Holds o.disk disk found (more ++ []) r.journal) (sym cut.0)
-    (subst (HoldsAt o.disk disk found middle.journal) (sym (append-nil more)) holds)
+    → IsCutAt o middle at_last last before after → Holds o disk found more middle → Holds o disk found (more ++ payloads_of (option_to_list at_last)) last
+holds_cut_at o disk found more middle last before after None cut holds =
+    subst (Holds o disk found (more ++ [])) (sym cut.0)
+    (subst (HoldsAt o disk found middle) (sym (append-nil more)) holds)
 holds_cut_at o disk found more middle last before after (Some c) (inl served, closed) holds =
-    subst (HoldsAt o.disk disk found last.journal) (ap (λ l. more ++ l) (sym (append-nil (option_to_list c.payload)))) (visited_served o c middle last disk found more served holds)
+    subst (HoldsAt o disk found last) (ap (λ l. more ++ l) (sym (append-nil (option_to_list c.payload)))) (visited_served o c middle last disk found more served holds)
 holds_cut_at o disk found more middle last before after (Some c) (inr dropped, closed) holds =
-    subst (HoldsAt o.disk disk found last.journal) (ap (λ l. more ++ l) (sym (append-nil (option_to_list c.payload)))) (visited_dropped o c middle last disk found more dropped holds)
+    subst (HoldsAt o disk found last) (ap (λ l. more ++ l) (sym (append-nil (option_to_list c.payload)))) (visited_dropped o c middle last disk found more dropped holds)
 
 pub holds_up_to : {C D : Type 0} (o : ServeTells C D) (disk : D) (found : List (List ℕ)) (first middle last : RegistryState D) (before after : Option (List Closed)) (cs : List (Connection C)) (at_last : Option (Connection C))
-    → AreServed o first cs middle → IsCutAt o middle at_last last before after → Holds o.disk disk found [] first.journal → Holds o.disk disk found (payloads_of (cs ++ option_to_list at_last)) last.journal
+    → AreServed o first cs middle → IsCutAt o middle at_last last before after → Holds o disk found [] first → Holds o disk found (payloads_of (cs ++ option_to_list at_last)) last
 holds_up_to o disk found first middle last before after cs at_last served cut start =
-    subst (HoldsAt o.disk disk found last.journal) (sym (payloads_then cs at_last))
+    subst (HoldsAt o disk found last) (sym (payloads_then cs at_last))
     (holds_cut_at o disk found (payloads_of cs) middle last before after at_last cut (holds_served o disk found [] first middle cs served start))
 
 -- before the first connection
 
-pub holds_opened : {D : Type 0} (m : DiskMeaning D) (disk : D) (registry : RegistryState D) → IsOpened m disk registry → Holds m disk registry.journal.payloads [] registry.journal
-holds_opened m disk registry opened = record {
+pub holds_opened : {C D : Type 0} (o : ServeTells C D) (disk : D) (registry : RegistryState D) → IsOpened o.disk disk registry → Holds o disk registry.journal.payloads [] registry
+holds_opened o disk registry opened = record {
   holds = record {
     payloads = sym (append-nil registry.journal.payloads);
     kept = opened.kept;
@@ -267,7 +279,8 @@ holds_opened m disk registry opened = record {
     further = [];
     no_further = λ up. refl;
     at_most_one = omega arith;
-    any_moment = λ honest. leaves_weaker m.moment m.since disk registry.journal.disk (m.image disk) (WasOrOpensToFront (m.image disk) registry.journal.payloads [])
+    of_command = λ one is. absurd (none_further one is);
+    any_moment = λ honest. leaves_weaker o.disk.moment o.disk.since disk registry.journal.disk (o.disk.image disk) (WasOrOpensToFront (o.disk.image disk) registry.journal.payloads [])
         (λ bytes was. inl was) (opened.only_read.any_moment honest);
   };
   honesty = opened.only_read.honesty;

@@ -1,9 +1,11 @@
 -- Where each message of an input that was found deleted has the id that the journal kept, so has each of its front.
-use Rattle.std.proofs.Common.{◌≡◌, ◌∙◌, ◌+◌, ◌<◌, Bool, true, false, List, Some, ap, arith, length, refl, sym}
+use Rattle.std.proofs.Common.{◌≡◌, ◌∙◌, ◌+◌, ◌<◌, ℕ, Bool, true, false, List, Some, ap, arith, length, refl, reverse, sym}
 use Rattle.std.specs.Prelude.{not, option_map, slice_get, unwrap_or}
 use Rattle.std.specs.Str.{bytes_eq}
 use Rattle.std.proofs.lemmas.Option.{slice_get_within}
 use Rattle.std.proofs.lemmas.Slice.Eq.{bytes_eq-Decides}
+use Rattle.esm_journal_state.specs.Meaning.{deletion_said, history}
+use Rattle.esm_journal_state.specs.Tells.{deletion_of_found}
 use Rattle.esm_model.specs.declared.book.Change.{Change}
 use Rattle.esm_model.specs.declared.item.Message.{Message}
 use Rattle.esm_model.specs.declared.setup.FoundDeletion.{FoundDeletion}
@@ -11,6 +13,7 @@ use Rattle.esm_queue_core.specs.Coming.{has_changed}
 use Rattle.esm_queue_model.specs.QueueSetting.{QueueSetting, found_deletion, over_messages}
 use Rattle.esm_runner.specs.QueueEnded.{IsChanged}
 use Rattle.esm_runner.specs.QueueRan.{NoneDiffersBefore}
+use Rattle.esm_run.specs.Redrive.{HaveKeptIds}
 use Rattle.esm_run.proofs.Fronts.{IsFront, place_front}
 
 same_of : (b : Bool) → not b ≡ false → b ≡ true
@@ -29,3 +32,12 @@ same_ids s z xs ys change same none front changed =
     sym (ap (λ o. unwrap_or (option_map (λ (f : FoundDeletion). not (bytes_eq f.text changed.message.id)) o) false) found) ∙ kept in
     let texts : changed.found.text ≡ changed.message.id = (bytes_eq-Decides changed.found.text changed.message.id).0 (same_of (bytes_eq changed.found.text changed.message.id) seen) in
     changed.differs (changed.given ∙ sym texts ∙ sym changed.kept)
+
+-- where each message of an input of which payloads tell a deletion has the id that they kept, none of its front comes with another
+pub kept_ids : (s : QueueSetting) (payloads found : List (List ℕ)) (xs ys : List Message) (change : Change) → payloads ≡ found
+    → ((i : ℕ) → option_map deletion_of_found (found_deletion s i) ≡ deletion_said (history (reverse found)) i) → HaveKeptIds payloads xs → IsFront ys xs → IsChanged s ys change → ⊥
+kept_ids s payloads found xs ys change same tells ids front is =
+    let at : slice_get xs change.place ≡ Some is.message = place_front ys xs change.place is.message front is.at in
+    let said : deletion_said (history (reverse payloads)) change.place ≡ Some (deletion_of_found is.found) =
+    ap (λ (ps : List (List ℕ)). deletion_said (history (reverse ps)) change.place) same ∙ (sym (tells change.place) ∙ ap (option_map deletion_of_found) is.deletion) in
+    is.differs (is.given ∙ (ids change.place is.message (deletion_of_found is.found) at said ∙ sym is.kept))

@@ -35,6 +35,8 @@ pub mod OneOpened
 pub mod ReplaySettings
 pub mod OneReplay
 pub mod OneRedrive
+pub mod ReadThrough
 pub mod CompleteRedrive
+pub mod CompleteRun
 pub mod OneOutcome
 pub mod Cuts

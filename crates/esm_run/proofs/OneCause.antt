@@ -12,7 +12,7 @@ use Rattle.esm_model.specs.declared.entry.Entry.{Entry}
 use Rattle.esm_report.specs.declared.ending.Ending.{Ending}
 use Rattle.esm_report.specs.declared.ending.Ending.TheVariants as ending
 use Rattle.esm_runner.specs.Files.{FilesState}
-use Rattle.esm_run.specs.Answers.{AreSoundDevices, HasRefusedFiles, HasRefusedMapping, HasTold, IsReadyFor, IsSoundRun, RunCause, RunOutcome, asked}
+use Rattle.esm_run.specs.Answers.{AreGoodFiles, AreSoundDevices, HasRefusedFiles, HasRefusedMapping, HasTold, IsReadyFor, IsSoundRun, RunCause, RunOutcome, asked}
 use Rattle.esm_run.specs.Asks.{Asks}
 use Rattle.esm_run.specs.Endings.{ending_of_mapping, status_of, IsTold}
 use Rattle.esm_run.specs.World.{RunTells, Seen, Written}
@@ -59,16 +59,21 @@ unrun_twice o a old new e d once sound (inl one) (inr other) = absurd ((refused_
 unrun_twice o a old new e d once sound (inr one) (inl other) = absurd ((refused_files o old new d sound other).1 one.good)
 unrun_twice o a old new e d once sound (inr one) (inr other) = refused_twice o a old new e d once one other
 
--- a run over good files of a mapping that was named excludes these reasons
+-- good files and a mapping that is named exclude these reasons
+pub good_or_unrun : {S D F : Type 0} (o : RunTells S D F) (a : Asks D) (old new : Seen S D F) (mapping : NamedMapping) (e : Ending)
+    → IsOneAsked a old.disks.registry new.disks.registry → AreSoundDevices o old new
+    → AreGoodFiles o.run.disk old.disks → a.is_named old.disks.registry mapping → HasRefusedFiles o.run.disk old new e ⊎ HasRefusedMapping o.run.disk a old new e → ⊥
+good_or_unrun o a old new mapping e once sound good named (inl refused) = (refused_files o old new e sound refused).1 good
+good_or_unrun o a old new mapping e once sound good named (inr refused) = not_memory refused.why e refused.tells (once.no_reason mapping refused.why named refused.refused)
+
+-- and so does a run
 pub run_or_unrun : {S D F : Type 0} (o : RunTells S D F) (a : Asks D) (old new : Seen S D F) (mapping : NamedMapping) (files : FilesState D) (e : Ending)
     → IsOneAsked a old.disks.registry new.disks.registry → AreSoundDevices o old new
     → IsReadyFor o.run.disk a old new mapping files → HasRefusedFiles o.run.disk old new e ⊎ HasRefusedMapping o.run.disk a old new e → ⊥
-run_or_unrun o a old new mapping files e once sound ready (inl refused) = (refused_files o old new e sound refused).1 (good_of_ready o.run.disk a old new mapping files ready)
-run_or_unrun o a old new mapping files e once sound ready (inr refused) =
-    not_memory refused.why e refused.tells (once.no_reason mapping refused.why ready.named refused.refused)
+run_or_unrun o a old new mapping files e once sound ready why = good_or_unrun o a old new mapping e once sound (good_of_ready o.run.disk a old new mapping files ready) ready.named why
 
 -- a mapping is of one kind
-one_kind : (a b : NamedMapping) → a ≡ b → is_stream a.config.kind ≡ true → is_stream b.config.kind ≡ false → ⊥
+pub one_kind : (a b : NamedMapping) → a ≡ b → is_stream a.config.kind ≡ true → is_stream b.config.kind ≡ false → ⊥
 one_kind a b same stream queue =
     let both : true ≡ false = sym stream ∙ ap (λ (n : NamedMapping). is_stream n.config.kind) same ∙ queue in
     cc

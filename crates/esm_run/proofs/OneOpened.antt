@@ -7,11 +7,11 @@ use Rattle.esm_journal.specs.Pair.{first_disk, second_disk}
 use Rattle.esm_folder.specs.Upkeep.{OneRose}
 use Rattle.esm_mapping.specs.declared.named.NamedMapping.{NamedMapping}
 use Rattle.esm_runner.specs.Files.{AreFoundLines, FilesState, found_lines}
-use Rattle.esm_run.specs.Answers.{AreSoundDevices, IsReadyFor}
+use Rattle.esm_run.specs.Answers.{AreGoodFiles, AreSoundDevices, IsReadyFor}
 use Rattle.esm_run.specs.Asks.{Asks}
 use Rattle.esm_run.specs.World.{RunTells, Seen, devices_of}
 use Rattle.esm_run.proofs.BadPayloads.{same_payloads}
-use Rattle.esm_run.proofs.OneReady.{IsFaultless, faultless}
+use Rattle.esm_run.proofs.OneReady.{IsFaultless, faultless, opens_to}
 
 -- the lines that were found
 
@@ -26,6 +26,14 @@ same_lines o x old new a b f g sound one other =
     let first = lines_at o x old new a f sound one in
     let second = lines_at o x old new b g sound other in
     same_payloads first.0 second.0 f.dest.payloads g.dest.payloads (sym first.1 ∙ second.1)
+
+-- the payloads that were found
+
+pub found_payloads : {S D F : Type 0} (o : RunTells S D F) (x : Asks D) (old new : Seen S D F) (good : AreGoodFiles o.run.disk old.disks) (mapping : NamedMapping) (f : FilesState D)
+    → AreSoundDevices o old new → IsReadyFor o.run.disk x old new mapping f → good.payloads.payloads ≡ f.pair.payloads
+found_payloads o x old new good mapping f sound ready =
+    let first = good.payloads.are_found sound.honest in
+    same_payloads first.0 f.pair.epoch good.payloads.payloads f.pair.payloads (sym first.1 ∙ opens_to o x old new mapping f sound ready)
 
 -- since they were opened
 

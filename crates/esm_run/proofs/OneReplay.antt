@@ -151,7 +151,7 @@ module _ {S D F : Type 0} (o : RunTells S D F) (config : List ℕ) (calls : ℕ)
       let factor = a.config.factor in
       let start = a.config.start in
       one_replay_end o.run.disk f g one.setting other.setting h one.came other.came xs ys reading other_reading (replay_disks new) e d
-      (none_rose o (replay_asks config) old new a f sound ready).opened_pair (none_rose o (replay_asks config) old new b g sound also_ready).opened_pair
+      (λ why. (none_rose o (replay_asks config) old new a f sound ready).opened_pair why.2) (λ why. (none_rose o (replay_asks config) old new b g sound also_ready).opened_pair why.2)
       (record {
         saids = saids;
         ends = λ v w ended also. one_end o.faults o.left kind factor start old.input new.input one.input other.input v w goes sound.told sound.no_input_fault first second (one.read_to ∙ ended) (other.read_to ∙ also);

@@ -40,7 +40,7 @@ pub record IsShared (s z : Setting) (xs ys : List Record) (i j : Option InputEnd
   pub other_front : (e : InputEnd) → j ≡ Some e → IsFront xs ys
 
 -- of an input that tells its bytes the reading ended, and something is left
-unfinished_so : (s : Setting) (h : List Entry) (reading : Option InputEnd) (bytes_left : Option (List ℕ)) → IsSome bytes_left → IsUnfinished s h reading bytes_left → IsSome reading × (HasOpen s h ⊎ HasOutstanding s h)
+pub unfinished_so : (s : Setting) (h : List Entry) (reading : Option InputEnd) (bytes_left : Option (List ℕ)) → IsSome bytes_left → IsUnfinished s h reading bytes_left → IsSome reading × (HasOpen s h ⊎ HasOutstanding s h)
 unfinished_so s h reading bytes_left told (inl ended) = ended
 unfinished_so s h reading bytes_left told (inr (going, untold)) = absurd (let some = told in let none = untold in cc)
 
@@ -71,7 +71,7 @@ one_stream_end t f g s z h xs ys i j l new tell (end.Changed change) end.CallsSp
 one_stream_end t f g s z h xs ys i j l new tell (end.Changed change) (end.Changed other_change) changed sound sound_too shared one other = changed change other_change
 
 -- the input of a stream's run
-read_from : {S : Type 0} (faults : S → ℕ) (left : S → Option (List ℕ)) (c : Config) (start : Start) (old new : S) (i : InputState S) → IsInputOf faults left c start old new i
+pub read_from : {S : Type 0} (faults : S → ℕ) (left : S → Option (List ℕ)) (c : Config) (start : Start) (old new : S) (i : InputState S) → IsInputOf faults left c start old new i
     → IsReadFrom faults left kinds.Stream c.factor start old new i
 read_from faults left c start old new i is = record {
   kind_is = is.kind;

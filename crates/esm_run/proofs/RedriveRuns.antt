@@ -34,7 +34,7 @@ module _ {S D F : Type 0} (o : RunTells S D F) (w : RedriveWords) (h : List Entr
   HasRunTo e = redrive.HasRun (redrive_tells o) o.faults o.left (words_of w mapping.config) files old.input new.input reading caller caller_left h (redrive_disks new) e
 
   abbrev HasStoppedSo : Type 0
-  HasStoppedSo = redrive.HasStoppedRun (redrive_tells o) o.left (words_of w mapping.config) files old.input new.input reading caller caller_left h (redrive_disks new)
+  HasStoppedSo = redrive.HasStoppedRun (redrive_tells o) o.faults o.left (words_of w mapping.config) files old.input new.input reading caller caller_left h (redrive_disks new)
 
   came : (e : RedriveEnd) → HasRunTo e → HasCome (RedriveCause o w h old new) (ending_of_redrive e)
   came e is = record {

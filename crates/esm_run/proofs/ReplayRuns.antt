@@ -25,7 +25,7 @@ module _ {S D F : Type 0} (o : RunTells S D F) (config : List ℕ) (calls : ℕ)
   HasRunTo end = replay.HasEnded (replay_tells o) o.faults o.left mapping.config calls files old.input new.input reading caller caller_left h counts (replay_disks new) end
 
   abbrev HasStoppedSo : Type 0
-  HasStoppedSo = replay.HasStoppedRun (replay_tells o) o.left mapping.config calls files old.input new.input reading caller caller_left h counts (replay_disks new)
+  HasStoppedSo = replay.HasStoppedRun (replay_tells o) o.faults o.left mapping.config calls files old.input new.input reading caller caller_left h counts (replay_disks new)
 
   came : (end : ReplayEnd) → HasRunTo end → HasCome (ReplayCause o config calls h old new) (ending_of_replay end)
   came end is = record {

@@ -69,6 +69,8 @@ pub headline_of : {D F : Type 0} (t : Telling D F) (read_first : Bool) (f : File
     → Headline t read_first f s h trouble ending hand old new (report_text s h ending)
 headline_of t read_first f s h trouble ending hand old new is calls rests later = record {
   legal_trace = is.legal_trace;
+  settled = is.settled;
+  can_be_said = is.can_be_said;
   moments = is.moments;
   calls_made = calls;
   none_runs = rests;
@@ -78,6 +80,7 @@ headline_of t read_first f s h trouble ending hand old new is calls rests later 
   in_hand = is.in_hand;
   hand_follows = is.hand_follows;
   failure_lines_kept = is.failure_lines_kept;
+  failure_lines_crash = is.failure_lines_crash;
   report_told = refl;
   order_per_key = is.order_per_key;
   no_repeat = is.no_repeat;

@@ -42,7 +42,7 @@ has_served o old new door requests accepted first last opened served stops is = 
   opened = opened;
   served = served;
   disk_is = is;
-  journal = (holds_served o old first.journal.payloads [] first last served.connections served.served (holds_opened o.disk old first opened)).holds;
+  journal = (holds_served o old first.journal.payloads [] first last served.connections served.served (holds_opened o old first opened)).holds;
   stop = subst (λ d. StopsFor (o.disk.faults old) (o.disk.faults d) last.journal.down door requests accepted.count accepted.stop) (sym is)
       (stops_before (o.disk.faults old) (o.disk.faults first.journal.disk) (o.disk.faults last.journal.disk) last.journal.down door requests accepted.count accepted.stop
       opened.only_read.never_falls stops);
@@ -56,7 +56,7 @@ has_served_up_to o old new door first last opened served is = record {
   opened = opened;
   served = served;
   disk_is = is;
-  journal = (holds_up_to o old first.journal.payloads first served.middle last served.between door.after served.connections served.stopped_with served.served served.cut (holds_opened o.disk old first opened)).holds;
+  journal = (holds_up_to o old first.journal.payloads first served.middle last served.between door.after served.connections served.stopped_with served.served served.cut (holds_opened o old first opened)).holds;
 }
 
 -- what was served to its end, and only not told

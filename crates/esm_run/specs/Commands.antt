@@ -7,6 +7,7 @@ use Rattle.esm_io.specs.Faults.{Rose}
 use Rattle.esm_run.specs.Answers.{AreBadWords, AreSoundDevices, IsCutOf, IsSoundRun, IsUntouched, RunOutcome}
 use Rattle.esm_run.specs.Asks.{IsRegistryLeft}
 use Rattle.esm_run.specs.Built.{SpellsBuilt}
+use Rattle.esm_run.specs.Completes as run
 use Rattle.esm_run.specs.Ddb.{DdbOutcome, IsDdbCut}
 use Rattle.esm_run.specs.Generated.{GenOutcome, IsGenCut}
 use Rattle.esm_run.specs.Redrive.{IsRedriveCut, MayComplete, RedriveOutcome}
@@ -73,14 +74,16 @@ pub record NoneFailed {S K D C F L N : Type 0} (t : DevicesTell S K D F L N) (wo
 
 -- completeness
 
--- over this world the command comes to its end with nothing left, where no device fails
-abbrev pub Completes : {S K D C F L N : Type 0} → DevicesTell S K D F L N → Command → (old : World S K D C F L) → (status : ℕ) → Type 0
-Completes t (Redrive config receives calls visibility timeout) old status = MayComplete (of_run t) (redrive_words config receives calls visibility timeout) (seen old) → status ≡ 0
-Completes t _ old status = Unit {0}
+-- over this world the command comes to its end with nothing left, where no device fails; the run of a queue's mapping so, or with
+-- its calls spent
+abbrev pub Completes : {S K D C F L N : Type 0} → DevicesTell S K D F L N → Command → (old new : World S K D C F L) → (status : ℕ) → Type 0
+Completes t (Run r) old new status = (run.MayComplete (of_run t) r (history new) (seen old) → status ≡ 0) × (run.MayFinish (of_run t) r (seen old) → (status ≡ 0) ⊎ (status ≡ 1))
+Completes t (Redrive config receives calls visibility timeout) old new status = MayComplete (of_run t) (redrive_words config receives calls visibility timeout) (seen old) → status ≡ 0
+Completes t _ old new status = Unit {0}
 
 -- so does the command that the words spell
 abbrev pub IsComplete : {S K D C F L N : Type 0} → DevicesTell S K D F L N → List (List ℕ) → (old new : World S K D C F L) → (status : ℕ) → Type 0
-IsComplete t words old new status = NoneFailed t words old new → (c : Command) → SpellsBuilt words c → Completes t c old status
+IsComplete t words old new status = NoneFailed t words old new → (c : Command) → SpellsBuilt words c → Completes t c old new status
 
 -- what stays, whatever the status
 

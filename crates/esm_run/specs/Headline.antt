@@ -13,7 +13,7 @@ use Rattle.esm_runner.specs.Ran.{NoneRuns}
 use Rattle.esm_report.specs.Report.{report_text}
 use Rattle.esm_report.specs.declared.ending.Ending.{Ending}
 use Rattle.esm_runner.specs.Files.{FilesState}
-use Rattle.esm_runner.specs.Headline.{AnswersAreLogged, CallsMade, CheckpointIsRecorded, CrashKept, FailureLinesKept, FatesAreRecorded, HandFollows, IsInHand, JournalKept, JournalStopped, Devices, Telling}
+use Rattle.esm_runner.specs.Headline.{AnswersAreLogged, CallsMade, CanBeSaid, CheckpointIsRecorded, CrashKept, FailureLinesCrashKept, FailureLinesKept, FatesAreRecorded, HandFollows, IsInHand, JournalKept, JournalStopped, Devices, SettledUnless, Telling}
 
 -- The run over these files and this setting left this history, newest entry first, and this text, and ended so, by this trouble
 -- of the book, if by any. In hand is the entry, if there is one, whose payload may stand in the journal though it is not in the
@@ -21,6 +21,10 @@ use Rattle.esm_runner.specs.Headline.{AnswersAreLogged, CallsMade, CheckpointIsR
 pub record Headline {D F : Type 0} (t : Telling D F) (first : Bool) (f : FilesState D) (s : Setting) (h : List Entry) (trouble : Option Trouble) (ending : Ending) (hand : List Entry) (old : List F) (new : Devices D F) (text : List ℕ) : Type 0 where
   -- each entry may follow those before it, over every list of records that goes on from those that came
   pub legal_trace : LegalOver s h
+  -- where there was no trouble nothing is called for: each open record passes the filter, and no lane is owed anything
+  pub settled : SettledUnless trouble s h
+  -- no shard has more records than four bytes count, and what the journal keeps of an entry, or of the one in hand, can be said
+  pub can_be_said : CanBeSaid s h hand
   -- each moment is one that the clock gave, at most the greatest, or that of the entry before it where that is later
   pub moments : AreGiven t.callers.gave h
   -- caller k's log, where told, is the old one followed by the calls of batcher k, and no lane is running
@@ -39,6 +43,9 @@ pub record Headline {D F : Type 0} (t : Telling D F) (first : Bool) (f : FilesSt
   -- the failure file's lines are the old ones followed by what is delivered of those of the history, in order; where a disk
   -- failed, perhaps by one further line
   pub failure_lines_kept : FailureLinesKept t f trouble h hand new
+  -- and at any moment since the run's start a crash leaves the old ones followed by a prefix of those; where a device failed,
+  -- perhaps by one further, that of the entry in hand or of the one whose line was being delivered
+  pub failure_lines_crash : FailureLinesCrashKept t f s h trouble hand new
   -- what is told is the report of the history and of its ending
   pub report_told : text ≡ report_text s h ending
   -- for each call and each record of its batch every earlier record of that shard with the same key, outside the batch, has its

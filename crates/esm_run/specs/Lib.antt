@@ -14,6 +14,7 @@ pub mod FirstCaller
 pub mod Reports
 pub mod Redrive
 pub mod Replay
+pub mod Completes
 pub mod Under
 pub mod Commands
 pub mod Asked

@@ -96,7 +96,7 @@ pub record IsStoppedRedrive {S D F : Type 0} (o : RunTells S D F) (w : RedriveWo
   pub caller_left : F
   pub first_used : IsFirstUsed old.callers new.callers caller caller_left
   pub reading : Option InputEnd
-  pub run : redrive.HasStoppedRun (redrive_tells o) o.left (words_of w mapping.config) files old.input new.input reading caller caller_left h (redrive_disks new)
+  pub run : redrive.HasStoppedRun (redrive_tells o) o.faults o.left (words_of w mapping.config) files old.input new.input reading caller caller_left h (redrive_disks new)
 
 -- before anything came; in the run; or when the run had ended and was to be told
 abbrev pub IsRedriveCut : {S D F : Type 0} → RunTells S D F → RedriveWords → List Entry → (old new : Seen S D F) → Type 0

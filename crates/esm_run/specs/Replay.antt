@@ -71,7 +71,7 @@ pub record IsStoppedReplay {S D F : Type 0} (o : RunTells S D F) (config : List 
   pub first_used : IsFirstUsed old.callers new.callers caller caller_left
   pub reading : Option InputEnd
   pub counts : ReplayCounts
-  pub run : replay.HasStoppedRun (replay_tells o) o.left mapping.config calls files old.input new.input reading caller caller_left h counts (replay_disks new)
+  pub run : replay.HasStoppedRun (replay_tells o) o.faults o.left mapping.config calls files old.input new.input reading caller caller_left h counts (replay_disks new)
 
 -- before anything came; in the run; or when the run had ended and was to be told
 abbrev pub IsReplayCut : {S D F : Type 0} → RunTells S D F → (config : List ℕ) → (calls : ℕ) → List Entry → (old new : Seen S D F) → Type 0

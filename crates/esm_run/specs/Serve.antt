@@ -1,5 +1,5 @@
 -- How `serve` ended: why, what it left of the registry's file, what was told, and with which exit status. This product's own.
-use Rattle.std.specs.Prelude.{◌≡◌, ◌⊎◌, ◌≤◌, ℕ, true, false, List, [], ◌++◌, length, codes}
+use Rattle.std.specs.Prelude.{◌≡◌, ◌⊎◌, ◌≤◌, ℕ, Bool, true, false, List, [], ◌∷◌, ◌++◌, length, codes, Some}
 use Rattle.std.specs.Fmt.{decimal}
 use Rattle.std.specs.Option.{option_to_list}
 use Rattle.esm_io.specs.Faults.{Rose}
@@ -7,7 +7,9 @@ use Rattle.esm_io.specs.Images.{LeavesOnly}
 use Rattle.esm_io.specs.Meanings.{DiskMeaning}
 use Rattle.esm_journal.specs.File.{header_of, opened, Foreign, Damaged}
 use Rattle.esm_journal.specs.Reads.{IsOnlyRead}
-use Rattle.esm_journal.specs.State.{JournalState, OpensTo, KeepsWhileUp, KeepsWhileDown}
+use Rattle.esm_journal.specs.State.{OpensTo, KeepsWhileUp, KeepsWhileDown}
+use Rattle.esm_registry.specs.Lists.{Mappings}
+use Rattle.esm_registry.specs.Machine.{Asked, step}
 use Rattle.esm_registry.specs.State.{RegistryState, IsRegistry, IsFirstBad}
 use Rattle.esm_model.specs.Names.{file_name}
 use Rattle.esm_model.specs.declared.names.FileName.TheVariants.{Registry}
@@ -71,18 +73,27 @@ pub record OpensToFront (payloads more : List (List ℕ)) (bytes : List ℕ) : T
 abbrev pub WasOrOpensToFront : (List ℕ → Type 0) → (payloads more : List (List ℕ)) → List ℕ → Type 0
 WasOrOpensToFront before payloads more bytes = before bytes ⊎ OpensToFront payloads more bytes
 
--- the journal over this disk has the payloads found followed by these
-pub record HoldsMore {D : Type 0} (m : DiskMeaning D) (disk : D) (found more : List (List ℕ)) (journal : JournalState D) : Type 0 where
-  pub payloads : journal.payloads ≡ found ++ more
+-- the payload that is written for a command which these mappings accept, at a moment that the clock gave
+pub record IsOfCommand (gave : ℕ → Bool) (mappings : Mappings) (payload : List ℕ) : Type 0 where
+  pub asked : Asked
+  pub moment : ℕ
+  pub given : gave moment ≡ true
+  pub written : (step mappings asked moment).payload ≡ Some payload
+
+-- the registry's journal over this disk has the payloads found followed by these
+pub record HoldsMore {C D : Type 0} (o : ServeTells C D) (disk : D) (found more : List (List ℕ)) (registry : RegistryState D) : Type 0 where
+  pub payloads : registry.journal.payloads ≡ found ++ more
   -- a crash now leaves exactly them; after a call that failed, them or one more
-  pub kept : KeepsWhileUp m journal
-  pub stopped : KeepsWhileDown m journal
+  pub kept : KeepsWhileUp o.disk registry.journal
+  pub stopped : KeepsWhileDown o.disk registry.journal
   -- a crash at any moment since the opening left what it left before, or the payloads found and a front of these, each whole;
-  -- one further payload was being written by a call that failed
+  -- one further payload was being written by a call that failed, that of a command which the mappings accept that are left
   pub further : List (List ℕ)
-  pub no_further : journal.down ≡ false → further ≡ []
+  pub no_further : registry.journal.down ≡ false → further ≡ []
   pub at_most_one : length further ≤ 1
-  pub any_moment : m.honest disk ≡ true → LeavesOnly m.moment m.since disk journal.disk (WasOrOpensToFront (m.image disk) found (more ++ further))
+  pub of_command : (payload : List ℕ) → further ≡ payload ∷ [] → IsOfCommand o.gave registry.mappings payload
+  pub any_moment : o.disk.honest disk ≡ true
+      → LeavesOnly o.disk.moment o.disk.since disk registry.journal.disk (WasOrOpensToFront (o.disk.image disk) found (more ++ further))
 
 -- ends
 
@@ -99,7 +110,7 @@ pub record HasServed {C D : Type 0} (o : ServeTells C D) (old new : D) (door : D
   pub opened : IsOpened o.disk old first
   pub served : HaveServed o first last door accepted.count
   pub disk_is : new ≡ last.journal.disk
-  pub journal : HoldsMore o.disk old first.journal.payloads (payloads_of served.connections) last.journal
+  pub journal : HoldsMore o old first.journal.payloads (payloads_of served.connections) last
   pub stop : StopsFor (o.disk.faults old) (o.disk.faults new) last.journal.down door requests accepted.count accepted.stop
 
 -- the payload with this index is the first in the file that is none of a registry's
@@ -134,7 +145,7 @@ pub record HasServedUpTo {C D : Type 0} (o : ServeTells C D) (old new : D) (door
   pub opened : IsOpened o.disk old first
   pub served : HaveServedUpTo o first last door
   pub disk_is : new ≡ last.journal.disk
-  pub journal : HoldsMore o.disk old first.journal.payloads (payloads_of (served.connections ++ option_to_list served.stopped_with)) last.journal
+  pub journal : HoldsMore o old first.journal.payloads (payloads_of (served.connections ++ option_to_list served.stopped_with)) last
 
 -- it stopped before a connection was accepted, or later
 abbrev pub IsServeCut : {C D : Type 0} → ServeTells C D → (old new : D) → DoorSeen → Type 0

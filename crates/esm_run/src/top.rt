@@ -17,6 +17,7 @@ use crate::serving::serve;
 use crate::tending::tend;
 use crate::world::{Ended, World};
 use esm_cli::laws::one_command;
+use esm_history::completeness::bound_is_not_reached;
 use esm_io::{Caller, Clock, Disk, Door, Sink, Source};
 use esm_journal_state::laws::same_told;
 use esm_mapping::laws::{one_answer, one_expected};
@@ -28,7 +29,7 @@ use std::thread::Threads;
 /// Does what the words of the command line ask for, and hands the world back with the exit status: 0 where `init` made the
 /// files, `show` told what the journal says or `failures` its lines, `compact` or `migrate` wrote the journal anew or found
 /// it of version 2, `run`, `ddb` or `redrive` read the input to its end and every record has its fate, or every message is
-/// deleted, `replay` read it to its end and each record that a failure line names was replayed or its last call left it,
+/// deleted, `replay` read it to its end and each named record was replayed or its last call left it,
 /// `serve` served as many connections as it was asked to, or every record of the stream of `gen` has its fate; 1 where the
 /// calls allowed were spent before, also while more of the input was awaited; 2 where the words are no command that is
 /// built; 3 at a bad line; 4 where the input failed; 5 where the output failed; 6 where a disk failed; 7 where the failure
@@ -75,6 +76,7 @@ pub fn esm<
     ensures door { ((requests : ℕ) → ¬ SpellsBuilt (map string_bytes words.now) (Command.Serve requests)) → result.world.door ≡ world.door }
 {
     one_command();
+    bound_is_not_reached();
     whole_goes_on();
     same_told();
     one_answer::<D>();

@@ -7,6 +7,7 @@ use Rattle.esm_run.specs.Commands.{Completes, IsLeft, redrive_words}
 use Rattle.esm_run.specs.Tended.{command_of}
 use Rattle.esm_run.specs.World.{devices, history as told_history, of_run, output, seen}
 use Rattle.esm_run.proofs.CompleteRedrive.{complete_redrive, files_complete}
+use Rattle.esm_run.proofs.CompleteRun.{complete_run}
 use Rattle.esm_run.proofs.Cuts.{left_alone, stopped_alone, stopped_at, untouched_alone}
 use Rattle.esm_run.proofs.FilesCommands.{files_cut, files_ended, files_left}
 use Rattle.esm_run.proofs.OneCommand.{by_command}
@@ -44,8 +45,8 @@ returns-in-Files-clause-exact g c = λ known sound other is.
 pub returns-in-Files-clause-complete : goal.returns-in-Files-clause-complete
 returns-in-Files-clause-complete g c = λ known none d spelled.
     let t = devices g.C.Clock g.F.Caller g.D.Disk g.S.Source g.K.Sink g.L.Door g.L.Conn.Link in
-    by_command (λ d. Completes t d c.args.world c.tend.result.status) (map string_bytes c.args.words.now) (command_of c.in-Files.command) c.one_command.ensures c.in-Files.ensures
-    (files_complete t c.in-Files.command c.args.world c.tend.result.status) d spelled
+    by_command (λ d. Completes t d c.args.world c.tend.result.world c.tend.result.status) (map string_bytes c.args.words.now) (command_of c.in-Files.command) c.one_command.ensures c.in-Files.ensures
+    (files_complete t c.in-Files.command c.args.world c.tend.result.world c.tend.result.status) d spelled
 
 pub returns-in-Files-clause-bad_words : goal.returns-in-Files-clause-bad_words
 returns-in-Files-clause-bad_words g c = λ bad. absurd (c.tend.ensures.good_words bad)
@@ -104,7 +105,7 @@ returns-in-Serve-clause-exact g c = λ known sound other is.
 pub returns-in-Serve-clause-complete : goal.returns-in-Serve-clause-complete
 returns-in-Serve-clause-complete g c = λ known none d spelled.
     let t = devices g.C.Clock g.F.Caller g.D.Disk g.S.Source g.K.Sink g.L.Door g.L.Conn.Link in
-    by_command (λ d. Completes t d c.args.world c.serve.result.status) (map string_bytes c.args.words.now) (Serve c.in-Serve.requests) c.one_command.ensures c.in-Serve.ensures
+    by_command (λ d. Completes t d c.args.world c.serve.result.world c.serve.result.status) (map string_bytes c.args.words.now) (Serve c.in-Serve.requests) c.one_command.ensures c.in-Serve.ensures
     tt d spelled
 
 pub returns-in-Serve-clause-bad_words : goal.returns-in-Serve-clause-bad_words
@@ -164,7 +165,7 @@ returns-in-Gen-clause-exact g c = λ known sound other is.
 pub returns-in-Gen-clause-complete : goal.returns-in-Gen-clause-complete
 returns-in-Gen-clause-complete g c = λ known none d spelled.
     let t = devices g.C.Clock g.F.Caller g.D.Disk g.S.Source g.K.Sink g.L.Door g.L.Conn.Link in
-    by_command (λ d. Completes t d c.args.world c.generate.result.status) (map string_bytes c.args.words.now) (Gen c.in-Gen.records) c.one_command.ensures c.in-Gen.ensures
+    by_command (λ d. Completes t d c.args.world c.generate.result.world c.generate.result.status) (map string_bytes c.args.words.now) (Gen c.in-Gen.records) c.one_command.ensures c.in-Gen.ensures
     tt d spelled
 
 pub returns-in-Gen-clause-bad_words : goal.returns-in-Gen-clause-bad_words
@@ -224,8 +225,23 @@ returns-in-Run-clause-exact g c = λ known sound other is.
 pub returns-in-Run-clause-complete : goal.returns-in-Run-clause-complete
 returns-in-Run-clause-complete g c = λ known none d spelled.
     let t = devices g.C.Clock g.F.Caller g.D.Disk g.S.Source g.K.Sink g.L.Door g.L.Conn.Link in
-    by_command (λ d. Completes t d c.args.world c.run.result.status) (map string_bytes c.args.words.now) (Run c.in-Run.options) c.one_command.ensures c.in-Run.ensures
-    tt d spelled
+    by_command (λ d. Completes t d c.args.world c.run.result.world c.run.result.status) (map string_bytes c.args.words.now) (Run c.in-Run.options) c.one_command.ensures c.in-Run.ensures
+    (complete_run (of_run t) c.in-Run.options (output t c.args.world c.run.result.world) (told_history c.run.result.world) (seen c.args.world) (seen c.run.result.world) c.run.result.status
+    (record {
+      one_command = c.one_command.ensures;
+      whole_goes_on = c.whole_goes_on.ensures;
+      same_told = λ t u payloads. c.same_told.ensures t u (history payloads) (history payloads);
+      one_answer = record {
+        one_mapping = c.one_answer.ensures.one_mapping;
+        no_reason = c.one_answer.ensures.no_reason;
+        one_reason = c.one_answer.ensures.one_reason;
+      };
+      one_expected = record {
+        one_mapping = c.one_expected.ensures.one_mapping;
+        no_reason = c.one_expected.ensures.no_reason;
+        one_reason = c.one_expected.ensures.one_reason;
+      };
+    }) c.bound_is_not_reached.ensures (none.command (Run c.in-Run.options) c.in-Run.ensures) none.output_told (c.run.ensures.outcome known)) d spelled
 
 pub returns-in-Run-clause-bad_words : goal.returns-in-Run-clause-bad_words
 returns-in-Run-clause-bad_words g c = λ bad. absurd (c.run.ensures.good_words bad)
@@ -281,7 +297,7 @@ returns-in-Ddb-clause-exact g c = λ known sound other is.
 pub returns-in-Ddb-clause-complete : goal.returns-in-Ddb-clause-complete
 returns-in-Ddb-clause-complete g c = λ known none d spelled.
     let t = devices g.C.Clock g.F.Caller g.D.Disk g.S.Source g.K.Sink g.L.Door g.L.Conn.Link in
-    by_command (λ d. Completes t d c.args.world c.ddb.result.status) (map string_bytes c.args.words.now) (Ddb c.in-Ddb.config c.in-Ddb.calls c.in-Ddb.timeout) c.one_command.ensures c.in-Ddb.ensures
+    by_command (λ d. Completes t d c.args.world c.ddb.result.world c.ddb.result.status) (map string_bytes c.args.words.now) (Ddb c.in-Ddb.config c.in-Ddb.calls c.in-Ddb.timeout) c.one_command.ensures c.in-Ddb.ensures
     tt d spelled
 
 pub returns-in-Ddb-clause-bad_words : goal.returns-in-Ddb-clause-bad_words
@@ -341,7 +357,7 @@ returns-in-Redrive-clause-exact g c = λ known sound other is.
 pub returns-in-Redrive-clause-complete : goal.returns-in-Redrive-clause-complete
 returns-in-Redrive-clause-complete g c = λ known none d spelled.
     let t = devices g.C.Clock g.F.Caller g.D.Disk g.S.Source g.K.Sink g.L.Door g.L.Conn.Link in
-    by_command (λ d. Completes t d c.args.world c.redrive.result.status) (map string_bytes c.args.words.now) (Redrive c.in-Redrive.words.config c.in-Redrive.words.max_receives c.in-Redrive.words.calls c.in-Redrive.words.visibility c.in-Redrive.words.timeout) c.one_command.ensures c.in-Redrive.ensures
+    by_command (λ d. Completes t d c.args.world c.redrive.result.world c.redrive.result.status) (map string_bytes c.args.words.now) (Redrive c.in-Redrive.words.config c.in-Redrive.words.max_receives c.in-Redrive.words.calls c.in-Redrive.words.visibility c.in-Redrive.words.timeout) c.one_command.ensures c.in-Redrive.ensures
     (complete_redrive (of_run t) (redrive_words c.in-Redrive.words.config c.in-Redrive.words.max_receives c.in-Redrive.words.calls c.in-Redrive.words.visibility c.in-Redrive.words.timeout) (output t c.args.world c.redrive.result.world) (told_history c.redrive.result.world) (seen c.args.world) (seen c.redrive.result.world) c.redrive.result.status
     (record {
       one_command = c.one_command.ensures;
@@ -413,7 +429,7 @@ returns-in-Replay-clause-exact g c = λ known sound other is.
 pub returns-in-Replay-clause-complete : goal.returns-in-Replay-clause-complete
 returns-in-Replay-clause-complete g c = λ known none d spelled.
     let t = devices g.C.Clock g.F.Caller g.D.Disk g.S.Source g.K.Sink g.L.Door g.L.Conn.Link in
-    by_command (λ d. Completes t d c.args.world c.replay.result.status) (map string_bytes c.args.words.now) (Replay c.in-Replay.config c.in-Replay.calls c.in-Replay.timeout) c.one_command.ensures c.in-Replay.ensures
+    by_command (λ d. Completes t d c.args.world c.replay.result.world c.replay.result.status) (map string_bytes c.args.words.now) (Replay c.in-Replay.config c.in-Replay.calls c.in-Replay.timeout) c.one_command.ensures c.in-Replay.ensures
     tt d spelled
 
 pub returns-in-Replay-clause-bad_words : goal.returns-in-Replay-clause-bad_words
