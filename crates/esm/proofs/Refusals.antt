@@ -1,5 +1,6 @@
 -- Words that are refused leave no word for the command, and no words are a command.
-use Rattle.std.proofs.Common.{◌≡◌, ◌≢◌, ℕ, Bool, true, false, nat_eq, List, [], map, Option, Some, None, IfSome, refl}
+use Rattle.std.proofs.Common.{◌≡◌, ◌≢◌, ◌⊎◌, ℕ, Bool, true, false, nat_eq, List, [], map, Option, Some, None, IfSome, inl, inr, refl, subst, sym}
+use Rattle.std.specs.Prelude.{IfNone}
 use Rattle.std.specs.Bool.{Decides}
 use Rattle.std.specs.Option.{unwrap_or}
 use Rattle.std.specs.String.{string_bytes}
@@ -12,6 +13,11 @@ use Rattle.esm.specs.declared.opening.Opening.{Opening}
 pub refused_opening : (words : List (List ℕ)) (read : Option Opening) (default opening : Opening) → IsRefused words → IfSome read (λ o. Opens words o.folder o.functions o.door (map string_bytes o.command.now)) → opening ≡ unwrap_or read default → opening ≡ default
 refused_opening words None default opening refused some is = is
 refused_opening words (Some o) default opening refused some is = absurd (refused o.folder o.functions o.door (map string_bytes o.command.now) some)
+
+pub opens_or_refused : (words : List (List ℕ)) (read : Option Opening) (default opening : Opening) → IfSome read (λ o. Opens words o.folder o.functions o.door (map string_bytes o.command.now)) → IfNone read (IsRefused words)
+    → opening ≡ unwrap_or read default → Opens words opening.folder opening.functions opening.door (map string_bytes opening.command.now) ⊎ IsRefused words
+opens_or_refused words None default opening some none is = inr none
+opens_or_refused words (Some o) default opening some none is = inl (subst (λ (x : Opening). Opens words x.folder x.functions x.door (map string_bytes x.command.now)) (sym is) some)
 
 no_words_spell : (c : Command) → SpellsBuilt [] c → ⊥
 no_words_spell c h = (let is = h.0.1.first in cc)

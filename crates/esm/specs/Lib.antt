@@ -1,3 +1,4 @@
 pub mod Callers
 pub mod Opening
 pub mod Timeouts
+pub mod Done

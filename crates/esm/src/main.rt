@@ -1,19 +1,25 @@
 //! The program: it takes the folder, the functions and the door from the first three words, makes the real world and
-//! does what the other words ask for. All that it prints goes to standard output.
+//! does what the other words ask for. What it tells goes to standard output, and what to do about a refusal to standard
+//! error.
 #![tactic(auto)]
 
-ghost use Rattle.std.specs.Prelude.{◌≡◌, ◌≢◌, [], map, length};
+ghost use Rattle.std.specs.Prelude.{◌≡◌, ◌≢◌, ◌⊎◌, [], map, length};
 ghost use Rattle.std.specs.String.{string_bytes};
-ghost use Rattle.esm.specs.Opening.{IsRefused};
+ghost use Rattle.esm_run.specs.World.{devices};
+ghost use Rattle.esm.specs.Done.{HasDone};
+ghost use Rattle.esm.specs.Opening.{Opens, IsRefused};
 
+mod advice;
 mod callers;
 mod disks;
 mod functions;
 mod opening;
+mod tail_sink;
 mod timeouts;
 mod words;
 mod worlds;
 
+use advice::advise;
 use esm_host::fill_streams;
 use esm_io::{Caller, Clock, Disk, Door, Sink, Source};
 use esm_model::{MAX_LANES, OutOfMemory};
@@ -21,9 +27,11 @@ use esm_run::{World, esm};
 use functions::Functions;
 use opening::{Folder, Opening, read_opening};
 use std::alloc::Global;
+use std::io::Eprint;
 use std::process::ExitCode;
 use std::sync::Wait;
 use std::thread::Threads;
+use tail_sink::Remembers;
 use words::words;
 use worlds::{folder_world, memory_world};
 
@@ -33,9 +41,12 @@ mod tests;
 /// The exit status for want of memory.
 const OUT_OF_MEMORY: u8 = 70;
 
-/// What the first three words name. Words that are refused leave none for the command, and so it is none.
+/// What the first three words name, and the words of the command. Words that are refused leave none for the command, and so it
+/// is none.
 fn opened(words: &[String]) -> Opening<'_>
-    ensures { IsRefused (map string_bytes words.now) → map string_bytes result.command.now ≡ [] }
+    ensures opens { Opens (map string_bytes words.now) result.folder result.functions result.door (map string_bytes result.command.now)
+        ⊎ IsRefused (map string_bytes words.now) }
+    ensures refused { IsRefused (map string_bytes words.now) → map string_bytes result.command.now ≡ [] }
 {
     let opening = read_opening(words).unwrap_or(Opening {
         folder: Folder::Memory,
@@ -46,12 +57,12 @@ fn opened(words: &[String]) -> Opening<'_>
     opening
 }
 
-/// Does what the command asks for in this world, and answers the exit status; the command is that of these words. The
-/// threads are those of `rt`.
+/// Does what the command asks for in this world, tells on standard error what to do where it was refused, and answers the
+/// exit status; the command is that of these words. The threads are those of `rt`.
 fn perform<
-    R: Threads + Wait + Sync,
+    R: Threads + Wait + Sync + Eprint,
     S: Source + Drop + Send,
-    K: Sink + Drop,
+    K: Sink + Remembers + Drop,
     D: Disk + Drop + Send,
     C: Clock + Drop + Sync,
     F: Caller + Drop + Send,
@@ -60,9 +71,12 @@ fn perform<
     requires none { IsRefused (map string_bytes words.now) → map string_bytes command.now ≡ [] }
     requires callers { length world.callers.items ≡ MAX_LANES }
     requires trace { world.trace.items ≡ [] }
-    ensures { IsRefused (map string_bytes words.now) → result ≢ 70 → result ≡ 2 }
+    ensures done { result ≢ 70 → HasDone (devices C.Clock F.Caller D.Disk S.Source K.Sink L.Door L.Conn.Link)
+        (map string_bytes command.now) world result }
+    ensures refused { IsRefused (map string_bytes words.now) → result ≢ 70 → result ≡ 2 }
 {
     let ended = esm(rt, alloc, command, world);
+    advise(rt, words, ended.status, ended.world.out.tail());
     ended.status
 }
 

@@ -6,6 +6,7 @@ ghost use Rattle.esm.specs.Callers.{AreCallers};
 use crate::callers::callers;
 use crate::disks::{disks_in, fresh_disks, input_in};
 use crate::opening::Opening;
+use crate::tail_sink::TailSink;
 use crate::timeouts::read_timeout;
 use esm_folder::Disks;
 use esm_host::{FileDisk, FileSource, HostClock, StdinSource, StdoutSink, TcpDoor};
@@ -21,7 +22,7 @@ use std::rt::{Files, Runtime};
 /// The host's world over this input and these disks.
 pub type HostWorld<H, S, D> = World<
     S,
-    StdoutSink<H>,
+    TailSink<StdoutSink<H>>,
     D,
     HostClock<H>,
     ProgramCaller<H>,
@@ -43,7 +44,7 @@ fn world_of<H: Runtime + Net + Clone, S: Source + Drop, D: Disk + Drop>(
     let timeout = read_timeout(alloc, opening.command)?;
     Ok(World {
         input,
-        out: StdoutSink::new(host)?,
+        out: TailSink::new(alloc, StdoutSink::new(host)?),
         journal: disks.journal,
         spare: disks.spare,
         failures: disks.failures,

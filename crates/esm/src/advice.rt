@@ -1,0 +1,127 @@
+// What a person is told on standard error behind a refusal: what to do about it.
+use esm_cli::table::Verb;
+use memchr::memrchr;
+use std::io::Eprint;
+
+/// The exit status of bad words.
+const BAD_WORDS: u8 = 2;
+
+/// The command line, which README explains.
+const USAGE: [&str; 9] = [
+    "usage: esm FOLDER FUNCTIONS DOOR COMMAND [OPTIONS]",
+    "  FOLDER     - for memory and standard input, or a folder that init made ready, with its input.jsonl",
+    "  FUNCTIONS  ok, poison:TEXT, or the port of 127.0.0.1 at which the function is served",
+    "  DOOR       the port of serve; 0 where none is served",
+    "  COMMAND    run {--config TEXT | --mapping UUID} [--calls N] [--visibility N] [--timeout N] [--read-first]",
+    "             ddb --config TEXT [--calls N] [--timeout N]",
+    "             redrive --config TEXT --max-receives N [--calls N] [--visibility N] [--timeout N]",
+    "             replay --config TEXT [--calls N] [--timeout N]",
+    "             init, show, failures, compact, migrate, serve --requests N, gen --records N",
+];
+
+/// How the line begins that tells a refusal, and what to do about it. The first one that fits counts.
+const REMEDIES: [(&[u8], &str); 14] = [
+    (
+        b"calls spent",
+        "give the command again: what is left is called then",
+    ),
+    (
+        b"disk fault",
+        "see that the folder is there and can be written, and that no other process has its files",
+    ),
+    (
+        b"input fault",
+        "put an input.jsonl into the folder, or see why the input failed",
+    ),
+    (
+        b"not a journal journal.esm",
+        "make the folder ready with init; a journal of version 1 is brought to version 2 by migrate",
+    ),
+    (
+        b"not empty",
+        "the folder is ready; where an init was cut off, remove its four files and do it again",
+    ),
+    (
+        b"damaged",
+        "the file was cut off or changed: put back a copy of it",
+    ),
+    (
+        b"bad payload failures.esm",
+        "the line names nothing of this mapping: give the folder's own mapping",
+    ),
+    (
+        b"stream changed",
+        "a record came that is not the one which the journal knows: give the same input, or another folder",
+    ),
+    (
+        b"unknown mapping",
+        "the folder's registry has no such mapping: list those it has over serve",
+    ),
+    (
+        b"disabled mapping",
+        "enable the mapping over serve, or with \"Enabled\":true",
+    ),
+    (
+        b"bad parameter Body",
+        "the text behind --config is no JSON object: give the mapping itself, as \"$(cat FILE)\"",
+    ),
+    (
+        b"bad parameter",
+        "the mapping's field has a value that this command does not take: docs/FORMATS.md has each field's values",
+    ),
+    (
+        b"bad line",
+        "mend this line of the input, counted from 1, and give the command again: what stands before it is not called again",
+    ),
+    (
+        b"limit",
+        "the input has more than a run can hold: docs/FORMATS.md has the limits",
+    ),
+];
+
+/// What to do about what this line tells.
+fn remedy(line: &[u8]) -> Option<&'static str> {
+    for remedy in REMEDIES.iter() {
+        if line.starts_with(remedy.0) {
+            return Some(remedy.1);
+        }
+    }
+    None
+}
+
+/// The last line of a text whose lines all end, without its end.
+fn last_line(text: &[u8]) -> &[u8] {
+    let Some((_, text)) = text.split_last() else {
+        return text;
+    };
+    match memrchr(b'\n', text) {
+        Some(at) => &text[at + 1..],
+        None => text,
+    }
+}
+
+/// Tells which word was not understood, where that is known, and how a command is spelled.
+fn tell_usage<R: Eprint>(rt: &R, words: &[String]) {
+    if let Some(verb) = words.get(3) {
+        if Verb::named(verb.as_str()).is_none() {
+            let _ = rt.eprint("esm: there is no command ");
+            let _ = rt.eprintln(verb.as_str());
+        }
+    }
+    for line in USAGE.iter() {
+        let _ = rt.eprintln(*line);
+    }
+}
+
+/// Tells on standard error what to do about a refusal, which the end of the output tells. Nothing where there is nothing to be
+/// done; and where standard error fails the rest is not told.
+pub fn advise<R: Eprint>(rt: &R, words: &[String], status: u8, told: &[u8]) {
+    if status == BAD_WORDS {
+        tell_usage(rt, words);
+        return;
+    }
+    if let Some(remedy) = remedy(last_line(told)) {
+        let _ = rt.eprint("esm: ");
+        let _ = rt.eprintln(remedy);
+    }
+}
