@@ -32,6 +32,7 @@ pub trait Disk {
         ensures same { honest self.old ≡ true → content self.new ≡ content self.old }
         ensures images { honest self.old ≡ true → Within (image self.old) (image_since self.new (moment self.old)) }
         ensures time { honest self.old ≡ true → Elapses (moment self.old) (moment self.new) (image_since self.old) (image_since self.new) }
+        ensures moment_kept { honest self.old ≡ true → moment self.new ≡ moment self.old }
         ensures honesty { honest self.new ≡ honest self.old }
         ensures count { IsCount (faults self.old) (faults self.new) }
         ensures cause { OnErr result (Rose (faults self.old) (faults self.new)) };
@@ -43,6 +44,7 @@ pub trait Disk {
         ensures same { honest self.old ≡ true → content self.new ≡ content self.old }
         ensures images { honest self.old ≡ true → Within (image self.old) (image_since self.new (moment self.old)) }
         ensures time { honest self.old ≡ true → Elapses (moment self.old) (moment self.new) (image_since self.old) (image_since self.new) }
+        ensures moment_kept { honest self.old ≡ true → moment self.new ≡ moment self.old }
         ensures honesty { honest self.new ≡ honest self.old }
         ensures count { IsCount (faults self.old) (faults self.new) }
         ensures cause { OnErr result (Rose (faults self.old) (faults self.new)) };
