@@ -45,7 +45,7 @@ module _ {D : Type 0} (m : DiskMeaning D) (n : DestMeaning Nowhere) (old new : B
         };
         answer_is = d.answer_is;
         no_change = λ change. no_change old.core asked change d.so.legal;
-        sound = sound_all old new X (coming_by asked) messages es w d.entries_are d.so settled sound;
+        sound = sound_all old new X (coming_by asked) messages es w d.entries_are d.so settled trouble sound;
       }
 
   -- a disk failed in it
@@ -95,6 +95,7 @@ found_change {D} old new asked change sound up refuses is =
       stays = sound.stays;
       hand = refl;
       hand_follows = λ e some. absurd (cc);
+      hand_is_one = λ disk. absurd (cc);
     } in
     record { refuses = refuses; rest = is; sound = subst IsSound (sym is) kept }
 
@@ -112,5 +113,6 @@ carried_none {D} old new sound same =
       stays = sound.stays;
       hand = sound.hand;
       hand_follows = sound.hand_follows;
+      hand_is_one = sound.hand_is_one;
     } in
     record { same = same; sound = subst IsSound (sym same) kept }

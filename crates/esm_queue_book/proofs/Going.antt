@@ -12,6 +12,7 @@ use Rattle.esm_model.specs.declared.entry.Entry.{Entry}
 use Rattle.esm_queue_model.specs.QueueSetting.{QueueSetting, ExtendsMessages, over_messages}
 use Rattle.esm_queue_model.specs.QueueStep.{LegalQueue, SettledQueue}
 use Rattle.esm_queue_model.specs.QueueBooks.{messages_told, IsOfQueue}
+use Rattle.esm_journal_record.specs.EntryPayload.{queue_payload}
 use Rattle.esm_book.specs.declared.nowhere.Nowhere.{Nowhere}
 use Rattle.esm_book.specs.Decided.{written_of}
 use Rattle.esm_book.specs.Meanings.{CoreMeaning}
@@ -27,7 +28,7 @@ use Rattle.esm_queue_book.specs.Books.{BookState, payloads_in, OpensToFirst, Lea
 use Rattle.esm_queue_book.specs.Calls.{Added}
 use Rattle.esm_queue_book.specs.Keeping.{IsSound}
 use Rattle.esm_queue_book.proofs.Entries.{past_grows, told_grows, All-front, both_none}
-use Rattle.esm_queue_book.proofs.Hands.{first_in_hand, none_in_hand}
+use Rattle.esm_queue_book.proofs.Hands.{first_in_hand, none_in_hand, one_in_hand}
 use Rattle.esm_queue_book.proofs.Staying.{all_came, past_over, hand_over, stays_so}
 use Rattle.esm_queue_book.proofs.Deciding.{DecidedSo}
 
@@ -108,8 +109,8 @@ module _ {D : Type 0} (old new : BookState D) (X : List QueueEntry) (coming mess
       opened_so new.core old.core w.origin
       ∙ ap (over_messages old.core.setting) (messages_grow old new X messages es w is ∙ (ap (λ (ms : List Message). old.core.setting.messages ++ ms) so.brings ∙ sym so.all))
 
-  pub sound_all : Went old new X → X ≡ queue_entries messages es → DecidedSo old.core coming messages es → new.core.owed ≡ [] → IsSound old → IsSound new
-  sound_all w is so owed sound =
+  pub sound_all : Went old new X → X ≡ queue_entries messages es → DecidedSo old.core coming messages es → new.core.owed ≡ [] → new.trouble ≡ None → IsSound old → IsSound new
+  sound_all w is so owed none sound =
       let s = over_messages old.core.setting messages in
       let goes = extends_all (old.core.setting.messages ++ coming) messages so.all in
       let setting : s ≡ new.core.setting = sym (setting_all w is so) in
@@ -125,6 +126,7 @@ module _ {D : Type 0} (old new : BookState D) (X : List QueueEntry) (coming mess
         stays = ap (λ (ms : List Message). payloads_in ms (reverse new.core.past)) all;
         hand = ap (λ (ms : List Message). payloads_in ms (in_hand new.trouble new.core.owed)) all;
         hand_follows = λ e some. absurd (none_in_hand new.trouble new.core.owed e owed some);
+        hand_is_one = λ disk. absurd (cc (sym none ∙ disk));
       }
 
 -- a part was added
@@ -209,4 +211,5 @@ module _ {D : Type 0} (old new : BookState D) (X : List QueueEntry) (coming mess
               ends = refl;
               follows = next_some front first.0 es e w is (ap (λ (xs : List Entry). front ++ xs) (sym first.1) ∙ split) so came;
             };
+        hand_is_one = one_in_hand (queue_payload new.core.setting.messages) rest new.trouble (subst (λ (ms : List Message). 0 < length (payloads_in ms (take 1 rest))) back writing);
       }

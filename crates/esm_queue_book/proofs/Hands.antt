@@ -1,6 +1,7 @@
 -- The entry in hand: the first owed one, where a disk of the journal failed.
-use Rattle.std.proofs.Common.{◌≡◌, Bool, true, List, [], ◌∷◌, ap, ap₂, Option, Some, None}
-use Rattle.std.specs.Prelude.{◌&&◌}
+use Rattle.std.proofs.Common.{◌≡◌, ℕ, ◌<◌, Bool, true, List, [], ◌∷◌, length, take, refl, ap, ap₂, arith, Option, Some, None}
+use Rattle.std.specs.Prelude.{◌&&◌, filter_map}
+use Rattle.std.specs.List.{cons_option}
 use Rattle.esm_model.specs.declared.book.Trouble.{Trouble}
 use Rattle.esm_model.specs.declared.book.Trouble.TheVariants.{Disk, Dest, Changed}
 use Rattle.esm_model.specs.declared.entry.Entry.{Entry}
@@ -32,3 +33,13 @@ follows_on may h e x ends f = record {
   ends = ap₂ (λ (a b : Bool). a && b) ends f.ends;
   follows = f.follows;
 }
+
+-- where something is written of the first owed entry, that one is in hand, and no other
+pub one_in_hand : (text : Entry → Option (List ℕ)) (owed : List Entry) (why : Option Trouble) → 0 < length (filter_map text (take 1 owed)) → why ≡ Some Disk
+    → (e : Entry) × (written : List ℕ) × (in_hand why owed ≡ e ∷ []) × (text e ≡ Some written)
+one_in_hand text [] why writing is = absurd (omega (arith, writing))
+one_in_hand text (e ∷ owed) why writing is = one (text e) refl writing
+  where
+    one : (o : Option (List ℕ)) → text e ≡ o → 0 < length (cons_option o []) → (x : Entry) × (written : List ℕ) × (in_hand why (e ∷ owed) ≡ x ∷ []) × (text x ≡ Some written)
+    one None has some = absurd (omega (arith, some))
+    one (Some written) has some = (e, written, ap (λ (t : Option Trouble). in_hand t (e ∷ owed)) is, has)

@@ -14,6 +14,7 @@ use Rattle.esm_model.specs.Step.{IsLater}
 use Rattle.esm_queue_model.specs.QueueSetting.{QueueSetting, over_messages}
 use Rattle.esm_queue_model.specs.QueueStep.{LegalQueue, SettledQueue}
 use Rattle.esm_queue_model.specs.QueueBooks.{messages_told, IsOfQueue}
+use Rattle.esm_journal_record.specs.EntryPayload.{queue_payload}
 use Rattle.esm_book.specs.Decided.{written_of}
 use Rattle.esm_book.specs.Hand.{is_end}
 use Rattle.esm_book.specs.State.{in_hand}
@@ -88,6 +89,9 @@ module _ {D : Type 0} (old new : BookState D) (e : Entry) (X : List QueueEntry) 
             subst (λ (t : QueueSetting). MayFollowFront t new.core.past x) setting
             (subst (λ (h : List Entry). MayFollowFront old.core.setting h x) past
             (follows_on (λ before y. LegalQueue old.core.setting (y ∷ before)) old.core.past e x ends (sound.hand_follows x was)));
+        hand_is_one = λ disk.
+            let one = sound.hand_is_one (sym same ∙ disk) in
+            (one.0, one.1, ap₂ (λ (t : Option Trouble) (es : List Entry). in_hand t es) same added.owed ∙ one.2, ap (λ (ms : List Message). queue_payload ms one.0) (sym came) ∙ one.3);
       }
 
 one_of_queue : {D : Type 0} (old : BookState D) (e : Entry) → IsOfQueue old.core.setting.config.kind (record { entry = e; records = []; messages = [] }) → All (IsOfQueue old.core.setting.config.kind) (record { entry = e; records = []; messages = [] } ∷ [])

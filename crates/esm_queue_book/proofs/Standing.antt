@@ -1,5 +1,5 @@
 -- What is true of every book, in the words of queues.
-use Rattle.std.proofs.Common.{◌≡◌, ℕ, List, [], ◌∷◌, ◌++◌, map, reverse, refl, sym, ap, ap₂, ◌∙◌, subst}
+use Rattle.std.proofs.Common.{◌≡◌, ℕ, List, [], ◌∷◌, ◌++◌, map, reverse, refl, sym, ap, ap₂, ◌∙◌, subst, None}
 use Rattle.std.specs.Prelude.{slice_get}
 use Rattle.std.specs.List.{All}
 use Rattle.std.proofs.lemmas.List.{map-append}
@@ -29,8 +29,8 @@ use Rattle.esm_queue_book.proofs.Staying.{oldest_first, payloads_of, hand_so}
 use Rattle.esm_queue_book.proofs.Going.{queue_meaning}
 
 -- a book in which no message came
-pub sound_new : {D : Type 0} (b : BookState D) (config : Config) (calls visibility : ℕ) (deletions : List FoundDeletion) → b.core ≡ new_view (new_setting config calls visibility deletions) → IsSound b
-sound_new {D} b config calls visibility deletions is =
+pub sound_new : {D : Type 0} (b : BookState D) (config : Config) (calls visibility : ℕ) (deletions : List FoundDeletion) → b.core ≡ new_view (new_setting config calls visibility deletions) → b.trouble ≡ None → IsSound b
+sound_new {D} b config calls visibility deletions is none =
     let fresh : BookState D = record b { core = new_view (new_setting config calls visibility deletions) } in
     let sound : IsSound fresh = record {
       messages = refl;
@@ -38,10 +38,11 @@ sound_new {D} b config calls visibility deletions is =
       legal = tt;
       settled = λ up. record { sorted = refl; paid = λ lane. refl };
       none_owed = λ up. refl;
-      none_coming = λ none. refl;
+      none_coming = λ settled. refl;
       stays = refl;
       hand = refl;
       hand_follows = λ e some. absurd (none_in_hand b.trouble [] e refl some);
+      hand_is_one = λ disk. absurd (cc (sym none ∙ disk));
     } in
     subst (λ (v : CoreView). IsSound (record b { core = v })) (sym is) sound
 

@@ -1,5 +1,5 @@
 -- What is true of every queue's book, whoever made its calls. This product's own.
-use Rattle.std.specs.Prelude.{◌≡◌, ◌++◌, List, [], ◌∷◌, Option, Some, None, false, reverse}
+use Rattle.std.specs.Prelude.{◌≡◌, ◌++◌, ℕ, List, [], ◌∷◌, Option, Some, None, false, reverse}
 use Rattle.std.specs.List.{All}
 use Rattle.esm_io.specs.Meanings.{DiskMeaning}
 use Rattle.esm_model.specs.declared.book.Trouble.{Trouble}
@@ -9,6 +9,7 @@ use Rattle.esm_model.specs.declared.setup.Setup.{Setup}
 use Rattle.esm_queue_model.specs.QueueBooks.{messages_told, IsOfQueue}
 use Rattle.esm_queue_model.specs.QueueSetting.{QueueSetting}
 use Rattle.esm_queue_model.specs.QueueStep.{LegalQueue, SettledQueue}
+use Rattle.esm_journal_record.specs.EntryPayload.{queue_payload}
 use Rattle.esm_book.specs.Hand.{FollowsFront}
 use Rattle.esm_book.specs.State.{is_disk, in_hand}
 use Rattle.esm_queue_core.specs.declared.decisions.Opened.{Opened}
@@ -38,6 +39,8 @@ pub record IsSound {D : Type 0} (b : BookState D) : Type 0 where
   pub hand : payloads_in (all_messages b.core) (in_hand b.trouble b.core.owed) ≡ payloads_in b.core.setting.messages (in_hand b.trouble b.core.owed)
   -- which may follow the history, or a front of it after which calls and the input ended alone
   pub hand_follows : (e : Entry) → in_hand b.trouble b.core.owed ≡ e ∷ [] → MayFollowFront b.core.setting b.core.past e
+  -- where a disk failed exactly one entry was being written, which has a payload
+  pub hand_is_one : b.trouble ≡ Some Disk → (e : Entry) × (payload : List ℕ) × (in_hand b.trouble b.core.owed ≡ e ∷ []) × (queue_payload b.core.setting.messages e ≡ Some payload)
 
 -- the setup is that of the book, whatever it says of the journal
 pub record IsSetupOf {D : Type 0} (setup : Setup) (b : BookState D) : Type 0 where

@@ -1,6 +1,7 @@
 -- How a call of the book of a redrive ends.
 use Rattle.std.proofs.Common.{◌≡◌, ℕ, ◌<◌, ◌≤◌, Bool, true, false, List, [], ◌∷◌, ◌++◌, length, map, take, reverse, refl, sym, ap, ap₂, ◌∙◌, subst, arith, append_assoc, append-nil, Option, Some, None}
 use Rattle.std.specs.Prelude.{◌&&◌}
+use Rattle.std.specs.List.{cons_option}
 use Rattle.std.proofs.lemmas.List.{map-append, reverse-append}
 use Rattle.std.proofs.lemmas.List.Elements.{filter_map-append}
 use Rattle.esm_io.specs.Faults.{Rose}
@@ -11,9 +12,11 @@ use Rattle.esm_model.specs.declared.book.Job.{Job}
 use Rattle.esm_model.specs.declared.book.Trouble.{Trouble}
 use Rattle.esm_model.specs.declared.book.Trouble.TheVariants.{Disk, Dest, Changed}
 use Rattle.esm_model.specs.declared.book.Change.{Change}
+use Rattle.esm_model.specs.declared.item.Message.{Message}
 use Rattle.esm_model.specs.declared.entry.Reply.{Reply}
 use Rattle.esm_model.specs.declared.entry.Entry.{Entry}
 use Rattle.esm_model.specs.declared.entry.Entry.TheVariants.{Ended, Shut}
+use Rattle.esm_model.specs.Books.{entry_line}
 use Rattle.esm_model.specs.Entries.{is_shut, last_moment}
 use Rattle.esm_model.specs.Step.{IsLater}
 use Rattle.esm_book.specs.Decided.{written_of}
@@ -71,6 +74,34 @@ none_in_delivery why owed e none some =
     let first = first_in_delivery why owed e some in
     let never : e ∷ first.0 ≡ [] = sym first.1 ∙ none in
     absurd (cc)
+
+-- the first owed entry, where something is written of it
+first_has : (text : RedriveEntry → Option (List ℕ)) (messages : List Message) (owed : List Entry) → 0 < length (written_of text (take 1 (redrive_entries messages owed)))
+    → (e : Entry) × (written : List ℕ) × (take 1 owed ≡ e ∷ []) × (text (redrive_entry messages e) ≡ Some written)
+first_has text messages [] some = absurd (omega (arith, some))
+first_has text messages (e ∷ owed) some = one (text (redrive_entry messages e)) refl some
+  where
+    one : (o : Option (List ℕ)) → text (redrive_entry messages e) ≡ o → 0 < length (cons_option o []) → (x : Entry) × (written : List ℕ) × (e ∷ [] ≡ x ∷ []) × (text (redrive_entry messages x) ≡ Some written)
+    one None is none = absurd (omega (arith, none))
+    one (Some written) is longer = (e, written, refl, is)
+
+-- was being written where a disk failed
+one_in_hand : (why : Option Trouble) (trouble : Trouble) (messages : List Message) (owed : List Entry) → why ≡ Some trouble → WasWriting trouble (redrive_entries messages owed)
+    → why ≡ Some Disk → (e : Entry) × (payload : List ℕ) × (in_hand why owed ≡ e ∷ []) × (payload_in (redrive_entry messages e) ≡ Some payload)
+one_in_hand why Disk messages owed is was disk =
+    let first = first_has payload_in messages owed was in
+    (first.0, first.1, ap (λ (t : Option Trouble). in_hand t owed) disk ∙ first.2, first.3)
+one_in_hand why Dest messages owed is was disk = absurd (cc (sym is ∙ disk))
+one_in_hand why (Changed change) messages owed is was disk = absurd was
+
+-- and its line was being delivered where the dead-letter file failed
+one_tried : (why : Option Trouble) (trouble : Trouble) (messages : List Message) (owed : List Entry) → why ≡ Some trouble → WasWriting trouble (redrive_entries messages owed)
+    → why ≡ Some Dest → (e : Entry) × (line : List ℕ) × (in_delivery why owed ≡ e ∷ []) × (entry_line e ≡ Some line)
+one_tried why Disk messages owed is was dest = absurd (cc (sym is ∙ dest))
+one_tried why Dest messages owed is was dest =
+    let first = first_has line_in messages owed was in
+    (first.0, first.1, ap (λ (t : Option Trouble). in_delivery t owed) dest ∙ first.2, first.3)
+one_tried why (Changed change) messages owed is was dest = absurd was
 
 -- of a change nothing was being written
 was_no_change : (rest : List RedriveEntry) (why : Trouble) (change : Change) → Some why ≡ Some (Changed change) → WasWriting why rest → ⊥
@@ -152,6 +183,8 @@ module _ {D T : Type 0} (m : DiskMeaning D) (n : DestMeaning T) (old new : BookS
           changed = λ change so. absurd (cc (sym so ∙ (same ∙ none_before)));
           hand = λ e some. absurd (none_in_hand new.trouble new.core.owed e owed some);
           tried = λ e some. absurd (none_in_delivery new.trouble new.core.owed e owed some);
+          hand_is_one = λ disk. absurd (cc (sym (same ∙ none_before) ∙ disk));
+          tried_is_one = λ dest. absurd (cc (sym (same ∙ none_before) ∙ dest));
           none_owed = λ up. owed;
           none_coming = ap comes_first owed;
         };
@@ -185,6 +218,10 @@ module _ {D T : Type 0} (m : DiskMeaning D) (n : DestMeaning T) (old new : BookS
           changed = λ change so. absurd (was_no_change (redrive_entries ms rest) trouble change (sym is ∙ so) writing);
           hand = λ e some. (let owed = first_in_hand new.trouble rest e some in first_follows front rest owed.0 e fronts split first owed.1);
           tried = λ e some. (let owed = first_in_delivery new.trouble rest e some in first_follows front rest owed.0 e fronts split first owed.1);
+          hand_is_one = λ disk.
+              let one = one_in_hand new.trouble trouble ms rest is writing disk in
+              (one.0, one.1, one.2, ap (λ (t : RedriveSetting). payload_in (redrive_entry t.queue.messages one.0)) (setting_some old.core new.core X went asked front rest fronts split first) ∙ one.3);
+          tried_is_one = one_tried new.trouble trouble ms rest is writing;
           none_owed = λ up. absurd (cc (sym is ∙ up));
           none_coming = first;
         },
@@ -238,7 +275,7 @@ all_delivered m n old new asked is ended =
 pub carried_none : {D T : Type 0} (n : DestMeaning T) (old new : BookState D T) → IsSound old → IsSame n old new → CarriedNone n old new
 carried_none {D} {T} n old new sound same =
     let roomy : BookState D T = record old { pair = record old.pair { room = new.pair.room }; dest = new.dest } in
-    let kept : IsSound roomy = record { legal = sound.legal; settled = sound.settled; changed = sound.changed; hand = sound.hand; tried = sound.tried; none_owed = sound.none_owed; none_coming = sound.none_coming } in
+    let kept : IsSound roomy = record { legal = sound.legal; settled = sound.settled; changed = sound.changed; hand = sound.hand; tried = sound.tried; hand_is_one = sound.hand_is_one; tried_is_one = sound.tried_is_one; none_owed = sound.none_owed; none_coming = sound.none_coming } in
     record { same = same; sound = subst IsSound (sym same.rest) kept }
 
 -- it brought a change
@@ -258,6 +295,8 @@ found_change {D} {T} old new asked change sound up may refuses is =
       changed = λ other so. sorted_before old asked change sound up may refuses;
       hand = λ e some. absurd (cc);
       tried = λ e some. absurd (cc);
+      hand_is_one = λ disk. absurd (cc);
+      tried_is_one = λ dest. absurd (cc);
       none_owed = λ none. absurd (cc);
       none_coming = sound.none_coming;
     } in
@@ -299,6 +338,12 @@ module _ {D T : Type 0} (old new : BookState D T) (e : Entry) (X : List RedriveE
             (subst (λ (h : List Entry). FollowsFront old.core.setting h x) (sym added.past) (follows_on old.core.setting old.core.past e x ends (sound.hand x (sym (ap₂ (λ (why : Option Trouble) (es : List Entry). in_hand why es) same added.owed) ∙ some))));
         tried = λ x some. subst (λ (t : RedriveSetting). FollowsFront t new.core.past x) (sym added.setting)
             (subst (λ (h : List Entry). FollowsFront old.core.setting h x) (sym added.past) (follows_on old.core.setting old.core.past e x ends (sound.tried x (sym (ap₂ (λ (why : Option Trouble) (es : List Entry). in_delivery why es) same added.owed) ∙ some))));
+        hand_is_one = λ disk.
+            let one = sound.hand_is_one (sym same ∙ disk) in
+            (one.0, one.1, ap₂ (λ (why : Option Trouble) (es : List Entry). in_hand why es) same added.owed ∙ one.2, ap (λ (t : RedriveSetting). payload_in (redrive_entry t.queue.messages one.0)) added.setting ∙ one.3);
+        tried_is_one = λ dest.
+            let one = sound.tried_is_one (sym same ∙ dest) in
+            (one.0, one.1, ap₂ (λ (why : Option Trouble) (es : List Entry). in_delivery why es) same added.owed ∙ one.2, one.3);
         none_owed = λ up. added.owed ∙ sound.none_owed (sym same ∙ up);
         none_coming = ap comes_first added.owed ∙ sound.none_coming;
       }

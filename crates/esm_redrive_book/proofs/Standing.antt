@@ -1,5 +1,5 @@
 -- A book in which no message came; the call that runs after a batcher's; and a list that is taken, which brings no change.
-use Rattle.std.proofs.Common.{◌≡◌, ℕ, ◌+◌, true, List, [], ◌∷◌, ◌++◌, length, reverse, refl, sym, ap, ◌∙◌, subst}
+use Rattle.std.proofs.Common.{◌≡◌, ℕ, ◌+◌, true, List, [], ◌∷◌, ◌++◌, length, reverse, refl, sym, ap, ◌∙◌, subst, None}
 use Rattle.std.proofs.lemmas.Option.{slice_get_within}
 use Rattle.esm_io.specs.Meanings.{DiskMeaning, DestMeaning}
 use Rattle.esm_model.specs.declared.item.Message.{Message}
@@ -35,13 +35,15 @@ use Rattle.esm_redrive_book.specs.Keeping.{IsSorted, IsSound}
 use Rattle.esm_redrive_book.proofs.Ending.{none_in_hand, none_in_delivery}
 
 -- a book in which no message came
-pub sound_new : {D T : Type 0} (b : BookState D T) → b.core.past ≡ [] → b.core.owed ≡ [] → IsSound b
-sound_new {D} {T} b none settled = record {
+pub sound_new : {D T : Type 0} (b : BookState D T) → b.core.past ≡ [] → b.core.owed ≡ [] → b.trouble ≡ None → IsSound b
+sound_new {D} {T} b none settled trouble = record {
   legal = subst (LegalRedrive b.core.setting) (sym none) tt;
   settled = λ up. subst (SettledRedrive b.core.setting) (sym none) (record { recorded = refl; sorted = refl; paid = refl });
   changed = λ change so. subst (IsSorted b.core.setting) (sym none) (record { going = refl; recorded = refl; sorted = refl });
   hand = λ e some. absurd (none_in_hand b.trouble b.core.owed e settled some);
   tried = λ e some. absurd (none_in_delivery b.trouble b.core.owed e settled some);
+  hand_is_one = λ disk. absurd (cc (sym trouble ∙ disk));
+  tried_is_one = λ dest. absurd (cc (sym trouble ∙ dest));
   none_owed = λ up. settled;
   none_coming = ap comes_first settled;
 }

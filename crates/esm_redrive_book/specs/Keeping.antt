@@ -1,5 +1,5 @@
 -- What is true of every book of a redrive, whoever made its calls. This product's own.
-use Rattle.std.specs.Prelude.{◌≡◌, ◌++◌, false, List, [], ◌∷◌, Option, Some, None, reverse}
+use Rattle.std.specs.Prelude.{◌≡◌, ◌++◌, ℕ, false, List, [], ◌∷◌, Option, Some, None, reverse}
 use Rattle.esm_model.specs.declared.entry.Entry.{Entry}
 use Rattle.esm_model.specs.declared.item.Message.{Message}
 use Rattle.esm_model.specs.declared.book.Change.{Change}
@@ -7,6 +7,7 @@ use Rattle.esm_model.specs.declared.book.Trouble.{Trouble}
 use Rattle.esm_model.specs.declared.book.Trouble.TheVariants.{Disk, Dest, Changed}
 use Rattle.esm_book.specs.Hand as book
 use Rattle.esm_book.specs.State.{in_hand, in_delivery}
+use Rattle.esm_model.specs.Books.{entry_line}
 use Rattle.esm_model.specs.Entries.{is_shut}
 use Rattle.esm_queue_model.specs.QueueSetting.{ExtendsMessages}
 use Rattle.esm_queue_model.specs.QueueStep.{unsorted_messages}
@@ -16,8 +17,8 @@ use Rattle.esm_redrive_model.specs.Due.{known}
 use Rattle.esm_redrive_core.specs.declared.decisions.RedriveEntry.{RedriveEntry}
 use Rattle.esm_redrive_core.specs.declared.decisions.RedriveOpened.{RedriveOpened}
 use Rattle.esm_redrive_core.specs.Ahead.{comes_first}
-use Rattle.esm_redrive_core.specs.Told.{history_of, owed_of, IsChange}
-use Rattle.esm_redrive_book.specs.Books.{BookState}
+use Rattle.esm_redrive_core.specs.Told.{history_of, owed_of, redrive_entry, IsChange}
+use Rattle.esm_redrive_book.specs.Books.{BookState, payload_in}
 
 -- the history with the entry is legal over every list of messages that goes on from those that came
 abbrev pub MayFollow : RedriveSetting → List Entry → Entry → Type 0
@@ -36,13 +37,16 @@ pub record IsSorted (s : RedriveSetting) (h : List Entry) : Type 0 where
 -- The history is legal over the messages that came, and no others are coming. Where the book is not down nothing is owed, and
 -- nothing is called for; nor is a message to be recorded or filtered where one came with another id than was kept, which it
 -- does before the end of the input. The entry that was being written when a disk failed may follow a front of the history, and
--- so may the one whose line was being delivered when the dead-letter file failed.
+-- so may the one whose line was being delivered when the dead-letter file failed. Where a disk failed exactly one entry was being
+-- written, which has a payload; and where the dead-letter file failed the line of exactly one was being delivered.
 pub record IsSound {D T : Type 0} (b : BookState D T) : Type 0 where
   pub legal : LegalRedrive b.core.setting b.core.past
   pub settled : b.trouble ≡ None → SettledRedrive b.core.setting b.core.past
   pub changed : (change : Change) → b.trouble ≡ Some (Changed change) → IsSorted b.core.setting b.core.past
   pub hand : (e : Entry) → in_hand b.trouble b.core.owed ≡ e ∷ [] → FollowsFront b.core.setting b.core.past e
   pub tried : (e : Entry) → in_delivery b.trouble b.core.owed ≡ e ∷ [] → FollowsFront b.core.setting b.core.past e
+  pub hand_is_one : b.trouble ≡ Some Disk → (e : Entry) × (payload : List ℕ) × (in_hand b.trouble b.core.owed ≡ e ∷ []) × (payload_in (redrive_entry b.core.setting.queue.messages e) ≡ Some payload)
+  pub tried_is_one : b.trouble ≡ Some Dest → (e : Entry) × (line : List ℕ) × (in_delivery b.trouble b.core.owed ≡ e ∷ []) × (entry_line e ≡ Some line)
   pub none_owed : b.trouble ≡ None → b.core.owed ≡ []
   pub none_coming : comes_first b.core.owed ≡ false
 

@@ -32,7 +32,7 @@ use Rattle.esm_redrive_model.specs.RedriveStep.{SettledRedrive}
 use Rattle.esm_runner.specs.Files.{FilesState}
 use Rattle.esm_runner.specs.Given.{AreGiven}
 use Rattle.esm_runner.specs.Headline.{PairStopped}
-use Rattle.esm_runner.proofs.Headlines.{in_hand_few, is_in_hand, not_disk}
+use Rattle.esm_runner.proofs.Headlines.{hand_has, in_hand_few, is_in_hand, not_disk}
 use Rattle.esm_runner.proofs.Stopped.{HasGoneDown, filter_map_few, pair_stopped}
 use Rattle.esm_redrive_run.specs.Book.{Book}
 use Rattle.esm_redrive_run.specs.Headline.{CrashKept, DeadLettersKept, Disks, Headline, IsTried, JournalKept, JournalStopped, LettersCrashKept, LinesKept, LinesStandFirst, LinesStopped, OpensToFrontOf, OpensToLettersOf, OpensWithLetters, dead_letters}
@@ -52,13 +52,12 @@ one_rose : {D : Type 0} (m : DiskMeaning D) (swapped : Bool) (used spare now oth
 one_rose m false used spare now other rose = inl rose
 one_rose m true used spare now other rose = inr rose
 
--- an entry is tried where the file failed, and then one at most
-is_tried_so : (why : Option Trouble) (owed : List Entry) → IsTried why (in_delivery why owed)
-is_tried_so None owed = refl
-is_tried_so (Some Disk) owed = refl
-is_tried_so (Some Dest) [] = omega arith
-is_tried_so (Some Dest) (e ∷ owed) = omega arith
-is_tried_so (Some (Changed change)) owed = refl
+-- an entry is tried where the file failed, and then exactly one
+is_tried_so : (why : Option Trouble) (owed : List Entry) → (why ≡ Some Dest → (e : Entry) × (line : List ℕ) × (in_delivery why owed ≡ e ∷ []) × (entry_line e ≡ Some line)) → IsTried why (in_delivery why owed)
+is_tried_so None owed one = refl
+is_tried_so (Some Disk) owed one = refl
+is_tried_so (Some Dest) owed one = one refl
+is_tried_so (Some (Changed change)) owed one = refl
 
 -- the devices are those of the book
 pub record AreOf {D : Type 0} (b : Book D) (new : Disks D) : Type 0 where
@@ -307,11 +306,12 @@ module _ {D : Type 0} (m : DiskMeaning D) (f : FilesState D) (b : Book D) (left 
           read_first = later;
           journal_kept = journal_kept;
           journal_stopped = journal_stopped;
-          in_hand = is_in_hand b.trouble b.core.owed;
+          in_hand = is_in_hand (queue_payload own.queue.messages) b.trouble b.core.owed left.sound.hand_is_one;
+          hand_has_payload = hand_has (queue_payload own.queue.messages) b.trouble b.core.owed left.sound.hand_is_one;
           hand_follows = λ e some. follows_ids ids same laws e (left.sound.hand e some);
           crash = crash_kept;
           dead_letters_kept = letters_kept b.trouble refl;
-          is_tried = is_tried_so b.trouble b.core.owed;
+          is_tried = is_tried_so b.trouble b.core.owed left.sound.tried_is_one;
           tried_follows = λ e some. follows_ids ids same laws e (left.sound.tried e some);
           hand_moves = λ e line some has. further_moves s b.core.past e line (laws.due s) different (follows_ids ids same laws e (left.sound.hand e some)) has;
           tried_moves = λ e line some has. further_moves s b.core.past e line (laws.due s) different (follows_ids ids same laws e (left.sound.tried e some)) has;

@@ -1,5 +1,5 @@
 -- What a run of a redrive leaves of its history and of its disks. This product's own.
-use Rattle.std.specs.Prelude.{◌≡◌, ◌≤◌, ◌++◌, ℕ, Bool, true, false, List, [], ◌∷◌, length, Option, Some, reverse}
+use Rattle.std.specs.Prelude.{◌≡◌, ◌++◌, ℕ, Bool, true, false, List, [], ◌∷◌, length, Option, Some, reverse}
 use Rattle.std.specs.List.{All, filter_map}
 use Rattle.esm_io.specs.Images.{Only}
 use Rattle.esm_io.specs.Meanings.{DiskMeaning}
@@ -38,6 +38,7 @@ use Rattle.esm_runner.specs.Files.{FilesState}
 use Rattle.esm_runner.specs.Given.{AreGiven}
 use Rattle.esm_redrive_run.specs.Earned.{DeletedAllEarned, DeletedOnlyEarned}
 use Rattle.esm_runner.specs.Headline.{IsInHand, PairStopped}
+use Rattle.esm_runner.specs.QueueHeadline.{HandHasPayload}
 
 -- the disks as a run left them: the journal with its spare, and the dead-letter file
 pub record Disks (D : Type 0) : Type 0 where
@@ -146,9 +147,9 @@ LinesStandFirst m f s h hand new =
     m.since new.journal (m.moment f.journal) one → m.since new.spare (m.moment f.spare) other → m.image new.dead bytes →
     OpensWithLetters s.queue.messages f.pair.epoch f.pair.payloads f.dest.payloads (reverse h ++ hand) one other bytes
 
--- the entries whose line was being delivered when the dead-letter file failed: one at most, and only there
+-- the entries whose line was being delivered when the dead-letter file failed: exactly one, which has a line, and only there
 abbrev pub IsTried : Option Trouble → List Entry → Type 0
-IsTried (Some Dest) tried = length tried ≤ 1
+IsTried (Some Dest) tried = (e : Entry) × (line : List ℕ) × (tried ≡ e ∷ []) × (entry_line e ≡ Some line)
 IsTried _ tried = tried ≡ []
 
 -- an entry in hand, or a tried one, follows a front of the history, and its line is that of the first message that was due there;
@@ -182,8 +183,9 @@ pub record Headline {D : Type 0} (m : DiskMeaning D) (gave : ℕ → Bool) (f : 
   pub journal_kept : (trouble ≡ Some Disk → ⊥) → JournalKept m f s h new
   -- where a disk of it failed, one further whole payload may follow, that of the entry in hand
   pub journal_stopped : trouble ≡ Some Disk → JournalStopped m f s h hand new
-  -- an entry is in hand only where a disk of the journal failed, and then one at most
+  -- an entry is in hand exactly where a disk of the journal failed, and then one, which has a payload
   pub in_hand : IsInHand trouble hand
+  pub hand_has_payload : HandHasPayload s.queue hand
   -- it may follow a front of the history, after which calls and the input ended alone; where it has a line it moves the first
   -- message that was due, which waits and had none
   pub hand_follows : (e : Entry) → hand ≡ e ∷ [] → FollowsFront s h e
@@ -193,8 +195,9 @@ pub record Headline {D : Type 0} (m : DiskMeaning D) (gave : ℕ → Bool) (f : 
   -- the dead-letter file has the old lines followed by those of the trace; where a device failed, one further line may follow,
   -- that of the entry in hand or of the tried one
   pub dead_letters_kept : DeadLettersKept m f trouble h hand tried new
-  -- an entry is tried only where the dead-letter file failed, and then one at most: it may follow a front of the history, after
-  -- which calls and the input ended alone, and its line is that of the first message that was due, which waits and had none
+  -- an entry is tried exactly where the dead-letter file failed, and then one, which has a line: it may follow a front of the
+  -- history, after which calls and the input ended alone, and its line is that of the first message that was due, which waits and
+  -- had none
   pub is_tried : IsTried trouble tried
   pub tried_follows : (e : Entry) → tried ≡ e ∷ [] → FollowsFront s h e
   pub tried_moves : (e : Entry) (line : List ℕ) → tried ≡ e ∷ [] → entry_line e ≡ Some line → IsTriedMove s h e line

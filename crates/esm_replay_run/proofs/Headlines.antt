@@ -10,8 +10,13 @@ use Rattle.esm_journal.specs.Reads.{IsOnlyRead}
 use Rattle.esm_model.specs.declared.book.Trouble.{Trouble}
 use Rattle.esm_model.specs.declared.book.Trouble.TheVariants.{Disk, Dest, Changed}
 use Rattle.esm_model.specs.declared.entry.Entry.{Entry}
+use Rattle.esm_model.specs.declared.entry.Entry.TheVariants.{Replayed}
+use Rattle.esm_model.specs.Entries.{last_moment}
+use Rattle.esm_model.specs.Setting.{sequences_at}
 use Rattle.esm_book.specs.State.{in_hand, is_disk}
+use Rattle.esm_journal_record.specs.declared.said.Said.TheVariants as says
 use Rattle.esm_journal_record.specs.EntryPayload.{entry_payload, AllMayBeSaid}
+use Rattle.esm_journal_record.specs.Payload.{payload_of}
 use Rattle.esm_journal_state.specs.Meaning.{replayed_said}
 use Rattle.esm_journal_state.specs.SaidLists.{SaidLists, is_replay_told}
 use Rattle.esm_folder.specs.Upkeep.{AreHonest, OneRose, PairHolds}
@@ -25,7 +30,7 @@ use Rattle.esm_replay_book.specs.Keeping.{entries_left, IsCause, IsSound, IsUnca
 use Rattle.esm_replay_book.specs.Serving.{AreGiven}
 use Rattle.esm_runner.specs.Files.{FilesState}
 use Rattle.esm_runner.specs.Headline.{PairStopped}
-use Rattle.esm_runner.proofs.Headlines.{in_hand_few, is_in_hand, not_disk}
+use Rattle.esm_runner.proofs.Headlines.{IsOneInHand, in_hand_few, is_in_hand, not_disk}
 use Rattle.esm_runner.proofs.Stopped.{HasGoneDown, filter_map_few, pair_stopped}
 use Rattle.esm_replay_run.specs.Ended.{JournalRose}
 use Rattle.esm_replay_run.specs.Headline.{Disks, CrashKept, Headline, JournalKept, JournalStopped, said_before}
@@ -169,6 +174,14 @@ hand_owed b owes disk = record {
   is = ap (λ (why : Option Trouble). in_hand why b.core.owed) disk ∙ (ap (λ (es : List Entry). take 1 es) owes.is);
 }
 
+-- exactly one was being written then, and each `Replayed` has a payload
+one_in_hand : {D : Type 0} (b : BookState D) → (b.trouble ≡ Some Disk → OwesReplay (setting_of b.core) b.core.past b.core.owed) → IsOneInHand (entry_payload (setting_of b.core).base) b.trouble b.core.owed
+one_in_hand b owes disk =
+    let s = setting_of b.core in
+    let owed = owed_replay s b.core.past in
+    let m = last_moment b.core.past in
+    (Replayed owed.shard owed.places m, payload_of (says.Replayed owed.shard m owed.places (sequences_at s.base owed.shard owed.places)), (hand_owed b (owes disk) disk).is, refl)
+
 -- all of it
 pub headline : {D : Type 0} (m : DiskMeaning D) (gave : ℕ → Bool) (f : FilesState D) (b : BookState D) (new : Disks D) → AreLaws → IsLeft m f b → AreOf f b new → b.core.opened.said ≡ f.said → AreGiven gave b.core.past
     → Headline m gave f (setting_of b.core) b.core.past b.trouble (in_hand b.trouble b.core.owed) new
@@ -186,7 +199,7 @@ headline {D} m gave f b new laws left of said given =
       may_be_said = may;
       journal_says = says_after f s b.core.past laws left.run (front_said s (reverse b.core.owed) b.core.past left.may_be_said) found;
       hand_says = says_after f s (in_hand b.trouble b.core.owed ++ b.core.past) laws hand may found;
-      in_hand = is_in_hand b.trouble b.core.owed;
+      in_hand = is_in_hand (entry_payload s.base) b.trouble b.core.owed (one_in_hand b left.owes);
       hand_is_owed = λ disk. hand_owed b (left.owes disk) disk;
       crash = crash_kept m f b new left of;
       failures_same = of.failures;

@@ -93,8 +93,7 @@ pub record Headline {D : Type 0} (m : DiskMeaning D) (gave : ℕ → Bool) (f : 
   -- what the journal's content then says, also with the payload of the entry in hand
   pub journal_says : JournalSays f s h
   pub hand_says : JournalSays f s (hand ++ h)
-  -- an entry is in hand only where a disk of the journal failed: then it is the `Replayed` of what the last reply counts as
-  -- succeeded
+  -- an entry is in hand exactly where a disk of the journal failed: it is the `Replayed` of what the last reply counts as succeeded
   pub in_hand : IsInHand trouble hand
   pub hand_is_owed : trouble ≡ Some Disk → OwesReplay s h hand
   -- what a crash leaves since the run's start: the old content followed by a prefix of the payloads of the trace

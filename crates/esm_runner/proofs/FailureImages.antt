@@ -58,13 +58,12 @@ first_lines [] (line ∷ front) rest split = absurd (let clash : line ∷ (front
 first_lines (e ∷ es) [] rest split = record { front = []; rest = e ∷ es; split = refl; are = refl }
 first_lines (e ∷ es) (line ∷ front) rest split = lines_step e es line front rest (entry_line e) refl (first_lines es) split
 
--- an entry is tried where the file failed, and then one at most
-is_tried_so : (why : Option Trouble) (owed : List Entry) → IsTried why (in_delivery why owed)
-is_tried_so None owed = refl
-is_tried_so (Some Disk) owed = refl
-is_tried_so (Some Dest) [] = omega arith
-is_tried_so (Some Dest) (e ∷ owed) = omega arith
-is_tried_so (Some (Changed change)) owed = refl
+-- an entry is tried where the file failed, and then exactly one
+is_tried_so : (why : Option Trouble) (owed : List Entry) → (why ≡ Some Dest → (e : Entry) × (text : List ℕ) × (in_delivery why owed ≡ e ∷ []) × (entry_line e ≡ Some text)) → IsTried why (in_delivery why owed)
+is_tried_so None owed one = refl
+is_tried_so (Some Disk) owed one = refl
+is_tried_so (Some Dest) owed one = one refl
+is_tried_so (Some (Changed change)) owed one = refl
 
 module _ {D : Type 0} (m : DiskMeaning D) (line : List ℕ → List ℕ) (f : FilesState D) (b : BookState D (JournalState D)) (left : IsLeft m line f b) where
   pub dest_honest : m.honest f.failures ≡ true → m.honest b.dest.disk ≡ true
@@ -122,7 +121,7 @@ pub lines_crash : {D F : Type 0} (t : Telling D F) (f : FilesState D) (b : BookS
 lines_crash {D} t f b new left is =
     record {
       tried = in_delivery b.trouble b.core.owed;
-      is_tried = is_tried_so b.trouble b.core.owed;
+      is_tried = is_tried_so b.trouble b.core.owed left.tried_is_one;
       tried_follows = left.tried_follows;
       since = λ honest settled bytes since.
           lines_since t.disk t.line f b left honest settled bytes (subst (λ (d : D). t.disk.since d (t.disk.moment f.failures) bytes) is since);

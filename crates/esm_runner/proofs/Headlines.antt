@@ -1,6 +1,6 @@
 -- The headline, from what is left of a run.
 use Rattle.std.proofs.Common.{◌≡◌, ◌∙◌, ◌≤◌, ℕ, Bool, true, false, List, [], ◌∷◌, ◌++◌, length, map, take, Option, Some, None, ap, ap₂, arith, inl, inr, refl, subst, sym}
-use Rattle.std.specs.Prelude.{reverse, if◌then◌else◌}
+use Rattle.std.specs.Prelude.{reverse, if◌then◌else◌, IsSome}
 use Rattle.std.proofs.lemmas.List.{append-nil, append_assoc}
 use Rattle.std.proofs.lemmas.List.Elements.{filter_map-append}
 use Rattle.esm_io.specs.Faults.{Rose}
@@ -47,11 +47,26 @@ in_hand_few (Some Disk) (e ∷ owed) = omega arith
 in_hand_few (Some Dest) owed = omega arith
 in_hand_few (Some (Changed change)) owed = omega arith
 
-pub is_in_hand : (why : Option Trouble) (owed : List Entry) → IsInHand why (in_hand why owed)
-is_in_hand None owed = refl
-is_in_hand (Some Disk) owed = in_hand_few (Some Disk) owed
-is_in_hand (Some Dest) owed = refl
-is_in_hand (Some (Changed change)) owed = refl
+-- exactly one was being written where a disk failed
+abbrev pub IsOneInHand : (text : Entry → Option (List ℕ)) → Option Trouble → List Entry → Type 0
+IsOneInHand text why owed = why ≡ Some Disk → (e : Entry) × (payload : List ℕ) × (in_hand why owed ≡ e ∷ []) × (text e ≡ Some payload)
+
+pub is_in_hand : (text : Entry → Option (List ℕ)) (why : Option Trouble) (owed : List Entry) → IsOneInHand text why owed → IsInHand why (in_hand why owed)
+is_in_hand text None owed one = refl
+is_in_hand text (Some Disk) owed one = let is = one refl in (is.0, is.2)
+is_in_hand text (Some Dest) owed one = refl
+is_in_hand text (Some (Changed change)) owed one = refl
+
+-- and it has a payload
+pub hand_has : (text : Entry → Option (List ℕ)) (why : Option Trouble) (owed : List Entry) → IsOneInHand text why owed → (e : Entry) → in_hand why owed ≡ e ∷ [] → IsSome (text e)
+hand_has text None owed one e some = absurd (cc)
+hand_has text (Some Disk) owed one e some =
+    let is = one refl in
+    let both : is.0 ∷ [] ≡ e ∷ [] = sym is.2 ∙ some in
+    let same : is.0 ≡ e = cc in
+    subst (λ (x : Entry). IsSome (text x)) same (subst (λ (o : Option (List ℕ)). IsSome o) (sym is.3) refl)
+hand_has text (Some Dest) owed one e some = absurd (cc)
+hand_has text (Some (Changed change)) owed one e some = absurd (cc)
 
 pub not_disk : (why : Option Trouble) → (why ≡ Some Disk → ⊥) → is_disk why ≡ false
 not_disk None not = refl
@@ -224,7 +239,8 @@ headline t f b new laws left of given =
       journal_stopped = journal_stopped t f b new laws.stay left of;
       failure_lines_kept = lines_kept t f b.dest b.trouble b.core.past b.core.owed new (lines_grown t.disk f b left) left.lines.failed (dest_honest t.disk t.line f b left) left.dest_kept left.dest_stopped of.failures;
       failure_lines_crash = lines_crash t f b new left of.failures;
-      in_hand = is_in_hand b.trouble b.core.owed;
+      in_hand = is_in_hand (entry_payload b.core.setting) b.trouble b.core.owed left.hand_is_one;
+      hand_has_payload = hand_has (entry_payload b.core.setting) b.trouble b.core.owed left.hand_is_one;
       hand_follows = left.hand_follows;
       crash = crash_kept t f b new laws.stay left of;
       one_fate = laws.one b.core.setting b.core.past own;

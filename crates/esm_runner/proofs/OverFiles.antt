@@ -31,7 +31,7 @@ use Rattle.esm_runner.proofs.Ways.{HasCome, IsCauseIn}
 -- the book
 
 pub sound_over : {D T : Type 0} (file : T → JournalState D) (b : BookState D T) → IsSound b → IsSound (over_file file b)
-sound_over file b sound = record { records = sound.records; of_stream = sound.of_stream; legal = sound.legal; settled = sound.settled; hand_follows = sound.hand_follows; tried_follows = sound.tried_follows }
+sound_over file b sound = record { records = sound.records; of_stream = sound.of_stream; legal = sound.legal; settled = sound.settled; hand_follows = sound.hand_follows; tried_follows = sound.tried_follows; hand_is_one = sound.hand_is_one; tried_is_one = sound.tried_is_one }
 
 pub journal_over : {D T : Type 0} (m : DiskMeaning D) (file : T → JournalState D) (b : BookState D T) → HasJournal m b → HasJournal m (over_file file b)
 journal_over m file b has = record { payloads = has.payloads; down = has.down; found_up = has.found_up; epoch = has.epoch; swapped = has.swapped; spare = has.spare; honesty = has.honesty }

@@ -25,7 +25,7 @@ use Rattle.esm_queue_book.specs.Keeping.{MayFollowFront, entries_left}
 use Rattle.esm_runner.specs.Given.{AreGiven}
 use Rattle.esm_runner.specs.Files.{FilesState}
 use Rattle.esm_runner.specs.Headline.{Devices, PairStopped, Telling}
-use Rattle.esm_runner.proofs.Headlines.{in_hand_few, is_in_hand, not_disk, used_rose}
+use Rattle.esm_runner.proofs.Headlines.{hand_has, in_hand_few, is_in_hand, not_disk, used_rose}
 use Rattle.esm_runner.proofs.Stopped.{HasGoneDown, filter_map_few, pair_stopped}
 use Rattle.esm_runner.specs.QueueHeadline.{CrashKept, Headline, JournalKept, JournalStopped, LegalOver, RepliesAreLogged}
 use Rattle.esm_runner.specs.QueueLaws.{AreLaws}
@@ -173,7 +173,8 @@ headline {D} t f b new laws left of given = record {
   moments = given;
   journal_kept = journal_kept t f b new left of;
   journal_stopped = journal_stopped t f b new left of;
-  in_hand = is_in_hand b.trouble b.core.owed;
+  in_hand = is_in_hand (queue_payload b.core.setting.messages) b.trouble b.core.owed left.hand_is_one;
+  hand_has_payload = hand_has (queue_payload b.core.setting.messages) b.trouble b.core.owed left.hand_is_one;
   hand_follows = λ e some. over_all laws b.core.setting b.core.past e (left.hand_follows e some);
   crash = crash_kept t f b new left of;
   failures_same = of.failures;

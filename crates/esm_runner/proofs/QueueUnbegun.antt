@@ -55,6 +55,7 @@ left_new m config calls visibility f none files = record {
   stays = refl;
   hand = refl;
   hand_follows = λ e some. absurd (cc);
+  hand_is_one = λ disk. absurd (cc);
 }
 
 pub not_begun : {S D F : Type 0} (t : Telling D F) (left_in : S → Option (List ℕ)) (config : Config) (calls visibility : ℕ) (f : FilesState D) (old : S) (callers : List F) (new : Devices D F) → Nowhere → AreLaws → IsOpenedFiles t.disk f

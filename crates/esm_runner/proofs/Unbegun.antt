@@ -109,6 +109,8 @@ left_new m line config calls f now files = record {
   hand = refl;
   hand_follows = λ e some. absurd (cc);
   tried_follows = λ e some. absurd (cc);
+  hand_is_one = λ failed. absurd (cc);
+  tried_is_one = λ failed. absurd (cc);
   now = now;
 }
 

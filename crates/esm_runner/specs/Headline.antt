@@ -1,5 +1,5 @@
 -- The headline: what a run of a stream's mapping leaves. This product's own.
-use Rattle.std.specs.Prelude.{◌≡◌, ◌⊎◌, ◌<◌, ◌≤◌, ◌∷◌, ◌++◌, ℕ, true, List, [], length, map, take_while, slice_index_or, Option, Some, None, is_some, option_map, reverse, IfSome}
+use Rattle.std.specs.Prelude.{◌≡◌, ◌⊎◌, ◌<◌, ◌∷◌, ◌++◌, ℕ, true, List, [], length, map, take_while, slice_index_or, Option, Some, None, is_some, option_map, reverse, IfSome, IsSome}
 use Rattle.esm_io.specs.Images.{Only}
 use Rattle.esm_io.specs.Told.{Grows}
 use Rattle.esm_io.specs.Meanings.{DiskMeaning}
@@ -14,6 +14,7 @@ use Rattle.esm_model.specs.declared.called.Called.{Called}
 use Rattle.esm_model.specs.declared.book.Trouble.{Trouble}
 use Rattle.esm_model.specs.declared.book.Trouble.TheVariants.{Disk, Dest}
 use Rattle.esm_model.specs.Setting.{Setting, over, records_of}
+use Rattle.esm_model.specs.Books.{entry_line}
 use Rattle.esm_model.specs.Entries.{batcher}
 use Rattle.esm_model.specs.Fates.{fate, came_places}
 use Rattle.esm_model.specs.Checkpoint.{checkpoint}
@@ -24,7 +25,7 @@ use Rattle.esm_ingest.specs.Coming.{of_shard}
 use Rattle.esm_ledger.specs.Ledger.{LegalOver, opened_with}
 use Rattle.esm_stream_core.specs.CoreView.{MayFollowFront, lines_of}
 use Rattle.esm_journal_record.specs.declared.said.Said.{Said}
-use Rattle.esm_journal_record.specs.EntryPayload.{AllMayBeSaid, entry_said}
+use Rattle.esm_journal_record.specs.EntryPayload.{AllMayBeSaid, entry_payload, entry_said}
 use Rattle.esm_journal_record.specs.Payload.{IsSaid}
 use Rattle.esm_record_bounds.specs.Bounds.{AreCountedInFourBytes}
 use Rattle.esm_outcome.specs.Ending.{SettledOver}
@@ -108,20 +109,24 @@ pub record OpensToLinesOf (line : List ℕ → List ℕ) (before : List (List �
   pub split : front ++ rest ≡ es
   pub opens : OpensTo (header_of 1) (before ++ map line (lines_of front)) bytes
 
--- the entries whose payloads may stand in the journal though they are not in the history: one at most, and only where a disk
--- failed
+-- the entries whose payloads may stand in the journal though they are not in the history: exactly one where a disk failed, and
+-- none elsewhere
 abbrev pub IsInHand : Option Trouble → List Entry → Type 0
-IsInHand (Some Disk) hand = length hand ≤ 1
+IsInHand (Some Disk) hand = (e : Entry) × (hand ≡ e ∷ [])
 IsInHand _ hand = hand ≡ []
+
+-- the entry in hand has a payload, which was being written
+abbrev pub HandHasPayload : Setting → (hand : List Entry) → Type 0
+HandHasPayload s hand = (e : Entry) → hand ≡ e ∷ [] → IsSome (entry_payload s e)
 
 -- the entry in hand may follow the history, or a front of it after which calls and the input ended alone, over every list of
 -- records that goes on from those that came
 abbrev pub HandFollows : Setting → List Entry → (hand : List Entry) → Type 0
 HandFollows s h hand = (e : Entry) → hand ≡ e ∷ [] → MayFollowFront s h e
 
--- the entries whose line was being delivered when the failure file failed: one at most, and only there
+-- the entries whose line was being delivered when the failure file failed: exactly one, which has a line, and only there
 abbrev pub IsTried : Option Trouble → List Entry → Type 0
-IsTried (Some Dest) tried = length tried ≤ 1
+IsTried (Some Dest) tried = (e : Entry) × (line : List ℕ) × (tried ≡ e ∷ []) × (entry_line e ≡ Some line)
 IsTried _ tried = tried ≡ []
 
 -- Each image of the failure file since the run's start opens to the lines found, followed by those of the first entries of the
@@ -203,8 +208,9 @@ pub record Headline {D F : Type 0} (t : Telling D F) (f : FilesState D) (s : Set
   pub failure_lines_kept : FailureLinesKept t f trouble h hand new
   -- what a crash leaves of it since the run's start: the old lines followed by a prefix of those
   pub failure_lines_crash : FailureLinesCrashKept t f s h trouble hand new
-  -- an entry is in hand only where a disk of the journal failed, and then one at most; and it is one that may follow
+  -- an entry is in hand exactly where a disk of the journal failed, and then one; it has a payload, and may follow
   pub in_hand : IsInHand trouble hand
+  pub hand_has_payload : HandHasPayload s hand
   pub hand_follows : HandFollows s h hand
   -- what a crash leaves since the run's start: the old content followed by a prefix of the payloads of the trace
   pub crash : CrashKept t f s h hand new

@@ -1,5 +1,5 @@
 -- The headline of a queue: what a run of its mapping leaves. This product's own.
-use Rattle.std.specs.Prelude.{◌≡◌, ◌<◌, ◌^◌, [], ◌∷◌, ◌++◌, ℕ, List, length, slice_index_or, Option, Some, is_some, option_map, reverse}
+use Rattle.std.specs.Prelude.{◌≡◌, ◌<◌, ◌^◌, [], ◌∷◌, ◌++◌, ℕ, List, length, slice_index_or, Option, Some, is_some, option_map, reverse, IsSome}
 use Rattle.std.specs.List.{All}
 use Rattle.esm_io.specs.Told.{Grows}
 use Rattle.esm_journal.specs.Reads.{IsOnlyRead}
@@ -21,6 +21,7 @@ use Rattle.esm_queue_model.specs.HistoryLaws.{DeletedOnce, OrderPerGroup, EveryM
 use Rattle.esm_book.specs.Hand.{FollowsFront}
 use Rattle.esm_queue_core.specs.CoreView.{new_setting}
 use Rattle.esm_journal_record.specs.declared.said.Said.{Said}
+use Rattle.esm_journal_record.specs.EntryPayload.{queue_payload}
 use Rattle.esm_journal_state.specs.declared.kept.KeptFate.{KeptFate}
 use Rattle.esm_journal_state.specs.Meaning.{deletion_said, history}
 use Rattle.esm_journal_state.specs.SaidLists.{SaidLists}
@@ -46,6 +47,10 @@ LegalOver s h = (messages : List Message) → ExtendsMessages s.messages message
 -- messages that goes on from those that came
 abbrev pub HandFollows : QueueSetting → List Entry → (hand : List Entry) → Type 0
 HandFollows s h hand = (e : Entry) → hand ≡ e ∷ [] → FollowsFront (λ before x. LegalOver s (x ∷ before)) h e
+
+-- the entry in hand has a payload, which was being written
+abbrev pub HandHasPayload : QueueSetting → (hand : List Entry) → Type 0
+HandHasPayload s hand = (e : Entry) → hand ≡ e ∷ [] → IsSome (queue_payload s.messages e)
 
 -- caller k's log, where told, grew by the calls of batcher k
 abbrev pub CallsMade : {D F : Type 0} → Telling D F → QueueSetting → List Entry → (old new : List F) → Type 0
@@ -104,8 +109,9 @@ pub record Headline {D F : Type 0} (t : Telling D F) (f : FilesState D) (s : Que
   pub journal_kept : (trouble ≡ Some Disk → ⊥) → JournalKept t f s h new
   -- where a disk of it failed, one further whole payload may follow, that of the entry in hand
   pub journal_stopped : trouble ≡ Some Disk → JournalStopped t f s h hand new
-  -- an entry is in hand only where a disk of the journal failed, and then one at most; and it is one that may follow
+  -- an entry is in hand exactly where a disk of the journal failed, and then one; it has a payload, and may follow
   pub in_hand : IsInHand trouble hand
+  pub hand_has_payload : HandHasPayload s hand
   pub hand_follows : HandFollows s h hand
   -- what a crash leaves since the run's start: the old content followed by a prefix of the payloads of the trace
   pub crash : CrashKept t f s h hand new

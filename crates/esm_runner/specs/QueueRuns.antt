@@ -10,6 +10,7 @@ use Rattle.esm_model.specs.declared.book.Trouble.TheVariants as trouble
 use Rattle.esm_model.specs.declared.config.Config.{Config}
 use Rattle.esm_model.specs.declared.entry.Entry.{Entry}
 use Rattle.esm_model.specs.ValidMessage.{IsValidMessage}
+use Rattle.esm_journal_record.specs.EntryPayload.{queue_payload}
 use Rattle.esm_book.specs.State.{in_hand}
 use Rattle.esm_queue_model.specs.QueueStep.{LegalQueue, SettledQueue}
 use Rattle.esm_queue_model.specs.QueueEntries.{queue_count}
@@ -72,5 +73,6 @@ pub record IsLeft {D : Type 0} (m : DiskMeaning D) (f : FilesState D) (b : BookS
   -- no messages are coming that the history or the entry in hand names
   pub stays : payloads_in (all_messages b.core) (reverse b.core.past) ≡ payloads_in b.core.setting.messages (reverse b.core.past)
   pub hand : payloads_in (all_messages b.core) (in_hand b.trouble b.core.owed) ≡ payloads_in b.core.setting.messages (in_hand b.trouble b.core.owed)
-  -- and the entry in hand may follow
+  -- and the entry in hand may follow; exactly one was being written where a disk failed
   pub hand_follows : (e : Entry) → in_hand b.trouble b.core.owed ≡ e ∷ [] → MayFollowFront b.core.setting b.core.past e
+  pub hand_is_one : b.trouble ≡ Some trouble.Disk → (e : Entry) × (payload : List ℕ) × (in_hand b.trouble b.core.owed ≡ e ∷ []) × (queue_payload b.core.setting.messages e ≡ Some payload)

@@ -1,5 +1,5 @@
 -- A run that is to begin, and what it leaves. Only this crate's proofs cite this.
-use Rattle.std.specs.Prelude.{◌≡◌, ◌≤◌, ℕ, true, false, List, [], Some, None}
+use Rattle.std.specs.Prelude.{◌≡◌, ◌≤◌, ℕ, true, false, List, [], ◌∷◌, Some, None}
 use Rattle.esm_io.specs.Images.{Only}
 use Rattle.esm_io.specs.Meanings.{DiskMeaning, DestMeaning}
 use Rattle.esm_journal.specs.Pair.{PairState, PairKeepsWhileUp, first_disk, second_disk}
@@ -9,6 +9,9 @@ use Rattle.esm_journal.specs.Stopped.{PairKeepsWhileDown}
 use Rattle.esm_model.specs.declared.book.Trouble.TheVariants as trouble
 use Rattle.esm_model.specs.declared.config.Config.{Config}
 use Rattle.esm_model.specs.declared.config.Start.{Start}
+use Rattle.esm_model.specs.declared.entry.Entry.{Entry}
+use Rattle.esm_model.specs.Books.{entry_line}
+use Rattle.esm_journal_record.specs.EntryPayload.{entry_payload}
 use Rattle.esm_book.specs.State.{in_hand, in_delivery}
 use Rattle.esm_ledger.specs.Ledger.{opened_with, LegalOver}
 use Rattle.esm_stream_core.specs.CoreView.{new_view, full_setting}
@@ -96,4 +99,7 @@ pub record IsLeft {D : Type 0} (m : DiskMeaning D) (line : List ℕ → List ℕ
   -- and it may follow, and so may the entry whose line was being delivered
   pub hand_follows : HandFollows b.core.setting b.core.past (in_hand b.trouble b.core.owed)
   pub tried_follows : HandFollows b.core.setting b.core.past (in_delivery b.trouble b.core.owed)
+  -- exactly one entry was being written where a disk failed, and the line of exactly one was being delivered where the file failed
+  pub hand_is_one : b.trouble ≡ Some trouble.Disk → (e : Entry) × (payload : List ℕ) × (in_hand b.trouble b.core.owed ≡ e ∷ []) × (entry_payload b.core.setting e ≡ Some payload)
+  pub tried_is_one : b.trouble ≡ Some trouble.Dest → (e : Entry) × (line : List ℕ) × (in_delivery b.trouble b.core.owed ≡ e ∷ []) × (entry_line e ≡ Some line)
   pub now : CountsNow m

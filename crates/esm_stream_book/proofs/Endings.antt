@@ -12,6 +12,7 @@ use Rattle.esm_model.specs.declared.book.Trouble.TheVariants.{Disk, Dest, Change
 use Rattle.esm_model.specs.declared.entry.Entry.{Entry}
 use Rattle.esm_model.specs.Setting.{Setting}
 use Rattle.esm_model.specs.Books.{entry_line}
+use Rattle.esm_journal_record.specs.EntryPayload.{entry_payload}
 use Rattle.esm_ingest.specs.Parts.{parts_of}
 use Rattle.esm_book.specs.Decided.{written_of}
 use Rattle.esm_book.specs.Growth.{LeavesFronts}
@@ -29,7 +30,7 @@ use Rattle.esm_stream_book.specs.Keeping.{IsSound}
 use Rattle.esm_stream_book.specs.Carried.{coming_by, setting_by, entries_by, CarriedAll, CarriedSome, Undelivered, FoundChange, CarriedNone}
 use Rattle.esm_stream_book.proofs.Entries.{both_none, entry_in, owed_entries, parted, parts_are, take-entries}
 use Rattle.esm_stream_book.proofs.Tellings.{none_owed, payload_in, line_in, payloads_told, lines_told}
-use Rattle.esm_stream_book.proofs.Hands.{none_delivered, none_tried, hand_follows, tried_follows}
+use Rattle.esm_stream_book.proofs.Hands.{none_delivered, none_tried, hand_follows, one_in_hand, one_tried, tried_follows}
 use Rattle.esm_stream_book.proofs.Bringing.{parts_silent}
 use Rattle.esm_stream_book.proofs.Deciding.{decided_so}
 use Rattle.esm_stream_book.proofs.Going.{stream_meaning, Went, added_so, leaves_first, setting_all, sound_all, sound_some}
@@ -65,7 +66,7 @@ module _ {D T : Type 0} (m : DiskMeaning D) (n : DestMeaning T) (old new : BookS
         };
         answer_is = d.answer_is;
         no_change = d.no_change;
-        sound = sound_all old new X coming es w d.entries_are d.legal d.settled d.brings rests sound (none_owed (full_setting new.core) new.core.owed owed);
+        sound = sound_all old new X coming es w d.entries_are d.legal d.settled d.brings rests sound (none_owed (full_setting new.core) new.core.owed owed) (same ∙ none_before);
       }
 
   -- a device failed in it
@@ -74,8 +75,10 @@ module _ {D T : Type 0} (m : DiskMeaning D) (n : DestMeaning T) (old new : BookS
       → Grows (n.lines old.dest) (n.lines new.dest) (map n.sends (written_of line_in (X ++ hand))) → LeavesFronts stream_meaning m n old.pair new.pair old.dest new.dest (X ++ hand)
       → ((e : Entry) → in_hand new.trouble new.core.owed ≡ e ∷ [] → MayFollowFront new.core.setting new.core.past e)
       → ((e : Entry) → in_delivery new.trouble new.core.owed ≡ e ∷ [] → MayFollowFront new.core.setting new.core.past e)
+      → (new.trouble ≡ Some Disk → (e : Entry) × (payload : List ℕ) × (in_hand new.trouble new.core.owed ≡ e ∷ []) × (entry_payload new.core.setting e ≡ Some payload))
+      → (new.trouble ≡ Some Dest → (e : Entry) × (line : List ℕ) × (in_delivery new.trouble new.core.owed ≡ e ∷ []) × (entry_line e ≡ Some line))
       → AddedSome m n (setting_by old.core asked) old new (entries_by old.core asked) trouble × IsSound new
-  added_some trouble hand sound rests decides w is writing written_so sent leaves follows tried =
+  added_some trouble hand sound rests decides w is writing written_so sent leaves follows tried hand_one tried_one =
       let d = decided_so old.core asked given (X ++ owed_of new.core) decides in
       let s = setting_by old.core asked in
       let es = entries_by old.core asked in
@@ -96,7 +99,7 @@ module _ {D T : Type 0} (m : DiskMeaning D) (n : DestMeaning T) (old new : BookS
           delivered = lines_sent n old.dest new.dest (X ++ hand) s left all sent;
           images = leaves_first m n old.pair new.pair old.dest new.dest (X ++ hand) s left all leaves;
         },
-        sound_some old new X (coming_by old.core asked) front rest es w first split d.legal rests sound (λ up. absurd (cc (sym is ∙ up))) follows tried,
+        sound_some old new X (coming_by old.core asked) front rest es w first split d.legal rests sound (λ up. absurd (cc (sym is ∙ up))) follows tried hand_one tried_one,
       )
 
   -- what is owed is so over the records that came with the call
@@ -117,7 +120,8 @@ module _ {D T : Type 0} (m : DiskMeaning D) (n : DestMeaning T) (old new : BookS
       let hand = first_owed decides in
       let was : WasWriting Disk s new.core.owed = subst (λ (texts : List (List ℕ)). 0 < length texts) (ap (written_of payload_in) hand ∙ payloads_told s (take 1 new.core.owed)) writing in
       let so = added_some Disk (take 1 (owed_of new.core)) sound rests decides w is was hand sent leaves (λ e some. hand_follows new.core new.trouble e follows alone writing is some)
-      (λ e some. absurd (none_tried new.trouble new.core.owed e is some)) in
+      (λ e some. absurd (none_tried new.trouble new.core.owed e is some))
+      (λ failed. one_in_hand new.core new.trouble alone writing failed) (λ failed. absurd (cc (sym is ∙ failed))) in
       record { added = so.0; cause = cause; no_change = (decided_so old.core asked given (X ++ owed_of new.core) decides).no_change; sound = so.1 }
 
   -- the destination failed in it
@@ -128,7 +132,8 @@ module _ {D T : Type 0} (m : DiskMeaning D) (n : DestMeaning T) (old new : BookS
       let s = setting_by old.core asked in
       let was : WasWriting Dest s new.core.owed = subst (λ (texts : List (List ℕ)). 0 < length texts) (ap (written_of line_in) (first_owed decides) ∙ lines_told s (take 1 new.core.owed)) writing in
       let so = added_some Dest [] sound rests decides w is was refl sent leaves (λ e some. absurd (none_delivered new.trouble new.core.owed e is some))
-      (λ e some. tried_follows new.core new.trouble e follows alone was is some) in
+      (λ e some. tried_follows new.core new.trouble e follows alone was is some)
+      (λ failed. absurd (cc (sym is ∙ failed))) (λ failed. one_tried new.core.owed new.trouble was failed) in
       record { added = so.0; cause = cause; no_change = (decided_so old.core asked given (X ++ owed_of new.core) decides).no_change; sound = so.1 }
 
 -- where no line is to be delivered the destination does not fail
@@ -162,12 +167,12 @@ all_delivered m n old new (call.Done job reply moment) is ended = is
 pub found_change : {D T : Type 0} (old new : BookState D T) (asked : StreamCall) (change : Change) → IsSound old → Refuses old.core asked change → new ≡ record old { trouble = Some (Changed change) } → FoundChange old new asked change
 found_change {D} {T} old new asked change sound refuses is =
     let down : BookState D T = record old { trouble = Some (Changed change) } in
-    let kept : IsSound down = record { records = sound.records; of_stream = sound.of_stream; legal = sound.legal; settled = λ none. absurd (cc); hand_follows = λ e some. absurd (cc); tried_follows = λ e some. absurd (cc) } in
+    let kept : IsSound down = record { records = sound.records; of_stream = sound.of_stream; legal = sound.legal; settled = λ none. absurd (cc); hand_follows = λ e some. absurd (cc); tried_follows = λ e some. absurd (cc); hand_is_one = λ failed. absurd (cc); tried_is_one = λ failed. absurd (cc) } in
     record { refuses = refuses; rest = is; sound = subst IsSound (sym is) kept }
 
 -- there was no memory for it
 pub carried_none : {D T : Type 0} (n : DestMeaning T) (old new : BookState D T) → IsSound old → IsSame n old new → CarriedNone n old new
 carried_none {D} {T} n old new sound same =
     let roomy : BookState D T = record old { pair = record old.pair { room = new.pair.room }; dest = new.dest } in
-    let kept : IsSound roomy = record { records = sound.records; of_stream = sound.of_stream; legal = sound.legal; settled = sound.settled; hand_follows = sound.hand_follows; tried_follows = sound.tried_follows } in
+    let kept : IsSound roomy = record { records = sound.records; of_stream = sound.of_stream; legal = sound.legal; settled = sound.settled; hand_follows = sound.hand_follows; tried_follows = sound.tried_follows; hand_is_one = sound.hand_is_one; tried_is_one = sound.tried_is_one } in
     record { same = same; sound = subst IsSound (sym same.rest) kept }

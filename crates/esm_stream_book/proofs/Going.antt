@@ -1,10 +1,11 @@
 -- What the layer over devices tells of a call, in the words of streams.
-use Rattle.std.proofs.Common.{◌≡◌, ℕ, List, [], ◌∷◌, ◌++◌, map, reverse, sym, ap, ◌∙◌, subst, append_assoc, None}
+use Rattle.std.proofs.Common.{◌≡◌, ℕ, List, [], ◌∷◌, ◌++◌, map, reverse, sym, ap, ◌∙◌, subst, append_assoc, Some, None}
 use Rattle.std.specs.List.{All}
 use Rattle.std.proofs.lemmas.List.{reverse-append}
 use Rattle.esm_io.specs.Meanings.{DiskMeaning, DestMeaning}
 use Rattle.esm_journal.specs.File.{header_of}
 use Rattle.esm_journal.specs.Pair.{PairState, PairOpensTo}
+use Rattle.esm_model.specs.declared.book.Trouble.TheVariants.{Disk, Dest}
 use Rattle.esm_model.specs.declared.entry.Entry.{Entry}
 use Rattle.esm_model.specs.declared.setup.Setup.{Setup}
 use Rattle.esm_model.specs.declared.setup.Told.{Told}
@@ -12,13 +13,14 @@ use Rattle.esm_model.specs.Setup.{no_setup}
 use Rattle.esm_model.specs.Setting.{Setting, Stream, Extends, over}
 use Rattle.esm_model.specs.Step.{Legal}
 use Rattle.esm_model.specs.Kept.{IsLegal}
-use Rattle.esm_model.specs.Books.{streams_told, entries_told, IsOfStream, stream_may_follow}
+use Rattle.esm_model.specs.Books.{entry_line, streams_told, entries_told, IsOfStream, stream_may_follow}
 use Rattle.esm_model.proofs.BookLaws.{legal_kept, kept_legal}
 use Rattle.esm_model.proofs.Histories.{legal_before}
 use Rattle.esm_book.specs.Decided.{written_of}
 use Rattle.esm_book.specs.Meanings.{CoreMeaning}
 use Rattle.esm_book.specs.Growth.{LeavesFronts, OpensToFront, AreTold}
 use Rattle.esm_book.specs.State.{in_hand, in_delivery}
+use Rattle.esm_journal_record.specs.EntryPayload.{entry_payload}
 use Rattle.esm_ledger.specs.Ledger.{LegalOver}
 use Rattle.esm_outcome.specs.Ending.{SettledOver}
 use Rattle.esm_record_bounds.specs.Bounds.{AreWithinBounds}
@@ -151,8 +153,10 @@ module _ {D T : Type 0} (old new : BookState D T) (X : List StreamEntry) (coming
 
   -- a part was added
   pub sound_some : (rest es : List Entry) → Went old new X → X ≡ stream_entries over_all front → front ++ rest ≡ es → LegalOver over_all (reverse es ++ old.core.past) → old.core.coming ≡ [] → IsSound old → (new.trouble ≡ None → ⊥)
-      → ((e : Entry) → in_hand new.trouble new.core.owed ≡ e ∷ [] → MayFollowFront new.core.setting new.core.past e) → ((e : Entry) → in_delivery new.trouble new.core.owed ≡ e ∷ [] → MayFollowFront new.core.setting new.core.past e) → IsSound new
-  sound_some rest es w is split over rests sound down hand tried =
+      → ((e : Entry) → in_hand new.trouble new.core.owed ≡ e ∷ [] → MayFollowFront new.core.setting new.core.past e) → ((e : Entry) → in_delivery new.trouble new.core.owed ≡ e ∷ [] → MayFollowFront new.core.setting new.core.past e)
+      → (new.trouble ≡ Some Disk → (e : Entry) × (payload : List ℕ) × (in_hand new.trouble new.core.owed ≡ e ∷ []) × (entry_payload new.core.setting e ≡ Some payload))
+      → (new.trouble ≡ Some Dest → (e : Entry) × (line : List ℕ) × (in_delivery new.trouble new.core.owed ≡ e ∷ []) × (entry_line e ≡ Some line)) → IsSound new
+  sound_some rest es w is split over rests sound down hand tried hand_one tried_one =
       let past = past_grows old.core new.core over_all front X w.history is in
       let legal = subst (Legal over_all) (sym past) (legal_front over_all front rest es old.core.past split over) in
       record {
@@ -162,6 +166,8 @@ module _ {D T : Type 0} (old new : BookState D T) (X : List StreamEntry) (coming
         settled = λ up. absurd (down up);
         hand_follows = hand;
         tried_follows = tried;
+        hand_is_one = hand_one;
+        tried_is_one = tried_one;
       }
 
   -- all was added
@@ -175,8 +181,8 @@ module _ {D T : Type 0} (old new : BookState D T) (X : List StreamEntry) (coming
       opened_so new.core v w.origin
       ∙ ap (over v.setting) (w.records ∙ (ap streams_told (told_after w is rests sound) ∙ told_streams over_all new.core.past legal after))
 
-  pub sound_all : Went old new X → X ≡ stream_entries over_all front → LegalOver over_all (reverse front ++ old.core.past) → SettledOver over_all (reverse front ++ old.core.past) → BringAll old.core.past coming front → old.core.coming ≡ [] → IsSound old → new.core.owed ≡ [] → IsSound new
-  sound_all w is over_them settled brings rests sound owed =
+  pub sound_all : Went old new X → X ≡ stream_entries over_all front → LegalOver over_all (reverse front ++ old.core.past) → SettledOver over_all (reverse front ++ old.core.past) → BringAll old.core.past coming front → old.core.coming ≡ [] → IsSound old → new.core.owed ≡ [] → new.trouble ≡ None → IsSound new
+  sound_all w is over_them settled brings rests sound owed up =
       let past = past_grows old.core new.core over_all front X w.history is in
       let setting : over_all ≡ new.core.setting = sym (setting_all w is over_them brings rests sound) in
       let legal = subst (Legal over_all) (sym past) (over_them over_all.streams (λ n i r at. at)) in
@@ -184,7 +190,9 @@ module _ {D T : Type 0} (old new : BookState D T) (X : List StreamEntry) (coming
         records = w.records;
         of_stream = of_stream_after w is rests sound legal;
         legal = subst (λ (s : Setting). LegalOver s new.core.past) setting (subst (LegalOver over_all) (sym past) over_them);
-        settled = λ up. subst (λ (s : Setting). SettledOver s new.core.past) setting (subst (SettledOver over_all) (sym past) settled);
+        settled = λ none. subst (λ (s : Setting). SettledOver s new.core.past) setting (subst (SettledOver over_all) (sym past) settled);
         hand_follows = λ e some. absurd (none_in_hand new.trouble new.core.owed e owed some);
         tried_follows = λ e some. absurd (none_in_delivery new.trouble new.core.owed e owed some);
+        hand_is_one = λ failed. absurd (cc (sym up ∙ failed));
+        tried_is_one = λ failed. absurd (cc (sym up ∙ failed));
       }

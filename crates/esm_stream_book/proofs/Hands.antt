@@ -1,10 +1,14 @@
 -- The entry in hand: the first owed one, where a disk of the journal failed; and the tried one, where the destination failed.
-use Rattle.std.proofs.Common.{◌≡◌, ℕ, ◌<◌, List, [], ◌∷◌, length, take, sym, ap, ◌∙◌, subst, arith, Option, Some, None}
+use Rattle.std.proofs.Common.{◌≡◌, ℕ, ◌<◌, List, [], ◌∷◌, length, take, refl, sym, ap, ◌∙◌, subst, arith, Option, Some, None}
+use Rattle.std.specs.Prelude.{filter_map}
+use Rattle.std.specs.List.{cons_option}
 use Rattle.esm_model.specs.declared.book.Trouble.{Trouble}
 use Rattle.esm_model.specs.declared.book.Trouble.TheVariants.{Disk, Dest, Changed}
 use Rattle.esm_model.specs.declared.entry.Entry.{Entry}
 use Rattle.esm_model.specs.declared.entry.Entry.TheVariants.{Came, Began, Ended, Gave, Tried, Closed, Replayed, Shut}
+use Rattle.esm_model.specs.Books.{entry_line}
 use Rattle.esm_model.specs.Setting.{Setting, Stream}
+use Rattle.esm_journal_record.specs.EntryPayload.{entry_payload}
 use Rattle.esm_book.specs.Decided.{written_of}
 use Rattle.esm_book.specs.State.{in_hand, in_delivery}
 use Rattle.esm_stream_core.specs.CoreView.{CoreView, full_setting, setting_with, MayFollowFront, HandFollows, lines_of}
@@ -73,3 +77,30 @@ tried_follows v why e follows alone writing is some =
     let written : 0 < length (payloads_in (full_setting v) (take 1 v.owed)) =
     subst (λ (es : List Entry). 0 < length (payloads_in (full_setting v) es)) (sym first) (lined_written (full_setting v) e lined) in
     subst (λ (parts : List Stream). MayFollowFront (setting_with v.setting parts) v.past e) (alone written) (follows e first)
+
+-- exactly one
+
+one_has : (text : Entry → Option (List ℕ)) (e : Entry) (o : Option (List ℕ)) → text e ≡ o → 0 < length (cons_option o []) → (x : Entry) × (written : List ℕ) × (e ∷ [] ≡ x ∷ []) × (text x ≡ Some written)
+one_has text e None is some = no_line some
+one_has text e (Some written) is some = (e, written, refl, is)
+
+-- the first of these entries, where something is written of it
+first_has : (text : Entry → Option (List ℕ)) (es : List Entry) → 0 < length (filter_map text (take 1 es)) → (e : Entry) × (written : List ℕ) × (take 1 es ≡ e ∷ []) × (text e ≡ Some written)
+first_has text [] some = no_line some
+first_has text (e ∷ es) some = one_has text e (text e) refl some
+
+-- is in hand where a disk failed, and its payload stands over the records that came
+pub one_in_hand : (v : CoreView) (why : Option Trouble) → (0 < length (payloads_in (full_setting v) (take 1 v.owed)) → v.coming ≡ []) → 0 < length (written_of payload_in (take 1 (owed_of v)))
+    → why ≡ Some Disk → (e : Entry) × (payload : List ℕ) × (in_hand why v.owed ≡ e ∷ []) × (entry_payload v.setting e ≡ Some payload)
+one_in_hand v why alone writing is =
+    let written : 0 < length (payloads_in (full_setting v) (take 1 v.owed)) =
+    subst (λ (texts : List (List ℕ)). 0 < length texts) (ap (written_of payload_in) (take-entries (full_setting v) v.owed) ∙ payloads_told (full_setting v) (take 1 v.owed)) writing in
+    let own : 0 < length (payloads_in v.setting (take 1 v.owed)) = subst (λ (parts : List Stream). 0 < length (payloads_in (setting_with v.setting parts) (take 1 v.owed))) (alone written) written in
+    let first = first_has (entry_payload v.setting) v.owed own in
+    (first.0, first.1, ap (λ (t : Option Trouble). in_hand t v.owed) is ∙ first.2, first.3)
+
+-- and is tried where the destination failed
+pub one_tried : (owed : List Entry) (why : Option Trouble) → 0 < length (lines_of (take 1 owed)) → why ≡ Some Dest → (e : Entry) × (line : List ℕ) × (in_delivery why owed ≡ e ∷ []) × (entry_line e ≡ Some line)
+one_tried owed why writing is =
+    let first = first_has entry_line owed writing in
+    (first.0, first.1, ap (λ (t : Option Trouble). in_delivery t owed) is ∙ first.2, first.3)

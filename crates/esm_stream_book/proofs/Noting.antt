@@ -17,6 +17,7 @@ use Rattle.esm_model.specs.Books.{entries_told, came_with, records_told, stream_
 use Rattle.esm_model.proofs.TellingFacts.{entries_more, records-append}
 use Rattle.esm_book.specs.Hand.{is_end}
 use Rattle.esm_book.specs.State.{in_hand, in_delivery}
+use Rattle.esm_journal_record.specs.EntryPayload.{entry_payload}
 use Rattle.esm_ledger.specs.Ledger.{LegalOver}
 use Rattle.esm_outcome.specs.Ending.{SettledOver}
 use Rattle.esm_stream_core.specs.CoreView.{full_setting, MayFollowFront}
@@ -112,6 +113,12 @@ module _ {D T : Type 0} (old new : BookState D T) (X : List StreamEntry) (e : En
               subst (λ (s : Setting). MayFollowFront s new.core.past x) (sym same)
               (subst (λ (h : List Entry). MayFollowFront old.core.setting h x) past
               (follows_on (λ before y. LegalOver old.core.setting (y ∷ before)) old.core.past e x ends (sound.tried_follows x was)));
+          hand_is_one = λ failed.
+              let one = sound.hand_is_one (sym up ∙ failed) in
+              (one.0, one.1, ap₂ (λ (why : Option Trouble) (es : List Entry). in_hand why es) up added.owed ∙ one.2, ap (λ (s : Setting). entry_payload s one.0) same ∙ one.3);
+          tried_is_one = λ failed.
+              let one = sound.tried_is_one (sym up ∙ failed) in
+              (one.0, one.1, ap₂ (λ (why : Option Trouble) (es : List Entry). in_delivery why es) up added.owed ∙ one.2, one.3);
         };
       }
 

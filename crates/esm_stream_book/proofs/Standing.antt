@@ -35,10 +35,10 @@ use Rattle.esm_stream_book.proofs.Going.{stream_meaning}
 use Rattle.esm_stream_book.proofs.Endings.{lines_sent}
 
 -- a book in which no record came
-pub sound_new : {D T : Type 0} (b : BookState D T) (s : Setting) → s.streams ≡ [] → b.core ≡ new_view s → IsSound b
-sound_new {D} {T} b s none is =
+pub sound_new : {D T : Type 0} (b : BookState D T) (s : Setting) → s.streams ≡ [] → b.core ≡ new_view s → b.trouble ≡ None → IsSound b
+sound_new {D} {T} b s none is up =
     let fresh : BookState D T = record b { core = new_view s } in
-    let sound : IsSound fresh = record { records = none; of_stream = All-nil IsOfStream; legal = λ streams goes. tt; settled = λ up. none_settled s; hand_follows = λ e some. absurd (none_in_hand b.trouble [] e refl some); tried_follows = λ e some. absurd (none_in_delivery b.trouble [] e refl some) } in
+    let sound : IsSound fresh = record { records = none; of_stream = All-nil IsOfStream; legal = λ streams goes. tt; settled = λ none. none_settled s; hand_follows = λ e some. absurd (none_in_hand b.trouble [] e refl some); tried_follows = λ e some. absurd (none_in_delivery b.trouble [] e refl some); hand_is_one = λ failed. absurd (cc (sym up ∙ failed)); tried_is_one = λ failed. absurd (cc (sym up ∙ failed)) } in
     subst (λ (v : CoreView). IsSound (record b { core = v })) (sym is) sound
 
 -- the devices

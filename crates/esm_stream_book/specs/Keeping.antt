@@ -7,9 +7,10 @@ use Rattle.esm_model.specs.declared.book.Trouble.{Trouble}
 use Rattle.esm_model.specs.declared.book.Trouble.TheVariants.{Disk, Dest, Changed}
 use Rattle.esm_model.specs.declared.entry.Entry.{Entry}
 use Rattle.esm_model.specs.declared.setup.Setup.{Setup}
-use Rattle.esm_model.specs.Books.{IsOfStream, streams_told}
+use Rattle.esm_model.specs.Books.{IsOfStream, entry_line, streams_told}
 use Rattle.esm_book.specs.Growth.{IsHeld, ReadsFront, Takes}
 use Rattle.esm_book.specs.State.{is_disk, is_dest, in_hand, in_delivery}
+use Rattle.esm_journal_record.specs.EntryPayload.{entry_payload}
 use Rattle.esm_ledger.specs.Ledger.{LegalOver}
 use Rattle.esm_outcome.specs.Ending.{SettledOver}
 use Rattle.esm_stream_core.specs.CoreView.{full_setting, MayFollowFront}
@@ -20,7 +21,9 @@ use Rattle.esm_stream_book.specs.Books.{BookState, payloads_in, sent_of}
 -- The setting has the records that the history tells, each `Came` stands with those that it covers, and the history is
 -- legal over all lists of records that go on from them. Where the book is not down, nothing is called for over any of them.
 -- The entry that was being written when a disk failed may follow the history, or a front of it after which calls and the
--- input ended alone, over all of them, and so may the one whose line was being delivered when the destination failed.
+-- input ended alone, over all of them, and so may the one whose line was being delivered when the destination failed. Where a
+-- disk failed exactly one entry was being written, which has a payload; and where the destination failed the line of exactly one
+-- was being delivered.
 pub record IsSound {D T : Type 0} (b : BookState D T) : Type 0 where
   pub records : b.core.setting.streams ≡ streams_told (told_of b.core)
   pub of_stream : All IsOfStream (told_of b.core)
@@ -28,6 +31,8 @@ pub record IsSound {D T : Type 0} (b : BookState D T) : Type 0 where
   pub settled : b.trouble ≡ None → SettledOver b.core.setting b.core.past
   pub hand_follows : (e : Entry) → in_hand b.trouble b.core.owed ≡ e ∷ [] → MayFollowFront b.core.setting b.core.past e
   pub tried_follows : (e : Entry) → in_delivery b.trouble b.core.owed ≡ e ∷ [] → MayFollowFront b.core.setting b.core.past e
+  pub hand_is_one : b.trouble ≡ Some Disk → (e : Entry) × (payload : List ℕ) × (in_hand b.trouble b.core.owed ≡ e ∷ []) × (entry_payload b.core.setting e ≡ Some payload)
+  pub tried_is_one : b.trouble ≡ Some Dest → (e : Entry) × (line : List ℕ) × (in_delivery b.trouble b.core.owed ≡ e ∷ []) × (entry_line e ≡ Some line)
 
 -- the setup is that of the book, whatever it says of the devices
 pub record IsSetupOf {D T : Type 0} (setup : Setup) (b : BookState D T) : Type 0 where

@@ -73,6 +73,7 @@ returns g c =
       stays = sound.stays;
       hand = sound.hand;
       hand_follows = sound.hand_follows;
+      hand_is_one = sound.hand_is_one;
     } in
     let of : AreOf files b new = record {
       journal = rw (← c.into_parts-history.ensures.pair) c.closed.ensures.journal;

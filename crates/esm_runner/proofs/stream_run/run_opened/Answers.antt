@@ -82,6 +82,8 @@ returns g c =
       hand = c.trouble.ensures.hand;
       hand_follows = sound.hand_follows;
       tried_follows = sound.tried_follows;
+      hand_is_one = sound.hand_is_one;
+      tried_is_one = sound.tried_is_one;
       now = c.disks_count_now.ensures;
     } in
     let of : AreOf b new = record {

@@ -7,4 +7,4 @@ use Rattle.esm_stream_book.proofs.stream_book.Book.open.Goals as goal
 pub invariant_of-result : goal.invariant_of-result
 invariant_of-result g c =
     let over = c.in-Ok.ensures.opened in
-    sound_new c.new.result (opened_with c.args.config c.args.calls over.said) refl (ap (λ (b : BookState g.row.D.Denot g.row.T.Denot). b.core) c.new.ensures ∙ over.is)
+    sound_new c.new.result (opened_with c.args.config c.args.calls over.said) refl (ap (λ (b : BookState g.row.D.Denot g.row.T.Denot). b.core) c.new.ensures ∙ over.is) (ap (λ (b : BookState g.row.D.Denot g.row.T.Denot). b.trouble) c.new.ensures)
