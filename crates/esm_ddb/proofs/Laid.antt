@@ -81,7 +81,7 @@ mutual
       let same = ap (λ us. length (lexemes_of false us)) (append_assoc (json_tokens j) (members_tokens ms) ts) in
       omega (arith, same, count_value j (members_tokens ms ++ ts), count_other ms ts)
 
-lexemes_are : (text : List ℕ) (j : Json) → tokens text ≡ json_tokens j → lex between text ≡ lexemes_of false (json_tokens j)
+pub lexemes_are : (text : List ℕ) (j : Json) → tokens text ≡ json_tokens j → lex between text ≡ lexemes_of false (json_tokens j)
 lexemes_are text j is =
     let good : NoBad (tokens text) = subst NoBad (append-nil (json_tokens j) ∙ sym is) (no_bad j) in
     punctuated_from fresh (lex between text) good ∙ ap (lexemes_of false) is

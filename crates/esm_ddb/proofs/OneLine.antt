@@ -24,7 +24,7 @@ use Rattle.esm_ddb.proofs.ReadBack.{IsWritten, line_is, line_of_texts, plain_lin
 feed_one : (x : ℕ) → is_plain x ≡ true → is_line_feed x ≡ false
 feed_one x h = grind (arith, nat_tests)
 
-no_feed : (xs : List ℕ) → list_all is_plain xs ≡ true → All (λ b. is_line_feed b ≡ false) xs
+pub no_feed : (xs : List ℕ) → list_all is_plain xs ≡ true → All (λ b. is_line_feed b ≡ false) xs
 no_feed [] h = All-nil (λ b. is_line_feed b ≡ false)
 no_feed (x ∷ xs) h =
     let p = and_parts (is_plain x) (list_all is_plain xs) h in

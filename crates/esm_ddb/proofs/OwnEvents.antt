@@ -29,7 +29,7 @@ use Rattle.esm_ddb.proofs.Trees.{ranged_data}
 abbrev pub text_of : Own → List ℕ
 text_of o = whole_text o.texts
 
-abbrev json_of : Own → Json
+abbrev pub json_of : Own → Json
 json_of o = texts_json o.texts
 
 abbrev pub data_of : Own → List ℕ
@@ -44,22 +44,22 @@ IsItself o = IsElement (text_of o) (json_of o) (data_of o)
 itself : (o : Own) → IsOwn o → IsItself o
 itself o is = texts_element o.texts o.payload is.plain is.data_is
 
-all_elements : (os : List Own) → All IsOwn os → All IsItself os
+pub all_elements : (os : List Own) → All IsOwn os → All IsItself os
 all_elements os all = All-weaker IsOwn IsItself itself os all
 
-abbrev items_in : List Own → Items
+abbrev pub items_in : List Own → Items
 items_in os = items_of text_of json_of data_of os
 
 abbrev event_json : List Own → Json
 event_json os = object (member (codes "Records") (array (items_in os)) no_members)
 
-numbers_in : (os : List Own) → All IsOwn os → ItemsHaveNumbers (items_in os)
+pub numbers_in : (os : List Own) → All IsOwn os → ItemsHaveNumbers (items_in os)
 numbers_in [] all = tt
 numbers_in (o ∷ os) all =
     let number = moment_number o.texts.moment (All-head IsOwn o os all).plain.moment in
     (((tt, (tt, (tt, (tt, (number, tt))))), (tt, (tt, (tt, (tt, (tt, (tt, (tt, tt)))))))), numbers_in os (All-tail IsOwn o os all))
 
-shallow_in : (os : List Own) → items_depth (items_in os) ≤ 2
+pub shallow_in : (os : List Own) → items_depth (items_in os) ≤ 2
 shallow_in [] = lit≤ tt
 shallow_in (o ∷ os) = let own : depth (json_of o) ≡ 2 = refl in let more = shallow_in os in omega (arith, own, more)
 
@@ -77,7 +77,7 @@ more_printed (o ∷ os) ts all =
     ∙ ap (λ l. 44 ∷ (text_of o ++ l)) (more_printed os ts (All-tail IsOwn o os all))
     ∙ ap (λ l. 44 ∷ l) (sym (append_assoc (text_of o) (other_texts os) (93 ∷ print_from true ts)))
 
-list_printed : (os : List Own) (ts : List Token) → All IsOwn os → print_from false (items_tokens (items_in os) ++ ts) ≡ join_by text_of (codes ",") os ++ 93 ∷ print_from true ts
+pub list_printed : (os : List Own) (ts : List Token) → All IsOwn os → print_from false (items_tokens (items_in os) ++ ts) ≡ join_by text_of (codes ",") os ++ 93 ∷ print_from true ts
 unfolding print_from
 list_printed [] ts all = refl
 list_printed (o ∷ os) ts all =
@@ -113,7 +113,7 @@ text_is o os = ap (λ l. head_text ++ l) (append_assoc (text_of o) (other_texts 
 texts_ranged : (t : Texts) → is_some (number_of t.moment) ≡ true → is_ranged (texts_json t) ≡ true
 texts_ranged t h = rw h refl
 
-items_ranged : (os : List Own) → All IsOwn os → are_ranged (items_in os) ≡ true
+pub items_ranged : (os : List Own) → All IsOwn os → are_ranged (items_in os) ≡ true
 items_ranged [] all = refl
 items_ranged (o ∷ os) all =
     rw (texts_ranged o.texts (moment_in_range o.texts.moment (All-head IsOwn o os all).plain.moment), items_ranged os (All-tail IsOwn o os all)) refl
@@ -121,13 +121,13 @@ items_ranged (o ∷ os) all =
 event_ranged : (os : List Own) → All IsOwn os → is_ranged (event_json os) ≡ true
 event_ranged os all = rw (items_ranged os all) refl
 
-own_plain : (o : Own) → IsOwn o → list_all is_plain (text_of o) ≡ true
+pub own_plain : (o : Own) → IsOwn o → list_all is_plain (text_of o) ≡ true
 own_plain o is = whole_plain o.texts is.plain
 
 comma_plain : (a b : List ℕ) → list_all is_plain a ≡ true → list_all is_plain b ≡ true → list_all is_plain ((codes "," ++ a) ++ b) ≡ true
 comma_plain a b ha hb = simp (list_all-append, ha, hb)
 
-commas_plain : (os : List Own) → All IsOwn os → list_all is_plain (other_texts os) ≡ true
+pub commas_plain : (os : List Own) → All IsOwn os → list_all is_plain (other_texts os) ≡ true
 commas_plain [] all = refl
 commas_plain (o ∷ os) all = comma_plain (text_of o) (other_texts os) (own_plain o (All-head IsOwn o os all)) (commas_plain os (All-tail IsOwn o os all))
 
@@ -149,7 +149,7 @@ event_reads os all =
 
 -- ---- its elements
 
-head_places : (xs : List ℕ) → places_from between 0 (head_text ++ xs) ≡ (0 ∷ 1 ∷ 10 ∷ 11 ∷ []) ++ places_from between 12 xs
+pub head_places : (xs : List ℕ) → places_from between 0 (head_text ++ xs) ≡ (0 ∷ 1 ∷ 10 ∷ 11 ∷ []) ++ places_from between 12 xs
 unfolding places_from
 head_places xs = refl
 
@@ -167,7 +167,7 @@ none_found : read_elements (own_text []) ≡ Some []
 none_found =
     ap (λ (j : Option Json). option_and_then (object_elements (places [] (own_text []))) j) (reads_as [] (All-nil IsOwn))
 
-event_is : (text : List ℕ) (es : Option (List Element)) → is_some (read_json text) ≡ true → read_elements text ≡ es → ddb_event text ≡ event_with text es
+pub event_is : (text : List ℕ) (es : Option (List Element)) → is_some (read_json text) ≡ true → read_elements text ≡ es → ddb_event text ≡ event_with text es
 unfolding ddb_event
 event_is text es reads is = ap (λ b. event_with text (cond b (read_elements text) None)) reads ∙ ap (event_with text) is
 

@@ -24,21 +24,21 @@ pub record IsTold (c : Change) : Type 0 where
   pub arrival : c.arrival ≤ 253402300799999
   pub seq : is_sequence c.item.seq ≡ true
 
-inner : {X : Type 0} (a b : X) → Some a ≡ Some b → a ≡ b
+pub inner : {X : Type 0} (a b : X) → Some a ≡ Some b → a ≡ b
 inner a b h = cc
 
-then_some : {A B : Type 0} (o : Option A) (f : A → Option B) (y : B) → option_and_then f o ≡ Some y → (x : A) × (o ≡ Some x) × (f x ≡ Some y)
+pub then_some : {A B : Type 0} (o : Option A) (f : A → Option B) (y : B) → option_and_then f o ≡ Some y → (x : A) × (o ≡ Some x) × (f x ≡ Some y)
 then_some None f y h = absurd (cc)
 then_some (Some x) f y h = (x, refl, h)
 
-only_some : {A : Type 0} (b : Bool) (x y : A) → only_if b x ≡ Some y → (b ≡ true) × (x ≡ y)
+pub only_some : {A : Type 0} (b : Bool) (x y : A) → only_if b x ≡ Some y → (b ≡ true) × (x ≡ y)
 only_some true x y h = (refl, inner x y h)
 only_some false x y h = absurd (cc)
 
 abbrev good : {A : Type 0} → A → Result A DdbError
 good x = Ok x
 
-ok_inner : {A : Type 0} (a b : A) → good a ≡ good b → a ≡ b
+pub ok_inner : {A : Type 0} (a b : A) → good a ≡ good b → a ≡ b
 ok_inner a b h = cc
 
 abbrev the_record : Data → Option Data → Option Data → List ℕ → ℕ → List ℕ → StreamRecord
@@ -51,7 +51,7 @@ pub then_ok : {A B : Type 0} (r : Result A DdbError) (f : A → Result B DdbErro
 then_ok (Err e) f y h = absurd (cc)
 then_ok (Ok x) f y h = (x, refl, h)
 
-ok_some : {A : Type 0} (o : Option A) (e : DdbError) (y : A) → ok_or o e ≡ Ok y → o ≡ Some y
+pub ok_some : {A : Type 0} (o : Option A) (e : DdbError) (y : A) → ok_or o e ≡ Ok y → o ≡ Some y
 ok_some None e y h = absurd (cc)
 ok_some (Some x) e y h = ap (λ z. Some z) (ok_inner x y h)
 

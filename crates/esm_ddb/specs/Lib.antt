@@ -7,6 +7,7 @@ pub mod Gives
 pub mod GoesOn
 pub mod ItemText
 pub mod Lexemes
+pub mod LineByLine
 pub mod OwnForm
 pub mod OwnLine
 pub mod ReadsBack

@@ -7,7 +7,6 @@ use Rattle.esm_model.specs.declared.limits.TheConstants.{MAX_LINE}
 use Rattle.esm_record.specs.Input.{is_blank, lines_of}
 use Rattle.esm_record.specs.Line.{line_of, only_object, record_of}
 use Rattle.esm_ddb.specs.Change.{◌>>=◌, Change, change_of}
-use Rattle.esm_ddb.specs.Element.{element}
 use Rattle.esm_ddb.specs.Turned.{turned, turned_record}
 use Rattle.esm_ddb.specs.declared.error.DdbError.{DdbError}
 use Rattle.esm_ddb.specs.declared.error.DdbError.TheVariants.{NotJson}
@@ -26,13 +25,17 @@ pub record IsOneLine (text : List ℕ) : Type 0 where
   pub seen : is_blank text ≡ false
   pub short : length text ≤ MAX_LINE
 
--- of a line that is not blank: it tells a change, and what it became is the line of that change's record, where its element is
--- bytes
+-- the region and the ARN of the stream are bytes
+pub record IsOfBytes (s : Source) : Type 0 where
+  pub region : list_all is_byte s.region ≡ true
+  pub arn : list_all is_byte s.arn ≡ true
+
+-- of a line that is not blank: it tells a change, and what it became is the line of that change's record
 pub record ReadsBack (s : Source) (line text : List ℕ) : Type 0 where
   pub change : Change
   pub told : change_in line ≡ Ok change
-  pub stands : list_all is_byte (element s change) ≡ true → IsOneLine text
-  pub reads : list_all is_byte (element s change) ≡ true → line_of record_of text ≡ Ok (turned_record s change)
+  pub stands : IsOneLine text
+  pub reads : line_of record_of text ≡ Ok (turned_record s change)
 
 abbrev pub IsReadBack : Type 0
-IsReadBack = (s : Source) (line text : List ℕ) → is_blank line ≡ false → turned s line ≡ Ok text → ReadsBack s line text
+IsReadBack = (s : Source) (line text : List ℕ) → IsOfBytes s → is_blank line ≡ false → turned s line ≡ Ok text → ReadsBack s line text

@@ -7,10 +7,10 @@ ghost use Rattle.esm_ddb.specs.declared.source.Source.{Source as Stream};
 
 use crate::error::DdbLine;
 use crate::piece::{read_bytes, turn_piece};
-use crate::translator::Translator;
-use esm_event::bytes::push_bytes;
+use crate::text_pieces::TextPieces;
+use crate::translator::{Translator, Turned};
 use esm_io::Source;
-use esm_model::{Bytes, Config, OutOfMemory, Refused};
+use esm_model::{Config, OutOfMemory, Refused};
 use std::alloc::Global;
 
 /// How many bytes one read of the source asks for.
@@ -30,7 +30,7 @@ pub enum InputTurned {
 /// An input that was read and turned: the source, as the reading left it, the lines that its lines became, and why it ended.
 pub struct TurnedInput<S> {
     pub source: S,
-    pub text: Bytes,
+    pub text: TextPieces,
     pub end: InputTurned,
 }
 
@@ -49,13 +49,13 @@ fn turn_more<S: Source>(
     source: &mut S,
     translator: &mut Translator,
     buffer: &mut Vec<u8>,
-    text: &mut Vec<u8>,
+    text: &mut TextPieces,
 ) -> Result<Option<InputTurned>, OutOfMemory>
     requires room { 0 < vec_len buffer.old }
     requires going { translator.old.finished ≡ false }
     ensures stands { IfOk result (λ end. (s : Stream) (first : S)
-        → IsTurnedSoFar S.faults S.left s first source.old translator.old text.old.items
-        → StandsSo S.faults S.left s first source.new translator.new text.new.items end) }
+        → IsTurnedSoFar S.faults S.left s first source.old translator.old text.old
+        → StandsSo S.faults S.left s first source.new translator.new text.new end) }
     ensures taken { (more : List ℕ) × IsRead S.faults S.left source.old source.new more }
     ensures room { vec_len buffer.new ≡ vec_len buffer.old }
 {
@@ -63,8 +63,9 @@ fn turn_more<S: Source>(
         return Ok(Some(InputTurned::Failed));
     };
     let turned = turn_piece(translator, &buffer[..count])?;
-    push_bytes(text, turned.bytes.as_slice())?;
-    Ok(end_of(count == 0, turned.bad))
+    let Turned { bytes, bad } = turned;
+    text.push(bytes)?;
+    Ok(end_of(count == 0, bad))
 }
 
 /// Reads the source and appends what its lines become, up to the first bad line.
@@ -72,10 +73,10 @@ fn turn_all<S: Source>(
     alloc: Global,
     config: &Config,
     source: &mut S,
-    text: &mut Vec<u8>,
+    text: &mut TextPieces,
 ) -> Result<InputTurned, OutOfMemory>
-    requires empty { text.old.items ≡ [] }
-    ensures turned { IfOk result (λ end. IsTurnedInput S.faults S.left (source_of config.now) source.old source.new text.new.items end) }
+    requires empty { text.old ≡ [] }
+    ensures turned { IfOk result (λ end. IsTurnedInput S.faults S.left (source_of config.now) source.old source.new text.new end) }
     ensures taken { (more : List ℕ) × IsTaken S.faults S.left source.old source.new more }
 {
     let mut translator = Translator::new(alloc, config)?;
@@ -99,13 +100,9 @@ pub fn turn_input<S: Source>(
     ensures back { IfErr result (λ refused. (bytes : List ℕ) × IsTaken S.faults S.left source refused.back bytes) }
 {
     let mut source = source;
-    let mut text = Vec::new(alloc);
+    let mut text = TextPieces::new(alloc);
     match turn_all(alloc, config, &mut source, &mut text) {
-        Ok(end) => Ok(TurnedInput {
-            source,
-            text: Bytes::from_vec(text),
-            end,
-        }),
+        Ok(end) => Ok(TurnedInput { source, text, end }),
         Err(_) => Err(Refused {
             why: OutOfMemory,
             back: source,

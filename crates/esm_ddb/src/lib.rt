@@ -31,6 +31,7 @@ mod source;
 mod splitter;
 #[cfg(test)]
 mod tests;
+mod text_pieces;
 mod translator;
 mod tree;
 mod turned;
@@ -43,4 +44,5 @@ pub use event::ddb_event;
 pub use failure_line::ddb_line;
 pub use input::{InputTurned, TurnedInput, turn_input};
 pub use source::Source;
+pub use text_pieces::TextPieces;
 pub use translator::{Translator, Turned};

@@ -6,6 +6,7 @@ use crate::error::{DdbError, DdbField, DdbLine, Refusal};
 use crate::event::ddb_event;
 use crate::input::{InputTurned, TurnedInput, turn_input};
 use crate::source::Source;
+use crate::text_pieces::TextPieces;
 use crate::translator::Translator;
 use crate::turned::turned;
 use esm_io::{Dest, MemDest, MemSource};
@@ -187,8 +188,19 @@ fn pieces(rt: HostRuntime) -> Result<(), Fail> {
     Ok(())
 }
 
+/// The bytes of the pieces, 6,400 at most.
+fn all_of(alloc: Global, mut pieces: TextPieces) -> Result<Vec<u8>, Fail> {
+    let mut all = Vec::new(alloc);
+    let mut buffer = [0u8; 64];
+    for _ in 0..100 {
+        let count = pieces.read(&mut buffer);
+        all.extend_from_slice(&buffer[..count])?;
+    }
+    Ok(all)
+}
+
 /// What is left of an input that was read a byte a time, whose read of this number fails: what it became, and why it ended.
-fn input_of(alloc: Global, text: &str, fail: u64) -> Result<(Bytes, InputTurned), Fail> {
+fn input_of(alloc: Global, text: &str, fail: u64) -> Result<(Vec<u8>, InputTurned), Fail> {
     let config = mapping(alloc)?;
     let bytes = Vec::from_slice(alloc, text.as_bytes())?;
     let fails = vec![in alloc; fail]?;
@@ -196,7 +208,7 @@ fn input_of(alloc: Global, text: &str, fail: u64) -> Result<(Bytes, InputTurned)
         Ok(input) => {
             let TurnedInput { source, text, end } = input;
             drop(source);
-            Ok((text, end))
+            Ok((all_of(alloc, text)?, end))
         }
         Err(_) => Err(Fail::from("no memory")),
     }

@@ -14,19 +14,19 @@ loop-init g c =
     let size : vec_len c.in_ok-buffer.buffer ≡ 65536 = c.in_ok-buffer.ensures.len in
     let room : 0 < vec_len c.in_ok-buffer.buffer = omega (arith, size) in (
       room,
-      begins g.S.Source.faults g.S.Source.left (source_of c.args.config.now) c.args.source.now c.in_ok-translator.translator c.args.text.now.items
+      begins g.S.Source.faults g.S.Source.left (source_of c.args.config.now) c.args.source.now c.in_ok-translator.translator c.args.text.now
           c.in_ok-translator.ensures.fed c.in_ok-translator.ensures.source c.in_ok-translator.ensures.going c.requires.empty,
     )
 
 pub returns-in_err-end-clause-taken : goal.returns-in_err-end-clause-taken
 returns-in_err-end-clause-taken g c =
-    taken_again g.S.Source.faults g.S.Source.left (source_of c.args.config.now) c.args.source.now c.loop.source c.turn_more.new.source c.loop.translator c.loop.text.items c.loop.invariant.1 c.turn_more.ensures.taken
+    taken_again g.S.Source.faults g.S.Source.left (source_of c.args.config.now) c.args.source.now c.loop.source c.turn_more.new.source c.loop.translator c.loop.text c.loop.invariant.1 c.turn_more.ensures.taken
 
 pub returns-in-Some-clause-turned : goal.returns-in-Some-clause-turned
 returns-in-Some-clause-turned g c =
-    at_last g.S.Source.faults g.S.Source.left (source_of c.args.config.now) c.args.source.now c.turn_more.new.source c.turn_more.new.translator c.turn_more.new.text.items c.in_ok-end.field-0 c.in-Some.end
+    at_last g.S.Source.faults g.S.Source.left (source_of c.args.config.now) c.args.source.now c.turn_more.new.source c.turn_more.new.translator c.turn_more.new.text c.in_ok-end.field-0 c.in-Some.end
     c.in-Some.is (c.in_ok-end.ensures.stands (source_of c.args.config.now) c.args.source.now c.loop.invariant.1)
 
 pub returns-in-Some-clause-taken : goal.returns-in-Some-clause-taken
 returns-in-Some-clause-taken g c =
-    taken_again g.S.Source.faults g.S.Source.left (source_of c.args.config.now) c.args.source.now c.loop.source c.turn_more.new.source c.loop.translator c.loop.text.items c.loop.invariant.1 c.turn_more.ensures.taken
+    taken_again g.S.Source.faults g.S.Source.left (source_of c.args.config.now) c.args.source.now c.loop.source c.turn_more.new.source c.loop.translator c.loop.text c.loop.invariant.1 c.turn_more.ensures.taken

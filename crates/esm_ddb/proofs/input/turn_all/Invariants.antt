@@ -5,4 +5,4 @@ use Rattle.esm_ddb.specs.TurnedSoFar.{IsTurnedSoFar}
 use Rattle.esm_ddb.proofs.input.turn_all.Given as goal
 
 abbrev pub invariant-loop : goal.invariant-loop
-invariant-loop g l = (0 < vec_len l.buffer) × IsTurnedSoFar g.S.Source.faults g.S.Source.left (source_of l.config) l.fn.source l.source l.translator l.text.items
+invariant-loop g l = (0 < vec_len l.buffer) × IsTurnedSoFar g.S.Source.faults g.S.Source.left (source_of l.config) l.fn.source l.source l.translator l.text
