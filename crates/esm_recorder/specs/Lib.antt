@@ -1,0 +1,3 @@
+pub mod Recorder
+pub mod Laws
+pub mod Lists
