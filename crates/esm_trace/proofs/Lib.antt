@@ -4,3 +4,5 @@ pub mod Escapes
 pub mod MemberTexts
 pub mod Lines
 pub mod Histories
+pub mod Order
+pub mod CallsTell

@@ -3,14 +3,18 @@
 //! Pure: values in, bytes out. No device, clock or thread.
 #![tactic(auto)]
 
+mod batchers;
 mod entry;
 mod kinds;
 pub mod laws;
 mod members;
+mod replies;
 mod trace;
 pub mod worked;
 
+pub use batchers::Batchers;
 pub use entry::push_entry;
+pub use replies::in_order;
 pub use trace::push_trace;
 
 #[cfg(test)]

@@ -1,5 +1,5 @@
-// Tests: the line of a call's end, and the text of a short history.
-use crate::{push_entry, push_trace};
+// Tests: the line of a call's end, the text of a short history, and the order of its replies.
+use crate::{Batchers, in_order, push_entry, push_trace};
 use esm_model::{Bytes, Entry, Kind, LaneId, PastReply, Reply};
 use std::test::Fail;
 
@@ -40,5 +40,20 @@ fn text_of_a_history(rt: HostRuntime) -> Result<(), Fail> {
     let text =
         b"{\"at\":9,\"entry\":\"came\",\"shard\":\"queue\",\"first\":0,\"count\":1}\n{\"at\":10,\"entry\":\"shut\"}\n";
     assert_eq!(rt; out.as_slice(), text.as_slice());
+    Ok(())
+}
+
+#[test]
+fn replies_of_a_queue(rt: HostRuntime) -> Result<(), Fail> {
+    let alloc = rt.alloc();
+    let ended = Entry::Ended {
+        lane: LaneId { shard: 0, lane: 1 },
+        reply: PastReply::of(&Reply::Lost),
+        moment: 3,
+    };
+    let history = vec![in alloc; ended]?;
+    let kept = vec![in alloc; Vec::new(alloc), vec![in alloc; Reply::Lost]?]?;
+    let replies = in_order(alloc, Batchers::OfQueue, &history, kept)?;
+    assert_eq!(rt; replies.len(), 1);
     Ok(())
 }
