@@ -7,6 +7,7 @@ use Rattle.std.proofs.lemmas.Slice.Eq.{bytes_eq-Decides}
 use Rattle.clap.specs.Walk.{Row, Text, has_row, with_default, first_of, one_of, more_values, row_text}
 use Rattle.clap.specs.declared.builder.value_parser.Reading.TheVariants.{AsWritten}
 use Rattle.clap.specs.declared.parser.matches.ValueSource.TheVariants.{DefaultValue}
+use Rattle.esm_cli.specs.Clap.{FlagReads}
 use Rattle.esm_cli.specs.Spelling.{Given, Options, has_its_value, is_given, is_listed, listed, value_of}
 use Rattle.esm_cli.proofs.Bools.{either, not_false, or_left, or_right}
 use Rattle.esm_cli.proofs.Rules.{rules, rule_by, same_second, second_of}
@@ -175,12 +176,6 @@ none_given os id (g ∷ gs) none all =
       | inr miss ↦ ap (λ b. b || is_given id gs) miss ∙ none_given os id gs none (all_fit os g gs all).1
     ]
 
--- what a getter of a flag answers by the text
-pub record FlagReads (text : Option Text) (answer : Bool) : Type 0 where
-  pub none : text ≡ None → answer ≡ false
-  pub value : text ≡ Some (codes "true") → answer ≡ true
-  pub other : text ≡ Some (codes "false") → answer ≡ false
-
 -- of a command that has no such name
 pub no_flag : (os : Options) (id : Text) (gs : List Given) (answer : Bool) → listed os id ≡ None → is_flag os id ≡ false → list_all (is_listed os) gs ≡ true
     → FlagReads (one_of id (with_defaults (map row gs) os)) answer → is_given id gs ≡ answer
@@ -193,16 +188,30 @@ no_flag os id gs answer none h all reads =
     no_row id [] h = refl
     no_row id (r ∷ rs) h = ap (λ b. cond b (Some r) (row_at id rs)) (or_left (is_row id r) (has_row id rs) h) ∙ no_row id rs (or_right (is_row id r) (has_row id rs) h)
 
--- of a command whose only default is this flag's
-pub one_flag : (os : Options) (id : Text) (gs : List Given) (answer : Bool) → listed os id ≡ Some (id, false) → list_all (is_listed os) gs ≡ true
-    → FlagReads (one_of id (plus id false (map row gs))) answer → is_given id gs ≡ answer
-one_flag os id gs answer found all reads = elim (either (is_given id gs)) [
+-- whether an id has a row
+has_by : (id : Text) (rs : List Row) → has_row id rs ≡ is_some (row_at id rs)
+has_by id [] = refl
+has_by id (r ∷ rs) =
+    ap (λ b. is_row id r || b) (has_by id rs)
+    ∙ (elim (is_row id r) as (λ b. (b || is_some (row_at id rs)) ≡ is_some (cond b (Some r) (row_at id rs))) [ true ↦ refl | false ↦ refl ])
+
+-- the default of another flag changes nothing
+pub other_flag : (id name : Text) (rs : List Row) → bytes_eq name id ≡ false → row_at id (plus name false rs) ≡ row_at id rs
+other_flag id name rs h = same_one id name false rs (ap (λ b. b && true) h)
+
+-- of a command with this flag's default, over rows that are the given ones of its id
+pub one_flag : (os : Options) (id : Text) (gs : List Given) (rs : List Row) (answer : Bool) → listed os id ≡ Some (id, false) → row_at id rs ≡ row_at id (map row gs)
+    → list_all (is_listed os) gs ≡ true → FlagReads (one_of id (plus id false rs)) answer → is_given id gs ≡ answer
+one_flag os id gs rs answer found same all reads = elim (either (is_given id gs)) [
   | inl there ↦
-      let rows : plus id false (map row gs) ≡ map row gs = ap (λ b. cond b (map row gs) (map row gs ++ default_row id ∷ [])) (has_row-rows id gs ∙ there) in
-      there ∙ sym (reads.value (ap (one_of id) rows ∙ flag_rows os id gs found all there))
+      let rows : plus id false rs ≡ rs = ap (λ b. cond b rs (rs ++ default_row id ∷ [])) (has ∙ there) in
+      there ∙ sym (reads.value (ap (one_of id) rows ∙ ap text_of same ∙ flag_rows os id gs found all there))
   | inr absent ↦
-      let no = has_row-rows id gs ∙ absent in
-      let rows : plus id false (map row gs) ≡ map row gs ++ default_row id ∷ [] = ap (λ b. cond b (map row gs) (map row gs ++ default_row id ∷ [])) no in
+      let no = has ∙ absent in
+      let rows : plus id false rs ≡ rs ++ default_row id ∷ [] = ap (λ b. cond b rs (rs ++ default_row id ∷ [])) no in
       let last : row_at id (default_row id ∷ []) ≡ Some (default_row id) = ap (λ b. cond b (Some (default_row id)) None) ((bytes_eq-Decides id id).1 refl) in
-      absent ∙ sym (reads.other (ap (one_of id) rows ∙ ap text_of (found_behind id (map row gs) (default_row id ∷ []) no ∙ last)))
+      absent ∙ sym (reads.other (ap (one_of id) rows ∙ ap text_of (found_behind id rs (default_row id ∷ []) no ∙ last)))
 ]
+  where
+    has : has_row id rs ≡ is_given id gs
+    has = has_by id rs ∙ ap is_some same ∙ sym (has_by id (map row gs)) ∙ has_row-rows id gs

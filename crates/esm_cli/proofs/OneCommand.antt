@@ -4,9 +4,10 @@ use Rattle.std.proofs.lemmas.Fmt.{decimal_injective}
 use Rattle.clap.specs.Walk.{Text}
 use Rattle.esm_cli.specs.Spelling.{Given, AreOptions}
 use Rattle.esm_cli.specs.Tables.{listing, options_of, verb_name, verb_named}
-use Rattle.esm_cli.specs.Words.{IsCommand, IsNumber, IsNumberFrom, IsRun, IsSaid, IsWhich, Values, reads_first, spells, values_in, verb_of}
+use Rattle.esm_cli.specs.Words.{IsCommand, IsNumber, IsNumberFrom, IsRun, IsSaid, IsWhich, Values, flags_in, spells, values_in, verb_of}
 use Rattle.esm_cli.specs.declared.command.Command.{Command}
 use Rattle.esm_cli.specs.declared.command.Command.TheVariants.{Init, Run, Show, Failures, Gen, Compact, Serve, Migrate, Ddb, Redrive, Replay}
+use Rattle.esm_cli.specs.declared.command.Flags.{Flags}
 use Rattle.esm_cli.specs.declared.command.RunWords.{RunWords}
 use Rattle.esm_cli.specs.declared.command.Which.{Which}
 use Rattle.esm_cli.specs.declared.command.Which.TheVariants.{Config, Mapping}
@@ -86,41 +87,41 @@ one_which value (Config a) (Mapping id) p q = absurd (let both : Some a ≡ None
 one_which value (Mapping id) (Config b) p q = absurd (let both : Some b ≡ None = sym q.0 ∙ p.0 in cc)
 one_which value (Mapping a) (Mapping b) p q = ap Mapping (one_text _ a b p.1 q.1)
 
-abbrev words_of : Which → ℕ → ℕ → ℕ → Bool → RunWords
-words_of which calls visibility timeout read_first =
-    record { which = which; calls = calls; visibility = visibility; timeout = timeout; read_first = read_first }
+abbrev words_of : Which → ℕ → ℕ → ℕ → Bool → Bool → RunWords
+words_of which calls visibility timeout read_first trace =
+    record { which = which; calls = calls; visibility = visibility; timeout = timeout; read_first = read_first; trace = trace }
 
-one_run : (value : Values) (first : Bool) (r q : RunWords) → IsRun value first r → IsRun value first q → r ≡ q
-one_run value first r q a b =
-    ap (λ w. words_of w r.calls r.visibility r.timeout r.read_first) (one_which value r.which q.which a.which b.which)
-    ∙ ap (λ n. words_of q.which n r.visibility r.timeout r.read_first) (one_number CALLS value r.calls q.calls (omega arith) a.calls b.calls)
-    ∙ ap (λ n. words_of q.which q.calls n r.timeout r.read_first) (one_number VISIBILITY value r.visibility q.visibility (omega arith) a.visibility b.visibility)
-    ∙ ap (λ n. words_of q.which q.calls q.visibility n r.read_first) (one_number TIMEOUT value r.timeout q.timeout (omega arith) a.timeout b.timeout)
-    ∙ ap (words_of q.which q.calls q.visibility q.timeout) (a.read_first ∙ sym b.read_first)
+one_run : (value : Values) (flags : Flags) (r q : RunWords) → IsRun value flags r → IsRun value flags q → r ≡ q
+one_run value flags r q a b =
+    ap (λ w. words_of w r.calls r.visibility r.timeout r.read_first r.trace) (one_which value r.which q.which a.which b.which)
+    ∙ ap (λ n. words_of q.which n r.visibility r.timeout r.read_first r.trace) (one_number CALLS value r.calls q.calls (omega arith) a.calls b.calls)
+    ∙ ap (λ n. words_of q.which q.calls n r.timeout r.read_first r.trace) (one_number VISIBILITY value r.visibility q.visibility (omega arith) a.visibility b.visibility)
+    ∙ ap (λ n. words_of q.which q.calls q.visibility n r.read_first r.trace) (one_number TIMEOUT value r.timeout q.timeout (omega arith) a.timeout b.timeout)
+    ∙ ap₂ (words_of q.which q.calls q.visibility q.timeout) (a.read_first ∙ sym b.read_first) (a.trace ∙ sym b.trace)
 
-pub one_said : (value : Values) (first : Bool) (c d : Command) → verb_of c ≡ verb_of d → IsSaid value first c → IsSaid value first d → c ≡ d
-one_said value first Init Init e a b = refl
-one_said value first (Run r) (Run q) e a b = ap Run (one_run value first r q a b)
-one_said value first Show Show e a b = refl
-one_said value first Failures Failures e a b = refl
-one_said value first (Gen n) (Gen m) e a b = ap Gen (one_number RECORDS value n m (omega arith) a b)
-one_said value first Compact Compact e a b = refl
-one_said value first (Serve n) (Serve m) e a b = ap Serve (one_number REQUESTS value n m (omega arith) a b)
-one_said value first Migrate Migrate e a b = refl
-one_said value first (Ddb s n p) (Ddb t m q) e a b =
-    ap₂ (λ x y. Ddb x y p) (one_text _ s t a.0 b.0) (one_number CALLS value n m (omega arith) a.1 b.1)
-    ∙ ap (Ddb t m) (one_number TIMEOUT value p q (omega arith) a.2 b.2)
-one_said value first (Redrive s r n v p) (Redrive t k m w q) e a b =
-    ap₂ (λ x y. Redrive x y n v p) (one_text _ s t a.0 b.0) (one_number MAX_RECEIVES value r k (omega arith) a.1 b.1)
-    ∙ ap₂ (λ x y. Redrive t k x y p) (one_number CALLS value n m (omega arith) a.2 b.2) (one_number VISIBILITY value v w (omega arith) a.3 b.3)
-    ∙ ap (Redrive t k m w) (one_number TIMEOUT value p q (omega arith) a.4 b.4)
-one_said value first (Replay s n p) (Replay t m q) e a b =
-    ap₂ (λ x y. Replay x y p) (one_text _ s t a.0 b.0) (one_number CALLS value n m (omega arith) a.1 b.1)
-    ∙ ap (Replay t m) (one_number TIMEOUT value p q (omega arith) a.2 b.2)
-one_said value first c d e a b = absurd (cc)
+pub one_said : (value : Values) (flags : Flags) (c d : Command) → verb_of c ≡ verb_of d → IsSaid value flags c → IsSaid value flags d → c ≡ d
+one_said value flags Init Init e a b = refl
+one_said value flags (Run r) (Run q) e a b = ap Run (one_run value flags r q a b)
+one_said value flags Show Show e a b = refl
+one_said value flags Failures Failures e a b = refl
+one_said value flags (Gen n) (Gen m) e a b = ap Gen (one_number RECORDS value n m (omega arith) a b)
+one_said value flags Compact Compact e a b = refl
+one_said value flags (Serve n) (Serve m) e a b = ap Serve (one_number REQUESTS value n m (omega arith) a b)
+one_said value flags Migrate Migrate e a b = refl
+one_said value flags (Ddb s n p x) (Ddb t m q y) e a b =
+    ap₂ (λ c k. Ddb c k p x) (one_text _ s t a.0 b.0) (one_number CALLS value n m (omega arith) a.1 b.1)
+    ∙ ap₂ (Ddb t m) (one_number TIMEOUT value p q (omega arith) a.2 b.2) (a.3 ∙ sym b.3)
+one_said value flags (Redrive s r n v p x) (Redrive t k m w q y) e a b =
+    ap₂ (λ c l. Redrive c l n v p x) (one_text _ s t a.0 b.0) (one_number MAX_RECEIVES value r k (omega arith) a.1 b.1)
+    ∙ ap₂ (λ l u. Redrive t k l u p x) (one_number CALLS value n m (omega arith) a.2 b.2) (one_number VISIBILITY value v w (omega arith) a.3 b.3)
+    ∙ ap₂ (Redrive t k m w) (one_number TIMEOUT value p q (omega arith) a.4 b.4) (a.5 ∙ sym b.5)
+one_said value flags (Replay s n p x) (Replay t m q y) e a b =
+    ap₂ (λ c k. Replay c k p x) (one_text _ s t a.0 b.0) (one_number CALLS value n m (omega arith) a.1 b.1)
+    ∙ ap₂ (Replay t m) (one_number TIMEOUT value p q (omega arith) a.2 b.2) (a.3 ∙ sym b.3)
+one_said value flags c d e a b = absurd (cc)
 
 pub one_command : (words : List Text) (c d : Command) → spells words c → spells words d → c ≡ d
 one_command words c d one other =
     let same = same_given words (verb_of c) (verb_of d) one.0 other.0 one.1 other.1 in
-    one_said (values_in one.0) (reads_first one.0) c d same.0 one.2
-    (subst (λ gs. IsSaid (values_in gs) (reads_first gs) d) (sym same.1) other.2)
+    one_said (values_in one.0) (flags_in one.0) c d same.0 one.2
+    (subst (λ gs. IsSaid (values_in gs) (flags_in gs) d) (sym same.1) other.2)

@@ -11,8 +11,9 @@ use Rattle.clap.specs.Walk.{Text}
 use Rattle.uuid.specs.Text.{parsed, parsed_hyphenated}
 use Rattle.esm_cli.specs.Spelling.{Given, AreOptions, is_stray_dash}
 use Rattle.esm_cli.specs.Tables.{listing, options_of, verb_name, verb_named, verbs}
-use Rattle.esm_cli.specs.Words.{IsCommand, IsNumberFrom, IsSaid, Values, reads_first, spells, values_in, verb_of}
+use Rattle.esm_cli.specs.Words.{IsCommand, IsNumberFrom, IsSaid, Values, flags_in, spells, values_in, verb_of}
 use Rattle.esm_cli.specs.declared.command.Command.{Command}
+use Rattle.esm_cli.specs.declared.command.Flags.{Flags}
 use Rattle.esm_cli.specs.declared.table.NumberRule.{NumberRule}
 use Rattle.esm_cli.specs.declared.table.Verb.{Verb}
 use Rattle.esm_cli.specs.declared.table.Verb.TheVariants as verb
@@ -107,20 +108,20 @@ pub as_command : (words : List Text) (v : Verb) (rest : List Text) (gs : List Gi
 as_command words v rest gs first options = record { rest = rest; first = first; others = subst (AreOptions (listing (options_of v)) gs) (ap (drop 1) first) options }
 
 -- the options say the command
-pub said_command : (words : List Text) (v : Verb) (rest : List Text) (gs : List Given) (value : Values) (flag : Bool) (c : Command) → words ≡ verb_name v ∷ rest
-    → AreOptions (listing (options_of v)) gs (drop 1 words) → values_in gs ≡ value → reads_first gs ≡ flag → verb_of c ≡ v → IsSaid value flag c → spells words c
-said_command words v rest gs value flag c first options values reads verb said = (
+pub said_command : (words : List Text) (v : Verb) (rest : List Text) (gs : List Given) (value : Values) (flags : Flags) (c : Command) → words ≡ verb_name v ∷ rest
+    → AreOptions (listing (options_of v)) gs (drop 1 words) → values_in gs ≡ value → flags_in gs ≡ flags → verb_of c ≡ v → IsSaid value flags c → spells words c
+said_command words v rest gs value flags c first options values reads verb said = (
   gs,
   subst (λ x. IsCommand x gs words) (sym verb) (as_command words v rest gs first options),
-  subst (λ b. IsSaid (values_in gs) b c) (sym reads) (subst (λ x. IsSaid x flag c) (sym values) said),
+  subst (λ b. IsSaid (values_in gs) b c) (sym reads) (subst (λ x. IsSaid x flags c) (sym values) said),
 )
 
 -- the options say no command
-pub unsaid : (words : List Text) (v : Verb) (rest : List Text) (gs : List Given) (value : Values) (flag : Bool) → words ≡ verb_name v ∷ rest
-    → AreOptions (listing (options_of v)) gs (drop 1 words) → values_in gs ≡ value → reads_first gs ≡ flag
-    → ((c : Command) → verb_of c ≡ v → IsSaid value flag c → ⊥) → (command : Command) → spells words command → ⊥
-unsaid words v rest gs value flag first options values reads none c s =
+pub unsaid : (words : List Text) (v : Verb) (rest : List Text) (gs : List Given) (value : Values) (flags : Flags) → words ≡ verb_name v ∷ rest
+    → AreOptions (listing (options_of v)) gs (drop 1 words) → values_in gs ≡ value → flags_in gs ≡ flags
+    → ((c : Command) → verb_of c ≡ v → IsSaid value flags c → ⊥) → (command : Command) → spells words command → ⊥
+unsaid words v rest gs value flags first options values reads none c s =
     let mine : IsCommand v gs words = as_command words v rest gs first options in
     let same = same_given words v (verb_of c) gs s.0 mine s.1 in
-    let theirs : IsSaid (values_in gs) (reads_first gs) c = subst (λ ds. IsSaid (values_in ds) (reads_first ds) c) (sym same.1) s.2 in
-    none c (sym same.0) (subst (λ x. IsSaid x flag c) values (subst (λ b. IsSaid (values_in gs) b c) reads theirs))
+    let theirs : IsSaid (values_in gs) (flags_in gs) c = subst (λ ds. IsSaid (values_in ds) (flags_in ds) c) (sym same.1) s.2 in
+    none c (sym same.0) (subst (λ x. IsSaid x flags c) values (subst (λ b. IsSaid (values_in gs) b c) reads theirs))

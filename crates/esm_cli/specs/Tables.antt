@@ -6,7 +6,7 @@ use Rattle.esm_cli.specs.Spelling.{Options}
 use Rattle.esm_cli.specs.declared.table.Verb.{Verb}
 use Rattle.esm_cli.specs.declared.table.Verb.TheVariants.{Init, Run, Show, Failures, Gen, Compact, Serve, Migrate, Ddb, Redrive, Replay}
 use Rattle.esm_cli.specs.declared.table.OptionName.{OptionName}
-use Rattle.esm_cli.specs.declared.table.OptionName.TheVariants.{Config, Mapping, Calls, Visibility, Timeout, ReadFirst, Records, Requests, MaxReceives}
+use Rattle.esm_cli.specs.declared.table.OptionName.TheVariants.{Config, Mapping, Calls, Visibility, Timeout, ReadFirst, Trace, Records, Requests, MaxReceives}
 use Rattle.esm_cli.specs.declared.table.TheConstants.{NO_OPTIONS, RUN_OPTIONS, GEN_OPTIONS, SERVE_OPTIONS, DDB_OPTIONS, REDRIVE_OPTIONS, REPLAY_OPTIONS}
 
 abbrev pub verb_name : Verb → List ℕ
@@ -36,12 +36,14 @@ option_name Calls = codes "calls"
 option_name Visibility = codes "visibility"
 option_name Timeout = codes "timeout"
 option_name ReadFirst = codes "read-first"
+option_name Trace = codes "trace"
 option_name Records = codes "records"
 option_name Requests = codes "requests"
 option_name MaxReceives = codes "max-receives"
 
 abbrev pub has_value : OptionName → Bool
 has_value ReadFirst = false
+has_value Trace = false
 has_value _ = true
 
 -- the options that the command takes

@@ -1,11 +1,12 @@
 -- The command that words spell. The command line is this product's own.
-use Rattle.std.specs.Prelude.{◌≡◌, ◌≤◌, ℕ, Bool, List, ◌∷◌, Option, Some, None, option_and_then, ⊤}
+use Rattle.std.specs.Prelude.{◌≡◌, ◌≤◌, ℕ, List, ◌∷◌, Option, Some, None, option_and_then, ⊤}
 use Rattle.std.specs.Fmt.{decimal}
 use Rattle.uuid.specs.Text.{parsed_hyphenated}
 use Rattle.esm_cli.specs.Spelling.{Given, AreOptions, is_given, value_of}
 use Rattle.esm_cli.specs.Tables.{verb_name, option_name, options_of, listing}
 use Rattle.esm_cli.specs.declared.command.Command.{Command}
 use Rattle.esm_cli.specs.declared.command.Command.TheVariants.{Init, Run, Show, Failures, Gen, Compact, Serve, Migrate, Ddb, Redrive, Replay}
+use Rattle.esm_cli.specs.declared.command.Flags.{Flags}
 use Rattle.esm_cli.specs.declared.command.RunWords.{RunWords}
 use Rattle.esm_cli.specs.declared.command.Which.{Which}
 use Rattle.esm_cli.specs.declared.command.Which.TheVariants.{Config, Mapping}
@@ -38,30 +39,31 @@ IsWhich value (Config text) = (value option.Config ≡ Some text) × (value opti
 IsWhich value (Mapping id) = (value option.Config ≡ None) × (option_and_then parsed_hyphenated (value option.Mapping) ≡ Some id)
 
 -- these options of `run`
-pub record IsRun (value : Values) (first : Bool) (r : RunWords) : Type 0 where
+pub record IsRun (value : Values) (flags : Flags) (r : RunWords) : Type 0 where
   pub which : IsWhich value r.which
   pub calls : IsNumber CALLS value r.calls
   pub visibility : IsNumber VISIBILITY value r.visibility
   pub timeout : IsNumber TIMEOUT value r.timeout
-  pub read_first : r.read_first ≡ first
+  pub read_first : r.read_first ≡ flags.read_first
+  pub trace : r.trace ≡ flags.trace
 
--- the values, and whether `--read-first` is given, are those of the command
-abbrev pub IsSaid : Values → Bool → Command → Type 0
-IsSaid value first Init = ⊤
-IsSaid value first (Run r) = IsRun value first r
-IsSaid value first Show = ⊤
-IsSaid value first Failures = ⊤
-IsSaid value first (Gen records) = IsNumber RECORDS value records
-IsSaid value first Compact = ⊤
-IsSaid value first (Serve requests) = IsNumber REQUESTS value requests
-IsSaid value first Migrate = ⊤
-IsSaid value first (Ddb config calls timeout) = IsText option.Config value config × IsNumber CALLS value calls
-    × IsNumber TIMEOUT value timeout
-IsSaid value first (Redrive config max_receives calls visibility timeout) = IsText option.Config value config
+-- the values and the flags are those of the command
+abbrev pub IsSaid : Values → Flags → Command → Type 0
+IsSaid value flags Init = ⊤
+IsSaid value flags (Run r) = IsRun value flags r
+IsSaid value flags Show = ⊤
+IsSaid value flags Failures = ⊤
+IsSaid value flags (Gen records) = IsNumber RECORDS value records
+IsSaid value flags Compact = ⊤
+IsSaid value flags (Serve requests) = IsNumber REQUESTS value requests
+IsSaid value flags Migrate = ⊤
+IsSaid value flags (Ddb config calls timeout trace) = IsText option.Config value config × IsNumber CALLS value calls
+    × IsNumber TIMEOUT value timeout × (trace ≡ flags.trace)
+IsSaid value flags (Redrive config max_receives calls visibility timeout trace) = IsText option.Config value config
     × IsNumber MAX_RECEIVES value max_receives × IsNumber CALLS value calls × IsNumber VISIBILITY value visibility
-    × IsNumber TIMEOUT value timeout
-IsSaid value first (Replay config calls timeout) = IsText option.Config value config × IsNumber CALLS value calls
-    × IsNumber TIMEOUT value timeout
+    × IsNumber TIMEOUT value timeout × (trace ≡ flags.trace)
+IsSaid value flags (Replay config calls timeout trace) = IsText option.Config value config × IsNumber CALLS value calls
+    × IsNumber TIMEOUT value timeout × (trace ≡ flags.trace)
 
 abbrev pub verb_of : Command → Verb
 verb_of Init = verb.Init
@@ -72,9 +74,9 @@ verb_of (Gen records) = verb.Gen
 verb_of Compact = verb.Compact
 verb_of (Serve requests) = verb.Serve
 verb_of Migrate = verb.Migrate
-verb_of (Ddb config calls timeout) = verb.Ddb
-verb_of (Redrive config max_receives calls visibility timeout) = verb.Redrive
-verb_of (Replay config calls timeout) = verb.Replay
+verb_of (Ddb config calls timeout trace) = verb.Ddb
+verb_of (Redrive config max_receives calls visibility timeout trace) = verb.Redrive
+verb_of (Replay config calls timeout trace) = verb.Replay
 
 -- the first word is the command's name, and the others are spellings of its options, each at most once
 pub record IsCommand (verb : Verb) (gs : List Given) (words : List (List ℕ)) : Type 0 where
@@ -85,9 +87,10 @@ pub record IsCommand (verb : Verb) (gs : List Given) (words : List (List ℕ)) :
 abbrev pub values_in : List Given → Values
 values_in gs name = value_of (option_name name) gs
 
-abbrev pub reads_first : List Given → Bool
-reads_first gs = is_given (option_name option.ReadFirst) gs
+-- whether `--read-first` and `--trace` are given
+abbrev pub flags_in : List Given → Flags
+flags_in gs = record { read_first = is_given (option_name option.ReadFirst) gs; trace = is_given (option_name option.Trace) gs }
 
 -- the words spell the command, with these options
 abbrev pub spells : List (List ℕ) → Command → Type 0
-spells words c = (gs : List Given) × IsCommand (verb_of c) gs words × IsSaid (values_in gs) (reads_first gs) c
+spells words c = (gs : List Given) × IsCommand (verb_of c) gs words × IsSaid (values_in gs) (flags_in gs) c

@@ -29,26 +29,30 @@ pub enum Command {
     },
     /// Brings a journal of version 1 to version 2.
     Migrate,
-    /// Runs the mapping over a DynamoDB stream. `timeout` is in seconds.
+    /// Runs the mapping over a DynamoDB stream. `timeout` is in seconds; with `trace` the history is told before the report.
     Ddb {
         config: Text,
         calls: u32,
         timeout: u32,
+        trace: bool,
     },
     /// Runs a queue's mapping, and moves what was received too often to the dead letters. `visibility` and `timeout` are in
-    /// seconds.
+    /// seconds; with `trace` the history is told before the report.
     Redrive {
         config: Text,
         max_receives: u32,
         calls: u32,
         visibility: u32,
         timeout: u32,
+        trace: bool,
     },
-    /// Calls the records that failure lines name again. `timeout` is in seconds.
+    /// Calls the records that failure lines name again. `timeout` is in seconds; with `trace` the history is told before the
+    /// report.
     Replay {
         config: Text,
         calls: u32,
         timeout: u32,
+        trace: bool,
     },
 }
 
@@ -65,6 +69,15 @@ pub struct RunWords {
     pub timeout: u32,
     /// Whether the input is read to its end before the first call.
     pub read_first: bool,
+    /// Whether the run's history is told before its report.
+    pub trace: bool,
+}
+
+/// Which flags are given.
+#[derive(Clone, Copy, Debug, PartialEq, Eq)]
+pub struct Flags {
+    pub read_first: bool,
+    pub trace: bool,
 }
 
 /// Where a mapping comes from.

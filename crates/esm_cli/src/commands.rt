@@ -13,9 +13,9 @@ use std::alloc::Global;
 /// The command that its options say. `BadWords` exactly where they say none.
 pub fn command(alloc: Global, verb: Verb, options: &Options<'_>) -> Result<Command, WordsError>
     ensures verb { IfOk result (λ c. verb_of c ≡ verb) }
-    ensures said { IfOk result (IsSaid (values_found options.now.matches) options.now.read_first) }
+    ensures said { IfOk result (IsSaid (values_found options.now.matches) options.now.flags) }
     ensures bad { result ≡ Err WordsError.BadWords → (c : Command) → verb_of c ≡ verb
-        → ¬ IsSaid (values_found options.now.matches) options.now.read_first c }
+        → ¬ IsSaid (values_found options.now.matches) options.now.flags c }
 {
     match verb {
         Verb::Init => Ok(Command::Init),
@@ -34,6 +34,7 @@ pub fn command(alloc: Global, verb: Verb, options: &Options<'_>) -> Result<Comma
             config: options.text(alloc, OptionName::Config)?,
             calls: options.number(CALLS)?,
             timeout: options.number(TIMEOUT)?,
+            trace: options.flags.trace,
         }),
         Verb::Redrive => Ok(Command::Redrive {
             config: options.text(alloc, OptionName::Config)?,
@@ -41,26 +42,29 @@ pub fn command(alloc: Global, verb: Verb, options: &Options<'_>) -> Result<Comma
             calls: options.number(CALLS)?,
             visibility: options.number(VISIBILITY)?,
             timeout: options.number(TIMEOUT)?,
+            trace: options.flags.trace,
         }),
         Verb::Replay => Ok(Command::Replay {
             config: options.text(alloc, OptionName::Config)?,
             calls: options.number(CALLS)?,
             timeout: options.number(TIMEOUT)?,
+            trace: options.flags.trace,
         }),
     }
 }
 
 /// The options of `run`. `BadWords` exactly where they are none.
 fn run(alloc: Global, options: &Options<'_>) -> Result<RunWords, WordsError>
-    ensures said { IfOk result (IsRun (values_found options.now.matches) options.now.read_first) }
+    ensures said { IfOk result (IsRun (values_found options.now.matches) options.now.flags) }
     ensures bad { result ≡ Err WordsError.BadWords → (r : RunWords)
-        → ¬ IsRun (values_found options.now.matches) options.now.read_first r }
+        → ¬ IsRun (values_found options.now.matches) options.now.flags r }
 {
     Ok(RunWords {
         which: options.which(alloc)?,
         calls: options.number(CALLS)?,
         visibility: options.number(VISIBILITY)?,
         timeout: options.number(TIMEOUT)?,
-        read_first: options.read_first,
+        read_first: options.flags.read_first,
+        trace: options.flags.trace,
     })
 }

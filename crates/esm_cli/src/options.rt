@@ -2,15 +2,16 @@
 ghost use Rattle.std.specs.Prelude.{◌≡◌, ◌≢◌, List, ℕ, map, drop, true, false, IfOk, IsErr, option_map};
 ghost use Rattle.std.specs.String.{string_bytes};
 ghost use Rattle.std.specs.List.{list_any};
-ghost use Rattle.clap.specs.Words.{app_of, first_value, found_of, kind_of, rule_of};
+ghost use Rattle.clap.specs.Words.{app_of, first_value, found_of, kind_of, one_text, rule_of};
 ghost use Rattle.uuid.specs.Text.{parsed_hyphenated};
 ghost use Rattle.esm_cli.specs.Spelling.{Given, AreOptions, is_stray_dash};
 ghost use Rattle.esm_cli.specs.Tables.{has_value, listing, option_name, options_of};
-ghost use Rattle.esm_cli.specs.Words.{IsNumber, IsText, IsWhich, values_in, reads_first};
-ghost use Rattle.esm_cli.specs.Clap.{app, raw_rule, values_found};
+ghost use Rattle.esm_cli.specs.Words.{IsNumber, IsText, IsWhich, values_in, flags_in};
+ghost use Rattle.esm_cli.specs.Clap.{FlagReads, app, raw_rule, values_found};
 ghost use Rattle.esm_cli.specs.declared.command.Which.{Which};
+ghost use Rattle.esm_cli.specs.declared.table.OptionName.TheVariants.{ReadFirst, Trace};
 
-use crate::command::{Which, WordsError};
+use crate::command::{Flags, Which, WordsError};
 use crate::number::whole_number;
 use crate::table::{NumberRule, OptionName, Verb};
 use clap::builder::ValueParser;
@@ -24,7 +25,7 @@ use uuid::Uuid;
 #[derive(Drop)]
 pub struct Options<'a> {
     matches: ArgMatches<'a>,
-    pub read_first: bool,
+    pub flags: Flags,
 }
 
 /// The options of the command that the words after the first spell.
@@ -37,21 +38,36 @@ pub fn read_options<'a>(
     requires { list_any (λ w. is_stray_dash (string_bytes w)) words.now ≡ false }
     ensures spelled { IfOk result (λ o. (gs : List Given)
         × AreOptions (listing (options_of verb)) gs (drop 1 (map string_bytes words.entry.now))
-        × (values_in gs ≡ values_found o.matches) × (reads_first gs ≡ o.read_first)) }
+        × (values_in gs ≡ values_found o.matches) × (flags_in gs ≡ o.flags)) }
     ensures bad { result ≡ Err WordsError.BadWords → (gs : List Given)
         → ¬ AreOptions (listing (options_of verb)) gs (drop 1 (map string_bytes words.entry.now)) }
 {
     let command = parser(alloc, verb.options())?;
     match command.try_get_matches_from(words) {
         Ok(matches) => {
-            let read_first = matches.get_flag(OptionName::ReadFirst.name());
-            Ok(Options {
-                matches,
-                read_first,
-            })
+            let flags = flags(&matches);
+            Ok(Options { matches, flags })
         }
         Err(error) => Err(refusal(&error)),
     }
+}
+
+/// Which flags the words give.
+fn flags(matches: &ArgMatches<'_>) -> Flags
+    ensures read_first { FlagReads (one_text (found_of matches.now) (option_name ReadFirst)) result.read_first }
+    ensures trace { FlagReads (one_text (found_of matches.now) (option_name Trace)) result.trace }
+{
+    Flags {
+        read_first: flag(matches, OptionName::ReadFirst),
+        trace: flag(matches, OptionName::Trace),
+    }
+}
+
+/// Whether the flag is given.
+fn flag(matches: &ArgMatches<'_>, option: OptionName) -> bool
+    ensures { FlagReads (one_text (found_of matches.now) (option_name option)) result }
+{
+    matches.get_flag(option.name())
 }
 
 /// A command of `clap` with these options.

@@ -28,6 +28,7 @@ pub enum OptionName {
     Visibility,
     Timeout,
     ReadFirst,
+    Trace,
     Records,
     Requests,
     MaxReceives,
@@ -35,37 +36,41 @@ pub enum OptionName {
 
 pub const NO_OPTIONS: [OptionName; 0] = [];
 
-pub const RUN_OPTIONS: [OptionName; 6] = [
+pub const RUN_OPTIONS: [OptionName; 7] = [
     OptionName::Config,
     OptionName::Mapping,
     OptionName::Calls,
     OptionName::Visibility,
     OptionName::Timeout,
     OptionName::ReadFirst,
+    OptionName::Trace,
 ];
 
 pub const GEN_OPTIONS: [OptionName; 1] = [OptionName::Records];
 
 pub const SERVE_OPTIONS: [OptionName; 1] = [OptionName::Requests];
 
-pub const DDB_OPTIONS: [OptionName; 3] = [
+pub const DDB_OPTIONS: [OptionName; 4] = [
     OptionName::Config,
     OptionName::Calls,
     OptionName::Timeout,
+    OptionName::Trace,
 ];
 
-pub const REDRIVE_OPTIONS: [OptionName; 5] = [
+pub const REDRIVE_OPTIONS: [OptionName; 6] = [
     OptionName::Config,
     OptionName::MaxReceives,
     OptionName::Calls,
     OptionName::Visibility,
     OptionName::Timeout,
+    OptionName::Trace,
 ];
 
-pub const REPLAY_OPTIONS: [OptionName; 3] = [
+pub const REPLAY_OPTIONS: [OptionName; 4] = [
     OptionName::Config,
     OptionName::Calls,
     OptionName::Timeout,
+    OptionName::Trace,
 ];
 
 /// A number that an option gives.
@@ -176,6 +181,7 @@ impl OptionName {
             OptionName::Visibility => "visibility",
             OptionName::Timeout => "timeout",
             OptionName::ReadFirst => "read-first",
+            OptionName::Trace => "trace",
             OptionName::Records => "records",
             OptionName::Requests => "requests",
             OptionName::MaxReceives => "max-receives",
@@ -186,6 +192,6 @@ impl OptionName {
     pub fn has_value(self) -> bool
         ensures { result ≡ has_value self }
     {
-        !matches!(self, OptionName::ReadFirst)
+        !matches!(self, OptionName::ReadFirst | OptionName::Trace)
     }
 }

@@ -15,4 +15,4 @@ returns-clause-bad c =
     let words = map string_bytes c.args.words.now in
     let named = c.in-Some.ensures.named in
     let o = c.in_ok-options.ensures.spelled in
-    λ bad. unsaid words c.in-Some.verb named.0 o.0 (values_found c.in_ok-options.options.matches) c.in_ok-options.options.read_first named.1 o.1 o.2 o.3 (c.command.ensures.bad bad)
+    λ bad. unsaid words c.in-Some.verb named.0 o.0 (values_found c.in_ok-options.options.matches) c.in_ok-options.options.flags named.1 o.1 o.2 o.3 (c.command.ensures.bad bad)
