@@ -117,12 +117,12 @@ turned_words t run.DiskFault tells = cc
 turned_words t run.DestFault tells = cc
 turned_words t (run.Changed change) tells = cc
 
-ddb_words : {S D F : Type 0} (o : RunTells S D F) (config : List ℕ) (calls : ℕ) (h : List Entry) (old new : Seen S D F) (text : List ℕ) → DdbCause o config calls h old new text ending.BadWords → ⊥
-ddb_words o config calls h old new text (inl none) = elim none.why [ inl files ↦ files_words files.why files.tells | inr mapping ↦ mapping_words mapping.why mapping.tells ]
-ddb_words o config calls h old new text (inr run) = turned_words run.reading run.end run.tells
+ddb_words : {S D F : Type 0} (o : RunTells S D F) (config : List ℕ) (calls : ℕ) (traced : Bool) (h : List Entry) (old new : Seen S D F) (text : List ℕ) → DdbCause o config calls traced h old new text ending.BadWords → ⊥
+ddb_words o config calls traced h old new text (inl none) = elim none.why [ inl files ↦ files_words files.why files.tells | inr mapping ↦ mapping_words mapping.why mapping.tells ]
+ddb_words o config calls traced h old new text (inr run) = turned_words run.reading run.end run.tells
 
-pub not_bad_ddb_words : {S D F : Type 0} (o : RunTells S D F) (config : List ℕ) (calls : ℕ) (h : List Entry) (old new : Seen S D F) → HasCome (DdbCause o config calls h old new) ending.BadWords → ⊥
-not_bad_ddb_words o config calls h old new ended = ddb_words o config calls h old new ended.text ended.cause_is
+pub not_bad_ddb_words : {S D F : Type 0} (o : RunTells S D F) (config : List ℕ) (calls : ℕ) (traced : Bool) (h : List Entry) (old new : Seen S D F) → HasCome (DdbCause o config calls traced h old new) ending.BadWords → ⊥
+not_bad_ddb_words o config calls traced h old new ended = ddb_words o config calls traced h old new ended.text ended.cause_is
 
 replay_words : (end : ReplayEnd) → ending.BadWords ≡ ending_of_replay end → ⊥
 replay_words (replay.Finished why) tells = reading_words why tells
@@ -142,17 +142,17 @@ redrive_words (redrive.BadLine index) tells = cc
 unrun_words : {S D F : Type 0} (m : DiskMeaning D) (a : Asks D) (h : List Entry) (old new : Seen S D F) (text : List ℕ) → HasNotRun m a h old new text ending.BadWords → ⊥
 unrun_words m a h old new text none = elim none.why [ inl files ↦ files_words files.why files.tells | inr mapping ↦ mapping_words mapping.why mapping.tells ]
 
-replay_cause_words : {S D F : Type 0} (o : RunTells S D F) (config : List ℕ) (calls : ℕ) (h : List Entry) (old new : Seen S D F) (text : List ℕ) → ReplayCause o config calls h old new text ending.BadWords → ⊥
-replay_cause_words o config calls h old new text (inl none) = unrun_words o.run.disk (replay_asks config) h old new text none
-replay_cause_words o config calls h old new text (inr run) = replay_words run.end run.tells
+replay_cause_words : {S D F : Type 0} (o : RunTells S D F) (config : List ℕ) (calls : ℕ) (traced : Bool) (h : List Entry) (old new : Seen S D F) (text : List ℕ) → ReplayCause o config calls traced h old new text ending.BadWords → ⊥
+replay_cause_words o config calls traced h old new text (inl none) = unrun_words o.run.disk (replay_asks config) h old new text none
+replay_cause_words o config calls traced h old new text (inr run) = replay_words run.end run.tells
 
 redrive_cause_words : {S D F : Type 0} (o : RunTells S D F) (w : RedriveWords) (h : List Entry) (old new : Seen S D F) (text : List ℕ) → RedriveCause o w h old new text ending.BadWords → ⊥
 redrive_cause_words o w h old new text (inl none) = unrun_words o.run.disk (redrive_asks w) h old new text none
 redrive_cause_words o w h old new text (inr (inl refused)) = redrive_words (redrive.BadLine refused.index) refused.tells
 redrive_cause_words o w h old new text (inr (inr run)) = redrive_words run.end_is run.tells
 
-pub not_bad_replay_words : {S D F : Type 0} (o : RunTells S D F) (config : List ℕ) (calls : ℕ) (h : List Entry) (old new : Seen S D F) → HasCome (ReplayCause o config calls h old new) ending.BadWords → ⊥
-not_bad_replay_words o config calls h old new ended = replay_cause_words o config calls h old new ended.text ended.cause_is
+pub not_bad_replay_words : {S D F : Type 0} (o : RunTells S D F) (config : List ℕ) (calls : ℕ) (traced : Bool) (h : List Entry) (old new : Seen S D F) → HasCome (ReplayCause o config calls traced h old new) ending.BadWords → ⊥
+not_bad_replay_words o config calls traced h old new ended = replay_cause_words o config calls traced h old new ended.text ended.cause_is
 
 pub not_bad_redrive_words : {S D F : Type 0} (o : RunTells S D F) (w : RedriveWords) (h : List Entry) (old new : Seen S D F) → HasCome (RedriveCause o w h old new) ending.BadWords → ⊥
 not_bad_redrive_words o w h old new ended = redrive_cause_words o w h old new ended.text ended.cause_is

@@ -61,9 +61,9 @@ module _ {S K D C F L N : Type 0} (t : DevicesTell S K D F L N) (old new : World
     left_alone Failures = files_same (files.Upkeep upkeep.Failures)
     left_alone Compact = files_same (files.Upkeep upkeep.Compact)
     left_alone Migrate = files_same (files.Upkeep upkeep.Migrate)
-    left_alone (Ddb config calls timeout) = ap (λ w. w.registry) same
-    left_alone (Redrive config receives calls visibility timeout) = ap (λ w. w.registry) same
-    left_alone (Replay config calls timeout) = ap (λ w. w.registry) same
+    left_alone (Ddb config calls timeout traced) = ap (λ w. w.registry) same
+    left_alone (Redrive config receives calls visibility timeout traced) = ap (λ w. w.registry) same
+    left_alone (Replay config calls timeout traced) = ap (λ w. w.registry) same
 
     module _ (none : history new ≡ []) where
       cut_alone : (c : Command) → IsCut t c old new
@@ -78,9 +78,9 @@ module _ {S K D C F L N : Type 0} (t : DevicesTell S K D F L N) (old new : World
       cut_alone Show = tt
       cut_alone Failures = tt
       cut_alone Migrate = tt
-      cut_alone (Ddb config calls timeout) = inl (not_begun t.disk (by_text DynamoDb config) (history new) (seen old) (seen new) only_now refl none (ap seen same))
-      cut_alone (Redrive config receives calls visibility timeout) = inl (not_begun t.disk (by_text Queue config) (history new) (seen old) (seen new) only_now refl none (ap seen same))
-      cut_alone (Replay config calls timeout) = inl (not_begun t.disk (by_text Stream config) (history new) (seen old) (seen new) only_now refl none (ap seen same))
+      cut_alone (Ddb config calls timeout traced) = inl (not_begun t.disk (by_text DynamoDb config) (history new) (seen old) (seen new) only_now refl none (ap seen same))
+      cut_alone (Redrive config receives calls visibility timeout traced) = inl (not_begun t.disk (by_text Queue config) (history new) (seen old) (seen new) only_now refl none (ap seen same))
+      cut_alone (Replay config calls timeout traced) = inl (not_begun t.disk (by_text Stream config) (history new) (seen old) (seen new) only_now refl none (ap seen same))
 
       pub untouched_alone : IsUntouched (history new) (seen old) (seen new)
       untouched_alone = record { no_trace = none; unread = ap (λ w. w.input) same; uncalled = ap (λ w. w.callers.items) same }

@@ -1,6 +1,6 @@
 -- How `ddb` came to its ending, or was stopped by want of memory. The run's own callers are those over the callers of the world.
-use Rattle.std.proofs.Common.{◌≡◌, ◌∙◌, ◌<◌, ℕ, zero, suc, true, List, [], ◌∷◌, length, refl, sym, ap, subst, inl, inr, Option, Some, None, Result, Ok, Err}
-use Rattle.std.specs.Prelude.{IfOk, OnErr, slice_index_or}
+use Rattle.std.proofs.Common.{◌≡◌, ◌∙◌, ◌<◌, ◌++◌, ℕ, zero, suc, Bool, true, List, [], ◌∷◌, length, refl, sym, ap, subst, inl, inr, Option, Some, None, Result, Ok, Err}
+use Rattle.std.specs.Prelude.{IfOk, OnErr, is_ok, slice_index_or}
 use Rattle.esm_ddb.specs.Translating.{source_of}
 use Rattle.esm_ddb.specs.TurnedInput.{IsTurnedInput}
 use Rattle.esm_ddb.specs.declared.caller.DdbCaller.{DdbCaller}
@@ -18,6 +18,7 @@ use Rattle.esm_model.specs.Entries.{CallsFollowShut}
 use Rattle.esm_model.specs.Setting.{Setting}
 use Rattle.esm_model.specs.declared.book.Trouble.{Trouble}
 use Rattle.esm_model.specs.declared.book.Trouble.TheVariants as trouble
+use Rattle.esm_model.specs.declared.config.Kind.TheVariants as kind
 use Rattle.esm_model.specs.declared.entry.Entry.{Entry}
 use Rattle.esm_model.specs.declared.item.Record.{Record}
 use Rattle.esm_model.specs.declared.memory.OutOfMemory.{OutOfMemory}
@@ -39,10 +40,11 @@ use Rattle.esm_run.specs.Ddb.{DdbCause, IsDdbCut, all_left, ddb_asks, never_fail
 use Rattle.esm_run.specs.Endings.{ending_of_ddb, ending_of_files, ending_of_mapping}
 use Rattle.esm_run.specs.Ran.{EndsWith, IsDdbEndingOf}
 use Rattle.esm_run.specs.Under.{callers_under}
+use Rattle.esm_traced.specs.Front.{front_text}
 use Rattle.esm_run.specs.World.{RunTells, Seen, ddb_tells, devices_of}
 use Rattle.esm_run.specs.declared.left.Began.TheVariants as began
 use Rattle.esm_run.proofs.Alone.{files_alone, mapping_alone}
-use Rattle.esm_run.proofs.RunEndings.{ends_alone, headline_of, refused_run, unnamed_run}
+use Rattle.esm_run.proofs.RunEndings.{behind, ends_alone, headline_of, refused_run, unnamed_run}
 
 -- the callers over others
 
@@ -116,6 +118,7 @@ module _ {D F : Type 0} (t : Telling D F) where
     failure_lines_kept = lines_under f o h hand new is.failure_lines_kept;
     failure_lines_crash = crash_under f s h o hand new is.failure_lines_crash;
     in_hand = is.in_hand;
+    hand_has_payload = is.hand_has_payload;
     hand_follows = is.hand_follows;
     crash = is.crash;
     one_fate = is.one_fate;
@@ -138,7 +141,7 @@ same_devices_of {D} {F} a b journal spare failures callers =
 
 -- the mapping ran
 
-module _ {S D F : Type 0} (o : RunTells S D F) (config : List ℕ) (count : ℕ) (h : List Entry) (old new : Seen S D F) (mapping : NamedMapping) (files : FilesState D) (ready : IsReadyFor o.run.disk (ddb_asks config) old new mapping files) (lines : List ℕ) (turned : InputTurned) (is_turned : IsTurnedInput o.faults o.left (source_of mapping.config) old.input new.input lines turned) (rest : List ℕ) (reading : Option InputEnd) (wrapped : List (DdbCaller F)) (same : callers_under wrapped ≡ old.callers) (left : Devices D (DdbCaller F)) (same_devices : devices_of new ≡ devices_under left) (later : CallsFollowShut h) where
+module _ {S D F : Type 0} (o : RunTells S D F) (config : List ℕ) (count : ℕ) (traced : Bool) (h : List Entry) (old new : Seen S D F) (mapping : NamedMapping) (files : FilesState D) (ready : IsReadyFor o.run.disk (ddb_asks config) old new mapping files) (lines : List ℕ) (turned : InputTurned) (is_turned : IsTurnedInput o.faults o.left (source_of mapping.config) old.input new.input lines turned) (rest : List ℕ) (reading : Option InputEnd) (wrapped : List (DdbCaller F)) (same : callers_under wrapped ≡ old.callers) (left : Devices D (DdbCaller F)) (same_devices : devices_of new ≡ devices_under left) (later : CallsFollowShut h) where
   abbrev HasRunTo : MappingEnd → Type 0
   HasRunTo end = stream.HasEnded (tells_over (ddb_tells o)) never_fails all_left mapping.config mapping.start count files lines rest reading wrapped h left end
 
@@ -154,9 +157,9 @@ module _ {S D F : Type 0} (o : RunTells S D F) (config : List ℕ) (count : ℕ)
   kept_under s x hand is =
       subst (λ (d : Devices D F). runner.Headline (ddb_tells o) files s h x hand d) (sym same_devices) (headline_under (ddb_tells o) files s h x hand left is)
 
-  came : (end : MappingEnd) → HasRunTo end → HasCome (DdbCause o config count h old new) (ending_of_ddb turned end)
+  came : (end : MappingEnd) → HasRunTo end → HasCome (DdbCause o config count traced h old new) (ending_of_ddb turned end)
   came end is = record {
-    text = report_text is.setting h (ending_of_ddb turned end);
+    text = front_text traced kind.Stream h ++ report_text is.setting h (ending_of_ddb turned end);
     cause_is = inr (record {
       mapping = mapping;
       files = files;
@@ -175,27 +178,27 @@ module _ {S D F : Type 0} (o : RunTells S D F) (config : List ℕ) (count : ℕ)
           (subst (λ (d : Devices D F). IsCauseOf (ddb_tells o) files is.setting h (records_in_items (handed is.input)) reading (Some rest) d end) (sym same_devices)
           (cause_under (ddb_tells o) files is.setting h (records_in_items (handed is.input)) reading (Some rest) left end is.cause));
       hand = is.hand;
-      headline = headline_of (ddb_tells o) true files is.setting h (trouble_of end) (ending_of_ddb turned end) is.hand old.callers (devices_of new)
+      headline = headline_of (ddb_tells o) true traced files is.setting h (trouble_of end) (ending_of_ddb turned end) is.hand old.callers (devices_of new)
           (kept_under is.setting (trouble_of end) is.hand is.headline) (made_under is.setting is.calls_made) is.rests (λ _. later);
     });
   }
 
   -- it came to its end, which is told
-  pub ddb_ends : (said : SaidLists) (end : Result MappingEnd OutOfMemory) (e : Ending) → said ≡ files.said → IfOk end HasRunTo → IsDdbEndingOf turned end e
-      → EndsWith (DdbCause o config count h old new) h (began.Stream said) e
+  pub ddb_ends : (front : List ℕ) (said : SaidLists) (end : Result MappingEnd OutOfMemory) (e : Ending) → said ≡ files.said → IfOk end HasRunTo → (is_ok end ≡ true → front ≡ front_text traced kind.Stream h)
+      → IsDdbEndingOf turned end e → EndsWith (DdbCause o config count traced h old new) front h (began.Stream said) e
   unfolding came
-  ddb_ends said (Ok end) e is_said is tells = subst (EndsWith (DdbCause o config count h old new) h (began.Stream said)) (sym tells) (record {
+  ddb_ends front said (Ok end) e is_said is fronts tells = subst (EndsWith (DdbCause o config count traced h old new) front h (began.Stream said)) (sym tells) (record {
     ended = came end is;
-    report = record {
+    report = behind front (front_text traced kind.Stream h) h (ending_of_ddb turned end) (began.Stream said) (report_text is.setting h (ending_of_ddb turned end)) (fronts refl) (record {
       setting = is.setting;
       fates = ap (λ (s : Setting). s.fates) is.is_setting.opened ∙ ap (λ (x : SaidLists). x.fates) (sym is_said);
       text_is = refl;
-    };
+    });
   })
-  ddb_ends said (Err why) e is_said is tells = absurd tells
+  ddb_ends front said (Err why) e is_said is fronts tells = absurd tells
 
   -- it was stopped, or its end could not be told
-  pub ddb_cut : (end : Result MappingEnd OutOfMemory) → IfOk end HasRunTo → OnErr end HasStoppedSo → IsDdbCut o config count h old new
+  pub ddb_cut : (end : Result MappingEnd OutOfMemory) → IfOk end HasRunTo → OnErr end HasStoppedSo → IsDdbCut o config count traced h old new
   ddb_cut (Ok end) is stopped = inr (inr (inr (ending_of_ddb turned end, came end is)))
   ddb_cut (Err why) is stopped = inr (inr (inl (record {
     mapping = mapping;
@@ -225,14 +228,14 @@ module _ {S D F : Type 0} (o : RunTells S D F) (config : List ℕ) (count : ℕ)
 
 -- nothing ran
 
-module _ {S D F : Type 0} (o : RunTells S D F) (config : List ℕ) (count : ℕ) (h : List Entry) (old new : Seen S D F) where
+module _ {S D F : Type 0} (o : RunTells S D F) (config : List ℕ) (count : ℕ) (traced : Bool) (h : List Entry) (old new : Seen S D F) (front : List ℕ) (none : front ≡ []) where
   pub ddb_refused : HasNotBegun o.run.disk (ddb_asks config) h old new → (why : FilesError) (e : Ending)
       → AreRefused o.run.disk old.disks.journal old.disks.spare old.disks.failures new.disks.journal new.disks.spare new.disks.failures why
-      → new.disks.registry ≡ old.disks.registry → ending_of_files why ≡ Some e → EndsWith (DdbCause o config count h old new) h began.Nothing e
+      → new.disks.registry ≡ old.disks.registry → ending_of_files why ≡ Some e → EndsWith (DdbCause o config count traced h old new) front h began.Nothing e
   ddb_refused unbegun why e refused unopened tells =
-      ends_alone (DdbCause o config count h old new) h e (inl (refused_run o.run.disk (ddb_asks config) h old new unbegun why e refused unopened tells)) (files_alone why e tells)
+      ends_alone (DdbCause o config count traced h old new) front h e none (inl (refused_run o.run.disk (ddb_asks config) h old new unbegun why e refused unopened tells)) (files_alone why e tells)
 
   pub ddb_unnamed : HasNotBegun o.run.disk (ddb_asks config) h old new → AreGoodFiles o.run.disk old.disks → (why : MappingError) (e : Ending)
-      → WhyNotExpected DynamoDb config why → ending_of_mapping why ≡ Some e → EndsWith (DdbCause o config count h old new) h began.Nothing e
+      → WhyNotExpected DynamoDb config why → ending_of_mapping why ≡ Some e → EndsWith (DdbCause o config count traced h old new) front h began.Nothing e
   ddb_unnamed unbegun good why e refused tells =
-      ends_alone (DdbCause o config count h old new) h e (inl (unnamed_run o.run.disk (ddb_asks config) h old new unbegun good why e new.disks.registry refl refused tells)) (mapping_alone why e tells)
+      ends_alone (DdbCause o config count traced h old new) front h e none (inl (unnamed_run o.run.disk (ddb_asks config) h old new unbegun good why e new.disks.registry refl refused tells)) (mapping_alone why e tells)

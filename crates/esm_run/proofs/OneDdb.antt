@@ -1,5 +1,5 @@
 -- Two outcomes of `ddb` over the same worlds that left the same history have one status, where no device failed.
-use Rattle.std.proofs.Common.{◌≡◌, ◌∙◌, ◌<◌, ℕ, true, List, [], ◌++◌, Option, Some, None, arith, ap, inl, inr, refl, subst, sym}
+use Rattle.std.proofs.Common.{◌≡◌, ◌∙◌, ◌<◌, ℕ, Bool, true, List, [], ◌++◌, Option, Some, None, arith, ap, inl, inr, refl, subst, sym}
 use Rattle.std.specs.Prelude.{IsSome}
 use Rattle.esm_ddb.specs.Translating.{source_of}
 use Rattle.esm_ddb.specs.Translation.{translation_of}
@@ -131,10 +131,10 @@ told_alike t f s h records reading a b new (end.Changed change) cause = cause
 
 -- two runs
 
-one_ddb_run : {S D F : Type 0} (o : RunTells S D F) (config : List ℕ) (calls : ℕ) (h : List Entry) (old new : Seen S D F) (text other_text : List ℕ) (e d : Ending)
-    → WholeGoesOn → SameTold → AreSoundDevices o old new → (one : IsDdbRun o config calls h old new text e) → (other : IsDdbRun o config calls h old new other_text d) → one.mapping ≡ other.mapping
+one_ddb_run : {S D F : Type 0} (o : RunTells S D F) (config : List ℕ) (calls : ℕ) (traced : Bool) (h : List Entry) (old new : Seen S D F) (text other_text : List ℕ) (e d : Ending)
+    → WholeGoesOn → SameTold → AreSoundDevices o old new → (one : IsDdbRun o config calls traced h old new text e) → (other : IsDdbRun o config calls traced h old new other_text d) → one.mapping ≡ other.mapping
     → status_of e ≡ status_of d
-one_ddb_run o config calls h old new text other_text e d goes told sound one other mappings =
+one_ddb_run o config calls traced h old new text other_text e d goes told sound one other mappings =
     let a = ddb_asks config in
     let saids : one.files.said ≡ other.files.said = same_said o a old new one.mapping other.mapping one.files other.files told sound one.ready other.ready in
     let also_turned : IsTurnedInput o.faults o.left (source_of one.mapping.config) old.input new.input other.lines other.reading =
@@ -158,17 +158,17 @@ one_ddb_run o config calls h old new text other_text e d goes told sound one oth
 
 -- why `ddb` ended
 
-one_ddb_cause : {S D F : Type 0} (o : RunTells S D F) (config : List ℕ) (calls : ℕ) (h : List Entry) (old new : Seen S D F) (t u : List ℕ) (e d : Ending)
-    → AreLaws o.run.disk → IsOneAsked (ddb_asks config) old.disks.registry new.disks.registry → AreSoundDevices o old new → DdbCause o config calls h old new t e → DdbCause o config calls h old new u d
+one_ddb_cause : {S D F : Type 0} (o : RunTells S D F) (config : List ℕ) (calls : ℕ) (traced : Bool) (h : List Entry) (old new : Seen S D F) (t u : List ℕ) (e d : Ending)
+    → AreLaws o.run.disk → IsOneAsked (ddb_asks config) old.disks.registry new.disks.registry → AreSoundDevices o old new → DdbCause o config calls traced h old new t e → DdbCause o config calls traced h old new u d
     → status_of e ≡ status_of d
-one_ddb_cause o config calls h old new t u e d laws once sound (inl one) (inl other) = unrun_twice o (ddb_asks config) old new e d once sound one.why other.why
-one_ddb_cause o config calls h old new t u e d laws once sound (inl one) (inr other) = absurd (run_or_unrun o (ddb_asks config) old new other.mapping other.files e once sound other.ready one.why)
-one_ddb_cause o config calls h old new t u e d laws once sound (inr one) (inl other) = absurd (run_or_unrun o (ddb_asks config) old new one.mapping one.files d once sound one.ready other.why)
-one_ddb_cause o config calls h old new t u e d laws once sound (inr one) (inr other) =
-    one_ddb_run o config calls h old new t u e d laws.whole_goes_on laws.same_told sound one other (once.one_mapping one.mapping other.mapping one.ready.named other.ready.named)
+one_ddb_cause o config calls traced h old new t u e d laws once sound (inl one) (inl other) = unrun_twice o (ddb_asks config) old new e d once sound one.why other.why
+one_ddb_cause o config calls traced h old new t u e d laws once sound (inl one) (inr other) = absurd (run_or_unrun o (ddb_asks config) old new other.mapping other.files e once sound other.ready one.why)
+one_ddb_cause o config calls traced h old new t u e d laws once sound (inr one) (inl other) = absurd (run_or_unrun o (ddb_asks config) old new one.mapping one.files d once sound one.ready other.why)
+one_ddb_cause o config calls traced h old new t u e d laws once sound (inr one) (inr other) =
+    one_ddb_run o config calls traced h old new t u e d laws.whole_goes_on laws.same_told sound one other (once.one_mapping one.mapping other.mapping one.ready.named other.ready.named)
 
-pub same_ddb : {S D F : Type 0} (o : RunTells S D F) (config : List ℕ) (calls : ℕ) (output : Written) (h : List Entry) (old new : Seen S D F) (a b : ℕ)
-    → AreLaws o.run.disk → AreSoundDevices o old new → ¬ Rose output.faults_before output.faults_now → DdbOutcome o config calls output h old new a → DdbOutcome o config calls output h old new b → a ≡ b
-same_ddb o config calls output h old new a b laws run_sound sound one other =
+pub same_ddb : {S D F : Type 0} (o : RunTells S D F) (config : List ℕ) (calls : ℕ) (traced : Bool) (output : Written) (h : List Entry) (old new : Seen S D F) (a b : ℕ)
+    → AreLaws o.run.disk → AreSoundDevices o old new → ¬ Rose output.faults_before output.faults_now → DdbOutcome o config calls traced output h old new a → DdbOutcome o config calls traced output h old new b → a ≡ b
+same_ddb o config calls traced output h old new a b laws run_sound sound one other =
     let once = text_once DynamoDb config old.disks.registry new.disks.registry laws.one_expected in
-    told_once (DdbCause o config calls h old new) output a b (λ t u e d. one_ddb_cause o config calls h old new t u e d laws once run_sound) sound one other
+    told_once (DdbCause o config calls traced h old new) output a b (λ t u e d. one_ddb_cause o config calls traced h old new t u e d laws once run_sound) sound one other

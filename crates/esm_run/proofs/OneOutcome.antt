@@ -30,10 +30,10 @@ one_of t Show old new laws told sound a b one other = one_files t.disk (disks_in
 one_of t Failures old new laws told sound a b one other = one_files t.disk (disks_in old) (disks_in new) (output t old new) (files.Upkeep upkeep.Failures) told sound a b one other
 one_of t Compact old new laws told sound a b one other = one_files t.disk (disks_in old) (disks_in new) (output t old new) (files.Upkeep upkeep.Compact) told sound a b one other
 one_of t Migrate old new laws told sound a b one other = one_files t.disk (disks_in old) (disks_in new) (output t old new) (files.Upkeep upkeep.Migrate) told sound a b one other
-one_of t (Ddb config calls timeout) old new laws told sound a b one other = same_ddb (of_run t) config calls (output t old new) (history new) (seen old) (seen new) a b laws sound told one other
-one_of t (Redrive config receives calls visibility timeout) old new laws told sound a b one other =
-    same_redrive (of_run t) (redrive_words config receives calls visibility timeout) (output t old new) (history new) (seen old) (seen new) a b laws sound told one other
-one_of t (Replay config calls timeout) old new laws told sound a b one other = same_replay (of_run t) config calls (output t old new) (history new) (seen old) (seen new) a b laws sound told one other
+one_of t (Ddb config calls timeout traced) old new laws told sound a b one other = same_ddb (of_run t) config calls traced (output t old new) (history new) (seen old) (seen new) a b laws sound told one other
+one_of t (Redrive config receives calls visibility timeout traced) old new laws told sound a b one other =
+    same_redrive (of_run t) (redrive_words config receives calls visibility timeout traced) (output t old new) (history new) (seen old) (seen new) a b laws sound told one other
+one_of t (Replay config calls timeout traced) old new laws told sound a b one other = same_replay (of_run t) config calls traced (output t old new) (history new) (seen old) (seen new) a b laws sound told one other
 
 pub one_outcome : {S K D C F L N : Type 0} (t : DevicesTell S K D F L N) (words : List (List ℕ)) (old new : World S K D C F L) (a b : ℕ)
     → AreLaws t.disk → NoneFailed t words old new → Outcome t words old new a → Outcome t words old new b → a ≡ b

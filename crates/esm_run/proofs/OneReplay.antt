@@ -1,5 +1,5 @@
 -- Two outcomes of `replay` over the same worlds that left the same history have one status, where no device failed.
-use Rattle.std.proofs.Common.{◌≡◌, ◌∙◌, ℕ, List, [], Option, Some, None, ap, inl, inr, refl, subst, sym}
+use Rattle.std.proofs.Common.{◌≡◌, ◌∙◌, ℕ, Bool, List, [], Option, Some, None, ap, inl, inr, refl, subst, sym}
 use Rattle.std.specs.Option.{option_or}
 use Rattle.std.specs.Prelude.{◌⊎◌}
 use Rattle.esm_input.specs.declared.ending.InputEnd.{InputEnd}
@@ -110,7 +110,7 @@ read_from faults left c old new i is = record {
 
 -- two runs
 
-module _ {S D F : Type 0} (o : RunTells S D F) (config : List ℕ) (calls : ℕ) (h : List Entry) (old new : Seen S D F) where
+module _ {S D F : Type 0} (o : RunTells S D F) (config : List ℕ) (calls : ℕ) (traced : Bool) (h : List Entry) (old new : Seen S D F) where
   -- a replay of the mapping over these files, which ended so
   abbrev HasEndedSo : Config → FilesState D → (reading : Option InputEnd) → (caller caller_left : F) → ReplayCounts → ReplayEnd → Type 0
   HasEndedSo c f reading caller caller_left counts e =
@@ -184,7 +184,7 @@ module _ {S D F : Type 0} (o : RunTells S D F) (config : List ℕ) (calls : ℕ)
       both_ran a b f g reading other_reading caller caller_left other_caller other_left counts other_counts e d goes told sound ready also_ready mappings one other
 
   one_replay_run : (t u : List ℕ) (e d : Ending) → WholeGoesOn → SameTold → AreSoundDevices o old new
-      → (one : IsReplayRun o config calls h old new t e) → (other : IsReplayRun o config calls h old new u d) → one.mapping ≡ other.mapping → status_of e ≡ status_of d
+      → (one : IsReplayRun o config calls traced h old new t e) → (other : IsReplayRun o config calls traced h old new u d) → one.mapping ≡ other.mapping → status_of e ≡ status_of d
   one_replay_run t u e d goes told sound one other mappings =
       ap status_of one.tells
       ∙ either_end one.mapping other.mapping one.files other.files one.reading other.reading one.caller one.caller_left other.caller other.caller_left one.counts other.counts one.end other.end
@@ -196,15 +196,15 @@ module _ {S D F : Type 0} (o : RunTells S D F) (config : List ℕ) (calls : ℕ)
   -- why `replay` ended
 
   one_replay_cause : (t u : List ℕ) (e d : Ending) → AreLaws o.run.disk → IsOneAsked (replay_asks config) old.disks.registry new.disks.registry → AreSoundDevices o old new
-      → ReplayCause o config calls h old new t e → ReplayCause o config calls h old new u d → status_of e ≡ status_of d
+      → ReplayCause o config calls traced h old new t e → ReplayCause o config calls traced h old new u d → status_of e ≡ status_of d
   one_replay_cause t u e d laws once sound (inl one) (inl other) = unrun_twice o (replay_asks config) old new e d once sound one.why other.why
   one_replay_cause t u e d laws once sound (inl one) (inr other) = absurd (run_or_unrun o (replay_asks config) old new other.mapping other.files e once sound other.ready one.why)
   one_replay_cause t u e d laws once sound (inr one) (inl other) = absurd (run_or_unrun o (replay_asks config) old new one.mapping one.files d once sound one.ready other.why)
   one_replay_cause t u e d laws once sound (inr one) (inr other) =
       one_replay_run t u e d laws.whole_goes_on laws.same_told sound one other (once.one_mapping one.mapping other.mapping one.ready.named other.ready.named)
 
-pub same_replay : {S D F : Type 0} (o : RunTells S D F) (config : List ℕ) (calls : ℕ) (output : Written) (h : List Entry) (old new : Seen S D F) (a b : ℕ)
-    → AreLaws o.run.disk → AreSoundDevices o old new → ¬ Rose output.faults_before output.faults_now → ReplayOutcome o config calls output h old new a → ReplayOutcome o config calls output h old new b → a ≡ b
-same_replay o config calls output h old new a b laws run_sound sound one other =
+pub same_replay : {S D F : Type 0} (o : RunTells S D F) (config : List ℕ) (calls : ℕ) (traced : Bool) (output : Written) (h : List Entry) (old new : Seen S D F) (a b : ℕ)
+    → AreLaws o.run.disk → AreSoundDevices o old new → ¬ Rose output.faults_before output.faults_now → ReplayOutcome o config calls traced output h old new a → ReplayOutcome o config calls traced output h old new b → a ≡ b
+same_replay o config calls traced output h old new a b laws run_sound sound one other =
     let once = text_once Stream config old.disks.registry new.disks.registry laws.one_expected in
-    told_once (ReplayCause o config calls h old new) output a b (λ t u e d. one_replay_cause o config calls h old new t u e d laws once run_sound) sound one other
+    told_once (ReplayCause o config calls traced h old new) output a b (λ t u e d. one_replay_cause o config calls traced h old new t u e d laws once run_sound) sound one other

@@ -1,5 +1,5 @@
 -- How often a message may be received, as the words of a redrive say it.
-use Rattle.std.proofs.Common.{◌≤◌, ℕ, List, Option, Some, None}
+use Rattle.std.proofs.Common.{◌≤◌, ℕ, Bool, List, Option, Some, None}
 use Rattle.esm_cli.specs.Words.{IsNumberFrom, spells}
 use Rattle.esm_cli.specs.declared.command.Command.TheVariants.{Redrive}
 use Rattle.esm_cli.specs.declared.table.TheConstants.{MAX_RECEIVES}
@@ -9,5 +9,5 @@ number_within : (o : Option (List ℕ)) (n : ℕ) → IsNumberFrom MAX_RECEIVES 
 number_within (Some text) n is = (is.1, is.2)
 number_within None n is = absurd (cc)
 
-pub receives_within : (words : List (List ℕ)) (config : List ℕ) (receives calls visibility timeout : ℕ) → spells words (Redrive config receives calls visibility timeout) → (1 ≤ receives) × (receives ≤ GREATEST)
-receives_within words config receives calls visibility timeout spelled = number_within _ receives spelled.2.1
+pub receives_within : (words : List (List ℕ)) (config : List ℕ) (receives calls visibility timeout : ℕ) (traced : Bool) → spells words (Redrive config receives calls visibility timeout traced) → (1 ≤ receives) × (receives ≤ GREATEST)
+receives_within words config receives calls visibility timeout traced spelled = number_within _ receives spelled.2.1

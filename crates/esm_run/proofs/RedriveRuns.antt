@@ -1,8 +1,9 @@
 -- How `redrive` came to its ending, or was stopped by want of memory.
-use Rattle.std.proofs.Common.{◌≡◌, ◌∙◌, ◌∷◌, ℕ, List, refl, sym, ap, subst, inl, inr, Option, Result, Ok, Err}
-use Rattle.std.specs.Prelude.{IfOk, OnErr}
+use Rattle.std.proofs.Common.{◌≡◌, ◌∙◌, ◌∷◌, ◌++◌, [], ℕ, Bool, true, false, List, refl, sym, ap, subst, inl, inr, Option, Result, Ok, Err}
+use Rattle.std.specs.Prelude.{IfOk, OnErr, is_ok}
 use Rattle.esm_input.specs.declared.ending.InputEnd.{InputEnd}
 use Rattle.esm_mapping.specs.declared.named.NamedMapping.{NamedMapping}
+use Rattle.esm_model.specs.declared.config.Kind.{Kind}
 use Rattle.esm_model.specs.declared.entry.Entry.{Entry}
 use Rattle.esm_model.specs.declared.memory.OutOfMemory.{OutOfMemory}
 use Rattle.esm_journal_state.specs.SaidLists.{SaidLists}
@@ -24,6 +25,15 @@ use Rattle.esm_run.specs.Reports.{redrive_report_text}
 use Rattle.esm_run.specs.World.{RunTells, Seen}
 use Rattle.esm_run.specs.declared.asked.RedriveWords.{RedriveWords}
 use Rattle.esm_run.specs.declared.left.Began.TheVariants as began
+use Rattle.esm_run.proofs.RunEndings.{behind}
+use Rattle.esm_trace.specs.Trace.{trace_text}
+use Rattle.esm_traced.specs.Front.{front_text}
+
+-- nothing is told of no history
+no_front : (traced : Bool) (kind : Kind) → front_text traced kind [] ≡ []
+unfolding trace_text
+no_front true kind = refl
+no_front false kind = refl
 
 module _ {S D F : Type 0} (o : RunTells S D F) (w : RedriveWords) (h : List Entry) (old new : Seen S D F) (mapping : NamedMapping) (files : FilesState D) (ready : IsReadyFor o.run.disk (redrive_asks w) old new mapping files)
     (caller caller_left : F) (first_used : IsFirstUsed old.callers new.callers caller caller_left) (reading : Option InputEnd) where
@@ -38,7 +48,7 @@ module _ {S D F : Type 0} (o : RunTells S D F) (w : RedriveWords) (h : List Entr
 
   came : (e : RedriveEnd) → HasRunTo e → HasCome (RedriveCause o w h old new) (ending_of_redrive e)
   came e is = record {
-    text = redrive_report_text is.setting h (ending_of_redrive e);
+    text = front_text w.trace mapping.config.kind h ++ redrive_report_text is.setting h (ending_of_redrive e);
     cause_is = inr (inr (record {
       mapping = mapping;
       files = files;
@@ -54,16 +64,16 @@ module _ {S D F : Type 0} (o : RunTells S D F) (w : RedriveWords) (h : List Entr
     }));
   }
 
-  ran_so : (said : SaidLists) (e : RedriveEnd) → said ≡ files.said → HasRunTo e → EndsWith (RedriveCause o w h old new) h (began.Redrive said) (ending_of_redrive e)
+  ran_so : (front : List ℕ) (said : SaidLists) (e : RedriveEnd) → said ≡ files.said → HasRunTo e → front ≡ front_text w.trace mapping.config.kind h → EndsWith (RedriveCause o w h old new) front h (began.Redrive said) (ending_of_redrive e)
   unfolding came
-  ran_so said e same is = record {
+  ran_so front said e same is fronts = record {
     ended = came e is;
-    report = record {
+    report = behind front (front_text w.trace mapping.config.kind h) h (ending_of_redrive e) (began.Redrive said) (redrive_report_text is.setting h (ending_of_redrive e)) fronts (record {
       setting = is.setting;
       deletions = ap (λ (s : RedriveSetting). s.queue.deletions) is.is_setting.opened ∙ ap (λ (t : SaidLists). t.deletions) (sym same);
       legal = is.headline.legal_trace is.setting.queue.messages (λ i m at. at);
       text_is = refl;
-    };
+    });
   }
 
   abbrev IsUnwrittenFrom : D → D → D → Type 0
@@ -107,28 +117,29 @@ module _ {S D F : Type 0} (o : RunTells S D F) (w : RedriveWords) (h : List Entr
   ended_so (end.Changed change) is = came (end.Changed change) is
   ended_so (end.BadLine index) is = refused index is
 
-  told_so : (said : SaidLists) (e : RedriveEnd) → said ≡ files.said → HasEndedTo e → EndsWith (RedriveCause o w h old new) h (began.Redrive said) (ending_of_redrive e)
+  told_so : (front : List ℕ) (said : SaidLists) (e : RedriveEnd) → said ≡ files.said → HasEndedTo e → front ≡ front_text w.trace mapping.config.kind h → EndsWith (RedriveCause o w h old new) front h (began.Redrive said) (ending_of_redrive e)
   unfolding refused
-  told_so said (end.Finished why) same is = ran_so said (end.Finished why) same is
-  told_so said end.CallsSpent same is = ran_so said end.CallsSpent same is
-  told_so said end.DiskFault same is = ran_so said end.DiskFault same is
-  told_so said end.DestFault same is = ran_so said end.DestFault same is
-  told_so said (end.Changed change) same is = ran_so said (end.Changed change) same is
-  told_so said (end.BadLine index) same is = record {
+  told_so front said (end.Finished why) same is fronts = ran_so front said (end.Finished why) same is fronts
+  told_so front said end.CallsSpent same is fronts = ran_so front said end.CallsSpent same is fronts
+  told_so front said end.DiskFault same is fronts = ran_so front said end.DiskFault same is fronts
+  told_so front said end.DestFault same is fronts = ran_so front said end.DestFault same is fronts
+  told_so front said (end.Changed change) same is fronts = ran_so front said (end.Changed change) same is fronts
+  told_so front said (end.BadLine index) same is fronts = record {
     ended = refused index is;
-    report = record {
-      setting = setting_before (words_of w mapping.config) files;
-      deletions = ap (λ (t : SaidLists). t.deletions) (sym same);
-      legal = subst (LegalRedrive (setting_before (words_of w mapping.config) files)) (sym is.1.no_trace) tt;
-      text_is = refl;
-    };
+    report = behind front [] h (ending_of_redrive (end.BadLine index)) (began.Redrive said) (last_line (ending_of_redrive (end.BadLine index)))
+        (fronts ∙ ap (front_text w.trace mapping.config.kind) is.1.no_trace ∙ no_front w.trace mapping.config.kind) (record {
+          setting = setting_before (words_of w mapping.config) files;
+          deletions = ap (λ (t : SaidLists). t.deletions) (sym same);
+          legal = subst (LegalRedrive (setting_before (words_of w mapping.config) files)) (sym is.1.no_trace) tt;
+          text_is = refl;
+        });
   }
 
   -- and is told
-  pub redrive_ends : (said : SaidLists) (end : Result RedriveEnd OutOfMemory) (e : Ending) → said ≡ files.said → IfOk end HasEndedTo → IsRedriveEndingOf end e
-      → EndsWith (RedriveCause o w h old new) h (began.Redrive said) e
-  redrive_ends said (Ok to) e same is tells = subst (EndsWith (RedriveCause o w h old new) h (began.Redrive said)) (sym tells) (told_so said to same is)
-  redrive_ends said (Err why) e same is tells = absurd tells
+  pub redrive_ends : (front : List ℕ) (said : SaidLists) (end : Result RedriveEnd OutOfMemory) (e : Ending) → said ≡ files.said → IfOk end HasEndedTo → (is_ok end ≡ true → front ≡ front_text w.trace mapping.config.kind h)
+      → IsRedriveEndingOf end e → EndsWith (RedriveCause o w h old new) front h (began.Redrive said) e
+  redrive_ends front said (Ok to) e same is fronts tells = subst (EndsWith (RedriveCause o w h old new) front h (began.Redrive said)) (sym tells) (told_so front said to same is (fronts refl))
+  redrive_ends front said (Err why) e same is fronts tells = absurd tells
 
   -- it was stopped, or its end could not be told
   pub redrive_cut : (end : Result RedriveEnd OutOfMemory) → IfOk end HasEndedTo → OnErr end HasStoppedSo → IsRedriveCut o w h old new

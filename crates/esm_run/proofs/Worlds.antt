@@ -6,7 +6,7 @@ use Rattle.esm_model.specs.declared.memory.OutOfMemory.{OutOfMemory}
 use Rattle.esm_report.specs.declared.ending.Ending.{Ending}
 use Rattle.esm_run.specs.Answers.{HasTold}
 use Rattle.esm_run.specs.Endings.{IsTold}
-use Rattle.esm_run.specs.Ran.{EndsWith, IsReport}
+use Rattle.esm_run.specs.Ran.{EndsWith, IsReportBehind}
 use Rattle.esm_run.specs.World.{Seen, written_of}
 use Rattle.esm_run.specs.declared.left.Began.{Began}
 use Rattle.esm_run.specs.declared.world.World.{World}
@@ -18,14 +18,14 @@ of_worlds P es h a old b new histories olds news is =
     subst (λ h. P h old new) histories (subst (λ old. P es old new) olds (subst (λ new. P es a new) news is))
 
 pub told_of_worlds : {S D F K : Type 0} (faults : K → ℕ) (written : K → Option (List ℕ)) (cause : List Entry → Seen S D F → Seen S D F → List ℕ → Ending → Type 0)
-    (es h : List Entry) (a old b new : Seen S D F) (rest_out out new_out : K) (began : Began) (status : ℕ) (end : Result Ending OutOfMemory)
-    → es ≡ h → a ≡ old → b ≡ new → rest_out ≡ out → IfOk end (EndsWith (cause es a b) es began)
-    → (e : Ending) × (end ≡ Ok e) × ((text : List ℕ) → IsReport es e began text → IsTold (faults rest_out) (faults new_out) (written rest_out) (written new_out) text e status)
+    (es h : List Entry) (a old b new : Seen S D F) (rest_out out new_out : K) (front : List ℕ) (began : Began) (status : ℕ) (end : Result Ending OutOfMemory)
+    → es ≡ h → a ≡ old → b ≡ new → rest_out ≡ out → IfOk end (EndsWith (cause es a b) front es began)
+    → (e : Ending) × (end ≡ Ok e) × ((text : List ℕ) → IsReportBehind front es e began text → IsTold (faults rest_out) (faults new_out) (written rest_out) (written new_out) text e status)
     → HasTold (cause h old new) (written_of faults written out new_out) status
-told_of_worlds faults written cause es h a old b new rest_out out new_out began status end histories olds news outs ends is =
+told_of_worlds faults written cause es h a old b new rest_out out new_out front began status end histories olds news outs ends is =
     of_worlds (λ h old new. HasTold (cause h old new) (written_of faults written out new_out) status) es h a old b new histories olds news
     (subst (λ k. HasTold (cause es a b) (written_of faults written k new_out) status) outs
-    (told_run (cause es a b) es (written_of faults written rest_out new_out) status began is.0 es (at_ok _ end is.0 is.1 ends) refl is.2))
+    (told_run (cause es a b) es (written_of faults written rest_out new_out) status began is.0 front es (at_ok _ end is.0 is.1 ends) refl is.2))
 
 -- a world whose clock and door are those of another
 pub same_rest : {S K D C F L : Type 0} (w v : World S K D C F L) → w.clock ≡ v.clock → w.door ≡ v.door → w ≡ record w { clock = v.clock; door = v.door }

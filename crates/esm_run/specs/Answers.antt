@@ -1,6 +1,6 @@
 -- How the options of `run` ended, and what they left; and what each command leaves that did not come to run its mapping. This
 -- product's own.
-use Rattle.std.specs.Prelude.{◌≡◌, ◌⊎◌, ◌*◌, ℕ, true, false, List, [], Option, Some, IsSome}
+use Rattle.std.specs.Prelude.{◌≡◌, ◌⊎◌, ◌*◌, ◌++◌, ℕ, true, false, List, [], Option, Some, IsSome}
 use Rattle.esm_model.specs.declared.entry.Entry.{Entry}
 use Rattle.esm_model.specs.Entries.{CallsFollowShut}
 use Rattle.esm_model.specs.Setting.{Setting}
@@ -29,6 +29,7 @@ use Rattle.esm_runner.specs.Files.{FilesState, IsOpenedFiles, AreRefused, AreUnw
 use Rattle.esm_runner.specs.declared.files.FilesError.{FilesError}
 use Rattle.esm_runner.specs.declared.run.MappingEnd.{MappingEnd}
 use Rattle.esm_folder.specs.Upkeep.{AreHonest, OneRose}
+use Rattle.esm_traced.specs.Front.{front_text}
 use Rattle.esm_run.specs.Asks.{Asks, by_words}
 use Rattle.esm_run.specs.Built.{SpellsBuilt}
 use Rattle.esm_run.specs.Endings.{IsTold, ending_of, ending_of_files, ending_of_mapping}
@@ -115,7 +116,7 @@ pub record IsStreamRun {S D F : Type 0} (o : RunTells S D F) (r : RunWords) (h :
   pub tells : ending ≡ ending_of end
   pub cause : stream.IsCauseOf o.run files setting h (records_in_items (handed input)) input.end (o.left new.input) (devices_of new) end
   pub hand : List Entry
-  pub headline : Headline o.run r.read_first files setting h (trouble_of end) ending hand old.callers (devices_of new) text
+  pub headline : Headline o.run r.read_first r.trace files setting h (trouble_of end) ending hand old.callers (devices_of new) text
 
 -- the queue's mapping of these options ran, and its report is told
 pub record IsQueueRun {S D F : Type 0} (o : RunTells S D F) (r : RunWords) (h : List Entry) (old new : Seen S D F) (text : List ℕ) (ending : Ending) : Type 0 where
@@ -128,7 +129,8 @@ pub record IsQueueRun {S D F : Type 0} (o : RunTells S D F) (r : RunWords) (h : 
   pub reading : Option InputEnd
   pub run : queue.HasEnded o.run o.faults o.left mapping.config r.calls (visibility_of r) files old.input new.input reading old.callers h (devices_of new) end
   pub tells : ending ≡ ending_of end
-  pub text_is : text ≡ queue_report_text run.setting h ending
+  -- what is told is the trace, where that is asked for, and then the report
+  pub text_is : text ≡ front_text r.trace mapping.config.kind h ++ queue_report_text run.setting h ending
   -- with `--read-first` no call begins before the end of the input was noted
   pub read_first : r.read_first ≡ true → CallsFollowShut h
 

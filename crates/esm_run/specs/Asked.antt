@@ -14,9 +14,9 @@ AsksFor c (Files files) = c ≡ command_of files
 AsksFor c (Serve requests) = c ≡ command.Serve requests
 AsksFor c (Gen records) = c ≡ command.Gen records
 AsksFor c (Run options) = c ≡ command.Run options
-AsksFor c (Ddb config calls timeout) = c ≡ command.Ddb config calls timeout
-AsksFor c (Redrive w) = c ≡ command.Redrive w.config w.max_receives w.calls w.visibility w.timeout
-AsksFor c (Replay config calls timeout) = c ≡ command.Replay config calls timeout
+AsksFor c (Ddb config calls timeout traced) = c ≡ command.Ddb config calls timeout traced
+AsksFor c (Redrive w) = c ≡ command.Redrive w.config w.max_receives w.calls w.visibility w.timeout w.trace
+AsksFor c (Replay config calls timeout traced) = c ≡ command.Replay config calls timeout traced
 AsksFor c (Nothing why) = ⊥
 
 -- the words ask for this, or spell no command that is built
@@ -25,7 +25,7 @@ IsAsked words (Files files) = SpellsBuilt words (command_of files)
 IsAsked words (Serve requests) = SpellsBuilt words (command.Serve requests)
 IsAsked words (Gen records) = SpellsBuilt words (command.Gen records)
 IsAsked words (Run options) = SpellsBuilt words (command.Run options)
-IsAsked words (Ddb config calls timeout) = SpellsBuilt words (command.Ddb config calls timeout)
-IsAsked words (Redrive w) = SpellsBuilt words (command.Redrive w.config w.max_receives w.calls w.visibility w.timeout)
-IsAsked words (Replay config calls timeout) = SpellsBuilt words (command.Replay config calls timeout)
+IsAsked words (Ddb config calls timeout traced) = SpellsBuilt words (command.Ddb config calls timeout traced)
+IsAsked words (Redrive w) = SpellsBuilt words (command.Redrive w.config w.max_receives w.calls w.visibility w.timeout w.trace)
+IsAsked words (Replay config calls timeout traced) = SpellsBuilt words (command.Replay config calls timeout traced)
 IsAsked words (Nothing why) = why ≡ BadWords → (c : Command) → ¬ SpellsBuilt words c

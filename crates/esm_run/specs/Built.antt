@@ -14,9 +14,9 @@ is_built (Gen records) = true
 is_built Compact = true
 is_built (Serve requests) = true
 is_built Migrate = true
-is_built (Ddb config calls timeout) = true
-is_built (Redrive config receives calls visibility timeout) = true
-is_built (Replay config calls timeout) = true
+is_built (Ddb config calls timeout traced) = true
+is_built (Redrive config receives calls visibility timeout traced) = true
+is_built (Replay config calls timeout traced) = true
 
 -- the words spell the command, and it is built
 abbrev pub SpellsBuilt : List (List ℕ) → Command → Type 0

@@ -1,6 +1,6 @@
 -- What became of the command that the words spell: how it ended, what it left, and what want of memory left of it. In each
 -- definition the world comes first as it was handed in, and then as it was handed back. This product's own.
-use Rattle.std.specs.Prelude.{◌≡◌, ◌⊎◌, ℕ, List}
+use Rattle.std.specs.Prelude.{◌≡◌, ◌⊎◌, ℕ, Bool, List}
 use Rattle.esm_cli.specs.declared.command.Command.{Command}
 use Rattle.esm_cli.specs.declared.command.Command.TheVariants.{Init, Run, Show, Failures, Gen, Compact, Serve, Migrate, Ddb, Redrive, Replay}
 use Rattle.esm_io.specs.Faults.{Rose}
@@ -22,8 +22,8 @@ use Rattle.esm_run.specs.declared.tending.Upkeep.TheVariants as upkeep
 use Rattle.esm_run.specs.declared.world.World.{World}
 
 -- the words of `redrive`
-abbrev pub redrive_words : (config : List ℕ) (receives calls visibility timeout : ℕ) → RedriveWords
-redrive_words config receives calls visibility timeout = record { config = config; max_receives = receives; calls = calls; visibility = visibility; timeout = timeout }
+abbrev pub redrive_words : (config : List ℕ) (receives calls visibility timeout : ℕ) (traced : Bool) → RedriveWords
+redrive_words config receives calls visibility timeout traced = record { config = config; max_receives = receives; calls = calls; visibility = visibility; timeout = timeout; trace = traced }
 
 -- ends
 
@@ -34,9 +34,9 @@ FilesEnded t f old new status = FilesOutcome t.disk (disks_in old) (disks_in new
 -- the command ended with the status: why, and what was told
 abbrev pub HasEnded : {S K D C F L N : Type 0} → DevicesTell S K D F L N → Command → (old new : World S K D C F L) → (status : ℕ) → Type 0
 HasEnded t (Run r) old new status = RunOutcome (of_run t) r (output t old new) (history new) (seen old) (seen new) status
-HasEnded t (Ddb config calls timeout) old new status = DdbOutcome (of_run t) config calls (output t old new) (history new) (seen old) (seen new) status
-HasEnded t (Redrive config receives calls visibility timeout) old new status = RedriveOutcome (of_run t) (redrive_words config receives calls visibility timeout) (output t old new) (history new) (seen old) (seen new) status
-HasEnded t (Replay config calls timeout) old new status = ReplayOutcome (of_run t) config calls (output t old new) (history new) (seen old) (seen new) status
+HasEnded t (Ddb config calls timeout traced) old new status = DdbOutcome (of_run t) config calls traced (output t old new) (history new) (seen old) (seen new) status
+HasEnded t (Redrive config receives calls visibility timeout traced) old new status = RedriveOutcome (of_run t) (redrive_words config receives calls visibility timeout traced) (output t old new) (history new) (seen old) (seen new) status
+HasEnded t (Replay config calls timeout traced) old new status = ReplayOutcome (of_run t) config calls traced (output t old new) (history new) (seen old) (seen new) status
 HasEnded t (Gen records) old new status = GenOutcome records (output t old new) (history new) status
 HasEnded t (Serve requests) old new status = ServeOutcome (of_serve t) old.registry new.registry (door t old new) (output t old new) requests status
 HasEnded t Init old new status = FilesEnded t files.Init old new status
@@ -56,9 +56,9 @@ Outcome t words old new status =
 -- the devices that the command uses are honest, tell, and did not fail; the output aside
 abbrev pub IsSound : {S K D C F L N : Type 0} → DevicesTell S K D F L N → Command → (old new : World S K D C F L) → Type 0
 IsSound t (Run r) old new = IsSoundRun (of_run t) r (seen old) (seen new)
-IsSound t (Ddb config calls timeout) old new = AreSoundDevices (of_run t) (seen old) (seen new)
-IsSound t (Redrive config receives calls visibility timeout) old new = AreSoundDevices (of_run t) (seen old) (seen new)
-IsSound t (Replay config calls timeout) old new = AreSoundDevices (of_run t) (seen old) (seen new)
+IsSound t (Ddb config calls timeout traced) old new = AreSoundDevices (of_run t) (seen old) (seen new)
+IsSound t (Redrive config receives calls visibility timeout traced) old new = AreSoundDevices (of_run t) (seen old) (seen new)
+IsSound t (Replay config calls timeout traced) old new = AreSoundDevices (of_run t) (seen old) (seen new)
 IsSound t (Serve requests) old new = IsSoundServe (of_serve t) old.registry new.registry (door t old new)
 IsSound t Init old new = AreSoundUnder t.disk (disks_in old) (disks_in new) files.Init
 IsSound t Show old new = AreSoundUnder t.disk (disks_in old) (disks_in new) (files.Upkeep upkeep.Show)
@@ -78,7 +78,7 @@ pub record NoneFailed {S K D C F L N : Type 0} (t : DevicesTell S K D F L N) (wo
 -- its calls spent
 abbrev pub Completes : {S K D C F L N : Type 0} → DevicesTell S K D F L N → Command → (old new : World S K D C F L) → (status : ℕ) → Type 0
 Completes t (Run r) old new status = (run.MayComplete (of_run t) r (history new) (seen old) → status ≡ 0) × (run.MayFinish (of_run t) r (seen old) → (status ≡ 0) ⊎ (status ≡ 1))
-Completes t (Redrive config receives calls visibility timeout) old new status = MayComplete (of_run t) (redrive_words config receives calls visibility timeout) (seen old) → status ≡ 0
+Completes t (Redrive config receives calls visibility timeout traced) old new status = MayComplete (of_run t) (redrive_words config receives calls visibility timeout traced) (seen old) → status ≡ 0
 Completes t _ old new status = Unit {0}
 
 -- so does the command that the words spell
@@ -95,9 +95,9 @@ pub record AreFilesLeft {S K D C F L N : Type 0} (t : DevicesTell S K D F L N) (
 -- what the command changed at most, and what is left of its files
 abbrev pub IsLeft : {S K D C F L N : Type 0} → DevicesTell S K D F L N → Command → (old new : World S K D C F L) → Type 0
 IsLeft t (Run r) old new = IsRegistryLeft t.disk r.which old.registry new.registry
-IsLeft t (Ddb config calls timeout) old new = new.registry ≡ old.registry
-IsLeft t (Redrive config receives calls visibility timeout) old new = new.registry ≡ old.registry
-IsLeft t (Replay config calls timeout) old new = new.registry ≡ old.registry
+IsLeft t (Ddb config calls timeout traced) old new = new.registry ≡ old.registry
+IsLeft t (Redrive config receives calls visibility timeout traced) old new = new.registry ≡ old.registry
+IsLeft t (Replay config calls timeout traced) old new = new.registry ≡ old.registry
 IsLeft t (Gen records) old new = new ≡ record old { out = new.out; trace = new.trace }
 IsLeft t (Serve requests) old new = new ≡ record old { out = new.out; registry = new.registry; door = new.door }
 IsLeft t Init old new = AreFilesLeft t files.Init old new
@@ -111,9 +111,9 @@ IsLeft t Migrate old new = AreFilesLeft t (files.Upkeep upkeep.Migrate) old new
 -- how far the command came; of `init`, `show`, `failures` and `migrate` no more is said than what they leave
 abbrev pub IsCut : {S K D C F L N : Type 0} → DevicesTell S K D F L N → Command → (old new : World S K D C F L) → Type 0
 IsCut t (Run r) old new = IsCutOf (of_run t) r (history new) (seen old) (seen new)
-IsCut t (Ddb config calls timeout) old new = IsDdbCut (of_run t) config calls (history new) (seen old) (seen new)
-IsCut t (Redrive config receives calls visibility timeout) old new = IsRedriveCut (of_run t) (redrive_words config receives calls visibility timeout) (history new) (seen old) (seen new)
-IsCut t (Replay config calls timeout) old new = IsReplayCut (of_run t) config calls (history new) (seen old) (seen new)
+IsCut t (Ddb config calls timeout traced) old new = IsDdbCut (of_run t) config calls traced (history new) (seen old) (seen new)
+IsCut t (Redrive config receives calls visibility timeout traced) old new = IsRedriveCut (of_run t) (redrive_words config receives calls visibility timeout traced) (history new) (seen old) (seen new)
+IsCut t (Replay config calls timeout traced) old new = IsReplayCut (of_run t) config calls traced (history new) (seen old) (seen new)
 IsCut t (Gen records) old new = IsGenCut records (history new)
 IsCut t (Serve requests) old new = IsServeCut (of_serve t) old.registry new.registry (door t old new)
 IsCut t Compact old new = IsCompactCut t.disk (disks_in old) (disks_in new)

@@ -2,7 +2,7 @@
 -- a line of a stream's input, over which its mapping then runs as a stream's; no call begins before. Source: the Lambda Developer
 -- Guide, "Using Lambda with DynamoDB"; that the input is read first, and that nothing behind its first bad line is turned, is
 -- this product's own.
-use Rattle.std.specs.Prelude.{◌≡◌, ◌⊎◌, ℕ, true, List, [], Option, Some}
+use Rattle.std.specs.Prelude.{◌≡◌, ◌⊎◌, ℕ, Bool, true, List, [], Option, Some}
 use Rattle.esm_ddb.specs.Translating.{source_of}
 use Rattle.esm_ddb.specs.TurnedInput.{IsTaken, IsTurnedInput}
 use Rattle.esm_ddb.specs.declared.input.InputTurned.{InputTurned}
@@ -41,10 +41,11 @@ all_left rest = Some rest
 abbrev pub ddb_asks : {D : Type 0} → List ℕ → Asks D
 ddb_asks config = by_text DynamoDb config
 
--- The mapping ran, and its report is told. The headline is that of a stream's run over the records of the turned lines; of each
--- event `ddb_event` was handed on, which has the records' own data as its elements, and of each failure line `ddb_line`, which
--- has the table's name. An event or a line that these do not change was handed on as it is.
-pub record IsDdbRun {S D F : Type 0} (o : RunTells S D F) (config : List ℕ) (calls : ℕ) (h : List Entry) (old new : Seen S D F) (text : List ℕ) (ending : Ending) : Type 0 where
+-- The mapping ran, and its report is told, behind its trace where that is asked for, which is that of the turned lines. The
+-- headline is that of a stream's run over the records of the turned lines; of each event `ddb_event` was handed on, which has the
+-- records' own data as its elements where it has any, and of each failure line `ddb_line`, which has the table's name. An event or
+-- a line that these do not change was handed on as it is.
+pub record IsDdbRun {S D F : Type 0} (o : RunTells S D F) (config : List ℕ) (calls : ℕ) (traced : Bool) (h : List Entry) (old new : Seen S D F) (text : List ℕ) (ending : Ending) : Type 0 where
   pub mapping : NamedMapping
   pub files : FilesState D
   pub ready : IsReadyFor o.run.disk (ddb_asks config) old new mapping files
@@ -63,16 +64,16 @@ pub record IsDdbRun {S D F : Type 0} (o : RunTells S D F) (config : List ℕ) (c
   pub tells : ending ≡ ending_of_ddb reading end
   pub cause : stream.IsCauseOf (ddb_tells o) files setting h (records_in_items (handed input)) input.end (Some rest) (devices_of new) end
   pub hand : List Entry
-  pub headline : Headline (ddb_tells o) true files setting h (trouble_of end) ending hand old.callers (devices_of new) text
+  pub headline : Headline (ddb_tells o) true traced files setting h (trouble_of end) ending hand old.callers (devices_of new) text
 
 -- why `ddb` ended so, and what is told: nothing ran, or the mapping ran
-abbrev pub DdbCause : {S D F : Type 0} → RunTells S D F → (config : List ℕ) → (calls : ℕ) → List Entry → (old new : Seen S D F) → (text : List ℕ) → Ending → Type 0
-DdbCause o config calls h old new text ending =
-    HasNotRun o.run.disk (ddb_asks config) h old new text ending ⊎ IsDdbRun o config calls h old new text ending
+abbrev pub DdbCause : {S D F : Type 0} → RunTells S D F → (config : List ℕ) → (calls : ℕ) → (traced : Bool) → List Entry → (old new : Seen S D F) → (text : List ℕ) → Ending → Type 0
+DdbCause o config calls traced h old new text ending =
+    HasNotRun o.run.disk (ddb_asks config) h old new text ending ⊎ IsDdbRun o config calls traced h old new text ending
 
 -- it ended with the status
-abbrev pub DdbOutcome : {S D F : Type 0} → RunTells S D F → (config : List ℕ) → (calls : ℕ) → Written → List Entry → (old new : Seen S D F) → (status : ℕ) → Type 0
-DdbOutcome o config calls output h old new status = HasTold (DdbCause o config calls h old new) output status
+abbrev pub DdbOutcome : {S D F : Type 0} → RunTells S D F → (config : List ℕ) → (calls : ℕ) → (traced : Bool) → Written → List Entry → (old new : Seen S D F) → (status : ℕ) → Type 0
+DdbOutcome o config calls traced output h old new status = HasTold (DdbCause o config calls traced h old new) output status
 
 -- want of memory
 
@@ -104,7 +105,7 @@ pub record IsStoppedDdb {S D F : Type 0} (o : RunTells S D F) (config : List ℕ
   pub read_first : CallsFollowShut h
 
 -- before anything came; while the input was read; in the run; or when the run had ended and was to be told
-abbrev pub IsDdbCut : {S D F : Type 0} → RunTells S D F → (config : List ℕ) → (calls : ℕ) → List Entry → (old new : Seen S D F) → Type 0
-IsDdbCut o config calls h old new =
+abbrev pub IsDdbCut : {S D F : Type 0} → RunTells S D F → (config : List ℕ) → (calls : ℕ) → (traced : Bool) → List Entry → (old new : Seen S D F) → Type 0
+IsDdbCut o config calls traced h old new =
     HasNotBegun o.run.disk (ddb_asks config) h old new
-    ⊎ (IsStoppedTurning o config h old new ⊎ (IsStoppedDdb o config calls h old new ⊎ ((e : Ending) × HasCome (DdbCause o config calls h old new) e)))
+    ⊎ (IsStoppedTurning o config h old new ⊎ (IsStoppedDdb o config calls h old new ⊎ ((e : Ending) × HasCome (DdbCause o config calls traced h old new) e)))

@@ -1,8 +1,9 @@
 -- The headline: what the run of a stream's mapping leaves, clause by clause. This product's own.
-use Rattle.std.specs.Prelude.{◌≡◌, ℕ, Bool, true, List, Option, Some}
+use Rattle.std.specs.Prelude.{◌≡◌, ◌++◌, ℕ, Bool, true, List, Option, Some}
 use Rattle.esm_ledger.specs.Ledger.{LegalOver}
 use Rattle.esm_model.specs.declared.book.Trouble.{Trouble}
 use Rattle.esm_model.specs.declared.book.Trouble.TheVariants.{Disk}
+use Rattle.esm_model.specs.declared.config.Kind.TheVariants as kind
 use Rattle.esm_model.specs.declared.entry.Entry.{Entry}
 use Rattle.esm_model.specs.Earned.{FateIsEarned}
 use Rattle.esm_model.specs.Entries.{CallsFollowShut}
@@ -12,13 +13,14 @@ use Rattle.esm_runner.specs.Given.{AreGiven}
 use Rattle.esm_runner.specs.Ran.{NoneRuns}
 use Rattle.esm_report.specs.Report.{report_text}
 use Rattle.esm_report.specs.declared.ending.Ending.{Ending}
+use Rattle.esm_traced.specs.Front.{front_text}
 use Rattle.esm_runner.specs.Files.{FilesState}
-use Rattle.esm_runner.specs.Headline.{AnswersAreLogged, CallsMade, CanBeSaid, CheckpointIsRecorded, CrashKept, FailureLinesCrashKept, FailureLinesKept, FatesAreRecorded, HandFollows, IsInHand, JournalKept, JournalStopped, Devices, SettledUnless, Telling}
+use Rattle.esm_runner.specs.Headline.{AnswersAreLogged, CallsMade, CanBeSaid, CheckpointIsRecorded, CrashKept, FailureLinesCrashKept, FailureLinesKept, FatesAreRecorded, HandFollows, HandHasPayload, IsInHand, JournalKept, JournalStopped, Devices, SettledUnless, Telling}
 
 -- The run over these files and this setting left this history, newest entry first, and this text, and ended so, by this trouble
--- of the book, if by any. In hand is the entry, if there is one, whose payload may stand in the journal though it is not in the
--- history. The callers are seen as they were handed in, and the devices as they were left.
-pub record Headline {D F : Type 0} (t : Telling D F) (first : Bool) (f : FilesState D) (s : Setting) (h : List Entry) (trouble : Option Trouble) (ending : Ending) (hand : List Entry) (old : List F) (new : Devices D F) (text : List ℕ) : Type 0 where
+-- of the book, if by any. In hand is the entry, where a disk of the journal failed, whose payload may stand in the journal though it
+-- is not in the history. The callers are seen as they were handed in, and the devices as they were left.
+pub record Headline {D F : Type 0} (t : Telling D F) (first traced : Bool) (f : FilesState D) (s : Setting) (h : List Entry) (trouble : Option Trouble) (ending : Ending) (hand : List Entry) (old : List F) (new : Devices D F) (text : List ℕ) : Type 0 where
   -- each entry may follow those before it, over every list of records that goes on from those that came
   pub legal_trace : LegalOver s h
   -- where there was no trouble nothing is called for: each open record passes the filter, and no lane is owed anything
@@ -38,7 +40,8 @@ pub record Headline {D F : Type 0} (t : Telling D F) (first : Bool) (f : FilesSt
   -- the journal failed, perhaps by one further, that of the entry in hand
   pub crash_kept : CrashKept t f s h hand new
   pub in_hand : IsInHand trouble hand
-  -- the entry in hand may follow the history, or a front of it after which calls and the input ended alone
+  -- the entry in hand has a payload, and may follow the history, or a front of it after which calls and the input ended alone
+  pub hand_has_payload : HandHasPayload s hand
   pub hand_follows : HandFollows s h hand
   -- the failure file's lines are the old ones followed by what is delivered of those of the history, in order; where a disk
   -- failed, perhaps by one further line
@@ -46,8 +49,8 @@ pub record Headline {D F : Type 0} (t : Telling D F) (first : Bool) (f : FilesSt
   -- and at any moment since the run's start a crash leaves the old ones followed by a prefix of those; where a device failed,
   -- perhaps by one further, that of the entry in hand or of the one whose line was being delivered
   pub failure_lines_crash : FailureLinesCrashKept t f s h trouble hand new
-  -- what is told is the report of the history and of its ending
-  pub report_told : text ≡ report_text s h ending
+  -- what is told is the trace of the history, where that is asked for, and then the report of it and of its ending
+  pub report_told : text ≡ front_text traced kind.Stream h ++ report_text s h ending
   -- for each call and each record of its batch every earlier record of that shard with the same key, outside the batch, has its
   -- fate before the call begins
   pub order_per_key : OrderPerKey s h

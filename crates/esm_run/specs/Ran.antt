@@ -1,5 +1,5 @@
 -- What became of a command that runs a mapping before it was told. Only this crate's proofs cite this.
-use Rattle.std.specs.Prelude.{◌≡◌, true, List, ℕ, Result, Ok, Err}
+use Rattle.std.specs.Prelude.{◌≡◌, ◌++◌, true, List, ℕ, Result, Ok, Err}
 use Rattle.esm_model.specs.declared.entry.Entry.{Entry}
 use Rattle.esm_model.specs.declared.memory.OutOfMemory.{OutOfMemory}
 use Rattle.esm_model.specs.Setting.{Setting}
@@ -79,7 +79,13 @@ IsReport h ending (began.Queue said) text = IsQueueReport h ending said text
 IsReport h ending (began.Redrive said) text = IsRedriveReport h ending said text
 IsReport h ending (began.Replay counts) text = IsReplayReport h ending counts text
 
+-- the report, by what began, behind what is told of the history before it
+pub record IsReportBehind (front : List ℕ) (h : List Entry) (ending : Ending) (b : Began) (text : List ℕ) : Type 0 where
+  pub report : List ℕ
+  pub is_report : IsReport h ending b report
+  pub text_is : text ≡ front ++ report
+
 -- a command came to this ending, for a cause of these, and its report is of what began
-pub record EndsWith (cause : List ℕ → Ending → Type 0) (h : List Entry) (b : Began) (ending : Ending) : Type 0 where
+pub record EndsWith (cause : List ℕ → Ending → Type 0) (front : List ℕ) (h : List Entry) (b : Began) (ending : Ending) : Type 0 where
   pub ended : HasCome cause ending
-  pub report : IsReport h ending b ended.text
+  pub report : IsReportBehind front h ending b ended.text

@@ -1,7 +1,7 @@
 -- How the command `redrive` ended, and what it left. A queue's mapping runs by one caller, and a message that was received as often
 -- as it may be is moved to the dead-letter file, which is the failure file; the input is read first. Source: Amazon SQS Developer
 -- Guide, "Using dead-letter queues"; that the file takes the place of a queue is this product's own.
-use Rattle.std.specs.Prelude.{◌≡◌, ◌⊎◌, ◌*◌, ◌<◌, ℕ, true, List, length, Option, Some, reverse, slice_get}
+use Rattle.std.specs.Prelude.{◌≡◌, ◌⊎◌, ◌++◌, ◌*◌, ◌<◌, ℕ, true, List, length, Option, Some, reverse, slice_get}
 use Rattle.esm_input.specs.declared.ending.InputEnd.{InputEnd}
 use Rattle.esm_input.specs.Positions.{from_start}
 use Rattle.esm_input.specs.Reading.{IsGood, items_read}
@@ -24,6 +24,7 @@ use Rattle.esm_report.specs.declared.ending.Ending.{Ending}
 use Rattle.esm_runner.specs.Files.{FilesState}
 use Rattle.esm_runner.specs.QueueComing.{messages_in_items}
 use Rattle.esm_runner.specs.QueueEnded.{line_kind}
+use Rattle.esm_traced.specs.Front.{front_text}
 use Rattle.esm_run.specs.Answers.{AreGoodFiles, HasCome, HasNotBegun, HasNotRun, HasTold, IsReadyFor}
 use Rattle.esm_run.specs.Asks.{Asks, by_text}
 use Rattle.esm_run.specs.Endings.{ending_of_redrive}
@@ -60,7 +61,7 @@ pub record HasRefusedLine {S D F : Type 0} (o : RunTells S D F) (w : RedriveWord
   pub tells : ending ≡ ending_of_redrive (end.BadLine index)
   pub text_is : text ≡ last_line ending
 
--- they were good, the redrive ran, and its report is told
+-- they were good, the redrive ran, and its report is told, behind its trace where that is asked for
 pub record IsRedriveRun {S D F : Type 0} (o : RunTells S D F) (w : RedriveWords) (h : List Entry) (old new : Seen S D F) (text : List ℕ) (ending : Ending) : Type 0 where
   pub mapping : NamedMapping
   pub files : FilesState D
@@ -74,7 +75,7 @@ pub record IsRedriveRun {S D F : Type 0} (o : RunTells S D F) (w : RedriveWords)
   pub reading : Option InputEnd
   pub run : redrive.HasRun (redrive_tells o) o.faults o.left (words_of w mapping.config) files old.input new.input reading caller caller_left h (redrive_disks new) end_is
   pub tells : ending ≡ ending_of_redrive end_is
-  pub text_is : text ≡ redrive_report_text run.setting h ending
+  pub text_is : text ≡ front_text w.trace mapping.config.kind h ++ redrive_report_text run.setting h ending
 
 -- why `redrive` ended so, and what is told
 abbrev pub RedriveCause : {S D F : Type 0} → RunTells S D F → RedriveWords → List Entry → (old new : Seen S D F) → (text : List ℕ) → Ending → Type 0

@@ -1,9 +1,10 @@
 -- How the command `replay` ended, and what it left. The records that lines of the failure file name are called again, one call
 -- after the other; the input is read first. This product's own.
-use Rattle.std.specs.Prelude.{◌≡◌, ◌⊎◌, ℕ, List, Option}
+use Rattle.std.specs.Prelude.{◌≡◌, ◌⊎◌, ◌++◌, ℕ, Bool, List, Option}
 use Rattle.esm_input.specs.declared.ending.InputEnd.{InputEnd}
 use Rattle.esm_mapping.specs.declared.expected.Expected.TheVariants.{Stream}
 use Rattle.esm_mapping.specs.declared.named.NamedMapping.{NamedMapping}
+use Rattle.esm_model.specs.declared.config.Kind.TheVariants as kind
 use Rattle.esm_model.specs.declared.entry.Entry.{Entry}
 use Rattle.esm_replay_run.specs.Ended as replay
 use Rattle.esm_replay_run.specs.Headline.{Disks}
@@ -11,6 +12,7 @@ use Rattle.esm_replay_run.specs.declared.report.ReplayCounts.{ReplayCounts}
 use Rattle.esm_replay_run.specs.declared.run.ReplayEnd.{ReplayEnd}
 use Rattle.esm_report.specs.declared.ending.Ending.{Ending}
 use Rattle.esm_runner.specs.Files.{FilesState}
+use Rattle.esm_traced.specs.Front.{front_text}
 use Rattle.esm_run.specs.Answers.{HasCome, HasNotBegun, HasNotRun, HasTold, IsReadyFor}
 use Rattle.esm_run.specs.Asks.{Asks, by_text}
 use Rattle.esm_run.specs.Endings.{ending_of_replay}
@@ -31,8 +33,8 @@ abbrev pub replay_disks : {S D F : Type 0} → Seen S D F → Disks D
 replay_disks w = record { journal = w.disks.journal; spare = w.disks.spare; failures = w.disks.failures }
 
 -- The files and the mapping were good. Then a line of the failure file was refused, and nothing was read, called or written; or
--- the replay ran. Its report is told.
-pub record IsReplayRun {S D F : Type 0} (o : RunTells S D F) (config : List ℕ) (calls : ℕ) (h : List Entry) (old new : Seen S D F) (text : List ℕ) (ending : Ending) : Type 0 where
+-- the replay ran. Its report is told, behind its trace where that is asked for.
+pub record IsReplayRun {S D F : Type 0} (o : RunTells S D F) (config : List ℕ) (calls : ℕ) (traced : Bool) (h : List Entry) (old new : Seen S D F) (text : List ℕ) (ending : Ending) : Type 0 where
   pub mapping : NamedMapping
   pub files : FilesState D
   pub ready : IsReadyFor o.run.disk (replay_asks config) old new mapping files
@@ -48,16 +50,16 @@ pub record IsReplayRun {S D F : Type 0} (o : RunTells S D F) (config : List ℕ)
   pub counts : ReplayCounts
   pub run : replay.HasEnded (replay_tells o) o.faults o.left mapping.config calls files old.input new.input reading caller caller_left h counts (replay_disks new) end
   pub tells : ending ≡ ending_of_replay end
-  pub text_is : text ≡ replay_report_text counts h ending
+  pub text_is : text ≡ front_text traced kind.Stream h ++ replay_report_text counts h ending
 
 -- why `replay` ended so, and what is told
-abbrev pub ReplayCause : {S D F : Type 0} → RunTells S D F → (config : List ℕ) → (calls : ℕ) → List Entry → (old new : Seen S D F) → (text : List ℕ) → Ending → Type 0
-ReplayCause o config calls h old new text ending =
-    HasNotRun o.run.disk (replay_asks config) h old new text ending ⊎ IsReplayRun o config calls h old new text ending
+abbrev pub ReplayCause : {S D F : Type 0} → RunTells S D F → (config : List ℕ) → (calls : ℕ) → (traced : Bool) → List Entry → (old new : Seen S D F) → (text : List ℕ) → Ending → Type 0
+ReplayCause o config calls traced h old new text ending =
+    HasNotRun o.run.disk (replay_asks config) h old new text ending ⊎ IsReplayRun o config calls traced h old new text ending
 
 -- it ended with the status
-abbrev pub ReplayOutcome : {S D F : Type 0} → RunTells S D F → (config : List ℕ) → (calls : ℕ) → Written → List Entry → (old new : Seen S D F) → (status : ℕ) → Type 0
-ReplayOutcome o config calls output h old new status = HasTold (ReplayCause o config calls h old new) output status
+abbrev pub ReplayOutcome : {S D F : Type 0} → RunTells S D F → (config : List ℕ) → (calls : ℕ) → (traced : Bool) → Written → List Entry → (old new : Seen S D F) → (status : ℕ) → Type 0
+ReplayOutcome o config calls traced output h old new status = HasTold (ReplayCause o config calls traced h old new) output status
 
 -- want of memory
 
@@ -74,7 +76,7 @@ pub record IsStoppedReplay {S D F : Type 0} (o : RunTells S D F) (config : List 
   pub run : replay.HasStoppedRun (replay_tells o) o.faults o.left mapping.config calls files old.input new.input reading caller caller_left h counts (replay_disks new)
 
 -- before anything came; in the run; or when the run had ended and was to be told
-abbrev pub IsReplayCut : {S D F : Type 0} → RunTells S D F → (config : List ℕ) → (calls : ℕ) → List Entry → (old new : Seen S D F) → Type 0
-IsReplayCut o config calls h old new =
+abbrev pub IsReplayCut : {S D F : Type 0} → RunTells S D F → (config : List ℕ) → (calls : ℕ) → (traced : Bool) → List Entry → (old new : Seen S D F) → Type 0
+IsReplayCut o config calls traced h old new =
     HasNotBegun o.run.disk (replay_asks config) h old new
-    ⊎ (IsStoppedReplay o config calls h old new ⊎ ((e : Ending) × HasCome (ReplayCause o config calls h old new) e))
+    ⊎ (IsStoppedReplay o config calls h old new ⊎ ((e : Ending) × HasCome (ReplayCause o config calls traced h old new) e))

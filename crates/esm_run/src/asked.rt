@@ -11,7 +11,7 @@ use esm_model::Text;
 use std::alloc::Global;
 
 /// The words of `redrive`: the mapping's text, how often a message may be received, the greatest number of calls, and the
-/// visibility timeout in seconds.
+/// visibility timeout; how long a call may take; both in seconds; and whether the trace is told.
 #[derive(Drop)]
 pub struct RedriveWords {
     pub config: Text,
@@ -19,6 +19,7 @@ pub struct RedriveWords {
     pub calls: u32,
     pub visibility: u32,
     pub timeout: u32,
+    pub trace: bool,
 }
 
 /// What words ask for, by what it is over.
@@ -41,6 +42,7 @@ pub enum Asked {
         config: Text,
         calls: u32,
         timeout: u32,
+        trace: bool,
     },
     /// That a queue's mapping runs, and moves what was received too often to the dead-letter file.
     Redrive(RedriveWords),
@@ -49,6 +51,7 @@ pub enum Asked {
         config: Text,
         calls: u32,
         timeout: u32,
+        trace: bool,
     },
     /// Nothing, since the words give no command.
     Nothing(WordsError),
@@ -72,10 +75,12 @@ fn part(command: Command) -> Asked
             config,
             calls,
             timeout,
+            trace,
         } => Asked::Ddb {
             config,
             calls,
             timeout,
+            trace,
         },
         Command::Redrive {
             config,
@@ -83,21 +88,25 @@ fn part(command: Command) -> Asked
             calls,
             visibility,
             timeout,
+            trace,
         } => Asked::Redrive(RedriveWords {
             config,
             max_receives,
             calls,
             visibility,
             timeout,
+            trace,
         }),
         Command::Replay {
             config,
             calls,
             timeout,
+            trace,
         } => Asked::Replay {
             config,
             calls,
             timeout,
+            trace,
         },
     }
 }

@@ -27,13 +27,14 @@ pub fn ddb<
     alloc: Global,
     text: Text,
     calls: u32,
+    trace: bool,
     world: World<S, K, D, C, F, L>,
 ) -> Ended<S, K, D, C, F, L>
     requires { length world.callers.items ≡ MAX_LANES }
-    ensures outcome { result.status ≢ 70 → DdbOutcome (run_tells C.Clock F.Caller D.Disk S.Source) text calls
+    ensures outcome { result.status ≢ 70 → DdbOutcome (run_tells C.Clock F.Caller D.Disk S.Source) text calls trace
         (written_of K.faults K.written world.out result.world.out) (reverse result.world.trace.items)
         (seen world) (seen result.world) result.status }
-    ensures want_of_memory { result.status ≡ 70 → IsDdbCut (run_tells C.Clock F.Caller D.Disk S.Source) text calls (reverse result.world.trace.items)
+    ensures want_of_memory { result.status ≡ 70 → IsDdbCut (run_tells C.Clock F.Caller D.Disk S.Source) text calls trace (reverse result.world.trace.items)
         (seen world) (seen result.world) }
     ensures good_words { result.status ≢ 2 }
     ensures untold { result.status ≡ 70 → result.world.out ≡ world.out }
@@ -42,6 +43,6 @@ pub fn ddb<
     ensures kept { (result.world.clock ≡ world.clock) × (result.world.door ≡ world.door) }
 {
     let (devices, rest) = parted(world);
-    let ran = run_ddb(rt, alloc, &text, calls, devices, &rest.clock);
+    let ran = run_ddb(rt, alloc, &text, calls, trace, devices, &rest.clock);
     told(alloc, ran, rest)
 }

@@ -1,5 +1,5 @@
 // What became of a command that runs a mapping, before it is told.
-ghost use Rattle.std.specs.Prelude.{◌≡◌, [], IfOk};
+ghost use Rattle.std.specs.Prelude.{◌≡◌, [], Ok, IfOk};
 ghost use Rattle.esm_run.specs.Ran.{IsEndingOf};
 ghost use Rattle.esm_run.specs.World.{devices_left};
 ghost use Rattle.esm_run.specs.declared.left.Began.TheVariants as began;
@@ -10,6 +10,7 @@ use esm_model::{Entry, OutOfMemory};
 use esm_replay_run::ReplayCounts;
 use esm_report::Ending;
 use esm_runner::MappingRun;
+use esm_traced::Traced;
 use std::alloc::Global;
 
 /// The devices of a run.
@@ -35,12 +36,13 @@ pub enum Began {
     Replay(ReplayCounts),
 }
 
-/// What became of a command that runs a mapping, `run`, `ddb`, `redrive` or `replay`: how it ended, what began, its history with
-/// the oldest entry first, and the devices as they were left.
+/// What became of a command that runs a mapping, `run`, `ddb`, `redrive` or `replay`: how it ended, what began, what is told of
+/// its history before the report, its history with the oldest entry first, and the devices as they were left.
 #[derive(Drop)]
 pub struct Ran<S, D, F> {
     pub end: Result<Ending, OutOfMemory>,
     pub began: Began,
+    pub front: Vec<u8>,
     pub trace: Vec<Entry>,
     pub devices: RunDevices<S, D, F>,
 }
@@ -53,32 +55,63 @@ pub fn not_begun<S, D, F>(
 ) -> Ran<S, D, F>
     ensures end { result.end ≡ end }
     ensures nothing { result.began ≡ began.Nothing }
+    ensures front { result.front.items ≡ [] }
     ensures trace { result.trace.items ≡ [] }
     ensures devices { result.devices ≡ devices }
 {
     Ran {
         end,
         began: Began::Nothing,
+        front: Vec::new(alloc),
         trace: Vec::new(alloc),
         devices,
     }
 }
 
-/// A run that ended, with what its journal said before, and its devices, the registry's disk among them.
+/// How a run ended, and what is told before its report.
+pub struct Fronted<E> {
+    pub end: Result<E, OutOfMemory>,
+    pub front: Vec<u8>,
+}
+
+/// A run ended so where there was memory for what is told before its report.
+pub fn with_front<E: Drop>(
+    alloc: Global,
+    end: Result<E, OutOfMemory>,
+    front: Result<Vec<u8>, OutOfMemory>,
+) -> Fronted<E>
+    ensures { IfOk result.end (λ e. (end ≡ Ok e) × (front ≡ Ok result.front)) }
+{
+    match (end, front) {
+        (Ok(end), Ok(front)) => Fronted {
+            end: Ok(end),
+            front,
+        },
+        _ => Fronted {
+            end: Err(OutOfMemory),
+            front: Vec::new(alloc),
+        },
+    }
+}
+
+/// A run that ended, with what its journal said before and what is told before its report, and its devices, the registry's disk
+/// among them.
 struct Left<S, D, F> {
     end: Result<Ending, OutOfMemory>,
     said: Says,
+    front: Vec<u8>,
     trace: Vec<Entry>,
     devices: RunDevices<S, D, F>,
 }
 
 /// How the run of a mapping ended, and the devices that it left.
-fn left_by<S, D, F>(alloc: Global, run: MappingRun<S, D, F>, registry: D) -> Left<S, D, F>
-    ensures ended { IfOk result.end (IsEndingOf run.end) }
-    ensures said { result.said ≡ run.said }
-    ensures trace { result.trace ≡ run.trace }
-    ensures devices { result.devices ≡ devices_left run registry }
+fn left_by<S, D, F>(alloc: Global, traced: Traced<S, D, F>, registry: D) -> Left<S, D, F>
+    ensures ended { IfOk result.end (λ e. IsEndingOf traced.run.end e × (traced.front ≡ Ok result.front)) }
+    ensures said { result.said ≡ traced.run.said }
+    ensures trace { result.trace ≡ traced.run.trace }
+    ensures devices { result.devices ≡ devices_left traced.run registry }
 {
+    let Traced { run, front } = traced;
     let MappingRun {
         end,
         trace,
@@ -90,6 +123,7 @@ fn left_by<S, D, F>(alloc: Global, run: MappingRun<S, D, F>, registry: D) -> Lef
         failures,
         callers,
     } = run;
+    let Fronted { end, front } = with_front(alloc, end, front);
     let end = match end {
         Ok(end) => ending_of(alloc, end),
         Err(OutOfMemory) => Err(OutOfMemory),
@@ -97,6 +131,7 @@ fn left_by<S, D, F>(alloc: Global, run: MappingRun<S, D, F>, registry: D) -> Lef
     Left {
         end,
         said,
+        front,
         trace,
         devices: RunDevices {
             input,
@@ -110,42 +145,46 @@ fn left_by<S, D, F>(alloc: Global, run: MappingRun<S, D, F>, registry: D) -> Lef
 }
 
 /// How the run of a stream's mapping ended, and the devices that it left.
-pub fn stream_ran<S, D, F>(alloc: Global, run: MappingRun<S, D, F>, registry: D) -> Ran<S, D, F>
-    ensures ended { IfOk result.end (IsEndingOf run.end) }
-    ensures began { result.began ≡ began.Stream run.said }
-    ensures trace { result.trace ≡ run.trace }
-    ensures devices { result.devices ≡ devices_left run registry }
+pub fn stream_ran<S, D, F>(alloc: Global, traced: Traced<S, D, F>, registry: D) -> Ran<S, D, F>
+    ensures ended { IfOk result.end (λ e. IsEndingOf traced.run.end e × (traced.front ≡ Ok result.front)) }
+    ensures began { result.began ≡ began.Stream traced.run.said }
+    ensures trace { result.trace ≡ traced.run.trace }
+    ensures devices { result.devices ≡ devices_left traced.run registry }
 {
     let Left {
         end,
         said,
+        front,
         trace,
         devices,
-    } = left_by(alloc, run, registry);
+    } = left_by(alloc, traced, registry);
     Ran {
         end,
         began: Began::Stream(said),
+        front,
         trace,
         devices,
     }
 }
 
 /// How the run of a queue's mapping ended, and the devices that it left.
-pub fn queue_ran<S, D, F>(alloc: Global, run: MappingRun<S, D, F>, registry: D) -> Ran<S, D, F>
-    ensures ended { IfOk result.end (IsEndingOf run.end) }
-    ensures began { result.began ≡ began.Queue run.said }
-    ensures trace { result.trace ≡ run.trace }
-    ensures devices { result.devices ≡ devices_left run registry }
+pub fn queue_ran<S, D, F>(alloc: Global, traced: Traced<S, D, F>, registry: D) -> Ran<S, D, F>
+    ensures ended { IfOk result.end (λ e. IsEndingOf traced.run.end e × (traced.front ≡ Ok result.front)) }
+    ensures began { result.began ≡ began.Queue traced.run.said }
+    ensures trace { result.trace ≡ traced.run.trace }
+    ensures devices { result.devices ≡ devices_left traced.run registry }
 {
     let Left {
         end,
         said,
+        front,
         trace,
         devices,
-    } = left_by(alloc, run, registry);
+    } = left_by(alloc, traced, registry);
     Ran {
         end,
         began: Began::Queue(said),
+        front,
         trace,
         devices,
     }

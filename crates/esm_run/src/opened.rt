@@ -29,6 +29,7 @@ pub fn closed<S, D: Disk, F>(
 ) -> Ran<S, D, F>
     ensures end { result.end ≡ end }
     ensures nothing { result.began ≡ began.Nothing }
+    ensures front { result.front.items ≡ [] }
     ensures no_trace { result.trace.items ≡ [] }
     ensures input { result.devices.input ≡ opened.input }
     ensures callers { result.devices.callers ≡ opened.callers }

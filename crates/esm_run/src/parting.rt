@@ -4,12 +4,13 @@ ghost use Rattle.esm_report.specs.Report.{stands_alone};
 ghost use Rattle.esm_report.specs.declared.ending.Ending.{Ending};
 ghost use Rattle.esm_report.specs.declared.ending.Ending.TheVariants.{BadWords};
 ghost use Rattle.esm_run.specs.Endings.{IsTold};
-ghost use Rattle.esm_run.specs.Ran.{IsReport};
+ghost use Rattle.esm_run.specs.Ran.{IsReport, IsReportBehind};
 
 use crate::left::{Began, Ran, RunDevices};
 use crate::output::{OUT_OF_MEMORY, tell};
 use crate::reports::{redrive_report, replay_report};
 use crate::world::{Ended, World};
+use esm_event::bytes::push_bytes;
 use esm_io::Sink;
 use esm_model::{Entry, OutOfMemory};
 use esm_report::{Ending, last_line, queue_report, report};
@@ -71,24 +72,42 @@ fn report_of(
     }
 }
 
+/// What is told of an ending: the report, by what began, behind what is told before it.
+fn text_of(
+    alloc: Global,
+    front: Vec<u8>,
+    began: &Began,
+    trace: &[Entry],
+    ending: &Ending,
+) -> Result<Vec<u8>, OutOfMemory>
+    requires { began.now ≡ Began.Nothing → stands_alone ending.now ≡ true }
+    ensures { IfOk result (λ text. (is : List ℕ) → IsReportBehind front.items (reverse trace.now) ending.now began.now is → text.items ≡ is) }
+{
+    let report = report_of(alloc, began, trace, ending)?;
+    let mut text = front;
+    push_bytes(&mut text, &report)?;
+    Ok(text)
+}
+
 /// Tells how a run ended, and answers the exit status.
 fn tell_end<K: Sink>(
     alloc: Global,
     out: &mut K,
     end: &Result<Ending, OutOfMemory>,
+    front: Vec<u8>,
     began: &Began,
     trace: &[Entry],
 ) -> u8
     requires { began.now ≡ Began.Nothing → IfOk end.now (λ ending. stands_alone ending ≡ true) }
     ensures words { result ≡ 2 → end.now ≡ Ok BadWords }
-    ensures told { result ≢ 70 → (ending : Ending) × (end.now ≡ Ok ending) × ((text : List ℕ) → IsReport (reverse trace.now) ending began.now text →
+    ensures told { result ≢ 70 → (ending : Ending) × (end.now ≡ Ok ending) × ((text : List ℕ) → IsReportBehind front.items (reverse trace.now) ending began.now text →
         IsTold (K.faults out.old) (K.faults out.new) (K.written out.old) (K.written out.new) text ending result) }
     ensures untold { result ≡ 70 → out.new ≡ out.old }
 {
     let Ok(ending) = end else {
         return OUT_OF_MEMORY;
     };
-    let Ok(text) = report_of(alloc, began, trace, ending) else {
+    let Ok(text) = text_of(alloc, front, began, trace, ending) else {
         return OUT_OF_MEMORY;
     };
     tell(out, &text, ending)
@@ -102,7 +121,7 @@ pub fn told<S, K: Sink, D, C, F, L>(
 ) -> Ended<S, K, D, C, F, L>
     requires { ran.began ≡ Began.Nothing → IfOk ran.end (λ ending. stands_alone ending ≡ true) }
     ensures words { result.status ≡ 2 → ran.end ≡ Ok BadWords }
-    ensures told { result.status ≢ 70 → (ending : Ending) × (ran.end ≡ Ok ending) × ((text : List ℕ) → IsReport (reverse ran.trace.items) ending ran.began text →
+    ensures told { result.status ≢ 70 → (ending : Ending) × (ran.end ≡ Ok ending) × ((text : List ℕ) → IsReportBehind ran.front.items (reverse ran.trace.items) ending ran.began text →
         IsTold (K.faults rest.out) (K.faults result.world.out) (K.written rest.out) (K.written result.world.out) text ending result.status) }
     ensures untold { result.status ≡ 70 → result.world.out ≡ rest.out }
     ensures world { result.world ≡ record {
@@ -121,12 +140,13 @@ pub fn told<S, K: Sink, D, C, F, L>(
     let Ran {
         end,
         began,
+        front,
         trace,
         devices,
     } = ran;
     let Rest { out, clock, door } = rest;
     let mut out = out;
-    let status = tell_end(alloc, &mut out, &end, &began, &trace);
+    let status = tell_end(alloc, &mut out, &end, front, &began, &trace);
     Ended {
         status,
         world: World {

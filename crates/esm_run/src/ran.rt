@@ -8,6 +8,7 @@ ghost use Rattle.esm_run.specs.Answers.{IsCutOf, RunCause};
 ghost use Rattle.esm_run.specs.Asks.{IsRegistryLeft};
 ghost use Rattle.esm_run.specs.Ran.{EndsWith};
 ghost use Rattle.esm_run.specs.World.{run_tells, seen_by, seen_of};
+ghost use Rattle.esm_traced.specs.Room.{IsRoom};
 
 use crate::left::{Ran, RunDevices, not_begun, queue_ran, stream_ran};
 use crate::opened::{Opened, closed};
@@ -15,8 +16,9 @@ use crate::refusal::{ending_of_files, ending_of_mapping};
 use esm_cli::RunWords;
 use esm_io::{Caller, Clock, Disk, Source};
 use esm_mapping::{MappingRead, NamedMapping, read_mapping};
-use esm_model::Kind;
-use esm_runner::{Plain, open_files, run_queue, run_stream};
+use esm_model::{Kind, OutOfMemory};
+use esm_runner::{Plain, open_files};
+use esm_traced::{Room, run_queue, run_stream};
 use std::alloc::Global;
 use std::sync::Wait;
 use std::thread::Threads;
@@ -31,8 +33,77 @@ fn is_stream(kind: Kind) -> bool
     }
 }
 
-/// Runs the mapping that the words name, a stream's or a queue's, over the opened files. A queue's messages are hidden for
-/// the seconds of `--visibility` once they are received.
+/// Runs the mapping that the words name, a stream's or a queue's, over the opened files, its callers recorded in this room. A
+/// queue's messages are hidden for the seconds of `--visibility` once they are received.
+fn run_recorded<
+    R: Threads + Wait + Sync,
+    S: Source + Send,
+    D: Disk + Send,
+    C: Clock + Sync,
+    F: Caller + Send,
+>(
+    rt: &R,
+    alloc: Global,
+    words: &RunWords,
+    mapping: NamedMapping,
+    room: Room<F>,
+    opened: Opened<S, D, F>,
+    clock: &C,
+) -> Ran<S, D, F>
+    requires may_run { MayRun mapping }
+    requires room { IsRoom room }
+    requires asked { room.trace ≡ words.now.trace }
+    requires callers { length opened.callers.items ≡ MAX_LANES }
+    ensures ended { IfOk result.end (λ ending. (registry : D)
+        → IsNamed (meaning D.Disk) words.now.which registry mapping
+        → IsRegistryLeft (meaning D.Disk) words.now.which registry opened.registry
+        → EndsWith (RunCause (run_tells C.Clock F.Caller D.Disk S.Source) words.now (reverse result.trace.items)
+        (seen_of opened.input opened.files.journal opened.files.spare opened.files.failures registry opened.callers.items)
+        (seen_by result.devices)) result.front.items (reverse result.trace.items) result.began ending) }
+    ensures stopped { OnErr result.end ((registry : D)
+        → IsNamed (meaning D.Disk) words.now.which registry mapping
+        → IsRegistryLeft (meaning D.Disk) words.now.which registry opened.registry
+        → IsCutOf (run_tells C.Clock F.Caller D.Disk S.Source) words.now (reverse result.trace.items)
+        (seen_of opened.input opened.files.journal opened.files.spare opened.files.failures registry opened.callers.items)
+        (seen_by result.devices)) }
+    ensures registry { result.devices.registry ≡ opened.registry }
+    ensures as_many { length result.devices.callers.items ≡ MAX_LANES }
+{
+    let Opened {
+        input,
+        files,
+        registry,
+        callers,
+    } = opened;
+    let NamedMapping { config, start } = mapping;
+    let calls = words.calls;
+    let read_first = words.read_first;
+    files.keeps();
+    if is_stream(config.kind) {
+        let traced = run_stream::<_, _, _, _, _, Plain>(
+            rt, alloc, config, start, calls, files, input, callers, room, clock, read_first,
+        );
+        stream_ran(alloc, traced, registry)
+    } else {
+        let visibility_ms = words.visibility as u64 * 1000;
+        let traced = run_queue(
+            rt,
+            alloc,
+            config,
+            calls,
+            visibility_ms,
+            files,
+            input,
+            callers,
+            room,
+            clock,
+            read_first,
+        );
+        queue_ran(alloc, traced, registry)
+    }
+}
+
+/// Runs the mapping that the words name, a stream's or a queue's, over the opened files.
 fn run_mapping<
     R: Threads + Wait + Sync,
     S: Source + Send,
@@ -54,7 +125,7 @@ fn run_mapping<
         → IsRegistryLeft (meaning D.Disk) words.now.which registry opened.registry
         → EndsWith (RunCause (run_tells C.Clock F.Caller D.Disk S.Source) words.now (reverse result.trace.items)
         (seen_of opened.input opened.files.journal opened.files.spare opened.files.failures registry opened.callers.items)
-        (seen_by result.devices)) (reverse result.trace.items) result.began ending) }
+        (seen_by result.devices)) result.front.items (reverse result.trace.items) result.began ending) }
     ensures stopped { OnErr result.end ((registry : D)
         → IsNamed (meaning D.Disk) words.now.which registry mapping
         → IsRegistryLeft (meaning D.Disk) words.now.which registry opened.registry
@@ -64,36 +135,9 @@ fn run_mapping<
     ensures registry { result.devices.registry ≡ opened.registry }
     ensures as_many { length result.devices.callers.items ≡ MAX_LANES }
 {
-    let Opened {
-        input,
-        files,
-        registry,
-        callers,
-    } = opened;
-    let NamedMapping { config, start } = mapping;
-    let calls = words.calls;
-    let read_first = words.read_first;
-    files.keeps();
-    if is_stream(config.kind) {
-        let run = run_stream::<_, _, _, _, _, Plain>(
-            rt, alloc, config, start, calls, files, input, callers, clock, read_first,
-        );
-        stream_ran(alloc, run, registry)
-    } else {
-        let visibility_ms = words.visibility as u64 * 1000;
-        let run = run_queue(
-            rt,
-            alloc,
-            config,
-            calls,
-            visibility_ms,
-            files,
-            input,
-            callers,
-            clock,
-            read_first,
-        );
-        queue_ran(alloc, run, registry)
+    match Room::new(alloc, words.trace) {
+        Ok(room) => run_recorded(rt, alloc, words, mapping, room, opened, clock),
+        Err(OutOfMemory) => closed(alloc, Err(OutOfMemory), opened),
     }
 }
 
@@ -108,7 +152,7 @@ fn run_opened<
     requires callers { length opened.callers.items ≡ MAX_LANES }
     ensures ended { IfOk result.end (EndsWith (RunCause (run_tells C.Clock F.Caller D.Disk S.Source) words.now (reverse result.trace.items)
         (seen_of opened.input opened.files.journal opened.files.spare opened.files.failures opened.registry opened.callers.items)
-        (seen_by result.devices)) (reverse result.trace.items) result.began) }
+        (seen_by result.devices)) result.front.items (reverse result.trace.items) result.began) }
     ensures stopped { OnErr result.end (IsCutOf (run_tells C.Clock F.Caller D.Disk S.Source) words.now (reverse result.trace.items)
         (seen_of opened.input opened.files.journal opened.files.spare opened.files.failures opened.registry opened.callers.items)
         (seen_by result.devices)) }
@@ -144,7 +188,7 @@ pub fn run_words<
 >(rt: &R, alloc: Global, words: RunWords, devices: RunDevices<S, D, F>, clock: &C) -> Ran<S, D, F>
     requires callers { length devices.callers.items ≡ MAX_LANES }
     ensures ended { IfOk result.end (EndsWith (RunCause (run_tells C.Clock F.Caller D.Disk S.Source) words (reverse result.trace.items)
-        (seen_by devices) (seen_by result.devices)) (reverse result.trace.items) result.began) }
+        (seen_by devices) (seen_by result.devices)) result.front.items (reverse result.trace.items) result.began) }
     ensures stopped { OnErr result.end (IsCutOf (run_tells C.Clock F.Caller D.Disk S.Source) words (reverse result.trace.items)
         (seen_by devices) (seen_by result.devices)) }
     ensures registry { IsRegistryLeft (meaning D.Disk) words.which devices.registry result.devices.registry }

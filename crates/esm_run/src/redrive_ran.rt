@@ -1,5 +1,5 @@
 // The run of `redrive`: its files are opened, its mapping is read, and its queue runs with a dead-letter file.
-ghost use Rattle.std.specs.Prelude.{◌≡◌, ◌≤◌, false, length, reverse, IfOk, OnErr};
+ghost use Rattle.std.specs.Prelude.{◌≡◌, Ok, ◌≤◌, false, length, reverse, IfOk, OnErr};
 ghost use Rattle.esm_mapping.specs.Named.{IsExpected, MayRun};
 ghost use Rattle.esm_mapping.specs.declared.expected.Expected.TheVariants.{Queue};
 ghost use Rattle.esm_model.specs.Valid.{is_stream};
@@ -12,14 +12,15 @@ ghost use Rattle.esm_run.specs.declared.left.Began.TheVariants as began;
 
 use crate::asked::RedriveWords;
 use crate::first_caller::{put_first, take_first};
-use crate::left::{Began, Ran, RunDevices, not_begun};
+use crate::left::{Began, Fronted, Ran, RunDevices, not_begun, with_front};
 use crate::opened::{Opened, closed};
 use crate::refusal::{ending_of_files, ending_of_mapping, ending_of_redrive};
 use esm_io::{Caller, Clock, Disk, Source};
 use esm_mapping::{Expected, NamedMapping, read_expected};
 use esm_model::OutOfMemory;
-use esm_redrive_run::{RedriveRun, run_redrive};
+use esm_redrive_run::RedriveRun;
 use esm_runner::open_files;
+use esm_traced::{TracedRedrive, run_redrive};
 use std::alloc::Global;
 use std::sync::Wait;
 
@@ -27,10 +28,11 @@ use std::sync::Wait;
 fn redrive_ran<S, D, F>(
     alloc: Global,
     run: RedriveRun<S, D>,
+    front: Result<Vec<u8>, OutOfMemory>,
     registry: D,
     callers: Vec<F>,
 ) -> Ran<S, D, F>
-    ensures ended { IfOk result.end (IsRedriveEndingOf run.end) }
+    ensures ended { IfOk result.end (λ e. IsRedriveEndingOf run.end e × (front ≡ Ok result.front)) }
     ensures began { result.began ≡ began.Redrive run.said }
     ensures trace { result.trace ≡ run.trace }
     ensures devices { result.devices ≡ record { input = run.input; journal = run.journal; spare = run.spare; failures = run.dead; registry = registry; callers = callers } }
@@ -45,6 +47,7 @@ fn redrive_ran<S, D, F>(
         spare,
         dead,
     } = run;
+    let Fronted { end, front } = with_front(alloc, end, front);
     let end = match end {
         Ok(end) => ending_of_redrive(alloc, end),
         Err(OutOfMemory) => Err(OutOfMemory),
@@ -52,6 +55,7 @@ fn redrive_ran<S, D, F>(
     Ran {
         end,
         began: Began::Redrive(said),
+        front,
         trace,
         devices: RunDevices {
             input,
@@ -81,7 +85,7 @@ fn run_mapping<R: Wait, S: Source, D: Disk, C: Clock, F: Caller>(
     requires receives { (1 ≤ words.now.max_receives) × (words.now.max_receives ≤ MAX_RECEIVES) }
     ensures ended { IfOk result.end (EndsWith (RedriveCause (run_tells C.Clock F.Caller D.Disk S.Source) words.now (reverse result.trace.items)
         (seen_of opened.input opened.files.journal opened.files.spare opened.files.failures opened.registry opened.callers.items)
-        (seen_by result.devices)) (reverse result.trace.items) result.began) }
+        (seen_by result.devices)) result.front.items (reverse result.trace.items) result.began) }
     ensures stopped { OnErr result.end (IsRedriveCut (run_tells C.Clock F.Caller D.Disk S.Source) words.now (reverse result.trace.items)
         (seen_of opened.input opened.files.journal opened.files.spare opened.files.failures opened.registry opened.callers.items)
         (seen_by result.devices)) }
@@ -96,9 +100,9 @@ fn run_mapping<R: Wait, S: Source, D: Disk, C: Clock, F: Caller>(
     } = opened;
     let NamedMapping { config, start: _ } = mapping;
     files.keeps();
-    let mut caller = take_first(&mut callers);
+    let caller = take_first(&mut callers);
     let visibility_ms = words.visibility as u64 * 1000;
-    let run = run_redrive(
+    let TracedRedrive { run, caller, front } = run_redrive(
         rt,
         alloc,
         config,
@@ -107,11 +111,12 @@ fn run_mapping<R: Wait, S: Source, D: Disk, C: Clock, F: Caller>(
         words.max_receives,
         files,
         input,
-        &mut caller,
+        caller,
         clock,
+        words.trace,
     );
     put_first(&mut callers, caller);
-    redrive_ran(alloc, run, registry, callers)
+    redrive_ran(alloc, run, front, registry, callers)
 }
 
 /// Reads the mapping that the text of the words is over the opened files, and runs it.
@@ -126,7 +131,7 @@ fn run_opened<R: Wait, S: Source, D: Disk, C: Clock, F: Caller>(
     requires receives { (1 ≤ words.now.max_receives) × (words.now.max_receives ≤ MAX_RECEIVES) }
     ensures ended { IfOk result.end (EndsWith (RedriveCause (run_tells C.Clock F.Caller D.Disk S.Source) words.now (reverse result.trace.items)
         (seen_of opened.input opened.files.journal opened.files.spare opened.files.failures opened.registry opened.callers.items)
-        (seen_by result.devices)) (reverse result.trace.items) result.began) }
+        (seen_by result.devices)) result.front.items (reverse result.trace.items) result.began) }
     ensures stopped { OnErr result.end (IsRedriveCut (run_tells C.Clock F.Caller D.Disk S.Source) words.now (reverse result.trace.items)
         (seen_of opened.input opened.files.journal opened.files.spare opened.files.failures opened.registry opened.callers.items)
         (seen_by result.devices)) }
@@ -150,7 +155,7 @@ pub fn run_redrive_words<R: Wait, S: Source, D: Disk, C: Clock, F: Caller>(
     requires callers { length devices.callers.items ≡ MAX_LANES }
     requires receives { (1 ≤ words.now.max_receives) × (words.now.max_receives ≤ MAX_RECEIVES) }
     ensures ended { IfOk result.end (EndsWith (RedriveCause (run_tells C.Clock F.Caller D.Disk S.Source) words.now (reverse result.trace.items)
-        (seen_by devices) (seen_by result.devices)) (reverse result.trace.items) result.began) }
+        (seen_by devices) (seen_by result.devices)) result.front.items (reverse result.trace.items) result.began) }
     ensures stopped { OnErr result.end (IsRedriveCut (run_tells C.Clock F.Caller D.Disk S.Source) words.now (reverse result.trace.items)
         (seen_by devices) (seen_by result.devices)) }
     ensures registry { result.devices.registry ≡ devices.registry }

@@ -19,13 +19,14 @@ pub fn replay<R: Wait, S: Source, K: Sink, D: Disk, C: Clock, F: Caller, L: Door
     alloc: Global,
     text: Text,
     calls: u32,
+    trace: bool,
     world: World<S, K, D, C, F, L>,
 ) -> Ended<S, K, D, C, F, L>
     requires { length world.callers.items ≡ MAX_LANES }
-    ensures outcome { result.status ≢ 70 → ReplayOutcome (run_tells C.Clock F.Caller D.Disk S.Source) text calls
+    ensures outcome { result.status ≢ 70 → ReplayOutcome (run_tells C.Clock F.Caller D.Disk S.Source) text calls trace
         (written_of K.faults K.written world.out result.world.out) (reverse result.world.trace.items)
         (seen world) (seen result.world) result.status }
-    ensures want_of_memory { result.status ≡ 70 → IsReplayCut (run_tells C.Clock F.Caller D.Disk S.Source) text calls (reverse result.world.trace.items)
+    ensures want_of_memory { result.status ≡ 70 → IsReplayCut (run_tells C.Clock F.Caller D.Disk S.Source) text calls trace (reverse result.world.trace.items)
         (seen world) (seen result.world) }
     ensures good_words { result.status ≢ 2 }
     ensures untold { result.status ≡ 70 → result.world.out ≡ world.out }
@@ -34,6 +35,6 @@ pub fn replay<R: Wait, S: Source, K: Sink, D: Disk, C: Clock, F: Caller, L: Door
     ensures kept { (result.world.clock ≡ world.clock) × (result.world.door ≡ world.door) }
 {
     let (devices, rest) = parted(world);
-    let ran = run_replay_words(rt, alloc, &text, calls, devices, &rest.clock);
+    let ran = run_replay_words(rt, alloc, &text, calls, trace, devices, &rest.clock);
     told(alloc, ran, rest)
 }

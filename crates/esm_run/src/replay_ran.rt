@@ -1,5 +1,5 @@
 // The run of `replay`: its files are opened, its mapping is read, and the records that failure lines name are called again.
-ghost use Rattle.std.specs.Prelude.{◌≡◌, true, length, reverse, IfOk, OnErr};
+ghost use Rattle.std.specs.Prelude.{◌≡◌, Ok, true, length, reverse, IfOk, OnErr};
 ghost use Rattle.esm_mapping.specs.Named.{IsExpected, MayRun};
 ghost use Rattle.esm_mapping.specs.declared.expected.Expected.TheVariants.{Stream};
 ghost use Rattle.esm_model.specs.Valid.{is_stream};
@@ -10,14 +10,15 @@ ghost use Rattle.esm_run.specs.World.{run_tells, seen_by, seen_of};
 ghost use Rattle.esm_run.specs.declared.left.Began.TheVariants as began;
 
 use crate::first_caller::{put_first, take_first};
-use crate::left::{Began, Ran, RunDevices, not_begun};
+use crate::left::{Began, Fronted, Ran, RunDevices, not_begun, with_front};
 use crate::opened::{Opened, closed};
 use crate::refusal::{ending_of_files, ending_of_mapping, ending_of_replay};
 use esm_io::{Caller, Clock, Disk, Source};
 use esm_mapping::{Expected, NamedMapping, read_expected};
 use esm_model::{OutOfMemory, Text};
-use esm_replay_run::{ReplayRun, run_replay};
+use esm_replay_run::ReplayRun;
 use esm_runner::open_files;
+use esm_traced::{TracedReplay, run_replay};
 use std::alloc::Global;
 use std::sync::Wait;
 
@@ -25,10 +26,11 @@ use std::sync::Wait;
 fn replay_ran<S, D, F>(
     alloc: Global,
     run: ReplayRun<S, D>,
+    front: Result<Vec<u8>, OutOfMemory>,
     registry: D,
     callers: Vec<F>,
 ) -> Ran<S, D, F>
-    ensures ended { IfOk result.end (IsReplayEndingOf run.end) }
+    ensures ended { IfOk result.end (λ e. IsReplayEndingOf run.end e × (front ≡ Ok result.front)) }
     ensures began { result.began ≡ began.Replay run.counts }
     ensures trace { result.trace ≡ run.trace }
     ensures devices { result.devices ≡ record { input = run.input; journal = run.journal; spare = run.spare; failures = run.failures; registry = registry; callers = callers } }
@@ -44,6 +46,7 @@ fn replay_ran<S, D, F>(
         spare,
         failures,
     } = run;
+    let Fronted { end, front } = with_front(alloc, end, front);
     let end = match end {
         Ok(end) => ending_of_replay(alloc, end),
         Err(OutOfMemory) => Err(OutOfMemory),
@@ -51,6 +54,7 @@ fn replay_ran<S, D, F>(
     Ran {
         end,
         began: Began::Replay(counts),
+        front,
         trace,
         devices: RunDevices {
             input,
@@ -69,6 +73,7 @@ fn run_mapping<R: Wait, S: Source, D: Disk, C: Clock, F: Caller>(
     alloc: Global,
     text: &Text,
     calls: u32,
+    trace: bool,
     mapping: NamedMapping,
     opened: Opened<S, D, F>,
     clock: &C,
@@ -77,10 +82,10 @@ fn run_mapping<R: Wait, S: Source, D: Disk, C: Clock, F: Caller>(
     requires may_run { MayRun mapping }
     requires kind { is_stream mapping.config.kind ≡ true }
     requires callers { length opened.callers.items ≡ MAX_LANES }
-    ensures ended { IfOk result.end (EndsWith (ReplayCause (run_tells C.Clock F.Caller D.Disk S.Source) text.now calls (reverse result.trace.items)
+    ensures ended { IfOk result.end (EndsWith (ReplayCause (run_tells C.Clock F.Caller D.Disk S.Source) text.now calls trace (reverse result.trace.items)
         (seen_of opened.input opened.files.journal opened.files.spare opened.files.failures opened.registry opened.callers.items)
-        (seen_by result.devices)) (reverse result.trace.items) result.began) }
-    ensures stopped { OnErr result.end (IsReplayCut (run_tells C.Clock F.Caller D.Disk S.Source) text.now calls (reverse result.trace.items)
+        (seen_by result.devices)) result.front.items (reverse result.trace.items) result.began) }
+    ensures stopped { OnErr result.end (IsReplayCut (run_tells C.Clock F.Caller D.Disk S.Source) text.now calls trace (reverse result.trace.items)
         (seen_of opened.input opened.files.journal opened.files.spare opened.files.failures opened.registry opened.callers.items)
         (seen_by result.devices)) }
     ensures registry { result.devices.registry ≡ opened.registry }
@@ -95,10 +100,12 @@ fn run_mapping<R: Wait, S: Source, D: Disk, C: Clock, F: Caller>(
     } = opened;
     let NamedMapping { config, start: _ } = mapping;
     files.keeps();
-    let mut caller = take_first(&mut callers);
-    let run = run_replay(rt, alloc, config, calls, files, input, &mut caller, clock);
+    let caller = take_first(&mut callers);
+    let TracedReplay { run, caller, front } = run_replay(
+        rt, alloc, config, calls, files, input, caller, clock, trace,
+    );
     put_first(&mut callers, caller);
-    replay_ran(alloc, run, registry, callers)
+    replay_ran(alloc, run, front, registry, callers)
 }
 
 /// Reads the mapping that the text is over the opened files, and runs it.
@@ -107,21 +114,22 @@ fn run_opened<R: Wait, S: Source, D: Disk, C: Clock, F: Caller>(
     alloc: Global,
     text: &Text,
     calls: u32,
+    trace: bool,
     opened: Opened<S, D, F>,
     clock: &C,
 ) -> Ran<S, D, F>
     requires callers { length opened.callers.items ≡ MAX_LANES }
-    ensures ended { IfOk result.end (EndsWith (ReplayCause (run_tells C.Clock F.Caller D.Disk S.Source) text.now calls (reverse result.trace.items)
+    ensures ended { IfOk result.end (EndsWith (ReplayCause (run_tells C.Clock F.Caller D.Disk S.Source) text.now calls trace (reverse result.trace.items)
         (seen_of opened.input opened.files.journal opened.files.spare opened.files.failures opened.registry opened.callers.items)
-        (seen_by result.devices)) (reverse result.trace.items) result.began) }
-    ensures stopped { OnErr result.end (IsReplayCut (run_tells C.Clock F.Caller D.Disk S.Source) text.now calls (reverse result.trace.items)
+        (seen_by result.devices)) result.front.items (reverse result.trace.items) result.began) }
+    ensures stopped { OnErr result.end (IsReplayCut (run_tells C.Clock F.Caller D.Disk S.Source) text.now calls trace (reverse result.trace.items)
         (seen_of opened.input opened.files.journal opened.files.spare opened.files.failures opened.registry opened.callers.items)
         (seen_by result.devices)) }
     ensures registry { result.devices.registry ≡ opened.registry }
     ensures as_many { length result.devices.callers.items ≡ MAX_LANES }
 {
     match read_expected(alloc, Expected::Stream, text) {
-        Ok(mapping) => run_mapping(rt, alloc, text, calls, mapping, opened, clock),
+        Ok(mapping) => run_mapping(rt, alloc, text, calls, trace, mapping, opened, clock),
         Err(why) => closed(alloc, ending_of_mapping(alloc, why), opened),
     }
 }
@@ -132,13 +140,14 @@ pub fn run_replay_words<R: Wait, S: Source, D: Disk, C: Clock, F: Caller>(
     alloc: Global,
     text: &Text,
     calls: u32,
+    trace: bool,
     devices: RunDevices<S, D, F>,
     clock: &C,
 ) -> Ran<S, D, F>
     requires { length devices.callers.items ≡ MAX_LANES }
-    ensures ended { IfOk result.end (EndsWith (ReplayCause (run_tells C.Clock F.Caller D.Disk S.Source) text.now calls (reverse result.trace.items)
-        (seen_by devices) (seen_by result.devices)) (reverse result.trace.items) result.began) }
-    ensures stopped { OnErr result.end (IsReplayCut (run_tells C.Clock F.Caller D.Disk S.Source) text.now calls (reverse result.trace.items)
+    ensures ended { IfOk result.end (EndsWith (ReplayCause (run_tells C.Clock F.Caller D.Disk S.Source) text.now calls trace (reverse result.trace.items)
+        (seen_by devices) (seen_by result.devices)) result.front.items (reverse result.trace.items) result.began) }
+    ensures stopped { OnErr result.end (IsReplayCut (run_tells C.Clock F.Caller D.Disk S.Source) text.now calls trace (reverse result.trace.items)
         (seen_by devices) (seen_by result.devices)) }
     ensures registry { result.devices.registry ≡ devices.registry }
     ensures as_many { length result.devices.callers.items ≡ MAX_LANES }
@@ -171,7 +180,7 @@ pub fn run_replay_words<R: Wait, S: Source, D: Disk, C: Clock, F: Caller>(
                 registry,
                 callers,
             };
-            run_opened(rt, alloc, text, calls, opened, clock)
+            run_opened(rt, alloc, text, calls, trace, opened, clock)
         }
     }
 }

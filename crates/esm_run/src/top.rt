@@ -36,7 +36,8 @@ use std::thread::Threads;
 /// file failed in a run; 8 where `init` found a file that is not empty, or another command one that is no journal, is
 /// damaged or has a bad payload, or a record or message differs from the kept one; 9 where the mapping is unknown or
 /// disabled, or a parameter is refused; 10 past a limit; 11 where the door failed; 70 for want of memory, after which
-/// nothing is told. 4, 5, 6, 7 and 11 come only where the device's count of faults rose.
+/// nothing is told. 4, 5, 6, 7 and 11 come only where the device's count of faults rose. With `--trace` the history of `run`, `ddb`,
+/// `redrive` or `replay` is told before its report, where it began.
 pub fn esm<
     R: Threads + Wait + Sync,
     S: Source + Send,
@@ -90,13 +91,15 @@ pub fn esm<
             config,
             calls,
             timeout: _,
-        } => ddb(rt, alloc, config, calls, world),
+            trace,
+        } => ddb(rt, alloc, config, calls, trace, world),
         Asked::Redrive(words) => redrive(rt, alloc, words, world),
         Asked::Replay {
             config,
             calls,
             timeout: _,
-        } => replay(rt, alloc, config, calls, world),
+            trace,
+        } => replay(rt, alloc, config, calls, trace, world),
         Asked::Nothing(why) => refuse(alloc, why, world),
     }
 }

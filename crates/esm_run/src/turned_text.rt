@@ -1,33 +1,30 @@
 // The lines that an input of a DynamoDB stream became, as the source of a run.
 ghost use Rattle.std.specs.Prelude.{◌≡◌};
 
+use esm_ddb::TextPieces;
 use esm_io::{Failed, Source};
-use esm_model::Bytes;
 use std::marker::Model;
 
-/// Bytes in memory, read from the front. Contracts see those that are left. It never fails.
+/// Bytes in memory, read from the front and freed as they are read. Contracts see those that are left. It never fails.
 #[derive(Drop)]
 pub struct TurnedText {
-    bytes: Bytes,
-    at: usize,
+    text: TextPieces,
 }
 
 impl Model for TurnedText {
-    ghost use Rattle.std.specs.Prelude.{◌≤◌, ℕ, List, drop, length};
+    ghost use Rattle.std.specs.Prelude.{ℕ, List};
 
     ghost Value = { List ℕ };
 
-    ghost view = { λ t. drop t.at t.bytes };
-
-    ghost invariant = { λ t. t.at ≤ length t.bytes };
+    ghost view = { λ t. t.text };
 }
 
 impl TurnedText {
     /// All of the bytes are left.
-    pub fn new(bytes: Bytes) -> TurnedText
-        ensures { result ≡ bytes }
+    pub fn new(text: TextPieces) -> TurnedText
+        ensures { result ≡ text }
     {
-        TurnedText { bytes, at: 0 }
+        TurnedText { text }
     }
 }
 
@@ -43,11 +40,6 @@ impl Source for TurnedText {
     }
 
     fn read(&mut self, into: &mut [u8]) -> Result<usize, Failed> {
-        let (_, rest) = self.bytes.as_slice().split_at(self.at);
-        let count = into.len().min(rest.len());
-        let (front, _) = rest.split_at(count);
-        into[..count].copy_from_slice(front);
-        self.at += count;
-        Ok(count)
+        Ok(self.text.read(into))
     }
 }

@@ -15,14 +15,14 @@ run_words-ran-requires-clause-callers g c κs within = ap (λ d. length d.caller
 pub told-requires : goal.told-requires
 told-requires g c = λ nothing.
     if_ok c.run_words-ran.result.end
-    (λ e ends. (subst (λ b. IsReport (reverse c.run_words-ran.result.trace.items) e b ends.ended.text) nothing ends.report).alone) c.run_words-ran.ensures.ended
+    (λ e ends. (subst (λ b. IsReport (reverse c.run_words-ran.result.trace.items) e b ends.report.report) nothing ends.report.is_report).alone) c.run_words-ran.ensures.ended
 
 pub returns-clause-outcome : goal.returns-clause-outcome
 returns-clause-outcome g c = λ known.
     let o = run_tells g.C.Clock g.F.Caller g.D.Disk g.S.Source in
     told_of_worlds g.K.Sink.faults g.K.Sink.written (λ h old new. RunCause o c.args.words h old new)
     (reverse c.run_words-ran.result.trace.items) (reverse c.told.result.world.trace.items) (seen_by c.parted-devices.result.0) (seen c.args.world) (seen_by c.run_words-ran.result.devices) (seen c.told.result.world)
-    c.parted-devices.result.1.out c.args.world.out c.told.result.world.out c.run_words-ran.result.began c.told.result.status c.run_words-ran.result.end
+    c.parted-devices.result.1.out c.args.world.out c.told.result.world.out c.run_words-ran.result.front.items c.run_words-ran.result.began c.told.result.status c.run_words-ran.result.end
     (sym (ap (λ w. reverse w.trace.items) c.told.ensures.world)) (ap (λ d. seen_by d) c.parted-devices.ensures.devices) (sym (ap (λ w. seen w) c.told.ensures.world)) (ap (λ r. r.out) c.parted-devices.ensures.rest)
     c.run_words-ran.ensures.ended (c.told.ensures.told known)
 

@@ -31,7 +31,7 @@ pub returns-in-Err-clause-ended : goal.returns-in-Err-clause-ended
 returns-in-Err-clause-ended g c =
     let left = registry_left _ c.args.words.now.which c.args.opened.registry c.read_mapping-named.result.registry c.read_mapping-named.ensures.only_read c.read_mapping-named.ensures.untouched in
     rw (c.closed.ensures.end, c.closed.ensures.nothing)
-    (if_ok c.ending_of_mapping.result (λ e tells. mapping_ends _ _ _ _ _ (record {
+    (if_ok c.ending_of_mapping.result (λ e tells. mapping_ends _ _ _ _ _ _ c.closed.ensures.front (record {
       untouched = record { no_trace = ap reverse c.closed.ensures.no_trace; unread = c.closed.ensures.input; uncalled = ap (λ v. v.items) c.closed.ensures.callers };
       unwritten = c.closed.ensures.unwritten;
       registry = subst (λ disk. IsRegistryLeft (meaning g.D.Disk) c.args.words.now.which c.args.opened.registry disk) (sym c.closed.ensures.registry) left;

@@ -10,7 +10,7 @@ returns-in-Err-clause-ended g c =
     let m = meaning g.D.Disk in
     let disk = c.args.devices.registry in
     rw (c.not_begun.ensures.end, c.not_begun.ensures.nothing, c.not_begun.ensures.trace, c.not_begun.ensures.devices)
-    (if_ok c.ending_of_files.result (λ e tells. refused_ends _ _ _ _ _ (record {
+    (if_ok c.ending_of_files.result (λ e tells. refused_ends _ _ _ _ _ _ c.not_begun.ensures.front (record {
       untouched = record { no_trace = refl; unread = refl; uncalled = refl };
       unwritten = c.in-Err.ensures.refused.unwritten;
       registry = registry_unopened m c.args.words.which disk (only_read_same m disk (λ bytes. (g.met.D.Disk g.world.𝓛 g.world.𝓜 g.world.𝓡 ((λ s x. x), (λ x. x), (λ x. x), λ x. x)).only_now disk bytes));

@@ -2,6 +2,8 @@ use Rattle.std.proofs.Common.{◌∙◌, length, ap, refl, reverse, subst, sym}
 use Rattle.esm_mapping.specs.Named.{IsConfigOf}
 use Rattle.esm_run.proofs.RedriveRuns.{redrive_cut, redrive_ends}
 use Rattle.esm_run.proofs.Results.{if_ok, on_err}
+use Rattle.esm_run.proofs.RunEndings.{handed_on}
+use Rattle.esm_traced.specs.Front.{front_text}
 use Rattle.esm_run.proofs.redrive_ran.run_mapping.Goals as goal
 
 pub run_redrive-run-requires-clause-config : goal.run_redrive-run-requires-clause-config
@@ -13,15 +15,17 @@ run_redrive-run-requires-clause-patterns g c = c.requires.may_run.patterns
 pub returns-clause-ended : goal.returns-clause-ended
 returns-clause-ended g c =
     rw (c.redrive_ran.ensures.began, c.redrive_ran.ensures.trace, c.redrive_ran.ensures.devices)
-    (if_ok c.redrive_ran.result.end (λ e tells. redrive_ends _ c.args.words.now _ _ _ c.args.mapping c.args.opened.files (record {
+    (if_ok c.redrive_ran.result.end (λ e told. redrive_ends _ c.args.words.now _ _ _ c.args.mapping c.args.opened.files (record {
       named = c.requires.named;
       registry = refl;
       journal = refl;
       spare = refl;
       failures = refl;
       opened = c.keeps.ensures;
-    }) c.take_first-caller.result c.run_redrive-run.new.caller (record { rest = reverse c.take_first-caller.new.callers.items; was = c.take_first-caller.ensures.first; is = c.put_first.ensures })
-    c.run_redrive-run.result.reading.value c.run_redrive-run.result.said c.run_redrive-run.result.end e c.run_redrive-run.ensures.said c.run_redrive-run.ensures.ended tells) c.redrive_ran.ensures.ended)
+    }) c.take_first-caller.result c.run_redrive-run.result.caller (record { rest = reverse c.take_first-caller.new.callers.items; was = c.take_first-caller.ensures.first; is = c.put_first.ensures })
+    c.run_redrive-run.result.run.reading.value c.redrive_ran.result.front.items c.run_redrive-run.result.run.said c.run_redrive-run.result.run.end e c.run_redrive-run.ensures.said c.run_redrive-run.ensures.ended
+    (handed_on (λ v. v.items) c.run_redrive-run.result.run.end c.run_redrive-run.result.front c.redrive_ran.result.front c.args.words.now.trace c.args.words.now.trace
+    (λ b. front_text b c.args.mapping.config.kind (reverse c.run_redrive-run.result.run.trace.items)) told.1 refl c.run_redrive-run.ensures.front) told.0) c.redrive_ran.ensures.ended)
 
 pub returns-clause-stopped : goal.returns-clause-stopped
 returns-clause-stopped g c =
@@ -33,8 +37,8 @@ returns-clause-stopped g c =
       spare = refl;
       failures = refl;
       opened = c.keeps.ensures;
-    }) c.take_first-caller.result c.run_redrive-run.new.caller (record { rest = reverse c.take_first-caller.new.callers.items; was = c.take_first-caller.ensures.first; is = c.put_first.ensures })
-    c.run_redrive-run.result.reading.value c.run_redrive-run.result.end c.run_redrive-run.ensures.ended c.run_redrive-run.ensures.stopped))
+    }) c.take_first-caller.result c.run_redrive-run.result.caller (record { rest = reverse c.take_first-caller.new.callers.items; was = c.take_first-caller.ensures.first; is = c.put_first.ensures })
+    c.run_redrive-run.result.run.reading.value c.run_redrive-run.result.run.end c.run_redrive-run.ensures.ended c.run_redrive-run.ensures.stopped))
 
 pub returns-clause-as_many : goal.returns-clause-as_many
 returns-clause-as_many g c =

@@ -13,7 +13,7 @@ run_mapping-requires-clause-kind g c = c.in-Ok.ensures.named.0.kind
 pub returns-in-Err-clause-ended : goal.returns-in-Err-clause-ended
 returns-in-Err-clause-ended g c =
     rw (c.closed.ensures.end, c.closed.ensures.nothing)
-    (if_ok c.ending_of_mapping.result (λ e tells. text_unnamed _ Stream c.args.text.now _ _ _ _ (λ text e none. inl none) (record {
+    (if_ok c.ending_of_mapping.result (λ e tells. text_unnamed _ Stream c.args.text.now _ _ _ _ (λ text e none. inl none) _ c.closed.ensures.front (record {
       untouched = record { no_trace = ap reverse c.closed.ensures.no_trace; unread = c.closed.ensures.input; uncalled = ap (λ v. v.items) c.closed.ensures.callers };
       unwritten = c.closed.ensures.unwritten;
       registry = c.closed.ensures.registry;

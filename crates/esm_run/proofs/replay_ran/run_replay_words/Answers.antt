@@ -7,7 +7,7 @@ use Rattle.esm_run.proofs.replay_ran.run_replay_words.Goals as goal
 pub returns-in-Err-clause-ended : goal.returns-in-Err-clause-ended
 returns-in-Err-clause-ended g c =
     rw (c.not_begun.ensures.end, c.not_begun.ensures.nothing, c.not_begun.ensures.trace, c.not_begun.ensures.devices)
-    (if_ok c.ending_of_files.result (λ e tells. text_refused _ Stream c.args.text.now _ _ _ _ (λ text e none. inl none) (record {
+    (if_ok c.ending_of_files.result (λ e tells. text_refused _ Stream c.args.text.now _ _ _ _ (λ text e none. inl none) _ c.not_begun.ensures.front (record {
       untouched = record { no_trace = refl; unread = refl; uncalled = refl };
       unwritten = c.in-Err.ensures.refused.unwritten;
       registry = refl;

@@ -272,7 +272,7 @@ returns-in-Run-clause-door g c = λ none. ap (λ w. w.door) c.run.ensures.kept
 
 pub returns-in-Ddb-clause-outcome : goal.returns-in-Ddb-clause-outcome
 returns-in-Ddb-clause-outcome g c = λ known.
-    inl ((Ddb c.in-Ddb.config c.in-Ddb.calls c.in-Ddb.timeout), c.in-Ddb.ensures, c.ddb.ensures.outcome known)
+    inl ((Ddb c.in-Ddb.config c.in-Ddb.calls c.in-Ddb.timeout c.in-Ddb.trace), c.in-Ddb.ensures, c.ddb.ensures.outcome known)
 
 pub returns-in-Ddb-clause-exact : goal.returns-in-Ddb-clause-exact
 returns-in-Ddb-clause-exact g c = λ known sound other is.
@@ -292,32 +292,32 @@ returns-in-Ddb-clause-exact g c = λ known sound other is.
         no_reason = c.one_expected.ensures.no_reason;
         one_reason = c.one_expected.ensures.one_reason;
       };
-    }) sound is (inl ((Ddb c.in-Ddb.config c.in-Ddb.calls c.in-Ddb.timeout), c.in-Ddb.ensures, c.ddb.ensures.outcome known))
+    }) sound is (inl ((Ddb c.in-Ddb.config c.in-Ddb.calls c.in-Ddb.timeout c.in-Ddb.trace), c.in-Ddb.ensures, c.ddb.ensures.outcome known))
 
 pub returns-in-Ddb-clause-complete : goal.returns-in-Ddb-clause-complete
 returns-in-Ddb-clause-complete g c = λ known none d spelled.
     let t = devices g.C.Clock g.F.Caller g.D.Disk g.S.Source g.K.Sink g.L.Door g.L.Conn.Link in
-    by_command (λ d. Completes t d c.args.world c.ddb.result.world c.ddb.result.status) (map string_bytes c.args.words.now) (Ddb c.in-Ddb.config c.in-Ddb.calls c.in-Ddb.timeout) c.one_command.ensures c.in-Ddb.ensures
+    by_command (λ d. Completes t d c.args.world c.ddb.result.world c.ddb.result.status) (map string_bytes c.args.words.now) (Ddb c.in-Ddb.config c.in-Ddb.calls c.in-Ddb.timeout c.in-Ddb.trace) c.one_command.ensures c.in-Ddb.ensures
     tt d spelled
 
 pub returns-in-Ddb-clause-bad_words : goal.returns-in-Ddb-clause-bad_words
 returns-in-Ddb-clause-bad_words g c = λ bad. absurd (c.ddb.ensures.good_words bad)
 
 pub returns-in-Ddb-clause-spelled : goal.returns-in-Ddb-clause-spelled
-returns-in-Ddb-clause-spelled g c = λ good known. ((Ddb c.in-Ddb.config c.in-Ddb.calls c.in-Ddb.timeout), c.in-Ddb.ensures)
+returns-in-Ddb-clause-spelled g c = λ good known. ((Ddb c.in-Ddb.config c.in-Ddb.calls c.in-Ddb.timeout c.in-Ddb.trace), c.in-Ddb.ensures)
 
 pub returns-in-Ddb-clause-want_of_memory : goal.returns-in-Ddb-clause-want_of_memory
 returns-in-Ddb-clause-want_of_memory g c = λ short.
     let t = devices g.C.Clock g.F.Caller g.D.Disk g.S.Source g.K.Sink g.L.Door g.L.Conn.Link in
-    stopped_at t c.args.world c.ddb.result.world (map string_bytes c.args.words.now) (Ddb c.in-Ddb.config c.in-Ddb.calls c.in-Ddb.timeout) c.one_command.ensures c.in-Ddb.ensures (c.ddb.ensures.untold short) (c.ddb.ensures.want_of_memory short)
+    stopped_at t c.args.world c.ddb.result.world (map string_bytes c.args.words.now) (Ddb c.in-Ddb.config c.in-Ddb.calls c.in-Ddb.timeout c.in-Ddb.trace) c.one_command.ensures c.in-Ddb.ensures (c.ddb.ensures.untold short) (c.ddb.ensures.want_of_memory short)
 
 pub returns-in-Ddb-clause-left : goal.returns-in-Ddb-clause-left
 returns-in-Ddb-clause-left g c = λ d spelled.
     let t = devices g.C.Clock g.F.Caller g.D.Disk g.S.Source g.K.Sink g.L.Door g.L.Conn.Link in
-    by_command (λ d. IsLeft t d c.args.world c.ddb.result.world) (map string_bytes c.args.words.now) (Ddb c.in-Ddb.config c.in-Ddb.calls c.in-Ddb.timeout) c.one_command.ensures c.in-Ddb.ensures (c.ddb.ensures.registry) d spelled
+    by_command (λ d. IsLeft t d c.args.world c.ddb.result.world) (map string_bytes c.args.words.now) (Ddb c.in-Ddb.config c.in-Ddb.calls c.in-Ddb.timeout c.in-Ddb.trace) c.one_command.ensures c.in-Ddb.ensures (c.ddb.ensures.registry) d spelled
 
 pub returns-in-Ddb-clause-untouched : goal.returns-in-Ddb-clause-untouched
-returns-in-Ddb-clause-untouched g c = λ none. absurd (none (Ddb c.in-Ddb.config c.in-Ddb.calls c.in-Ddb.timeout) c.in-Ddb.ensures)
+returns-in-Ddb-clause-untouched g c = λ none. absurd (none (Ddb c.in-Ddb.config c.in-Ddb.calls c.in-Ddb.timeout c.in-Ddb.trace) c.in-Ddb.ensures)
 
 pub returns-in-Ddb-clause-clock : goal.returns-in-Ddb-clause-clock
 returns-in-Ddb-clause-clock g c = c.ddb.ensures.kept.0
@@ -328,11 +328,11 @@ returns-in-Ddb-clause-door g c = λ none. c.ddb.ensures.kept.1
 -- `redrive`
 
 pub redrive-requires-clause-receives : goal.redrive-requires-clause-receives
-redrive-requires-clause-receives g c = receives_within (map string_bytes c.args.words.now) c.in-Redrive.words.config c.in-Redrive.words.max_receives c.in-Redrive.words.calls c.in-Redrive.words.visibility c.in-Redrive.words.timeout c.in-Redrive.ensures.0
+redrive-requires-clause-receives g c = receives_within (map string_bytes c.args.words.now) c.in-Redrive.words.config c.in-Redrive.words.max_receives c.in-Redrive.words.calls c.in-Redrive.words.visibility c.in-Redrive.words.timeout c.in-Redrive.words.trace c.in-Redrive.ensures.0
 
 pub returns-in-Redrive-clause-outcome : goal.returns-in-Redrive-clause-outcome
 returns-in-Redrive-clause-outcome g c = λ known.
-    inl ((Redrive c.in-Redrive.words.config c.in-Redrive.words.max_receives c.in-Redrive.words.calls c.in-Redrive.words.visibility c.in-Redrive.words.timeout), c.in-Redrive.ensures, c.redrive.ensures.outcome known)
+    inl ((Redrive c.in-Redrive.words.config c.in-Redrive.words.max_receives c.in-Redrive.words.calls c.in-Redrive.words.visibility c.in-Redrive.words.timeout c.in-Redrive.words.trace), c.in-Redrive.ensures, c.redrive.ensures.outcome known)
 
 pub returns-in-Redrive-clause-exact : goal.returns-in-Redrive-clause-exact
 returns-in-Redrive-clause-exact g c = λ known sound other is.
@@ -352,13 +352,13 @@ returns-in-Redrive-clause-exact g c = λ known sound other is.
         no_reason = c.one_expected.ensures.no_reason;
         one_reason = c.one_expected.ensures.one_reason;
       };
-    }) sound is (inl ((Redrive c.in-Redrive.words.config c.in-Redrive.words.max_receives c.in-Redrive.words.calls c.in-Redrive.words.visibility c.in-Redrive.words.timeout), c.in-Redrive.ensures, c.redrive.ensures.outcome known))
+    }) sound is (inl ((Redrive c.in-Redrive.words.config c.in-Redrive.words.max_receives c.in-Redrive.words.calls c.in-Redrive.words.visibility c.in-Redrive.words.timeout c.in-Redrive.words.trace), c.in-Redrive.ensures, c.redrive.ensures.outcome known))
 
 pub returns-in-Redrive-clause-complete : goal.returns-in-Redrive-clause-complete
 returns-in-Redrive-clause-complete g c = λ known none d spelled.
     let t = devices g.C.Clock g.F.Caller g.D.Disk g.S.Source g.K.Sink g.L.Door g.L.Conn.Link in
-    by_command (λ d. Completes t d c.args.world c.redrive.result.world c.redrive.result.status) (map string_bytes c.args.words.now) (Redrive c.in-Redrive.words.config c.in-Redrive.words.max_receives c.in-Redrive.words.calls c.in-Redrive.words.visibility c.in-Redrive.words.timeout) c.one_command.ensures c.in-Redrive.ensures
-    (complete_redrive (of_run t) (redrive_words c.in-Redrive.words.config c.in-Redrive.words.max_receives c.in-Redrive.words.calls c.in-Redrive.words.visibility c.in-Redrive.words.timeout) (output t c.args.world c.redrive.result.world) (told_history c.redrive.result.world) (seen c.args.world) (seen c.redrive.result.world) c.redrive.result.status
+    by_command (λ d. Completes t d c.args.world c.redrive.result.world c.redrive.result.status) (map string_bytes c.args.words.now) (Redrive c.in-Redrive.words.config c.in-Redrive.words.max_receives c.in-Redrive.words.calls c.in-Redrive.words.visibility c.in-Redrive.words.timeout c.in-Redrive.words.trace) c.one_command.ensures c.in-Redrive.ensures
+    (complete_redrive (of_run t) (redrive_words c.in-Redrive.words.config c.in-Redrive.words.max_receives c.in-Redrive.words.calls c.in-Redrive.words.visibility c.in-Redrive.words.timeout c.in-Redrive.words.trace) (output t c.args.world c.redrive.result.world) (told_history c.redrive.result.world) (seen c.args.world) (seen c.redrive.result.world) c.redrive.result.status
     (record {
       one_command = c.one_command.ensures;
       whole_goes_on = c.whole_goes_on.ensures;
@@ -373,26 +373,26 @@ returns-in-Redrive-clause-complete g c = λ known none d spelled.
         no_reason = c.one_expected.ensures.no_reason;
         one_reason = c.one_expected.ensures.one_reason;
       };
-    }) (none.command (Redrive c.in-Redrive.words.config c.in-Redrive.words.max_receives c.in-Redrive.words.calls c.in-Redrive.words.visibility c.in-Redrive.words.timeout) c.in-Redrive.ensures) none.output_told (c.redrive.ensures.outcome known)) d spelled
+    }) (none.command (Redrive c.in-Redrive.words.config c.in-Redrive.words.max_receives c.in-Redrive.words.calls c.in-Redrive.words.visibility c.in-Redrive.words.timeout c.in-Redrive.words.trace) c.in-Redrive.ensures) none.output_told (c.redrive.ensures.outcome known)) d spelled
 
 pub returns-in-Redrive-clause-bad_words : goal.returns-in-Redrive-clause-bad_words
 returns-in-Redrive-clause-bad_words g c = λ bad. absurd (c.redrive.ensures.good_words bad)
 
 pub returns-in-Redrive-clause-spelled : goal.returns-in-Redrive-clause-spelled
-returns-in-Redrive-clause-spelled g c = λ good known. ((Redrive c.in-Redrive.words.config c.in-Redrive.words.max_receives c.in-Redrive.words.calls c.in-Redrive.words.visibility c.in-Redrive.words.timeout), c.in-Redrive.ensures)
+returns-in-Redrive-clause-spelled g c = λ good known. ((Redrive c.in-Redrive.words.config c.in-Redrive.words.max_receives c.in-Redrive.words.calls c.in-Redrive.words.visibility c.in-Redrive.words.timeout c.in-Redrive.words.trace), c.in-Redrive.ensures)
 
 pub returns-in-Redrive-clause-want_of_memory : goal.returns-in-Redrive-clause-want_of_memory
 returns-in-Redrive-clause-want_of_memory g c = λ short.
     let t = devices g.C.Clock g.F.Caller g.D.Disk g.S.Source g.K.Sink g.L.Door g.L.Conn.Link in
-    stopped_at t c.args.world c.redrive.result.world (map string_bytes c.args.words.now) (Redrive c.in-Redrive.words.config c.in-Redrive.words.max_receives c.in-Redrive.words.calls c.in-Redrive.words.visibility c.in-Redrive.words.timeout) c.one_command.ensures c.in-Redrive.ensures (c.redrive.ensures.untold short) (c.redrive.ensures.want_of_memory short)
+    stopped_at t c.args.world c.redrive.result.world (map string_bytes c.args.words.now) (Redrive c.in-Redrive.words.config c.in-Redrive.words.max_receives c.in-Redrive.words.calls c.in-Redrive.words.visibility c.in-Redrive.words.timeout c.in-Redrive.words.trace) c.one_command.ensures c.in-Redrive.ensures (c.redrive.ensures.untold short) (c.redrive.ensures.want_of_memory short)
 
 pub returns-in-Redrive-clause-left : goal.returns-in-Redrive-clause-left
 returns-in-Redrive-clause-left g c = λ d spelled.
     let t = devices g.C.Clock g.F.Caller g.D.Disk g.S.Source g.K.Sink g.L.Door g.L.Conn.Link in
-    by_command (λ d. IsLeft t d c.args.world c.redrive.result.world) (map string_bytes c.args.words.now) (Redrive c.in-Redrive.words.config c.in-Redrive.words.max_receives c.in-Redrive.words.calls c.in-Redrive.words.visibility c.in-Redrive.words.timeout) c.one_command.ensures c.in-Redrive.ensures (c.redrive.ensures.registry) d spelled
+    by_command (λ d. IsLeft t d c.args.world c.redrive.result.world) (map string_bytes c.args.words.now) (Redrive c.in-Redrive.words.config c.in-Redrive.words.max_receives c.in-Redrive.words.calls c.in-Redrive.words.visibility c.in-Redrive.words.timeout c.in-Redrive.words.trace) c.one_command.ensures c.in-Redrive.ensures (c.redrive.ensures.registry) d spelled
 
 pub returns-in-Redrive-clause-untouched : goal.returns-in-Redrive-clause-untouched
-returns-in-Redrive-clause-untouched g c = λ none. absurd (none (Redrive c.in-Redrive.words.config c.in-Redrive.words.max_receives c.in-Redrive.words.calls c.in-Redrive.words.visibility c.in-Redrive.words.timeout) c.in-Redrive.ensures)
+returns-in-Redrive-clause-untouched g c = λ none. absurd (none (Redrive c.in-Redrive.words.config c.in-Redrive.words.max_receives c.in-Redrive.words.calls c.in-Redrive.words.visibility c.in-Redrive.words.timeout c.in-Redrive.words.trace) c.in-Redrive.ensures)
 
 pub returns-in-Redrive-clause-clock : goal.returns-in-Redrive-clause-clock
 returns-in-Redrive-clause-clock g c = c.redrive.ensures.kept.0
@@ -404,7 +404,7 @@ returns-in-Redrive-clause-door g c = λ none. c.redrive.ensures.kept.1
 
 pub returns-in-Replay-clause-outcome : goal.returns-in-Replay-clause-outcome
 returns-in-Replay-clause-outcome g c = λ known.
-    inl ((Replay c.in-Replay.config c.in-Replay.calls c.in-Replay.timeout), c.in-Replay.ensures, c.replay.ensures.outcome known)
+    inl ((Replay c.in-Replay.config c.in-Replay.calls c.in-Replay.timeout c.in-Replay.trace), c.in-Replay.ensures, c.replay.ensures.outcome known)
 
 pub returns-in-Replay-clause-exact : goal.returns-in-Replay-clause-exact
 returns-in-Replay-clause-exact g c = λ known sound other is.
@@ -424,32 +424,32 @@ returns-in-Replay-clause-exact g c = λ known sound other is.
         no_reason = c.one_expected.ensures.no_reason;
         one_reason = c.one_expected.ensures.one_reason;
       };
-    }) sound is (inl ((Replay c.in-Replay.config c.in-Replay.calls c.in-Replay.timeout), c.in-Replay.ensures, c.replay.ensures.outcome known))
+    }) sound is (inl ((Replay c.in-Replay.config c.in-Replay.calls c.in-Replay.timeout c.in-Replay.trace), c.in-Replay.ensures, c.replay.ensures.outcome known))
 
 pub returns-in-Replay-clause-complete : goal.returns-in-Replay-clause-complete
 returns-in-Replay-clause-complete g c = λ known none d spelled.
     let t = devices g.C.Clock g.F.Caller g.D.Disk g.S.Source g.K.Sink g.L.Door g.L.Conn.Link in
-    by_command (λ d. Completes t d c.args.world c.replay.result.world c.replay.result.status) (map string_bytes c.args.words.now) (Replay c.in-Replay.config c.in-Replay.calls c.in-Replay.timeout) c.one_command.ensures c.in-Replay.ensures
+    by_command (λ d. Completes t d c.args.world c.replay.result.world c.replay.result.status) (map string_bytes c.args.words.now) (Replay c.in-Replay.config c.in-Replay.calls c.in-Replay.timeout c.in-Replay.trace) c.one_command.ensures c.in-Replay.ensures
     tt d spelled
 
 pub returns-in-Replay-clause-bad_words : goal.returns-in-Replay-clause-bad_words
 returns-in-Replay-clause-bad_words g c = λ bad. absurd (c.replay.ensures.good_words bad)
 
 pub returns-in-Replay-clause-spelled : goal.returns-in-Replay-clause-spelled
-returns-in-Replay-clause-spelled g c = λ good known. ((Replay c.in-Replay.config c.in-Replay.calls c.in-Replay.timeout), c.in-Replay.ensures)
+returns-in-Replay-clause-spelled g c = λ good known. ((Replay c.in-Replay.config c.in-Replay.calls c.in-Replay.timeout c.in-Replay.trace), c.in-Replay.ensures)
 
 pub returns-in-Replay-clause-want_of_memory : goal.returns-in-Replay-clause-want_of_memory
 returns-in-Replay-clause-want_of_memory g c = λ short.
     let t = devices g.C.Clock g.F.Caller g.D.Disk g.S.Source g.K.Sink g.L.Door g.L.Conn.Link in
-    stopped_at t c.args.world c.replay.result.world (map string_bytes c.args.words.now) (Replay c.in-Replay.config c.in-Replay.calls c.in-Replay.timeout) c.one_command.ensures c.in-Replay.ensures (c.replay.ensures.untold short) (c.replay.ensures.want_of_memory short)
+    stopped_at t c.args.world c.replay.result.world (map string_bytes c.args.words.now) (Replay c.in-Replay.config c.in-Replay.calls c.in-Replay.timeout c.in-Replay.trace) c.one_command.ensures c.in-Replay.ensures (c.replay.ensures.untold short) (c.replay.ensures.want_of_memory short)
 
 pub returns-in-Replay-clause-left : goal.returns-in-Replay-clause-left
 returns-in-Replay-clause-left g c = λ d spelled.
     let t = devices g.C.Clock g.F.Caller g.D.Disk g.S.Source g.K.Sink g.L.Door g.L.Conn.Link in
-    by_command (λ d. IsLeft t d c.args.world c.replay.result.world) (map string_bytes c.args.words.now) (Replay c.in-Replay.config c.in-Replay.calls c.in-Replay.timeout) c.one_command.ensures c.in-Replay.ensures (c.replay.ensures.registry) d spelled
+    by_command (λ d. IsLeft t d c.args.world c.replay.result.world) (map string_bytes c.args.words.now) (Replay c.in-Replay.config c.in-Replay.calls c.in-Replay.timeout c.in-Replay.trace) c.one_command.ensures c.in-Replay.ensures (c.replay.ensures.registry) d spelled
 
 pub returns-in-Replay-clause-untouched : goal.returns-in-Replay-clause-untouched
-returns-in-Replay-clause-untouched g c = λ none. absurd (none (Replay c.in-Replay.config c.in-Replay.calls c.in-Replay.timeout) c.in-Replay.ensures)
+returns-in-Replay-clause-untouched g c = λ none. absurd (none (Replay c.in-Replay.config c.in-Replay.calls c.in-Replay.timeout c.in-Replay.trace) c.in-Replay.ensures)
 
 pub returns-in-Replay-clause-clock : goal.returns-in-Replay-clause-clock
 returns-in-Replay-clause-clock g c = c.replay.ensures.kept.0
