@@ -8,9 +8,9 @@ use Rattle.esm_cli.specs.declared.table.TheConstants.{TIMEOUT}
 -- in seconds: that of the command's options, and the longest where it takes none
 abbrev pub timeout_of : Command → ℕ
 timeout_of (Run r) = r.timeout
-timeout_of (Ddb config calls timeout) = timeout
-timeout_of (Redrive config max_receives calls visibility timeout) = timeout
-timeout_of (Replay config calls timeout) = timeout
+timeout_of (Ddb config calls timeout trace) = timeout
+timeout_of (Redrive config max_receives calls visibility timeout trace) = timeout
+timeout_of (Replay config calls timeout trace) = timeout
 timeout_of _ = TIMEOUT.greatest
 
 -- so many seconds are those of the command that the words spell, where they spell one

@@ -12,10 +12,10 @@ const USAGE: [&str; 9] = [
     "  FOLDER     - for memory and standard input, or a folder that init made ready, with its input.jsonl",
     "  FUNCTIONS  ok, poison:TEXT, or the port of 127.0.0.1 at which the function is served",
     "  DOOR       the port of serve; 0 where none is served",
-    "  COMMAND    run {--config TEXT | --mapping UUID} [--calls N] [--visibility N] [--timeout N] [--read-first]",
-    "             ddb --config TEXT [--calls N] [--timeout N]",
-    "             redrive --config TEXT --max-receives N [--calls N] [--visibility N] [--timeout N]",
-    "             replay --config TEXT [--calls N] [--timeout N]",
+    "  COMMAND    run {--config TEXT | --mapping UUID} [--calls N] [--visibility N] [--timeout N] [--read-first] [--trace]",
+    "             ddb --config TEXT [--calls N] [--timeout N] [--trace]",
+    "             redrive --config TEXT --max-receives N [--calls N] [--visibility N] [--timeout N] [--trace]",
+    "             replay --config TEXT [--calls N] [--timeout N] [--trace]",
     "             init, show, failures, compact, migrate, serve --requests N, gen --records N",
 ];
 

@@ -58,7 +58,7 @@ fn opened(words: &[String]) -> Opening<'_>
 }
 
 /// Does what the command asks for in this world, tells on standard error what to do where it was refused, and answers the
-/// exit status; the command is that of these words. The threads are those of `rt`.
+/// exit status; the command is the one that these words open. The threads are those of `rt`.
 fn perform<
     R: Threads + Wait + Sync + Eprint,
     S: Source + Drop + Send,
@@ -67,15 +67,23 @@ fn perform<
     C: Clock + Drop + Sync,
     F: Caller + Drop + Send,
     L: Door + Drop,
->(rt: &R, alloc: Global, words: &[String], command: &[String], world: World<S, K, D, C, F, L>) -> u8
-    requires none { IsRefused (map string_bytes words.now) → map string_bytes command.now ≡ [] }
+>(
+    rt: &R,
+    alloc: Global,
+    words: &[String],
+    opening: Opening<'_>,
+    world: World<S, K, D, C, F, L>,
+) -> u8
+    requires opens { Opens (map string_bytes words.now) opening.folder opening.functions opening.door (map string_bytes opening.command.now)
+        ⊎ IsRefused (map string_bytes words.now) }
+    requires none { IsRefused (map string_bytes words.now) → map string_bytes opening.command.now ≡ [] }
     requires callers { length world.callers.items ≡ MAX_LANES }
     requires trace { world.trace.items ≡ [] }
     ensures done { result ≢ 70 → HasDone (devices C.Clock F.Caller D.Disk S.Source K.Sink L.Door L.Conn.Link)
-        (map string_bytes command.now) world result }
+        (map string_bytes opening.entry.command.now) world result }
     ensures refused { IsRefused (map string_bytes words.now) → result ≢ 70 → result ≡ 2 }
 {
-    let ended = esm(rt, alloc, command, world);
+    let ended = esm(rt, alloc, opening.command, world);
     advise(rt, words, ended.status, ended.world.out.tail());
     ended.status
 }
@@ -90,11 +98,11 @@ fn main(rt: HostRuntime) -> ExitCode {
     let opening = opened(words);
     let status = match opening.folder {
         Folder::Memory => match memory_world(&rt, alloc, opening) {
-            Ok(world) => perform(&rt, alloc, words, opening.command, world),
+            Ok(world) => perform(&rt, alloc, words, opening, world),
             Err(OutOfMemory) => OUT_OF_MEMORY,
         },
         Folder::Files(folder) => match folder_world(&rt, alloc, opening, folder) {
-            Ok(world) => perform(&rt, alloc, words, opening.command, world),
+            Ok(world) => perform(&rt, alloc, words, opening, world),
             Err(OutOfMemory) => OUT_OF_MEMORY,
         },
     };

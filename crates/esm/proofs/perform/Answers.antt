@@ -8,4 +8,4 @@ returns-clause-done g c = λ known. (c.esm-ended.result.world, c.esm-ended.ensur
 
 pub returns-clause-refused : goal.returns-clause-refused
 returns-clause-refused g c = λ refused not-70.
-    status_of_no_words c.esm-ended.result.status (map string_bytes c.args.command.now) (c.requires.none refused) c.esm-ended.ensures.spelled not-70
+    status_of_no_words c.esm-ended.result.status (map string_bytes c.args.opening.command.now) (c.requires.none refused) c.esm-ended.ensures.spelled not-70
