@@ -1,0 +1,7 @@
+//! The life of a queue's mapping: what holds over lists of its runs and redrives and of what was written in place of its journal's
+//! content between them, each as the contract of a function that does nothing.
+//! Pure: no device, clock or thread.
+#![tactic(auto)]
+
+pub mod history;
+pub mod life;
