@@ -1,7 +1,10 @@
 pub mod Lives
+pub mod QueueStages
 pub mod RedriveFiles
 pub mod ReplayLives
 pub mod ReplayStages
+pub mod FatesOnce
+pub mod FoundTries
 pub mod NextRuns
 pub mod QueueFiles
 pub mod StreamFiles

@@ -17,6 +17,8 @@ use Rattle.esm_replay_life.specs.ReplayLife.{AreReplays, IsLife as IsReplayLife,
 use Rattle.esm_life.specs.Life.{AreBetween, IsLife, IsRunOver, Ran, Replay, Rewritten, Run, Stage, content}
 use Rattle.esm_life.specs.ReplayLaws.{AreReplayLaws}
 use Rattle.esm_life.specs.Replays.{under_replays}
+use Rattle.esm_life.specs.Tries.{TriesGoOn}
+use Rattle.esm_life.proofs.FoundTries.{tries_go_on}
 use Rattle.esm_life.proofs.ReplayLives.{is_one, same_content, split}
 
 -- a run of a stream says nothing of replays, or of deletions
@@ -107,3 +109,8 @@ module _ (laws : AreReplayLaws) where
   knows r next between before life all fields =
       let over = run_over between before r life.0 in
       goes_on r.setting next.setting r.recorded (content before) fields over.legal_recorded over.may_be_said over.opened (opened_then r next between before life all over)
+
+  pub finds_tries : (r next : Run) (between before : List Stage) → IsLife (Ran next ∷ between ++ Ran r ∷ before) → AreBetween between → HasStreamFields r.setting.config → TriesGoOn r.setting r.recorded next.setting
+  finds_tries r next between before life all fields =
+      let over = run_over between before r life.0 in
+      tries_go_on r.setting next.setting r.recorded (content before) fields over.legal_recorded over.may_be_said over.opened (opened_then r next between before life all over)

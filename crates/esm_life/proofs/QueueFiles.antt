@@ -1,29 +1,33 @@
--- What the files hold after an ordinary run of a queue is what a further stage of a life leaves.
-use Rattle.std.proofs.Common.{◌≡◌, ◌∙◌, ℕ, ◌≤◌, Bool, true, List, [], ◌∷◌, ◌++◌, length, Option, Some, None, ap, ap₂, append-nil, arith, refl, subst, sym}
+-- What the files hold after a run of a queue is what a further stage of its life leaves.
+use Rattle.std.proofs.Common.{◌≡◌, ◌∙◌, ◌+◌, ℕ, ◌≤◌, Bool, List, [], ◌∷◌, ◌++◌, length, Option, Some, None, ap, ap₂, append-nil, arith, inl, inr, refl, subst, sym}
 use Rattle.std.specs.Prelude.{filter_map, reverse}
 use Rattle.std.specs.List.{cons_option}
 use Rattle.std.proofs.lemmas.List.{reverse-reverse}
 use Rattle.esm_io.specs.Meanings.{DiskMeaning}
-use Rattle.esm_journal.specs.File.{header_of, Holding}
-use Rattle.esm_journal.specs.Pair.{pair_opened}
+use Rattle.esm_folder.specs.declared.disks.Disks.{Disks as FolderDisks}
+use Rattle.esm_folder.specs.Init.{fresh_bytes}
+use Rattle.esm_journal.specs.File.{header_of, Holding, Opening, opened as file_opened}
+use Rattle.esm_journal.specs.Pair.{PairOpensTo, pair_opened}
 use Rattle.esm_journal.specs.State.{OpensTo}
 use Rattle.esm_journal_record.specs.EntryPayload.{queue_payload}
-use Rattle.esm_journal_state.specs.Meaning.{are_good}
 use Rattle.esm_model.specs.declared.book.Trouble.{Trouble}
 use Rattle.esm_model.specs.declared.config.Config.{Config}
 use Rattle.esm_model.specs.declared.entry.Entry.{Entry}
 use Rattle.esm_model.specs.declared.item.Message.{Message}
-use Rattle.esm_queue_model.specs.QueueSetting.{QueueSetting}
+use Rattle.esm_model.specs.declared.names.FileName.TheVariants as file
+use Rattle.esm_queue_model.specs.QueueSetting.{QueueSetting, is_fifo}
 use Rattle.esm_queue_model.specs.QueueStep.{LegalQueue}
 use Rattle.esm_queue_model.proofs.QueueHistories.{legal_before}
-use Rattle.esm_redrive_life.specs.Content.{HasValidMessages, IsOpenedOver, content_after}
-use Rattle.esm_redrive_life.specs.Life.{GoesOn, Stage}
+use Rattle.esm_queue_life.specs.Life.{IsRecorded, IsRunOver, Ran, Stage, content, dead_lines}
+use Rattle.esm_redrive_life.specs.Content.{content_after}
 use Rattle.esm_runner.specs.Files.{FilesState}
 use Rattle.esm_runner.specs.Headline.{Devices}
 use Rattle.esm_runner.specs.QueueHeadline.{HandFollows, LegalOver}
 use Rattle.esm_workers.specs.Working.{Outside}
-use Rattle.esm_life.specs.Redrives.{IsGoneOnWith}
-use Rattle.esm_life.proofs.RedriveFiles.{few_in_hand, of_others, all_texts, reversed}
+use Rattle.esm_life.specs.QueueLaws.{AreQueueLaws}
+use Rattle.esm_life.specs.Queues.{GoesOnWithStage, HasRunOver, IsCompactedLife, IsFoundAgain, IsLeftByStage, IsLifeBegun, IsMigratedLife, IsMigratingLife, IsSameLife, IsWholeStage, KeepsLawsInLife, OpensToLife, stage_of}
+use Rattle.esm_life.proofs.QueueStages.{laws_kept}
+use Rattle.esm_life.proofs.RedriveFiles.{few_in_hand, of_others, all_texts, reversed, settled_so}
 
 -- the first texts are those of the first entries
 
@@ -57,21 +61,23 @@ first_texts text (e ∷ es) (line ∷ front) rest split = texts_step text e es l
 
 -- what the journal kept
 
-pub record IsKeptOf (s : QueueSetting) (front kept : List Entry) : Type 0 where
+pub record IsKeptOf (s : QueueSetting) (h front kept : List Entry) : Type 0 where
   pub legal : LegalQueue s kept
+  pub recorded : IsRecorded h kept
   pub texts : filter_map (queue_payload s.messages) front ≡ filter_map (queue_payload s.messages) (reverse kept)
 
 legal_here : (s : QueueSetting) (h : List Entry) → LegalOver s h → LegalQueue s h
 legal_here s h legal = legal s.messages (λ i x at. at)
 
-of_front : (s : QueueSetting) (h front lost : List Entry) → LegalQueue s h → lost ++ reverse front ≡ h → IsKeptOf s front (reverse front)
+of_front : (s : QueueSetting) (h front lost : List Entry) → LegalQueue s h → lost ++ reverse front ≡ h → IsKeptOf s h front (reverse front)
 of_front s h front lost legal split = record {
   legal = legal_before s lost (reverse front) (subst (LegalQueue s) (sym split) legal);
+  recorded = inl (lost, sym split);
   texts = ap (filter_map (queue_payload s.messages)) (sym (reverse-reverse front));
 }
 
 at_split : (s : QueueSetting) (h front rest lost : List Entry) (e : Entry) → LegalQueue s h → HandFollows s h (e ∷ []) → lost ≡ reverse rest → front ++ rest ≡ reverse h ++ e ∷ [] → lost ++ reverse front ≡ e ∷ h
-    → (kept : List Entry) × IsKeptOf s front kept
+    → (kept : List Entry) × IsKeptOf s h front kept
 at_split s h front rest [] e legal follows is split back =
     let none : rest ≡ [] = sym (reverse-reverse rest) ∙ ap reverse (sym is) in
     let all : front ≡ reverse h ++ e ∷ [] = sym (append-nil front) ∙ (ap (λ (k : List Entry). front ++ k) (sym none) ∙ split) in
@@ -79,6 +85,7 @@ at_split s h front rest [] e legal follows is split back =
       e ∷ to.before,
       record {
         legal = legal_here s (e ∷ to.before) to.follows;
+        recorded = inr (record { hand = e; before = to.before; later = to.later; recorded_is = refl; happened_is = to.split; ends = to.ends });
         texts = ap (filter_map (queue_payload s.messages)) all ∙ all_texts (queue_payload s.messages) (of_others s.messages) h to.later to.before e to.split to.ends;
       },
     )
@@ -86,32 +93,130 @@ at_split s h front rest (l ∷ lost) e legal follows is split back =
     let cut : lost ++ reverse front ≡ h = (let whole : l ∷ (lost ++ reverse front) ≡ e ∷ h = back in cc) in
     (reverse front, of_front s h front lost legal cut)
 
-kept_of : (s : QueueSetting) (h hand front rest : List Entry) → LegalQueue s h → HandFollows s h hand → length hand ≤ 1 → front ++ rest ≡ reverse h ++ hand → (kept : List Entry) × IsKeptOf s front kept
+kept_of : (s : QueueSetting) (h hand front rest : List Entry) → LegalQueue s h → HandFollows s h hand → length hand ≤ 1 → front ++ rest ≡ reverse h ++ hand → (kept : List Entry) × IsKeptOf s h front kept
 kept_of s h [] front rest legal follows few split = (reverse front, of_front s h front (reverse rest) legal (reversed h [] front rest split))
 kept_of s h (e ∷ []) front rest legal follows few split = at_split s h front rest (reverse rest) e legal follows refl split (reversed h (e ∷ []) front rest split)
 kept_of s h (e ∷ (another ∷ more)) front rest legal follows few split = absurd (omega (arith, few))
 
--- the law
+-- the laws of one run
 
-abbrev pub OrdinaryRunGoesOn : Type 0
-OrdinaryRunGoesOn = (s : QueueSetting) (h : List Entry) (old : List (List ℕ)) → IsOpenedOver s old → HasValidMessages s → LegalQueue s h → are_good (reverse old) ≡ true → GoesOn (content_after s h old) old
+module _ {D F : Type 0} (m : DiskMeaning D) (callers : Outside F) (line : List ℕ → List ℕ) (config : Config) (calls visibility : ℕ) (f : FilesState D) (messages : List Message) (s : QueueSetting) (h : List Entry) (trouble : Option Trouble) (hand : List Entry) (new : Devices D F) where
+  abbrev of_kind : Bool
+  of_kind = is_fifo config.kind
 
-pub gone_on : {D F : Type 0} (m : DiskMeaning D) → OrdinaryRunGoesOn → (callers : Outside F) (line : List ℕ → List ℕ) (config : Config) (calls visibility : ℕ) (f : FilesState D) (messages : List Message) (s : QueueSetting) (h : List Entry) (trouble : Option Trouble)
-    (hand : List Entry) (new : Devices D F) (one other bytes : List ℕ) (fifo : Bool) (life : List Stage) → IsGoneOnWith m callers line config calls visibility f messages s h trouble hand new one other bytes fifo life
-gone_on m goes callers line config calls visibility f messages s h trouble hand new one other bytes fifo life opened setting headline may is_life found =
-    let valid : HasValidMessages s = record { valid = headline.valid; few = headline.few } in
-    let o = headline.crash may.honest may.settled one other may.journal_since may.spare_since in
-    let first = first_texts (queue_payload s.messages) (reverse h ++ hand) o.front o.rest o.split in
-    let kept = kept_of s h hand first.front first.rest (legal_here s h headline.legal_trace) headline.hand_follows (few_in_hand trouble hand headline.in_hand) first.split in
-    let list : List (List ℕ) = content_after s kept.0 f.pair.payloads in
-    let over : IsOpenedOver s f.pair.payloads = record { told = f.said; tells = opened.tells; found = ap (λ (v : QueueSetting). v.deletions) setting.opened } in
-    let on : GoesOn list f.pair.payloads = goes s kept.0 f.pair.payloads over valid kept.1.legal opened.good in
-    let image : m.image f.failures bytes = (headline.failures_read.any_moment may.honest_lines).each bytes may.lines_since in
-    let lines : OpensTo (header_of 1) f.dest.payloads bytes = subst (OpensTo (header_of 1) f.dest.payloads) (sym (may.settled_lines bytes image)) (opened.opens_lines may.honest_lines) in (
-      list,
+  run_over : HasRunOver m callers line config calls visibility f messages s h trouble hand new → (recorded : List Entry) → LegalQueue s recorded → IsRecorded h recorded → IsRunOver of_kind (stage_of s h recorded) f.pair.payloads
+  run_over run recorded legal kept = record {
+    kind = ap (λ (v : QueueSetting). is_fifo v.config.kind) run.is_setting.opened;
+    opened = record { told = f.said; tells = run.opened.tells; found = ap (λ (v : QueueSetting). v.deletions) run.is_setting.opened };
+    messages = record { valid = run.headline.valid; few = run.headline.few };
+    legal = legal_here s h run.headline.legal_trace;
+    legal_recorded = legal;
+    kept = kept;
+  }
+
+  pub of_stage : (one other bytes : List ℕ) → IsLeftByStage m callers line config calls visibility f messages s h trouble hand new one other bytes
+  of_stage one other bytes run may =
+      let head = run.headline in
+      let o = head.crash may.honest may.settled one other may.journal_since may.spare_since in
+      let first = first_texts (queue_payload s.messages) (reverse h ++ hand) o.front o.rest o.split in
+      let kept = kept_of s h hand first.front first.rest (legal_here s h head.legal_trace) head.hand_follows (few_in_hand trouble hand head.in_hand) first.split in
+      let image : m.image f.failures bytes = (head.failures_read.any_moment may.honest_lines).each bytes may.lines_since in (
+        record {
+          recorded = kept.0;
+          run_over = run_over run kept.0 kept.1.legal kept.1.recorded;
+          content_is = subst (λ (payloads : List (List ℕ)). PairOpensTo (header_of 2) f.pair.epoch (f.pair.payloads ++ payloads) one other) (sym first.are ∙ kept.1.texts) o.opens;
+        },
+        subst (OpensTo (header_of 1) f.dest.payloads) (sym (may.settled_lines bytes image)) (run.opened.opens_lines may.honest_lines),
+      )
+
+  pub of_whole : IsWholeStage m callers line config calls visibility f messages s h trouble hand new
+  of_whole run not = record {
+    run_over = run_over run h (legal_here s h run.headline.legal_trace) (inl ([], refl));
+    content_is = run.headline.journal_kept not;
+    lines_are = run.headline.failures_same;
+  }
+
+  pub of_life : (one other bytes : List ℕ) (life : List Stage) → GoesOnWithStage m callers line config calls visibility f messages s h trouble hand new one other bytes life
+  of_life one other bytes life run may found =
+      let left = of_stage one other bytes run may in
       record {
-        is_life = (is_life, subst (GoesOn list) found.content_is on);
-        content_is = subst (λ (payloads : List (List ℕ)). pair_opened (header_of 2) one other ≡ Holding f.pair.epoch (f.pair.payloads ++ payloads)) (sym first.are ∙ kept.1.texts) o.opens.0;
-        lines_are = subst (λ (ls : List (List ℕ)). OpensTo (header_of 1) ls bytes) found.lines_are lines;
-      },
-    )
+        recorded = left.0.recorded;
+        opens = record {
+          is_life = (found.is_life, subst (IsRunOver of_kind (stage_of s h left.0.recorded)) found.content_is left.0.run_over);
+          content_is = subst (λ (old : List (List ℕ)). pair_opened (header_of 2) one other ≡ Holding f.pair.epoch (content_after s left.0.recorded old)) found.content_is left.0.content_is.0;
+          lines_are = subst (λ (lines : List (List ℕ)). OpensTo (header_of 1) lines bytes) found.lines_are left.1;
+        };
+      }
+
+-- and of a life
+
+pub keeps_laws : AreQueueLaws → (fifo : Bool) (s : QueueSetting) (h recorded : List Entry) (life : List Stage) → KeepsLawsInLife fifo s h recorded life
+keeps_laws laws fifo s h recorded life is over =
+    let r = stage_of s h recorded in
+    (laws_kept laws fifo (Ran r) r life (is, over) refl, laws.earned fifo r life (is, over))
+
+-- what was opened is one
+same_held : (epoch other : ℕ) (payloads list : List (List ℕ)) (o : Opening) → o ≡ Holding epoch payloads → o ≡ Holding other list → payloads ≡ list
+same_held epoch other payloads list o one two =
+    let both : Holding epoch payloads ≡ Holding other list = sym one ∙ two in cc
+
+pub found_again : {D : Type 0} (m : DiskMeaning D) (f : FilesState D) (fifo : Bool) (life : List Stage) (epoch : ℕ) → IsFoundAgain m f fifo life epoch
+found_again m f fifo life epoch opened honest honest_lines opens =
+    let lines = opened.opens_lines honest_lines in
+    record {
+      is_life = opens.is_life;
+      content_is = same_held f.pair.epoch epoch f.pair.payloads (content life) (pair_opened (header_of 2) (m.content f.journal) (m.content f.spare)) (opened.opens honest) opens.content_is;
+      lines_are = same_held lines.0 opens.lines_are.0 f.dest.payloads (dead_lines life) (file_opened (header_of 1) (m.content f.failures)) lines.1 opens.lines_are.1;
+    }
+
+pub compacted : {D : Type 0} (m : DiskMeaning D) (fifo : Bool) (life : List Stage) (epoch : ℕ) (journal spare journal' spare' : D) (one other bytes : List ℕ)
+    → IsCompactedLife m fifo life epoch journal spare journal' spare' one other bytes
+compacted m fifo life epoch journal spare journal' spare' one other bytes compacting honest settled opens since since_spare =
+    elim (compacting honest settled epoch (content life) opens.content_is one other since since_spare) [
+      | inl old ↦ inl (record { is_life = opens.is_life; content_is = old; lines_are = opens.lines_are })
+      | inr new ↦ inr (new.0, record { is_life = (opens.is_life, record { same = new.1.same; good = new.1.good_again }); content_is = new.2; lines_are = opens.lines_are })
+    ]
+
+pub migrated : {D : Type 0} (m : DiskMeaning D) (fifo : Bool) (life : List Stage) (journal spare journal' spare' : D) (payloads : List (List ℕ)) (bytes : List ℕ) → IsMigratedLife m fifo life journal spare journal' spare' payloads bytes
+migrated m fifo life journal spare journal' spare' payloads bytes is same lines done = record {
+  is_life = is;
+  content_is = subst (λ (list : List (List ℕ)). pair_opened (header_of 2) (m.content journal') (m.content spare') ≡ Holding (done.epoch + 1) list) same done.holds.opens;
+  lines_are = lines;
+}
+
+pub migrating : {D : Type 0} (m : DiskMeaning D) (fifo : Bool) (life : List Stage) (epoch : ℕ) (journal spare journal' spare' : D) (one other bytes : List ℕ) → IsMigratingLife m fifo life epoch journal spare journal' spare' one other bytes
+migrating m fifo life epoch journal spare journal' spare' one other bytes moving honest settled opens since since_spare =
+    elim (moving.version_1 honest settled opens.version epoch (content life) opens.content_is one other since since_spare) [
+      | inl old ↦ inl (record { is_life = opens.is_life; version = old.0; content_is = old.1; lines_are = opens.lines_are })
+      | inr new ↦ inr (record { is_life = opens.is_life; content_is = new; lines_are = opens.lines_are })
+    ]
+
+pub same_life : {D : Type 0} (m : DiskMeaning D) (fifo : Bool) (life : List Stage) (epoch : ℕ) (journal spare failures journal' spare' failures' : D) (one other bytes : List ℕ)
+    → IsSameLife m fifo life epoch journal spare failures journal' spare' failures' one other bytes
+same_life m fifo life epoch journal spare failures journal' spare' failures' one other bytes unwritten honest settled honest_lines settled_lines opens since spare_since lines_since =
+    let first : one ≡ m.content journal = settled.0 one ((unwritten.0.0.any_moment honest.0).each one since) in
+    let second : other ≡ m.content spare = settled.1 other ((unwritten.0.1.any_moment honest.1).each other spare_since) in
+    let third : bytes ≡ m.content failures = settled_lines bytes ((unwritten.1.any_moment honest_lines).each bytes lines_since) in
+    subst (λ (x : List ℕ). OpensToLife fifo life epoch x other bytes) (sym first)
+    (subst (λ (y : List ℕ). OpensToLife fifo life epoch (m.content journal) y bytes) (sym second)
+    (subst (OpensToLife fifo life epoch (m.content journal) (m.content spare)) (sym third) opens))
+
+-- fresh files open to nothing
+
+pub life_begun : {D : Type 0} (m : DiskMeaning D) (old new : FolderDisks D) (fifo : Bool) → IsLifeBegun m old new fifo
+life_begun m old new fifo made honest =
+    let journal = made file.Journal (honest file.Journal) in
+    let spare = made file.Spare (honest file.Spare) in
+    let lines = made file.Failures (honest file.Failures) in
+    record {
+      settled = (
+        settled_so (fresh_bytes file.Journal) (m.content new.journal) (m.image new.journal) journal.1 journal.2,
+        settled_so (fresh_bytes file.Spare) (m.content new.spare) (m.image new.spare) spare.1 spare.2,
+      );
+      settled_lines = settled_so (fresh_bytes file.Failures) (m.content new.failures) (m.image new.failures) lines.1 lines.2;
+      opens =
+          subst (λ (x : List ℕ). OpensToLife fifo [] 1 x (m.content new.spare) (m.content new.failures)) (sym journal.1)
+          (subst (λ (y : List ℕ). OpensToLife fifo [] 1 (fresh_bytes file.Journal) y (m.content new.failures)) (sym spare.1)
+          (subst (OpensToLife fifo [] 1 (fresh_bytes file.Journal) (fresh_bytes file.Spare)) (sym lines.1)
+          (record { is_life = tt; content_is = refl; lines_are = (1, refl) })));
+    }

@@ -9,34 +9,32 @@ use Rattle.std.proofs.lemmas.List.Folds.{list_any-append}
 use Rattle.esm_io.specs.Images.{Only}
 use Rattle.esm_io.specs.Meanings.{DiskMeaning}
 use Rattle.esm_book.specs.Hand.{is_end}
-use Rattle.esm_folder.specs.declared.disks.Disks.{Disks as FolderDisks}
-use Rattle.esm_folder.specs.Init.{fresh_bytes}
-use Rattle.esm_journal.specs.File.{header_of, Holding, Opening, opened as file_opened}
+use Rattle.esm_journal.specs.File.{header_of, Holding}
 use Rattle.esm_journal.specs.Pair.{PairOpensTo, pair_opened}
 use Rattle.esm_journal.specs.State.{OpensTo}
 use Rattle.esm_journal_record.specs.EntryPayload.{queue_payload}
-use Rattle.esm_journal_state.specs.Compact.{SameSaid}
-use Rattle.esm_journal_state.specs.Meaning.{are_good, history}
 use Rattle.esm_model.specs.declared.book.Trouble.{Trouble}
 use Rattle.esm_model.specs.declared.book.Trouble.TheVariants.{Disk, Dest, Changed}
 use Rattle.esm_model.specs.declared.entry.Entry.{Entry}
 use Rattle.esm_model.specs.declared.entry.Entry.TheVariants.{Came, Began, Ended, Gave, Tried, Closed, Replayed, Shut}
 use Rattle.esm_model.specs.declared.item.Message.{Message}
-use Rattle.esm_model.specs.declared.names.FileName.TheVariants as file
 use Rattle.esm_model.specs.Books.{entry_line, lines_of}
 use Rattle.esm_model.specs.Entries.{holds}
 use Rattle.esm_queue_model.specs.QueueSetting.{is_fifo}
 use Rattle.esm_queue_book.specs.Books.{payloads_in}
+use Rattle.esm_queue_life.specs.Life.{Redriven, Stage, content, dead_lines}
 use Rattle.esm_redrive_book.specs.Keeping.{FollowsFront}
 use Rattle.esm_redrive_life.specs.Content.{content_after}
-use Rattle.esm_redrive_life.specs.Life.{GoesOn, IsRedriveOver, Stage, content, dead_lines}
+use Rattle.esm_redrive_life.specs.Life.{IsRedriveOver}
 use Rattle.esm_redrive_model.specs.Due.{lined_places, moved_places}
 use Rattle.esm_redrive_model.specs.RedriveSetting.{RedriveSetting}
 use Rattle.esm_runner.specs.Files.{FilesState}
 use Rattle.esm_runner.specs.Headline.{IsInHand}
 use Rattle.esm_redrive_run.specs.Headline.{Disks, Headline, LinesKept, LinesStopped, Words, dead_letters}
 use Rattle.esm_redrive_run.specs.Stages.{IsLeftOf, IsStage}
-use Rattle.esm_life.specs.Redrives.{GoesOnWithStage, IsCompactedLife, IsFoundAgain, IsLeftByStage, IsLeftWhole, IsLifeBegun, IsSameLife, IsWholeStage, LeftBy, MayBeLeft, OpensToLife, stage_of}
+use Rattle.esm_life.specs.QueueLaws.{AreQueueLaws}
+use Rattle.esm_life.specs.Redrives.{GoesOnWithStage, IsLeftByStage, IsLeftWhole, IsWholeStage, KeepsLawsInLife, LeftBy, MayBeLeft, run_in, stage_of}
+use Rattle.esm_life.proofs.QueueStages.{laws_kept}
 
 -- what ends a call or the input writes nothing
 
@@ -176,7 +174,7 @@ part s h (e ∷ (another ∷ more)) all front rest few split written = absurd (o
 
 pub few_in_hand : (trouble : Option Trouble) (hand : List Entry) → IsInHand trouble hand → length hand ≤ 1
 few_in_hand None hand is = subst (λ (es : List Entry). length es ≤ 1) (sym is) (omega arith)
-few_in_hand (Some Disk) hand is = is
+few_in_hand (Some Disk) hand is = subst (λ (es : List Entry). length es ≤ 1) (sym is.1) (omega arith)
 few_in_hand (Some Dest) hand is = subst (λ (es : List Entry). length es ≤ 1) (sym is) (omega arith)
 few_in_hand (Some (Changed change)) hand is = subst (λ (es : List Entry). length es ≤ 1) (sym is) (omega arith)
 
@@ -267,8 +265,9 @@ module _ {D : Type 0} (m : DiskMeaning D) (gave : ℕ → Bool) (f : FilesState 
       let written : IsWritten s h hand h = subst (λ (es : List Entry). IsWritten s h es h) (sym none)
       (record { left = inl ([], refl); texts = λ text others. ap (filter_map text) (append-nil (reverse h)); places = λ i at. at }) in
       let first = part s h hand h o.front o.rest few o.split written in
+      let tried_one : length tried ≤ 1 = subst (λ (es : List Entry). length es ≤ 1) (sym headline.is_tried.2) (omega arith) in
       joined f s h hand tried h o.front first.0 one other bytes first.1 o.opens
-      (lines_stopped m f s h hand tried new one other bytes may headline.tried_follows headline.is_tried headline.dead_letters_kept)
+      (lines_stopped m f s h hand tried new one other bytes may headline.tried_follows tried_one headline.dead_letters_kept)
 
   pub left_by : (trouble : Option Trouble) → Headline m gave f s h trouble hand tried new → LeftBy f s h hand tried one other bytes
   left_by None headline = lines_up None headline headline.dead_letters_kept
@@ -309,7 +308,7 @@ of_whole m gave f s h (Some (Changed change)) hand tried new headline disk dest 
 
 pub of_life : {D : Type 0} (m : DiskMeaning D) → RunIsStage m → (gave : ℕ → Bool) (w : Words) (f : FilesState D) (messages : List Message) (s : RedriveSetting) (h : List Entry) (trouble : Option Trouble)
     (hand tried : List Entry) (new : Disks D) (one other bytes : List ℕ) (life : List Stage) → GoesOnWithStage m gave w f messages s h trouble hand tried new one other bytes life
-of_life m stage gave w f messages s h trouble hand tried new one other bytes life opened setting headline may is_life found =
+of_life m stage gave w f messages s h trouble hand tried new one other bytes life opened setting headline may found =
     let both = of_stage m stage gave w f messages s h trouble hand tried new one other bytes opened setting headline may in
     let left = both.0 in
     let fifo = is_fifo w.config.kind in
@@ -320,65 +319,18 @@ of_life m stage gave w f messages s h trouble hand tried new one other bytes lif
       recorded = left.recorded;
       lined = left.lined;
       opens = record {
-        is_life = (is_life, over);
+        is_life = (found.is_life, over);
         content_is = subst (λ (old : List (List ℕ)). pair_opened (header_of 2) one other ≡ Holding f.pair.epoch (content_after s.queue left.recorded old)) found.content_is left.content_is.0;
         lines_are = subst (λ (lines : List (List ℕ)). OpensTo (header_of 1) (lines ++ lines_of left.lined) bytes) found.lines_are left.lines_are;
       };
     }
 
--- what was opened is one
-same_held : (epoch other : ℕ) (payloads list : List (List ℕ)) (o : Opening) → o ≡ Holding epoch payloads → o ≡ Holding other list → payloads ≡ list
-same_held epoch other payloads list o one two =
-    let both : Holding epoch payloads ≡ Holding other list = sym one ∙ two in cc
-
-pub found_again : {D : Type 0} (m : DiskMeaning D) (f : FilesState D) (fifo : Bool) (life : List Stage) (epoch : ℕ) → IsFoundAgain m f fifo life epoch
-found_again m f fifo life epoch opened honest honest_lines opens =
-    let lines = opened.opens_lines honest_lines in
-    record {
-      content_is = same_held f.pair.epoch epoch f.pair.payloads (content life) (pair_opened (header_of 2) (m.content f.journal) (m.content f.spare)) (opened.opens honest) opens.content_is;
-      lines_are = same_held lines.0 opens.lines_are.0 f.dest.payloads (dead_lines life) (file_opened (header_of 1) (m.content f.failures)) lines.1 opens.lines_are.1;
-    }
-
-abbrev pub CompactionGoesOn : Type 0
-CompactionGoesOn = (list old : List (List ℕ)) → SameSaid (history (reverse list)) (history (reverse old)) → are_good (reverse list) ≡ true → GoesOn list old
-
-pub compacted : {D : Type 0} (m : DiskMeaning D) → CompactionGoesOn → (fifo : Bool) (life : List Stage) (epoch : ℕ) (journal spare journal' spare' : D) (one other bytes : List ℕ)
-    → IsCompactedLife m fifo life epoch journal spare journal' spare' one other bytes
-compacted m goes_on fifo life epoch journal spare journal' spare' one other bytes compacting honest settled opens since since_spare =
-    elim (compacting honest settled epoch (content life) opens.content_is one other since since_spare) [
-      | inl old ↦ inl (record { is_life = opens.is_life; content_is = old; lines_are = opens.lines_are })
-      | inr new ↦ inr (new.0, record { is_life = (opens.is_life, goes_on new.0 (content life) new.1.same new.1.good_again); content_is = new.2; lines_are = opens.lines_are })
-    ]
-
-pub same_life : {D : Type 0} (m : DiskMeaning D) (fifo : Bool) (life : List Stage) (epoch : ℕ) (journal spare failures journal' spare' failures' : D) (one other bytes : List ℕ)
-    → IsSameLife m fifo life epoch journal spare failures journal' spare' failures' one other bytes
-same_life m fifo life epoch journal spare failures journal' spare' failures' one other bytes unwritten honest settled honest_lines settled_lines opens since spare_since lines_since =
-    let first : one ≡ m.content journal = settled.0 one ((unwritten.0.0.any_moment honest.0).each one since) in
-    let second : other ≡ m.content spare = settled.1 other ((unwritten.0.1.any_moment honest.1).each other spare_since) in
-    let third : bytes ≡ m.content failures = settled_lines bytes ((unwritten.1.any_moment honest_lines).each bytes lines_since) in
-    subst (λ (x : List ℕ). OpensToLife fifo life epoch x other bytes) (sym first)
-    (subst (λ (y : List ℕ). OpensToLife fifo life epoch (m.content journal) y bytes) (sym second)
-    (subst (OpensToLife fifo life epoch (m.content journal) (m.content spare)) (sym third) opens))
-
--- fresh files open to nothing
+-- files that a crash leaves nothing else of
 
 pub settled_so : (bytes content : List ℕ) (images : List ℕ → Type 0) → content ≡ bytes → Only bytes images → Only content images
 settled_so bytes content images is only image at = only image at ∙ sym is
 
-pub life_begun : {D : Type 0} (m : DiskMeaning D) (old new : FolderDisks D) (fifo : Bool) → IsLifeBegun m old new fifo
-life_begun m old new fifo made honest =
-    let journal = made file.Journal (honest file.Journal) in
-    let spare = made file.Spare (honest file.Spare) in
-    let lines = made file.Failures (honest file.Failures) in
-    record {
-      settled = (
-        settled_so (fresh_bytes file.Journal) (m.content new.journal) (m.image new.journal) journal.1 journal.2,
-        settled_so (fresh_bytes file.Spare) (m.content new.spare) (m.image new.spare) spare.1 spare.2,
-      );
-      settled_lines = settled_so (fresh_bytes file.Failures) (m.content new.failures) (m.image new.failures) lines.1 lines.2;
-      opens =
-          subst (λ (x : List ℕ). OpensToLife fifo [] 1 x (m.content new.spare) (m.content new.failures)) (sym journal.1)
-          (subst (λ (y : List ℕ). OpensToLife fifo [] 1 (fresh_bytes file.Journal) y (m.content new.failures)) (sym spare.1)
-          (subst (OpensToLife fifo [] 1 (fresh_bytes file.Journal) (fresh_bytes file.Spare)) (sym lines.1)
-          (record { is_life = tt; content_is = refl; lines_are = (1, refl) })));
-    }
+-- the laws of a life
+
+pub keeps_laws : AreQueueLaws → (fifo : Bool) (s : RedriveSetting) (h recorded lined : List Entry) (life : List Stage) → KeepsLawsInLife fifo s h recorded lined life
+keeps_laws laws fifo s h recorded lined life is over = laws_kept laws fifo (Redriven (stage_of s h recorded lined)) (run_in s h recorded) life (is, over) refl

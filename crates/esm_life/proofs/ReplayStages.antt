@@ -1,5 +1,5 @@
 -- A run of a replay of which the headline holds is a stage of the life of its mapping.
-use Rattle.std.proofs.Common.{◌≡◌, ℕ, ◌≤◌, Bool, List, [], ◌∷◌, ◌++◌, length, arith, Option, Some, None, subst}
+use Rattle.std.proofs.Common.{◌≡◌, ℕ, ◌≤◌, Bool, List, [], ◌∷◌, ◌++◌, length, arith, Option, Some, None, subst, sym}
 use Rattle.esm_io.specs.Meanings.{DiskMeaning}
 use Rattle.esm_journal.specs.File.{header_of, Holding}
 use Rattle.esm_journal.specs.Pair.{pair_opened}
@@ -22,7 +22,7 @@ none_in_hand [] none = omega arith
 none_in_hand (e ∷ hand) none = absurd (cc)
 
 few_in_hand : (trouble : Option Trouble) (hand : List Entry) → IsInHand trouble hand → length hand ≤ 1
-few_in_hand (Some Disk) hand in_hand = in_hand
+few_in_hand (Some Disk) hand in_hand = subst (λ (es : List Entry). length es ≤ 1) (sym in_hand.1) (omega arith)
 few_in_hand (Some Dest) hand in_hand = none_in_hand hand in_hand
 few_in_hand (Some (Changed change)) hand in_hand = none_in_hand hand in_hand
 few_in_hand None hand in_hand = none_in_hand hand in_hand

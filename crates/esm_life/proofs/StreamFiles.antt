@@ -23,8 +23,9 @@ use Rattle.esm_runner.specs.Files.{FilesState, IsOpenedFiles}
 use Rattle.esm_runner.specs.Headline.{Devices, HandFollows, IsSettingOf}
 use Rattle.esm_workers.specs.Working.{Outside}
 use Rattle.esm_history.specs.Content.{GoesOnFrom, IsOpenedOver, content_after}
-use Rattle.esm_life.specs.Life.{AreBetween, CheckpointIsRuns, CheckpointStays, EachIsEarned, FateStays, IsLife, IsRecorded, IsRunOver, KeysInOrder, NoneIsCalledAgain, Ran, Run, Stage, content}
+use Rattle.esm_life.specs.Life.{AreBetween, CheckpointIsRuns, CheckpointStays, EachFateOnce, EachIsEarned, FateStays, IsLife, IsRecorded, IsRunOver, KeysInOrder, NoneIsCalledAgain, Ran, Run, Stage, content}
 use Rattle.esm_life.specs.Streams.{GoesOnWithStage, HasRunOver, IsCompactedLife, IsFoundAgain, IsLeftByStage, IsMigratedLife, IsMigratingLife, IsNewLife, IsSameLife, IsWholeStage, KeepsLawsInLife, OpensToLife, stage_of}
+use Rattle.esm_life.specs.Tries.{TriesGoOn}
 use Rattle.esm_life.proofs.RedriveFiles.{all_texts, few_in_hand, reversed, settled_so}
 
 -- what ends a call or the input writes nothing
@@ -153,6 +154,8 @@ pub record AreLawsOfLife : Type 0 where
   pub checkpoint_stays : (later before : List Stage) → IsLife (later ++ before) → CheckpointStays later before
   pub checkpoint_is : (r : Run) (before : List Stage) → IsLife (Ran r ∷ before) → CheckpointIsRuns r before
   pub knows : (r next : Run) (between before : List Stage) → IsLife (Ran next ∷ between ++ Ran r ∷ before) → AreBetween between → HasStreamFields r.setting.config → GoesOnFrom r.setting r.recorded next.setting
+  pub once : (life : List Stage) → IsLife life → EachFateOnce life
+  pub finds_tries : (r next : Run) (between before : List Stage) → IsLife (Ran next ∷ between ++ Ran r ∷ before) → AreBetween between → HasStreamFields r.setting.config → TriesGoOn r.setting r.recorded next.setting
 
 stream_fields : (c : Config) → IsStreamConfig c → HasStreamFields c
 stream_fields c is = subst (λ k. HasFieldsOf k c) is.kind is.valid.fields
@@ -172,6 +175,8 @@ keeps_laws m laws callers line config calls f records s h trouble hand new life 
       checkpoint_stays = laws.checkpoint_stays (Ran r ∷ []) life is;
       checkpoint_is_runs = laws.checkpoint_is r life is;
       goes_on = λ next between on no_run. laws.knows r next between life on no_run fields;
+      each_fate_once = laws.once (Ran r ∷ life) is;
+      tries_go_on = λ next between on no_run. laws.finds_tries r next between life on no_run fields;
     }
 
 -- what was opened is one

@@ -1,6 +1,6 @@
 -- The life of a stream's mapping: its runs and its replays, however each stopped, and what was written in place of its journal's
 -- content between them. What came last stands first. This product's own.
-use Rattle.std.specs.Prelude.{◌≡◌, ◌⊎◌, ℕ, ◌<◌, ◌≤◌, Bool, true, false, IsTrue, IsSome, List, [], ◌∷◌, ◌++◌, length, Option, Some, None, is_some, option_map, reverse, take_while}
+use Rattle.std.specs.Prelude.{◌≡◌, ◌⊎◌, ℕ, ◌+◌, ◌<◌, ◌≤◌, ◌==◌, ◌&&◌, Bool, true, false, IsTrue, IsSome, List, [], ◌∷◌, ◌++◌, length, Option, Some, None, is_some, option_map, reverse, take_while, if◌then◌else◌}
 use Rattle.std.specs.List.{list_any, list_all}
 use Rattle.esm_book.specs.Hand.{is_end}
 use Rattle.esm_model.specs.declared.item.Record.{Record}
@@ -15,9 +15,11 @@ use Rattle.esm_model.specs.Fates.{below, names_place}
 use Rattle.esm_model.specs.Checkpoint.{checkpoint}
 use Rattle.esm_model.specs.Step.{Legal}
 use Rattle.esm_model.specs.Earned.{IsEarned}
+use Rattle.esm_journal_record.specs.declared.said.Said.{Said}
+use Rattle.esm_journal_record.specs.declared.said.Said.TheVariants.{Fates}
 use Rattle.esm_journal_record.specs.EntryPayload.{AllMayBeSaid}
 use Rattle.esm_journal_state.specs.declared.kept.KeptFate.{KeptFate}
-use Rattle.esm_journal_state.specs.Meaning.{fate_said, history, are_good, replayed_said}
+use Rattle.esm_journal_state.specs.Meaning.{fate_said, history, are_good, replayed_said, text_named}
 use Rattle.esm_journal_state.specs.Compact.{SameSaid}
 use Rattle.esm_history.specs.Content.{IsOpenedOver, content_after}
 use Rattle.esm_replay_life.specs.ReplayLife.{IsReplayRunOver, ReplayRun, replays_naming}
@@ -132,6 +134,19 @@ KeysInOrder r before =
     → (i j : ℕ) (one other : Record) → record_at r.setting lane.shard i ≡ Some one → record_at r.setting lane.shard j ≡ Some other → other.key ≡ one.key
     → IsTrue (holds places i) → j < i
     → IsTrue (holds places j) ⊎ (IsSome (recorded_fate before lane.shard j) ⊎ IsTrue (list_any (names_place lane.shard j) earlier))
+
+abbrev pub fates_after : ℕ → ℕ → ℕ → Said → ℕ
+fates_after n i before (Fates shard fate moment state places texts) = (if (shard == n) && is_some (text_named places texts i) then 1 else 0) + before
+fates_after n i before _ = before
+
+-- how many payloads of kind 1 name the record
+abbrev pub fates_naming : List Said → ℕ → ℕ → ℕ
+fates_naming [] n i = 0
+fates_naming (s ∷ h) n i = fates_after n i (fates_naming h n i) s
+
+-- one payload of the content at most says the fate of a record
+abbrev pub EachFateOnce : List Stage → Type 0
+EachFateOnce life = (n i : ℕ) → fates_naming (history (reverse (content life))) n i ≤ 1
 
 -- one payload of the content at most says of a record that it was replayed
 abbrev pub EachReplayedOnce : List Stage → Type 0

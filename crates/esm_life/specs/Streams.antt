@@ -23,7 +23,8 @@ use Rattle.esm_runner.specs.Files.{FilesState, IsOpenedFiles}
 use Rattle.esm_runner.specs.Headline.{Devices, Headline, IsSettingOf, telling}
 use Rattle.esm_workers.specs.Working.{Outside}
 use Rattle.esm_history.specs.Content.{GoesOnFrom, OwesNothing, content_after}
-use Rattle.esm_life.specs.Life.{AreBetween, CheckpointIsRuns, CheckpointStays, EachIsEarned, FateStays, IsLife, IsRunOver, KeysInOrder, NoneIsCalledAgain, Ran, Replay, Rewritten, Run, Stage, content}
+use Rattle.esm_life.specs.Life.{AreBetween, CheckpointIsRuns, CheckpointStays, EachFateOnce, EachIsEarned, FateStays, IsLife, IsRunOver, KeysInOrder, NoneIsCalledAgain, Ran, Replay, Rewritten, Run, Stage, content}
+use Rattle.esm_life.specs.Tries.{TriesGoOn}
 
 -- one run
 
@@ -136,7 +137,8 @@ IsSameLife m life epoch journal spare journal' spare' one other =
 -- What holds over a life for a further run in it. A recorded fate stays, and one that is recorded in the run is earned in it. No
 -- call of the run holds a record that had a recorded fate when it began, or was given one in it before the call; and the calls of
 -- all runs together keep the order of each key. The recorded checkpoint does not fall, and is that of what the journal recorded.
--- The next run, whenever it is, finds what this one knew.
+-- The next run, whenever it is, finds what this one knew; of tries too, but for one at most that an end of a call counted and whose
+-- entry does not stand. One payload at most says the fate of a record.
 pub record KeepsLaws (r : Run) (life : List Stage) : Type 0 where
   pub fates_stay : FateStays (Ran r ∷ []) life
   pub each_is_earned : EachIsEarned r life
@@ -145,6 +147,8 @@ pub record KeepsLaws (r : Run) (life : List Stage) : Type 0 where
   pub checkpoint_stays : CheckpointStays (Ran r ∷ []) life
   pub checkpoint_is_runs : CheckpointIsRuns r life
   pub goes_on : (next : Run) (between : List Stage) → IsLife (Ran next ∷ between ++ Ran r ∷ life) → AreBetween between → GoesOnFrom r.setting r.recorded next.setting
+  pub each_fate_once : EachFateOnce (Ran r ∷ life)
+  pub tries_go_on : (next : Run) (between : List Stage) → IsLife (Ran next ∷ between ++ Ran r ∷ life) → AreBetween between → TriesGoOn r.setting r.recorded next.setting
 
 -- laws of one run
 

@@ -5,6 +5,7 @@
 
 mod laws;
 pub mod life;
+pub mod queues;
 pub mod redrives;
 pub mod replays;
 pub mod streams;

@@ -5,7 +5,8 @@ ghost use Rattle.esm_journal_state.specs.Meaning.{are_good};
 ghost use Rattle.esm_model.specs.Valid.{HasStreamFields};
 ghost use Rattle.esm_folder.specs.Upkeep.{AreCompacted};
 ghost use Rattle.esm_history.specs.Content.{GoesOnFrom};
-ghost use Rattle.esm_life.specs.Life.{AreBetween, Run, Stage, Ran, content, IsLife, SaysTheSame, FateStays, EachIsEarned, NoneIsCalledAgain, KeysInOrder, CheckpointStays, CheckpointIsRuns, EachReplayedOnce, NoneIsReplayedAgain, Replay, ReplaysStay};
+ghost use Rattle.esm_life.specs.Life.{AreBetween, Run, Stage, Ran, content, IsLife, SaysTheSame, FateStays, EachIsEarned, NoneIsCalledAgain, KeysInOrder, CheckpointStays, CheckpointIsRuns, EachFateOnce, EachReplayedOnce, NoneIsReplayedAgain, Replay, ReplaysStay};
+ghost use Rattle.esm_life.specs.Tries.{TriesGoOn};
 ghost use Rattle.esm_replay_life.specs.ReplayLife.{EachIsAnswered, ReplayRun};
 
 use crate::laws::replay_laws_hold;
@@ -14,6 +15,21 @@ use crate::laws::replay_laws_hold;
 /// stand between them.
 pub fn each_run_goes_on()
     ensures { (r next : Run) (between before : List Stage) → IsLife (Ran next ∷ between ++ Ran r ∷ before) → AreBetween between → HasStreamFields r.setting.config → GoesOnFrom r.setting r.recorded next.setting }
+{
+    replay_laws_hold();
+}
+
+/// Wherever a run stopped, the next one finds the tries that it knew, where no lane is owed one; in any case no more, and one less at
+/// most.
+pub fn each_run_finds_tries()
+    ensures { (r next : Run) (between before : List Stage) → IsLife (Ran next ∷ between ++ Ran r ∷ before) → AreBetween between → HasStreamFields r.setting.config → TriesGoOn r.setting r.recorded next.setting }
+{
+    replay_laws_hold();
+}
+
+/// One payload at most says the fate of a record.
+pub fn each_fate_once()
+    ensures { (life : List Stage) → IsLife life → EachFateOnce life }
 {
     replay_laws_hold();
 }

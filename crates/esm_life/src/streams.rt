@@ -16,8 +16,9 @@ ghost use Rattle.esm_life.specs.Life.{Stage};
 ghost use Rattle.esm_life.specs.Streams.{IsLeftByStage, IsWholeStage, GoesOnWithStage, KeepsLawsInLife, IsFoundAgain, IsNewLife, IsCompactedLife, IsMigratedLife, IsMigratingLife, IsReplayedLife, IsSameLife};
 
 use crate::life::{
-    each_is_earned, each_run_goes_on, fate_stays, keys_in_order, none_is_called_again,
-    recorded_checkpoint_is_the_runs, recorded_checkpoint_stays,
+    each_fate_once, each_is_earned, each_run_finds_tries, each_run_goes_on, fate_stays,
+    keys_in_order, none_is_called_again, recorded_checkpoint_is_the_runs,
+    recorded_checkpoint_stays,
 };
 use esm_io::{Caller, Disk};
 
@@ -57,6 +58,8 @@ pub fn run_keeps_laws<D: Disk, F: Caller>()
     recorded_checkpoint_stays();
     recorded_checkpoint_is_the_runs();
     each_run_goes_on();
+    each_fate_once();
+    each_run_finds_tries();
 }
 
 /// The next run finds what the life leaves.

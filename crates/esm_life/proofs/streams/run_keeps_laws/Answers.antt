@@ -11,4 +11,6 @@ returns g c = keeps_laws (meaning g.D.Disk) (record {
   checkpoint_stays = c.recorded_checkpoint_stays.ensures;
   checkpoint_is = c.recorded_checkpoint_is_the_runs.ensures;
   knows = c.each_run_goes_on.ensures;
+  once = c.each_fate_once.ensures;
+  finds_tries = c.each_run_finds_tries.ensures;
 })

@@ -1,6 +1,0 @@
-use Rattle.esm_io.specs.Meanings.{disk as meaning}
-use Rattle.esm_life.proofs.RedriveFiles.{compacted}
-use Rattle.esm_life.proofs.redrives.compacted_life_goes_on.Goals as goal
-
-pub returns : goal.returns
-returns g c = compacted (meaning g.D.Disk) c.compaction_goes_on.ensures

@@ -1,0 +1,5 @@
+use Rattle.esm_life.proofs.RedriveFiles.{keeps_laws}
+use Rattle.esm_life.proofs.redrives.run_keeps_laws.Goals as goal
+
+pub returns : goal.returns
+returns c = keeps_laws c.queue_laws_hold.ensures
