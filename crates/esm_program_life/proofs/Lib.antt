@@ -1,0 +1,10 @@
+pub mod ReadInputs
+pub mod Disks
+pub mod Runs
+pub mod Replays
+pub mod StreamCommands
+pub mod Steps
+pub mod QueueDisks
+pub mod QueueRuns
+pub mod QueueCommands
+pub mod QueueSteps

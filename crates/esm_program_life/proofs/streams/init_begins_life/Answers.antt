@@ -1,0 +1,7 @@
+use Rattle.esm_program_life.proofs.Steps.{begins}
+use Rattle.esm_program_life.proofs.streams.init_begins_life.Goals as goal
+use Rattle.esm_run.specs.World.{devices}
+
+pub returns : goal.returns
+returns g c = λ words old new status said spelled.
+    begins (devices g.C.Clock g.F.Caller g.D.Disk g.S.Source g.K.Sink g.L.Door g.L.Conn.Link) words old new status said c.one_command.ensures c.life_begins.ensures spelled

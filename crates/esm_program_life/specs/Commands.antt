@@ -1,0 +1,108 @@
+-- Commands of a stream's folder one after the other, each ended or stopped at any moment, and what they leave of its life. What came
+-- last stands first. This product's own.
+use Rattle.std.specs.Prelude.{◌≡◌, ◌⊎◌, ◌+◌, ◌∷◌, ◌++◌, ℕ, true, List, [], Option, Some, None}
+use Rattle.esm_cli.specs.declared.command.Command.{Command}
+use Rattle.esm_cli.specs.declared.command.Command.TheVariants.{Migrate}
+use Rattle.esm_folder.specs.Upkeep.{AreHonest, AreSettled}
+use Rattle.esm_life.specs.Life.{Stage}
+use Rattle.esm_life.specs.Streams.{OpensToLife, OpensToLifeOfVersion1}
+use Rattle.esm_program_life.specs.Reads.{NothingHappened}
+use Rattle.esm_program_life.specs.Streams.{HasLooked, IsSaid, MayAdd, NamesAStream, is_run}
+use Rattle.esm_run.specs.Built.{SpellsBuilt}
+use Rattle.esm_run.specs.World.{DevicesTell}
+use Rattle.esm_run.specs.declared.world.World.{World}
+
+-- The bytes of the journal and of its spare.
+pub record PairBytes : Type 0 where
+  pub journal : List ℕ
+  pub spare : List ℕ
+
+-- A command: its words, which one they spell, the world as it was handed in and as it was handed back, its status, and the bytes that
+-- were left of its files: at its end, or by a crash at a moment since it began.
+pub record Step (S K D C F L B : Type 0) : Type 0 where
+  pub words : List (List ℕ)
+  pub command : Option Command
+  pub old : World S K D C F L
+  pub new : World S K D C F L
+  pub status : ℕ
+  pub left : B
+
+-- the words spell this command, or none
+abbrev pub Spell : List (List ℕ) → Option Command → Type 0
+Spell words (Some c) = SpellsBuilt words c
+Spell words None = (c : Command) → ¬ SpellsBuilt words c
+
+-- what is asked of the command
+abbrev pub IsFit : {S K D C F L N : Type 0} → DevicesTell S K D F L N → Option Command → (old : World S K D C F L) → (status : ℕ) → Type 0
+IsFit t (Some c) old status = NamesAStream t c old.registry × HasLooked t c old status
+IsFit t None old status = Unit {0}
+
+-- the command began on what was found, and `esm` says so much of its words
+pub record IsStep {S K D C F L N : Type 0} (t : DevicesTell S K D F L N) (found : PairBytes) (step : Step S K D C F L PairBytes) : Type 0 where
+  pub spelled : Spell step.words step.command
+  pub said : IsSaid t step.words step.old step.new step.status
+  pub fit : IsFit t step.command step.old step.status
+  -- its disks had these bytes; they are honest, and were synced when they were opened
+  pub honest : AreHonest t.disk step.old.journal step.old.spare
+  pub settled : AreSettled t.disk step.old.journal step.old.spare
+  pub journal_found : t.disk.content step.old.journal ≡ found.journal
+  pub spare_found : t.disk.content step.old.spare ≡ found.spare
+  -- and a crash may have left those
+  pub journal_left : t.disk.since step.new.journal (t.disk.moment step.old.journal) step.left.journal
+  pub spare_left : t.disk.since step.new.spare (t.disk.moment step.old.spare) step.left.spare
+
+-- what the newest of them left; where there is none, what was found
+abbrev pub left_by : {S K D C F L B : Type 0} → B → List (Step S K D C F L B) → B
+left_by found [] = found
+left_by found (step ∷ steps) = step.left
+
+-- each began on what the one before it left, the oldest on what was found
+abbrev pub AreSteps : {S K D C F L N : Type 0} → DevicesTell S K D F L N → PairBytes → List (Step S K D C F L PairBytes) → Type 0
+AreSteps t found [] = Unit {0}
+AreSteps t found (step ∷ steps) = AreSteps t found steps × IsStep t (left_by found steps) step
+
+-- the command ran no mapping
+abbrev pub RanNone : {S K D C F L : Type 0} → Option Command → (old new : World S K D C F L) → Type 0
+RanNone (Some c) old new = is_run c ≡ true → NothingHappened old new
+RanNone None old new = Unit {0}
+
+-- the stage is one that the command may add; words that spell none add none
+abbrev pub IsAdded : {S K D C F L N : Type 0} → DevicesTell S K D F L N → Option Command → (old new : World S K D C F L) → (status : ℕ) → Stage → Type 0
+IsAdded t (Some c) old new status stage = MayAdd t c old new status stage
+IsAdded t None old new status stage = ⊥
+
+-- the newest of these stages is the command's, and the others are those of the commands before it
+pub record IsLastOf {S K D C F L N : Type 0} (t : DevicesTell S K D F L N) (step : Step S K D C F L PairBytes) (before : List Stage → Type 0) (stages : List Stage) : Type 0 where
+  pub stage : Stage
+  pub stages_before : List Stage
+  pub stages_are : stages ≡ stage ∷ stages_before
+  pub added : IsAdded t step.command step.old step.new step.status stage
+  pub are_before : before stages_before
+
+-- each command added one of the stages, or none where it ran no mapping
+abbrev pub AreStagesOf : {S K D C F L N : Type 0} → DevicesTell S K D F L N → List (Step S K D C F L PairBytes) → List Stage → Type 0
+AreStagesOf t [] stages = stages ≡ []
+AreStagesOf t (step ∷ steps) stages = (AreStagesOf t steps stages × RanNone step.command step.old step.new) ⊎ IsLastOf t step (AreStagesOf t steps) stages
+
+-- what they left opens to the life with the stages that they added
+pub record AddStages {S K D C F L N : Type 0} (t : DevicesTell S K D F L N) (found : PairBytes) (steps : List (Step S K D C F L PairBytes)) (life : List Stage) : Type 0 where
+  pub stages : List Stage
+  pub added : AreStagesOf t steps stages
+  pub epoch : ℕ
+  pub opens : OpensToLife (stages ++ life) epoch (left_by found steps).journal (left_by found steps).spare
+
+abbrev pub StepsKeepLife : {S K D C F L N : Type 0} → DevicesTell S K D F L N → PairBytes → List (Step S K D C F L PairBytes) → List Stage → (epoch : ℕ) → Type 0
+StepsKeepLife t found steps life epoch = AreSteps t found steps → OpensToLife life epoch found.journal found.spare → AddStages t found steps life
+
+-- of a pair of version 1
+
+-- each command was `migrate`
+abbrev pub AreMigrations : {S K D C F L B : Type 0} → List (Step S K D C F L B) → Type 0
+AreMigrations [] = Unit {0}
+AreMigrations (step ∷ steps) = AreMigrations steps × (step.command ≡ Some Migrate)
+
+-- what they left opens to the same life, as the pair that it was or with the next epoch as one of version 2
+abbrev pub StepsMigrateLife : {S K D C F L N : Type 0} → DevicesTell S K D F L N → PairBytes → List (Step S K D C F L PairBytes) → List Stage → (epoch : ℕ) → Type 0
+StepsMigrateLife t found steps life epoch =
+    AreSteps t found steps → AreMigrations steps → OpensToLifeOfVersion1 life epoch found.journal found.spare →
+    OpensToLifeOfVersion1 life epoch (left_by found steps).journal (left_by found steps).spare ⊎ OpensToLife life (epoch + 1) (left_by found steps).journal (left_by found steps).spare

@@ -1,0 +1,5 @@
+pub mod Reads
+pub mod Streams
+pub mod Commands
+pub mod Queues
+pub mod QueueCommands

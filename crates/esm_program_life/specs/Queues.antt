@@ -1,0 +1,205 @@
+-- What a command leaves of the life of a queue's mapping, by the words of its command line and by what `esm` says of them. In each
+-- definition disks and worlds come first as they were handed in, and then as they were handed back. This product's own.
+use Rattle.std.specs.Prelude.{◌≡◌, ◌≢◌, ◌⊎◌, ◌+◌, ◌++◌, ◌∷◌, ℕ, Bool, true, false, List}
+use Rattle.esm_cli.specs.declared.command.Command.{Command}
+use Rattle.esm_cli.specs.declared.command.Command.TheVariants as command
+use Rattle.esm_folder.specs.Init.{AreHonest as AllAreHonest}
+use Rattle.esm_folder.specs.Upkeep.{AreHonest, AreSettled, OneRose}
+use Rattle.esm_io.specs.Faults.{Rose}
+use Rattle.esm_io.specs.Images.{Only}
+use Rattle.esm_io.specs.Meanings.{DiskMeaning}
+use Rattle.esm_io.specs.Told.{Grows}
+use Rattle.esm_life.specs.Queues.{HasBegunLife, OpensToLife, OpensToLifeOfVersion1}
+use Rattle.esm_mapping.specs.Named.{IsExpected, IsNamed}
+use Rattle.esm_mapping.specs.declared.expected.Expected.TheVariants as expected
+use Rattle.esm_mapping.specs.declared.named.NamedMapping.{NamedMapping}
+use Rattle.esm_model.specs.declared.config.Kind.{Kind}
+use Rattle.esm_model.specs.declared.entry.Entry.{Entry}
+use Rattle.esm_model.specs.declared.item.Item.{Item}
+use Rattle.esm_model.specs.declared.item.Message.{Message}
+use Rattle.esm_model.specs.Valid.{is_stream}
+use Rattle.esm_program_life.specs.Reads.{HasRead, NothingHappened}
+use Rattle.esm_program_life.specs.Streams.{HasLooked}
+use Rattle.esm_queue_life.specs.Life.{Ran, Redriven, Rewritten, Run, Stage}
+use Rattle.esm_queue_model.specs.QueueSetting.{is_fifo}
+use Rattle.esm_redrive_life.specs.Life.{IsWhole as IsWholeRedrive, Redrive}
+use Rattle.esm_redrive_model.specs.RedriveReport.{redrive_calls}
+use Rattle.esm_run.specs.FirstCaller.{IsFirstUsed}
+use Rattle.esm_run.specs.World.{DevicesTell, disks_in, history, of_run}
+use Rattle.esm_run.specs.declared.world.World.{World}
+use Rattle.esm_runner.specs.Headline.{Telling}
+use Rattle.esm_runner.specs.QueueComing.{messages_in_items}
+use Rattle.esm_runner.specs.QueueEnded.{line_kind}
+use Rattle.esm_runner.specs.QueueHeadline.{CallsMade, CallsMadeOrOneMore}
+use Rattle.esm_runner.specs.QueueStopping.{HasLogged}
+use Rattle.esm_workers.specs.Working.{Outside}
+
+-- what is asked of a command
+
+-- The pair opens to the content that a life leaves, and the dead-letter file to its lines. The disks are honest, and each has one
+-- image, as a disk has that was synced when it was opened.
+pub record HasLife {D : Type 0} (m : DiskMeaning D) (fifo : Bool) (life : List Stage) (epoch : ℕ) (journal spare failures : D) : Type 0 where
+  pub honest : AreHonest m journal spare
+  pub honest_lines : m.honest failures ≡ true
+  pub settled : AreSettled m journal spare
+  pub settled_lines : Only (m.content failures) (m.image failures)
+  pub opens : OpensToLife fifo life epoch (m.content journal) (m.content spare) (m.content failures)
+
+-- a queue of this kind, FIFO or standard
+abbrev pub IsQueueOf : Bool → Kind → Type 0
+IsQueueOf fifo kind = (is_stream kind ≡ false) × (is_fifo kind ≡ fifo)
+
+-- The mapping that the words name is a queue's, of this kind, if they name one that may run. This asks nothing of a command that names
+-- no mapping; of `ddb` and `replay`, which take a stream's alone, it asks that the words name none that may run. A mapping with an id
+-- is one that the registry's file says, as far as its disk is honest: of a disk that is not, the id may name any mapping, and this does
+-- not hold.
+abbrev pub NamesAQueue : {S K D F L N : Type 0} → DevicesTell S K D F L N → Bool → Command → (registry : D) → Type 0
+NamesAQueue t fifo (command.Run r) registry = (mapping : NamedMapping) → IsNamed t.disk r.which registry mapping → IsQueueOf fifo mapping.config.kind
+NamesAQueue t fifo (command.Redrive config receives calls visibility timeout traced) registry = (mapping : NamedMapping) → IsExpected expected.Queue config mapping → IsQueueOf fifo mapping.config.kind
+NamesAQueue t fifo (command.Ddb config calls timeout traced) registry = (mapping : NamedMapping) → IsExpected expected.DynamoDb config mapping → IsQueueOf fifo mapping.config.kind
+NamesAQueue t fifo (command.Replay config calls timeout traced) registry = (mapping : NamedMapping) → IsExpected expected.Stream config mapping → IsQueueOf fifo mapping.config.kind
+NamesAQueue t fifo _ registry = Unit {0}
+
+-- the bytes that a crash may leave of the dead-letter file: of a redrive those at its end, else those at any moment since the
+-- command began
+abbrev pub MayBeLines : {S K D C F L N : Type 0} → DevicesTell S K D F L N → Command → (old new : World S K D C F L) → List ℕ → Type 0
+MayBeLines t (command.Redrive config receives calls visibility timeout traced) old new bytes = t.disk.image new.failures bytes
+MayBeLines t _ old new bytes = t.disk.since new.failures (t.disk.moment old.failures) bytes
+
+-- stages
+
+-- The run of a stage is the command's. What happened in it is the history that the command left, over the mapping and the calls of
+-- its words; its messages are the first of those that were read of the input; and caller k's log, where told, is the old one followed by
+-- the calls of batcher k in that run, or where want of memory stopped it perhaps by one further call of a lane that still runs.
+pub record IsRunOf {D F : Type 0} (t : Telling D F) (status : ℕ) (names : NamedMapping → Type 0) (reads : NamedMapping → List Item → Type 0) (calls : ℕ) (h : List Entry) (old new : List F) (run : Run) : Type 0 where
+  pub mapping : NamedMapping
+  pub named : names mapping
+  pub config_is : run.setting.config ≡ mapping.config
+  pub calls_are : run.setting.calls ≡ calls
+  pub items : List Item
+  pub read : reads mapping items
+  pub came : (rest : List Message) × (messages_in_items items ≡ run.setting.messages ++ rest)
+  pub happened_is : run.happened ≡ h
+  pub calls_made : CallsMadeOrOneMore t run.setting h old new
+  pub calls_ended : status ≢ 70 → CallsMade t run.setting h old new
+
+-- The redrive of a stage is the command's; of the callers the first one alone was used. Its messages are the first of those that were
+-- read of the input.
+pub record IsRedriveOf {F : Type 0} (callers : Outside F) (status : ℕ) (config : List ℕ) (reads : NamedMapping → List Item → Type 0) (receives calls : ℕ) (h : List Entry) (old new : List F) (redrive : Redrive) : Type 0 where
+  pub mapping : NamedMapping
+  pub named : IsExpected expected.Queue config mapping
+  pub config_is : redrive.setting.queue.config ≡ mapping.config
+  pub receives_are : redrive.setting.max_receives ≡ receives
+  pub calls_are : redrive.setting.queue.calls ≡ calls
+  pub items : List Item
+  pub read : reads mapping items
+  pub came : (rest : List Message) × (messages_in_items items ≡ redrive.setting.queue.messages ++ rest)
+  pub happened_is : redrive.happened ≡ h
+  pub caller : F
+  pub caller_left : F
+  pub first_used : IsFirstUsed old new caller caller_left
+  pub calls_made : HasLogged callers.sends redrive.setting.queue h 0 (callers.log caller) (callers.log caller_left)
+  pub calls_ended : status ≢ 70 → Grows (callers.log caller) (callers.log caller_left) (redrive_calls redrive.setting callers.sends h)
+
+-- what was read of the input
+abbrev pub reads_messages : {S K D C F L N : Type 0} → DevicesTell S K D F L N → (status : ℕ) → (old new : World S K D C F L) → NamedMapping → List Item → Type 0
+reads_messages t status old new mapping items = HasRead t.left (line_kind mapping.config) mapping.config.factor mapping.config.start status old.input new.input items
+
+-- the stage that a command may add to a life: `run` a run of its own, `redrive` a redrive of its own, `compact` the list that it
+-- wrote, and no other command any
+abbrev pub MayAdd : {S K D C F L N : Type 0} → DevicesTell S K D F L N → Command → (old new : World S K D C F L) → (status : ℕ) → Stage → Type 0
+MayAdd t (command.Run r) old new status (Ran run) = IsRunOf (of_run t).run status (λ mapping. IsNamed t.disk r.which old.registry mapping) (reads_messages t status old new) r.calls (history new) old.callers.items new.callers.items run
+MayAdd t (command.Redrive config receives calls visibility timeout traced) old new status (Redriven redrive) = IsRedriveOf (of_run t).run.callers status config (reads_messages t status old new) receives calls (history new) old.callers.items new.callers.items redrive
+MayAdd t command.Compact old new status (Rewritten list) = Unit {0}
+MayAdd t _ old new status _ = ⊥
+
+-- the command runs a mapping of a queue
+abbrev pub is_run : Command → Bool
+is_run (command.Run r) = true
+is_run (command.Redrive config receives calls visibility timeout traced) = true
+is_run _ = false
+
+-- what is left
+
+-- these bytes open to the life that was found, and the command ran no mapping
+pub record IsAsFound {S K D C F L : Type 0} (fifo : Bool) (c : Command) (old new : World S K D C F L) (life : List Stage) (epoch : ℕ) (one other bytes : List ℕ) : Type 0 where
+  pub opens : OpensToLife fifo life epoch one other bytes
+  pub none_ran : is_run c ≡ true → NothingHappened old new
+
+-- these bytes open to the life with one further stage, which the command may add
+pub record AddsStage {S K D C F L N : Type 0} (t : DevicesTell S K D F L N) (fifo : Bool) (c : Command) (old new : World S K D C F L) (status : ℕ) (life : List Stage) (one other bytes : List ℕ) : Type 0 where
+  pub stage : Stage
+  pub may_add : MayAdd t c old new status stage
+  pub epoch : ℕ
+  pub opens : OpensToLife fifo (stage ∷ life) epoch one other bytes
+
+-- Whatever a crash leaves of the journal and its spare, of each disk at any moment since the command began, and of the dead-letter
+-- file opens to the life that was found, or to it with one further stage; where a mapping ran there is that stage, also where its files
+-- kept nothing of it. So it is whatever the status, also where want of memory stopped the command.
+abbrev pub KeepsLife : {S K D C F L N : Type 0} → DevicesTell S K D F L N → Bool → Command → (old new : World S K D C F L) → (status : ℕ) → List Stage → (epoch : ℕ) → Type 0
+KeepsLife t fifo c old new status life epoch =
+    HasLife t.disk fifo life epoch old.journal old.spare old.failures → NamesAQueue t fifo c old.registry → HasLooked t c old status →
+    (one other bytes : List ℕ) → t.disk.since new.journal (t.disk.moment old.journal) one → t.disk.since new.spare (t.disk.moment old.spare) other → MayBeLines t c old new bytes →
+    IsAsFound fifo c old new life epoch one other bytes ⊎ AddsStage t fifo c old new status life one other bytes
+
+-- the files kept all that happened in the stage, and after a redrive nothing more is called for
+abbrev pub IsWhole : Stage → Type 0
+IsWhole (Ran run) = run.recorded ≡ run.happened
+IsWhole (Redriven redrive) = IsWholeRedrive redrive
+IsWhole (Rewritten list) = Unit {0}
+
+-- the disks themselves open to the life with one further stage, which is whole, and a crash leaves nothing else of them
+pub record AddsWhole {S K D C F L N : Type 0} (t : DevicesTell S K D F L N) (fifo : Bool) (c : Command) (old new : World S K D C F L) (status : ℕ) (life : List Stage) : Type 0 where
+  pub stage : Stage
+  pub may_add : MayAdd t c old new status stage
+  pub whole : IsWhole stage
+  pub epoch : ℕ
+  pub opens : OpensToLife fifo (stage ∷ life) epoch (t.disk.content new.journal) (t.disk.content new.spare) (t.disk.content new.failures)
+  pub settled : AreSettled t.disk new.journal new.spare
+  pub settled_lines : Only (t.disk.content new.failures) (t.disk.image new.failures)
+
+-- nothing ran, and the disks open to the life that was found, and a crash leaves nothing else of them
+pub record AddsNothing {S K D C F L N : Type 0} (t : DevicesTell S K D F L N) (fifo : Bool) (old new : World S K D C F L) (life : List Stage) (epoch : ℕ) : Type 0 where
+  pub nothing : NothingHappened old new
+  pub opens : OpensToLife fifo life epoch (t.disk.content new.journal) (t.disk.content new.spare) (t.disk.content new.failures)
+  pub settled : AreSettled t.disk new.journal new.spare
+  pub settled_lines : Only (t.disk.content new.failures) (t.disk.image new.failures)
+
+-- the status hides no fault of a disk: with 6 one of the pair failed, with 7 the dead-letter file did, with 5 the output failed and
+-- one may have before, and 70 tells nothing
+pub record HidesNoFault (status : ℕ) : Type 0 where
+  pub output : status ≢ 5
+  pub disk : status ≢ 6
+  pub lines : status ≢ 7
+  pub memory : status ≢ 70
+
+-- none of the three disks failed, by its count of faults or by the status
+abbrev pub NoneFailed : {D : Type 0} → DiskMeaning D → (status : ℕ) → (journal spare failures journal' spare' failures' : D) → Type 0
+NoneFailed m status journal spare failures journal' spare' failures' = (¬ (OneRose m journal spare journal' spare' ⊎ Rose (m.faults failures) (m.faults failures'))) ⊎ HidesNoFault status
+
+-- where none of them failed, a command that ran leaves its whole run
+abbrev pub KeepsWhole : {S K D C F L N : Type 0} → DevicesTell S K D F L N → Bool → Command → (old new : World S K D C F L) → (status : ℕ) → List Stage → (epoch : ℕ) → Type 0
+KeepsWhole t fifo c old new status life epoch =
+    HasLife t.disk fifo life epoch old.journal old.spare old.failures → NamesAQueue t fifo c old.registry → is_run c ≡ true →
+    NoneFailed t.disk status old.journal old.spare old.failures new.journal new.spare new.failures →
+    AddsNothing t fifo old new life epoch ⊎ AddsWhole t fifo c old new status life
+
+-- where the words spell no command the life stays as it is
+abbrev pub KeepsUntouched : {S K D C F L N : Type 0} → DevicesTell S K D F L N → Bool → (old new : World S K D C F L) → List Stage → (epoch : ℕ) → Type 0
+KeepsUntouched t fifo old new life epoch =
+    HasLife t.disk fifo life epoch old.journal old.spare old.failures →
+    (one other bytes : List ℕ) → t.disk.since new.journal (t.disk.moment old.journal) one → t.disk.since new.spare (t.disk.moment old.spare) other → t.disk.since new.failures (t.disk.moment old.failures) bytes →
+    OpensToLife fifo life epoch one other bytes
+
+-- a life begins where `init` ended with 0: in it nothing has happened, and a crash leaves nothing else of its files
+abbrev pub BeginsLife : {S K D C F L N : Type 0} → DevicesTell S K D F L N → Bool → (old new : World S K D C F L) → (status : ℕ) → Type 0
+BeginsLife t fifo old new status = status ≡ 0 → AllAreHonest t.disk (disks_in old) → HasBegunLife t.disk (disks_in new) fifo
+
+-- of a pair of version 1, beside a dead-letter file: whatever a crash leaves while `migrate` writes it as one of version 2 opens to the
+-- same life
+abbrev pub MigratesLife : {S K D C F L N : Type 0} → DevicesTell S K D F L N → Bool → (old new : World S K D C F L) → List Stage → (epoch : ℕ) → Type 0
+MigratesLife t fifo old new life epoch =
+    AreHonest t.disk old.journal old.spare → AreSettled t.disk old.journal old.spare → t.disk.honest old.failures ≡ true → Only (t.disk.content old.failures) (t.disk.image old.failures) →
+    OpensToLifeOfVersion1 fifo life epoch (t.disk.content old.journal) (t.disk.content old.spare) (t.disk.content old.failures) →
+    (one other bytes : List ℕ) → t.disk.since new.journal (t.disk.moment old.journal) one → t.disk.since new.spare (t.disk.moment old.spare) other → t.disk.since new.failures (t.disk.moment old.failures) bytes →
+    OpensToLifeOfVersion1 fifo life epoch one other bytes ⊎ OpensToLife fifo life (epoch + 1) one other bytes

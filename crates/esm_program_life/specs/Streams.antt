@@ -1,0 +1,226 @@
+-- What a command leaves of the life of a stream's mapping, by the words of its command line and by what `esm` says of them. In
+-- each definition disks and worlds come first as they were handed in, and then as they were handed back. This product's own.
+use Rattle.std.specs.Prelude.{◌≡◌, ◌≢◌, ◌⊎◌, ◌+◌, ◌++◌, ◌∷◌, ℕ, Bool, true, false, List, [], filter_map, reverse}
+use Rattle.esm_cli.specs.declared.command.Command.{Command}
+use Rattle.esm_cli.specs.declared.command.Command.TheVariants as command
+use Rattle.esm_folder.specs.Init.{AreHonest as AllAreHonest}
+use Rattle.esm_folder.specs.Upkeep.{AreHonest, AreSettled, OneRose}
+use Rattle.esm_history.specs.Content.{OwesNothing}
+use Rattle.esm_ingest.specs.Coming.{of_shard}
+use Rattle.esm_io.specs.Meanings.{DiskMeaning}
+use Rattle.esm_io.specs.Told.{Grows}
+use Rattle.esm_journal_record.specs.EntryPayload.{entry_payload}
+use Rattle.esm_life.specs.Life.{Ran, Replay, Rewritten, Run, Stage}
+use Rattle.esm_life.specs.Streams.{OpensToLife, OpensToLifeOfVersion1}
+use Rattle.esm_mapping.specs.Named.{IsExpected, IsNamed}
+use Rattle.esm_mapping.specs.declared.expected.Expected.TheVariants as expected
+use Rattle.esm_mapping.specs.declared.named.NamedMapping.{NamedMapping}
+use Rattle.esm_model.specs.declared.entry.Entry.{Entry}
+use Rattle.esm_model.specs.declared.item.Item.{Item}
+use Rattle.esm_model.specs.declared.item.LineKind.TheVariants as kinds
+use Rattle.esm_model.specs.declared.item.Record.{Record}
+use Rattle.esm_model.specs.Setting.{records_of}
+use Rattle.esm_model.specs.Valid.{is_stream}
+use Rattle.esm_program_life.specs.Reads.{HasRead, HasReadTurned, NothingHappened}
+use Rattle.esm_replay.specs.Records.{streams_of}
+use Rattle.esm_replay_book.specs.Serving.{records_in_items as replay_records_in_items}
+use Rattle.esm_replay_life.specs.ReplayLife.{ReplayRun}
+use Rattle.esm_replay_model.specs.ReplayRun.{replay_calls}
+use Rattle.esm_replay_model.specs.ReplaySetting.{replay_config}
+use Rattle.esm_replay_run.specs.Ended.{HasLogged}
+use Rattle.esm_replay_run.specs.Headline.{SomeCame}
+use Rattle.esm_run.specs.Built.{SpellsBuilt}
+use Rattle.esm_run.specs.Commands.{IsLeft, IsStopped, Outcome}
+use Rattle.esm_run.specs.FirstCaller.{IsFirstUsed}
+use Rattle.esm_run.specs.World.{DevicesTell, ddb_tells, disks_in, history, of_run}
+use Rattle.esm_run.specs.declared.world.World.{World}
+use Rattle.esm_runner.specs.Coming.{records_in_items}
+use Rattle.esm_runner.specs.Headline.{CallsMade, CallsMadeOrOneMore, Telling}
+use Rattle.esm_workers.specs.Working.{Outside}
+
+-- what `esm` says
+
+-- of these words and this world, which it handed back with the status
+pub record IsSaid {S K D C F L N : Type 0} (t : DevicesTell S K D F L N) (words : List (List ℕ)) (old new : World S K D C F L) (status : ℕ) : Type 0 where
+  pub outcome : status ≢ 70 → Outcome t words old new status
+  pub want_of_memory : status ≡ 70 → IsStopped t words old new
+  pub left : (c : Command) → SpellsBuilt words c → IsLeft t c old new
+  pub untouched : ((c : Command) → ¬ SpellsBuilt words c) → new ≡ record old { out = new.out }
+
+-- what is asked of a command
+
+-- The pair opens to the content that a life leaves. Its disks are honest, and each has one image, as a disk has that was synced
+-- when it was opened.
+pub record HasLife {D : Type 0} (m : DiskMeaning D) (life : List Stage) (epoch : ℕ) (journal spare : D) : Type 0 where
+  pub honest : AreHonest m journal spare
+  pub settled : AreSettled m journal spare
+  pub opens : OpensToLife life epoch (m.content journal) (m.content spare)
+
+-- The mapping that the words name is a stream's, if they name one that may run. This asks nothing of a command that names no mapping,
+-- nor of `ddb` and `replay`, which take a stream's alone; of `redrive`, which takes a queue's alone, it asks that the words name none
+-- that may run. A mapping with an id is one that the registry's file says, as far as its disk is honest: of a disk that is not, the id
+-- may name any mapping, and this does not hold.
+abbrev pub NamesAStream : {S K D F L N : Type 0} → DevicesTell S K D F L N → Command → (registry : D) → Type 0
+NamesAStream t (command.Run r) registry = (mapping : NamedMapping) → IsNamed t.disk r.which registry mapping → is_stream mapping.config.kind ≡ true
+NamesAStream t (command.Redrive config receives calls visibility timeout traced) registry = (mapping : NamedMapping) → IsExpected expected.Queue config mapping → is_stream mapping.config.kind ≡ true
+NamesAStream t _ registry = Unit {0}
+
+-- the status hides no fault of a disk: with 6 one failed, with 5 the output failed and one may have before, and 70 tells nothing
+pub record HidesNoFault (status : ℕ) : Type 0 where
+  pub output : status ≢ 5
+  pub disk : status ≢ 6
+  pub memory : status ≢ 70
+
+-- `init` came to the end of its files, which are honest; its clauses say too little of a disk that failed
+abbrev pub HasLooked : {S K D C F L N : Type 0} → DevicesTell S K D F L N → Command → (old : World S K D C F L) → (status : ℕ) → Type 0
+HasLooked t command.Init old status = AllAreHonest t.disk (disks_in old) × HidesNoFault status
+HasLooked t _ old status = Unit {0}
+
+-- stages
+
+-- The run of a stage is the command's. What happened in it is the history that the command left, over the mapping and the calls of
+-- its words; the records of each of its shards are the first of those that were read of the input; and caller k's log, where told, is
+-- the old one followed by the calls of batcher k in that run, or where want of memory stopped it perhaps by one further call of a lane
+-- that still runs.
+pub record IsRunOf {D F : Type 0} (t : Telling D F) (status : ℕ) (names : NamedMapping → Type 0) (reads : NamedMapping → List Item → Type 0) (calls : ℕ) (h : List Entry) (old new : List F) (run : Run) : Type 0 where
+  pub mapping : NamedMapping
+  pub named : names mapping
+  pub config_is : run.setting.config ≡ mapping.config
+  pub calls_are : run.setting.calls ≡ calls
+  pub items : List Item
+  pub read : reads mapping items
+  pub came : (n : ℕ) → (rest : List Record) × (of_shard n (records_in_items items) ≡ records_of run.setting n ++ rest)
+  pub happened_is : run.happened ≡ h
+  pub calls_made : CallsMadeOrOneMore t run.setting h old new
+  pub calls_ended : status ≢ 70 → CallsMade t run.setting h old new
+
+-- The replay of a stage is the command's; of the callers the first one alone was used. Its records are those that came, of each shard
+-- the first of those that were read of the input.
+pub record IsReplayOf {F : Type 0} (callers : Outside F) (status : ℕ) (config : List ℕ) (reads : NamedMapping → List Item → Type 0) (calls : ℕ) (h : List Entry) (old new : List F) (replay : ReplayRun) : Type 0 where
+  pub mapping : NamedMapping
+  pub named : IsExpected expected.Stream config mapping
+  pub config_is : replay.setting.base.config ≡ replay_config mapping.config
+  pub calls_are : replay.setting.base.calls ≡ calls
+  pub items : List Item
+  pub read : reads mapping items
+  pub records : List Record
+  pub came : SomeCame records (replay_records_in_items items)
+  pub records_are : replay.setting.base.streams ≡ streams_of records
+  pub happened_is : replay.happened ≡ h
+  pub caller : F
+  pub caller_left : F
+  pub first_used : IsFirstUsed old new caller caller_left
+  pub calls_made : HasLogged callers.sends replay.setting h (callers.log caller) (callers.log caller_left)
+  pub calls_ended : status ≢ 70 → Grows (callers.log caller) (callers.log caller_left) (replay_calls replay.setting callers.sends h)
+
+-- what was read of the input, by each command
+abbrev pub reads_records : {S K D C F L N : Type 0} → DevicesTell S K D F L N → (status : ℕ) → (old new : World S K D C F L) → NamedMapping → List Item → Type 0
+reads_records t status old new mapping items = HasRead t.left kinds.Stream mapping.config.factor mapping.start status old.input new.input items
+
+abbrev pub reads_turned : {S K D C F L N : Type 0} → DevicesTell S K D F L N → (status : ℕ) → (old new : World S K D C F L) → NamedMapping → List Item → Type 0
+reads_turned t status old new mapping items = HasReadTurned t.input_faults t.left mapping status old.input new.input items
+
+abbrev pub reads_again : {S K D C F L N : Type 0} → DevicesTell S K D F L N → (status : ℕ) → (old new : World S K D C F L) → NamedMapping → List Item → Type 0
+reads_again t status old new mapping items = HasRead t.left kinds.Stream mapping.config.factor mapping.config.start status old.input new.input items
+
+-- the stage that a command may add to a life: `run` and `ddb` a run of their own, `replay` a replay of its own, `compact` the list
+-- that it wrote, and no other command any
+abbrev pub MayAdd : {S K D C F L N : Type 0} → DevicesTell S K D F L N → Command → (old new : World S K D C F L) → (status : ℕ) → Stage → Type 0
+MayAdd t (command.Run r) old new status (Ran run) = IsRunOf (of_run t).run status (λ mapping. IsNamed t.disk r.which old.registry mapping) (reads_records t status old new) r.calls (history new) old.callers.items new.callers.items run
+MayAdd t (command.Ddb config calls timeout traced) old new status (Ran run) = IsRunOf (ddb_tells (of_run t)) status (λ mapping. IsExpected expected.DynamoDb config mapping) (reads_turned t status old new) calls (history new) old.callers.items new.callers.items run
+MayAdd t (command.Replay config calls timeout traced) old new status (Replay replay) = IsReplayOf (of_run t).run.callers status config (reads_again t status old new) calls (history new) old.callers.items new.callers.items replay
+MayAdd t command.Compact old new status (Rewritten list) = Unit {0}
+MayAdd t _ old new status _ = ⊥
+
+-- the command runs a mapping
+abbrev pub is_run : Command → Bool
+is_run (command.Run r) = true
+is_run (command.Ddb config calls timeout traced) = true
+is_run (command.Replay config calls timeout traced) = true
+is_run _ = false
+
+-- what is left
+
+-- these bytes open to the life that was found, and the command ran no mapping
+pub record IsAsFound {S K D C F L : Type 0} (c : Command) (old new : World S K D C F L) (life : List Stage) (epoch : ℕ) (one other : List ℕ) : Type 0 where
+  pub opens : OpensToLife life epoch one other
+  pub none_ran : is_run c ≡ true → NothingHappened old new
+
+-- these bytes open to the life with one further stage, which the command may add
+pub record AddsStage {S K D C F L N : Type 0} (t : DevicesTell S K D F L N) (c : Command) (old new : World S K D C F L) (status : ℕ) (life : List Stage) (one other : List ℕ) : Type 0 where
+  pub stage : Stage
+  pub may_add : MayAdd t c old new status stage
+  pub epoch : ℕ
+  pub opens : OpensToLife (stage ∷ life) epoch one other
+
+-- Whatever a crash leaves of the pair, of each disk at any moment since the command began, opens to the life that was found, or to
+-- it with one further stage; where a mapping ran there is that stage, also where its journal recorded nothing of it. So it is whatever
+-- the status, also where want of memory stopped the command.
+abbrev pub KeepsLife : {S K D C F L N : Type 0} → DevicesTell S K D F L N → Command → (old new : World S K D C F L) → (status : ℕ) → List Stage → (epoch : ℕ) → Type 0
+KeepsLife t c old new status life epoch =
+    HasLife t.disk life epoch old.journal old.spare → NamesAStream t c old.registry → HasLooked t c old status →
+    (one other : List ℕ) → t.disk.since new.journal (t.disk.moment old.journal) one → t.disk.since new.spare (t.disk.moment old.spare) other →
+    IsAsFound c old new life epoch one other ⊎ AddsStage t c old new status life one other
+
+-- the status tells of no trouble: it hides no fault of a disk, and neither did the failure file fail, with 7, nor did a record come
+-- otherwise than it was kept, with 8
+pub record TellsNoTrouble (status : ℕ) : Type 0 where
+  pub hides : HidesNoFault status
+  pub lines : status ≢ 7
+  pub changed : status ≢ 8
+
+-- the journal recorded all that happened in the run, after which nothing is owed if there was no trouble
+pub record IsWholeRun (status : ℕ) (run : Run) : Type 0 where
+  pub recorded : run.recorded ≡ run.happened
+  pub paid : TellsNoTrouble status → OwesNothing run.setting run.happened
+
+-- the journal recorded all that happened in the stage
+abbrev pub IsWhole : (status : ℕ) → Stage → Type 0
+IsWhole status (Ran run) = IsWholeRun status run
+IsWhole status (Replay replay) = replay.left ≡ filter_map (entry_payload replay.setting.base) (reverse replay.happened)
+IsWhole status (Rewritten list) = Unit {0}
+
+-- the disks themselves open to the life with one further stage, which is whole, and a crash leaves nothing else of them
+pub record AddsWhole {S K D C F L N : Type 0} (t : DevicesTell S K D F L N) (c : Command) (old new : World S K D C F L) (status : ℕ) (life : List Stage) : Type 0 where
+  pub stage : Stage
+  pub may_add : MayAdd t c old new status stage
+  pub whole : IsWhole status stage
+  pub epoch : ℕ
+  pub opens : OpensToLife (stage ∷ life) epoch (t.disk.content new.journal) (t.disk.content new.spare)
+  pub settled : AreSettled t.disk new.journal new.spare
+
+-- nothing ran, and the disks open to the life that was found, and a crash leaves nothing else of them
+pub record AddsNothing {S K D C F L N : Type 0} (t : DevicesTell S K D F L N) (old new : World S K D C F L) (life : List Stage) (epoch : ℕ) : Type 0 where
+  pub nothing : NothingHappened old new
+  pub opens : OpensToLife life epoch (t.disk.content new.journal) (t.disk.content new.spare)
+  pub settled : AreSettled t.disk new.journal new.spare
+
+-- no disk of the pair failed, by its count of faults or by the status
+abbrev pub NoneFailed : {D : Type 0} → DiskMeaning D → (status : ℕ) → (journal spare journal' spare' : D) → Type 0
+NoneFailed m status journal spare journal' spare' = (¬ OneRose m journal spare journal' spare') ⊎ HidesNoFault status
+
+-- where no disk of the pair failed, a command that ran leaves its whole run
+abbrev pub KeepsWhole : {S K D C F L N : Type 0} → DevicesTell S K D F L N → Command → (old new : World S K D C F L) → (status : ℕ) → List Stage → (epoch : ℕ) → Type 0
+KeepsWhole t c old new status life epoch =
+    HasLife t.disk life epoch old.journal old.spare → NamesAStream t c old.registry → is_run c ≡ true → NoneFailed t.disk status old.journal old.spare new.journal new.spare →
+    AddsNothing t old new life epoch ⊎ AddsWhole t c old new status life
+
+-- where the words spell no command the life stays as it is
+abbrev pub KeepsUntouched : {S K D C F L N : Type 0} → DevicesTell S K D F L N → (old new : World S K D C F L) → List Stage → (epoch : ℕ) → Type 0
+KeepsUntouched t old new life epoch =
+    HasLife t.disk life epoch old.journal old.spare →
+    (one other : List ℕ) → t.disk.since new.journal (t.disk.moment old.journal) one → t.disk.since new.spare (t.disk.moment old.spare) other →
+    OpensToLife life epoch one other
+
+-- of a pair of version 1: whatever a crash leaves of it while `migrate` writes it as one of version 2 opens to the same life
+abbrev pub MigratesLife : {S K D C F L N : Type 0} → DevicesTell S K D F L N → (old new : World S K D C F L) → List Stage → (epoch : ℕ) → Type 0
+MigratesLife t old new life epoch =
+    AreHonest t.disk old.journal old.spare → AreSettled t.disk old.journal old.spare → OpensToLifeOfVersion1 life epoch (t.disk.content old.journal) (t.disk.content old.spare) →
+    (one other : List ℕ) → t.disk.since new.journal (t.disk.moment old.journal) one → t.disk.since new.spare (t.disk.moment old.spare) other →
+    OpensToLifeOfVersion1 life epoch one other ⊎ OpensToLife life (epoch + 1) one other
+
+-- a life begins where `init` ended with 0: in it nothing has happened, and a crash leaves nothing else of the pair
+abbrev pub BeginsLife : {S K D C F L N : Type 0} → DevicesTell S K D F L N → (old new : World S K D C F L) → (status : ℕ) → Type 0
+BeginsLife t old new status =
+    status ≡ 0 → AreHonest t.disk old.journal old.spare →
+    AreSettled t.disk new.journal new.spare × OpensToLife [] 1 (t.disk.content new.journal) (t.disk.content new.spare)
