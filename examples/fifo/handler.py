@@ -4,6 +4,7 @@
 def handler(event, context):
     for record in event["Records"]:
         attributes = record["attributes"]
-        print(attributes["MessageGroupId"], record["messageId"], "receive", attributes["ApproximateReceiveCount"], flush=True)
+        line = f'{attributes["MessageGroupId"]} {record["messageId"]} receive {attributes["ApproximateReceiveCount"]}'
+        print(line + "\n", end="", flush=True)  # in one write, since the calls of two groups may run at once
         if record["messageId"] == "order-1" and attributes["ApproximateReceiveCount"] == "1":
             raise RuntimeError("the bank is busy")
