@@ -59,12 +59,13 @@ IsInitEnd m old new Done = (f : FileName) → Makes m (fresh_bytes f) (disk_of o
 IsInitEnd m old new (NotEmpty f size) = AreHonest m old → IsFirstNotEmpty m old f size × AreOnlyRead m old new
 IsInitEnd m old new DiskFault = (f : FileName) × Rose (m.faults (disk_of old f)) (m.faults (disk_of new f))
 
--- whatever the answer: a disk is as honest as before, its count of faults did not fall, and a crash at any moment leaves
--- what it left before, or a file without a payload
+-- whatever the answer: a disk is as honest as before, its count of faults did not fall, a crash at any moment leaves what
+-- it left before, or a file without a payload, and a file that had bytes was only read
 pub record IsSafe {D : Type 0} (m : DiskMeaning D) (old new : D) : Type 0 where
   pub honesty : m.honest new ≡ m.honest old
   pub never_falls : m.faults old ≤ m.faults new
   pub any_moment : m.honest old ≡ true → LeavesOnly m.moment m.since old new (WasOrHoldsNone (m.image old))
+  pub kept : m.honest old ≡ true → length (m.content old) ≢ 0 → IsOnlyRead m old new
 
 abbrev pub AreSafe : {D : Type 0} → DiskMeaning D → Disks D → Disks D → Type 0
 AreSafe m old new = (f : FileName) → IsSafe m (disk_of old f) (disk_of new f)

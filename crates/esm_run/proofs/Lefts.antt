@@ -27,6 +27,7 @@ safe_same m only_now disk = record {
   honesty = refl;
   never_falls = omega arith;
   any_moment = λ honest. record { later = omega arith; each = λ bytes now. inl (only_now disk bytes honest now); before = λ t bytes early now. inl now };
+  kept = λ honest has_bytes. only_read_same m disk (only_now disk);
 }
 
 kept_same : {D : Type 0} (m : DiskMeaning D) (disk : D) → IsKept m disk disk
