@@ -1,6 +1,6 @@
 // The trait of a book that a reader and batchers share: items come and their input ends, a batcher asks what is next and ends
 // its call, and what is left is told when all have come to their end.
-ghost use Rattle.std.specs.Prelude.{◌≡◌, ◌⊎◌, ◌<◌, ◌≤◌, ◌+◌, ◌++◌, ◌∷◌, [], ℕ, List, Some, true, false, length, All, IfOk, IfErr, OnOk, OnErr, IsErrOf};
+ghost use Rattle.std.specs.Prelude.{◌≡◌, ◌⊎◌, ◌<◌, ◌≤◌, ◌+◌, ◌++◌, ◌∷◌, [], ℕ, Bool, List, Some, true, false, length, All, IfOk, IfErr, OnOk, OnErr, IsErrOf};
 ghost use Rattle.esm_model.specs.declared.book.BookError.TheVariants as why;
 ghost use Rattle.esm_model.specs.declared.book.CameError.TheVariants as refusal;
 ghost use Rattle.esm_model.specs.declared.book.Change.{Change};
@@ -62,6 +62,15 @@ pub trait Pooled: Kept {
     // an item of a list that is to come differs from what the journal kept of it, and the first of them differs so
     ghost differs: { Setup → List Told → List Item → Change → Type 0 };
 
+    // Of moments.
+
+    // its calls are made at such moments alone
+    ghost given: { ℕ → Bool };
+
+    // such a moment was given for each entry of its history, and for each that it decided and a device that failed kept from
+    // being added
+    ghost timed: { (ℕ → Bool) → Self → Type 0 };
+
     /// Items come, at the moment, in milliseconds. A list of which an item differs from what was kept of it is refused whole.
     /// After an error other than want of memory the book is down, and the first of the items may have come.
     fn bring(&mut self, alloc: Global, list: Vec<Item>, moment: u64) -> Result<(), CameError>
@@ -69,9 +78,11 @@ pub trait Pooled: Kept {
         requires few { length list.items ≤ MAX_BATCH }
         requires valid { All (IsValidItem (kind (Self.setup self.old))) list.items }
         requires within { FitBehind (items (Self.history self.old)) list.items }
+        requires given { given moment ≡ true }
         // What is added.
         ensures goes_on { GoesOn (meaning Self.Kept) 0 self.old self.new }
         ensures moments { AllAt moment (Self.history self.old) (added (Self.history self.old) (Self.history self.new)) }
+        ensures timed { (gave : ℕ → Bool) → gave moment ≡ true → timed gave self.old → timed gave self.new }
         ensures going { is_shut (entries_told (Self.history self.new)) ≡ false }
         ensures came { OnOk result (Come (items (Self.history self.old)) (items (Self.history self.new)) list.items) }
         ensures some { SomeCome (items (Self.history self.old)) (items (Self.history self.new)) list.items }
@@ -83,8 +94,10 @@ pub trait Pooled: Kept {
     /// The input ended, at the moment, in milliseconds; that is noted where the book is not down. Takes no memory.
     fn end_input(&mut self, moment: u64)
         requires going { is_shut (entries_told (Self.history self.old)) ≡ false }
+        requires given { given moment ≡ true }
         ensures goes_on { GoesOn (meaning Self.Kept) 0 self.old self.new }
         ensures moments { AllAt moment (Self.history self.old) (added (Self.history self.old) (Self.history self.new)) }
+        ensures timed { (gave : ℕ → Bool) → gave moment ≡ true → timed gave self.old → timed gave self.new }
         ensures same { StayAsTheyAre (items (Self.history self.old)) (items (Self.history self.new)) }
         ensures change { Self.change self.new ≡ Self.change self.old }
         ensures shut { Self.mark self.new ≡ false → is_shut (entries_told (Self.history self.new)) ≡ true };
@@ -94,9 +107,11 @@ pub trait Pooled: Kept {
     fn ask(&mut self, alloc: Global, batcher: u32, moment: u64) -> Result<Next, BookError>
         requires number { batcher < MAX_LANES }
         requires rests { rests (Self.setup self.old) (Self.history self.old) batcher }
+        requires given { given moment ≡ true }
         // What is added.
         ensures goes_on { GoesOn (meaning Self.Kept) (batcher + 1) self.old self.new }
         ensures moments { AllAt moment (Self.history self.old) (added (Self.history self.old) (Self.history self.new)) }
+        ensures timed { (gave : ℕ → Bool) → gave moment ≡ true → timed gave self.old → timed gave self.new }
         ensures no_end { (sends : List ℕ → List ℕ) → calls (Self.setup self.old) sends (Self.history self.new) batcher ≡ calls (Self.setup self.old) sends (Self.history self.old) batcher }
         // What is answered.
         ensures answer { IfOk result (Answers Self.rests Self.runs (Self.setup self.old) (Self.history self.new) batcher) }
@@ -117,9 +132,11 @@ pub trait Pooled: Kept {
     ) -> Result<u32, BookError>
         requires number { batcher < MAX_LANES }
         requires runs { runs (Self.setup self.old) (Self.history self.old) batcher job }
+        requires given { given moment ≡ true }
         // What is added.
         ensures goes_on { GoesOn (meaning Self.Kept) (batcher + 1) self.old self.new }
         ensures moments { AllAt moment (Self.history self.old) (added (Self.history self.old) (Self.history self.new)) }
+        ensures timed { (gave : ℕ → Bool) → gave moment ≡ true → timed gave self.old → timed gave self.new }
         ensures called { (IsErrOf result why.OutOfMemory → ⊥) → (sends : List ℕ → List ℕ) →
             calls (Self.setup self.old) sends (Self.history self.new) batcher ≡ calls (Self.setup self.old) sends (Self.history self.old) batcher ++ call_of (Self.setup self.old) sends job.event reply ∷ [] }
         ensures rests { (IsErrOf result why.OutOfMemory → ⊥) → rests (Self.setup self.old) (Self.history self.new) batcher }

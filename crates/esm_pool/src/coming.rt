@@ -62,6 +62,7 @@ fn note<R: Wait, B: Pooled, C: Clock>(
     requires few { length list.items ≤ MAX_BATCH }
     requires valid { All (IsValidItem (B.kind turn.now.setup)) list.items }
     requires within { FitBehind (B.items seat.old.seen) list.items }
+    requires given { (m : ℕ) → C.gave m ≡ true → B.given m ≡ true }
     ensures seated { IsSeated B.author B.may_follow C.gave turn.now 0 seat.new }
     ensures going { is_shut (entries_told seat.new.seen) ≡ false }
     ensures unchanged { OnOk result (seat.new.change ≡ None) }
@@ -91,6 +92,7 @@ pub(crate) fn hand_on<R: Wait, B: Pooled, C: Clock>(
     requires unchanged { seat.old.change ≡ None }
     requires valid { All (IsValidItem (B.kind turn.now.setup)) items.items }
     requires within { FitBehind (B.items seat.old.seen) items.items }
+    requires given { (m : ℕ) → C.gave m ≡ true → B.given m ≡ true }
     ensures seated { IsSeated B.author B.may_follow C.gave turn.now 0 seat.new }
     ensures going { is_shut (entries_told seat.new.seen) ≡ false }
     ensures unchanged { OnOk result (seat.new.change ≡ None) }
@@ -156,6 +158,7 @@ pub(crate) fn note_end<R: Wait, B: Pooled, C: Clock>(
 )
     requires seated { IsSeated B.author B.may_follow C.gave turn.now 0 seat.old }
     requires going { is_shut (entries_told seat.old.seen) ≡ false }
+    requires given { (m : ℕ) → C.gave m ≡ true → B.given m ≡ true }
     ensures seated { IsSeated B.author B.may_follow C.gave turn.now 0 seat.new }
     ensures grows { IsPrefix seat.old.seen seat.new.seen }
     ensures marked { seat.old.mark ≡ true → seat.new.mark ≡ true }

@@ -1,5 +1,5 @@
 // The reader of a book's input: what it works with, and its work.
-ghost use Rattle.std.specs.Prelude.{◌≡◌, [], None, false, IfErr, OnOk, OnErr, IsErrOf, IsSome};
+ghost use Rattle.std.specs.Prelude.{◌≡◌, ℕ, [], None, true, false, IfErr, OnOk, OnErr, IsErrOf, IsSome};
 ghost use Rattle.esm_model.specs.Books.{entries_told};
 ghost use Rattle.esm_model.specs.Entries.{is_shut};
 ghost use Rattle.esm_input.specs.Reading.{IsInput, handed};
@@ -50,6 +50,7 @@ fn read_on<R: Wait, B: Pooled, S: Source, C: Clock>(
     requires kind { input.old.kind ≡ B.kind turn.now.setup }
     requires good { input.old.failed ≡ false }
     requires unread { handed input.old ≡ [] }
+    requires given { (m : ℕ) → C.gave m ≡ true → B.given m ≡ true }
     // The seat.
     ensures seated { IsSeated B.author B.may_follow C.gave turn.now 0 seat.new }
     ensures going { is_shut (entries_told seat.new.seen) ≡ false }

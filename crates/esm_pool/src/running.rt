@@ -94,6 +94,7 @@ pub fn run_book<
     requires unread { input ≡ record input { found = input.source; bytes = []; whole = false; end = None; failed = false } }
     requires callers { length callers.items ≡ MAX_LANES }
     requires batchers { (0 < batchers) × (batchers ≤ MAX_LANES) }
+    requires given { (m : ℕ) → C.gave m ≡ true → B.given m ≡ true }
     // What the book tells.
     ensures setup { B.setup result.book ≡ B.setup book }
     ensures legal { IsLegal (B.may_follow (B.setup book)) (B.history result.book) }

@@ -18,3 +18,5 @@ pub mod Telling
 pub mod AfterOthers
 pub mod Ending
 pub mod LastingItems
+pub mod Timed
+pub mod PoolingTimed

@@ -6,3 +6,4 @@ pub mod Carried
 pub mod Coming
 pub mod Batchers
 pub mod Left
+pub mod Moments

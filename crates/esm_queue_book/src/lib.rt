@@ -7,6 +7,7 @@ mod carrying;
 pub mod crossing;
 mod kept;
 mod lasting;
+pub mod moments;
 mod opening;
 mod pooled;
 mod queue_book;

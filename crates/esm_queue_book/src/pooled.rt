@@ -1,5 +1,5 @@
 // A queue's book as its reader and its batchers share it at a turn.
-ghost use Rattle.std.specs.Prelude.{◌≡◌, false, All, IfOk};
+ghost use Rattle.std.specs.Prelude.{◌≡◌, true, false, All, IfOk};
 ghost use Rattle.esm_model.specs.Kept.{IsLegal};
 ghost use Rattle.esm_model.specs.Valid.{is_stream};
 ghost use Rattle.esm_model.specs.declared.setup.Setup.{Setup};
@@ -54,6 +54,7 @@ impl<D: Disk> Pooled for QueueBook<D> {
     ghost use Rattle.esm_queue_book.specs.Batchers.{queue_calls_told, QueueRests, RunsQueueJob};
     ghost use Rattle.esm_queue_book.specs.Left.{QueueFinished, QueueLeft, QueueSpent, queue_lines, queue_items};
     ghost use Rattle.esm_queue_book.specs.Coming.{QueueDiffers};
+    ghost use Rattle.esm_queue_book.specs.Moments.{IsTimedView};
 
     ghost calls = { queue_calls_told };
 
@@ -72,6 +73,10 @@ impl<D: Disk> Pooled for QueueBook<D> {
     ghost items = { queue_items };
 
     ghost differs = { QueueDiffers };
+
+    ghost given = { λ _. true };
+
+    ghost timed = { λ gave b. IsTimedView gave b.core };
 
     fn bring(&mut self, alloc: Global, list: Vec<Item>, moment: u64) -> Result<(), CameError> {
         know(self);

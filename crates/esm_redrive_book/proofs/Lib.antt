@@ -4,3 +4,4 @@ pub mod Going
 pub mod Ending
 pub mod Leaving
 pub mod Standing
+pub mod Timed

@@ -4,3 +4,4 @@ pub mod Keeping
 pub mod Letters
 pub mod Opening
 pub mod Carried
+pub mod Moments

@@ -6,6 +6,7 @@
 
 mod carrying;
 pub mod laws;
+pub mod moments;
 mod open_error;
 mod opening;
 mod redrive_book;

@@ -18,9 +18,11 @@ mod PoolingLanes
 mod PoolingSteps
 mod PoolingAsked
 mod PoolingEnded
+mod PoolingTimed
 pub mod Sent
 pub mod OneMore
 pub mod Lanes
 mod Quiet
 mod Onward
 pub mod Readers
+pub mod Timed

@@ -2,6 +2,7 @@ pub mod Books
 pub mod Calls
 pub mod Keeping
 pub mod Opening
+pub mod Moments
 pub mod Carried
 pub mod Batchers
 pub mod Finishing

@@ -9,6 +9,7 @@ mod coming;
 pub mod crossing;
 mod kept;
 mod lasting;
+pub mod moments;
 mod opening;
 mod pooled;
 mod stream_book;

@@ -7,9 +7,11 @@ use esm_model::{BookError, CameError, Item, Job, Next, Pooled, Reply};
 use std::alloc::Global;
 
 impl<D: Disk, T: Dest> Pooled for Book<D, T> {
+    ghost use Rattle.std.specs.Prelude.{true};
     ghost use Rattle.esm_stream_book.specs.Batchers.{calls_told, Rests, RunsJob};
     ghost use Rattle.esm_stream_book.specs.Finishing.{HasFinished, HasLeft, AreSpent};
     ghost use Rattle.esm_stream_book.specs.Items.{kind_told, items_told, DiffersTold};
+    ghost use Rattle.esm_stream_book.specs.Moments.{IsTimedView};
 
     ghost calls = { calls_told };
 
@@ -28,6 +30,10 @@ impl<D: Disk, T: Dest> Pooled for Book<D, T> {
     ghost items = { items_told };
 
     ghost differs = { DiffersTold };
+
+    ghost given = { λ moment. true };
+
+    ghost timed = { λ gave b. IsTimedView gave b.core };
 
     fn bring(&mut self, alloc: Global, list: Vec<Item>, moment: u64) -> Result<(), CameError> {
         let _before = self.trouble();

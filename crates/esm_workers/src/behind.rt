@@ -74,6 +74,7 @@ fn call_at<R: Threads + Wait + Sync, T: Pooled + Send, C: Clock + Sync, F: Calle
     requires callers { length callers.items ≡ MAX_LANES }
     requires batchers { batchers ≤ MAX_LANES }
     requires hands { (hands.items ≡ []) × (MAX_LANES ≤ vec_capacity hands) }
+    requires given { (m : ℕ) → C.gave m ≡ true → T.given m ≡ true }
     ensures setup { T.setup result.book ≡ turn.setup }
     ensures tells { (h : List Told) (change : Option Change) → HasBegun (meanings T.Kept T.Pooled.own C.Clock F.Caller) turn h change seats.items →
         TellsOf (meanings T.Kept T.Pooled.own C.Clock F.Caller) turn.setup batchers
@@ -123,6 +124,7 @@ pub(crate) fn call_behind<
     requires callers { length callers.items ≡ MAX_LANES }
     requires batchers { batchers ≤ MAX_LANES }
     requires hands { (hands.items ≡ []) × (MAX_LANES ≤ vec_capacity hands) }
+    requires given { (m : ℕ) → C.gave m ≡ true → T.given m ≡ true }
     ensures setup { T.setup result.book ≡ T.setup book }
     ensures tells { TellsOf (meanings T.Kept T.Pooled.own C.Clock F.Caller) (T.setup book) batchers
         (T.history result.book) (T.mark result.book) result.short callers.items result.callers.items }

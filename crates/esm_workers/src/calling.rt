@@ -34,6 +34,7 @@ fn ask<R: Wait, T: Pooled, C: Clock>(
     requires number { batcher < MAX_LANES }
     requires seated { IsSeated T.author T.may_follow C.gave turn.now (batcher + 1) seat.old }
     requires rests { T.rests turn.now.setup seat.old.seen batcher }
+    requires given { (m : ℕ) → C.gave m ≡ true → T.given m ≡ true }
     ensures seated { IsSeated T.author T.may_follow C.gave turn.now (batcher + 1) seat.new }
     ensures grows { IsPrefix seat.old.seen seat.new.seen }
     ensures no_end { (sends : List ℕ → List ℕ) → T.calls turn.now.setup sends seat.new.seen batcher ≡ T.calls turn.now.setup sends seat.old.seen batcher }
@@ -59,6 +60,7 @@ fn end_and_ask<T: Pooled>(
 ) -> Result<Result<Next, BookError>, OutOfMemory>
     requires number { batcher < MAX_LANES }
     requires runs { T.runs (T.setup book.old) (T.history book.old) batcher job }
+    requires given { T.given moment ≡ true }
     ensures goes_on { GoesOn (meaning T.Kept) (batcher + 1) book.old book.new }
     ensures moments { AllAt moment (T.history book.old) (added (T.history book.old) (T.history book.new)) }
     ensures answer { IfOk result (IsAnswer T.rests T.runs T.finished T.spent (T.setup book.old) batcher (T.history book.new) (T.mark book.new)) }
@@ -88,6 +90,7 @@ fn tell<R: Wait, T: Pooled, C: Clock>(
     requires number { batcher < MAX_LANES }
     requires seated { IsSeated T.author T.may_follow C.gave turn.now (batcher + 1) seat.old }
     requires runs { T.runs turn.now.setup seat.old.seen batcher job }
+    requires given { (m : ℕ) → C.gave m ≡ true → T.given m ≡ true }
     ensures seated { IsSeated T.author T.may_follow C.gave turn.now (batcher + 1) seat.new }
     ensures grows { IsPrefix seat.old.seen seat.new.seen }
     // Where the end is noted.
@@ -124,6 +127,7 @@ fn make_call<R: Wait, T: Pooled, C: Clock, F: Caller>(
     requires name { name.now ≡ turn.now.setup.config.function }
     requires seated { IsSeated T.author T.may_follow C.gave turn.now (batcher + 1) seat.old }
     requires runs { T.runs turn.now.setup seat.old.seen batcher job }
+    requires given { (m : ℕ) → C.gave m ≡ true → T.given m ≡ true }
     ensures seated { IsSeated T.author T.may_follow C.gave turn.now (batcher + 1) seat.new }
     ensures grows { IsPrefix seat.old.seen seat.new.seen }
     ensures answer { IfOk result (IsAnswer T.rests T.runs T.finished T.spent turn.now.setup batcher seat.new.seen seat.new.mark) }
@@ -185,6 +189,7 @@ fn round<R: Wait, T: Pooled, C: Clock, F: Caller>(
     requires name { name.now ≡ turn.now.setup.config.function }
     requires seated { IsSeated T.author T.may_follow C.gave turn.now (batcher + 1) seat.old }
     requires answer { Answers T.rests T.runs turn.now.setup seat.old.seen batcher (answer_of left) }
+    requires given { (m : ℕ) → C.gave m ≡ true → T.given m ≡ true }
     ensures seated { IsSeated T.author T.may_follow C.gave turn.now (batcher + 1) seat.new }
     ensures grows { IsPrefix seat.old.seen seat.new.seen }
     ensures answer { IfOk result (IsAnswer T.rests T.runs T.finished T.spent turn.now.setup batcher seat.new.seen seat.new.mark) }
@@ -232,6 +237,7 @@ pub fn call_all<R: Wait, T: Pooled, C: Clock, F: Caller>(
     requires name { name.now ≡ turn.now.setup.config.function }
     requires seated { IsSeated T.author T.may_follow C.gave turn.now (batcher + 1) seat.old }
     requires unused { seat.old.mine ≡ [] }
+    requires given { (m : ℕ) → C.gave m ≡ true → T.given m ≡ true }
     ensures seated { IsSeated T.author T.may_follow C.gave turn.now (batcher + 1) seat.new }
     ensures later { is_shut (entries_told seat.old.seen) ≡ true → OwnFollowShut (T.author turn.now.setup) (batcher + 1) [] seat.new.seen }
     // How it ends.

@@ -7,12 +7,14 @@
 mod behind;
 mod calling;
 mod hand;
+mod on_time;
 mod pack;
 mod reading;
 mod running;
 mod working;
 
 pub use calling::{MAX_PAUSE, call_all};
+pub use on_time::OnTime;
 pub use reading::Reading;
 pub use running::{Ran, run_hands};
 

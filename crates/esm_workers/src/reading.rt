@@ -1,5 +1,5 @@
 // The trait of what reads an input and hands its items to a book, at the reader's seat.
-ghost use Rattle.std.specs.Prelude.{◌≡◌, [], List, Bool, true, false, OnOk, OnErr, Option, None};
+ghost use Rattle.std.specs.Prelude.{◌≡◌, [], ℕ, List, Bool, true, false, OnOk, OnErr, Option, None};
 ghost use Rattle.esm_model.specs.Books.{entries_told};
 ghost use Rattle.esm_model.specs.Entries.{is_shut};
 ghost use Rattle.esm_model.specs.declared.book.Change.{Change};
@@ -8,13 +8,13 @@ ghost use Rattle.esm_model.specs.declared.setup.Told.{Told};
 ghost use Rattle.esm_workers.specs.Seated.{IsSeated};
 
 use esm_io::Clock;
-use esm_model::{Kept, OutOfMemory};
+use esm_model::{OutOfMemory, Pooled};
 use esm_turn::{Seat, Turn};
 use std::alloc::Global;
 use std::sync::Wait;
 
 /// What reads an input and hands its items to a book at a turn, and notes the end of the input: the work of seat 0.
-pub trait Reading<T: Kept> {
+pub trait Reading<T: Pooled> {
     // it may begin over a book of this setup
     ghost ready: { Setup → Self → Type 0 };
 
@@ -36,6 +36,7 @@ pub trait Reading<T: Kept> {
         requires seated { IsSeated T.author T.may_follow C.gave turn.now 0 seat.old }
         requires unused { seat.old.mine ≡ [] }
         requires told { seat.old.change ≡ None }
+        requires given { (m : ℕ) → C.gave m ≡ true → T.given m ≡ true }
         ensures seated { IsSeated T.author T.may_follow C.gave turn.now 0 seat.new }
         ensures read { OnOk result (read turn.now.setup self.old self.new seat.new.seen seat.new.mark seat.new.change false) }
         ensures stopped { OnErr result (read turn.now.setup self.old self.new seat.new.seen seat.new.mark seat.new.change true) }

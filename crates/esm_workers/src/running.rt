@@ -41,6 +41,7 @@ fn read_alone<R: Wait, T: Pooled, W: Reading<T>, C: Clock>(
     requires begun { AreBegun T.author [] None turn seats.items }
     requires seats { turn.seats ≡ MAX_LANES + 1 }
     requires ready { W.ready turn.setup reader.old }
+    requires given { (m : ℕ) → C.gave m ≡ true → T.given m ≡ true }
     ensures setup { T.setup result.0 ≡ turn.setup }
     ensures legal { IsLegal (T.may_follow turn.setup) (T.history result.0) }
     ensures moments { AllGiven C.gave [] (T.history result.0) }
@@ -79,6 +80,7 @@ fn read_then_call<
     requires callers { length callers.items ≡ MAX_LANES }
     requires batchers { batchers ≤ MAX_LANES }
     requires hands { (hands.items ≡ []) × (MAX_LANES ≤ vec_capacity hands) }
+    requires given { (m : ℕ) → C.gave m ≡ true → T.given m ≡ true }
     ensures setup { T.setup result.book ≡ turn.setup }
     ensures read { WasRead T.author T.may_follow (W.read turn.setup reader result.reader) turn.setup
         (T.history result.book) (T.mark result.book) (T.change result.book) result.short }
@@ -126,6 +128,7 @@ fn read_along<
     requires callers { length callers.items ≡ MAX_LANES }
     requires batchers { batchers ≤ MAX_LANES }
     requires hands { (hands.items ≡ []) × (MAX_LANES ≤ vec_capacity hands) }
+    requires given { (m : ℕ) → C.gave m ≡ true → T.given m ≡ true }
     ensures setup { T.setup result.book ≡ turn.setup }
     ensures read { WasRead T.author T.may_follow (W.read turn.setup reader result.reader) turn.setup
         (T.history result.book) (T.mark result.book) (T.change result.book) result.short }
@@ -184,6 +187,7 @@ fn run_at<
     requires callers { length callers.items ≡ MAX_LANES }
     requires batchers { batchers ≤ MAX_LANES }
     requires hands { (hands.items ≡ []) × (MAX_LANES ≤ vec_capacity hands) }
+    requires given { (m : ℕ) → C.gave m ≡ true → T.given m ≡ true }
     ensures setup { T.setup result.book ≡ turn.setup }
     ensures read { WasRead T.author T.may_follow (W.read turn.setup reader result.reader) turn.setup
         (T.history result.book) (T.mark result.book) (T.change result.book) result.short }
@@ -228,6 +232,7 @@ pub fn run_hands<
     requires name { name.now ≡ (T.setup book).config.function }
     requires callers { length callers.items ≡ MAX_LANES }
     requires batchers { batchers ≤ MAX_LANES }
+    requires given { (m : ℕ) → C.gave m ≡ true → T.given m ≡ true }
     // What the book tells.
     ensures setup { IfOk result (λ ran. T.setup ran.book ≡ T.setup book) }
     ensures legal { IfOk result (λ ran. IsLegal (T.may_follow (T.setup book)) (T.history ran.book)) }

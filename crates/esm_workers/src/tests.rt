@@ -1,5 +1,6 @@
 // What a batcher does with each answer of a book.
 use crate::calling::call_all;
+use crate::on_time::OnTime;
 use esm_io::{Clock, Script, ScriptCaller, StepClock};
 use esm_model::{BookError, CameError, Item, Job, Kept, Next, Pooled, Reply};
 use esm_turn::Turn;
@@ -53,7 +54,7 @@ impl Kept for Scripted {
 }
 
 impl Pooled for Scripted {
-    ghost use Rattle.std.specs.Prelude.{[]};
+    ghost use Rattle.std.specs.Prelude.{[], true};
     ghost use Rattle.esm_model.specs.declared.item.LineKind.TheVariants.{Stream};
 
     ghost calls = { λ _ _ _ _. [] };
@@ -73,6 +74,10 @@ impl Pooled for Scripted {
     ghost items = { λ _ _. [] };
 
     ghost differs = { λ _ _ _ _. Unit {0} };
+
+    ghost given = { λ _. true };
+
+    ghost timed = { λ _ _. Unit {0} };
 
     // no item comes
     fn bring(&mut self, _: Global, _: Vec<Item>, _: u64) -> Result<(), CameError> {
@@ -143,6 +148,31 @@ fn batcher_over<R: Wait>(
     }
 }
 
+// The same of the book while it is called at moments of the clock alone.
+fn batcher_on_time<R: Wait>(
+    rt: &R,
+    alloc: Global,
+    answers: Vec<Answer>,
+) -> Option<(bool, usize, u64)> {
+    let book: OnTime<Scripted, StepClock> = OnTime::new(Scripted {
+        answers,
+        shut: false,
+        down: false,
+    });
+    let script = Script::Each(Vec::new(alloc));
+    let mut caller = ScriptCaller::new(alloc, script, Vec::new(alloc));
+    let clock = StepClock::new(0);
+    match Turn::new(alloc, book, 2) {
+        Ok((turn, mut seats)) => {
+            let seat = &mut seats[1];
+            let ended = call_all(rt, alloc, &turn, seat, &mut caller, &clock, "", 0);
+            let book = turn.close(seats).into_book();
+            Some((ended.is_ok(), book.answers.len(), clock.now()))
+        }
+        Err(_) => None,
+    }
+}
+
 #[test]
 fn ends_where_nothing_is_left(rt: HostRuntime) -> Result<(), Fail> {
     let answers = vec![in rt.alloc(); Answer::Gave, Answer::Finished, Answer::Gave]?;
@@ -170,5 +200,13 @@ fn ends_where_the_book_is_down_or_memory_is_wanting(rt: HostRuntime) -> Result<(
     let answers = vec![in rt.alloc(); Answer::Gave, Answer::NoMemory]?;
     let ended = batcher_over(&rt, rt.alloc(), answers).ok_or("no memory")?;
     assert_eq!(rt; ended, (false, 1, 0));
+    Ok(())
+}
+
+#[test]
+fn a_book_on_time_does_as_the_book(rt: HostRuntime) -> Result<(), Fail> {
+    let answers = vec![in rt.alloc(); Answer::Gave, Answer::Down, Answer::Idle(1_300)]?;
+    let ended = batcher_on_time(&rt, rt.alloc(), answers).ok_or("no memory")?;
+    assert_eq!(rt; ended, (true, 1, 1_000));
     Ok(())
 }

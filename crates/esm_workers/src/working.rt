@@ -19,7 +19,7 @@ use std::thread;
 use std::thread::Threads;
 
 // The reader reads at this seat; answers whether want of memory stopped it.
-pub(crate) fn read<R: Wait, T: Kept, W: Reading<T>, C: Clock>(
+pub(crate) fn read<R: Wait, T: Pooled, W: Reading<T>, C: Clock>(
     rt: &R,
     alloc: Global,
     turn: &Turn<T>,
@@ -31,6 +31,7 @@ pub(crate) fn read<R: Wait, T: Kept, W: Reading<T>, C: Clock>(
     requires seated { IsSeated T.author T.may_follow C.gave turn.now 0 seat.old }
     requires unused { seat.old.mine ≡ [] }
     requires told { seat.old.change ≡ None }
+    requires given { (m : ℕ) → C.gave m ≡ true → T.given m ≡ true }
     ensures seated { IsSeated T.author T.may_follow C.gave turn.now 0 seat.new }
     ensures read { W.read turn.now.setup reader.old reader.new seat.new.seen seat.new.mark seat.new.change result }
     ensures shut { seat.new.mark ≡ false → is_shut (entries_told seat.new.seen) ≡ true }
@@ -50,7 +51,7 @@ struct Site<'a, R, T: Kept, C> {
 }
 
 // The reader's hand reads; answers whether want of memory stopped it.
-fn read_by<R: Wait, T: Kept, W: Reading<T>, C: Clock>(
+fn read_by<R: Wait, T: Pooled, W: Reading<T>, C: Clock>(
     site: &Site<R, T, C>,
     hand: &mut ReaderHand<T, W>,
 ) -> bool
@@ -58,6 +59,7 @@ fn read_by<R: Wait, T: Kept, W: Reading<T>, C: Clock>(
     requires seated { IsSeated T.author T.may_follow C.gave site.now.turn.now 0 hand.old.seat }
     requires unused { hand.old.seat.mine ≡ [] }
     requires told { hand.old.seat.change ≡ None }
+    requires given { (m : ℕ) → C.gave m ≡ true → T.given m ≡ true }
     ensures seated { IsSeated T.author T.may_follow C.gave site.now.turn.now 0 hand.new.seat }
     ensures read { W.read site.now.turn.now.setup hand.old.reader hand.new.reader hand.new.seat.seen hand.new.seat.mark hand.new.seat.change result }
 {
@@ -74,6 +76,7 @@ fn call<R: Wait, T: Pooled, C: Clock, F: Caller>(
     requires number { batcher < MAX_LANES }
     requires name { site.now.name.now ≡ site.now.turn.now.setup.config.function }
     requires ready { IsReady (meanings T.Kept T.Pooled.own C.Clock F.Caller) site.now.turn.now batcher hand.old }
+    requires given { (m : ℕ) → C.gave m ≡ true → T.given m ≡ true }
     ensures { HasWorked (meanings T.Kept T.Pooled.own C.Clock F.Caller) site.now.turn.now batcher hand.old hand.new }
 {
     let called = call_all(
@@ -97,6 +100,7 @@ fn call_each<R: Threads + Wait + Sync, T: Pooled + Send, C: Clock + Sync, F: Cal
     requires few { length hands.old ≤ MAX_LANES }
     requires name { site.now.name.now ≡ site.now.turn.now.setup.config.function }
     requires ready { AreReady (meanings T.Kept T.Pooled.own C.Clock F.Caller) site.now.turn.now hands.old }
+    requires given { (m : ℕ) → C.gave m ≡ true → T.given m ≡ true }
     ensures { (k : ℕ) (d : Hand T F) → k < length hands.old →
         HasWorked (meanings T.Kept T.Pooled.own C.Clock F.Caller) site.now.turn.now k (slice_index_or hands.old k d) (slice_index_or hands.new k d) }
 {
@@ -107,7 +111,8 @@ fn call_each<R: Threads + Wait + Sync, T: Pooled + Send, C: Clock + Sync, F: Cal
         threads,
         &|k: usize, hand: &mut Hand<T, F>|
             requires { (k < MAX_LANES) × (site.now.name.now ≡ site.now.turn.now.setup.config.function)
-                × IsReady (meanings T.Kept T.Pooled.own C.Clock F.Caller) site.now.turn.now k hand.now }
+                × IsReady (meanings T.Kept T.Pooled.own C.Clock F.Caller) site.now.turn.now k hand.now
+                × ((m : ℕ) → C.gave m ≡ true → T.given m ≡ true) }
             ensures { HasWorked (meanings T.Kept T.Pooled.own C.Clock F.Caller) site.entry.now.turn.now k hand.entry.now hand.exit.now }
         { call(site, k, hand) },
     );
@@ -122,6 +127,7 @@ fn call_first<R: Threads + Wait + Sync, T: Pooled + Send, C: Clock + Sync, F: Ca
     requires few { (count ≤ length hands.old) × (length hands.old ≤ MAX_LANES) }
     requires name { site.now.name.now ≡ site.now.turn.now.setup.config.function }
     requires ready { AreReady (meanings T.Kept T.Pooled.own C.Clock F.Caller) site.now.turn.now hands.old }
+    requires given { (m : ℕ) → C.gave m ≡ true → T.given m ≡ true }
     ensures { HaveWorked (meanings T.Kept T.Pooled.own C.Clock F.Caller) site.now.turn.now count hands.old hands.new }
 {
     let (working, _) = hands.split_at_mut(count);
@@ -149,18 +155,21 @@ fn read_beside<
     requires unused { reader.old.seat.mine ≡ [] }
     requires told { reader.old.seat.change ≡ None }
     requires ready { AreReady (meanings T.Kept T.Pooled.own C.Clock F.Caller) site.now.turn.now hands.old }
+    requires given { (m : ℕ) → C.gave m ≡ true → T.given m ≡ true }
     ensures seated { IsSeated T.author T.may_follow C.gave site.now.turn.now 0 reader.new.seat }
     ensures read { W.read site.now.turn.now.setup reader.old.reader reader.new.reader reader.new.seat.seen reader.new.seat.mark reader.new.seat.change result }
     ensures worked { HaveWorked (meanings T.Kept T.Pooled.own C.Clock F.Caller) site.now.turn.now count hands.old hands.new }
 {
     let mut calling = ||
         requires { (count ≤ length hands.now) × (length hands.now ≤ MAX_LANES) × (site.now.name.now ≡ site.now.turn.now.setup.config.function)
-            × AreReady (meanings T.Kept T.Pooled.own C.Clock F.Caller) site.now.turn.now hands.now }
+            × AreReady (meanings T.Kept T.Pooled.own C.Clock F.Caller) site.now.turn.now hands.now
+            × ((m : ℕ) → C.gave m ≡ true → T.given m ≡ true) }
         ensures { HaveWorked (meanings T.Kept T.Pooled.own C.Clock F.Caller) site.entry.now.turn.now count hands.entry.now hands.exit.now }
     { call_first(site, count, hands) };
     let mut reading = || -> bool
         requires { W.ready site.now.turn.now.setup reader.now.reader × IsSeated T.author T.may_follow C.gave site.now.turn.now 0 reader.now.seat
-            × (reader.now.seat.mine ≡ []) × (reader.now.seat.change ≡ None) }
+            × (reader.now.seat.mine ≡ []) × (reader.now.seat.change ≡ None)
+            × ((m : ℕ) → C.gave m ≡ true → T.given m ≡ true) }
         ensures { IsSeated T.author T.may_follow C.gave site.entry.now.turn.now 0 reader.exit.now.seat
             × W.read site.entry.now.turn.now.setup reader.entry.now.reader reader.exit.now.reader
             reader.exit.now.seat.seen reader.exit.now.seat.mark reader.exit.now.seat.change result }
@@ -198,6 +207,7 @@ pub(crate) fn call_some<
     requires few { (count ≤ length hands.old.items) × (length hands.old.items ≤ MAX_LANES) }
     requires name { name.now ≡ turn.now.setup.config.function }
     requires ready { AreReady (meanings T.Kept T.Pooled.own C.Clock F.Caller) turn.now hands.old.items }
+    requires given { (m : ℕ) → C.gave m ≡ true → T.given m ≡ true }
     ensures worked { HaveWorked (meanings T.Kept T.Pooled.own C.Clock F.Caller) turn.now count hands.old.items hands.new.items }
     ensures long { result ≡ false → AreLong hands.new.items }
 {
@@ -237,6 +247,7 @@ pub(crate) fn read_and_call<
     requires unused { reader.old.seat.mine ≡ [] }
     requires told { reader.old.seat.change ≡ None }
     requires ready { AreReady (meanings T.Kept T.Pooled.own C.Clock F.Caller) turn.now hands.old.items }
+    requires given { (m : ℕ) → C.gave m ≡ true → T.given m ≡ true }
     ensures seated { IsSeated T.author T.may_follow C.gave turn.now 0 reader.new.seat }
     ensures read { (short : Bool) × (result ≡ false → short ≡ false)
         × W.read turn.now.setup reader.old.reader reader.new.reader reader.new.seat.seen reader.new.seat.mark reader.new.seat.change short }

@@ -7,15 +7,15 @@ use Rattle.esm_workers.specs.Seated.{IsSeated}
 use Rattle.esm_pool.proofs.Seats.{found, gone_back, holds_found, same_found, given, own_follow}
 use Rattle.esm_pool.proofs.coming.note_end.Goals as goal
 
-pub end_input-requires : goal.end_input-requires
-end_input-requires g c =
+pub end_input-requires-clause-going : goal.end_input-requires-clause-going
+end_input-requires-clause-going g c =
     let m = meaning g.B.Kept in
     let gave = g.C.Clock.gave in
     let t = c.args.turn.now in
     let s : SeatView = c.args.seat.now in
     let x = c.take-value.result.value in
     let f = found m gave t s x c.requires.seated c.take-value.ensures.setup c.take-value.ensures.legal c.take-value.ensures.begins c.take-value.ensures.mine c.take-value.ensures.change in
-    record { going = same_found m gave t s x f (λ h. is_shut (entries_told h)) (c.stays.ensures.shut t.setup) ∙ c.requires.going }
+    same_found m gave t s x f (λ h. is_shut (entries_told h)) (c.stays.ensures.shut t.setup) ∙ c.requires.going
 
 pub returns-clause-seated : goal.returns-clause-seated
 returns-clause-seated g c =

@@ -16,6 +16,7 @@ use Rattle.esm_queue_book.specs.Keeping.{IsSound}
 use Rattle.esm_queue_book.proofs.Over.{FinishedAt}
 use Rattle.esm_queue_book.proofs.Pooling.{gone, goes_on, moments, calls_at, running_at, finished_told, spent_told, ok_then, err_then}
 use Rattle.esm_queue_book.proofs.PoolingNext.{NextDid, AnswersAt, HasAsked, asked, answers_told}
+use Rattle.esm_queue_book.proofs.PoolingTimed.{next_timed}
 use Rattle.esm_queue_book.proofs.pooled.QueueBookPooled.ask.Goals as goal
 
 pub next-answer-requires : goal.next-answer-requires
@@ -48,6 +49,7 @@ returns g c =
     record {
       goes_on = goes_on code (k + 1) c.args.moment old.core.setting.messages old new all.es (gone k c.args.moment old new all.es all.has) c.know-2.ensures.legal;
       moments = moments code (k + 1) c.args.moment old.core.setting.messages old new all.es (gone k c.args.moment old new all.es all.has);
+      timed = λ gave clock timed. next_timed gave d c.args.moment old new clock timed k r did;
       no_end = λ sends. calls_at code old new same after sends k ∙ (all.no_end sends ∙ sym (calls_at code old old refl before sends k));
       answer = ok_then (AnswersAt old.core.setting new.core.past k) (Answers QueueRests RunsQueueJob (setup_of code old) (told_of new.core) k) r (answers_told code k old new same after) all.answer;
       finished = ok_then (λ (x : Next). x ≡ next.Finished → FinishedAt old.core.setting new.core.past) (λ (x : Next). x ≡ next.Finished → QueueFinished (setup_of code old) (told_of new.core) k) r (λ x over is. finished_told code old new same after k (over is)) all.finished;

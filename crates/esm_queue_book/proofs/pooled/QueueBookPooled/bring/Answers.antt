@@ -14,6 +14,7 @@ use Rattle.esm_queue_book.specs.Coming.{IsMessage, messages_in_items}
 use Rattle.esm_queue_book.proofs.Standing.{past_told}
 use Rattle.esm_queue_book.proofs.Items.{are_messages, few_messages, valid_messages, room_for}
 use Rattle.esm_queue_book.proofs.PoolingCame.{CameDid, HasCome, may_come, come, none_come}
+use Rattle.esm_queue_book.proofs.PoolingTimed.{came_timed}
 use Rattle.esm_queue_book.proofs.Bringing.{brought}
 use Rattle.esm_queue_book.proofs.pooled.QueueBookPooled.bring.Goals as goal
 
@@ -41,7 +42,7 @@ returns-in_default g c =
     let has : HasCome c.args.moment (messages_in_items c.args.list.items) c.args.self.now c.args.self.now (Err refusal.OutOfMemory) =
     none_come t (messages_in_items list) old old refusal.OutOfMemory refl refl (λ is. is) (ap is_shut (sym (past_told old.core)) ∙ c.requires.going) (inl refl) (λ change same. absurd (cc)) refl in
     let b = brought code t list old old none (are_messages (is_fifo old.core.setting.config.kind) list c.requires.valid) c.know.ensures.sound c.know.ensures.legal has in
-    record { goes_on = b.goes_on; moments = b.moments; going = b.going; came = b.came; some = b.some; down = b.down; changed = b.changed; tells = b.tells }
+    record { goes_on = b.goes_on; moments = b.moments; timed = λ gave clock timed. timed; going = b.going; came = b.came; some = b.some; down = b.down; changed = b.changed; tells = b.tells }
 
 pub returns : goal.returns
 returns g c =
@@ -64,4 +65,4 @@ returns g c =
     let did : CameDid d t (messages_in_items list) old new r = subst (λ (ms : List Message). CameDid d t ms old new r) c.in-Ok.ensures given in
     let has : HasCome t (messages_in_items list) old new r = come d t (messages_in_items list) old new r did (ap is_shut (sym (past_told old.core)) ∙ c.requires.going) in
     let b = brought code t list old new r (are_messages (is_fifo old.core.setting.config.kind) list c.requires.valid) c.know.ensures.sound c.know-2.ensures.legal has in
-    record { goes_on = b.goes_on; moments = b.moments; going = b.going; came = b.came; some = b.some; down = b.down; changed = b.changed; tells = b.tells }
+    record { goes_on = b.goes_on; moments = b.moments; timed = λ gave clock timed. came_timed gave d t old new clock timed (messages_in_items list) r did; going = b.going; came = b.came; some = b.some; down = b.down; changed = b.changed; tells = b.tells }

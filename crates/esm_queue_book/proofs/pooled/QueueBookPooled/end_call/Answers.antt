@@ -10,6 +10,7 @@ use Rattle.esm_queue_book.specs.Books.{BookState, setup_of}
 use Rattle.esm_queue_book.specs.Keeping.{IsSound}
 use Rattle.esm_queue_book.proofs.Pooling.{RunsAt, gone, goes_on, moments, calls_at, running_at, runs_past}
 use Rattle.esm_queue_book.proofs.PoolingDone.{DoneDid, HasEnded, ended, is_running_job}
+use Rattle.esm_queue_book.proofs.PoolingTimed.{done_timed}
 use Rattle.esm_queue_book.proofs.pooled.QueueBookPooled.end_call.Goals as goal
 
 pub done-answer-requires : goal.done-answer-requires
@@ -43,6 +44,7 @@ returns g c =
     record {
       goes_on = goes_on code (k + 1) c.args.moment old.core.setting.messages old new all.es (gone k c.args.moment old new all.es all.has) c.know-2.ensures.legal;
       moments = moments code (k + 1) c.args.moment old.core.setting.messages old new all.es (gone k c.args.moment old new all.es all.has);
+      timed = λ gave clock timed. done_timed gave d c.args.moment old new clock timed job c.args.reply r did;
       called = λ other sends. calls_at code old new same after sends k ∙ (all.calls other sends
           ∙ ap (λ (cs : List Called). cs ++ call_of (setup_of code old) sends job.event c.args.reply ∷ []) (sym (calls_at code old old refl before sends k)));
       rests = λ other. running_at code old new k ∙ all.rests other;

@@ -1,6 +1,7 @@
 use Rattle.esm_io.specs.Meanings.{disk, destination}
 use Rattle.esm_stream_book.proofs.PoolingSteps.{rests_still}
 use Rattle.esm_stream_book.proofs.PoolingAsked.{may_ask, ask_goes_on, ask_moments, ask_no_end, ask_answer, ask_finished, ask_spent, ask_rests}
+use Rattle.esm_stream_book.proofs.PoolingTimed.{asked_timed}
 use Rattle.esm_stream_book.proofs.pooled.BookPooled.ask.Goals as goal
 
 pub next-answer-requires : goal.next-answer-requires
@@ -23,6 +24,12 @@ returns-clause-moments g c =
     c.args.batcher c.args.moment c.args.self.now c.next-answer.new.self c.next-answer.result
     (record { answer = e.answer; added = e.added; stopped = e.stopped; undelivered = e.undelivered; runs = e.runs; down = e.down; left = e.left; no_memory = e.no_memory })
     c.trouble-before.ensures.sound c.trouble-after.ensures.sound c.requires.rests
+
+pub returns-clause-timed : goal.returns-clause-timed
+returns-clause-timed g c = λ gave.
+    let e = c.next-answer.ensures in
+    asked_timed gave (disk g.D.Disk) (destination g.T.Dest) c.args.batcher c.args.moment c.args.self.now c.next-answer.new.self c.next-answer.result
+    (record { answer = e.answer; added = e.added; stopped = e.stopped; undelivered = e.undelivered; runs = e.runs; down = e.down; left = e.left; no_memory = e.no_memory })
 
 pub returns-clause-no_end : goal.returns-clause-no_end
 returns-clause-no_end g c =

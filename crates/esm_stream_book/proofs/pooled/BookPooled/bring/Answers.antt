@@ -8,6 +8,7 @@ use Rattle.esm_stream_core.specs.Calls.{Differs}
 use Rattle.esm_stream_core.specs.Told.{told_of}
 use Rattle.esm_stream_book.proofs.PoolingCame.{come_by, AreAdded, SomeAdded, has_come, came_tells}
 use Rattle.esm_stream_book.proofs.PoolingRead.{read_goes_on, read_moments, read_shut, shut_read, records_valid, records_few, come_if, some_items, none_items, differs_told}
+use Rattle.esm_stream_book.proofs.PoolingTimed.{came_timed}
 use Rattle.esm_stream_book.proofs.pooled.BookPooled.bring.Goals as goal
 
 pub returns-in_default-clause-some : goal.returns-in_default-clause-some
@@ -40,6 +41,12 @@ returns-clause-moments g c =
     c.in-Ok.records.items c.args.moment c.args.self.now c.came-answer.new.self c.came-answer.result
     (record { added = e.added; stopped = e.stopped; changed = e.changed; down = e.down; left = e.left; no_memory = e.no_memory }) c.trouble-before.ensures.sound (shut_read c.args.self.now false c.requires.going) in
     read_moments g.row.D.coded g.row.T.coded g.T.Dest.lines c.args.moment c.args.self.now c.came-answer.new.self so.brought
+
+pub returns-clause-timed : goal.returns-clause-timed
+returns-clause-timed g c = λ gave.
+    let e = c.came-answer.ensures in
+    came_timed gave (disk g.D.Disk) (destination g.T.Dest) c.in-Ok.records.items c.args.moment c.args.self.now c.came-answer.new.self c.came-answer.result
+    (record { added = e.added; stopped = e.stopped; changed = e.changed; down = e.down; left = e.left; no_memory = e.no_memory })
 
 pub returns-clause-going : goal.returns-clause-going
 returns-clause-going g c =

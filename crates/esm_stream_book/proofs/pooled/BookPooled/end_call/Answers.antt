@@ -1,6 +1,7 @@
 use Rattle.esm_io.specs.Meanings.{disk, destination}
 use Rattle.esm_stream_book.proofs.PoolingSteps.{runs_still}
 use Rattle.esm_stream_book.proofs.PoolingEnded.{may_end, end_goes_on, end_moments, end_called, end_rests}
+use Rattle.esm_stream_book.proofs.PoolingTimed.{ended_timed}
 use Rattle.esm_stream_book.proofs.pooled.BookPooled.end_call.Goals as goal
 
 pub done-answer-requires : goal.done-answer-requires
@@ -23,6 +24,12 @@ returns-clause-moments g c =
     c.args.batcher c.args.moment c.args.job c.args.reply c.args.self.now c.done-answer.new.self c.done-answer.result
     (record { added = e.added; stopped = e.stopped; undelivered = e.undelivered; noted = e.noted; down = e.down; no_memory = e.no_memory })
     c.trouble-before.ensures.sound c.trouble-after.ensures.sound c.requires.runs
+
+pub returns-clause-timed : goal.returns-clause-timed
+returns-clause-timed g c = λ gave.
+    let e = c.done-answer.ensures in
+    ended_timed gave (disk g.D.Disk) (destination g.T.Dest) c.args.job c.args.reply c.args.moment c.args.self.now c.done-answer.new.self c.done-answer.result
+    (record { added = e.added; stopped = e.stopped; undelivered = e.undelivered; noted = e.noted; down = e.down; no_memory = e.no_memory })
 
 pub returns-clause-called : goal.returns-clause-called
 returns-clause-called g c =
