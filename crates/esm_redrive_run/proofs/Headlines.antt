@@ -12,7 +12,7 @@ use Rattle.esm_model.specs.declared.book.Trouble.{Trouble}
 use Rattle.esm_model.specs.declared.book.Trouble.TheVariants.{Disk, Dest, Changed}
 use Rattle.esm_model.specs.declared.entry.Entry.{Entry}
 use Rattle.esm_model.specs.Books.{entry_line}
-use Rattle.esm_model.specs.Entries.{CallsFollowShut}
+use Rattle.esm_model.specs.Entries.{CallsFollowShut, moment_of}
 use Rattle.esm_queue_model.specs.QueueSetting.{is_fifo}
 use Rattle.esm_book.specs.Decided.{written_of}
 use Rattle.esm_book.specs.Growth.{IsHeld, OpensToFront, ReadsFront}
@@ -25,17 +25,18 @@ use Rattle.esm_redrive_core.specs.Told.{redrive_entry}
 use Rattle.esm_redrive_book.specs.Books.{redrive_meaning, payload_in, line_in}
 use Rattle.esm_redrive_core.specs.Told.{owed_of}
 use Rattle.esm_redrive_book.specs.Keeping.{FollowsFront, entries_left}
+use Rattle.esm_redrive_book.specs.Moments.{AreTimed, IsTimedView}
 use Rattle.esm_redrive_model.specs.RedriveSetting.{RedriveSetting, HaveSameIds, redrive_over, with_dead_ids}
 use Rattle.esm_redrive_life.specs.Content.{HasValidMessages, IsOpenedOver}
 use Rattle.esm_redrive_model.specs.RedriveLaws.{HaveDifferentIds}
 use Rattle.esm_redrive_model.specs.RedriveStep.{SettledRedrive}
 use Rattle.esm_runner.specs.Files.{FilesState}
-use Rattle.esm_runner.specs.Given.{AreGiven}
+use Rattle.esm_runner.specs.Given.{AreGiven, IsGiven}
 use Rattle.esm_runner.specs.Headline.{PairStopped}
 use Rattle.esm_runner.proofs.Headlines.{hand_has, in_hand_few, is_in_hand, not_disk}
-use Rattle.esm_runner.proofs.Stopped.{HasGoneDown, filter_map_few, pair_stopped}
+use Rattle.esm_runner.proofs.Stopped.{HasGoneDown, filter_map_few, in_order, pair_stopped}
 use Rattle.esm_redrive_run.specs.Book.{Book}
-use Rattle.esm_redrive_run.specs.Headline.{CrashKept, DeadLettersKept, Disks, Headline, IsTried, JournalKept, JournalStopped, LettersCrashKept, LinesKept, LinesStandFirst, LinesStopped, OpensToFrontOf, OpensToLettersOf, OpensWithLetters, dead_letters}
+use Rattle.esm_redrive_run.specs.Headline.{CrashKept, CrashKeptSinceOpening, DeadLettersKept, Disks, Headline, IsTried, JournalKept, JournalStopped, LettersCrashKept, LettersCrashKeptSinceOpening, LinesKept, LinesStandFirst, LinesStandFirstSinceOpening, LinesStopped, OpensToFrontOf, OpensToLettersOf, OpensWithLetters, dead_letters}
 use Rattle.esm_redrive_run.specs.Laws.{AreLaws}
 use Rattle.esm_redrive_run.specs.Runs.{IsLeft, dead_file}
 use Rattle.esm_redrive_run.proofs.AllEarned.{all_earned}
@@ -58,6 +59,12 @@ is_tried_so None owed one = refl
 is_tried_so (Some Disk) owed one = refl
 is_tried_so (Some Dest) owed one = one refl
 is_tried_so (Some (Changed change)) owed one = refl
+
+-- the clock gave the moment of the only one of these entries, behind the front that it follows
+given_behind : (gave : ℕ → Bool) (s : RedriveSetting) (h es : List Entry) (e : Entry) → AreLaws → AreTimed gave es → es ≡ e ∷ [] → (follows : FollowsFront s h e) → IsGiven gave follows.before (moment_of e)
+given_behind gave s h es e laws timed some follows =
+    let one : AreTimed gave (e ∷ []) = subst (AreTimed gave) some timed in
+    laws.front gave s h e follows one.0
 
 -- the devices are those of the book
 pub record AreOf {D : Type 0} (b : Book D) (new : Disks D) : Type 0 where
@@ -119,6 +126,15 @@ module _ {D : Type 0} (m : DiskMeaning D) (f : FilesState D) (b : Book D) (left 
             (subst (λ (list : List (List ℕ)). PairOpensTo (header_of 2) b.found.epoch (b.found.payloads ++ list) one other) payloads o.opens);
       }
 
+  -- since the opening
+  opened_front : m.honest f.pair.used ≡ true → m.honest f.pair.spare ≡ true → (one other : List ℕ) → m.since b.pair.used (m.moment f.pair.used) one → m.since b.pair.spare (m.moment f.pair.spare) other
+      → OpensToFrontOf own.queue.messages f.pair.epoch f.pair.payloads (reverse b.core.past ++ hand) one other
+  opened_front used spare one other since other_since =
+      front_of one other
+      (left.images (subst (λ (p : PairState D). m.honest p.used ≡ true) (sym left.found) used) (subst (λ (p : PairState D). m.honest p.spare ≡ true) (sym left.found) spare) one other
+      (subst (λ (p : PairState D). m.since b.pair.used (m.moment p.used) one) (sym left.found) since)
+      (subst (λ (p : PairState D). m.since b.pair.spare (m.moment p.spare) other) (sym left.found) other_since))
+
   -- a disk that failed
 
   parts_left : (front rest : List Entry) → front ++ rest ≡ reverse b.core.past ++ hand
@@ -140,10 +156,7 @@ module _ {D : Type 0} (m : DiskMeaning D) (f : FilesState D) (b : Book D) (left 
         few = omega (arith, few, fewer);
         still = left.pair_stopped;
         leaves = λ used spare one other since other_since.
-            let o = front_of one other
-            (left.images (subst (λ (p : PairState D). m.honest p.used ≡ true) (sym left.found) used) (subst (λ (p : PairState D). m.honest p.spare ≡ true) (sym left.found) spare) one other
-            (subst (λ (p : PairState D). m.since b.pair.used (m.moment p.used) one) (sym left.found) since)
-            (subst (λ (p : PairState D). m.since b.pair.spare (m.moment p.spare) other) (sym left.found) other_since)) in
+            let o = opened_front used spare one other since other_since in
             record {
               front = payloads_in own.queue.messages o.front;
               rest = payloads_in own.queue.messages o.rest;
@@ -214,6 +227,19 @@ module _ {D : Type 0} (m : DiskMeaning D) (f : FilesState D) (b : Book D) (left 
         | inr front ↦ letters_of f.dest.payloads all lines bytes (all_lines_are b left.sound left.consistent) front
       ]
 
+  -- and each since it was opened
+  letters_opened : m.honest f.failures ≡ true → (bytes : List ℕ) → m.since b.dest.disk (m.moment f.dest.disk) bytes → OpensToLettersOf f.dest.payloads (reverse b.core.past ++ hand ++ tried) bytes
+  letters_opened honest bytes since =
+      let all : List Entry = reverse b.core.past ++ hand ++ tried in
+      let lines = map (λ line. line) (written_of line_in (entries_left b ++ in_delivery b.trouble (owed_of b.core))) in
+      let takes = left.written.grown.delivered.images (found_honest honest) f.dest.payloads found_lines_told in
+      let from : m.since b.dest.disk (m.moment b.found_dest.disk) bytes = subst (λ (d : JournalState D). m.since b.dest.disk (m.moment d.disk) bytes) (sym left.found_dest) since in
+      elim (takes.images (m.moment b.found_dest.disk) bytes (omega arith) from) [
+        | inl was ↦
+            record { front = []; rest = all; split = refl; opens = subst (λ (ls : List (List ℕ)). OpensTo (header_of 1) ls bytes) (sym (append-nil f.dest.payloads)) (held_at_first honest bytes was) }
+        | inr front ↦ letters_of f.dest.payloads all lines bytes (all_lines_are b left.sound left.consistent) front
+      ]
+
   -- and the devices as they were handed back
 
   module _ (new : Disks D) (of : AreOf b new) where
@@ -235,6 +261,14 @@ module _ {D : Type 0} (m : DiskMeaning D) (f : FilesState D) (b : Book D) (left 
         (left.since honest.0 honest.1 settled.0 settled.1 one other
         (subst (λ (d : D). m.since d (m.moment f.journal) one) of.journal since)
         (subst (λ (d : D). m.since d (m.moment f.spare) other) of.spare other_since))
+
+    crash_opened : CrashKeptSinceOpening m f own b.core.past hand new
+    crash_opened honest one other since other_since =
+        let both = are_honest m f.pair.swapped f.journal f.spare f.pair.used f.pair.spare left.files.read honest in
+        in_order m f.pair.swapped f.pair.used f.pair.spare b.pair.used b.pair.spare (OpensToFrontOf own.queue.messages f.pair.epoch f.pair.payloads (reverse b.core.past ++ hand))
+        (opened_front both.0 both.1) (λ x y o. record { front = o.front; rest = o.rest; split = o.split; opens = (o.opens.1, o.opens.0) }) one other
+        (subst (λ (s : Bool). m.since (if s then b.pair.spare else b.pair.used) (m.moment (first_disk f.pair)) one) swapped_is (subst (λ (d : D). m.since d (m.moment (first_disk f.pair)) one) of.journal since))
+        (subst (λ (s : Bool). m.since (if s then b.pair.used else b.pair.spare) (m.moment (second_disk f.pair)) other) swapped_is (subst (λ (d : D). m.since d (m.moment (second_disk f.pair)) other) of.spare other_since))
 
     lines_up : (lines : List (List ℕ)) → b.dest.payloads ≡ f.dest.payloads ++ lines → b.dest.down ≡ false → LinesKept m f lines new
     lines_up lines grown up honest =
@@ -259,9 +293,12 @@ module _ {D : Type 0} (m : DiskMeaning D) (f : FilesState D) (b : Book D) (left 
     letters_crash : LettersCrashKept m f b.core.past hand tried new
     letters_crash honest settled bytes since = letters_since honest settled bytes (subst (λ (d : D). m.since d (m.moment f.failures) bytes) of.dead since)
 
-    stand_first : LinesStandFirst m f own b.core.past hand new
-    stand_first honest settled dead one other bytes since other_since image =
-        let o = crash_kept honest settled one other since other_since in
+    letters_since_opening : LettersCrashKeptSinceOpening m f b.core.past hand tried new
+    letters_since_opening honest bytes since = letters_opened honest bytes (subst (λ (d : D). m.since d (m.moment f.dest.disk) bytes) of.dead since)
+
+    letters_stand : m.honest f.failures ≡ true → (one other bytes : List ℕ) → OpensToFrontOf own.queue.messages f.pair.epoch f.pair.payloads (reverse b.core.past ++ hand) one other → m.image new.dead bytes
+        → OpensWithLetters own.queue.messages f.pair.epoch f.pair.payloads f.dest.payloads (reverse b.core.past ++ hand) one other bytes
+    letters_stand dead one other bytes o image =
         let now = letters_now dead bytes (subst (λ (d : D). m.image d bytes) of.dead image) in
         let both : dead_letters (reverse b.core.past ++ hand) ≡ dead_letters o.front ++ dead_letters o.rest = ap dead_letters (sym o.split) ∙ filter_map-append entry_line o.front o.rest in
         let further : List (List ℕ) = dead_letters now.front in
@@ -278,6 +315,12 @@ module _ {D : Type 0} (m : DiskMeaning D) (f : FilesState D) (b : Book D) (left 
               now.opens;
         }
 
+    stand_first : LinesStandFirst m f own b.core.past hand new
+    stand_first honest settled dead one other bytes since other_since image = letters_stand dead one other bytes (crash_kept honest settled one other since other_since) image
+
+    stand_first_opened : LinesStandFirstSinceOpening m f own b.core.past hand new
+    stand_first_opened honest dead one other bytes since other_since image = letters_stand dead one other bytes (crash_opened honest one other since other_since) image
+
     -- an entry follows a front, over other ids of the same lines
     follows_ids : (ids : List (List ℕ)) → HaveSameIds own.dead_ids ids → AreLaws → (e : Entry) → FollowsFront own b.core.past e → FollowsFront (with_dead_ids own ids) b.core.past e
     follows_ids ids same laws e front = record {
@@ -289,9 +332,9 @@ module _ {D : Type 0} (m : DiskMeaning D) (f : FilesState D) (b : Book D) (left 
     }
 
     -- all of it, over other ids of the same lines
-    pub headline : (gave : ℕ → Bool) (ids : List (List ℕ)) → HaveSameIds own.dead_ids ids → own.queue.deletions ≡ f.said.deletions → HaveDifferentIds own.queue.messages → length own.queue.messages < 2 ^ 32 → AreLaws → AreGiven gave b.core.past → CallsFollowShut b.core.past
+    pub headline : (gave : ℕ → Bool) (ids : List (List ℕ)) → HaveSameIds own.dead_ids ids → own.queue.deletions ≡ f.said.deletions → HaveDifferentIds own.queue.messages → length own.queue.messages < 2 ^ 32 → AreLaws → AreGiven gave b.core.past → IsTimedView gave b.core → CallsFollowShut b.core.past
         → Headline m gave f (with_dead_ids own ids) b.core.past b.trouble hand tried new
-    headline gave ids same deletions different few laws given later =
+    headline gave ids same deletions different few laws given timed later =
         let s : RedriveSetting = with_dead_ids own ids in
         let legal = (laws.same own ids b.core.past same).legal left.sound.legal in
         let valid : HasValidMessages s.queue = record { valid = left.consistent.valid; few = few } in
@@ -309,14 +352,19 @@ module _ {D : Type 0} (m : DiskMeaning D) (f : FilesState D) (b : Book D) (left 
           in_hand = is_in_hand (queue_payload own.queue.messages) b.trouble b.core.owed left.sound.hand_is_one;
           hand_has_payload = hand_has (queue_payload own.queue.messages) b.trouble b.core.owed left.sound.hand_is_one;
           hand_follows = λ e some. follows_ids ids same laws e (left.sound.hand e some);
+          hand_given = λ e some. given_behind gave s b.core.past hand e laws (laws.hand gave b.core b.trouble timed) some (follows_ids ids same laws e (left.sound.hand e some));
           crash = crash_kept;
+          crash_since_opening = crash_opened;
           dead_letters_kept = letters_kept b.trouble refl;
           is_tried = is_tried_so b.trouble b.core.owed left.sound.tried_is_one;
           tried_follows = λ e some. follows_ids ids same laws e (left.sound.tried e some);
+          tried_given = λ e some. given_behind gave s b.core.past tried e laws (laws.tried gave b.core b.trouble timed) some (follows_ids ids same laws e (left.sound.tried e some));
           hand_moves = λ e line some has. further_moves s b.core.past e line (laws.due s) different (follows_ids ids same laws e (left.sound.hand e some)) has;
           tried_moves = λ e line some has. further_moves s b.core.past e line (laws.due s) different (follows_ids ids same laws e (left.sound.tried e some)) has;
           letters_crash = letters_crash;
+          letters_since_opening = letters_since_opening;
           lines_stand_first = stand_first;
+          lines_first_since_opening = stand_first_opened;
           deletions_are_recorded = laws.recorded s b.core.past f.pair.payloads opened valid legal;
           valid = valid;
           letters = left.consistent.letters;

@@ -3,6 +3,7 @@ pub mod Stepping
 pub mod Bringing
 pub mod Asking
 pub mod Ending
+pub mod Timed
 pub mod Items
 pub mod Stays
 pub mod Written

@@ -11,6 +11,7 @@ use Rattle.esm_redrive_model.specs.RedriveSetting.{RedriveSetting, redrive_over}
 use Rattle.esm_redrive_model.specs.RedriveReport.{redrive_calls}
 use Rattle.esm_redrive_model.specs.RedriveStep.{LegalRedrive}
 use Rattle.esm_redrive_core.specs.RedriveView.{RedriveView}
+use Rattle.esm_redrive_book.specs.Moments.{IsTimedView}
 use Rattle.esm_runner.specs.Given.{AreGiven}
 use Rattle.esm_redrive_run.specs.Book.{Book, HasGoneOn, IsLegalBook}
 use Rattle.esm_redrive_run.proofs.Following.{Each, IsAtMoment, given_more}
@@ -25,24 +26,29 @@ pub record HasStepped {D : Type 0} (t : ℕ) (old new : Book D) (more : (List �
   pub called : (sends : List ℕ → List ℕ) → redrive_calls new.core.setting sends new.core.past ≡ redrive_calls old.core.setting sends old.core.past ++ more sends
   pub later : CallsFollowShut old.core.past → CallsFollowShut new.core.past
 
+-- where the clock gave the moment t, and those of all that the old book has and owes, it gave those of the new one
+abbrev pub StaysTimed : {D : Type 0} → ℕ → (old new : Book D) → Type 0
+StaysTimed t old new = (gave : ℕ → Bool) → gave t ≡ true → IsTimedView gave old.core → IsTimedView gave new.core
+
 abbrev pub no_calls : (List ℕ → List ℕ) → List Called
 no_calls sends = []
 
-pub gone_on : {D : Type 0} (t : ℕ) (old new : Book D) (more : (List ℕ → List ℕ) → List Called) (gave : ℕ → Bool) (sends : List ℕ → List ℕ) (first : Book D) (calls : List Called) → HasStepped t old new more → gave t ≡ true → HasGoneOn gave sends first old calls
+pub gone_on : {D : Type 0} (t : ℕ) (old new : Book D) (more : (List ℕ → List ℕ) → List Called) (gave : ℕ → Bool) (sends : List ℕ → List ℕ) (first : Book D) (calls : List Called) → HasStepped t old new more → StaysTimed t old new → gave t ≡ true → HasGoneOn gave sends first old calls
     → HasGoneOn gave sends first new (calls ++ more sends)
-gone_on t old new more gave sends first calls step clock before = record {
+gone_on t old new more gave sends first calls step stays clock before = record {
   opened = step.opened ∙ ap (λ (s : RedriveSetting). redrive_over s new.core.setting.queue.messages) before.opened;
   found = step.found ∙ before.found;
   found_dest = step.found_dest ∙ before.found_dest;
   sound = λ is. step.sound (before.sound is);
   moments = λ all. step.moments gave clock (before.moments all);
+  timed = λ all. stays gave clock (before.timed all);
   called = step.called sends ∙ (ap (λ (cs : List Called). cs ++ more sends) before.called ∙ append_assoc (redrive_calls first.core.setting sends first.core.past) calls (more sends));
   later = λ all. step.later (before.later all);
 }
 
-pub gone_none : {D : Type 0} (t : ℕ) (old new : Book D) (gave : ℕ → Bool) (sends : List ℕ → List ℕ) (first : Book D) (calls : List Called) → HasStepped t old new no_calls → gave t ≡ true → HasGoneOn gave sends first old calls
+pub gone_none : {D : Type 0} (t : ℕ) (old new : Book D) (gave : ℕ → Bool) (sends : List ℕ → List ℕ) (first : Book D) (calls : List Called) → HasStepped t old new no_calls → StaysTimed t old new → gave t ≡ true → HasGoneOn gave sends first old calls
     → HasGoneOn gave sends first new calls
-gone_none t old new gave sends first calls step clock before = subst (HasGoneOn gave sends first new) (append-nil calls) (gone_on t old new no_calls gave sends first calls step clock before)
+gone_none t old new gave sends first calls step stays clock before = subst (HasGoneOn gave sends first new) (append-nil calls) (gone_on t old new no_calls gave sends first calls step stays clock before)
 
 -- these entries were added over these messages
 pub stepped : {D : Type 0} (t : ℕ) (old new : Book D) (messages : List Message) (es : List Entry) (more : (List ℕ → List ℕ) → List Called) → new.core.past ≡ reverse es ++ old.core.past → new.core.setting ≡ redrive_over old.core.setting messages

@@ -1,7 +1,7 @@
 -- How the run of a redrive ended, from how its caller came to its end.
-use Rattle.std.proofs.Common.{◌≡◌, ◌∙◌, ◌+◌, ◌<◌, ◌≤◌, ◌^◌, ℕ, Bool, true, false, cond, List, [], ◌∷◌, ◌++◌, length, Result, Ok, Err, Option, Some, None, ap, append-nil, append_assoc, arith, inl, inr, length-append, refl, subst, sym}
+use Rattle.std.proofs.Common.{◌≡◌, ◌∙◌, ◌+◌, ◌<◌, ◌≤◌, ◌^◌, ℕ, Bool, true, false, List, [], ◌∷◌, ◌++◌, length, Result, Ok, Err, Option, Some, None, ap, append-nil, append_assoc, arith, inl, inr, refl, subst, sym}
 use Rattle.std.proofs.lemmas.Option.{slice_get_within}
-use Rattle.std.specs.Prelude.{◌⊎◌, IfOk, IsErr, OnErr, OnOk, is_some, map, slice_get, ◌==◌}
+use Rattle.std.specs.Prelude.{◌⊎◌, IfOk, IsErr, OnErr, OnOk, is_some, slice_get}
 use Rattle.esm_io.specs.Faults.{Rose}
 use Rattle.esm_io.specs.Meanings.{DiskMeaning}
 use Rattle.esm_io.specs.Told.{Grows, TakesFront}
@@ -13,13 +13,12 @@ use Rattle.esm_model.specs.declared.called.Called.{Called}
 use Rattle.esm_model.specs.declared.config.Start.{Start}
 use Rattle.esm_model.specs.declared.entry.Entry.{Entry}
 use Rattle.esm_model.specs.declared.item.Item.{Item}
-use Rattle.esm_model.specs.declared.item.Item.TheVariants.{Stream, Queue}
 use Rattle.esm_model.specs.declared.item.LineKind.{LineKind}
 use Rattle.esm_model.specs.declared.item.Message.{Message}
-use Rattle.esm_model.specs.declared.limits.TheConstants.{MAX_BATCH, MAX_RECORDS}
+use Rattle.esm_model.specs.declared.limits.TheConstants.{MAX_BATCH}
 use Rattle.esm_model.specs.declared.memory.OutOfMemory.{OutOfMemory}
 use Rattle.esm_model.specs.declared.setup.FoundDeletion.{FoundDeletion}
-use Rattle.esm_model.specs.Coming.{items_of, AreCome, AreSomeCome}
+use Rattle.esm_model.specs.Coming.{AreCome, AreSomeCome}
 use Rattle.esm_model.specs.Entries.{CallsFollowShut}
 use Rattle.esm_model.specs.Kept.{change_of}
 use Rattle.esm_book.specs.State.{in_delivery, in_hand}
@@ -40,6 +39,7 @@ use Rattle.esm_redrive_model.specs.RedriveReport.{redrive_calls}
 use Rattle.esm_redrive_model.specs.RedriveStep.{LegalRedrive}
 use Rattle.esm_redrive_model.specs.RedriveSetting.{RedriveSetting, HaveSameIds, redrive_over, with_dead_ids}
 use Rattle.esm_redrive_book.specs.Keeping.{IsCause}
+use Rattle.esm_redrive_book.specs.Moments.{IsTimedView}
 use Rattle.esm_runner.specs.Files.{FilesState}
 use Rattle.esm_runner.specs.Given.{AreGiven}
 use Rattle.esm_runner.specs.QueueEnded.{IsChanged, line_kind}
@@ -61,56 +61,10 @@ use Rattle.esm_redrive_run.specs.declared.run.RedriveEnd.TheVariants as end
 use Rattle.esm_redrive_run.proofs.Different.{came_apart, handed_apart}
 use Rattle.esm_redrive_run.proofs.Following.{arrivals_open, arrivals_unbegun}
 use Rattle.esm_redrive_run.proofs.Headlines.{AreOf, headline, disk_rose, dest_rose}
+use Rattle.esm_redrive_run.proofs.Items.{all_told, few_of, items_both, messages_few, some_told}
 use Rattle.esm_redrive_run.proofs.InputRead.{IsMadeFor, IsReadSo, read_in_part, read_whole}
 use Rattle.esm_redrive_run.proofs.Settling.{never_called, none_begun}
 use Rattle.esm_redrive_run.proofs.KeptIds.{none_came_changed, none_before}
-
--- the messages of items
-
-items_both : (xs ys : List Item) → messages_in_items (xs ++ ys) ≡ messages_in_items xs ++ messages_in_items ys
-items_both [] ys = refl
-items_both (Stream r ∷ xs) ys = items_both xs ys
-items_both (Queue m ∷ xs) ys = ap (λ (l : List Message). m ∷ l) (items_both xs ys)
-
-own_either : (b : Bool) (r : Item) (xs : List Item) → messages_in_items (r ∷ []) ≡ [] → messages_in_items (cond b (r ∷ xs) xs) ≡ messages_in_items xs
-own_either true r xs none = items_both (r ∷ []) xs ∙ ap (λ (l : List Message). l ++ messages_in_items xs) none
-own_either false r xs none = refl
-
--- those of a queue's shard are all of them
-own_messages : (xs : List Item) → messages_in_items (items_of 0 xs) ≡ messages_in_items xs
-own_messages [] = refl
-own_messages (Stream r ∷ xs) = own_either (r.shard == 0) (Stream r) (items_of 0 xs) refl ∙ own_messages xs
-own_messages (Queue m ∷ xs) = ap (λ (l : List Message). m ∷ l) (own_messages xs)
-
-messages_back : (ms : List Message) → messages_in_items (map Queue ms) ≡ ms
-messages_back [] = refl
-messages_back (m ∷ ms) = ap (λ (l : List Message). m ∷ l) (messages_back ms)
-
-all_told : {D : Type 0} (b : Book D) (items : List Item) → AreCome (items_in b) items → b.core.setting.queue.messages ≡ messages_in_items items
-all_told b items come = sym (messages_back b.core.setting.queue.messages) ∙ (ap messages_in_items (come 0) ∙ own_messages items)
-
-some_told : {D : Type 0} (b : Book D) (items : List Item) → AreSomeCome (items_in b) items → (rest : List Message) × (messages_in_items items ≡ b.core.setting.queue.messages ++ rest)
-some_told b items come =
-    let rest : List Item = (come 0).0 in (
-      messages_in_items (come 0).0,
-      sym (own_messages items)
-          ∙ (ap messages_in_items (come 0).1
-          ∙ (items_both (map Queue b.core.setting.queue.messages) rest
-          ∙ ap (λ (l : List Message). l ++ messages_in_items rest) (messages_back b.core.setting.queue.messages))),
-    )
-
--- the messages are as few as the items of an input
-
-messages_few : (xs : List Item) → length (messages_in_items xs) ≤ length xs
-messages_few [] = omega arith
-messages_few (Stream r ∷ xs) = (let rest = messages_few xs in omega (arith, rest))
-messages_few (Queue m ∷ xs) = (let rest = messages_few xs in omega (arith, rest))
-
-few_of : (own rest : List Message) (items : List Item) → messages_in_items items ≡ own ++ rest → length items ≤ MAX_RECORDS → length own < 2 ^ 32
-few_of own rest items split few =
-    let all = messages_few items in
-    let both : length (messages_in_items items) ≡ length own + length rest = ap (λ (l : List Message). length l) split ∙ length-append own rest in
-    omega (arith, all, both, few)
 
 -- a serial run's book is seen as a redrive's
 pub record Means {B D : Type 0} (m : Serial B) (see : B → Book D) : Type 0 where
@@ -187,6 +141,9 @@ module _ {B D F : Type 0} (m : Serial B) (see : B → Book D) (means : Means m s
 
   given_so : (calls : List Called) → m.since clock_gave sent first now calls → AreGiven clock_gave past
   given_so calls since = (means.since clock_gave sent first now calls since).moments (subst (AreGiven clock_gave) (sym first_past) tt)
+
+  timed_so : (calls : List Called) → m.since clock_gave sent first now calls → IsTimedView clock_gave (see now).core
+  timed_so calls since = (means.since clock_gave sent first now calls since).timed (subst (IsTimedView clock_gave) (sym stood.core) (record { past = tt; owed = tt }))
 
   later_so : (calls : List Called) → m.since clock_gave sent first now calls → CallsFollowShut past
   later_so calls since = (means.since clock_gave sent first now calls since).later (subst CallsFollowShut (sym first_past) tt)
@@ -328,7 +285,7 @@ module _ {B D F : Type 0} (m : Serial B) (see : B → Book D) (means : Means m s
   head_of : (calls : List Called) → m.since clock_gave sent first now calls → HaveDifferentIds own.queue.messages → length own.queue.messages < 2 ^ 32 → AreLaws → IsLeft t.disk f (see now) → (new : Disks D) → AreOf (see now) new
       → Headline t.disk clock_gave f own past (see now).trouble hand_now tried_now new
   head_of calls since different few laws left new of =
-      headline t.disk f (see now) left new of clock_gave ids (same_ids calls since) (deletions_of now calls since) different few laws (given_so calls since) (later_so calls since)
+      headline t.disk f (see now) left new of clock_gave ids (same_ids calls since) (deletions_of now calls since) different few laws (given_so calls since) (timed_so calls since) (later_so calls since)
 
   different_handed : {S : Type 0} (i : InputState S) (start log : Option (List Called)) (r : RunEnd) → serial.CameSo m clock_gave first now i start log r → HaveDifferentIds own.queue.messages
   different_handed i start log r came =

@@ -22,6 +22,7 @@ use Rattle.esm_redrive_model.specs.RedriveReport.{redrive_calls}
 use Rattle.esm_redrive_model.specs.RedriveStep.{LegalRedrive}
 use Rattle.esm_redrive_core.specs.Refusing.{IsFirstChange}
 use Rattle.esm_redrive_book.specs.Books.{BookState}
+use Rattle.esm_redrive_book.specs.Moments.{IsTimedView}
 use Rattle.esm_runner.specs.Given.{AreGiven}
 
 -- over a dead-letter file
@@ -42,6 +43,8 @@ pub record HasGoneOn {D : Type 0} (gave : ℕ → Bool) (sends : List ℕ → Li
   pub sound : IsLegalBook first → IsLegalBook now
   -- each moment is one that the clock gave, or that of the entry before it where that is later
   pub moments : AreGiven gave first.core.past → AreGiven gave now.core.past
+  -- the clock gave that of each entry that is owed too: of the one in hand, and of the one whose line was being delivered
+  pub timed : IsTimedView gave first.core → IsTimedView gave now.core
   pub called : redrive_calls now.core.setting sends now.core.past ≡ redrive_calls first.core.setting sends first.core.past ++ calls
   -- calls begin after the end of the input
   pub later : CallsFollowShut first.core.past → CallsFollowShut now.core.past

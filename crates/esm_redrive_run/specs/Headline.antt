@@ -4,7 +4,7 @@ use Rattle.std.specs.List.{All, filter_map}
 use Rattle.esm_io.specs.Images.{Only}
 use Rattle.esm_io.specs.Meanings.{DiskMeaning}
 use Rattle.esm_journal.specs.File.{header_of}
-use Rattle.esm_journal.specs.Pair.{PairOpensTo}
+use Rattle.esm_journal.specs.Pair.{PairOpensTo, first_disk, second_disk}
 use Rattle.esm_journal.specs.State.{Keeps, OpensTo}
 use Rattle.esm_model.specs.declared.book.Trouble.{Trouble}
 use Rattle.esm_model.specs.declared.book.Trouble.TheVariants.{Disk, Dest}
@@ -16,7 +16,7 @@ use Rattle.esm_model.specs.declared.entry.Reply.{Reply}
 use Rattle.esm_model.specs.declared.lane.LaneId.{LaneId}
 use Rattle.esm_model.specs.declared.item.Message.{Message}
 use Rattle.esm_model.specs.Books.{entry_line}
-use Rattle.esm_model.specs.Entries.{CallsFollowShut}
+use Rattle.esm_model.specs.Entries.{CallsFollowShut, moment_of}
 use Rattle.esm_folder.specs.Upkeep.{AreHonest, AreSettled, PairHolds}
 use Rattle.esm_queue_model.specs.QueueSetting.{ExtendsMessages, is_fifo}
 use Rattle.esm_queue_model.specs.QueueEntries.{queue_count, is_deleted}
@@ -35,7 +35,7 @@ use Rattle.esm_redrive_model.specs.RedriveStep.{LegalRedrive, SettledRedrive}
 use Rattle.esm_redrive_model.specs.RedriveLaws.{EachHasOneEnd, HaveDifferentIds, MovedOnce, MovedAfterReceives, ReceivedAtMost, CallsAreFew}
 use Rattle.esm_redrive_book.specs.Keeping.{FollowsFront}
 use Rattle.esm_runner.specs.Files.{FilesState}
-use Rattle.esm_runner.specs.Given.{AreGiven}
+use Rattle.esm_runner.specs.Given.{AreGiven, IsGiven}
 use Rattle.esm_redrive_run.specs.Earned.{DeletedAllEarned, DeletedOnlyEarned}
 use Rattle.esm_runner.specs.Headline.{IsInHand, PairStopped}
 use Rattle.esm_runner.specs.QueueHeadline.{HandHasPayload}
@@ -99,6 +99,13 @@ CrashKept m f s h hand new =
     m.since new.journal (m.moment f.journal) one → m.since new.spare (m.moment f.spare) other →
     OpensToFrontOf s.queue.messages f.pair.epoch f.pair.payloads (reverse h ++ hand) one other
 
+-- And so does each since the pair was opened, whatever a crash might have left of its disks before: opening synced them.
+abbrev pub CrashKeptSinceOpening : {D : Type 0} → DiskMeaning D → FilesState D → RedriveSetting → List Entry → (hand : List Entry) → Disks D → Type 0
+CrashKeptSinceOpening m f s h hand new =
+    AreHonest m f.journal f.spare → (one other : List ℕ) →
+    m.since new.journal (m.moment (first_disk f.pair)) one → m.since new.spare (m.moment (second_disk f.pair)) other →
+    OpensToFrontOf s.queue.messages f.pair.epoch f.pair.payloads (reverse h ++ hand) one other
+
 -- the dead-letter file
 
 -- a file opens to these lines, and then to those of the first of these entries, or of all of them
@@ -129,6 +136,11 @@ LettersCrashKept m f h hand tried new =
     m.honest f.failures ≡ true → Only (m.content f.failures) (m.image f.failures) → (bytes : List ℕ) → m.since new.dead (m.moment f.failures) bytes →
     OpensToLettersOf f.dest.payloads (reverse h ++ hand ++ tried) bytes
 
+-- and so does each since the file was opened, whatever a crash might have left of its disk before
+abbrev pub LettersCrashKeptSinceOpening : {D : Type 0} → DiskMeaning D → FilesState D → List Entry → (hand tried : List Entry) → Disks D → Type 0
+LettersCrashKeptSinceOpening m f h hand tried new =
+    m.honest f.failures ≡ true → (bytes : List ℕ) → m.since new.dead (m.moment f.dest.disk) bytes → OpensToLettersOf f.dest.payloads ((reverse h ++ hand) ++ tried) bytes
+
 -- two disks open to the payloads found, and then to those of the first of these entries, or of all of them; and a file opens to
 -- the lines found, those of the same entries, and perhaps more
 pub record OpensWithLetters (messages : List Message) (epoch : ℕ) (before lines : List (List ℕ)) (es : List Entry) (one other bytes : List ℕ) : Type 0 where
@@ -145,6 +157,13 @@ abbrev pub LinesStandFirst : {D : Type 0} → DiskMeaning D → FilesState D →
 LinesStandFirst m f s h hand new =
     AreHonest m f.journal f.spare → AreSettled m f.journal f.spare → m.honest f.failures ≡ true → (one other bytes : List ℕ) →
     m.since new.journal (m.moment f.journal) one → m.since new.spare (m.moment f.spare) other → m.image new.dead bytes →
+    OpensWithLetters s.queue.messages f.pair.epoch f.pair.payloads f.dest.payloads (reverse h ++ hand) one other bytes
+
+-- and in any since its pair was opened
+abbrev pub LinesStandFirstSinceOpening : {D : Type 0} → DiskMeaning D → FilesState D → RedriveSetting → List Entry → (hand : List Entry) → Disks D → Type 0
+LinesStandFirstSinceOpening m f s h hand new =
+    AreHonest m f.journal f.spare → m.honest f.failures ≡ true → (one other bytes : List ℕ) →
+    m.since new.journal (m.moment (first_disk f.pair)) one → m.since new.spare (m.moment (second_disk f.pair)) other → m.image new.dead bytes →
     OpensWithLetters s.queue.messages f.pair.epoch f.pair.payloads f.dest.payloads (reverse h ++ hand) one other bytes
 
 -- the entries whose line was being delivered when the dead-letter file failed: exactly one, which has a line, and only there
@@ -186,25 +205,33 @@ pub record Headline {D : Type 0} (m : DiskMeaning D) (gave : ℕ → Bool) (f : 
   -- an entry is in hand exactly where a disk of the journal failed, and then one, which has a payload
   pub in_hand : IsInHand trouble hand
   pub hand_has_payload : HandHasPayload s.queue hand
-  -- it may follow a front of the history, after which calls and the input ended alone; where it has a line it moves the first
-  -- message that was due, which waits and had none
+  -- it may follow a front of the history, after which calls and the input ended alone
   pub hand_follows : (e : Entry) → hand ≡ e ∷ [] → FollowsFront s h e
+  -- its moment is one that the clock gave, or that of the last entry of that front where that is later
+  pub hand_given : (e : Entry) (some : hand ≡ e ∷ []) → IsGiven gave (hand_follows e some).before (moment_of e)
+  -- where it has a line it moves the first message that was due, which waits and had none
   pub hand_moves : (e : Entry) (line : List ℕ) → hand ≡ e ∷ [] → entry_line e ≡ Some line → IsTriedMove s h e line
   -- what a crash leaves since the run's start: the old content followed by a prefix of the payloads of the trace
   pub crash : CrashKept m f s h hand new
+  -- and since its pair was opened, whatever a crash might have left of the disks before
+  pub crash_since_opening : CrashKeptSinceOpening m f s h hand new
   -- the dead-letter file has the old lines followed by those of the trace; where a device failed, one further line may follow,
   -- that of the entry in hand or of the tried one
   pub dead_letters_kept : DeadLettersKept m f trouble h hand tried new
   -- an entry is tried exactly where the dead-letter file failed, and then one, which has a line: it may follow a front of the
-  -- history, after which calls and the input ended alone, and its line is that of the first message that was due, which waits and
-  -- had none
+  -- history, after which calls and the input ended alone; the clock gave its moment as well; and its line is that of the first
+  -- message that was due, which waits and had none
   pub is_tried : IsTried trouble tried
   pub tried_follows : (e : Entry) → tried ≡ e ∷ [] → FollowsFront s h e
+  pub tried_given : (e : Entry) (some : tried ≡ e ∷ []) → IsGiven gave (tried_follows e some).before (moment_of e)
   pub tried_moves : (e : Entry) (line : List ℕ) → tried ≡ e ∷ [] → entry_line e ≡ Some line → IsTriedMove s h e line
   -- what a crash leaves of it since the run's start: the old lines followed by a prefix of those
   pub letters_crash : LettersCrashKept m f h hand tried new
+  -- and since it was opened
+  pub letters_since_opening : LettersCrashKeptSinceOpening m f h hand tried new
   -- each deletion that a crash leaves has its line there
   pub lines_stand_first : LinesStandFirst m f s h hand new
+  pub lines_first_since_opening : LinesStandFirstSinceOpening m f s h hand new
   -- the journal's content says what it said, and then the deletions of the history with their fates and ids, and no others
   pub deletions_are_recorded : DeletionsAreRecorded f.pair.payloads s.queue h
   -- the messages that came are valid, and each is read back from its dead letter

@@ -1,10 +1,17 @@
 -- The laws by which the headline of a redrive holds. Only this crate's proofs cite this.
-use Rattle.std.specs.Prelude.{◌≡◌, ℕ, Bool, List, [], ◌∷◌, length, Some}
+use Rattle.std.specs.Prelude.{◌≡◌, ℕ, Bool, true, List, [], ◌∷◌, length, Option, Some}
 use Rattle.std.specs.List.{All}
+use Rattle.esm_io.specs.Meanings.{DiskMeaning, DestMeaning}
+use Rattle.esm_journal.specs.State.{JournalState}
+use Rattle.esm_model.specs.declared.book.Trouble.{Trouble}
 use Rattle.esm_model.specs.declared.item.Message.{Message}
 use Rattle.esm_model.specs.declared.entry.Entry.{Entry}
+use Rattle.esm_model.specs.declared.entry.Reply.{Reply}
 use Rattle.esm_model.specs.Books.{entry_line, lines_of}
+use Rattle.esm_model.specs.Entries.{moment_of}
+use Rattle.esm_book.specs.State.{in_delivery, in_hand}
 use Rattle.esm_input.specs.Within.{HandedWithin}
+use Rattle.esm_queue_core.specs.CoreView.{moment_for}
 use Rattle.esm_queue_model.specs.QueueSetting.{QueueSetting, ExtendsMessages}
 use Rattle.esm_queue_model.specs.HistoryLaws.{QueueCallsKept}
 use Rattle.esm_redrive.specs.DeadFile.{AreLetters, GoesOnWith}
@@ -15,6 +22,12 @@ use Rattle.esm_redrive_model.specs.RedriveSetting.{RedriveSetting, HaveSameIds, 
 use Rattle.esm_redrive_model.specs.RedriveStep.{LegalRedrive}
 use Rattle.esm_redrive_model.specs.RedriveLines.{FoundMovesAreLined, IsLineOfDue, LeavesMovesLined, MovedWhereLined}
 use Rattle.esm_redrive_model.specs.RedriveLaws.{FoundForThese, EachHasOneEnd, HaveDifferentIds, MovedOnce, MovedAfterReceives, ReceivedAtMost, CallsAreFew, IsSameOver}
+use Rattle.esm_redrive_core.specs.Adding.{came_entries, ended_entries, redrive_next_entries}
+use Rattle.esm_redrive_core.specs.RedriveView.{RedriveView}
+use Rattle.esm_redrive_book.specs.Calls.{AddedAll, AddedOne, AddedSome}
+use Rattle.esm_redrive_book.specs.Keeping.{FollowsFront}
+use Rattle.esm_redrive_book.specs.Moments.{AreTimed, HaveMoment, IsGivenBehind, IsTimed, IsTimedView}
+use Rattle.esm_redrive_run.specs.Book.{Book}
 
 pub record AreLaws : Type 0 where
   pub ends : (s : RedriveSetting) (h : List Entry) → FoundForThese s → LegalRedrive s h → EachHasOneEnd s h
@@ -31,3 +44,18 @@ pub record AreLaws : Type 0 where
   pub moved : (s : RedriveSetting) (h : List Entry) → FoundMovesAreLined s → HaveDifferentIds s.queue.messages → LegalRedrive s h → known s h ≡ [] → MovedWhereLined s h
   pub due : (s : RedriveSetting) (h : List Entry) (e : Entry) (line : List ℕ) → LegalRedrive s (e ∷ h) → entry_line e ≡ Some line → IsLineOfDue s h e line
   pub within : HandedWithin
+  pub hand : (gave : ℕ → Bool) (v : RedriveView) (why : Option Trouble) → IsTimedView gave v → AreTimed gave (in_hand why v.owed)
+  pub tried : (gave : ℕ → Bool) (v : RedriveView) (why : Option Trouble) → IsTimedView gave v → AreTimed gave (in_delivery why v.owed)
+  pub front : (gave : ℕ → Bool) (s : RedriveSetting) (h : List Entry) (e : Entry) (follows : FollowsFront s h e) → IsTimed gave e → IsGivenBehind gave follows.before (moment_of e)
+
+-- what a call at a moment adds and owes has that moment, so where the clock gave it, it gave those of all that the book has
+pub record AreMomentLaws {D : Type 0} (m : DiskMeaning D) (n : DestMeaning (JournalState D)) : Type 0 where
+  pub came : (v : RedriveView) (list : List Message) (t : ℕ) → HaveMoment (moment_for v.past t) (came_entries v list t)
+  pub next : (s : RedriveSetting) (h : List Entry) (t : ℕ) → HaveMoment t (redrive_next_entries s h t)
+  pub ended : (s : RedriveSetting) (h : List Entry) (reply : Reply) (t : ℕ) → HaveMoment t (ended_entries s h reply t)
+  pub all : (gave : ℕ → Bool) (t : ℕ) (messages : List Message) (es : List Entry) (old new : Book D) → gave t ≡ true → IsTimedView gave old.core →
+      HaveMoment (moment_for old.core.past t) es → AddedAll m n messages old new es → IsTimedView gave new.core
+  pub some : (gave : ℕ → Bool) (t : ℕ) (messages : List Message) (es : List Entry) (why : Trouble) (old new : Book D) → gave t ≡ true → IsTimedView gave old.core →
+      HaveMoment (moment_for old.core.past t) es → AddedSome m n messages old new es why → IsTimedView gave new.core
+  pub one : (gave : ℕ → Bool) (t : ℕ) (e : Entry) (old new : Book D) → gave t ≡ true → IsTimedView gave old.core →
+      moment_of e ≡ moment_for old.core.past t → AddedOne old new e → IsTimedView gave new.core

@@ -5,6 +5,7 @@ ghost use Rattle.esm_queue_book.specs.Coming.{IsMessage, messages_in_items};
 ghost use Rattle.esm_redrive_core.specs.Ahead.{IsConsistent};
 ghost use Rattle.esm_redrive_book.specs.Keeping.{IsSound};
 
+use crate::laws::moments_hold;
 use esm_io::Disk;
 use esm_journal::FileDest;
 use esm_model::{BookError, CameError, Item, Job, Message, Next, OutOfMemory, Reply};
@@ -86,6 +87,7 @@ impl<D: Disk> Serial for SerialRedrive<D> {
     fn begins(&self) {}
 
     fn bring(&mut self, alloc: Global, list: Vec<Item>, moment: u64) -> Result<(), CameError> {
+        moments_hold::<D>();
         know(self);
         let Ok(messages) = messages_of(alloc, list) else {
             return Err(CameError::OutOfMemory);
@@ -96,12 +98,14 @@ impl<D: Disk> Serial for SerialRedrive<D> {
     }
 
     fn end_input(&mut self, moment: u64) {
+        moments_hold::<D>();
         know(self);
         let _ended = self.redrive.shut(moment);
         know(self);
     }
 
     fn ask(&mut self, alloc: Global, moment: u64) -> Result<Next, BookError> {
+        moments_hold::<D>();
         due_by_queue();
         know(self);
         let answer = self.redrive.next(alloc, moment);
@@ -116,6 +120,7 @@ impl<D: Disk> Serial for SerialRedrive<D> {
         reply: Reply,
         moment: u64,
     ) -> Result<u32, BookError> {
+        moments_hold::<D>();
         know(self);
         let answer = self.redrive.done(alloc, job, reply, moment);
         know(self);

@@ -90,7 +90,7 @@ module _ {D F : Type 0} (t : Telling D F) where
 
   crash_under : (f : FilesState D) (s : Setting) (h : List Entry) (o : Option Trouble) (hand : List Entry) (new : Devices D (DdbCaller F))
       → FailureLinesCrashKept (tells_over t) f s h o hand new → FailureLinesCrashKept t f s h o hand (devices_under new)
-  crash_under f s h o hand new is = record { tried = is.tried; is_tried = is.is_tried; tried_follows = is.tried_follows; since = is.since; now = is.now }
+  crash_under f s h o hand new is = record { tried = is.tried; is_tried = is.is_tried; tried_follows = is.tried_follows; tried_given = is.tried_given; since = is.since; since_opening = is.since_opening; now = is.now }
 
   fault_under : (f : FilesState D) (o : Option Trouble) (new : Devices D (DdbCaller F)) → IsFaultOf (tells_over t) f new o → IsFaultOf t f (devices_under new) o
   fault_under f None new fault = fault
@@ -120,7 +120,9 @@ module _ {D F : Type 0} (t : Telling D F) where
     in_hand = is.in_hand;
     hand_has_payload = is.hand_has_payload;
     hand_follows = is.hand_follows;
+    hand_given = is.hand_given;
     crash = is.crash;
+    crash_since_opening = is.crash_since_opening;
     one_fate = is.one_fate;
     fate_is_earned = is.fate_is_earned;
     answers_are_logged = is.answers_are_logged;

@@ -83,9 +83,11 @@ headline_of t read_first traced f s h trouble ending hand old new is calls rests
   journal_kept = is.journal_kept;
   journal_stopped = is.journal_stopped;
   crash_kept = is.crash;
+  crash_since_opening = is.crash_since_opening;
   in_hand = is.in_hand;
   hand_has_payload = is.hand_has_payload;
   hand_follows = is.hand_follows;
+  hand_given = is.hand_given;
   failure_lines_kept = is.failure_lines_kept;
   failure_lines_crash = is.failure_lines_crash;
   report_told = refl;

@@ -15,7 +15,7 @@ use Rattle.esm_report.specs.Report.{report_text}
 use Rattle.esm_report.specs.declared.ending.Ending.{Ending}
 use Rattle.esm_traced.specs.Front.{front_text}
 use Rattle.esm_runner.specs.Files.{FilesState}
-use Rattle.esm_runner.specs.Headline.{AnswersAreLogged, CallsMade, CanBeSaid, CheckpointIsRecorded, CrashKept, FailureLinesCrashKept, FailureLinesKept, FatesAreRecorded, HandFollows, HandHasPayload, IsInHand, JournalKept, JournalStopped, Devices, SettledUnless, Telling}
+use Rattle.esm_runner.specs.Headline.{AnswersAreLogged, CallsMade, CanBeSaid, CheckpointIsRecorded, CrashKept, CrashKeptSinceOpening, FailureLinesCrashKept, FailureLinesKept, FatesAreRecorded, HandFollows, HandHasPayload, HandIsGiven, IsInHand, JournalKept, JournalStopped, Devices, SettledUnless, Telling}
 
 -- The run over these files and this setting left this history, newest entry first, and this text, and ended so, by this trouble
 -- of the book, if by any. In hand is the entry, where a disk of the journal failed, whose payload may stand in the journal though it
@@ -39,10 +39,14 @@ pub record Headline {D F : Type 0} (t : Telling D F) (first traced : Bool) (f : 
   -- at any moment since the run's start a crash leaves the old content followed by a prefix of these payloads; where a disk of
   -- the journal failed, perhaps by one further, that of the entry in hand
   pub crash_kept : CrashKept t f s h hand new
+  -- and so at any since its pair was opened, whatever a crash might have left of the disks before
+  pub crash_since_opening : CrashKeptSinceOpening t f s h hand new
   pub in_hand : IsInHand trouble hand
   -- the entry in hand has a payload, and may follow the history, or a front of it after which calls and the input ended alone
   pub hand_has_payload : HandHasPayload s hand
   pub hand_follows : HandFollows s h hand
+  -- behind which its moment too is one that the clock gave
+  pub hand_given : HandIsGiven t.callers.gave s h hand hand_follows
   -- the failure file's lines are the old ones followed by what is delivered of those of the history, in order; where a disk
   -- failed, perhaps by one further line
   pub failure_lines_kept : FailureLinesKept t f trouble h hand new

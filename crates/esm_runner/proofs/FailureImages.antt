@@ -15,7 +15,7 @@ use Rattle.esm_stream_core.specs.CoreView.{lines_of}
 use Rattle.esm_stream_book.specs.Books.{BookState}
 use Rattle.esm_stream_book.specs.Keeping.{entries_left, lines_left}
 use Rattle.esm_runner.specs.Files.{FilesState}
-use Rattle.esm_runner.specs.Headline.{Devices, FailureLinesCrashKept, IsTried, OpensToLinesOf, Telling}
+use Rattle.esm_runner.specs.Headline.{Devices, FailureLinesCrashKept, HandIsGiven, IsTried, OpensToLinesOf, Telling}
 use Rattle.esm_runner.specs.Runs.{IsLeft, file_dest}
 
 -- the parts of a list whose image is parted
@@ -116,14 +116,34 @@ module _ {D : Type 0} (m : DiskMeaning D) (line : List ℕ → List ℕ) (f : Fi
         | inr front ↦ lines_from f.dest.payloads (lines_left b) bytes front
       ]
 
-pub lines_crash : {D F : Type 0} (t : Telling D F) (f : FilesState D) (b : BookState D (JournalState D)) (new : Devices D F) → IsLeft t.disk t.line f b → new.failures ≡ b.dest.disk
+  -- and each since it was opened
+  lines_opened : m.honest f.failures ≡ true → (bytes : List ℕ) → m.since b.dest.disk (m.moment f.dest.disk) bytes → OpensToLinesOf line f.dest.payloads (lines_left b) bytes
+  lines_opened honest bytes since =
+      let takes = left.lines.images (found_honest honest) f.dest.payloads found_told in
+      let from : m.since b.dest.disk (m.moment b.found_dest.disk) bytes = subst (λ (d : JournalState D). m.since b.dest.disk (m.moment d.disk) bytes) (sym left.found_dest) since in
+      elim (takes.images (m.moment b.found_dest.disk) bytes (omega arith) from) [
+        | inl was ↦
+            record {
+              front = [];
+              rest = lines_left b;
+              split = refl;
+              opens = subst (λ (ls : List (List ℕ)). OpensTo (header_of 1) ls bytes) (sym (append-nil f.dest.payloads)) (held_at_first honest bytes was);
+            }
+        | inr front ↦ lines_from f.dest.payloads (lines_left b) bytes front
+      ]
+
+pub lines_crash : {D F : Type 0} (t : Telling D F) (f : FilesState D) (b : BookState D (JournalState D)) (new : Devices D F) (left : IsLeft t.disk t.line f b)
+    → HandIsGiven t.callers.gave b.core.setting b.core.past (in_delivery b.trouble b.core.owed) left.tried_follows → new.failures ≡ b.dest.disk
     → FailureLinesCrashKept t f b.core.setting b.core.past b.trouble (in_hand b.trouble b.core.owed) new
-lines_crash {D} t f b new left is =
+lines_crash {D} t f b new left given is =
     record {
       tried = in_delivery b.trouble b.core.owed;
       is_tried = is_tried_so b.trouble b.core.owed left.tried_is_one;
       tried_follows = left.tried_follows;
+      tried_given = given;
       since = λ honest settled bytes since.
           lines_since t.disk t.line f b left honest settled bytes (subst (λ (d : D). t.disk.since d (t.disk.moment f.failures) bytes) is since);
+      since_opening = λ honest bytes since.
+          lines_opened t.disk t.line f b left honest bytes (subst (λ (d : D). t.disk.since d (t.disk.moment f.dest.disk) bytes) is since);
       now = λ honest bytes image. lines_now t.disk t.line f b left honest bytes (subst (λ (d : D). t.disk.image d bytes) is image);
     }

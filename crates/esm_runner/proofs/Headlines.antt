@@ -17,20 +17,21 @@ use Rattle.esm_model.specs.Calls.{calls, calls_since, last_event}
 use Rattle.esm_model.specs.Earned.{IsLogged}
 use Rattle.esm_model.specs.Entries.{batcher}
 use Rattle.esm_journal_record.specs.EntryPayload.{entry_payload}
-use Rattle.esm_book.specs.State.{in_hand, is_dest, is_disk}
+use Rattle.esm_book.specs.State.{in_delivery, in_hand, is_dest, is_disk}
 use Rattle.esm_stream_core.specs.CoreView.{full_setting, lines_of}
 use Rattle.esm_folder.specs.Upkeep.{AreHonest, AreOnlyRead, OneRose, PairHolds}
 use Rattle.esm_folder.proofs.OpenedDisks.{are_honest, pair_holds}
 use Rattle.esm_stream_book.specs.Books.{BookState, OpensToFirst, payloads_in}
 use Rattle.esm_stream_book.specs.Keeping.{entries_left}
+use Rattle.esm_stream_book.specs.Moments.{AreTimed, IsTimed, IsTimedView}
 use Rattle.esm_runner.specs.Given.{AreGiven}
 use Rattle.esm_runner.specs.Files.{FilesState}
-use Rattle.esm_runner.specs.Headline.{AnswersAreLogged, CrashKept, Devices, FailureLinesKept, Headline, IsInHand, JournalKept, JournalStopped, LinesKept, LinesStopped, OpensToFrontOf, PairStopped, Telling}
+use Rattle.esm_runner.specs.Headline.{AnswersAreLogged, CrashKept, CrashKeptSinceOpening, Devices, FailureLinesKept, HandFollows, HandIsGiven, Headline, IsInHand, JournalKept, JournalStopped, LinesKept, LinesStopped, OpensToFrontOf, PairStopped, Telling}
 use Rattle.esm_runner.specs.Runs.{IsLeft, file_dest}
 use Rattle.esm_runner.specs.Laws.{AreLaws, PayloadsStay}
 use Rattle.esm_runner.proofs.FailureImages.{dest_honest, lines_crash}
 use Rattle.esm_runner.proofs.Payloads.{all_stay, left_stays, own_legal}
-use Rattle.esm_runner.proofs.Stopped.{HasGoneDown, filter_map_few, pair_stopped}
+use Rattle.esm_runner.proofs.Stopped.{HasGoneDown, filter_map_few, in_order, pair_stopped}
 
 -- the devices are those of the book
 pub record AreOf {D F : Type 0} (b : BookState D (JournalState D)) (new : Devices D F) : Type 0 where
@@ -164,6 +165,26 @@ crash_kept {D} t f b new stay left of honest settled one other since other_since
     (subst (λ (d : D). t.disk.since d (t.disk.moment f.journal) one) of.journal since)
     (subst (λ (d : D). t.disk.since d (t.disk.moment f.spare) other) of.spare other_since))
 
+-- since the opening
+opened_to_front : {D : Type 0} {line : List ℕ → List ℕ} (m : DiskMeaning D) (f : FilesState D) (b : BookState D (JournalState D)) → PayloadsStay → IsLeft m line f b → m.honest f.pair.used ≡ true → m.honest f.pair.spare ≡ true
+    → (one other : List ℕ) → m.since b.pair.used (m.moment f.pair.used) one → m.since b.pair.spare (m.moment f.pair.spare) other → OpensToFrontOf b.core.setting f.pair.epoch f.pair.payloads (entries_left b) one other
+opened_to_front {D} m f b stay left used spare one other since other_since =
+    opens_to_front m f b one other stay left
+    (left.opened_since (subst (λ (p : PairState D). m.honest p.used ≡ true) (sym left.found) used) (subst (λ (p : PairState D). m.honest p.spare ≡ true) (sym left.found) spare) one other
+    (subst (λ (p : PairState D). m.since b.pair.used (m.moment p.used) one) (sym left.found) since)
+    (subst (λ (p : PairState D). m.since b.pair.spare (m.moment p.spare) other) (sym left.found) other_since))
+
+crash_opened : {D F : Type 0} (t : Telling D F) (f : FilesState D) (b : BookState D (JournalState D)) (new : Devices D F) → PayloadsStay → IsLeft t.disk t.line f b → AreOf b new
+    → CrashKeptSinceOpening t f b.core.setting b.core.past (in_hand b.trouble b.core.owed) new
+crash_opened {D} t f b new stay left of honest one other since other_since =
+    let m = t.disk in
+    let both = are_honest m f.pair.swapped f.journal f.spare f.pair.used f.pair.spare left.files.read honest in
+    let swapped : b.pair.swapped ≡ f.pair.swapped = left.journal.swapped ∙ ap (λ (p : PairState D). p.swapped) left.found in
+    in_order m f.pair.swapped f.pair.used f.pair.spare b.pair.used b.pair.spare (OpensToFrontOf b.core.setting f.pair.epoch f.pair.payloads (entries_left b))
+    (opened_to_front m f b stay left both.0 both.1) (λ x y o. record { front = o.front; rest = o.rest; split = o.split; opens = (o.opens.1, o.opens.0) }) one other
+    (subst (λ (s : Bool). m.since (if s then b.pair.spare else b.pair.used) (m.moment (first_disk f.pair)) one) swapped (subst (λ (d : D). m.since d (m.moment (first_disk f.pair)) one) of.journal since))
+    (subst (λ (s : Bool). m.since (if s then b.pair.used else b.pair.spare) (m.moment (second_disk f.pair)) other) swapped (subst (λ (d : D). m.since d (m.moment (second_disk f.pair)) other) of.spare other_since))
+
 -- a disk that failed
 
 parts_left : (s : Setting) (front rest es hand : List Entry) → front ++ rest ≡ es ++ hand → payloads_in s front ++ payloads_in s rest ≡ payloads_in s es ++ payloads_in s hand
@@ -187,10 +208,7 @@ gone_down {D} m f b stay left disk =
       few = omega (arith, few, fewer);
       still = left.pair_stopped;
       leaves = λ used spare one other since other_since.
-          let o = opens_to_front m f b one other stay left
-          (left.opened_since disk (subst (λ (p : PairState D). m.honest p.used ≡ true) (sym left.found) used) (subst (λ (p : PairState D). m.honest p.spare ≡ true) (sym left.found) spare) one other
-          (subst (λ (p : PairState D). m.since b.pair.used (m.moment p.used) one) (sym left.found) since)
-          (subst (λ (p : PairState D). m.since b.pair.spare (m.moment p.spare) other) (sym left.found) other_since)) in
+          let o = opened_to_front m f b stay left used spare one other since other_since in
           record {
             front = payloads_in s o.front;
             rest = payloads_in s o.rest;
@@ -225,10 +243,20 @@ answers_logged t s h laws later before lane split end =
           ∙ append_assoc logged.0 (made ∷ logged.1) since)),
     )
 
+-- the moment of an entry that is not added, of which a clock gave the moment
+
+one_timed : (gave : ℕ → Bool) (es : List Entry) (e : Entry) → AreTimed gave es → es ≡ e ∷ [] → IsTimed gave e
+one_timed gave es e timed is = (subst (AreTimed gave) is timed).0
+
+given_behind : (gave : ℕ → Bool) (s : Setting) (h hand : List Entry) (follows : HandFollows s h hand) → AreLaws → AreTimed gave hand → HandIsGiven gave s h hand follows
+given_behind gave s h hand follows laws timed e some = laws.front_timed gave s h e (follows e some) (one_timed gave hand e timed some)
+
 -- all of it
 pub headline : {D F : Type 0} (t : Telling D F) (f : FilesState D) (b : BookState D (JournalState D)) (new : Devices D F) → AreLaws → IsLeft t.disk t.line f b → AreOf b new → AreGiven t.callers.gave b.core.past
-    → Headline t f b.core.setting b.core.past b.trouble (in_hand b.trouble b.core.owed) new
-headline t f b new laws left of given =
+    → IsTimedView t.callers.gave b.core → Headline t f b.core.setting b.core.past b.trouble (in_hand b.trouble b.core.owed) new
+headline t f b new laws left of given timed =
+    let hand_given = given_behind t.callers.gave b.core.setting b.core.past (in_hand b.trouble b.core.owed) left.hand_follows laws (laws.hand_timed t.callers.gave b.core b.trouble timed) in
+    let tried_given = given_behind t.callers.gave b.core.setting b.core.past (in_delivery b.trouble b.core.owed) left.tried_follows laws (laws.tried_timed t.callers.gave b.core b.trouble timed) in
     let own = own_legal b.core.setting b.core.past left.legal in
     record {
       legal_trace = left.legal;
@@ -238,11 +266,13 @@ headline t f b new laws left of given =
       journal_kept = journal_kept t f b new laws.stay left of;
       journal_stopped = journal_stopped t f b new laws.stay left of;
       failure_lines_kept = lines_kept t f b.dest b.trouble b.core.past b.core.owed new (lines_grown t.disk f b left) left.lines.failed (dest_honest t.disk t.line f b left) left.dest_kept left.dest_stopped of.failures;
-      failure_lines_crash = lines_crash t f b new left of.failures;
+      failure_lines_crash = lines_crash t f b new left tried_given of.failures;
       in_hand = is_in_hand (entry_payload b.core.setting) b.trouble b.core.owed left.hand_is_one;
       hand_has_payload = hand_has (entry_payload b.core.setting) b.trouble b.core.owed left.hand_is_one;
       hand_follows = left.hand_follows;
+      hand_given = hand_given;
       crash = crash_kept t f b new laws.stay left of;
+      crash_since_opening = crash_opened t f b new laws.stay left of;
       one_fate = laws.one b.core.setting b.core.past own;
       fate_is_earned = laws.earned b.core.setting b.core.past own;
       answers_are_logged = answers_logged t b.core.setting b.core.past laws;

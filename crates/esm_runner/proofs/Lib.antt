@@ -29,6 +29,7 @@ pub mod QueueShared
 pub mod QueueBegins
 pub mod Deletions
 pub mod Earned
+pub mod QueueSettled
 pub mod QueueHeadlines
 pub mod Messages
 pub mod Recorded

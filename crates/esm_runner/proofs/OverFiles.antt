@@ -44,6 +44,7 @@ ran_over file o before b old new (Ok e) run = record {
   found = run.found;
   found_dest = ap file run.found_dest;
   moments = run.moments;
+  timed = run.timed;
   rests = run.rests;
   as_many = run.as_many;
   calls_made = run.calls_made;
@@ -58,6 +59,7 @@ stopped_over file o before b old new (Err none) stopped = record {
   found = stopped.found;
   found_dest = ap file stopped.found_dest;
   moments = stopped.moments;
+  timed = stopped.timed;
   as_many = stopped.as_many;
   calls_made = stopped.calls_made;
 }

@@ -22,15 +22,17 @@ use Rattle.esm_folder.specs.Upkeep.{AreHonest, OneRose, PairHolds}
 use Rattle.esm_folder.proofs.OpenedDisks.{are_honest, pair_holds}
 use Rattle.esm_queue_book.specs.Books.{BookState, OpensToFirst, payloads_in}
 use Rattle.esm_queue_book.specs.Keeping.{MayFollowFront, entries_left}
+use Rattle.esm_queue_book.specs.Moments.{AreTimed, IsTimed, IsTimedView}
 use Rattle.esm_runner.specs.Given.{AreGiven}
 use Rattle.esm_runner.specs.Files.{FilesState}
 use Rattle.esm_runner.specs.Headline.{Devices, PairStopped, Telling}
 use Rattle.esm_runner.proofs.Headlines.{hand_has, in_hand_few, is_in_hand, not_disk, used_rose}
-use Rattle.esm_runner.proofs.Stopped.{HasGoneDown, filter_map_few, pair_stopped}
-use Rattle.esm_runner.specs.QueueHeadline.{CrashKept, Headline, JournalKept, JournalStopped, LegalOver, RepliesAreLogged}
+use Rattle.esm_runner.proofs.Stopped.{HasGoneDown, filter_map_few, in_order, pair_stopped}
+use Rattle.esm_runner.specs.QueueHeadline.{CrashKept, CrashKeptSinceOpening, Headline, JournalKept, JournalStopped, LegalOver, RepliesAreLogged}
 use Rattle.esm_runner.specs.QueueLaws.{AreLaws}
 use Rattle.esm_runner.specs.QueueRuns.{IsLeft}
 use Rattle.esm_runner.proofs.Earned.{only_earned}
+use Rattle.esm_runner.proofs.QueueSettled.{settled_over}
 use Rattle.esm_runner.proofs.Recorded.{recorded}
 
 -- the devices are those of the book, and the failure file is as it was opened
@@ -97,6 +99,27 @@ crash_kept {D} t f b new left of honest settled one other since other_since =
     (subst (λ (d : D). t.disk.since d (t.disk.moment f.journal) one) of.journal since)
     (subst (λ (d : D). t.disk.since d (t.disk.moment f.spare) other) of.spare other_since))
 
+-- since the opening
+opened_first : {D : Type 0} (m : DiskMeaning D) (f : FilesState D) (b : BookState D) → IsLeft m f b → m.honest f.pair.used ≡ true → m.honest f.pair.spare ≡ true
+    → (one other : List ℕ) → m.since b.pair.used (m.moment f.pair.used) one → m.since b.pair.spare (m.moment f.pair.spare) other
+    → OpensToFirst f.pair.epoch f.pair.payloads (payloads_in b.core.setting.messages (entries_left b)) one other
+opened_first {D} m f b left used spare one other since other_since =
+    opens_first m f b one other left
+    (left.opened_since (subst (λ (p : PairState D). m.honest p.used ≡ true) (sym left.found) used) (subst (λ (p : PairState D). m.honest p.spare ≡ true) (sym left.found) spare) one other
+    (subst (λ (p : PairState D). m.since b.pair.used (m.moment p.used) one) (sym left.found) since)
+    (subst (λ (p : PairState D). m.since b.pair.spare (m.moment p.spare) other) (sym left.found) other_since))
+
+crash_opened : {D F : Type 0} (t : Telling D F) (f : FilesState D) (b : BookState D) (new : Devices D F) → IsLeft t.disk f b → AreOf f b new
+    → CrashKeptSinceOpening t f b.core.setting b.core.past (in_hand b.trouble b.core.owed) new
+crash_opened {D} t f b new left of honest one other since other_since =
+    let m = t.disk in
+    let both = are_honest m f.pair.swapped f.journal f.spare f.pair.used f.pair.spare left.files.read honest in
+    let swapped : b.pair.swapped ≡ f.pair.swapped = left.journal.swapped ∙ ap (λ (p : PairState D). p.swapped) left.found in
+    in_order m f.pair.swapped f.pair.used f.pair.spare b.pair.used b.pair.spare (OpensToFirst f.pair.epoch f.pair.payloads (payloads_in b.core.setting.messages (entries_left b)))
+    (opened_first m f b left both.0 both.1) (λ x y o. record { front = o.front; rest = o.rest; split = o.split; opens = (o.opens.1, o.opens.0) }) one other
+    (subst (λ (s : Bool). m.since (if s then b.pair.spare else b.pair.used) (m.moment (first_disk f.pair)) one) swapped (subst (λ (d : D). m.since d (m.moment (first_disk f.pair)) one) of.journal since))
+    (subst (λ (s : Bool). m.since (if s then b.pair.used else b.pair.spare) (m.moment (second_disk f.pair)) other) swapped (subst (λ (d : D). m.since d (m.moment (second_disk f.pair)) other) of.spare other_since))
+
 -- a disk that failed
 
 parts_left : (messages : List Message) (front rest : List (List ℕ)) (es hand : List Entry) → front ++ rest ≡ payloads_in messages (es ++ hand) → front ++ rest ≡ payloads_in messages es ++ payloads_in messages hand
@@ -119,10 +142,7 @@ gone_down {D} m f b left disk =
       few = omega (arith, few, fewer);
       still = left.pair_stopped;
       leaves = λ used spare one other since other_since.
-          let o = opens_first m f b one other left
-          (left.opened_since disk (subst (λ (p : PairState D). m.honest p.used ≡ true) (sym left.found) used) (subst (λ (p : PairState D). m.honest p.spare ≡ true) (sym left.found) spare) one other
-          (subst (λ (p : PairState D). m.since b.pair.used (m.moment p.used) one) (sym left.found) since)
-          (subst (λ (p : PairState D). m.since b.pair.spare (m.moment p.spare) other) (sym left.found) other_since)) in
+          let o = opened_first m f b left used spare one other since other_since in
           record { front = o.front; rest = o.rest; split = parts_left messages o.front o.rest (reverse b.core.past) hand o.split; opens = o.opens };
     }
 
@@ -153,7 +173,7 @@ replies_logged t s h laws later before lane reply m split =
     )
 
 -- what may follow over the messages that came may over all that go on from them
-over_all : AreLaws → (s : QueueSetting) (h : List Entry) (e : Entry) → MayFollowFront s h e → FollowsFront (λ before x. LegalOver s (x ∷ before)) h e
+abbrev over_all : AreLaws → (s : QueueSetting) (h : List Entry) (e : Entry) → MayFollowFront s h e → FollowsFront (λ before x. LegalOver s (x ∷ before)) h e
 over_all laws s h e f = record {
   before = f.before;
   later = f.later;
@@ -162,11 +182,16 @@ over_all laws s h e f = record {
   follows = λ messages goes. laws.more s (e ∷ f.before) messages goes f.follows;
 }
 
+-- the moment of an entry that is not added, of which a clock gave the moment
+one_timed : (gave : ℕ → Bool) (es : List Entry) (e : Entry) → AreTimed gave es → es ≡ e ∷ [] → IsTimed gave e
+one_timed gave es e timed is = (subst (AreTimed gave) is timed).0
+
 -- all of it
 pub headline : {D F : Type 0} (t : Telling D F) (f : FilesState D) (b : BookState D) (new : Devices D F) → AreLaws → IsLeft t.disk f b → AreOf f b new → AreGiven t.callers.gave b.core.past
-    → Headline t f b.core.setting b.core.past b.trouble (in_hand b.trouble b.core.owed) new
-headline {D} t f b new laws left of given = record {
+    → IsTimedView t.callers.gave b.core → Headline t f b.core.setting b.core.past b.trouble (in_hand b.trouble b.core.owed) new
+headline {D} t f b new laws left of given timed = record {
   legal_trace = λ messages goes. laws.more b.core.setting b.core.past messages goes left.legal;
+  settled = λ up messages goes. settled_over b.core.setting messages goes b.core.past left.legal (left.settled up);
   messages_came = left.came;
   valid = left.valid;
   few = left.few;
@@ -176,7 +201,11 @@ headline {D} t f b new laws left of given = record {
   in_hand = is_in_hand (queue_payload b.core.setting.messages) b.trouble b.core.owed left.hand_is_one;
   hand_has_payload = hand_has (queue_payload b.core.setting.messages) b.trouble b.core.owed left.hand_is_one;
   hand_follows = λ e some. over_all laws b.core.setting b.core.past e (left.hand_follows e some);
+  hand_given = λ e some.
+      laws.front_timed t.callers.gave b.core.setting b.core.past e (left.hand_follows e some)
+      (one_timed t.callers.gave (in_hand b.trouble b.core.owed) e (laws.hand_timed t.callers.gave b.core b.trouble timed) some);
   crash = crash_kept t f b new left of;
+  crash_since_opening = crash_opened t f b new left of;
   failures_same = of.failures;
   failures_read = subst (λ (d : D). IsOnlyRead t.disk f.failures d) (sym of.failures) left.files.lines_read;
   only_earned = only_earned b.core.setting b.core.past left.legal;

@@ -31,6 +31,7 @@ use Rattle.esm_queue_core.specs.Told.{told_entries, told_of}
 use Rattle.esm_queue_book.specs.Books.{BookState, setup_of, is_down}
 use Rattle.esm_queue_book.specs.Coming.{QueueDiffers}
 use Rattle.esm_queue_book.specs.Keeping.{IsSound}
+use Rattle.esm_queue_book.specs.Moments.{IsTimedView}
 use Rattle.esm_queue_book.proofs.Standing.{past_told}
 use Rattle.esm_runner.specs.Number.{batchers_in}
 use Rattle.esm_runner.specs.QueueComing.{messages_in_items, SomeCame, AllCame}
@@ -50,6 +51,7 @@ told_new v new = ap (λ (h : List Entry). told_entries (all_messages v.core) (re
 pub record BookRan {S D F : Type 0} (code : Coded D) (o : Outside F) (faults : S → ℕ) (left : S → Option (List ℕ)) (v w : BookState D) (j : InputState S) (batchers : ℕ) (old new : List F) (r : Result RunEnd OutOfMemory) : Type 0 where
   pub setup_is : setup_of code w ≡ setup_of code v
   pub moments : AllGiven o.gave [] (told_of w.core)
+  pub timed : IsTimedView o.gave w.core
   pub called : HaveCalled queue_calls_told QueueRests RunsQueueJob o (setup_of code v) (told_of w.core) (is_err r) batchers old new
   pub ended : IfOk r (pool.EndsSo QueueFinished QueueSpent (setup_of code v) (told_of w.core) (is_down w) batchers)
   pub left_one : r ≡ Ok ends.Spent → pool.HasLeftOne QueueLeft (setup_of code v) (told_of w.core) batchers ⊎ (j.end ≡ None)
@@ -150,6 +152,7 @@ module _ {S D F : Type 0} (code : Coded D) (o : Outside F) (faults : S → ℕ) 
         opened = setting_of_setup code v w did.setup_is;
         found = found_of_setup code v w did.setup_is;
         moments = moments_are o.gave w did.moments;
+        timed = did.timed;
         rests = none_runs (setup_of code v) w sound (did.called.rest long);
         as_many = did.called.as_many;
         calls_made = calls_made o (setup_of code v) w (is_err r) batchers old new setting_so did.called long;
@@ -162,6 +165,7 @@ module _ {S D F : Type 0} (code : Coded D) (o : Outside F) (faults : S → ℕ) 
     opened = setting_of_setup code v w did.setup_is;
     found = found_of_setup code v w did.setup_is;
     moments = moments_are o.gave w did.moments;
+    timed = did.timed;
     as_many = did.called.as_many;
     calls_made = calls_logged o (setup_of code v) w (is_err r) batchers old new setting_so did.called;
     untouched = λ k d past. did.called.untouched k d (subst (λ n. n ≤ k) (sym number) past);

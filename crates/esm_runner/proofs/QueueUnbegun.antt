@@ -16,7 +16,7 @@ use Rattle.esm_queue_book.specs.Books.{BookState}
 use Rattle.esm_runner.specs.QueueComing.{messages_in_items}
 use Rattle.esm_runner.specs.Files.{FilesState, IsOpenedFiles}
 use Rattle.esm_runner.specs.Headline.{Devices, Telling}
-use Rattle.esm_runner.proofs.Unbegun.{grows_by_none, opens_as_found, takes_none}
+use Rattle.esm_runner.proofs.Unbegun.{OnlyNow, grows_by_none, opens_as_found, opens_as_opened, takes_none}
 use Rattle.esm_book.specs.declared.nowhere.Nowhere.{Nowhere}
 use Rattle.esm_runner.specs.QueueEnded.{HasStoppedRun, line_kind}
 use Rattle.esm_runner.specs.QueueRuns.{IsLeft, LeavesSince, new_input}
@@ -37,8 +37,8 @@ leaves_all m config calls visibility f none files honest other_honest only other
       (opens_as_found m f files honest other_honest only other_only one other since other_since);
 }
 
-left_new : {D : Type 0} (m : DiskMeaning D) (config : Config) (calls visibility : ℕ) (f : FilesState D) (none : Nowhere) → IsOpenedFiles m f → IsLeft m f (new_book config calls visibility f none)
-left_new m config calls visibility f none files = record {
+left_new : {D : Type 0} (m : DiskMeaning D) (config : Config) (calls visibility : ℕ) (f : FilesState D) (none : Nowhere) → OnlyNow m → IsOpenedFiles m f → IsLeft m f (new_book config calls visibility f none)
+left_new m config calls visibility f none only_now files = record {
   files = files;
   found = refl;
   legal = tt;
@@ -50,7 +50,13 @@ left_new m config calls visibility f none files = record {
   journal = record { payloads = sym (append-nil f.pair.payloads); down = files.up; found_up = files.up; epoch = refl; swapped = refl; spare = refl; honesty = refl };
   since = leaves_all m config calls visibility f none files;
   pair_kept = files.kept;
-  opened_since = λ disk. absurd (cc);
+  opened_since = λ honest other_honest one other since other_since. record {
+    front = [];
+    rest = [];
+    split = refl;
+    opens = subst (λ (list : List (List ℕ)). PairOpensTo (header_of 2) f.pair.epoch list one other) (sym (append-nil f.pair.payloads))
+        (opens_as_opened m f files only_now honest other_honest one other since other_since);
+  };
   pair_stopped = λ honest other_honest down. absurd (let up = files.up in cc);
   stays = refl;
   hand = refl;
@@ -58,14 +64,14 @@ left_new m config calls visibility f none files = record {
   hand_is_one = λ disk. absurd (cc);
 }
 
-pub not_begun : {S D F : Type 0} (t : Telling D F) (left_in : S → Option (List ℕ)) (config : Config) (calls visibility : ℕ) (f : FilesState D) (old : S) (callers : List F) (new : Devices D F) → Nowhere → AreLaws → IsOpenedFiles t.disk f
+pub not_begun : {S D F : Type 0} (t : Telling D F) (left_in : S → Option (List ℕ)) (config : Config) (calls visibility : ℕ) (f : FilesState D) (old : S) (callers : List F) (new : Devices D F) → Nowhere → AreLaws → OnlyNow t.disk → IsOpenedFiles t.disk f
     → new.journal ≡ first_disk f.pair → new.spare ≡ second_disk f.pair → new.failures ≡ f.dest.disk → new.callers ≡ callers → HasStoppedRun t left_in config calls visibility f old old callers [] new
-not_begun {S} {D} {F} t left_in config calls visibility f old callers new none laws files first second lines same =
+not_begun {S} {D} {F} t left_in config calls visibility f old callers new none laws only_now files first second lines same =
     let b : BookState D = new_book config calls visibility f none in
-    let left : IsLeft t.disk f b = left_new t.disk config calls visibility f none files in
+    let left : IsLeft t.disk f b = left_new t.disk config calls visibility f none only_now files in
     let of : AreOf f b new = record { journal = first; spare = second; failures = lines } in
     stopped t left_in config calls visibility f old (new_input config old) callers b b new laws (record { core = refl }) left of tt
-    (record { kind = refl; factor = refl; start = refl; found = refl }) refl (headline t f b new laws left of tt)
+    (record { kind = refl; factor = refl; start = refl; found = refl }) refl (headline t f b new laws left of tt (record { past = tt; owed = tt }))
     (record { bytes = []; more = []; whole = false; taken = takes_none (left_in old); came = (messages_in_items (from_start config.start (items_read (line_kind config) config.factor false []).items), refl) })
     (λ k d within. inl (subst (λ (xs : List F). Grows (t.callers.log (slice_index_or callers k d)) (t.callers.log (slice_index_or xs k d)) []) (sym same) (grows_by_none (t.callers.log (slice_index_or callers k d)))))
     (record {

@@ -145,7 +145,7 @@ ended t faults left_in config calls visibility f old i callers before b new r e 
   is_setting = record { opened = opened_so config calls visibility f before b stood run.opened; came = some_came i b r came };
   hand = in_hand b.trouble b.core.owed;
   headline = subst (λ (why : Option Trouble). Headline t f b.core.setting b.core.past why (in_hand b.trouble b.core.owed) new) (trouble_is left_in i b r e so is)
-      (headline t f b new laws left of run.moments);
+      (headline t f b new laws left of run.moments run.timed);
   all_earned = earned_by t.disk f b (trouble_of e) left (trouble_is left_in i b r e so is);
   calls_made = run.calls_made;
   rests = run.rests;
@@ -216,7 +216,7 @@ pub stopped_by : {S D F : Type 0} (t : Telling D F) (faults : S → ℕ) (left_i
 stopped_by t faults left_in config calls visibility f old i callers before b new (Ok r) laws stood left of cause made come short = absurd (let clash : false ≡ true = short in cc)
 stopped_by t faults left_in config calls visibility f old i callers before b new (Err none) laws stood left of cause made come short =
     let stop = come.stopped in
-    stopped t left_in config calls visibility f old i callers before b new laws stood left of cause made stop.opened (headline t f b new laws left of stop.moments) come.cut stop.calls_made
+    stopped t left_in config calls visibility f old i callers before b new laws stood left of cause made stop.opened (headline t f b new laws left of stop.moments stop.timed) come.cut stop.calls_made
     (record { untouched = stop.untouched; no_calls = stop.no_calls })
 
 -- what came

@@ -35,6 +35,7 @@ use Rattle.esm_stream_book.specs.Items.{items_told, records_in_items, DiffersTol
 use Rattle.esm_stream_core.specs.Told.{told_of}
 use Rattle.esm_stream_book.specs.Books.{BookState, setup_of, is_down}
 use Rattle.esm_stream_book.specs.Keeping.{IsSound}
+use Rattle.esm_stream_book.specs.Moments.{IsTimedView}
 use Rattle.esm_runner.specs.Coming.{SomeCame, HaveCome, AllCame}
 use Rattle.esm_runner.specs.Ran.{HasRun, HasStopped, EndsSo, CameSo, IsDownFor, IsUnfinished, IsOfRecord, IsFirstChange, IsCutInput}
 use Rattle.esm_runner.proofs.Setups.{setting_of_setup, found_of_setup, found_dest_of_setup, setting_is}
@@ -49,6 +50,7 @@ use Rattle.esm_runner.proofs.Records.{came_all}
 pub record BookRan {S D T F : Type 0} (code : Coded D) (dest : Coded T) (lines : T → Option (List (List ℕ))) (o : Outside F) (faults : S → ℕ) (left : S → Option (List ℕ)) (v w : BookState D T) (j : InputState S) (batchers : ℕ) (old new : List F) (r : Result RunEnd OutOfMemory) : Type 0 where
   pub setup_is : setup_of code dest lines w ≡ setup_of code dest lines v
   pub moments : AllGiven o.gave [] (told_of w.core)
+  pub timed : IsTimedView o.gave w.core
   pub called : HaveCalled calls_told Rests RunsJob o (setup_of code dest lines v) (told_of w.core) (is_err r) batchers old new
   pub ended : IfOk r (pool.EndsSo HasFinished AreSpent (setup_of code dest lines v) (told_of w.core) (is_down w) batchers)
   pub left_one : r ≡ Ok ends.Spent → pool.HasLeftOne HasLeft (setup_of code dest lines v) (told_of w.core) batchers ⊎ (j.end ≡ None)
@@ -185,6 +187,7 @@ module _ {S D T F : Type 0} (code : Coded D) (dest : Coded T) (lines : T → Opt
         found = found_of_setup code dest lines v w did.setup_is;
         found_dest = found_dest_of_setup code dest lines v w did.setup_is;
         moments = moments_are o.gave w did.moments;
+        timed = did.timed;
         rests = none_runs (setup_of code dest lines v) w (did.called.rest long);
         as_many = did.called.as_many;
         calls_made = calls_made o (setup_of code dest lines v) w (is_err r) batchers old new setting_so did.called long;
@@ -196,6 +199,7 @@ module _ {S D T F : Type 0} (code : Coded D) (dest : Coded T) (lines : T → Opt
     found = found_of_setup code dest lines v w did.setup_is;
     found_dest = found_dest_of_setup code dest lines v w did.setup_is;
     moments = moments_are o.gave w did.moments;
+    timed = did.timed;
     as_many = did.called.as_many;
     calls_made = calls_logged o (setup_of code dest lines v) w (is_err r) batchers old new setting_so did.called;
   }

@@ -42,15 +42,22 @@ filter_map_few {X} {Y} h (x ∷ xs) = at_first (h x) (filter_map_few h xs)
     at_first None few = omega (arith, few)
     at_first (Some y) few = omega (arith, few)
 
+-- what holds of images of the disk in use and of the other, in whichever order, holds of them in the order in which the disks were
+-- handed in
+pub in_order : {D : Type 0} (m : DiskMeaning D) (swapped : Bool) (used spare used' spare' : D) (P : List ℕ → List ℕ → Type 0)
+    → ((one other : List ℕ) → m.since used' (m.moment used) one → m.since spare' (m.moment spare) other → P one other) → ((one other : List ℕ) → P one other → P other one)
+    → (one other : List ℕ) → m.since (if swapped then spare' else used') (m.moment (if swapped then spare else used)) one → m.since (if swapped then used' else spare') (m.moment (if swapped then used else spare)) other
+    → P one other
+in_order m false used spare used' spare' P leaves turn one other since other_since = leaves one other since other_since
+in_order m true used spare used' spare' P leaves turn one other since other_since = turn other one (leaves other one other_since since)
+
 -- images of both disks in whichever order
 in_turn : {D : Type 0} (m : DiskMeaning D) (swapped : Bool) (used spare used' spare' : D) (epoch : ℕ) (before all : List (List ℕ))
     → ((one other : List ℕ) → m.since used' (m.moment used) one → m.since spare' (m.moment spare) other → OpensToPart epoch before all one other)
     → (one other : List ℕ) → m.since (if swapped then spare' else used') (m.moment (if swapped then spare else used)) one → m.since (if swapped then used' else spare') (m.moment (if swapped then used else spare)) other
     → OpensToPart epoch before all one other
-in_turn m false used spare used' spare' epoch before all leaves one other since other_since = leaves one other since other_since
-in_turn m true used spare used' spare' epoch before all leaves one other since other_since =
-    let o = leaves other one other_since since in
-    record { front = o.front; rest = o.rest; split = o.split; opens = (o.opens.1, o.opens.0) }
+in_turn m swapped used spare used' spare' epoch before all leaves =
+    in_order m swapped used spare used' spare' (OpensToPart epoch before all) leaves (λ x y o. record { front = o.front; rest = o.rest; split = o.split; opens = (o.opens.1, o.opens.0) })
 
 -- what opens to the first payloads of a list does not open to one more than all of them
 no_longer : (epoch other_epoch : ℕ) (before kept front more : List (List ℕ)) (payload : List ℕ) (one other : List ℕ) → front ++ more ≡ kept

@@ -54,6 +54,20 @@ opens_as_found m f files honest other_honest only other_only one other since oth
     subst (λ (bytes : List ℕ). PairOpensTo (header_of 2) f.pair.epoch f.pair.payloads bytes other) (sym one_is)
     (subst (λ (bytes : List ℕ). PairOpensTo (header_of 2) f.pair.epoch f.pair.payloads (m.content (first_disk f.pair)) bytes) (sym other_is) now)
 
+-- since this moment a disk has no other image
+abbrev pub OnlyNow : {D : Type 0} → DiskMeaning D → Type 0
+OnlyNow {D} m = (d : D) (bytes : List ℕ) → m.honest d ≡ true → m.since d (m.moment d) bytes → m.image d bytes
+
+-- and the images that they had since they were opened
+pub opens_as_opened : {D : Type 0} (m : DiskMeaning D) (f : FilesState D) → IsOpenedFiles m f → OnlyNow m → m.honest f.pair.used ≡ true → m.honest f.pair.spare ≡ true
+    → (one other : List ℕ) → m.since f.pair.used (m.moment f.pair.used) one → m.since f.pair.spare (m.moment f.pair.spare) other → PairOpensTo (header_of 2) f.pair.epoch f.pair.payloads one other
+opens_as_opened m f files only_now honest other_honest one other since other_since =
+    let keeps : PairKeeps m (header_of 2) f.pair.epoch f.pair.payloads f.pair.used f.pair.spare = files.kept honest other_honest files.up in
+    let one_is : one ≡ m.content f.pair.used = keeps.durable one (only_now f.pair.used one honest since) in
+    let other_is : other ≡ m.content f.pair.spare = keeps.spare_durable other (only_now f.pair.spare other other_honest other_since) in
+    subst (λ (bytes : List ℕ). PairOpensTo (header_of 2) f.pair.epoch f.pair.payloads bytes other) (sym one_is)
+    (subst (λ (bytes : List ℕ). PairOpensTo (header_of 2) f.pair.epoch f.pair.payloads (m.content f.pair.used) bytes) (sym other_is) keeps.opens)
+
 pub grows_by_none : {A : Type 0} (o : Option (List A)) → Grows o o []
 grows_by_none None = refl
 grows_by_none (Some xs) = ap Some (sym (append-nil xs))
@@ -102,7 +116,14 @@ left_new m line config calls f now files = record {
   lines = lines_found m line config calls f files;
   since = leaves_all m line config calls f files;
   pair_kept = files.kept;
-  opened_since = λ disk. absurd (cc);
+  opened_since = λ honest other_honest one other since other_since. record {
+    front = [];
+    rest = [];
+    split = refl;
+    opens = subst (λ (list : List (List ℕ)). PairOpensTo (header_of 2) f.pair.epoch list one other) (sym (append-nil f.pair.payloads))
+        (opens_as_opened m f files now.only_now honest other_honest one other since other_since);
+    delivered = ([], ap Some (sym (append-nil f.dest.payloads)));
+  };
   pair_stopped = λ honest other_honest down. absurd (let up = files.up in cc);
   dest_kept = files.lines_kept;
   dest_stopped = λ honest down. absurd (let up = files.dest_up in cc);
@@ -121,7 +142,7 @@ not_begun {S} {D} {F} t left_in config start calls f old callers new laws now fi
     let left : IsLeft t.disk t.line f b = left_new t.disk t.line config calls f now files in
     let of : AreOf b new = record { journal = first; spare = second; failures = lines } in
     stopped t left_in config start calls f old (new_input config start old) callers b b new laws (record { core = refl }) left of tt
-    (record { kind = refl; factor = refl; start_is = refl; found = refl }) refl (headline t f b new laws left of tt)
+    (record { kind = refl; factor = refl; start_is = refl; found = refl }) refl (headline t f b new laws left of tt (record { past = tt; owed = tt }))
     (record { bytes = []; more = []; whole = false; taken = takes_none (left_in old); came = λ n. (of_shard n (records_in_items (from_start start (items_read kinds.Stream config.factor false []).items)), refl) })
     (λ k d within. inl (subst (λ (xs : List F). Grows (t.callers.log (slice_index_or callers k d)) (t.callers.log (slice_index_or xs k d)) []) (sym same) (grows_by_none (t.callers.log (slice_index_or callers k d)))))
 

@@ -118,7 +118,7 @@ ended t faults left_in config start calls f old i callers before b new r e laws 
   is_setting = record { opened = opened_so config calls f before b stood run.opened; came = some_came i b r came };
   hand = in_hand b.trouble b.core.owed;
   headline = subst (λ (why : Option Trouble). Headline t f b.core.setting b.core.past why (in_hand b.trouble b.core.owed) new) (trouble_is left_in i b r e so is)
-      (headline t f b new laws left of run.moments);
+      (headline t f b new laws left of run.moments run.timed);
   calls_made = run.calls_made;
   rests = run.rests;
   cause = cause_of t left_in f b i new r e left of sound cause came so is;
@@ -185,7 +185,7 @@ pub stopped_by : {S D F : Type 0} (t : Telling D F) (faults : S → ℕ) (left_i
 stopped_by t faults left_in config start calls f old i callers before b new (Ok r) laws stood left of cause made come short = absurd (let clash : false ≡ true = short in cc)
 stopped_by t faults left_in config start calls f old i callers before b new (Err none) laws stood left of cause made come short =
     let stop = come.stopped in
-    stopped t left_in config start calls f old i callers before b new laws stood left of cause made stop.opened (headline t f b new laws left of stop.moments) come.cut stop.calls_made
+    stopped t left_in config start calls f old i callers before b new laws stood left of cause made stop.opened (headline t f b new laws left of stop.moments stop.timed) come.cut stop.calls_made
 
 -- what a run leaves as it was
 

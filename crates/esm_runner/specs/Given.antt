@@ -1,12 +1,12 @@
 -- Moments of entries that a clock gave. This product's own.
-use Rattle.std.specs.Prelude.{◌≡◌, ℕ, Bool, true, List, [], ◌∷◌, ⊤}
+use Rattle.std.specs.Prelude.{ℕ, Bool, List, [], ◌∷◌, ⊤}
 use Rattle.esm_model.specs.declared.entry.Entry.{Entry}
 use Rattle.esm_model.specs.Entries.{moment_of}
-use Rattle.esm_stream_core.specs.Calls.{moment_for}
+use Rattle.esm_stream_book.specs.Moments.{IsGivenBehind}
 
 -- the moment is one that the clock gave, or that of the entry before where that is later, and at most `MAX_MOMENT`
 abbrev pub IsGiven : (ℕ → Bool) → List Entry → ℕ → Type 0
-IsGiven gave h m = (t : ℕ) × (gave t ≡ true) × (m ≡ moment_for h t)
+IsGiven gave h m = IsGivenBehind gave h m
 
 -- and so each of a history, newest entry first
 abbrev pub AreGiven : (ℕ → Bool) → List Entry → Type 0

@@ -1,5 +1,5 @@
 -- The headline: what a run of a stream's mapping leaves. This product's own.
-use Rattle.std.specs.Prelude.{◌≡◌, ◌⊎◌, ◌<◌, ◌∷◌, ◌++◌, ℕ, true, List, [], length, map, take_while, slice_index_or, Option, Some, None, is_some, option_map, reverse, IfSome, IsSome}
+use Rattle.std.specs.Prelude.{◌≡◌, ◌⊎◌, ◌<◌, ◌∷◌, ◌++◌, ℕ, Bool, true, List, [], length, map, take_while, slice_index_or, Option, Some, None, is_some, option_map, reverse, IfSome, IsSome}
 use Rattle.esm_io.specs.Images.{Only}
 use Rattle.esm_io.specs.Told.{Grows}
 use Rattle.esm_io.specs.Meanings.{DiskMeaning}
@@ -15,7 +15,7 @@ use Rattle.esm_model.specs.declared.book.Trouble.{Trouble}
 use Rattle.esm_model.specs.declared.book.Trouble.TheVariants.{Disk, Dest}
 use Rattle.esm_model.specs.Setting.{Setting, over, records_of}
 use Rattle.esm_model.specs.Books.{entry_line}
-use Rattle.esm_model.specs.Entries.{batcher}
+use Rattle.esm_model.specs.Entries.{batcher, moment_of}
 use Rattle.esm_model.specs.Fates.{fate, came_places}
 use Rattle.esm_model.specs.Checkpoint.{checkpoint}
 use Rattle.esm_model.specs.Calls.{calls, last_event}
@@ -34,7 +34,7 @@ use Rattle.esm_journal_state.specs.Meaning.{fate_said, history}
 use Rattle.esm_journal_state.specs.SaidLists.{SaidLists}
 use Rattle.esm_folder.specs.Upkeep.{AreHonest, AreSettled, PairHolds}
 use Rattle.esm_stream_book.specs.Books.{payloads_in}
-use Rattle.esm_runner.specs.Given.{AreGiven}
+use Rattle.esm_runner.specs.Given.{AreGiven, IsGiven}
 use Rattle.esm_workers.specs.Working.{Outside}
 use Rattle.esm_runner.specs.Stopping.{HasLogged}
 use Rattle.esm_runner.specs.Files.{FilesState}
@@ -124,6 +124,10 @@ HandHasPayload s hand = (e : Entry) → hand ≡ e ∷ [] → IsSome (entry_payl
 abbrev pub HandFollows : Setting → List Entry → (hand : List Entry) → Type 0
 HandFollows s h hand = (e : Entry) → hand ≡ e ∷ [] → MayFollowFront s h e
 
+-- its moment is one that the clock gave, or that of the last entry of that front where that is later, and at most `MAX_MOMENT`
+abbrev pub HandIsGiven : (ℕ → Bool) → (s : Setting) (h hand : List Entry) → HandFollows s h hand → Type 0
+HandIsGiven gave s h hand follows = (e : Entry) (some : hand ≡ e ∷ []) → IsGiven gave (follows e some).before (moment_of e)
+
 -- the entries whose line was being delivered when the failure file failed: exactly one, which has a line, and only there
 abbrev pub IsTried : Option Trouble → List Entry → Type 0
 IsTried (Some Dest) tried = (e : Entry) × (line : List ℕ) × (tried ≡ e ∷ []) × (entry_line e ≡ Some line)
@@ -131,14 +135,18 @@ IsTried _ tried = tried ≡ []
 
 -- Each image of the failure file since the run's start opens to the lines found, followed by those of the first entries of the
 -- history, in their order; where a device failed, the line of the entry in hand, or that of the tried one, may follow all of
--- them. Each image that a crash now leaves has all but the tried one's, which it may have. The tried entry may follow the history,
--- or a front of it after which calls and the input ended alone.
+-- them. So does each since it was opened, whatever a crash might have left of it before. Each image that a crash now leaves has
+-- all but the tried one's, which it may have. The tried entry may follow the history, or a front of it after which calls and the
+-- input ended alone, and its moment is one that the clock gave.
 pub record FailureLinesCrashKept {D F : Type 0} (t : Telling D F) (f : FilesState D) (s : Setting) (h : List Entry) (trouble : Option Trouble) (hand : List Entry) (new : Devices D F) : Type 0 where
   pub tried : List Entry
   pub is_tried : IsTried trouble tried
   pub tried_follows : HandFollows s h tried
+  pub tried_given : HandIsGiven t.callers.gave s h tried tried_follows
   pub since : t.disk.honest f.failures ≡ true → Only (t.disk.content f.failures) (t.disk.image f.failures) → (bytes : List ℕ) → t.disk.since new.failures (t.disk.moment f.failures) bytes →
       OpensToLinesOf t.line f.dest.payloads (reverse h ++ hand ++ tried) bytes
+  pub since_opening : t.disk.honest f.failures ≡ true → (bytes : List ℕ) → t.disk.since new.failures (t.disk.moment f.dest.disk) bytes →
+      OpensToLinesOf t.line f.dest.payloads ((reverse h ++ hand) ++ tried) bytes
   pub now : t.disk.honest f.failures ≡ true → (bytes : List ℕ) → t.disk.image new.failures bytes →
       OpensToLinesOf t.line (f.dest.payloads ++ map t.line (lines_of (reverse h ++ hand))) tried bytes
 
@@ -155,6 +163,13 @@ abbrev pub CrashKept : {D F : Type 0} → Telling D F → FilesState D → Setti
 CrashKept t f s h hand new =
     AreHonest t.disk f.journal f.spare → AreSettled t.disk f.journal f.spare → (one other : List ℕ) →
     t.disk.since new.journal (t.disk.moment f.journal) one → t.disk.since new.spare (t.disk.moment f.spare) other →
+    OpensToFrontOf s f.pair.epoch f.pair.payloads (reverse h ++ hand) one other
+
+-- And so does each since the pair was opened, whatever a crash might have left of its disks before: opening synced them.
+abbrev pub CrashKeptSinceOpening : {D F : Type 0} → Telling D F → FilesState D → Setting → List Entry → (hand : List Entry) → Devices D F → Type 0
+CrashKeptSinceOpening t f s h hand new =
+    AreHonest t.disk f.journal f.spare → (one other : List ℕ) →
+    t.disk.since new.journal (t.disk.moment (first_disk f.pair)) one → t.disk.since new.spare (t.disk.moment (second_disk f.pair)) other →
     OpensToFrontOf s f.pair.epoch f.pair.payloads (reverse h ++ hand) one other
 
 -- what the journal's content says after the history: the old payloads followed by those of the history, the newest first
@@ -208,12 +223,16 @@ pub record Headline {D F : Type 0} (t : Telling D F) (f : FilesState D) (s : Set
   pub failure_lines_kept : FailureLinesKept t f trouble h hand new
   -- what a crash leaves of it since the run's start: the old lines followed by a prefix of those
   pub failure_lines_crash : FailureLinesCrashKept t f s h trouble hand new
-  -- an entry is in hand exactly where a disk of the journal failed, and then one; it has a payload, and may follow
+  -- an entry is in hand exactly where a disk of the journal failed, and then one; it has a payload, and may follow, and its
+  -- moment is one that the clock gave
   pub in_hand : IsInHand trouble hand
   pub hand_has_payload : HandHasPayload s hand
   pub hand_follows : HandFollows s h hand
+  pub hand_given : HandIsGiven t.callers.gave s h hand hand_follows
   -- what a crash leaves since the run's start: the old content followed by a prefix of the payloads of the trace
   pub crash : CrashKept t f s h hand new
+  -- and since its pair was opened, whatever a crash might have left of the disks before
+  pub crash_since_opening : CrashKeptSinceOpening t f s h hand new
   -- a record that has a fate, found or given, is given no other
   pub one_fate : OneFate s h
   -- each fate is earned: by the answer to a call, by the filter, by the age at its moment, or by more failed tries than are

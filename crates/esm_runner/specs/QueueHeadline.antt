@@ -1,7 +1,8 @@
 -- The headline of a queue: what a run of its mapping leaves. This product's own.
-use Rattle.std.specs.Prelude.{◌≡◌, ◌<◌, ◌^◌, [], ◌∷◌, ◌++◌, ℕ, List, length, slice_index_or, Option, Some, is_some, option_map, reverse, IsSome}
+use Rattle.std.specs.Prelude.{◌≡◌, ◌<◌, ◌^◌, [], ◌∷◌, ◌++◌, ℕ, Bool, List, length, slice_index_or, Option, Some, None, is_some, option_map, reverse, IsSome}
 use Rattle.std.specs.List.{All}
 use Rattle.esm_io.specs.Told.{Grows}
+use Rattle.esm_journal.specs.Pair.{first_disk, second_disk}
 use Rattle.esm_journal.specs.Reads.{IsOnlyRead}
 use Rattle.esm_model.specs.declared.config.Config.{Config}
 use Rattle.esm_model.specs.declared.item.Message.{Message}
@@ -12,11 +13,12 @@ use Rattle.esm_model.specs.declared.entry.Entry.TheVariants.{Ended}
 use Rattle.esm_model.specs.declared.called.Called.{Called}
 use Rattle.esm_model.specs.declared.book.Trouble.{Trouble}
 use Rattle.esm_model.specs.declared.book.Trouble.TheVariants.{Disk}
+use Rattle.esm_model.specs.Entries.{moment_of}
 use Rattle.esm_model.specs.ValidMessage.{IsValidMessage}
 use Rattle.esm_queue_model.specs.QueueSetting.{QueueSetting, ExtendsMessages, over_messages}
 use Rattle.esm_queue_model.specs.QueueEntries.{queue_count, is_deleted, deletion_fate}
 use Rattle.esm_queue_model.specs.QueueBatch.{queue_calls, last_queue_event}
-use Rattle.esm_queue_model.specs.QueueStep.{LegalQueue}
+use Rattle.esm_queue_model.specs.QueueStep.{LegalQueue, SettledQueue}
 use Rattle.esm_queue_model.specs.HistoryLaws.{DeletedOnce, OrderPerGroup, EveryMessageCounted}
 use Rattle.esm_book.specs.Hand.{FollowsFront}
 use Rattle.esm_queue_core.specs.CoreView.{new_setting}
@@ -27,7 +29,7 @@ use Rattle.esm_journal_state.specs.Meaning.{deletion_said, history}
 use Rattle.esm_journal_state.specs.SaidLists.{SaidLists}
 use Rattle.esm_folder.specs.Upkeep.{AreHonest, AreSettled, PairHolds}
 use Rattle.esm_queue_book.specs.Books.{payloads_in, OpensToFirst}
-use Rattle.esm_runner.specs.Given.{AreGiven}
+use Rattle.esm_runner.specs.Given.{AreGiven, IsGiven}
 use Rattle.esm_runner.specs.QueueStopping.{HasLogged}
 use Rattle.esm_runner.specs.Files.{FilesState}
 use Rattle.esm_runner.specs.Headline.{Telling, Devices, PairStopped, IsInHand}
@@ -43,10 +45,19 @@ pub record IsSettingOf (config : Config) (calls visibility : ℕ) (said : SaidLi
 abbrev pub LegalOver : QueueSetting → List Entry → Type 0
 LegalOver s h = (messages : List Message) → ExtendsMessages s.messages messages → LegalQueue (over_messages s messages) h
 
+-- where there is no trouble nothing is called for, over every list of messages that goes on from those that came: each message
+-- that waits passes the filter, and no lane is owed a deletion
+abbrev pub SettledUnless : Option Trouble → QueueSetting → List Entry → Type 0
+SettledUnless trouble s h = trouble ≡ None → (messages : List Message) → ExtendsMessages s.messages messages → SettledQueue (over_messages s messages) h
+
 -- the entry in hand may follow the history, or a front of it after which calls and the input ended alone, over every list of
 -- messages that goes on from those that came
 abbrev pub HandFollows : QueueSetting → List Entry → (hand : List Entry) → Type 0
 HandFollows s h hand = (e : Entry) → hand ≡ e ∷ [] → FollowsFront (λ before x. LegalOver s (x ∷ before)) h e
+
+-- its moment is one that the clock gave, or that of the last entry of that front where that is later, and at most `MAX_MOMENT`
+abbrev pub HandIsGiven : (ℕ → Bool) → (s : QueueSetting) (h hand : List Entry) → HandFollows s h hand → Type 0
+HandIsGiven gave s h hand follows = (e : Entry) (some : hand ≡ e ∷ []) → IsGiven gave (follows e some).before (moment_of e)
 
 -- the entry in hand has a payload, which was being written
 abbrev pub HandHasPayload : QueueSetting → (hand : List Entry) → Type 0
@@ -77,6 +88,13 @@ CrashKept t f s h hand new =
     t.disk.since new.journal (t.disk.moment f.journal) one → t.disk.since new.spare (t.disk.moment f.spare) other →
     OpensToFirst f.pair.epoch f.pair.payloads (payloads_in s.messages (reverse h ++ hand)) one other
 
+-- And so does each since the pair was opened, whatever a crash might have left of its disks before: opening synced them.
+abbrev pub CrashKeptSinceOpening : {D F : Type 0} → Telling D F → FilesState D → QueueSetting → List Entry → (hand : List Entry) → Devices D F → Type 0
+CrashKeptSinceOpening t f s h hand new =
+    AreHonest t.disk f.journal f.spare → (one other : List ℕ) →
+    t.disk.since new.journal (t.disk.moment (first_disk f.pair)) one → t.disk.since new.spare (t.disk.moment (second_disk f.pair)) other →
+    OpensToFirst f.pair.epoch f.pair.payloads (payloads_in s.messages (reverse h ++ hand)) one other
+
 -- what the journal's content says after the history: the old payloads followed by those of the history, the newest first
 abbrev pub said_after : {D : Type 0} → FilesState D → QueueSetting → List Entry → List Said
 said_after f s h = history (reverse (f.pair.payloads ++ payloads_in s.messages (reverse h)))
@@ -98,6 +116,8 @@ RepliesAreLogged t s h =
 pub record Headline {D F : Type 0} (t : Telling D F) (f : FilesState D) (s : QueueSetting) (h : List Entry) (trouble : Option Trouble) (hand : List Entry) (new : Devices D F) : Type 0 where
   -- each entry may follow those before it, over every list of messages that goes on from those that came
   pub legal_trace : LegalOver s h
+  -- where no disk failed and no message was found changed, nothing is called for
+  pub settled : SettledUnless trouble s h
   -- the messages of the setting are those that came in the history
   pub messages_came : queue_count h ≡ length s.messages
   -- each of them is valid, and four bytes count them
@@ -109,12 +129,16 @@ pub record Headline {D F : Type 0} (t : Telling D F) (f : FilesState D) (s : Que
   pub journal_kept : (trouble ≡ Some Disk → ⊥) → JournalKept t f s h new
   -- where a disk of it failed, one further whole payload may follow, that of the entry in hand
   pub journal_stopped : trouble ≡ Some Disk → JournalStopped t f s h hand new
-  -- an entry is in hand exactly where a disk of the journal failed, and then one; it has a payload, and may follow
+  -- an entry is in hand exactly where a disk of the journal failed, and then one; it has a payload, and may follow, and its
+  -- moment is one that the clock gave
   pub in_hand : IsInHand trouble hand
   pub hand_has_payload : HandHasPayload s hand
   pub hand_follows : HandFollows s h hand
+  pub hand_given : HandIsGiven t.callers.gave s h hand hand_follows
   -- what a crash leaves since the run's start: the old content followed by a prefix of the payloads of the trace
   pub crash : CrashKept t f s h hand new
+  -- and since its pair was opened, whatever a crash might have left of the disks before
+  pub crash_since_opening : CrashKeptSinceOpening t f s h hand new
   -- the failure file is as it was opened, and was only read
   pub failures_same : new.failures ≡ f.dest.disk
   pub failures_read : IsOnlyRead t.disk f.failures new.failures

@@ -16,6 +16,7 @@ use Rattle.esm_input.specs.declared.ending.InputEnd.{InputEnd}
 use Rattle.esm_input.specs.Positions.{from_start}
 use Rattle.esm_input.specs.Reading.{InputState, items_read, handed}
 use Rattle.esm_queue_book.specs.Books.{BookState}
+use Rattle.esm_queue_book.specs.Moments.{IsTimedView}
 use Rattle.esm_runner.specs.Given.{AreGiven}
 use Rattle.esm_workers.specs.Working.{Outside}
 use Rattle.esm_runner.specs.Ran.{NoneRuns}
@@ -32,6 +33,8 @@ pub record HasRun {D F : Type 0} (o : Outside F) (before after : BookState D) (o
   pub found : after.found ≡ before.found
   -- each moment is one that the clock gave, or that of the entry before it where that is later
   pub moments : AreGiven o.gave after.core.past
+  -- and so is that of each entry which a disk that failed kept from being added
+  pub timed : IsTimedView o.gave after.core
   -- no call is without its end
   pub rests : NoneRuns after.core.past
   -- caller k's log, where told, grew by the calls of batcher k
@@ -46,6 +49,7 @@ pub record HasStopped {D F : Type 0} (o : Outside F) (before after : BookState D
   pub opened : after.core.setting ≡ over_messages before.core.setting after.core.setting.messages
   pub found : after.found ≡ before.found
   pub moments : AreGiven o.gave after.core.past
+  pub timed : IsTimedView o.gave after.core
   -- caller k's log, where told, grew by the calls of batcher k, and perhaps by one further call of its lane, which still runs
   pub as_many : length new ≡ length old
   pub calls_made : (k : ℕ) (d : F) → k < length old → HasLogged o.sends after.core.setting after.core.past k (o.log (slice_index_or old k d)) (o.log (slice_index_or new k d))

@@ -67,8 +67,8 @@ pub record IsLeft {D : Type 0} (m : DiskMeaning D) (f : FilesState D) (b : BookS
   pub journal : HasJournal m b
   pub since : LeavesSince m f b
   pub pair_kept : PairKeepsWhileUp m b.pair
-  -- where a disk failed: what a crash leaves since the opening, and what it leaves now
-  pub opened_since : b.trouble ≡ Some trouble.Disk → LeavesFirst m b.found b.pair (payloads_in (all_messages b.core) (entries_left b))
+  -- what a crash leaves since the opening, and what it leaves now where a disk failed
+  pub opened_since : LeavesFirst m b.found b.pair (payloads_in (all_messages b.core) (entries_left b))
   pub pair_stopped : PairKeepsWhileDown m b.pair
   -- no messages are coming that the history or the entry in hand names
   pub stays : payloads_in (all_messages b.core) (reverse b.core.past) ≡ payloads_in b.core.setting.messages (reverse b.core.past)

@@ -18,6 +18,7 @@ use Rattle.esm_input.specs.declared.ending.InputEnd.{InputEnd}
 use Rattle.esm_input.specs.Positions.{from_start}
 use Rattle.esm_input.specs.Reading.{InputState, items_read, handed}
 use Rattle.esm_stream_book.specs.Books.{BookState}
+use Rattle.esm_stream_book.specs.Moments.{IsTimedView}
 use Rattle.esm_pool.specs.declared.running.RunEnd.{RunEnd}
 use Rattle.esm_pool.specs.declared.running.RunEnd.TheVariants.{Finished, Spent, Down}
 use Rattle.esm_runner.specs.Given.{AreGiven}
@@ -37,6 +38,8 @@ pub record HasRun {D T F : Type 0} (o : Outside F) (before after : BookState D T
   pub found_dest : after.found_dest ≡ before.found_dest
   -- each moment is one that the clock gave, or that of the entry before it where that is later
   pub moments : AreGiven o.gave after.core.past
+  -- and so is that of each entry which a device that failed kept from being added
+  pub timed : IsTimedView o.gave after.core
   -- no call is without its end
   pub rests : NoneRuns after.core.past
   -- caller k's log, where told, grew by the calls of batcher k
@@ -49,6 +52,7 @@ pub record HasStopped {D T F : Type 0} (o : Outside F) (before after : BookState
   pub found : after.found ≡ before.found
   pub found_dest : after.found_dest ≡ before.found_dest
   pub moments : AreGiven o.gave after.core.past
+  pub timed : IsTimedView o.gave after.core
   -- caller k's log, where told, grew by the calls of batcher k, and perhaps by one further call of a lane that still runs
   pub as_many : length new ≡ length old
   pub calls_made : (k : ℕ) (d : F) → k < length old → HasLogged o.sends after.core.setting after.core.past k (o.log (slice_index_or old k d)) (o.log (slice_index_or new k d))

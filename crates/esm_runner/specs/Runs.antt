@@ -89,8 +89,8 @@ pub record IsLeft {D : Type 0} (m : DiskMeaning D) (line : List ℕ → List ℕ
   pub lines : HasLines (file_dest m line) b
   pub since : LeavesSince m line f b
   pub pair_kept : PairKeepsWhileUp m b.pair
-  -- where a disk failed: what a crash leaves since the opening, and what it leaves now
-  pub opened_since : b.trouble ≡ Some trouble.Disk → LeavesFirst m (file_dest m line) (full_setting b.core) b.found b.pair b.found_dest b.dest (entries_left b)
+  -- what a crash leaves since the opening, and what it leaves now where a disk failed
+  pub opened_since : LeavesFirst m (file_dest m line) (full_setting b.core) b.found b.pair b.found_dest b.dest (entries_left b)
   pub pair_stopped : PairKeepsWhileDown m b.pair
   pub dest_kept : KeepsWhileUp m b.dest
   pub dest_stopped : KeepsWhileDown m b.dest

@@ -3,11 +3,13 @@ ghost use Rattle.esm_runner.specs.QueueLaws.{AreLaws};
 
 use esm_input::laws::handed_is_within;
 use esm_journal_record::laws::read_again;
+use esm_queue_book::moments::hand_is_timed;
 use esm_queue_model::history_laws::{
     deleted_once, every_message_counted, legal_over_more, order_per_group, queue_calls_kept,
 };
 
-/// What holds of every history of a queue, of every payload, and of every input. Does nothing.
+/// What holds of every history of a queue, of every payload, of the moment of the entry in hand, and of every input. Does
+/// nothing.
 pub(crate) fn laws_hold()
     ensures { AreLaws }
 {
@@ -17,5 +19,6 @@ pub(crate) fn laws_hold()
     legal_over_more();
     queue_calls_kept();
     read_again();
+    hand_is_timed();
     handed_is_within();
 }

@@ -23,6 +23,7 @@ use crate::number::batchers_of;
 use crate::queue_laws::laws_hold;
 use crate::queue_running::{Ran, run_batchers};
 use crate::run::{Before, MappingRun, closed, end_of};
+use crate::stream_laws::disks_count_now;
 use esm_input::{Input, InputEnd};
 use esm_io::{Caller, Clock, Disk, Source};
 use esm_journal::{FileDest, Pair};
@@ -250,6 +251,7 @@ pub fn run_queue<
         failures,
     };
     laws_hold();
+    disks_count_now::<D>();
     match begin(alloc, config, calls, visibility_ms, &said, pair, input) {
         Ok(run) => run_opened(
             rt, alloc, run, dest, said, callers, clock, read_first, &before,

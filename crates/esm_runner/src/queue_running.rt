@@ -8,6 +8,7 @@ ghost use Rattle.esm_input.specs.Reading.{IsInput};
 ghost use Rattle.esm_workers.specs.Working.{outside};
 ghost use Rattle.esm_queue_model.specs.QueueSetting.{is_fifo};
 ghost use Rattle.esm_queue_book.specs.Keeping.{IsSound};
+ghost use Rattle.esm_queue_book.specs.Moments.{IsTimedView};
 ghost use Rattle.esm_runner.specs.Number.{batchers_in};
 ghost use Rattle.esm_runner.specs.QueueRan.{HasRun, HasStopped, EndsSo, CameSo, IsCutInput};
 
@@ -16,6 +17,7 @@ use esm_io::{Caller, Clock, Disk, Source};
 use esm_model::OutOfMemory;
 use esm_pool::{RunEnd, run_book};
 use esm_queue_book::QueueBook;
+use esm_workers::OnTime;
 use std::alloc::Global;
 use std::sync::Wait;
 use std::thread::Threads;
@@ -61,6 +63,7 @@ pub(crate) fn run_batchers<
     requires up { book.trouble ≡ None }
     requires new { book.core.past ≡ [] }
     requires none_came { book.core.setting.messages ≡ [] }
+    requires timed { IsTimedView C.gave book.core }
     requires name { name.now ≡ book.core.setting.config.function }
     requires batchers { batchers ≡ batchers_in book.core.setting.config }
     requires kind { input.kind ≡ LineKind.Queue (is_fifo book.core.setting.config.kind) }
@@ -77,14 +80,16 @@ pub(crate) fn run_batchers<
     ensures input { (result.input.kind ≡ input.kind) × (result.input.factor ≡ input.factor) ×
         (result.input.start ≡ input.start) × (result.input.found ≡ input.found) }
 {
+    let on_time = OnTime::<QueueBook<D>, C>::new(book);
     let esm_pool::Ran {
         end,
         book,
         input,
         callers,
     } = run_book(
-        rt, alloc, book, input, batchers, name, callers, clock, read_first,
+        rt, alloc, on_time, input, batchers, name, callers, clock, read_first,
     );
+    let book = book.into_book();
     know(&book);
     Ran {
         end,

@@ -12,8 +12,10 @@ use esm_model::laws::{
     no_repeat, one_fate, order_per_key,
 };
 use esm_record_bounds::laws::legal_may_be_said;
+use esm_stream_book::moments::hand_is_timed;
 
-/// What holds of every history, of what its payloads say, and of every input. Does nothing.
+/// What holds of every history, of what its payloads say, of the moments of entries that are not added, and of every input. Does
+/// nothing.
 pub(crate) fn laws_hold()
     ensures { AreLaws }
 {
@@ -29,6 +31,7 @@ pub(crate) fn laws_hold()
     legal_may_be_said();
     fates_are_kept();
     checkpoint_is_kept();
+    hand_is_timed();
     handed_is_within();
 }
 

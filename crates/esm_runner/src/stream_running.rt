@@ -7,6 +7,7 @@ ghost use Rattle.esm_model.specs.declared.item.LineKind.{LineKind};
 ghost use Rattle.esm_input.specs.Reading.{IsInput};
 ghost use Rattle.esm_workers.specs.Working.{outside};
 ghost use Rattle.esm_stream_book.specs.Keeping.{IsSound};
+ghost use Rattle.esm_stream_book.specs.Moments.{IsTimedView};
 ghost use Rattle.esm_runner.specs.Ran.{HasRun, HasStopped, EndsSo, CameSo, IsCutInput};
 
 use esm_input::Input;
@@ -15,6 +16,7 @@ use esm_io::{Caller, Clock, Dest, Disk, Source};
 use esm_model::{MAX_LANES, MAX_SHARDS, OutOfMemory};
 use esm_pool::{RunEnd, run_book};
 use esm_stream_book::Book;
+use esm_workers::OnTime;
 use std::alloc::Global;
 use std::sync::Wait;
 use std::thread::Threads;
@@ -70,6 +72,7 @@ pub(crate) fn run_lanes<
     requires up { book.trouble ≡ None }
     requires new { book.core.past ≡ [] }
     requires none_came { book.core.setting.streams ≡ [] }
+    requires timed { IsTimedView C.gave book.core }
     requires name { name.now ≡ book.core.setting.config.function }
     requires kind { input.kind ≡ LineKind.Stream }
     requires factor { input.factor ≡ book.core.setting.config.factor }
@@ -87,14 +90,16 @@ pub(crate) fn run_lanes<
         (result.input.start ≡ input.start) × (result.input.found ≡ input.found) }
 {
     let batchers = batchers_for(input.factor());
+    let on_time = OnTime::<Book<D, T>, C>::new(book);
     let esm_pool::Ran {
         end,
         book,
         input,
         callers,
     } = run_book(
-        rt, alloc, book, input, batchers, name, callers, clock, read_first,
+        rt, alloc, on_time, input, batchers, name, callers, clock, read_first,
     );
+    let book = book.into_book();
     know(&book);
     handed_is_within();
     Ran {

@@ -54,6 +54,7 @@ module _ {D F : Type 0} (t : Telling D F) where
       → Headline (tells_recorded t) f s h o hand new → Headline t f s h o hand (devices_below new)
   headline_below f s h o hand new is = record {
     legal_trace = is.legal_trace;
+    settled = is.settled;
     messages_came = is.messages_came;
     valid = is.valid;
     few = is.few;
@@ -63,7 +64,9 @@ module _ {D F : Type 0} (t : Telling D F) where
     in_hand = is.in_hand;
     hand_has_payload = is.hand_has_payload;
     hand_follows = is.hand_follows;
+    hand_given = is.hand_given;
     crash = is.crash;
+    crash_since_opening = is.crash_since_opening;
     failures_same = is.failures_same;
     failures_read = is.failures_read;
     only_earned = is.only_earned;

@@ -8,5 +8,7 @@ returns c = record {
   more = c.legal_over_more.ensures;
   calls = c.queue_calls_kept.ensures;
   again = c.read_again.ensures;
+  hand_timed = c.hand_is_timed.ensures.hand;
+  front_timed = c.hand_is_timed.ensures.front;
   within = c.handed_is_within.ensures;
 }

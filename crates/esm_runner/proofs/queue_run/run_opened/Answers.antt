@@ -13,6 +13,7 @@ use Rattle.esm_model.specs.ValidMessage.{IsValidMessage}
 use Rattle.esm_input.specs.declared.ending.InputEnd.{InputEnd}
 use Rattle.esm_input.specs.Reading.{InputState}
 use Rattle.esm_queue_book.specs.Books.{BookState}
+use Rattle.esm_queue_book.specs.Moments.{IsTimedView}
 use Rattle.esm_queue_core.specs.CoreView.{all_messages}
 use Rattle.esm_queue_core.specs.Told.{told_of}
 use Rattle.esm_workers.specs.Working.{outside}
@@ -68,7 +69,7 @@ returns g c =
       journal = c.trouble.ensures.journal;
       since = c.since_before.ensures;
       pair_kept = c.trouble.ensures.kept;
-      opened_since = λ disk. c.trouble.ensures.images;
+      opened_since = c.trouble.ensures.images;
       pair_stopped = rw (← c.into_parts-history.ensures.pair) c.closed.ensures.pair_stopped;
       stays = sound.stays;
       hand = sound.hand;
@@ -109,6 +110,9 @@ returns g c =
       said = c.closed.ensures.said;
       as_many = stays.1 ∙ c.requires.callers;
     }
+
+pub run_batchers-ran-requires-clause-timed : goal.run_batchers-ran-requires-clause-timed
+run_batchers-ran-requires-clause-timed g c κs within = subst (IsTimedView g.C.Clock.gave) (sym c.requires.begun.core) (record { past = tt; owed = tt })
 
 pub since_before-requires-clause-first : goal.since_before-requires-clause-first
 since_before-requires-clause-first g c =

@@ -27,7 +27,7 @@ returns-clause-stopped g c =
     let input : out.input ≡ c.args.input = c.closed.ensures.input ∙ ap (λ (x : PairState g.row.D.Denot × g.row.S.Denot). x.1) back in
     let none : reverse out.trace.items ≡ [] = rw (c.closed.ensures.trace, c.new.ensures.items) refl in
     let all : HasStoppedRun t g.S.Source.left c.args.config c.args.calls c.args.visibility_ms f c.args.input c.args.input c.args.callers.items [] new =
-    not_begun t g.S.Source.left c.args.config c.args.calls c.args.visibility_ms f c.args.input c.args.callers.items new (record {}) laws c.into_parts-pair.ensures.opened
+    not_begun t g.S.Source.left c.args.config c.args.calls c.args.visibility_ms f c.args.input c.args.callers.items new (record {}) laws c.disks_count_now.ensures.only_now c.into_parts-pair.ensures.opened
     (c.closed.ensures.journal ∙ ap first_disk pair) (c.closed.ensures.spare ∙ ap second_disk pair)
     (c.closed.ensures.failures ∙ ap (λ (d : JournalState g.row.D.Denot). d.disk) c.into_parts-pair.ensures.dest) (rw c.closed.ensures.callers refl) in
     on_any_err out.end

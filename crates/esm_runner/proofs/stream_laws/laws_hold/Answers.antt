@@ -14,5 +14,8 @@ returns c = record {
   said = c.legal_may_be_said.ensures;
   fates = c.fates_are_kept.ensures;
   kept = c.checkpoint_is_kept.ensures;
+  hand_timed = c.hand_is_timed.ensures.hand;
+  tried_timed = c.hand_is_timed.ensures.tried;
+  front_timed = c.hand_is_timed.ensures.front;
   within = c.handed_is_within.ensures;
 }

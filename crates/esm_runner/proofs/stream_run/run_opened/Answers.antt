@@ -16,6 +16,7 @@ use Rattle.esm_input.specs.Reading.{InputState}
 use Rattle.esm_stream_core.specs.CoreView.{full_setting}
 use Rattle.esm_stream_book.specs.Books.{BookState}
 use Rattle.esm_stream_book.specs.Keeping.{IsSound, entries_left}
+use Rattle.esm_stream_book.specs.Moments.{IsTimedView}
 use Rattle.esm_workers.specs.Working.{outside}
 use Rattle.esm_runner.specs.Ended.{HasEnded, HasStoppedRun}
 use Rattle.esm_runner.specs.FailureFile.{DeliversTo}
@@ -75,7 +76,7 @@ returns g c =
           opens_over m n file line means (full_setting under.core) under.found.epoch under.found.payloads under.found_dest under.dest (entries_left under) one other
           (c.since_before.ensures honest other_honest only other_only one other since other_since);
       pair_kept = c.trouble.ensures.kept;
-      opened_since = λ disk. leaves_over m n file line means (full_setting under.core) under.found under.pair under.found_dest under.dest (entries_left under) c.trouble.ensures.images;
+      opened_since = leaves_over m n file line means (full_setting under.core) under.found under.pair under.found_dest under.dest (entries_left under) c.trouble.ensures.images;
       pair_stopped = rw (← c.into_parts-history.ensures.pair) c.closed.ensures.pair_stopped;
       dest_kept = subst (λ (d : JournalState g.row.D.Denot). KeepsWhileUp m d) dest c.closed.ensures.dest_kept;
       dest_stopped = subst (λ (d : JournalState g.row.D.Denot). KeepsWhileDown m d) dest c.closed.ensures.dest_stopped;
@@ -120,6 +121,9 @@ returns g c =
       said = c.closed.ensures.said;
       as_many = stays.2 ∙ c.requires.callers;
     }
+
+pub run_lanes-ran-requires-clause-timed : goal.run_lanes-ran-requires-clause-timed
+run_lanes-ran-requires-clause-timed g c κs within = subst (IsTimedView g.C.Clock.gave) (sym c.requires.begun.core) (record { past = tt; owed = tt })
 
 pub since_before-requires-clause-first : goal.since_before-requires-clause-first
 since_before-requires-clause-first g c =

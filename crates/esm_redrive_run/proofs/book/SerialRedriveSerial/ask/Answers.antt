@@ -9,7 +9,8 @@ use Rattle.esm_redrive_run.proofs.Bringing.{legal_book}
 use Rattle.esm_redrive_run.proofs.Items.{stay_as}
 use Rattle.esm_redrive_run.proofs.Stays.{function_stays}
 use Rattle.esm_redrive_run.specs.Runs.{dead_file}
-use Rattle.esm_redrive_run.proofs.Stepping.{gone_none, no_calls}
+use Rattle.esm_redrive_run.proofs.Stepping.{StaysTimed, gone_none, no_calls}
+use Rattle.esm_redrive_run.proofs.Timed.{next_timed}
 use Rattle.esm_redrive_run.proofs.book.SerialRedriveSerial.ask.Goals as goal
 
 pub next-answer-requires : goal.next-answer-requires
@@ -42,8 +43,9 @@ returns g c =
     } in
     let after : IsLegalBook new = legal_book new c.know-2.ensures.sound c.know-2.ensures.consistent in
     let has : HasAsked t old new r = asked m (dead_file m) t old new r did c.requires.rests before after in
+    let stays : StaysTimed t old new = next_timed m (dead_file m) c.moments_hold.ensures t old new r did in
     record {
-      since = λ gave sends first calls clock earlier. gone_none t old new gave sends first.redrive calls has.step clock earlier;
+      since = λ gave sends first calls clock earlier. gone_none t old new gave sends first.redrive calls has.step stays clock earlier;
       items = stay_as old new has.messages;
       change = has.change;
       function = function_stays t old new no_calls has.step;

@@ -22,6 +22,7 @@ returns g c =
         found_dest = refl;
         sound = λ is. is;
         moments = λ is. is;
+        timed = λ is. is;
         called = sym (append-nil (redrive_calls b.core.setting sends b.core.past));
         later = λ is. is;
       };

@@ -15,7 +15,8 @@ use Rattle.esm_redrive_run.proofs.Bringing.{CameDid, HasCome, come, legal_book, 
 use Rattle.esm_redrive_run.proofs.Items.{all_come, some_come, room_for, stay_as}
 use Rattle.esm_redrive_run.proofs.Stays.{kind_stays, function_stays, if_ok}
 use Rattle.esm_redrive_run.specs.Runs.{dead_file}
-use Rattle.esm_redrive_run.proofs.Stepping.{gone_none, no_calls}
+use Rattle.esm_redrive_run.proofs.Stepping.{StaysTimed, gone_none, no_calls}
+use Rattle.esm_redrive_run.proofs.Timed.{came_timed}
 use Rattle.esm_redrive_run.proofs.book.SerialRedriveSerial.bring.Goals as goal
 
 pub messages_of-requires : goal.messages_of-requires
@@ -69,8 +70,9 @@ returns g c =
     let did : CameDid m (dead_file m) t (messages_in_items list) old new r = subst (λ (ms : List Message). CameDid m (dead_file m) t ms old new r) c.in-Ok.ensures given in
     let legal : IsLegalBook new = legal_book new c.know-2.ensures.sound c.know-2.ensures.consistent in
     let has : HasCome t (messages_in_items list) old new r = come m (dead_file m) t (messages_in_items list) old new r did c.requires.going legal in
+    let stays : StaysTimed t old new = came_timed m (dead_file m) c.moments_hold.ensures t old new (messages_in_items list) r did in
     record {
-      since = λ gave sends first calls clock before. gone_none t old new gave sends first.redrive calls has.step clock before;
+      since = λ gave sends first calls clock before. gone_none t old new gave sends first.redrive calls has.step stays clock before;
       going = has.going;
       came = if_ok (new.core.setting.queue.messages ≡ old.core.setting.queue.messages ++ messages_in_items list) (Come (items_in old) (items_in new) list) r (all_come old new list all) has.came;
       some = some_come old new list all has.some;

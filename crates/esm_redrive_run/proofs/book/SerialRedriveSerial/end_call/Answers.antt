@@ -9,7 +9,8 @@ use Rattle.esm_redrive_run.proofs.Bringing.{legal_book}
 use Rattle.esm_redrive_run.proofs.Ending.{DoneDid, HasEnded, ended, is_running_job}
 use Rattle.esm_redrive_run.proofs.Items.{stay_as}
 use Rattle.esm_redrive_run.specs.Runs.{dead_file}
-use Rattle.esm_redrive_run.proofs.Stepping.{gone_on, gone_none}
+use Rattle.esm_redrive_run.proofs.Stepping.{StaysTimed, gone_none, gone_on}
+use Rattle.esm_redrive_run.proofs.Timed.{done_timed}
 use Rattle.esm_redrive_run.proofs.book.SerialRedriveSerial.end_call.Goals as goal
 
 pub done-answer-requires : goal.done-answer-requires
@@ -33,15 +34,16 @@ returns g c =
     } in
     let after : IsLegalBook new = legal_book new c.know-2.ensures.sound c.know-2.ensures.consistent in
     let has : HasEnded t c.args.job c.args.reply old new r = ended m (dead_file m) t c.args.job c.args.reply old new r did c.requires.runs after in
+    let stays : StaysTimed t old new = done_timed m (dead_file m) c.moments_hold.ensures t old new c.args.job c.args.reply r did in
     record {
       called = λ other gave sends first calls clock before.
-          gone_on t old new (λ sends. call_to old.core.setting.queue.config.function sends c.args.job.event c.args.reply ∷ []) gave sends first.redrive calls (has.called other) clock before;
+          gone_on t old new (λ sends. call_to old.core.setting.queue.config.function sends c.args.job.event c.args.reply ∷ []) gave sends first.redrive calls (has.called other) stays clock before;
       rests = has.rests;
       items = stay_as old new has.messages;
       change = has.change;
       function = ap (λ (s : RedriveSetting). s.queue.config.function) has.config;
       shut = has.shut;
-      no_end = λ is gave sends first calls clock before. gone_none t old new gave sends first.redrive calls (has.no_end is) clock before;
+      no_end = λ is gave sends first calls clock before. gone_none t old new gave sends first.redrive calls (has.no_end is) stays clock before;
       runs = has.runs;
       down = has.down;
     }
