@@ -16,7 +16,7 @@ use Rattle.esm_replay.specs.declared.batch.Batch.{Batch}
 use Rattle.esm_replay.specs.declared.parts.Parts.{Parts}
 use Rattle.esm_replay.specs.Rows.{places_of, Stands}
 use Rattle.esm_replay.specs.Waiting.{NamedPiece, seen_pieces, put_ahead, without_front, front_of, HasNamed, IsPlaced}
-use Rattle.esm_replay.specs.Batch.{IsPlacedIn, IsBatchOf, IsNextBatch, AreWithin, StandWithin, fits_for}
+use Rattle.esm_replay.specs.Batch.{IsPlacedIn, IsBatchOf, IsNextBatch, AreWithin, StandWithin, fits_for, batch_records}
 use Rattle.esm_replay.specs.Ending.{split_first, split_rest, after_end, ArePartsOf, EndsSo, StaysPlaced}
 use Rattle.esm_replay.proofs.Ends.{after_end_seen, after_end_placed}
 
@@ -38,15 +38,15 @@ filled_without count (p ∷ ps) all = filled_ahead p.shard (drop count p.named) 
 
 -- the next call of the first piece is the next call
 pub next_is : (s : ReplaySetting) (c : Config) (rs : List Record) (p : NamedPiece) (ps : List NamedPiece) (n : ℕ) (ds : List Named) (batch : Batch) → n ≡ p.shard → ds ≡ p.named → slice_get ps 0 ≡ Some p
-    → config_of s ≡ c → All (IsPlaced s rs) ps → (IsPlacedIn s c rs n ds → IsBatchOf s n ds batch) → IsNextBatch s ps (Some batch)
+    → config_of s ≡ c → All (IsPlaced s rs) ps → (IsPlacedIn s c rs n ds → IsBatchOf s rs n ds batch) → IsNextBatch s rs ps (Some batch)
 next_is s c rs p ps n ds batch shard named at is all gives =
     let first : IsFirst p ps = first_of p ps at in
     let own : All (Stands s rs p.shard) p.named = All-head (IsPlaced s rs) p first.others (subst (λ (qs : List NamedPiece). All (IsPlaced s rs) qs) first.is all) in
     let stand : All (Stands s rs n) ds = subst (λ (m : ℕ). All (Stands s rs m) ds) (sym shard) (subst (λ (xs : List Named). All (Stands s rs p.shard) xs) (sym named) own) in
-    let b : IsBatchOf s n ds batch = gives (record { config_is = is; stand = stand }) in
-    subst (λ (qs : List NamedPiece). IsNextBatch s qs (Some batch)) (sym first.is) (
+    let b : IsBatchOf s rs n ds batch = gives (record { config_is = is; stand = stand }) in
+    subst (λ (qs : List NamedPiece). IsNextBatch s rs qs (Some batch)) (sym first.is) (
       ap (λ (m : ℕ). piece m batch.places) (b.0 ∙ shard) ∙ ap (λ (xs : List ℕ). piece p.shard xs) (b.1 ∙ ap₂ (λ (m : ℕ) (xs : List Named). longest (fits_for s m) [] (places_of xs)) shard named),
-      subst (λ (m : ℕ). batch.records.items ≡ records_at s.base m batch.places) (sym b.0) b.2,
+      subst (λ (m : ℕ). batch_records rs batch ≡ records_at s.base m batch.places) (sym b.0) b.2,
       b.3,
     )
 

@@ -156,13 +156,13 @@ some_in_batch c is = sized c.kind is.kind is.valid.batch_size
     sized Fifo e within = absurd cc
 
 -- what is gathered is a call of the piece
-pub batch_is : (s : ReplaySetting) (c : Config) (rs : List Record) (n : ℕ) (ds : List Named) (batch : List Record) (places : List ℕ) → IsPlacedIn s c rs n ds → length batch ≤ length ds → 1 ≤ length batch
-    → batch ≡ records_named rs (take (length batch) ds) → take (length batch) (places_of ds) ≡ longest (fits_for s n) [] (places_of ds) → places ≡ places_of (take (length batch) ds)
+pub batch_is : (s : ReplaySetting) (c : Config) (rs : List Record) (n : ℕ) (ds : List Named) (count : ℕ) (batch : List Record) (places : List ℕ) → IsPlacedIn s c rs n ds → count ≤ length ds → 1 ≤ count
+    → batch ≡ records_named rs (take count ds) → take count (places_of ds) ≡ longest (fits_for s n) [] (places_of ds) → places ≡ places_of (take count ds)
     → (places ≡ longest (fits_for s n) [] (places_of ds)) × (batch ≡ records_at s.base n places) × (1 ≤ length places)
-batch_is s c rs n ds batch places placed within some records all is =
-    let front : take (length batch) (places_of ds) ≡ places_of (take (length batch) ds) = take-map (λ (d : Named). d.place) (length batch) ds in
-    let long : length places ≡ length batch = ap (λ (xs : List ℕ). length xs) is ∙ length-map (take (length batch) ds) (λ (d : Named). d.place) ∙ length-take-le (length batch) ds within in (
+batch_is s c rs n ds count batch places placed within some records all is =
+    let front : take count (places_of ds) ≡ places_of (take count ds) = take-map (λ (d : Named). d.place) count ds in
+    let long : length places ≡ count = ap (λ (xs : List ℕ). length xs) is ∙ length-map (take count ds) (λ (d : Named). d.place) ∙ length-take-le count ds within in (
       is ∙ sym front ∙ all,
-      records ∙ sym (records_there s rs n (take (length batch) ds) (All-take (Stands s rs n) (length batch) ds placed.stand)) ∙ ap (records_at s.base n) (sym is),
+      records ∙ sym (records_there s rs n (take count ds) (All-take (Stands s rs n) count ds placed.stand)) ∙ ap (records_at s.base n) (sym is),
       omega (arith, long, some),
     )

@@ -1,9 +1,11 @@
 pub mod Orders
 pub mod Reaching
 pub mod Finding
+pub mod Naming
 pub mod Gathering
 pub mod FirstPieces
 pub mod Gathered
+pub mod InRow
 pub mod Ends
 pub mod Fronts
 pub mod Saying

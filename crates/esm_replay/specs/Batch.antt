@@ -1,5 +1,5 @@
 -- The records of the next call, by where they stand among the records that came. This product's own.
-use Rattle.std.specs.Prelude.{◌≡◌, ℕ, ◌<◌, ◌≤◌, Bool, List, [], length, filter_map, slice_get, Option, Some, None, option_and_then}
+use Rattle.std.specs.Prelude.{◌≡◌, ℕ, suc, ◌+◌, ◌<◌, ◌≤◌, Bool, List, [], ◌∷◌, length, take, drop, filter_map, slice_get, Option, Some, None, option_and_then}
 use Rattle.std.specs.List.{All}
 use Rattle.esm_model.specs.declared.config.Config.{Config}
 use Rattle.esm_model.specs.declared.item.Record.{Record}
@@ -9,6 +9,8 @@ use Rattle.esm_replay_model.specs.ReplaySetting.{ReplaySetting, config_of}
 use Rattle.esm_replay_model.specs.Pieces.{piece, replay_fits, next_call}
 use Rattle.esm_replay.specs.declared.rows.Named.{Named}
 use Rattle.esm_replay.specs.declared.batch.Batch.{Batch}
+use Rattle.esm_replay.specs.declared.batch_records.BatchRecords.{BatchRecords}
+use Rattle.esm_replay.specs.declared.batch_records.BatchRecords.TheVariants.{InRow, Copied}
 use Rattle.esm_replay.specs.Rows.{places_of, Stands}
 use Rattle.esm_replay.specs.Waiting.{NamedPiece, seen_pieces}
 
@@ -19,6 +21,27 @@ records_named rs ds = filter_map (λ (d : Named). slice_get rs d.at) ds
 abbrev pub record_named : List Record → List Named → ℕ → Option Record
 record_named rs ds i = option_and_then (λ (d : Named). slice_get rs d.at) (slice_get ds i)
 
+-- the named records stand in a row, from this one on
+abbrev pub StandInRow : ℕ → List Named → Type 0
+StandInRow first [] = Unit {0}
+StandInRow first (d ∷ ds) = (d.at ≡ first) × StandInRow (suc first) ds
+
+-- the records that so many gathered ones are, of those that came
+abbrev pub records_in : List Record → ℕ → BatchRecords → List Record
+records_in rs count (InRow first) = take count (drop first rs)
+records_in rs count (Copied copies) = copies.items
+
+abbrev pub batch_records : List Record → Batch → List Record
+batch_records rs batch = records_in rs (length batch.places) batch.records
+
+-- a row of so many stands among so many
+abbrev pub IsRowWithin : ℕ → ℕ → BatchRecords → Type 0
+IsRowWithin n count (InRow first) = first + count ≤ n
+IsRowWithin n count (Copied copies) = Unit {0}
+
+abbrev pub IsAmong : ℕ → Batch → Type 0
+IsAmong n batch = IsRowWithin n (length batch.places) batch.records
+
 -- the two limits of a call of the shard's records at the places
 abbrev pub fits_for : ReplaySetting → ℕ → List ℕ → Bool
 fits_for s n places = replay_fits s (piece n places)
@@ -28,16 +51,16 @@ pub record IsPlacedIn (s : ReplaySetting) (config : Config) (rs : List Record) (
   pub config_is : config_of s ≡ config
   pub stand : All (Stands s rs n) ds
 
--- the next call of a piece of these records of the shard, with copies of its records
-abbrev pub IsBatchOf : ReplaySetting → ℕ → List Named → Batch → Type 0
-IsBatchOf s n ds batch =
-    (batch.shard ≡ n) × (batch.places ≡ longest (fits_for s n) [] (places_of ds)) × (batch.records.items ≡ records_at s.base n batch.places) × (1 ≤ length batch.places)
+-- the next call of a piece of these records of the shard
+abbrev pub IsBatchOf : ReplaySetting → List Record → ℕ → List Named → Batch → Type 0
+IsBatchOf s rs n ds batch =
+    (batch.shard ≡ n) × (batch.places ≡ longest (fits_for s n) [] (places_of ds)) × (batch_records rs batch ≡ records_at s.base n batch.places) × (1 ≤ length batch.places)
 
 -- of the first piece, where something waits
-abbrev pub IsNextBatch : ReplaySetting → List NamedPiece → Option Batch → Type 0
-IsNextBatch s pieces None = pieces ≡ []
-IsNextBatch s pieces (Some batch) =
-    (piece batch.shard batch.places ≡ next_call s (seen_pieces pieces)) × (batch.records.items ≡ records_at s.base batch.shard batch.places) × (1 ≤ length batch.places)
+abbrev pub IsNextBatch : ReplaySetting → List Record → List NamedPiece → Option Batch → Type 0
+IsNextBatch s rs pieces None = pieces ≡ []
+IsNextBatch s rs pieces (Some batch) =
+    (piece batch.shard batch.places ≡ next_call s (seen_pieces pieces)) × (batch_records rs batch ≡ records_at s.base batch.shard batch.places) × (1 ≤ length batch.places)
 
 -- each record stands among so many
 abbrev pub AreWithin : ℕ → List Named → Type 0

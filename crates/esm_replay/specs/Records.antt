@@ -1,6 +1,7 @@
 -- The setting of a replay by the records that came. This product's own.
-use Rattle.std.specs.Prelude.{ℕ, ◌==◌, Bool, false, not, ◌&&◌, List, [], ◌∷◌, map, filter, option_map, unwrap_or}
+use Rattle.std.specs.Prelude.{ℕ, ◌==◌, Bool, false, not, ◌&&◌, List, [], ◌∷◌, ◌++◌, length, map, filter, option_map, unwrap_or}
 use Rattle.esm_model.specs.declared.config.Config.{Config}
+use Rattle.esm_model.specs.declared.entry.Fate.{Fate}
 use Rattle.esm_model.specs.declared.item.Record.{Record}
 use Rattle.esm_model.specs.declared.setup.FoundFate.{FoundFate}
 use Rattle.esm_model.specs.Setting.{Stream}
@@ -48,3 +49,12 @@ is_told_failed told n i = unwrap_or (option_map (λ (f : FoundFate). is_failure 
 -- the record is named, where it stands at the place
 abbrev pub names : SaidLists → List Range → Record → ℕ → Bool
 names told ranges r i = is_told_failed told r.shard i && (is_in_ranges ranges r.shard r.seq && not (is_replay_told told r.shard i))
+
+-- the same, from the fate that the journal tells of the place
+abbrev pub names_by : Fate → SaidLists → List Range → Record → ℕ → Bool
+names_by fate told ranges r i = is_failure fate && (is_in_ranges ranges r.shard r.seq && not (is_replay_told told r.shard i))
+
+-- of each of the records whether it is named, where those came before
+abbrev pub are_named : SaidLists → List Range → List Record → List Record → List Bool
+are_named told ranges before [] = []
+are_named told ranges before (r ∷ rs) = names told ranges r (length (of_shard r.shard before)) ∷ are_named told ranges (before ++ r ∷ []) rs

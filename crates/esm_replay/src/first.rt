@@ -1,15 +1,15 @@
 // The pieces that a replay begins with: of each shard its named records.
-ghost use Rattle.std.specs.Prelude.{◌≡◌, ℕ, ◌<◌, ◌^◌, All, IfOk, length};
+ghost use Rattle.std.specs.Prelude.{◌≡◌, ℕ, ◌<◌, ◌^◌, [], List, All, IfOk, length};
 ghost use Rattle.esm_model.specs.declared.config.Config.{Config};
+ghost use Rattle.esm_journal_state.specs.SaidLists.{SaidLists};
+ghost use Rattle.esm_replay_model.specs.declared.range.Range.{Range};
 ghost use Rattle.esm_replay_model.specs.Pieces.{first_pieces};
-ghost use Rattle.esm_replay.specs.Records.{setting_with};
+ghost use Rattle.esm_replay.specs.Records.{setting_with, are_named};
 ghost use Rattle.esm_replay.specs.Waiting.{seen_pieces, pieces_in, IsPlaced};
 
 use crate::piece::Piece;
-use crate::ranges::Ranges;
 use crate::rows::{Row, rows_of};
 use crate::waiting::Waiting;
-use esm_journal_state::Says;
 use esm_model::{OutOfMemory, Record};
 use std::alloc::Global;
 use std::collections::BTreeMap;
@@ -25,21 +25,21 @@ fn pieces_in(alloc: Global, rows: &BTreeMap<u64, Row>) -> Result<Waiting, OutOfM
     Ok(waiting)
 }
 
-/// What is to be called first, where these records came: linear in the records, but for the logarithm of the shards, the
-/// failure lines and what the journal told.
+/// What is to be called first, where these records came and these of them are named: linear in the records, but for the
+/// logarithm of the shards.
 pub fn first_waiting(
     alloc: Global,
-    said: &Says,
-    ranges: &Ranges,
     records: &[Record],
+    named: &[bool],
 ) -> Result<Waiting, OutOfMemory>
-    requires { length records.now < 2 ^ 32 }
-    ensures pieces { IfOk result (λ waiting. (config : Config) (calls : ℕ) → seen_pieces waiting.pieces ≡
-        first_pieces (setting_with config calls said.now ranges.now records.now)) }
-    ensures placed { IfOk result (λ waiting. (config : Config) (calls : ℕ) →
-        All (IsPlaced (setting_with config calls said.now ranges.now records.now) records.now) waiting.pieces) }
+    requires few { length records.now < 2 ^ 32 }
+    requires each { length named.now ≡ length records.now }
+    ensures pieces { IfOk result (λ waiting. (told : SaidLists) (ranges : List Range) → named.now ≡ are_named told ranges [] records.now → (config : Config) (calls : ℕ) →
+        seen_pieces waiting.pieces ≡ first_pieces (setting_with config calls told ranges records.now)) }
+    ensures placed { IfOk result (λ waiting. (told : SaidLists) (ranges : List Range) → named.now ≡ are_named told ranges [] records.now → (config : Config) (calls : ℕ) →
+        All (IsPlaced (setting_with config calls told ranges records.now) records.now) waiting.pieces) }
 {
-    let rows = rows_of(alloc, said, ranges, records)?;
+    let rows = rows_of(alloc, records, named)?;
     let _ = rows.len();
     pieces_in(alloc, &rows)
 }

@@ -4,6 +4,7 @@
 #![tactic(auto)]
 
 mod batch;
+mod batch_records;
 mod failure;
 mod first;
 pub mod laws;
@@ -15,6 +16,7 @@ mod rows;
 mod waiting;
 
 pub use batch::Batch;
+pub use batch_records::BatchRecords;
 pub use failure::read_failure;
 pub use first::first_waiting;
 pub use named::names;

@@ -1,7 +1,7 @@
 // Whether a record is named by a failure line, was given up and was not replayed.
 ghost use Rattle.std.specs.Prelude.{◌≡◌};
 ghost use Rattle.esm_journal_state.specs.Meaning.{is_failure};
-ghost use Rattle.esm_replay.specs.Records.{is_told_failed, names};
+ghost use Rattle.esm_replay.specs.Records.{names_by};
 
 use crate::ranges::Ranges;
 use esm_journal_state::Says;
@@ -16,20 +16,10 @@ fn is_failure(fate: Fate) -> bool
     }
 }
 
-fn is_told_failed(said: &Says, shard: u64, place: u32) -> bool
-    ensures { result ≡ is_told_failed said.now shard place }
+/// Whether the record is named, where it stands at the place of its shard and the journal tells this fate of the place.
+/// Takes no memory.
+pub fn names(said: &Says, ranges: &Ranges, item: &Record, place: u32, fate: Fate) -> bool
+    ensures { result ≡ names_by fate said.now ranges.now item.now place }
 {
-    match said.fate(shard, place) {
-        None => false,
-        Some(found) => is_failure(found.fate),
-    }
-}
-
-/// Whether the record is named, where it stands at the place of its shard. Takes no memory.
-pub fn names(said: &Says, ranges: &Ranges, item: &Record, place: u32) -> bool
-    ensures { result ≡ names said.now ranges.now item.now place }
-{
-    is_told_failed(said, item.shard, place)
-        && ranges.hold(item.shard, &item.seq)
-        && !said.replayed(item.shard, place)
+    is_failure(fate) && ranges.hold(item.shard, &item.seq) && !said.replayed(item.shard, place)
 }

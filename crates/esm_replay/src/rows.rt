@@ -1,14 +1,13 @@
 // The named records of each shard, gathered from the records in the order in which they came.
-ghost use Rattle.std.specs.Prelude.{◌≡◌, ℕ, ◌==◌, ◌<◌, ◌^◌, false, IfOk, OnOk, length};
+ghost use Rattle.std.specs.Prelude.{◌≡◌, ℕ, ◌==◌, ◌<◌, ◌^◌, [], List, false, IfOk, OnOk, length, get_or};
 ghost use Rattle.std.specs.Ordering.{nat_cmp};
 ghost use Rattle.std.specs.BTreeMap.{get};
 ghost use Rattle.esm_model.specs.declared.config.Config.{Config};
-ghost use Rattle.esm_replay.specs.Records.{names, setting_with};
+ghost use Rattle.esm_journal_state.specs.SaidLists.{SaidLists};
+ghost use Rattle.esm_replay_model.specs.declared.range.Range.{Range};
+ghost use Rattle.esm_replay.specs.Records.{setting_with, are_named};
 ghost use Rattle.esm_replay.specs.Rows.{came_in, named_in, count_in, IsGrown, IsGrownAt, IsRowAt};
 
-use crate::named::names;
-use crate::ranges::Ranges;
-use esm_journal_state::Says;
 use esm_model::{OutOfMemory, Record};
 use std::alloc::Global;
 use std::collections::BTreeMap;
@@ -63,41 +62,47 @@ fn grown(alloc: Global, row: Option<Row>, is_named: bool, at: u32) -> Result<Row
     Ok(row)
 }
 
-/// One more record comes, which stands at `at` among all.
+/// One more record comes, which is named or not and stands at `at` among all.
 fn add(
     alloc: Global,
-    said: &Says,
-    ranges: &Ranges,
     rows: &mut BTreeMap<u64, Row>,
     item: &Record,
+    is_named: bool,
     at: u32,
 ) -> Result<(), OutOfMemory>
     requires { came_in (get nat_cmp rows.old item.now.shard) < u32.MAX }
-    ensures here { OnOk result (IsGrownAt (names said.now ranges.now item.now (came_in (get nat_cmp rows.old item.now.shard))) at
-        (get nat_cmp rows.old item.now.shard) (get nat_cmp rows.new item.now.shard)) }
+    ensures here { OnOk result (IsGrownAt is_named at (get nat_cmp rows.old item.now.shard) (get nat_cmp rows.new item.now.shard)) }
     ensures others { OnOk result ((q : ℕ) → (item.now.shard == q) ≡ false → get nat_cmp rows.new q ≡ get nat_cmp rows.old q) }
 {
     let row = rows.remove(&item.shard);
-    let is_named = names(said, ranges, item, came_in(&row));
     let row = grown(alloc, row, is_named, at)?;
     rows.insert(item.shard, row)?;
     Ok(())
 }
 
-/// The rows of all records, by shard.
+/// Whether the record that stands there is named.
+fn named_at(named: &[bool], i: usize) -> bool
+    requires { i < length named.now }
+    ensures { result ≡ get_or named.now i result }
+{
+    named[i]
+}
+
+/// The rows of all records, by shard, where these of them are named.
 pub(crate) fn rows_of(
     alloc: Global,
-    said: &Says,
-    ranges: &Ranges,
     records: &[Record],
+    named: &[bool],
 ) -> Result<BTreeMap<u64, Row>, OutOfMemory>
-    requires { length records.now < 2 ^ 32 }
-    ensures { IfOk result (λ rows. (config : Config) (calls : ℕ) (q : ℕ) →
-        IsRowAt (setting_with config calls said.now ranges.now records.now) records.now q (count_in q records.now (length records.now)) (get nat_cmp rows q)) }
+    requires few { length records.now < 2 ^ 32 }
+    requires each { length named.now ≡ length records.now }
+    ensures { IfOk result (λ rows. (told : SaidLists) (ranges : List Range) → named.now ≡ are_named told ranges [] records.now → (config : Config) (calls : ℕ) (q : ℕ) →
+        IsRowAt (setting_with config calls told ranges records.now) records.now q (count_in q records.now (length records.now)) (get nat_cmp rows q)) }
 {
     let mut rows = BTreeMap::new(alloc);
     for (i, item) in records.iter().enumerate() {
-        add(alloc, said, ranges, &mut rows, item, i as u32)?;
+        let is_named = named_at(named, i);
+        add(alloc, &mut rows, item, is_named, i as u32)?;
     }
     Ok(rows)
 }

@@ -4,7 +4,7 @@ ghost use Rattle.std.specs.VecDeque.{deque_len, deque_capacity};
 ghost use Rattle.esm_model.specs.Valid.{IsStreamConfig, IsValidRecord};
 ghost use Rattle.esm_replay_model.specs.ReplaySetting.{ReplaySetting, config_of};
 ghost use Rattle.esm_replay.specs.Waiting.{put_ahead, without_front, front_of, HasNamed, IsPlaced};
-ghost use Rattle.esm_replay.specs.Batch.{IsNextBatch, StandWithin};
+ghost use Rattle.esm_replay.specs.Batch.{IsNextBatch, IsAmong, StandWithin};
 ghost use Rattle.esm_replay.specs.Ending.{ArePartsOf, EndsSo, StaysPlaced};
 
 use crate::batch::{Batch, batch_of};
@@ -107,8 +107,9 @@ impl Waiting {
         requires config { IsStreamConfig config.now }
         requires valid { All IsValidRecord records.now }
         requires stand { StandWithin (length records.now) self.now.pieces }
-        ensures { IfOk result (λ batch. (s : ReplaySetting) → config_of s ≡ config.now →
-            All (IsPlaced s records.now) self.now.pieces → IsNextBatch s self.now.pieces batch) }
+        ensures call { IfOk result (λ batch. (s : ReplaySetting) → config_of s ≡ config.now →
+            All (IsPlaced s records.now) self.now.pieces → IsNextBatch s records.now self.now.pieces batch) }
+        ensures among { IfOk result (λ batch. IfSome batch (IsAmong (length records.now))) }
     {
         match self.front() {
             None => Ok(None),

@@ -38,7 +38,20 @@ pub record IsCoreOver (config : Config) (calls : ℕ) (payloads lines : List (Li
   pub given : GiveRanges lines ranges
   pub is : v ≡ new_view (record { config = replay_config config; calls = calls; said = said; ranges = ranges })
 
+-- A core in which no record came, opened with what the journal said and with the ranges that the lines give.
+pub record IsCoreOf (config : Config) (calls : ℕ) (said : SaidLists) (lines : List (List ℕ)) (v : ReplayView) : Type 0 where
+  pub ranges : List Range
+  pub given : GiveRanges lines ranges
+  pub is : v ≡ new_view (record { config = replay_config config; calls = calls; said = said; ranges = ranges })
+
 -- a book over this journal with such a core
+pub record IsOpenedOver {D : Type 0} (config : Config) (calls : ℕ) (said : SaidLists) (pair : PairState D) (lines : List (List ℕ)) (b : BookState D) : Type 0 where
+  pub core : IsCoreOf config calls said lines b.core
+  pub pair_is : b.pair ≡ pair
+  pub found : b.found ≡ pair
+  pub trouble : b.trouble ≡ None
+
+-- a book over this journal with a core over its payloads
 pub record IsOpened {D : Type 0} (config : Config) (calls : ℕ) (pair : PairState D) (lines : List (List ℕ)) (b : BookState D) : Type 0 where
   pub core : IsCoreOver config calls pair.payloads lines b.core
   pub pair_is : b.pair ≡ pair

@@ -4,10 +4,10 @@ ghost use Rattle.esm_model.specs.Valid.{IsStreamConfig};
 ghost use Rattle.esm_journal_state.specs.Meaning.{history, are_good};
 ghost use Rattle.esm_journal_state.specs.SaidLists.{IsInOrder};
 ghost use Rattle.esm_journal_state.specs.Tells.{Tells};
-ghost use Rattle.esm_replay_book.specs.Opening.{GiveRanges, IsBadPayloads, IsBadLines, IsCoreOver, IsNotOpened, IsLineError, IsTaken};
+ghost use Rattle.esm_replay_book.specs.Opening.{GiveRanges, IsBadPayloads, IsBadLines, IsCoreOf, IsLineError, IsTaken};
 
 use esm_journal_state::{Says, SaysError, says};
-use esm_model::{Bytes, Config, OutOfMemory};
+use esm_model::{Bytes, Config, OutOfMemory, Refused};
 use esm_replay::{Ranges, read_failure};
 use esm_replay_core::ReplayCore;
 use esm_replay_model::Range;
@@ -35,7 +35,7 @@ impl From<OutOfMemory> for ReplayOpen {
 }
 
 /// What the payloads say, the oldest first.
-fn read_journal(alloc: Global, payloads: &[Bytes]) -> Result<Says, ReplayOpen>
+pub(crate) fn read_journal(alloc: Global, payloads: &[Bytes]) -> Result<Says, ReplayOpen>
     ensures told { IfOk result (λ said. Tells said (history (reverse payloads.now))) }
     ensures order { IfOk result (λ said. IsInOrder said) }
     ensures good { OnOk result (are_good (reverse payloads.now) ≡ true) }
@@ -83,20 +83,36 @@ fn read_lines(alloc: Global, lines: &[Bytes]) -> Result<Vec<Range>, ReplayOpen>
     Ok(ranges)
 }
 
-/// The core of a book over a journal with these payloads, of the records that these lines name.
-pub(crate) fn open_over(
+/// The ranges of the lines, by which a record is found.
+fn ranges_of(alloc: Global, lines: &[Bytes]) -> Result<Ranges, ReplayOpen>
+    ensures given { IfOk result (λ ranges. GiveRanges lines.now ranges) }
+    ensures bad { IfErr result (IsBadLines lines.now) }
+{
+    let ranges = read_lines(alloc, lines)?;
+    Ok(Ranges::new(alloc, ranges)?)
+}
+
+/// The core of a book over a journal that said this, of the records that these lines name.
+pub(crate) fn core_over(
     alloc: Global,
     config: Config,
     calls: u32,
-    payloads: &[Bytes],
+    said: Says,
     lines: &[Bytes],
-) -> Result<ReplayCore, ReplayOpen>
+) -> Result<ReplayCore, Refused<ReplayOpen, Says>>
     requires config { IsStreamConfig config }
-    ensures opened { IfOk result (IsCoreOver config calls payloads.now lines.now) }
-    ensures refused { IfErr result (IsNotOpened payloads.now lines.now) }
+    ensures opened { IfOk result (IsCoreOf config calls said lines.now) }
+    ensures refused { IfErr result (λ refused. IsBadLines lines.now refused.why) }
+    ensures back { IfErr result (λ refused. refused.back ≡ said) }
 {
-    let said = read_journal(alloc, payloads)?;
-    let ranges = read_lines(alloc, lines)?;
-    let index = Ranges::new(alloc, ranges)?;
-    Ok(ReplayCore::new(alloc, config, calls, said, index)?)
+    match ranges_of(alloc, lines) {
+        Err(why) => Err(Refused { why, back: said }),
+        Ok(ranges) => match ReplayCore::new(alloc, config, calls, said, ranges) {
+            Ok(core) => Ok(core),
+            Err(refused) => Err(Refused {
+                why: ReplayOpen::OutOfMemory,
+                back: refused.back,
+            }),
+        },
+    }
 }

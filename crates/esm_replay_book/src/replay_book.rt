@@ -10,6 +10,9 @@ ghost use Rattle.esm_journal.specs.Reads.{IsOnlyRead};
 ghost use Rattle.esm_model.specs.declared.book.Change.{Change};
 ghost use Rattle.esm_model.specs.declared.book.Trouble.TheVariants as trouble;
 ghost use Rattle.esm_model.specs.Valid.{IsValidRecord, IsStreamConfig};
+ghost use Rattle.esm_journal_state.specs.Meaning.{history, are_good};
+ghost use Rattle.esm_journal_state.specs.SaidLists.{IsInOrder};
+ghost use Rattle.esm_journal_state.specs.Tells.{Tells};
 ghost use Rattle.esm_replay_model.specs.ReplayReport.{named_count};
 ghost use Rattle.esm_replay_model.specs.ReplayRun.{call_out};
 ghost use Rattle.esm_replay_core.specs.View.{setting_of, moment_for, IsJobOut};
@@ -17,23 +20,26 @@ ghost use Rattle.esm_replay_core.specs.Deciding.{next_of, next_entries, done_ent
 ghost use Rattle.esm_replay_book.specs.Books.{payloads_in, OpensToFirst, LeavesFirst};
 ghost use Rattle.esm_replay_book.specs.Calls.{AddedAll, AddedSome, IsFirstChange, RunsCall, IsSame};
 ghost use Rattle.esm_replay_book.specs.Keeping.{IsSound, IsCause, HasJournal, entries_left};
-ghost use Rattle.esm_replay_book.specs.Opening.{IsOpened, IsNotOpened};
+ghost use Rattle.esm_replay_book.specs.Opening.{IsOpened, IsOpenedOver, IsNotOpened, IsBadLines};
 
 use crate::carrying::{Stop, carry, is_down};
-use crate::opening::{ReplayOpen, open_over};
+use crate::opening::{ReplayOpen, core_over, read_journal};
 use esm_book::{Durable, Nowhere, Parts};
 use esm_io::Disk;
 use esm_journal::Pair;
+use esm_journal_state::Says;
 use esm_model::{BookError, Bytes, CameError, Config, Entry, Job, Record, Refused, Reply, Trouble};
 use esm_replay_core::{ReplayAnswer, ReplayCall, ReplayCore, ReplayNext};
 use std::alloc::Global;
 use std::marker::Model;
 use std::snapshot::Snapshot;
 
-/// What a replay's book is made of: its history, oldest entry first, and its journal; and why it is down, where it is.
+/// What a replay's book is made of: its history, oldest entry first, what its journal said at opening, and its journal; and why
+/// it is down, where it is.
 #[derive(Drop)]
 pub struct ReplayParts<D: Disk> {
     pub history: Vec<Entry>,
+    pub said: Says,
     pub trouble: Option<Trouble>,
     pub pair: Pair<D>,
 }
@@ -81,12 +87,46 @@ impl<D: Disk> Replay<D> {
         ensures refused { IfErr result (λ refused. IsNotOpened pair.payloads lines.now refused.why) }
         ensures back { IfErr result (λ refused. refused.back ≡ pair) }
     {
-        match open_over(alloc, config, calls, pair.payloads(), lines) {
+        match read_journal(alloc, pair.payloads()) {
+            Err(why) => Err(Refused { why, back: pair }),
+            Ok(said) => match Replay::open_over(alloc, config, calls, said, pair, lines) {
+                Ok(book) => Ok(book),
+                Err(refused) => Err(Refused {
+                    why: refused.why,
+                    back: refused.back.0,
+                }),
+            },
+        }
+    }
+
+    /// As `open`, over a journal of which it is known what it said, so that it is not read again: a refusal hands back both.
+    /// `BadPayload` never.
+    pub fn open_over(
+        alloc: Global,
+        config: Config,
+        calls: u32,
+        said: Says,
+        pair: Pair<D>,
+        lines: &[Bytes],
+    ) -> Result<Replay<D>, Refused<ReplayOpen, (Pair<D>, Says)>>
+        requires config { IsStreamConfig config }
+        requires up { pair.down ≡ false }
+        requires good { are_good (reverse pair.payloads) ≡ true }
+        requires tells { Tells said (history (reverse pair.payloads)) }
+        requires order { IsInOrder said }
+        ensures opened { IfOk result (IsOpenedOver config calls said pair lines.now) }
+        ensures refused { IfErr result (λ refused. IsBadLines lines.now refused.why) }
+        ensures back { IfErr result (λ refused. (refused.back.0 ≡ pair) × (refused.back.1 ≡ said)) }
+    {
+        match core_over(alloc, config, calls, said, lines) {
             Ok(core) => Ok(Replay {
                 durable: Durable::new(core, pair, Nowhere {}),
                 count: 0,
             }),
-            Err(why) => Err(Refused { why, back: pair }),
+            Err(refused) => Err(Refused {
+                why: refused.why,
+                back: (pair, refused.back),
+            }),
         }
     }
 
@@ -251,9 +291,11 @@ impl<D: Disk> Replay<D> {
         self.durable.since_before(journal, spare);
     }
 
-    /// The history, the first fault or change that a call answered, and the journal, as the calls left them. Takes no memory.
+    /// The history, what the journal said at opening, the first fault or change that a call answered, and the journal, as the
+    /// calls left them. Takes no memory.
     pub fn into_parts(self) -> ReplayParts<D>
         ensures history { result.history.items ≡ reverse self.core.past }
+        ensures said { result.said ≡ self.core.opened.said }
         ensures trouble { result.trouble ≡ self.trouble }
         ensures pair { result.pair ≡ self.pair }
     {
@@ -264,8 +306,10 @@ impl<D: Disk> Replay<D> {
             dest: _,
             trouble,
         } = durable.into_parts();
+        let (history, said) = core.into_parts();
         ReplayParts {
-            history: core.into_history(),
+            history,
+            said,
             trouble,
             pair,
         }

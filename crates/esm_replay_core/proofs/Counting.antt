@@ -1,5 +1,5 @@
 -- Counts of the records of each shard, as a map of them changes.
-use Rattle.std.proofs.Common.{◌≡◌, ℕ, ◌+◌, ◌<◌, Bool, true, false, cond, List, length, get_or, take, refl, sym, ap, ◌∙◌, subst, inl, inr, Option, Some}
+use Rattle.std.proofs.Common.{◌≡◌, ℕ, ◌+◌, ◌<◌, Bool, true, false, cond, List, length, get_or, take, refl, sym, ap, ◌∙◌, subst, inl, inr, Option, Some, None}
 use Rattle.std.specs.Prelude.{◌==◌, IsSome, is_some, unwrap_or, if◌then◌else◌}
 use Rattle.std.specs.List.{All}
 use Rattle.std.specs.Ordering.{nat_cmp}
@@ -16,6 +16,11 @@ same_counts m m' same = record {
   same = λ q. ap (λ (es : List (ℕ × ℕ)). unwrap_or (lookup (is_at (nat_cmp q)) es) 0) same;
   keys = λ q has. subst (λ (es : List (ℕ × ℕ)). is_some (lookup (is_at (nat_cmp q)) es) ≡ true) (sym same) has;
 }
+
+-- a shard without a count has no record
+pub none_counted : (o : Option ℕ) → is_some o ≡ false → 0 ≡ unwrap_or o 0
+none_counted None none = refl
+none_counted (Some n) none = absurd cc
 
 pub then_recounted : (m m' m'' : BTreeMap ℕ ℕ) → IsRecounted m m' → IsRecounted m' m'' → IsRecounted m m''
 then_recounted m m' m'' first more = record { same = λ q. more.same q ∙ first.same q; keys = λ q has. more.keys q (first.keys q has) }

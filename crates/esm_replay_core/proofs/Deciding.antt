@@ -24,7 +24,7 @@ use Rattle.esm_book.specs.declared.error.Refusal.TheVariants.{Changed, OutOfMemo
 use Rattle.esm_replay_model.specs.ReplaySetting.{ReplaySetting, replay_config}
 use Rattle.esm_replay_model.specs.ReplayReport.{named_count}
 use Rattle.esm_replay_model.specs.ReplayRun.{call_out, owed_replay, IsReplay}
-use Rattle.esm_replay.specs.Records.{of_shard, names}
+use Rattle.esm_replay.specs.Records.{of_shard, names, are_named}
 use Rattle.esm_replay.specs.Waiting.{Waiting, NamedPiece, seen_pieces, IsPlaced}
 use Rattle.esm_replay_core.specs.declared.decisions.ReplayNext.{ReplayNext}
 use Rattle.esm_replay_core.specs.declared.owed.Owed.{Owed}
@@ -32,6 +32,7 @@ use Rattle.esm_replay_core.specs.declared.owed.Owed.TheVariants.{Nothing, Coming
 use Rattle.esm_replay_core.specs.declared.ending.Ending.{Ending}
 use Rattle.esm_replay_core.specs.View.{ReplayView, setting_of, moment_for, IsJobOut, RunAhead, SaidAhead, owing, paid, forgotten}
 use Rattle.esm_replay_core.specs.Deciding.{next_entries, done_entries, done_count}
+use Rattle.esm_replay.proofs.Naming.{named_append, named_at}
 use Rattle.esm_replay.specs.Coming.{first_change}
 use Rattle.esm_replay_core.specs.Counts.{AreCounted, IsRecounted, HasCount, HasOneMore}
 use Rattle.esm_replay_core.specs.Ending.{MayEnd, IsEnding}
@@ -73,6 +74,13 @@ pub first_is : (p : Parts) (v : ReplayView) (slice items : List Record) (change 
     → change ≡ first_change v.opened.said v.records items
 first_is p v slice items change k seen is found =
     found p.known k.counts ∙ ap (first_change p.opened.said p.known) is ∙ ap (λ (w : ReplayView). first_change w.opened.said w.records items) seen
+
+-- of each whether it is named
+pub came_all : (p : Parts) (came : ℕ) (old items slice : List Record) (bs more : List Bool) → IsKept (over p came old) → drop came old ≡ [] → slice ≡ items → bs ≡ are_named p.opened.said p.opened.ranges [] old
+    → ((before : List Record) → AreCounted p.counts before → more ≡ are_named p.opened.said p.opened.ranges before slice) → bs ++ more ≡ are_named p.opened.said p.opened.ranges [] (old ++ items)
+came_all p came old items slice bs more k none is are found =
+    ap₂ (λ (xs ys : List Bool). xs ++ ys) are (found (take came old) k.counts ∙ ap₂ (are_named p.opened.said p.opened.ranges) (sym (whole_of came old none)) is)
+    ∙ sym (named_append p.opened.said p.opened.ranges [] old items)
 
 pub refused_so : (P Q : Change → Type 0) (r : Refusal) → ((c : Change) → P c → Q c) → IsRefused P r → IsRefused Q r
 refused_so P Q (Changed told kept) each is = (each told is.0, is.1)
@@ -283,6 +291,13 @@ came_few p came rs q k low =
     let long : length (drop came rs) ≡ length rs - came = length-drop came rs in
     let all : length (take came rs) + length (drop came rs) < 2 ^ 32 = k.few in
     omega arith
+
+-- and it is known whether it is named
+pub came_named : (p : Parts) (came : ℕ) (rs : List Record) (bs : List Bool) (r : Record) (b : Bool) → IsKept (over p came rs) → came < length rs → r ≡ get_or rs came r → bs ≡ are_named p.opened.said p.opened.ranges [] rs → b ≡ get_or bs came b
+    → b ≡ names p.opened.said p.opened.ranges r (count_at (get nat_cmp p.counts) r.shard)
+came_named p came rs bs r b k low at are is =
+    named_at p.opened.said p.opened.ranges [] rs came r b low at (is ∙ ap (λ (xs : List Bool). get_or xs came b) are)
+    ∙ ap (names p.opened.said p.opened.ranges r) (sym (k.counts r.shard))
 
 pub named_fits : (p : Parts) (came : ℕ) (rs : List Record) (b : Bool) (more : ℕ) → IsKept (over p came rs) → came < length rs → more ≡ one b → p.named + more < 2 ^ 32
 named_fits p came rs b more k low more_is =

@@ -1,6 +1,6 @@
 -- The first record that differs, record by record.
 use Rattle.std.proofs.Common.{◌≡◌, ℕ, zero, suc, ◌+◌, ◌<◌, ◌≤◌, List, [], ◌∷◌, ◌++◌, length, get_or, take, drop, refl, sym, ap, ap₂, ◌∙◌, subst, arith, true, false, add-one, append_assoc, Option, Some, None}
-use Rattle.std.specs.Prelude.{◌==◌, is_some, option_map}
+use Rattle.std.specs.Prelude.{◌==◌, ◌&&◌, not, Bool, is_some, option_map, unwrap_or}
 use Rattle.std.specs.Option.{option_or}
 use Rattle.std.specs.Ordering.{nat_cmp}
 use Rattle.std.specs.Map.{count_at}
@@ -14,10 +14,14 @@ use Rattle.esm_model.specs.declared.setup.FoundFate.{FoundFate}
 use Rattle.esm_model.specs.declared.setup.FoundTries.{FoundTries}
 use Rattle.esm_journal_state.specs.declared.kept.KeptFate.{KeptFate}
 use Rattle.esm_journal_state.specs.declared.kept.KeptTries.{KeptTries}
-use Rattle.esm_journal_state.specs.SaidLists.{SaidLists}
+use Rattle.esm_journal_state.specs.SaidLists.{SaidLists, fate_told, tries_told, is_replay_told}
 use Rattle.esm_journal_state.specs.Tells.{fate_of_found, tries_of_found}
-use Rattle.esm_replay.specs.Records.{of_shard}
-use Rattle.esm_replay.specs.Coming.{kept_otherwise, change_of, change_at, first_change}
+use Rattle.esm_journal_state.specs.Meaning.{is_failure}
+use Rattle.esm_replay_model.specs.declared.range.Range.{Range}
+use Rattle.esm_replay_model.specs.ReplaySetting.{is_in_ranges}
+use Rattle.esm_replay.specs.Records.{of_shard, names, are_named}
+use Rattle.esm_replay.proofs.Naming.{named_append}
+use Rattle.esm_replay.specs.Coming.{other_text, kept_otherwise, change_of, change_at, first_change}
 use Rattle.esm_replay_core.specs.Counts.{AreCounted, HasOneMore}
 use Rattle.esm_replay_core.proofs.Standing.{few_of_shard}
 use Rattle.esm_replay_core.proofs.Paying.{counted_more}
@@ -30,7 +34,7 @@ counted_few m items i q low are =
     let is : count_at (get nat_cmp m) q ≡ length (of_shard q (take i items)) = are q in
     omega arith
 
-place_is : (m own : BTreeMap ℕ ℕ) (before front : List Record) (q : ℕ) → AreCounted m before → AreCounted own front → count_at (get nat_cmp m) q + count_at (get nat_cmp own) q ≡ length (of_shard q (before ++ front))
+pub place_is : (m own : BTreeMap ℕ ℕ) (before front : List Record) (q : ℕ) → AreCounted m before → AreCounted own front → count_at (get nat_cmp m) q + count_at (get nat_cmp own) q ≡ length (of_shard q (before ++ front))
 place_is m own before front q are own_are =
     ap₂ (λ (a b : ℕ). a + b) (are q) (own_are q)
     ∙ sym (ap (λ (xs : List Record). length xs) (filter-append (λ (x : Record). x.shard == q) before front) ∙ length-append (of_shard q before) (of_shard q front))
@@ -90,3 +94,35 @@ tries_kept_text o x is = ap (option_map (λ (k : KeptTries). k.text)) is ∙ bot
     both : (o : Option FoundTries) → option_map (λ (k : KeptTries). k.text) (option_map tries_of_found o) ≡ option_map (λ (f : FoundTries). f.text) o
     both None = refl
     both (Some f) = refl
+
+pub fate_kept_fate : (o : Option FoundFate) (x : Option KeptFate) → x ≡ option_map fate_of_found o → option_map (λ (k : KeptFate). k.fate) x ≡ option_map (λ (f : FoundFate). f.fate) o
+fate_kept_fate o x is = ap (option_map (λ (k : KeptFate). k.fate)) is ∙ both o
+  where
+    both : (o : Option FoundFate) → option_map (λ (k : KeptFate). k.fate) (option_map fate_of_found o) ≡ option_map (λ (f : FoundFate). f.fate) o
+    both None = refl
+    both (Some f) = refl
+
+pub no_fate : (o : Option FoundFate) → None ≡ option_map fate_of_found o → o ≡ None
+no_fate None none = refl
+no_fate (Some f) none = absurd (cc)
+
+-- what is kept of a record's place, by the text of its fate
+pub change_by : (told : SaidLists) (item : Record) (place : ℕ) (text kept : Option (List ℕ)) (change : Option Change) → text ≡ option_map (λ (f : FoundFate). f.text) (fate_told told item.shard place)
+    → kept ≡ option_or (other_text item.seq text) (other_text item.seq (option_map (λ (f : FoundTries). f.text) (tries_told told item.shard place))) → change ≡ option_map (change_of item place) kept
+    → change ≡ option_map (change_of item place) (kept_otherwise told item.shard place item.seq)
+change_by told item place text kept change text_is kept_is is =
+    is ∙ ap (option_map (change_of item place)) (kept_is ∙ ap (λ (o : Option (List ℕ)). option_or (other_text item.seq o) (other_text item.seq (option_map (λ (f : FoundTries). f.text) (tries_told told item.shard place)))) text_is)
+
+-- a record without a fate is not named
+pub not_named : (told : SaidLists) (ranges : List Range) (item : Record) (place : ℕ) → fate_told told item.shard place ≡ None → false ≡ names told ranges item place
+not_named told ranges item place none =
+    ap (λ (o : Option FoundFate). unwrap_or (option_map (λ (f : FoundFate). is_failure f.fate) o) false && (is_in_ranges ranges item.shard item.seq && not (is_replay_told told item.shard place))) (sym none)
+
+-- one more record is looked at
+pub named_more : (told : SaidLists) (ranges : List Range) (m own : BTreeMap ℕ ℕ) (before items : List Record) (i : ℕ) (item : Record) (place : ℕ) (b : Bool) (old new : List Bool) → i < length items → item ≡ get_or items i item
+    → AreCounted m before → AreCounted own (take i items) → place ≡ count_at (get nat_cmp m) item.shard + count_at (get nat_cmp own) item.shard → b ≡ names told ranges item place
+    → old ≡ are_named told ranges before (take i items) → new ≡ old ++ b ∷ [] → new ≡ are_named told ranges before (take (i + 1) items)
+named_more told ranges m own before items i item place b old new low at are own_are place_of is olds news =
+    news
+    ∙ ap₂ (λ (bs : List Bool) (x : Bool). bs ++ x ∷ []) olds (is ∙ ap (names told ranges item) (place_of ∙ place_is m own before (take i items) item.shard are own_are))
+    ∙ sym (ap (are_named told ranges before) (front_more items i item low at) ∙ named_append told ranges before (take i items) (item ∷ []))

@@ -18,7 +18,7 @@ use Rattle.esm_replay_model.specs.ReplaySetting.{ReplaySetting, config_of}
 use Rattle.esm_replay_model.specs.ReplayReport.{named_count}
 use Rattle.esm_replay_model.specs.Pieces.{replay_verdict}
 use Rattle.esm_replay_model.specs.ReplayRun.{call_out, owed_replay, IsReplay}
-use Rattle.esm_replay.specs.Records.{setting_with}
+use Rattle.esm_replay.specs.Records.{setting_with, are_named}
 use Rattle.esm_replay.specs.declared.parts.Parts.{Parts as CallParts}
 use Rattle.esm_replay.specs.Waiting.{Waiting, front_of}
 use Rattle.esm_replay.specs.Ending.{front_call, ArePartsOf}
@@ -152,4 +152,4 @@ abbrev pub view_of : Inside → ReplayView
 view_of c = seen_of (parts_of c)
 
 abbrev pub IsCore : Inside → Type 0
-IsCore c = IsKept (parts_of c) × (c.came ≤ length c.records.items)
+IsCore c = IsKept (parts_of c) × (c.came ≤ length c.records.items) × (c.are_named.items ≡ are_named c.said c.ranges [] c.records.items)

@@ -1,14 +1,15 @@
-// Whether records that come differ from what the journal kept of them.
+// What the journal kept of records that come: whether they differ from it, and whether they are named.
 ghost use Rattle.std.specs.Prelude.{◌≡◌, ℕ, ◌+◌, ◌<◌, ◌^◌, List, None, Some, IfOk, IfErr, OnOk, length, option_copied, option_map};
+ghost use Rattle.std.specs.Option.{option_or};
 ghost use Rattle.std.specs.Ordering.{nat_cmp};
 ghost use Rattle.std.specs.Map.{count_at};
 ghost use Rattle.std.specs.BTreeMap.{get};
 ghost use Rattle.std.specs.Str.{bytes_eq};
 ghost use Rattle.esm_model.specs.declared.item.Record.{Record};
-ghost use Rattle.esm_model.specs.declared.setup.FoundFate.{FoundFate};
 ghost use Rattle.esm_model.specs.declared.setup.FoundTries.{FoundTries};
-ghost use Rattle.esm_journal_state.specs.SaidLists.{fate_told, tries_told};
+ghost use Rattle.esm_journal_state.specs.SaidLists.{tries_told};
 ghost use Rattle.esm_book.specs.Decided.{IsRefused};
+ghost use Rattle.esm_replay.specs.Records.{names, are_named};
 ghost use Rattle.esm_replay.specs.Coming.{other_text, kept_otherwise, change_of, first_change};
 ghost use Rattle.esm_replay_core.specs.Counts.{AreCounted, HasOneMore};
 
@@ -16,17 +17,23 @@ use crate::counts::count_of;
 use esm_book::Refusal;
 use esm_journal_state::Says;
 use esm_model::{Change, OutOfMemory, Record, Seq, Text};
+use esm_replay::{Ranges, names};
 use std::alloc::Global;
 use std::collections::BTreeMap;
 
-/// The text that was kept with the fate of the shard's record at the place, if it has one.
-fn fate_text(said: &Says, shard: u64, place: u32) -> Option<&Text>
-    ensures { option_copied result ≡ option_map (λ (f : FoundFate). f.text) (fate_told said.entry.now shard place) }
-{
-    match said.fate(shard, place) {
-        None => None,
-        Some(found) => Some(found.text),
-    }
+/// What was found of a record: how it differs from what the journal kept of its place, if it does, and whether it is named.
+#[derive(Drop)]
+struct Look {
+    change: Option<Change>,
+    is_named: bool,
+}
+
+/// What was found of a list of records: the first that differs from what the journal kept of its place, and where none does,
+/// of each whether it is named.
+#[derive(Drop)]
+pub(crate) struct Looked {
+    pub change: Option<Change>,
+    pub named: Vec<bool>,
 }
 
 /// The text that was kept with the tries of the shard's record at the place, if it has any.
@@ -61,11 +68,17 @@ fn other_text<'a>(number: &Seq, kept: Option<&'a Text>) -> Option<&'a Text>
     }
 }
 
-/// What was kept of the place with its fate, else with its tries, where that is another text.
-fn kept_otherwise<'a>(said: &'a Says, item: &Record, place: u32) -> Option<&'a Text>
-    ensures { option_copied result ≡ kept_otherwise said.entry.now item.now.shard place item.now.seq }
+/// What was kept of the place with its fate, else with its tries, where that is another text. This is kept with the fate.
+fn kept_otherwise<'a>(
+    said: &'a Says,
+    item: &Record,
+    place: u32,
+    of_fate: Option<&'a Text>,
+) -> Option<&'a Text>
+    ensures { option_copied result ≡ option_or (other_text item.now.seq (option_copied of_fate.entry))
+        (other_text item.now.seq (option_map (λ (f : FoundTries). f.text) (tries_told said.entry.now item.now.shard place))) }
 {
-    match other_text(&item.seq, fate_text(said, item.shard, place)) {
+    match other_text(&item.seq, of_fate) {
         Some(kept) => Some(kept),
         None => other_text(&item.seq, tries_text(said, item.shard, place)),
     }
@@ -94,51 +107,77 @@ fn change_from(
     }
 }
 
-/// How the record differs from what the journal kept of the place, if it does.
-fn change_at(
+/// What the journal tells of the record at the place. Its fate is looked up once.
+fn look_up(
     alloc: Global,
     said: &Says,
+    ranges: &Ranges,
     item: &Record,
     place: u32,
-) -> Result<Option<Change>, OutOfMemory>
-    ensures { IfOk result (λ change. change ≡ option_map (change_of item.now place) (kept_otherwise said.now item.now.shard place item.now.seq)) }
+) -> Result<Look, OutOfMemory>
+    ensures change { IfOk result (λ look. look.change ≡ option_map (change_of item.now place) (kept_otherwise said.now item.now.shard place item.now.seq)) }
+    ensures named { IfOk result (λ look. look.is_named ≡ names said.now ranges.now item.now place) }
 {
-    change_from(alloc, item, place, kept_otherwise(said, item, place))
+    match said.fate(item.shard, place) {
+        None => {
+            let kept = kept_otherwise(said, item, place, None);
+            let change = change_from(alloc, item, place, kept)?;
+            Ok(Look {
+                change,
+                is_named: false,
+            })
+        }
+        Some(found) => {
+            let kept = kept_otherwise(said, item, place, Some(found.text));
+            let change = change_from(alloc, item, place, kept)?;
+            let is_named = names(said, ranges, item, place, found.fate);
+            Ok(Look { change, is_named })
+        }
+    }
 }
 
-/// One more record of the shard.
-fn add_one(counts: &mut BTreeMap<u64, u32>, shard: u64) -> Result<(), OutOfMemory>
-    requires { count_at (get nat_cmp counts.old) shard < u32.MAX }
+/// One more record of the shard, which has so many.
+fn add_one(counts: &mut BTreeMap<u64, u32>, shard: u64, count: u32) -> Result<(), OutOfMemory>
+    requires is { count ≡ count_at (get nat_cmp counts.old) shard }
+    requires few { count < u32.MAX }
     ensures { OnOk result (HasOneMore shard counts.old counts.new) }
 {
-    let count = count_of(counts, shard);
     counts.insert(shard, count + 1)?;
     Ok(())
 }
 
-/// The first of the records that differs from what the journal kept of its place, where so many of each shard came before.
-/// It looks at these records alone.
+/// The first of the records that differs from what the journal kept of its place, where so many of each shard came before;
+/// and where none does, which of them are named. It looks at these records alone.
 pub(crate) fn first_change(
     alloc: Global,
     said: &Says,
+    ranges: &Ranges,
     counts: &BTreeMap<u64, u32>,
     items: &[Record],
-) -> Result<Option<Change>, OutOfMemory>
+) -> Result<Looked, OutOfMemory>
     requires { (q : ℕ) → count_at (get nat_cmp counts.now) q + length items.now < 2 ^ 32 }
-    ensures { IfOk result (λ change. (before : List Record) → AreCounted counts.now before → change ≡ first_change said.now before items.now) }
+    ensures change { IfOk result (λ looked. (before : List Record) → AreCounted counts.now before → looked.change ≡ first_change said.now before items.now) }
+    ensures named { IfOk result (λ looked. (before : List Record) → AreCounted counts.now before → looked.change ≡ None →
+        looked.named.items ≡ are_named said.now ranges.now before items.now) }
 {
     let mut own: BTreeMap<u64, u32> = BTreeMap::new(alloc);
+    let mut named = Vec::with_capacity(alloc, items.len())?;
     for item in items {
         let before = count_of(counts, item.shard);
         let here = count_of(&own, item.shard);
         let place = before + here;
-        let change = change_at(alloc, said, item, place)?;
+        let found = look_up(alloc, said, ranges, item, place)?;
+        let Look { change, is_named } = found;
         if change.is_some() {
-            return Ok(change);
+            return Ok(Looked { change, named });
         }
-        add_one(&mut own, item.shard)?;
+        named.push(is_named)?;
+        add_one(&mut own, item.shard, here)?;
     }
-    Ok(None)
+    Ok(Looked {
+        change: None,
+        named,
+    })
 }
 
 /// A copy of the change.

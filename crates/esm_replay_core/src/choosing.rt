@@ -1,17 +1,16 @@
 // The call that a replay begins next, or why none begins.
-ghost use Rattle.std.specs.Prelude.{◌≡◌, map, IfOk, All, None, List};
-ghost use Rattle.esm_model.specs.declared.item.Record.{Record};
+ghost use Rattle.std.specs.Prelude.{◌≡◌, IfOk, All, None, List, length};
 ghost use Rattle.esm_model.specs.declared.entry.Entry.{Entry};
 ghost use Rattle.esm_model.specs.EventText.{event_text};
 ghost use Rattle.esm_model.specs.Valid.{IsValidRecord, IsStreamConfig};
 ghost use Rattle.esm_replay_model.specs.ReplaySetting.{ReplaySetting};
-ghost use Rattle.esm_replay_model.specs.ReplayRun.{replay_lane};
+ghost use Rattle.esm_replay.specs.Batch.{IsAmong, batch_records};
 ghost use Rattle.esm_replay_core.specs.Choosing.{IsReady, IsChosen, IsBegunOf};
 
 use crate::decisions::ReplayNext;
 use crate::owed::Owed;
 use esm_event::stream_event;
-use esm_model::{Bytes, Config, Job, LaneId, OutOfMemory, Record, Seq};
+use esm_model::{Bytes, Config, Job, LaneId, OutOfMemory, Record};
 use esm_replay::{Batch, Waiting};
 use std::alloc::Global;
 
@@ -22,55 +21,55 @@ pub(crate) struct Chosen {
     pub owed: Owed,
 }
 
-/// Copies of the sequence numbers of the records.
-fn names_of(alloc: Global, records: &[Record]) -> Result<Vec<Seq>, OutOfMemory>
-    ensures { IfOk result (λ names. names.items ≡ map (λ (r : Record). r.seq) records.now) }
+/// The event of a call of the batch.
+fn event_of(
+    alloc: Global,
+    config: &Config,
+    records: &[Record],
+    batch: &Batch,
+) -> Result<Vec<u8>, OutOfMemory>
+    requires config { IsStreamConfig config.now }
+    requires among { IsAmong (length records.now) batch.now }
+    requires valid { All IsValidRecord (batch_records records.now batch.now) }
+    ensures { IfOk result (λ event. event.items ≡ event_text config.now (batch_records records.now batch.now) None) }
 {
-    let mut names = Vec::with_capacity(alloc, records.len())?;
-    for item in records {
-        let name = item.seq.copy(alloc)?;
-        names.push(name)?;
-    }
-    Ok(names)
+    let count = batch.places.as_slice().len();
+    stream_event(alloc, config, batch.records.records(records, count), None)
 }
 
-/// The call of a batch.
-fn job_of(alloc: Global, config: &Config, batch: Batch) -> Result<Job, OutOfMemory>
+/// The call of the batch, of these records, begins at the moment.
+fn begin(
+    alloc: Global,
+    config: &Config,
+    records: &[Record],
+    batch: Batch,
+    moment: u64,
+) -> Result<Chosen, OutOfMemory>
     requires config { IsStreamConfig config.now }
-    requires valid { All IsValidRecord batch.records.items }
-    ensures { IfOk result (λ job. job ≡ record {
-      lane = replay_lane batch.shard;
-      places = batch.places;
-      closing = None;
-      event = event_text config.now batch.records.items None;
-    }) }
+    requires among { IsAmong (length records.now) batch }
+    requires valid { All IsValidRecord (batch_records records.now batch) }
+    ensures { IfOk result (IsBegunOf config.now batch.shard batch.places (batch_records records.now batch) moment) }
 {
-    let event = stream_event(alloc, config, batch.records.as_slice(), None)?;
-    Ok(Job {
-        lane: LaneId {
-            shard: batch.shard,
-            lane: 0,
-        },
-        places: batch.places,
-        closing: None,
-        event: Bytes::from_vec(event),
-    })
-}
-
-/// The call of the batch begins at the moment.
-fn begin(alloc: Global, config: &Config, batch: Batch, moment: u64) -> Result<Chosen, OutOfMemory>
-    requires config { IsStreamConfig config.now }
-    requires valid { All IsValidRecord batch.records.items }
-    ensures { IfOk result (IsBegunOf config.now batch.shard batch.places batch.records.items moment) }
-{
-    let names = names_of(alloc, batch.records.as_slice())?;
-    let job = job_of(alloc, config, batch)?;
-    let places = job.places.copy(alloc)?;
-    let owed = Owed::Began {
-        lane: job.lane,
+    let event = event_of(alloc, config, records, &batch)?;
+    let Batch {
+        shard,
         places,
+        records: gathered,
+    } = batch;
+    let names = gathered.into_names(alloc, records, places.as_slice().len())?;
+    let copy = places.copy(alloc)?;
+    let lane = LaneId { shard, lane: 0 };
+    let owed = Owed::Began {
+        lane,
+        places: copy,
         names,
         moment,
+    };
+    let job = Job {
+        lane,
+        places,
+        closing: None,
+        event: Bytes::from_vec(event),
     };
     Ok(Chosen {
         next: ReplayNext::Call(job),
@@ -108,7 +107,7 @@ pub(crate) fn choose(
                     owed: Owed::Nothing,
                 });
             }
-            begin(alloc, config, batch, moment)
+            begin(alloc, config, records, batch, moment)
         }
     }
 }

@@ -1,30 +1,32 @@
 // The pieces that wait, once a call was asked for.
-ghost use Rattle.std.specs.Prelude.{◌≡◌, None, ◌+◌, ◌<◌, ◌≤◌, ◌^◌, OnOk, OnErr, IfSome, IsSome, length};
+ghost use Rattle.std.specs.Prelude.{◌≡◌, [], List, None, ◌+◌, ◌<◌, ◌≤◌, ◌^◌, OnOk, OnErr, IfSome, IsSome, length};
 ghost use Rattle.std.specs.Vec.{vec_capacity};
+ghost use Rattle.esm_journal_state.specs.SaidLists.{SaidLists};
+ghost use Rattle.esm_replay_model.specs.declared.range.Range.{Range};
+ghost use Rattle.esm_replay.specs.Records.{are_named};
 ghost use Rattle.esm_replay_core.specs.Choosing.{StaysWaiting, IsRoomier, HasRoom, MayEndCall, IsEndedBy};
 
-use esm_journal_state::Says;
 use esm_model::{Entry, OutOfMemory, Record};
-use esm_replay::{Parts, Ranges, Waiting, first_waiting};
+use esm_replay::{Parts, Waiting, first_waiting};
 use std::alloc::Global;
 
-/// What waits first, where no call was asked for.
+/// What waits first of these records, of which these are named, where no call was asked for.
 pub(crate) fn make_first(
     alloc: Global,
     waiting: &mut Option<Waiting>,
-    said: &Says,
-    ranges: &Ranges,
     records: &[Record],
+    named: &[bool],
 ) -> Result<(), OutOfMemory>
-    requires { length records.now < 2 ^ 32 }
-    ensures stays { StaysWaiting said.now ranges.now records.now waiting.old waiting.new }
+    requires few { length records.now < 2 ^ 32 }
+    requires each { length named.now ≡ length records.now }
+    ensures stays { (told : SaidLists) (ranges : List Range) → named.now ≡ are_named told ranges [] records.now → StaysWaiting told ranges records.now waiting.old waiting.new }
     ensures there { OnOk result (IsSome waiting.new) }
     ensures err { OnErr result (waiting.new ≡ waiting.old) }
 {
     if waiting.is_some() {
         return Ok(());
     }
-    let first = first_waiting(alloc, said, ranges, records)?;
+    let first = first_waiting(alloc, records, named)?;
     *waiting = Some(first);
     Ok(())
 }

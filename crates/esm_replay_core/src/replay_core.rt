@@ -15,9 +15,9 @@ ghost use Rattle.esm_replay.specs.Coming.{first_change, IsKeptChange};
 ghost use Rattle.esm_replay_core.specs.Counts.{IsRecounted, HasCount};
 ghost use Rattle.esm_replay_core.specs.Told.{owed_of, payload_in};
 
-use crate::changes::{first_change, refuse};
+use crate::changes::{Looked, first_change, refuse};
 use crate::choosing::choose;
-use crate::counts::{count_record, make_counts};
+use crate::counts::{count_one, make_counts};
 use crate::decisions::ReplayNext;
 use crate::ending::end_of;
 use crate::owed::{
@@ -26,7 +26,9 @@ use crate::owed::{
 use crate::pieces::{clear, end_call, make_first, make_room};
 use esm_book::Refusal;
 use esm_journal_state::Says;
-use esm_model::{Config, Entry, Job, MAX_MOMENT, OutOfMemory, PastReply, Record, Reply, Seq};
+use esm_model::{
+    Config, Entry, Job, MAX_MOMENT, OutOfMemory, PastReply, Record, Refused, Reply, Seq,
+};
 use esm_replay::{Ranges, Waiting};
 use std::alloc::Global;
 use std::collections::BTreeMap;
@@ -48,6 +50,8 @@ pub struct ReplayCore {
     ranges: Ranges,
     /// The records that came, and then those that are coming.
     records: Vec<Record>,
+    /// Of each of them whether it is named.
+    are_named: Vec<bool>,
     came: usize,
     /// How many of the records that came are of each shard.
     counts: BTreeMap<u64, u32>,
@@ -95,21 +99,34 @@ fn replay_config(config: Config) -> Config
     config
 }
 
-/// Counts for the records' shards, and the records behind the others. After `OutOfMemory` they are not there.
+/// Counts for the records' shards, and the records behind the others, each with whether it is named. After `OutOfMemory` they
+/// are not there.
 fn take_in(
     counts: &mut BTreeMap<u64, u32>,
     records: &mut Vec<Record>,
+    are_named: &mut Vec<bool>,
     items: Vec<Record>,
+    named: Vec<bool>,
 ) -> Result<(), OutOfMemory>
     ensures same { IsRecounted counts.old counts.new }
     ensures there { OnOk result (All (HasCount counts.new) items.items) }
     ensures ok { OnOk result (records.new.items ≡ records.old.items ++ items.items) }
     ensures err { OnErr result (records.new.items ≡ records.old.items) }
+    ensures named { OnOk result (are_named.new.items ≡ are_named.old.items ++ named.items) }
+    ensures unnamed { OnErr result (are_named.new.items ≡ are_named.old.items) }
 {
     let mut items = items;
+    let mut named = named;
     make_counts(counts, items.as_slice())?;
-    records.append(&mut items)?;
-    Ok(())
+    let count = are_named.len();
+    are_named.append(&mut named)?;
+    match records.append(&mut items) {
+        Ok(()) => Ok(()),
+        Err(_) => {
+            are_named.truncate(count);
+            Err(OutOfMemory)
+        }
+    }
 }
 
 fn one_if(passes: bool) -> u32
@@ -126,24 +143,31 @@ fn put_names(place: &mut Vec<Seq>, names: Vec<Seq>)
 }
 
 impl ReplayCore {
-    /// A core in which no record came, for so many calls in all.
+    /// A core in which no record came, for so many calls in all. Want of memory hands back what the journal said.
     pub fn new(
         alloc: Global,
         config: Config,
         calls: u32,
         said: Says,
         ranges: Ranges,
-    ) -> Result<ReplayCore, OutOfMemory>
+    ) -> Result<ReplayCore, Refused<OutOfMemory, Says>>
         requires { IsStreamConfig config }
-        ensures { IfOk result (λ core. core ≡ new_view (record { config = replay_config config; calls = calls; said = said; ranges = ranges })) }
+        ensures opened { IfOk result (λ core. core ≡ new_view (record { config = replay_config config; calls = calls; said = said; ranges = ranges })) }
+        ensures back { IfErr result (λ refused. refused.back ≡ said) }
     {
-        let history = Vec::with_capacity(alloc, 2)?;
+        let Ok(history) = Vec::with_capacity(alloc, 2) else {
+            return Err(Refused {
+                why: OutOfMemory,
+                back: said,
+            });
+        };
         Ok(ReplayCore {
             config: replay_config(config),
             calls,
             said,
             ranges,
             records: Vec::new(alloc),
+            are_named: Vec::new(alloc),
             came: 0,
             counts: BTreeMap::new(alloc),
             named: 0,
@@ -170,12 +194,25 @@ impl ReplayCore {
         ensures unchanged { OnErr result (self.new ≡ self.old) }
         ensures undone { OnOk result (forgotten self.new ≡ self.old) }
     {
-        let change = first_change(alloc, &self.said, &self.counts, items.as_slice())?;
+        let looked = first_change(
+            alloc,
+            &self.said,
+            &self.ranges,
+            &self.counts,
+            items.as_slice(),
+        )?;
+        let Looked { change, named } = looked;
         match refuse(alloc, change) {
             Ok(()) => {}
             Err(refusal) => return Err(refusal),
         }
-        take_in(&mut self.counts, &mut self.records, items)?;
+        take_in(
+            &mut self.counts,
+            &mut self.records,
+            &mut self.are_named,
+            items,
+            named,
+        )?;
         clear(&mut self.waiting);
         put(&mut self.owed, still_coming(self.came, self.records.len()));
         Ok(())
@@ -199,9 +236,8 @@ impl ReplayCore {
         make_first(
             alloc,
             &mut self.waiting,
-            &self.said,
-            &self.ranges,
             self.records.as_slice(),
+            self.are_named.as_slice(),
         )?;
         let Some(waiting) = &self.waiting else {
             unreachable!()
@@ -274,6 +310,7 @@ impl ReplayCore {
     {
         let owed = mem::replace(&mut self.owed, Owed::Nothing);
         self.records.truncate(self.came);
+        self.are_named.truncate(self.came);
         put(&mut self.owed, given_up(owed));
     }
 
@@ -301,7 +338,8 @@ impl ReplayCore {
             Owed::Left => unreachable!(),
             Owed::Coming => {
                 let item = &self.records[self.came];
-                let is_named = count_record(&mut self.counts, &self.said, &self.ranges, item);
+                let is_named = self.are_named[self.came];
+                count_one(&mut self.counts, item.shard);
                 self.named += one_if(is_named);
                 self.came += 1;
                 put(&mut self.owed, still_coming(self.came, self.records.len()));
@@ -391,10 +429,11 @@ impl ReplayCore {
         self.named
     }
 
-    /// The history, oldest entry first, without the records' arrivals. Takes no memory.
-    pub fn into_history(self) -> Vec<Entry>
-        ensures { result.items ≡ reverse self.past }
+    /// The history, oldest entry first, without the records' arrivals, and what the journal said. Takes no memory.
+    pub fn into_parts(self) -> (Vec<Entry>, Says)
+        ensures history { result.0.items ≡ reverse self.past }
+        ensures said { result.1 ≡ self.opened.said }
     {
-        self.history
+        (self.history, self.said)
     }
 }

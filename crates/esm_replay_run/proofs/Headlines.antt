@@ -1,5 +1,5 @@
 -- The headline, from what is left of a run.
-use Rattle.std.proofs.Common.{◌≡◌, ◌∙◌, ℕ, Bool, true, false, List, [], ◌∷◌, ◌++◌, Option, Some, None, ap, append_assoc, arith, inl, inr, refl, subst, sym}
+use Rattle.std.proofs.Common.{◌≡◌, ◌∙◌, ℕ, ◌≤◌, min, max, length, Bool, true, false, List, [], ◌∷◌, ◌++◌, Option, Some, None, ap, append_assoc, arith, inl, inr, refl, subst, sym}
 use Rattle.std.specs.Prelude.{reverse, take, if◌then◌else◌}
 use Rattle.std.proofs.lemmas.List.{reverse-append}
 use Rattle.std.proofs.lemmas.List.Elements.{filter_map-append}
@@ -11,7 +11,8 @@ use Rattle.esm_model.specs.declared.book.Trouble.{Trouble}
 use Rattle.esm_model.specs.declared.book.Trouble.TheVariants.{Disk, Dest, Changed}
 use Rattle.esm_model.specs.declared.entry.Entry.{Entry}
 use Rattle.esm_model.specs.declared.entry.Entry.TheVariants.{Replayed}
-use Rattle.esm_model.specs.Entries.{last_moment}
+use Rattle.esm_model.specs.declared.moment.TheConstants.{MAX_MOMENT}
+use Rattle.esm_model.specs.Entries.{last_moment, moment_of}
 use Rattle.esm_model.specs.Setting.{sequences_at}
 use Rattle.esm_book.specs.State.{in_hand, is_disk}
 use Rattle.esm_journal_record.specs.declared.said.Said.TheVariants as says
@@ -27,13 +28,13 @@ use Rattle.esm_replay_core.specs.declared.decisions.Opened.{Opened}
 use Rattle.esm_replay_core.specs.View.{setting_of}
 use Rattle.esm_replay_book.specs.Books.{BookState, OpensToFirst, payloads_in}
 use Rattle.esm_replay_book.specs.Keeping.{entries_left, IsCause, IsSound, IsUncalled, OwesReplay}
-use Rattle.esm_replay_book.specs.Serving.{AreGiven}
+use Rattle.esm_replay_book.specs.Serving.{AreGiven, IsGiven}
 use Rattle.esm_runner.specs.Files.{FilesState}
 use Rattle.esm_runner.specs.Headline.{PairStopped}
 use Rattle.esm_runner.proofs.Headlines.{IsOneInHand, in_hand_few, is_in_hand, not_disk}
-use Rattle.esm_runner.proofs.Stopped.{HasGoneDown, filter_map_few, pair_stopped}
+use Rattle.esm_runner.proofs.Stopped.{HasGoneDown, filter_map_few, in_order, pair_stopped}
 use Rattle.esm_replay_run.specs.Ended.{JournalRose}
-use Rattle.esm_replay_run.specs.Headline.{Disks, CrashKept, Headline, JournalKept, JournalStopped, said_before}
+use Rattle.esm_replay_run.specs.Headline.{Disks, CrashKept, CrashKeptSinceOpening, Headline, JournalKept, JournalStopped, said_before}
 use Rattle.esm_replay_run.specs.Laws.{AreLaws}
 use Rattle.esm_replay_run.specs.Runs.{IsLeft}
 use Rattle.esm_replay_run.proofs.Sayings.{says_after}
@@ -91,6 +92,26 @@ crash_kept {D} m f b new left of honest settled one other since other_since =
     (subst (λ (d : D). m.since d (m.moment f.journal) one) of.journal since)
     (subst (λ (d : D). m.since d (m.moment f.spare) other) of.spare other_since))
 
+-- since the opening
+opened_first : {D : Type 0} (m : DiskMeaning D) (f : FilesState D) (b : BookState D) → IsLeft m f b → m.honest f.pair.used ≡ true → m.honest f.pair.spare ≡ true
+    → (one other : List ℕ) → m.since b.pair.used (m.moment f.pair.used) one → m.since b.pair.spare (m.moment f.pair.spare) other
+    → OpensToFirst f.pair.epoch f.pair.payloads (payloads_in (setting_of b.core) (entries_left b)) one other
+opened_first {D} m f b left used spare one other since other_since =
+    opens_first m f b one other left
+    (left.opened_since (subst (λ (p : PairState D). m.honest p.used ≡ true) (sym left.found) used) (subst (λ (p : PairState D). m.honest p.spare ≡ true) (sym left.found) spare) one other
+    (subst (λ (p : PairState D). m.since b.pair.used (m.moment p.used) one) (sym left.found) since)
+    (subst (λ (p : PairState D). m.since b.pair.spare (m.moment p.spare) other) (sym left.found) other_since))
+
+crash_opened : {D : Type 0} (m : DiskMeaning D) (f : FilesState D) (b : BookState D) (new : Disks D) → IsLeft m f b → AreOf f b new
+    → CrashKeptSinceOpening m f (setting_of b.core) b.core.past (in_hand b.trouble b.core.owed) new
+crash_opened {D} m f b new left of honest one other since other_since =
+    let both = are_honest m f.pair.swapped f.journal f.spare f.pair.used f.pair.spare left.files.read honest in
+    let swapped : b.pair.swapped ≡ f.pair.swapped = left.journal.swapped ∙ ap (λ (p : PairState D). p.swapped) left.found in
+    in_order m f.pair.swapped f.pair.used f.pair.spare b.pair.used b.pair.spare (OpensToFirst f.pair.epoch f.pair.payloads (payloads_in (setting_of b.core) (entries_left b)))
+    (opened_first m f b left both.0 both.1) (λ x y o. record { front = o.front; rest = o.rest; split = o.split; opens = (o.opens.1, o.opens.0) }) one other
+    (subst (λ (s : Bool). m.since (if s then b.pair.spare else b.pair.used) (m.moment (first_disk f.pair)) one) swapped (subst (λ (d : D). m.since d (m.moment (first_disk f.pair)) one) of.journal since))
+    (subst (λ (s : Bool). m.since (if s then b.pair.used else b.pair.spare) (m.moment (second_disk f.pair)) other) swapped (subst (λ (d : D). m.since d (m.moment (second_disk f.pair)) other) of.spare other_since))
+
 -- a disk that failed
 
 parts_left : (s : ReplaySetting) (front rest : List (List ℕ)) (es hand : List Entry) → front ++ rest ≡ payloads_in s (es ++ hand) → front ++ rest ≡ payloads_in s es ++ payloads_in s hand
@@ -113,10 +134,7 @@ gone_down {D} m f b left disk =
       few = omega (arith, few, fewer);
       still = left.pair_stopped;
       leaves = λ used spare one other since other_since.
-          let o = opens_first m f b one other left
-          (left.opened_since (subst (λ (p : PairState D). m.honest p.used ≡ true) (sym left.found) used) (subst (λ (p : PairState D). m.honest p.spare ≡ true) (sym left.found) spare) one other
-          (subst (λ (p : PairState D). m.since b.pair.used (m.moment p.used) one) (sym left.found) since)
-          (subst (λ (p : PairState D). m.since b.pair.spare (m.moment p.spare) other) (sym left.found) other_since)) in
+          let o = opened_first m f b left used spare one other since other_since in
           record { front = o.front; rest = o.rest; split = parts_left s o.front o.rest (reverse b.core.past) hand o.split; opens = o.opens };
     }
 
@@ -174,6 +192,23 @@ hand_owed b owes disk = record {
   is = ap (λ (why : Option Trouble). in_hand why b.core.owed) disk ∙ (ap (λ (es : List Entry). take 1 es) owes.is);
 }
 
+-- its moment is that of the end of the call
+given_behind : (gave : ℕ → Bool) (s : ReplaySetting) (h : List Entry) (n : ℕ) (places : List ℕ) → 1 ≤ length (owed_replay s h).places → AreGiven gave h → AreGiven gave (Replayed n places (last_moment h) ∷ h)
+given_behind gave s [] n places some given = absurd (let none : 1 ≤ 0 = some in omega (arith, none))
+given_behind gave s (e ∷ h) n places some given =
+    let last : IsGiven gave h (moment_of e) = given.1 in
+    let is : moment_of e ≡ min (max last.0 (last_moment h)) MAX_MOMENT = last.2 in
+    (given, (last.0, last.1, omega (arith, is)))
+
+hand_given : (gave : ℕ → Bool) (s : ReplaySetting) (why : Option Trouble) (owed h : List Entry) → (why ≡ Some Disk → OwesReplay s h owed) → AreGiven gave h → AreGiven gave (in_hand why owed ++ h)
+hand_given gave s None owed h owes given = given
+hand_given gave s (Some Disk) owed h owes given =
+    let o : OwesReplay s h owed = owes refl in
+    let is : take 1 owed ≡ Replayed (owed_replay s h).shard (owed_replay s h).places (last_moment h) ∷ [] = ap (λ (es : List Entry). take 1 es) o.is in
+    subst (λ (es : List Entry). AreGiven gave (es ++ h)) (sym is) (given_behind gave s h (owed_replay s h).shard (owed_replay s h).places o.some given)
+hand_given gave s (Some Dest) owed h owes given = given
+hand_given gave s (Some (Changed change)) owed h owes given = given
+
 -- exactly one was being written then, and each `Replayed` has a payload
 one_in_hand : {D : Type 0} (b : BookState D) → (b.trouble ≡ Some Disk → OwesReplay (setting_of b.core) b.core.past b.core.owed) → IsOneInHand (entry_payload (setting_of b.core).base) b.trouble b.core.owed
 one_in_hand b owes disk =
@@ -194,6 +229,7 @@ headline {D} m gave f b new laws left of said given =
       legal_trace = left.run;
       hand_is_run = hand;
       moments = given;
+      hand_given = hand_given gave s b.trouble b.core.owed b.core.past left.owes given;
       journal_kept = journal_kept m f b new left of;
       journal_stopped = journal_stopped m f b new left of;
       may_be_said = may;
@@ -202,6 +238,7 @@ headline {D} m gave f b new laws left of said given =
       in_hand = is_in_hand (entry_payload s.base) b.trouble b.core.owed (one_in_hand b left.owes);
       hand_is_owed = λ disk. hand_owed b (left.owes disk) disk;
       crash = crash_kept m f b new left of;
+      crash_since_opening = crash_opened m f b new left of;
       failures_same = of.failures;
       failures_read = subst (λ (d : D). IsOnlyRead m f.failures d) (sym of.failures) left.files.lines_read;
       all_replayed = left.settled;

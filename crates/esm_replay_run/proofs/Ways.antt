@@ -439,3 +439,9 @@ pub found_stays : {D : Type 0} (gave : ℕ → Bool) (sends : List ℕ → List 
 found_stays gave sends before b log log' (Ok r) called stopped = called.since.found
 found_stays gave sends before b log log' (Err none) called (inl stopped) = stopped.since.found
 found_stays gave sends before b log log' (Err none) called (inr stopped) = stopped.since.found
+
+pub opened_stays : {D : Type 0} (gave : ℕ → Bool) (sends : List ℕ → List ℕ) (before b : BookState D) (log log' : Option (List Called)) (r : Result RunEnd OutOfMemory) → OnOk r (HasCalled replays gave sends before b log log')
+    → OnErr r (HasCalled replays gave sends before b log log' ⊎ OneMoreRuns replays gave sends before b log log') → b.core.opened ≡ before.core.opened
+opened_stays gave sends before b log log' (Ok r) called stopped = called.since.opened
+opened_stays gave sends before b log log' (Err none) called (inl stopped) = stopped.since.opened
+opened_stays gave sends before b log log' (Err none) called (inr stopped) = stopped.since.opened

@@ -1,6 +1,7 @@
 -- The replay theorem of one run: what a replay leaves of its history and of its disks. This product's own.
 use Rattle.std.specs.Prelude.{◌≡◌, ◌++◌, ◌||◌, ℕ, Bool, List, [], Option, Some, reverse}
 use Rattle.esm_io.specs.Meanings.{DiskMeaning}
+use Rattle.esm_journal.specs.Pair.{first_disk, second_disk}
 use Rattle.esm_journal.specs.Reads.{IsOnlyRead}
 use Rattle.esm_model.specs.declared.book.Trouble.{Trouble}
 use Rattle.esm_model.specs.declared.book.Trouble.TheVariants.{Disk}
@@ -59,6 +60,13 @@ CrashKept m f s h hand new =
     m.since new.journal (m.moment f.journal) one → m.since new.spare (m.moment f.spare) other →
     OpensToFirst f.pair.epoch f.pair.payloads (payloads_in s (reverse h ++ hand)) one other
 
+-- And so does each since the pair was opened, whatever a crash might have left of its disks before: opening synced them.
+abbrev pub CrashKeptSinceOpening : {D : Type 0} → DiskMeaning D → FilesState D → ReplaySetting → List Entry → (hand : List Entry) → Disks D → Type 0
+CrashKeptSinceOpening m f s h hand new =
+    AreHonest m f.journal f.spare → (one other : List ℕ) →
+    m.since new.journal (m.moment (first_disk f.pair)) one → m.since new.spare (m.moment (second_disk f.pair)) other →
+    OpensToFirst f.pair.epoch f.pair.payloads (payloads_in s (reverse h ++ hand)) one other
+
 -- what the journal's content said before the run, the newest first
 abbrev pub said_before : {D : Type 0} → FilesState D → List Said
 said_before f = history (reverse f.pair.payloads)
@@ -84,6 +92,8 @@ pub record Headline {D : Type 0} (m : DiskMeaning D) (gave : ℕ → Bool) (f : 
   pub hand_is_run : IsReplay s (hand ++ h)
   -- each moment is one that the clock gave, at most the greatest, or that of the entry before it where that is later
   pub moments : AreGiven gave h
+  -- and so is that of the entry in hand
+  pub hand_given : AreGiven gave (hand ++ h)
   -- the journal's content is the old one followed by the payloads of the trace's `Replayed`
   pub journal_kept : (trouble ≡ Some Disk → ⊥) → JournalKept m f s h new
   -- where a disk of it failed, one further whole payload may follow, that of the entry in hand
@@ -98,6 +108,8 @@ pub record Headline {D : Type 0} (m : DiskMeaning D) (gave : ℕ → Bool) (f : 
   pub hand_is_owed : trouble ≡ Some Disk → OwesReplay s h hand
   -- what a crash leaves since the run's start: the old content followed by a prefix of the payloads of the trace
   pub crash : CrashKept m f s h hand new
+  -- and since its pair was opened, whatever a crash might have left of the disks before
+  pub crash_since_opening : CrashKeptSinceOpening m f s h hand new
   -- the failure file is as it was opened, and was only read
   pub failures_same : new.failures ≡ f.dest.disk
   pub failures_read : IsOnlyRead m f.failures new.failures

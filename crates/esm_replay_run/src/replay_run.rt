@@ -17,7 +17,6 @@ use esm_input::{Input, InputEnd};
 use esm_io::{Caller, Clock, Disk, Source};
 use esm_journal::{Journal, Pair};
 use esm_journal_state::Says;
-use esm_journal_state::laws::same_told;
 use esm_model::{Bytes, Config, LineKind, OutOfMemory, Text};
 use esm_replay_book::{Replay, ReplayOpen, ReplayParts};
 use esm_runner::{Files, FilesParts};
@@ -46,6 +45,7 @@ struct Opened<S: Source, D: Disk> {
 struct NotBegun<S, D: Disk> {
     why: Result<ReplayEnd, OutOfMemory>,
     pair: Pair<D>,
+    said: Says,
     input: S,
 }
 
@@ -61,12 +61,13 @@ fn refusal(why: ReplayOpen) -> Result<ReplayEnd, OutOfMemory>
     }
 }
 
-/// Opens the book over the journal and the lines of the failure file, and the input. Nothing is read or written.
+/// Opens the book over the journal, which said this, and the lines of the failure file, and the input. Nothing is read or
+/// written.
 fn begin<S: Source, D: Disk>(
     alloc: Global,
     config: Config,
     calls: u32,
-    said: &Says,
+    said: Says,
     pair: Pair<D>,
     lines: &[Bytes],
     input: S,
@@ -74,32 +75,37 @@ fn begin<S: Source, D: Disk>(
     requires config { IsStreamConfig config }
     requires up { pair.down ≡ false }
     requires good { are_good (reverse pair.payloads) ≡ true }
-    requires tells { Tells said.now (history (reverse pair.payloads)) }
-    requires order { IsInOrder said.now }
-    ensures begun { IfOk result (λ run. IsBegun config calls said.now pair lines.now input run.book run.input run.name) }
+    requires tells { Tells said (history (reverse pair.payloads)) }
+    requires order { IsInOrder said }
+    ensures begun { IfOk result (λ run. IsBegun config calls said pair lines.now input run.book run.input run.name) }
     ensures why { IfErr result (λ refused. IfOk refused.why (IsRefusal lines.now)) }
-    ensures back { IfErr result (λ refused. (refused.pair ≡ pair) × (refused.input ≡ input)) }
+    ensures back { IfErr result (λ refused. (refused.pair ≡ pair) × (refused.input ≡ input) × (refused.said ≡ said)) }
 {
     let Ok(name) = config.function.copy(alloc) else {
         return Err(NotBegun {
             why: Err(OutOfMemory),
             pair,
+            said,
             input,
         });
     };
-    same_told();
     match Input::new(alloc, input, LineKind::Stream, config.factor, config.start) {
-        Ok(input) => match Replay::open(alloc, config, calls, pair, lines) {
+        Ok(input) => match Replay::open_over(alloc, config, calls, said, pair, lines) {
             Ok(book) => Ok(Opened { book, input, name }),
-            Err(refused) => Err(NotBegun {
-                why: refusal(refused.why),
-                pair: refused.back,
-                input: input.into_source(),
-            }),
+            Err(refused) => {
+                let (pair, said) = refused.back;
+                Err(NotBegun {
+                    why: refusal(refused.why),
+                    pair,
+                    said,
+                    input: input.into_source(),
+                })
+            }
         },
         Err(refused) => Err(NotBegun {
             why: Err(OutOfMemory),
             pair,
+            said,
             input: refused.back,
         }),
     }
@@ -111,26 +117,25 @@ fn run_opened<R: Wait, S: Source, D: Disk, C: Clock, F: Caller>(
     alloc: Global,
     run: Opened<S, D>,
     lines: Journal<D>,
-    said: Says,
     caller: &mut F,
     clock: &C,
     before: &Before<D>,
 ) -> ReplayRun<S, D>
     requires config { IsStreamConfig before.now.config.value }
-    requires begun { IsBegun before.now.config.value run.book.core.opened.calls said run.book.pair lines.payloads run.input.source run.book run.input run.name }
+    requires begun { IsBegun before.now.config.value run.book.core.opened.calls run.book.core.opened.said run.book.pair lines.payloads run.input.source run.book run.input run.name }
     requires files { IsOpenedFiles (meaning D.Disk)
-        (files_of before.now.journal.value before.now.spare.value before.now.failures.value said run.book.pair lines) }
+        (files_of before.now.journal.value before.now.spare.value before.now.failures.value run.book.core.opened.said run.book.pair lines) }
     ensures ended { IfOk result.end (HasEnded (telling (outside C.gave F.sends F.log) (meaning D.Disk)) S.faults S.left
         before.now.config.value run.book.core.opened.calls
-        (files_of before.now.journal.value before.now.spare.value before.now.failures.value said run.book.pair lines)
+        (files_of before.now.journal.value before.now.spare.value before.now.failures.value run.book.core.opened.said run.book.pair lines)
         run.input.source result.input result.reading.value caller.old caller.new (reverse result.trace.items) result.counts
         (record { journal = result.journal; spare = result.spare; failures = result.failures })) }
     ensures stopped { OnErr result.end (HasStoppedRun (telling (outside C.gave F.sends F.log) (meaning D.Disk)) S.faults S.left
         before.now.config.value run.book.core.opened.calls
-        (files_of before.now.journal.value before.now.spare.value before.now.failures.value said run.book.pair lines)
+        (files_of before.now.journal.value before.now.spare.value before.now.failures.value run.book.core.opened.said run.book.pair lines)
         run.input.source result.input result.reading.value caller.old caller.new (reverse result.trace.items) result.counts
         (record { journal = result.journal; spare = result.spare; failures = result.failures })) }
-    ensures said { result.said ≡ said }
+    ensures said { result.said ≡ run.book.core.opened.said }
 {
     let Opened { book, input, name } = run;
     let Ran {
@@ -146,6 +151,7 @@ fn run_opened<R: Wait, S: Source, D: Disk, C: Clock, F: Caller>(
     let read_to = Snapshot::of(&reading);
     let ReplayParts {
         history,
+        said,
         trouble,
         pair,
     } = book.into_parts();
@@ -192,10 +198,15 @@ pub fn run_replay<R: Wait, S: Source, D: Disk, C: Clock, F: Caller>(
         failures,
     };
     let lines = dest.into_journal();
-    match begin(alloc, config, calls, &said, pair, lines.payloads(), input) {
-        Ok(run) => run_opened(rt, alloc, run, lines, said, caller, clock, &before),
+    match begin(alloc, config, calls, said, pair, lines.payloads(), input) {
+        Ok(run) => run_opened(rt, alloc, run, lines, caller, clock, &before),
         Err(refused) => {
-            let NotBegun { why, pair, input } = refused;
+            let NotBegun {
+                why,
+                pair,
+                said,
+                input,
+            } = refused;
             let none: Option<InputEnd> = None;
             let read_to = Snapshot::of(&none);
             let counts = ReplayCounts {

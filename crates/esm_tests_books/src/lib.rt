@@ -5,4 +5,6 @@
 #[cfg(test)]
 mod queue_book;
 #[cfg(test)]
+mod replay_opening;
+#[cfg(test)]
 mod stream_lanes;

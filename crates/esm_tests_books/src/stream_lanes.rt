@@ -18,7 +18,7 @@ use std::test::Fail;
 type Lanes = Book<MemDisk, Nowhere>;
 
 /// The stream's mapping with two lanes a shard and one retry.
-fn mapping(alloc: Global) -> Result<Config, AllocError>
+pub(crate) fn mapping(alloc: Global) -> Result<Config, AllocError>
     ensures { IfOk result (λ c. c ≡ lanes_mapping) }
 {
     let mut config = stream_mapping(alloc)?;

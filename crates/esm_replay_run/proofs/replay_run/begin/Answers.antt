@@ -1,13 +1,16 @@
-use Rattle.esm_replay_run.proofs.Openings.{core_begun, of_line}
+use Rattle.std.proofs.Common.{subst, sym}
+use Rattle.std.specs.Prelude.{IfOk}
+use Rattle.esm_replay_run.specs.Runs.{IsRefusal}
+use Rattle.esm_replay_run.proofs.Openings.{of_line, refused_so}
 use Rattle.esm_replay_run.proofs.replay_run.begin.Goals as goal
 
-pub returns-in-Ok-open-clause-begun : goal.returns-in-Ok-open-clause-begun
-returns-in-Ok-open-clause-begun g c =
-    let opened = c.in-Ok-open.ensures.opened in
+pub returns-in-Ok-open_over-clause-begun : goal.returns-in-Ok-open_over-clause-begun
+returns-in-Ok-open_over-clause-begun g c =
+    let opened = c.in-Ok-open_over.ensures.opened in
     record {
       ranges = opened.core.ranges;
       given = opened.core.given;
-      core = core_begun c.args.config c.args.calls c.args.said.now c.args.pair.payloads c.args.lines.now c.in-Ok-open.book.core c.same_told.ensures c.requires.tells c.requires.order opened.core;
+      core = opened.core.is;
       pair_is = opened.pair_is;
       found = opened.found;
       up = opened.trouble;
@@ -16,5 +19,9 @@ returns-in-Ok-open-clause-begun g c =
       name_is = c.in-Ok.ensures;
     }
 
+pub returns-in-Err-open_over-clause-why : goal.returns-in-Err-open_over-clause-why
+returns-in-Err-open_over-clause-why g c =
+    subst (λ why. IfOk why (IsRefusal c.args.lines.now)) (sym c.refusal.ensures) (refused_so c.args.lines.now c.in-Err-open_over.refused.why c.in-Err-open_over.ensures.refused)
+
 pub refusal-requires : goal.refusal-requires
-refusal-requires g c = of_line c.args.pair.payloads c.args.lines.now c.in-Err-open.refused.why c.requires.good c.in-Err-open.ensures.refused
+refusal-requires g c = of_line c.args.lines.now c.in-Err-open_over.refused.why c.in-Err-open_over.ensures.refused

@@ -13,6 +13,7 @@ use Rattle.esm_input.specs.Reading.{InputState}
 use Rattle.esm_workers.specs.Working.{outside}
 use Rattle.esm_replay_model.specs.ReplayReport.{named_count, replayed_in}
 use Rattle.esm_replay_model.specs.ReplayRun.{IsReplay}
+use Rattle.esm_replay_core.specs.declared.decisions.Opened.{Opened}
 use Rattle.esm_replay_core.specs.View.{ReplayView, setting_of}
 use Rattle.esm_replay_book.specs.Books.{BookState}
 use Rattle.esm_runner.specs.Files.{FilesState}
@@ -26,7 +27,7 @@ use Rattle.esm_replay_run.specs.declared.run.ReplayEnd.{ReplayEnd}
 use Rattle.esm_replay_run.proofs.Begun.{ended_so}
 use Rattle.esm_replay_run.proofs.Counting.{counted, replayed_within, replayed-reverse}
 use Rattle.esm_replay_run.proofs.Headlines.{AreOf, settled_but}
-use Rattle.esm_replay_run.proofs.Ways.{HasCome, IsMadeFor, StoodSo, ended_by, found_stays, made_for, reason_of, stopped_by}
+use Rattle.esm_replay_run.proofs.Ways.{HasCome, IsMadeFor, StoodSo, ended_by, found_stays, made_for, opened_stays, reason_of, stopped_by}
 use Rattle.esm_replay_run.proofs.replay_run.run_opened.Goals as goal
 
 pub returns : goal.returns
@@ -36,7 +37,7 @@ returns g c =
     let before : BookState g.row.D.Denot = c.args.run.book in
     let config : Config = c.args.before.now.config.value in
     let calls = before.core.opened.calls in
-    let files : FilesState g.row.D.Denot = files_of c.args.before.now.journal.value c.args.before.now.spare.value c.args.before.now.failures.value c.args.said before.pair c.args.lines in
+    let files : FilesState g.row.D.Denot = files_of c.args.before.now.journal.value c.args.before.now.spare.value c.args.before.now.failures.value before.core.opened.said before.pair c.args.lines in
     let b : BookState g.row.D.Denot = c.run_serial-ran.result.book in
     let i : InputState g.row.S.Denot = c.run_serial-ran.result.input in
     let ran = c.run_serial-ran.result.end in
@@ -117,7 +118,9 @@ returns g c =
           (subst (λ (h : List Entry). HasStoppedRun t g.S.Source.faults g.S.Source.left config calls files c.args.run.input.source i.source i.end old_caller new_caller h out.counts new) (sym trace)
           (inr (stopped_by t g.S.Source.faults g.S.Source.left config calls files c.args.run.input.source i old_caller new_caller before b out.counts new c.args.run.input ran laws stood left of c.trouble.ensures.cause counts made come is))))
           c.end_of-end.ensures.stopped);
-      said = c.closed.ensures.said;
+      said = c.closed.ensures.said
+          ∙ c.into_parts-history.ensures.said
+          ∙ ap (λ (o : Opened). o.said) (opened_stays g.C.Clock.gave g.F.Caller.sends before b (g.F.Caller.log old_caller) (g.F.Caller.log new_caller) ran e.called e.stopped);
     }
 
 pub counts_of-counts-requires : goal.counts_of-counts-requires

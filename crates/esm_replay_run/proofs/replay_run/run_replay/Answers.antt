@@ -36,5 +36,5 @@ returns g c =
           (refused t g.S.Source.faults g.S.Source.left c.args.config c.args.calls f c.args.input out.input out.reading.value c.args.caller.now c.args.caller.now (reverse out.trace.items) out.counts new c.in-Err.refused.why none why);
       stopped = subst (λ r. OnErr r Q) (sym c.closed.ensures.end)
           (stopped_before t g.S.Source.faults g.S.Source.left c.args.config c.args.calls f c.args.input out.input out.reading.value c.args.caller.now c.args.caller.now (reverse out.trace.items) out.counts new c.in-Err.refused.why none);
-      said = c.closed.ensures.said ∙ c.into_parts-pair.ensures.said;
+      said = c.closed.ensures.said ∙ c.in-Err.ensures.back.2 ∙ c.into_parts-pair.ensures.said;
     }

@@ -28,6 +28,7 @@ invariant_of-self c =
       core_waiting p c.make_room.new.waiting (vec_capacity c.make_room.new.history) c.self.inside.history.items c.make_room.new.history.items c.self.invariant.0 settled nothing refl c.make_room.ensures.items
           (waits_roomier (own p) p.known p.past c.self.inside.waiting c.make_room.new.waiting c.make_room.ensures.waiting c.self.invariant.0.waiting),
       c.self.invariant.1,
+      c.self.invariant.2,
     )
 
 pub overflow_cast-owed : goal.overflow_cast-owed
@@ -48,7 +49,7 @@ invariant_of-self-2 c =
     let all : vec_len c.self.inside.names ≡ length c.self.inside.names.items = search rules in
     let done : IsDone (left_with p c.make_room.new.waiting (vec_capacity c.make_room.new.history) c.make_room.new.history.items (Ended c.args.job.lane c.args.reply c.raised_to-now.result c.len.result c.in_ok-ending.ending.parts c.in_ok-ending.ending.replay)) v (done_entries (setting_of v) v.past c.args.job.lane c.args.reply (moment_for v.past c.args.moment)) =
     done_done p v c.in-Some.waiting c.make_room.new.waiting (vec_capacity c.make_room.new.history) c.self.inside.history.items c.make_room.new.history.items c.args.job c.args.reply c.in_ok-ending.ending c.len.result c.raised_to-now.result c.args.moment c.self.invariant.0 c.self.view_is settled c.in-Some.is c.requires.out wide refl c.make_room.ensures.items c.in_ok-make_room.ensures.ok c.raised_to-now.ensures.value (c.len.ensures ∙ all) ended in
-    (subst (λ (o : Owed). IsKept (left_with p c.make_room.new.waiting (vec_capacity c.make_room.new.history) c.make_room.new.history.items o)) (sym c.put.ensures) (subst (λ (reply : Reply). IsKept (left_with p c.make_room.new.waiting (vec_capacity c.make_room.new.history) c.make_room.new.history.items (Ended c.args.job.lane reply c.raised_to-now.result c.len.result c.in_ok-ending.ending.parts c.in_ok-ending.ending.replay))) (sym c.of.ensures) done.kept), c.self.invariant.1)
+    (subst (λ (o : Owed). IsKept (left_with p c.make_room.new.waiting (vec_capacity c.make_room.new.history) c.make_room.new.history.items o)) (sym c.put.ensures) (subst (λ (reply : Reply). IsKept (left_with p c.make_room.new.waiting (vec_capacity c.make_room.new.history) c.make_room.new.history.items (Ended c.args.job.lane reply c.raised_to-now.result c.len.result c.in_ok-ending.ending.parts c.in_ok-ending.ending.replay))) (sym c.of.ensures) done.kept), c.self.invariant.1, c.self.invariant.2)
 
 pub returns-clause-count : goal.returns-clause-count
 returns-clause-count c =

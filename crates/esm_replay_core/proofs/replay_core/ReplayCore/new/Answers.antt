@@ -9,6 +9,7 @@ invariant_of-result c = (
   kept_new _ c.args.config c.requires c.replay_config.ensures
       (ap (λ (rs : List Record). take 0 rs) c.new.ensures.items)
       (ap (λ (rs : List Record). drop 0 rs) c.new.ensures.items)
-      (λ q. search rules) refl refl (ap (λ (es : List Entry). reverse es) c.in_ok-history.ensures.items) refl refl refl,
+      (λ q. search rules) refl refl (ap (λ (es : List Entry). reverse es) c.in-Ok.ensures.items) refl refl refl,
+  search rules,
   search rules,
 )

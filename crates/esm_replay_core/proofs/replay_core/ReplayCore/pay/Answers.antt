@@ -1,4 +1,4 @@
-use Rattle.std.proofs.Common.{◌≡◌, ℕ, ◌∙◌, ◌+◌, List, None, length, vec_len, drop, sym, ap, subst, refl, rules, arith}
+use Rattle.std.proofs.Common.{◌≡◌, ℕ, ◌∙◌, ◌+◌, Bool, [], List, None, length, vec_len, drop, sym, ap, subst, refl, rules, arith}
 use Rattle.std.specs.Vec.{vec_capacity}
 use Rattle.std.proofs.lemmas.List.{length-reverse}
 use Rattle.esm_model.specs.declared.entry.Entry.TheVariants as entry
@@ -9,7 +9,8 @@ use Rattle.esm_replay_core.proofs.Keeping.{IsStill, still_is}
 use Rattle.esm_replay_core.proofs.Paying.{IsPaid, with_entry, begun_few, may_end_call, pay_began, pay_end, pay_replayed}
 use Rattle.esm_replay_core.proofs.Named.{one}
 use Rattle.esm_replay_core.proofs.Due.{not_nothing, not_left}
-use Rattle.esm_replay_core.proofs.Deciding.{core_record, core_pushed, came_low, came_counted, came_few, named_fits}
+use Rattle.esm_replay_core.proofs.Deciding.{core_record, core_pushed, came_low, came_counted, came_few, came_named, named_fits}
+use Rattle.esm_replay.proofs.Naming.{named_long}
 use Rattle.esm_replay_core.proofs.replay_core.ReplayCore.pay.Goals as goal
 
 -- records come
@@ -27,14 +28,22 @@ index-item-requires c =
     let all : vec_len c.self.inside.records ≡ length c.self.inside.records.items = search rules in
     omega (arith, low, all)
 
-pub count_record-is_named-requires-clause-there : goal.count_record-is_named-requires-clause-there
-count_record-is_named-requires-clause-there c =
+pub index-is_named-requires : goal.index-is_named-requires
+index-is_named-requires c =
+    let p = parts_of c.self.inside in
+    let low = came_low p c.self.inside.came c.self.inside.records.items c.self.invariant.0 (sym c.in-Coming.ensures.value) in
+    let long : length c.self.inside.are_named.items ≡ length c.self.inside.records.items = ap (λ (bs : List Bool). length bs) c.self.invariant.2 ∙ named_long p.opened.said p.opened.ranges [] c.self.inside.records.items in
+    let all : vec_len c.self.inside.are_named ≡ length c.self.inside.are_named.items = search rules in
+    omega (arith, low, long, all)
+
+pub count_one-requires-clause-there : goal.count_one-requires-clause-there
+count_one-requires-clause-there c =
     let p = parts_of c.self.inside in
     let low = came_low p c.self.inside.came c.self.inside.records.items c.self.invariant.0 (sym c.in-Coming.ensures.value) in
     came_counted p c.self.inside.came c.self.inside.records.items c.index-item.result.now c.self.invariant.0 low c.index-item.ensures
 
-pub count_record-is_named-requires-clause-few : goal.count_record-is_named-requires-clause-few
-count_record-is_named-requires-clause-few c =
+pub count_one-requires-clause-few : goal.count_one-requires-clause-few
+count_one-requires-clause-few c =
     let p = parts_of c.self.inside in
     let low = came_low p c.self.inside.came c.self.inside.records.items c.self.invariant.0 (sym c.in-Coming.ensures.value) in
     came_few p c.self.inside.came c.self.inside.records.items c.index-item.result.now.shard c.self.invariant.0 low
@@ -43,7 +52,7 @@ pub overflow_add-self : goal.overflow_add-self
 overflow_add-self c =
     let p = parts_of c.self.inside in
     let low = came_low p c.self.inside.came c.self.inside.records.items c.self.invariant.0 (sym c.in-Coming.ensures.value) in
-    let fits = named_fits p c.self.inside.came c.self.inside.records.items c.count_record-is_named.result c.one_if.result c.self.invariant.0 low c.one_if.ensures in
+    let fits = named_fits p c.self.inside.came c.self.inside.records.items c.index-is_named.result.now c.one_if.result c.self.invariant.0 low c.one_if.ensures in
     omega (arith, fits)
 
 pub invariant_of-self : goal.invariant_of-self
@@ -53,7 +62,8 @@ invariant_of-self c =
     let low = came_low p c.self.inside.came c.self.inside.records.items c.self.invariant.0 is in
     let long : c.len.result ≡ length c.self.inside.records.items = c.len.ensures ∙ search rules in
     let still : IsStill (drop (c.self.inside.came + 1) c.self.inside.records.items) c.put.new.place = subst (IsStill (drop (c.self.inside.came + 1) c.self.inside.records.items)) (ap (still_coming (c.self.inside.came + 1)) (sym long) ∙ sym c.still_coming.ensures ∙ sym c.put.ensures) (still_is c.self.inside.records.items (c.self.inside.came + 1)) in
-    (core_record p c.args.self.now c.self.inside.came c.self.inside.records.items c.index-item.result.now c.count_record-is_named.new.counts c.one_if.result c.put.new.place c.self.invariant.0 c.self.view_is is low c.index-item.ensures c.count_record-is_named.ensures.counted (c.one_if.ensures ∙ ap one c.count_record-is_named.ensures.named) still).kept
+    let done = core_record p c.args.self.now c.self.inside.came c.self.inside.records.items c.index-item.result.now c.count_one.new.counts c.one_if.result c.put.new.place c.self.invariant.0 c.self.view_is is low c.index-item.ensures c.count_one.ensures (c.one_if.ensures ∙ ap one (came_named p c.self.inside.came c.self.inside.records.items c.self.inside.are_named.items c.index-item.result.now c.index-is_named.result.now c.self.invariant.0 low c.index-item.ensures c.self.invariant.2 c.index-is_named.ensures)) still in
+    (done.kept.0, done.kept.1, c.self.invariant.2)
 
 pub returns-in-Coming : goal.returns-in-Coming
 returns-in-Coming c =
@@ -62,7 +72,7 @@ returns-in-Coming c =
     let low = came_low p c.self.inside.came c.self.inside.records.items c.self.invariant.0 is in
     let long : c.len.result ≡ length c.self.inside.records.items = c.len.ensures ∙ search rules in
     let still : IsStill (drop (c.self.inside.came + 1) c.self.inside.records.items) c.put.new.place = subst (IsStill (drop (c.self.inside.came + 1) c.self.inside.records.items)) (ap (still_coming (c.self.inside.came + 1)) (sym long) ∙ sym c.still_coming.ensures ∙ sym c.put.ensures) (still_is c.self.inside.records.items (c.self.inside.came + 1)) in
-    (core_record p c.args.self.now c.self.inside.came c.self.inside.records.items c.index-item.result.now c.count_record-is_named.new.counts c.one_if.result c.put.new.place c.self.invariant.0 c.self.view_is is low c.index-item.ensures c.count_record-is_named.ensures.counted (c.one_if.ensures ∙ ap one c.count_record-is_named.ensures.named) still).seen
+    (core_record p c.args.self.now c.self.inside.came c.self.inside.records.items c.index-item.result.now c.count_one.new.counts c.one_if.result c.put.new.place c.self.invariant.0 c.self.view_is is low c.index-item.ensures c.count_one.ensures (c.one_if.ensures ∙ ap one (came_named p c.self.inside.came c.self.inside.records.items c.self.inside.are_named.items c.index-item.result.now c.index-is_named.result.now c.self.invariant.0 low c.index-item.ensures c.self.invariant.2 c.index-is_named.ensures)) still).seen
 
 -- a call begins
 
@@ -94,6 +104,7 @@ invariant_of-self-in-Began c =
       (core_pushed p c.args.self.now (entry.Began x.lane x.places None x.moment) p.waiting c.put_names.new.place.items x.moment (p.begun + 1) Nothing c.replace.new.dest c.self.inside.history.items push.new.self.items (vec_capacity push.new.self)
           paid c.self.view_is refl push.ensures.items push.ensures.capacity c.replace.ensures.after).kept,
       c.self.invariant.1,
+      c.self.invariant.2,
     )
 
 pub returns-in-Began : goal.returns-in-Began
@@ -135,6 +146,7 @@ invariant_of-self-in-Ended c =
       (core_pushed p c.args.self.now (entry.Ended x.lane x.reply x.moment) c.end_call.new.waiting p.names x.moment p.begun (owing_replay x.replay) c.put-in-Ended.new.place c.self.inside.history.items push.new.self.items (vec_capacity push.new.self)
           paid c.self.view_is refl push.ensures.items push.ensures.capacity (c.put-in-Ended.ensures ∙ c.owing_replay.ensures)).kept,
       c.self.invariant.1,
+      c.self.invariant.2,
     )
 
 pub returns-in-Ended : goal.returns-in-Ended
@@ -168,6 +180,7 @@ invariant_of-self-in-Replayed c =
       (core_pushed p c.args.self.now (replay_entry x.replay) p.waiting p.names x.replay.moment p.begun Nothing c.replace.new.dest c.self.inside.history.items push.new.self.items (vec_capacity push.new.self)
           paid c.self.view_is refl push.ensures.items push.ensures.capacity c.replace.ensures.after).kept,
       c.self.invariant.1,
+      c.self.invariant.2,
     )
 
 pub returns-in-Replayed : goal.returns-in-Replayed

@@ -1,0 +1,151 @@
+// The records of a call: where they stand among the records that came, or copies of them.
+ghost use Rattle.std.specs.Prelude.{◌≡◌, ◌+◌, ◌<◌, ◌≤◌, map, IfOk, IfSome, Some, length, option_copied};
+ghost use Rattle.esm_model.specs.declared.item.Record.{Record};
+ghost use Rattle.esm_replay.specs.Batch.{record_named, records_named, records_in, AreWithin, IsRowWithin, StandInRow};
+
+use crate::rows::Named;
+use esm_model::{OutOfMemory, Record, Seq};
+use std::alloc::{AllocError, Global};
+
+/// The records of a call, of records that came.
+#[derive(Drop, Debug)]
+pub enum BatchRecords {
+    /// They stand in a row, from this one on.
+    InRow(u32),
+    /// Copies of them.
+    Copied(Vec<Record>),
+}
+
+fn record_copy(alloc: Global, item: &Record) -> Result<Record, OutOfMemory>
+    ensures { IfOk result (λ copy. copy ≡ item.now) }
+{
+    Ok(Record {
+        shard: item.shard,
+        seq: item.seq.copy(alloc)?,
+        key: item.key.copy(alloc)?,
+        payload: item.payload.copy(alloc)?,
+        arrival: item.arrival,
+    })
+}
+
+/// The record that the named one at the position is, among those that came.
+fn found_named<'a>(records: &'a [Record], named: &[Named], i: usize) -> Option<&'a Record>
+    ensures { option_copied result ≡ record_named records.entry.now named.now i }
+{
+    let one = named.get(i)?;
+    records.get(one.at as usize)
+}
+
+/// The record that the named one at the position is, where each is among those that came.
+pub(crate) fn record_named<'a>(records: &'a [Record], named: &[Named], i: usize) -> &'a Record
+    requires within { i < length named.now }
+    requires stand { AreWithin (length records.now) named.now }
+    ensures { record_named records.entry.now named.now i ≡ Some result.now }
+{
+    match found_named(records, named, i) {
+        None => unreachable!(),
+        Some(item) => item,
+    }
+}
+
+/// Where the row begins in which the named records stand among those that came, if they stand in one.
+fn row_start(named: &[Named]) -> Option<u32>
+    ensures row { IfSome result (λ first. StandInRow first named.now) }
+    ensures some { IfSome result (λ first. 1 ≤ length named.now) }
+{
+    let first = named.first()?.at;
+    for i in 0..named.len() {
+        if named[i].at as u64 != first as u64 + i as u64 {
+            return None;
+        }
+    }
+    Some(first)
+}
+
+/// Copies of the named records.
+fn copies(alloc: Global, records: &[Record], named: &[Named]) -> Result<Vec<Record>, OutOfMemory>
+    requires { AreWithin (length records.now) named.now }
+    ensures { IfOk result (λ copies. copies.items ≡ records_named records.now named.now) }
+{
+    let mut copies = Vec::with_capacity(alloc, named.len())?;
+    for i in 0..named.len() {
+        let copy = record_copy(alloc, record_named(records, named, i))?;
+        copies.push(copy)?;
+    }
+    Ok(copies)
+}
+
+/// The named records: copied only where they do not stand in a row.
+pub(crate) fn gather(
+    alloc: Global,
+    records: &[Record],
+    named: &[Named],
+) -> Result<BatchRecords, OutOfMemory>
+    requires { AreWithin (length records.now) named.now }
+    ensures records { IfOk result (λ gathered. records_in records.now (length named.now) gathered ≡ records_named records.now named.now) }
+    ensures within { IfOk result (IsRowWithin (length records.now) (length named.now)) }
+{
+    match row_start(named) {
+        Some(first) => Ok(BatchRecords::InRow(first)),
+        None => {
+            let copied = copies(alloc, records, named)?;
+            Ok(BatchRecords::Copied(copied))
+        }
+    }
+}
+
+/// Copies of the sequence numbers of the records.
+fn names_of(alloc: Global, records: &[Record]) -> Result<Vec<Seq>, OutOfMemory>
+    ensures { IfOk result (λ names. names.items ≡ map (λ (r : Record). r.seq) records.now) }
+{
+    let mut names = Vec::with_capacity(alloc, records.len())?;
+    for item in records {
+        let name = item.seq.copy(alloc)?;
+        names.push(name)?;
+    }
+    Ok(names)
+}
+
+/// The sequence numbers of the records.
+fn names_in(alloc: Global, records: Vec<Record>) -> Result<Vec<Seq>, AllocError>
+    ensures { IfOk result (λ names. names.items ≡ map (λ (r : Record). r.seq) records.items) }
+{
+    records.into_iter().map(|item| item.seq).collect(alloc)
+}
+
+fn row_of(records: &[Record], first: u32, count: usize) -> &[Record]
+    requires { first + count ≤ length records.now }
+    ensures { result.now ≡ records_in records.entry.now count (BatchRecords.InRow first) }
+{
+    let first = first as usize;
+    &records[first..first + count]
+}
+
+impl BatchRecords {
+    /// The records, so many, where these are the records that came.
+    pub fn records<'a>(&'a self, came: &'a [Record], count: usize) -> &'a [Record]
+        requires { IsRowWithin (length came.now) count self.now }
+        ensures { result.now ≡ records_in came.entry.now count self.entry.now }
+    {
+        match self {
+            BatchRecords::InRow(first) => row_of(came, *first, count),
+            BatchRecords::Copied(copies) => copies.as_slice(),
+        }
+    }
+
+    /// Their sequence numbers, those of copies without copying them.
+    pub fn into_names(
+        self,
+        alloc: Global,
+        came: &[Record],
+        count: usize,
+    ) -> Result<Vec<Seq>, OutOfMemory>
+        requires { IsRowWithin (length came.now) count self }
+        ensures { IfOk result (λ names. names.items ≡ map (λ (r : Record). r.seq) (records_in came.now count self)) }
+    {
+        match self {
+            BatchRecords::InRow(first) => names_of(alloc, row_of(came, first, count)),
+            BatchRecords::Copied(copies) => Ok(names_in(alloc, copies)?),
+        }
+    }
+}
