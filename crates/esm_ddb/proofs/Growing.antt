@@ -1,11 +1,12 @@
 -- What was turned of an input when it goes on.
-use Rattle.std.proofs.Common.{◌≡◌, ◌∙◌, ℕ, Bool, true, false, cond, ltb, List, [], ◌∷◌, ◌++◌, append_assoc, length, refl, sym, ap, subst, Result, Ok, Err}
+use Rattle.std.proofs.Common.{◌≡◌, ◌∙◌, ℕ, Bool, true, false, cond, ltb, List, [], ◌∷◌, ◌++◌, append_assoc, length, refl, sym, ap, ap₂, subst, inl, inr, ◌⊎◌, Result, Ok, Err}
 use Rattle.std.specs.Prelude.{fold, is_some}
+use Rattle.std.specs.List.{onto_first}
 use Rattle.std.proofs.lemmas.List.{append-nil}
 use Rattle.std.proofs.lemmas.List.Sums.{fold-append}
-use Rattle.esm_record.specs.Input.{lines_of, ended, begun}
+use Rattle.esm_record.specs.Input.{is_line_feed, lines_of, ended, begun}
 use Rattle.esm_record.proofs.Splits.{follow, first_line, lines_of-append, ended-append}
-use Rattle.esm_ddb.specs.GoesOn.{IsCarriedOn}
+use Rattle.esm_ddb.specs.GoesOn.{IsCarriedOn, IsWholeOfFront, UpToLastFeed}
 use Rattle.esm_ddb.specs.Translation.{Translation, nothing_turned, line_feed, add_line, after_line, turned_lines, translation_so_far, translation_of}
 use Rattle.esm_ddb.specs.Turned.{turned}
 use Rattle.esm_ddb.specs.declared.error.DdbError.{DdbError}
@@ -93,3 +94,46 @@ goes_on s bytes more =
           let same = bad_for_ever s bytes more line bad in
           bad_whole s (bytes ++ more) line (ap (λ (t : Translation). t.bad) same ∙ bad) ∙ same;
     }
+
+-- ---- the bytes up to the last line feed
+
+-- one more byte before both
+abbrev Same : List (List ℕ) → List (List ℕ) → Type 0
+Same fronts parts = (ended fronts ≡ ended parts) × (begun fronts ≡ [])
+
+with_byte : (b : Bool) (x : ℕ) (parts fronts : List (List ℕ)) → (parts ≡ [] → ⊥) → (fronts ≡ [] → ⊥) → Same fronts parts
+    → Same (cond b ([] ∷ fronts) (onto_first x fronts)) (cond b ([] ∷ parts) (onto_first x parts)) ⊎ (ended (cond b ([] ∷ parts) (onto_first x parts)) ≡ [])
+with_byte b x [] fronts some h same = absurd (some refl)
+with_byte b x (p ∷ ps) [] some h same = absurd (h refl)
+with_byte true x (p ∷ ps) (q ∷ qs) some h same = inl (ap (λ l. [] ∷ l) same.0, same.1)
+with_byte false x (p ∷ []) (q ∷ qs) some h same = inr refl
+with_byte false x (p ∷ p2 ∷ ps) (q ∷ []) some h same = let never : [] ≡ p ∷ ended (p2 ∷ ps) = same.0 in cc
+with_byte false x (p ∷ p2 ∷ ps) (q ∷ q2 ∷ qs) some h same =
+    let both : q ∷ ended (q2 ∷ qs) ≡ p ∷ ended (p2 ∷ ps) = same.0 in
+    let first : q ≡ p = cc in
+    let others : ended (q2 ∷ qs) ≡ ended (p2 ∷ ps) = cc in
+    inl (ap₂ (λ (u : List ℕ) (v : List (List ℕ)). (x ∷ u) ∷ v) first others, same.1)
+
+some_lines : (bytes : List ℕ) → lines_of bytes ≡ [] → ⊥
+some_lines bytes none = let (part, others, e) = first_line bytes in (let never : [] ≡ part ∷ others = sym none ∙ e in cc)
+
+one_front : (x : ℕ) (bytes : List ℕ) → (up : UpToLastFeed bytes) → Same (lines_of (x ∷ up.front)) (lines_of (x ∷ bytes)) ⊎ (ended (lines_of (x ∷ bytes)) ≡ []) → UpToLastFeed (x ∷ bytes)
+one_front x bytes up (inl same) = record { front = x ∷ up.front; rest = up.rest; parts = ap (λ (l : List ℕ). x ∷ l) up.parts; lines = same.0; none_begun = same.1 }
+one_front x bytes up (inr none) = record { front = []; rest = x ∷ bytes; parts = refl; lines = sym none; none_begun = refl }
+
+up_to : (bytes : List ℕ) → UpToLastFeed bytes
+up_to [] = record { front = []; rest = []; parts = refl; lines = refl; none_begun = refl }
+up_to (x ∷ bytes) =
+    let up : UpToLastFeed bytes = up_to bytes in
+    one_front x bytes up (with_byte (is_line_feed x) x (lines_of bytes) (lines_of up.front) (some_lines bytes) (some_lines up.front) (up.lines, up.none_begun))
+
+nothing_more : (b : Bool) (t : Translation) → (cond b t (after_line [] t (Ok []))).text ≡ t.text
+nothing_more true t = refl
+nothing_more false t = append-nil t.text
+
+pub whole_of_front : IsWholeOfFront
+unfolding translation_of
+whole_of_front s bytes =
+    let up : UpToLastFeed bytes = up_to bytes in
+    let t : Translation = turned_lines s (ended (lines_of bytes)) in
+    (up, ap₂ (λ (ls : List (List ℕ)) (last : List ℕ). (add_line s [] (turned_lines s ls) last).text) up.lines up.none_begun ∙ nothing_more (is_some t.bad) t ∙ sym (so_far_text s bytes))

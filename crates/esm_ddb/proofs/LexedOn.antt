@@ -20,7 +20,7 @@ use Rattle.esm_window.proofs.Layouts.{lex-cons, lex-nil}
 -- ---- the content of a text
 
 -- where the first is something, the second is the same
-abbrev Kept : Option (List ℕ) → Option (List ℕ) → Type 0
+abbrev pub Kept : Option (List ℕ) → Option (List ℕ) → Type 0
 Kept None p = ⊤
 Kept (Some s) p = p ≡ Some s
 
@@ -36,7 +36,7 @@ kept_after : (a : List ℕ) (o p : Option (List ℕ)) → Kept o p → Kept (pre
 kept_after a None p h = tt
 kept_after a (Some s) p h = ap (prepend a) h
 
-content_on : (w : Within) (xs ys : List ℕ) → Kept (content w xs) (content w (xs ++ ys))
+pub content_on : (w : Within) (xs ys : List ℕ) → Kept (content w xs) (content w (xs ++ ys))
 unfolding content
 content_on plain [] ys = tt
 content_on plain (x ∷ xs) ys =
@@ -210,11 +210,11 @@ begin_on in_word other x xs ys e good ends = refl
 begin_on in_string c x xs ys e good ends = refl
 begin_on in_escape c x xs ys e good ends = refl
 
-put_good : (o : Option Lexeme) (ls : List Lexeme) → AllGood (put o ls) → GoodBegin o × AllGood ls
+pub put_good : (o : Option Lexeme) (ls : List Lexeme) → AllGood (put o ls) → GoodBegin o × AllGood ls
 put_good None ls h = (tt, h)
 put_good (Some l) ls h = h
 
-put_more : (o : Option Lexeme) (ls ks : List Lexeme) → put o (ls ++ ks) ≡ put o ls ++ ks
+pub put_more : (o : Option Lexeme) (ls ks : List Lexeme) → put o (ls ++ ks) ≡ put o ls ++ ks
 put_more None ls ks = refl
 put_more (Some l) ls ks = refl
 

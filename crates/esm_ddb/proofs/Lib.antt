@@ -1,9 +1,14 @@
+pub mod AnsweredStates
+pub mod BatchEvents
+pub mod CutLines
 pub mod Digest
 pub mod ElementBytes
 pub mod Feeds
 pub mod Finding
+pub mod Fronts
 pub mod Growing
 pub mod Inputs
+pub mod KeptStates
 pub mod Laid
 pub mod Lengths
 pub mod LexedOn
@@ -11,6 +16,7 @@ pub mod LineLaws
 pub mod LinesTurned
 pub mod Loops
 pub mod Moments
+pub mod NamesInOrder
 pub mod OneLine
 pub mod OwnEvents
 pub mod OwnItems
@@ -25,6 +31,7 @@ pub mod RecordsTurned
 pub mod Replaced
 pub mod RunEvents
 pub mod Sizes
+pub mod StateSpans
 pub mod Steps
 pub mod TextBytes
 pub mod Told
@@ -32,3 +39,4 @@ pub mod Trees
 pub mod TurnedPieces
 pub mod WindowEvents
 pub mod WindowTexts
+pub mod WordFronts

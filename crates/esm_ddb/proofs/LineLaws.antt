@@ -1,10 +1,11 @@
 -- The law of lines that are turned.
-use Rattle.std.proofs.Common.{◌≡◌, ℕ, ◌≤◌, arith, Bool, true, false, cond, refl, sym, ap, ◌∙◌, subst, List, [], length, Result, Ok, Err}
+use Rattle.std.proofs.Common.{◌≡◌, ℕ, ◌≤◌, arith, Bool, true, false, cond, refl, sym, ap, ◌∙◌, subst, ◌⊎◌, List, [], ◌++◌, length, Result, Ok, Err}
 use Rattle.std.specs.Prelude.{nat_lt}
 use Rattle.std.specs.List.{All}
 use Rattle.std.proofs.lemmas.Bool.Decides.{nat_tests}
 use Rattle.esm_record.specs.Input.{is_blank, is_line_feed}
 use Rattle.esm_record.specs.Line.{line_of, record_of}
+use Rattle.esm_record.specs.declared.error.LineError.TheVariants as refusal
 use Rattle.esm_ddb.specs.Change.{Change}
 use Rattle.esm_ddb.specs.Element.{element}
 use Rattle.esm_ddb.specs.ItemText.{value_text}
@@ -14,6 +15,7 @@ use Rattle.esm_ddb.specs.declared.error.DdbError.{DdbError}
 use Rattle.esm_ddb.specs.declared.error.DdbError.TheVariants.{BadField, LineTooLong}
 use Rattle.esm_ddb.specs.declared.error.DdbField.TheVariants.{Dynamodb}
 use Rattle.esm_ddb.specs.declared.source.Source.{Source}
+use Rattle.esm_ddb.proofs.CutLines.{cut_line}
 use Rattle.esm_ddb.proofs.ElementBytes.{IsToldBy, element_bytes, told_by}
 use Rattle.esm_ddb.proofs.OneLine.{no_feed, one_line}
 use Rattle.esm_ddb.proofs.ReadBack.{IsWritten, key_hex, line_reads, plain_line}
@@ -78,6 +80,12 @@ read_back s line text of some h =
       stands = subst IsOneLine c.is (one_line r (c.written of));
       reads = subst (λ (t : List ℕ). line_of record_of t ≡ Ok r) c.is (line_reads r (c.written of));
     }
+
+-- a front of a turned line is all of it, or is refused
+pub cut_back : (s : Source) (line text b q : List ℕ) → IsOfBytes s → is_blank line ≡ false → turned s line ≡ Ok text → b ++ q ≡ text → (b ≡ text) ⊎ (line_of record_of b ≡ Err refusal.NotJson)
+cut_back s line text b q of some h e =
+    let c = told s line text some h in
+    subst (λ (t : List ℕ). (b ≡ t) ⊎ (line_of record_of b ≡ Err refusal.NotJson)) c.is (cut_line (turned_record s c.change) b q (c.written of) (e ∙ sym c.is))
 
 -- a blank line becomes nothing
 pub blank_text : (s : Source) (line text : List ℕ) → is_blank line ≡ true → turned s line ≡ Ok text → text ≡ []

@@ -71,6 +71,26 @@ digits_unescaped (x ∷ xs) h =
     let p = and_parts (is_ascii_digit x) (list_all is_ascii_digit xs) h in
     rw (digit_one x p.0, digits_unescaped xs p.1) refl
 
+-- a character of the texts of a line, which needs no escape and is no closing brace
+abbrev pub is_bare : ℕ → Bool
+is_bare x = is_unescaped x && not (x == 125)
+
+pub bare_unescaped : (ds : List ℕ) → list_all is_bare ds ≡ true → list_all is_unescaped ds ≡ true
+bare_unescaped [] h = refl
+bare_unescaped (x ∷ xs) h =
+    let p = and_parts (is_bare x) (list_all is_bare xs) h in
+    let one : is_unescaped x ≡ true = (and_parts (is_unescaped x) (not (x == 125)) p.0).0 in
+    rw (one, bare_unescaped xs p.1) refl
+
+digit_bare : (x : ℕ) → is_ascii_digit x ≡ true → is_bare x ≡ true
+digit_bare x h = grind (arith, nat_tests)
+
+pub digits_bare : (ds : List ℕ) → list_all is_ascii_digit ds ≡ true → list_all is_bare ds ≡ true
+digits_bare [] h = refl
+digits_bare (x ∷ xs) h =
+    let p = and_parts (is_ascii_digit x) (list_all is_ascii_digit xs) h in
+    rw (digit_bare x p.0, digits_bare xs p.1) refl
+
 begins_one : (x : ℕ) → is_unescaped x ≡ true → begins_char x ≡ true
 begins_one x h = grind (arith, nat_tests)
 
@@ -85,20 +105,20 @@ all_begin (x ∷ xs) h =
 abbrev symbols : List ℕ
 symbols = engine_symbols standard
 
-symbol : (i : ℕ) → i < 64 → is_unescaped (slice_index symbols i) ≡ true
-symbol i h = AllPass-from_list_all is_unescaped symbols refl i 0 h
+symbol : (i : ℕ) → i < 64 → is_bare (slice_index symbols i) ≡ true
+symbol i h = AllPass-from_list_all is_bare symbols refl i 0 h
 
 byte_below : (x : ℕ) → is_byte x ≡ true → x < 256
 byte_below x h = grind (arith, nat_tests)
 
-two : (a b : ℕ) → is_unescaped a ≡ true → is_unescaped b ≡ true → list_all is_unescaped (a ∷ b ∷ []) ≡ true
+two : (a b : ℕ) → is_bare a ≡ true → is_bare b ≡ true → list_all is_bare (a ∷ b ∷ []) ≡ true
 two a b ha hb = rw (ha, hb) refl
 
-three : (a b c : ℕ) → is_unescaped a ≡ true → is_unescaped b ≡ true → is_unescaped c ≡ true → list_all is_unescaped (a ∷ b ∷ c ∷ []) ≡ true
+three : (a b c : ℕ) → is_bare a ≡ true → is_bare b ≡ true → is_bare c ≡ true → list_all is_bare (a ∷ b ∷ c ∷ []) ≡ true
 three a b c ha hb hc = rw (ha, hb, hc) refl
 
-four : (a b c d : ℕ) (rest : List ℕ) → is_unescaped a ≡ true → is_unescaped b ≡ true → is_unescaped c ≡ true → is_unescaped d ≡ true → list_all is_unescaped rest ≡ true
-    → list_all is_unescaped (a ∷ b ∷ c ∷ d ∷ rest) ≡ true
+four : (a b c d : ℕ) (rest : List ℕ) → is_bare a ≡ true → is_bare b ≡ true → is_bare c ≡ true → is_bare d ≡ true → list_all is_bare rest ≡ true
+    → list_all is_bare (a ∷ b ∷ c ∷ d ∷ rest) ≡ true
 four a b c d rest ha hb hc hd hr = rw (ha, hb, hc, hd, hr) refl
 
 first_two : (a b : ℕ) (rest : List ℕ) → list_all is_byte (a ∷ b ∷ rest) ≡ true → (a < 256) × (b < 256) × (list_all is_byte rest ≡ true)
@@ -107,20 +127,20 @@ first_two a b rest h =
     let q = and_parts (is_byte b) (list_all is_byte rest) p.1 in
     (byte_below a p.0, byte_below b q.0, q.1)
 
-symbols_unescaped : (m : List ℕ) → list_all is_byte m ≡ true → list_all is_unescaped (encode_symbols symbols m) ≡ true
+symbols_bare : (m : List ℕ) → list_all is_byte m ≡ true → list_all is_bare (encode_symbols symbols m) ≡ true
 unfolding encode_symbols
-symbols_unescaped [] h = refl
-symbols_unescaped (a ∷ []) h =
+symbols_bare [] h = refl
+symbols_bare (a ∷ []) h =
     let p = and_parts (is_byte a) true h in
     let ha = byte_below a p.0 in
     two (slice_index symbols (a / 4)) (slice_index symbols (a % 4 * 16)) (symbol (a / 4) (omega arith)) (symbol (a % 4 * 16) (omega arith))
-symbols_unescaped (a ∷ b ∷ []) h =
+symbols_bare (a ∷ b ∷ []) h =
     let p = first_two a b [] h in
     let ha : a < 256 = p.0 in
     let hb : b < 256 = p.1 in
     three (slice_index symbols (a / 4)) (slice_index symbols (a % 4 * 16 + b / 16)) (slice_index symbols (b % 16 * 4))
     (symbol (a / 4) (omega arith)) (symbol (a % 4 * 16 + b / 16) (omega arith)) (symbol (b % 16 * 4) (omega arith))
-symbols_unescaped (a ∷ b ∷ c ∷ rest) h =
+symbols_bare (a ∷ b ∷ c ∷ rest) h =
     let p = first_two a b (c ∷ rest) h in
     let q = and_parts (is_byte c) (list_all is_byte rest) p.2 in
     let ha : a < 256 = p.0 in
@@ -129,17 +149,20 @@ symbols_unescaped (a ∷ b ∷ c ∷ rest) h =
     four (slice_index symbols (a / 4)) (slice_index symbols (a % 4 * 16 + b / 16)) (slice_index symbols (b % 16 * 4 + c / 64)) (slice_index symbols (c % 64))
     (encode_symbols symbols rest)
     (symbol (a / 4) (omega arith)) (symbol (a % 4 * 16 + b / 16) (omega arith)) (symbol (b % 16 * 4 + c / 64) (omega arith)) (symbol (c % 64) (omega arith))
-    (symbols_unescaped rest q.1)
+    (symbols_bare rest q.1)
 
-equals_unescaped : (n : ℕ) → list_all is_unescaped (replicate n 61) ≡ true
-equals_unescaped zero = refl
-equals_unescaped (suc n) = equals_unescaped n
+equals_bare : (n : ℕ) → list_all is_bare (replicate n 61) ≡ true
+equals_bare zero = refl
+equals_bare (suc n) = equals_bare n
+
+pub base64_bare : (m : List ℕ) → list_all is_byte m ≡ true → list_all is_bare (base64_text m) ≡ true
+unfolding base64_text
+base64_bare m h =
+    list_all-append is_bare (encode_symbols symbols m) (replicate (padding_len (length m)) 61)
+    ∙ rw (symbols_bare m h, equals_bare (padding_len (length m))) refl
 
 pub base64_unescaped : (m : List ℕ) → list_all is_byte m ≡ true → list_all is_unescaped (base64_text m) ≡ true
-unfolding base64_text
-base64_unescaped m h =
-    list_all-append is_unescaped (encode_symbols symbols m) (replicate (padding_len (length m)) 61)
-    ∙ rw (symbols_unescaped m h, equals_unescaped (padding_len (length m))) refl
+base64_unescaped m h = bare_unescaped (base64_text m) (base64_bare m h)
 
 pub are_bytes : (m : List ℕ) → list_all is_byte m ≡ true → IsBytes m
 are_bytes [] h i = lit< tt
@@ -195,35 +218,41 @@ shard_by ds n size digits value = rw (size, digits, value) refl
 shard_reads : (n : ℕ) → n < 1000000000000 → shard_number (shard_id n) ≡ Some n
 shard_reads n h = shard_by (last_digits 10 12 n) n (length-last_digits 10 12 n) (digits_all 12 n) (digits_number 12 n h)
 
+pub shard_bare : (n : ℕ) → list_all is_bare (shard_id n) ≡ true
+shard_bare n = digits_bare (last_digits 10 12 n) (digits_all 12 n)
+
 pub shard_unescaped : (n : ℕ) → list_all is_unescaped (shard_id n) ≡ true
-shard_unescaped n = digits_unescaped (last_digits 10 12 n) (digits_all 12 n)
+shard_unescaped n = bare_unescaped (shard_id n) (shard_bare n)
 
 -- ---- the partition key
 
-letter : (d : ℕ) → 10 ≤ d → d < 16 → is_unescaped (87 + d) ≡ true
+letter : (d : ℕ) → 10 ≤ d → d < 16 → is_bare (87 + d) ≡ true
 letter d low high = grind (arith, nat_tests)
 
-hex_by : (b : Bool) (d : ℕ) → nat_lt d 10 ≡ b → d < 16 → is_unescaped (cond b (48 + d) (87 + d)) ≡ true
-hex_by true d e h = let low : d < 10 = grind (arith, nat_tests) in digit_one (48 + d) (digit_below d low)
+hex_by : (b : Bool) (d : ℕ) → nat_lt d 10 ≡ b → d < 16 → is_bare (cond b (48 + d) (87 + d)) ≡ true
+hex_by true d e h = let low : d < 10 = grind (arith, nat_tests) in digit_bare (48 + d) (digit_below d low)
 hex_by false d e h = let high : 10 ≤ d = grind (arith, nat_tests) in letter d high h
 
-hex_glyph : (d : ℕ) → d < 16 → is_unescaped (digit_glyph false d) ≡ true
+hex_glyph : (d : ℕ) → d < 16 → is_bare (digit_glyph false d) ≡ true
 hex_glyph d h = hex_by (nat_lt d 10) d refl h
 
-hex_two : (x : ℕ) → list_all is_unescaped (last_digits 16 2 x) ≡ true
+hex_two : (x : ℕ) → list_all is_bare (last_digits 16 2 x) ≡ true
 unfolding last_digits
 hex_two x = two (digit_glyph false (x / 16 % 16)) (digit_glyph false (x % 16)) (hex_glyph (x / 16 % 16) (omega arith)) (hex_glyph (x % 16) (omega arith))
 
 pub record IsHex (ds : List ℕ) (n : ℕ) : Type 0 where
+  pub bare : list_all is_bare ds ≡ true
   pub unescaped : list_all is_unescaped ds ≡ true
   pub size : length ds ≡ n
 
 hex_all : (xs : List ℕ) → IsHex (flat_map (last_digits 16 2) xs) (2 * length xs)
-hex_all [] = record { unescaped = refl; size = refl }
+hex_all [] = record { bare = refl; unescaped = refl; size = refl }
 hex_all (x ∷ xs) =
     let more = hex_all xs in
+    let all : list_all is_bare (flat_map (last_digits 16 2) (x ∷ xs)) ≡ true = list_all-append is_bare (last_digits 16 2 x) (flat_map (last_digits 16 2) xs) ∙ rw (hex_two x, more.bare) refl in
     record {
-      unescaped = list_all-append is_unescaped (last_digits 16 2 x) (flat_map (last_digits 16 2) xs) ∙ rw (hex_two x, more.unescaped) refl;
+      bare = all;
+      unescaped = bare_unescaped (flat_map (last_digits 16 2) (x ∷ xs)) all;
       size = omega (arith, length-append (last_digits 16 2 x) (flat_map (last_digits 16 2) xs), length-last_digits 16 2 x, more.size);
     }
 
@@ -231,7 +260,7 @@ pub key_hex : (keys : List ℕ) → IsHex (hexadecimal (md5 keys)) 32
 unfolding hexadecimal
 key_hex keys =
     let all = hex_all (md5 keys) in
-    record { unescaped = all.unescaped; size = omega (arith, all.size, length-md5 keys) }
+    record { bare = all.bare; unescaped = all.unescaped; size = omega (arith, all.size, length-md5 keys) }
 
 key_between : (n : ℕ) → n ≡ 32 → is_between 1 256 n ≡ true
 key_between n h = grind (arith, nat_tests)

@@ -13,11 +13,11 @@ use Rattle.esm_model.specs.declared.item.Item.{Item}
 use Rattle.esm_model.specs.declared.item.Item.TheVariants.{Stream}
 use Rattle.esm_model.specs.declared.item.LineKind.TheVariants as kinds
 use Rattle.esm_model.specs.declared.item.Record.{Record}
-use Rattle.esm_record.specs.Input.{Input, add_line, after_line, begun, ended, in_order, input_of, input_so_far, is_blank, last_number, lines_of, nothing_read, read_after, read_lines, some_item, too_long}
+use Rattle.esm_record.specs.Input.{Input, add_line, after_line, begun, ended, in_order, input_of, input_so_far, is_blank, last_number, lines_of, next_record, nothing_read, read_after, read_lines, some_item, too_long}
 use Rattle.esm_record.specs.Line.{line_of, record_of}
 use Rattle.esm_record.specs.declared.error.LineError.{LineError}
-use Rattle.esm_record.specs.declared.error.LineError.TheVariants.{Backwards}
-use Rattle.esm_record.proofs.Splits.{ended-append, first_line, follow, lines_of-append}
+use Rattle.esm_record.specs.declared.error.LineError.TheVariants.{Backwards, LineTooLong, NotJson}
+use Rattle.esm_record.proofs.Splits.{ended-append, first_line, follow, lines_are, lines_of-append}
 use Rattle.esm_ddb.specs.Change.{Change}
 use Rattle.esm_ddb.specs.LineByLine.{AreOfChanges, HasRecordsOfLines, IsOfChange, behind, record_in, record_told, records_of}
 use Rattle.esm_ddb.specs.ReadsBack.{IsOfBytes, change_in}
@@ -25,7 +25,7 @@ use Rattle.esm_ddb.specs.Translation.{translation_of}
 use Rattle.esm_ddb.specs.Turned.{turned, turned_record}
 use Rattle.esm_ddb.specs.declared.error.DdbError.{DdbError}
 use Rattle.esm_ddb.specs.declared.source.Source.{Source}
-use Rattle.esm_ddb.proofs.LineLaws.{blank_text, read_back}
+use Rattle.esm_ddb.proofs.LineLaws.{blank_text, cut_back, read_back}
 use Rattle.esm_ddb.proofs.LinesTurned.{line_by_line}
 
 abbrev Lines : Type 0
@@ -214,6 +214,89 @@ whole_is text texts others e =
     ∙ ap (λ (i : Input). i.items) (fold-append (add_line kinds.Stream) nothing_read texts (behind others))
     ∙ behind_read (read_lines kinds.Stream texts) others
 
+-- ---- of its first bytes, read as if no others followed
+
+-- a line that is no object has no item
+refused_items : (i : Input) (line : List ℕ) (long blank : Bool) → line_of record_of line ≡ Err NotJson
+    → (after_line i (cond long (Err LineTooLong) (cond blank (Ok None) (some_item Stream (next_record (λ (shard : ℕ). last_number shard i.items) line))))).items ≡ i.items
+refused_items i line true blank e = refl
+refused_items i line false true e = refl
+refused_items i line false false e = rw e refl
+
+refused_stays : (i : Input) (line : List ℕ) → line_of record_of line ≡ Err NotJson → (next i line).items ≡ i.items
+refused_stays i line e = by (is_some i.bad)
+  where
+    by : (b : Bool) → (cond b i (after_line i (read_after kinds.Stream i.items line))).items ≡ i.items
+    by true = refl
+    by false = refused_items i line (nat_lt 8388608 (length line)) (is_blank line) e
+
+-- nor has an empty one
+empty_stays : (i : Input) (line : List ℕ) → line ≡ [] → (next i line).items ≡ i.items
+empty_stays i line none = ap (λ (l : List ℕ). (next i l).items) none ∙ by (is_some i.bad)
+  where
+    by : (b : Bool) → (cond b i (after_line i (read_after kinds.Stream i.items []))).items ≡ i.items
+    by true = refl
+    by false = refl
+
+first_same : (i n : Input) (xs : List Item) → n.items ≡ i.items → First n.items (i.items ++ xs)
+first_same i n xs same = (xs, ap (λ (l : List Item). l ++ xs) (sym same))
+
+first_reads : (i n : Input) (xs : List Item) → Reads i n xs → First n.items (i.items ++ xs)
+first_reads i n xs (inl read) = ([], sym read ∙ sym (append-nil n.items))
+first_reads i n xs (inr (same, bad)) = first_same i n xs same
+
+first_longer : (items all more : List Item) → First items all → First items (all ++ more)
+first_longer items all more f = (f.0 ++ more, ap (λ (l : List Item). l ++ more) f.1 ∙ append_assoc items f.0 more)
+
+-- the front of a turned line
+cut_by : (s : Source) → IsOfBytes s → (line text b q : List ℕ) (blank : Bool) → is_blank line ≡ blank → Became s line text → b ++ q ≡ text → (i : Input) → is_some i.bad ≡ false → First (next i b).items (i.items ++ map Stream (record_in s line))
+cut_by s of line text b q true is h e i good = first_same i (next i b) (map Stream (record_in s line)) (empty_stays i b (front_empty b q (e ∙ blank_text s line text is h)))
+  where
+    front_empty : (b q : List ℕ) → b ++ q ≡ [] → b ≡ []
+    front_empty [] q e = refl
+    front_empty (x ∷ b) q e = absurd (cc)
+cut_by s of line text b q false is h e i good = by (cut_back s line text b q of is h e)
+  where
+    by : (b ≡ text) ⊎ (line_of record_of b ≡ Err NotJson) → First (next i b).items (i.items ++ map Stream (record_in s line))
+    by (inl whole) = first_reads i (next i b) (map Stream (record_in s line)) (one s of line b (h ∙ ap (λ (t : List ℕ). Ok t) (sym whole)) i good)
+    by (inr refused) = first_same i (next i b) (map Stream (record_in s line)) (refused_stays i b refused)
+
+cut_last : (s : Source) → IsOfBytes s → (l : List ℕ) (ls : Lines) (t b q : List ℕ) → Became s l t → t ≡ b ++ q → (i : Input) (bad : Bool) → is_some i.bad ≡ bad → First (read_on i (b ∷ [])).items (i.items ++ map Stream (records_of s (l ∷ ls)))
+cut_last s of l ls t b q h e i true bad = bad_first i (map Stream (records_of s (l ∷ ls))) (b ∷ []) bad
+cut_last s of l ls t b q h e i false good =
+    subst (λ (x : List Item). First (next i b).items (i.items ++ x)) (sym (joined s l ls))
+    (subst (λ (x : List Item). First (next i b).items x) (append_assoc i.items (map Stream (record_in s l)) (map Stream (records_of s ls)))
+    (first_longer (next i b).items (i.items ++ map Stream (record_in s l)) (map Stream (records_of s ls)) (cut_by s of l t b q (is_blank l) refl h (sym e) i good)))
+
+cut_empty : (s : Source) (goods : Lines) (b q : List ℕ) → b ++ q ≡ [] → (i : Input) → First (read_on i (b ∷ [])).items (i.items ++ map Stream (records_of s goods))
+cut_empty s goods [] q e i = first_same i (next i []) (map Stream (records_of s goods)) (empty_stays i [] refl)
+cut_empty s goods (x ∷ b) q e i = absurd (cc)
+
+-- the lines that ended, and what has begun
+cut_read : (s : Source) → IsOfBytes s → (goods texts others whole : Lines) (b q : List ℕ) (parts : Lines) → AllZip (Became s) goods texts → texts ++ behind others ≡ whole ++ (b ++ q) ∷ parts → (i : Input)
+    → First (read_on i (whole ++ b ∷ [])).items (i.items ++ map Stream (records_of s goods))
+cut_read s of goods [] [] [] b q parts zip e i = absurd (cc)
+cut_read s of goods [] [] (w ∷ whole) b q parts zip e i = absurd (cc)
+cut_read s of goods [] (o ∷ others) [] b q parts zip e i = cut_empty s goods b q (let same : [] ≡ b ++ q = cc in sym same) i
+cut_read s of goods [] (o ∷ others) (w ∷ []) b q parts zip e i = absurd (cc)
+cut_read s of goods [] (o ∷ others) (w ∷ v ∷ whole) b q parts zip e i = absurd (cc)
+cut_read s of [] (t ∷ ts) others whole b q parts zip e i = absurd zip
+cut_read s of (l ∷ ls) (t ∷ ts) others [] b q parts zip e i = cut_last s of l ls t b q zip.0 (let same : t ≡ b ++ q = cc in same) i (is_some i.bad) refl
+cut_read s of (l ∷ ls) (t ∷ ts) others (w ∷ whole) b q parts zip e i =
+    let same : t ≡ w = cc in
+    let rest : ts ++ behind others ≡ whole ++ (b ++ q) ∷ parts = cc in
+    first_by s l ls w (whole ++ b ∷ []) i (is_some i.bad) refl (λ good. one s of l w (subst (Became s l) same zip.0) i good) (λ m. cut_read s of ls ts others whole b q parts zip.1 rest m)
+
+cut_parts : (text rest : List ℕ) (texts others : Lines) → lines_of (text ++ rest) ≡ texts ++ behind others
+    → (part : List ℕ) × (parts : Lines) × (texts ++ behind others ≡ ended (lines_of text) ++ (begun (lines_of text) ++ part) ∷ parts)
+cut_parts text rest texts others e =
+    let (part, parts, f) = first_line rest in
+    (part, parts, sym e ∙ lines_of-append text rest ∙ ap (λ (ls : Lines). ended (lines_of text) ++ follow (begun (lines_of text)) ls) f)
+
+cut_is : (text : List ℕ) → (input_of kinds.Stream text).items ≡ (read_lines kinds.Stream (ended (lines_of text) ++ begun (lines_of text) ∷ [])).items
+unfolding input_of
+cut_is text = ap (λ (ls : Lines). (read_lines kinds.Stream ls).items) (lines_are text)
+
 -- ---- the laws
 
 told_changes : (s : Source) (line : List ℕ) (o : Result Change DdbError) → change_in line ≡ o → All (IsOfChange s) (record_told s o)
@@ -235,9 +318,11 @@ records_of_lines s bytes text rest of is =
     let goods : Lines = take t.lines (lines_of bytes) in
     let front = prefix by.texts (drop t.lines (lines_of bytes)) text rest (ap lines_of (sym is) ∙ by.are) in
     let some = first_read s of goods (ended (lines_of text)) front.0 (subst (AllZip (Became s) goods) front.1 by.each) nothing_read in
-    let all = first_read s of goods by.texts [] (subst (AllZip (Became s) goods) (sym (append-nil by.texts)) by.each) nothing_read in record {
+    let others : Lines = drop t.lines (lines_of bytes) in
+    let cut = cut_parts text rest by.texts others (ap lines_of (sym is) ∙ by.are) in
+    let all = cut_read s of goods by.texts others (ended (lines_of text)) (begun (lines_of text)) cut.0 cut.1 by.each cut.2 nothing_read in record {
       so_far = (some.0, some.1 ∙ ap (λ (l : List Item). l ++ some.0) (sym (so_far_is text)));
-      whole = λ same. (all.0, all.1 ∙ ap (λ (l : List Item). l ++ all.0) (sym (whole_is text by.texts (drop t.lines (lines_of bytes)) (ap lines_of same ∙ by.are))));
+      whole = (all.0, all.1 ∙ ap (λ (l : List Item). l ++ all.0) (sym (cut_is text)));
       all = λ same none.
           whole_is text by.texts (drop t.lines (lines_of bytes)) (ap lines_of same ∙ by.are)
           ∙ all_read s of goods by.texts by.each nothing_read (whole_good text by.texts (drop t.lines (lines_of bytes)) (ap lines_of same ∙ by.are) none);

@@ -120,7 +120,7 @@ close_by s e false hs he =
 close_printed : (w : Window) → IsPlainWindow w → print_from true (close_tokens w) ≡ close_part w
 close_printed w h = close_by w.shard w.arn w.closing (escape_unescaped w.shard h.shard) (escape_unescaped w.arn h.arn)
 
-members_end : (ms : Members) (c : Bool) → fold (λ _ u. ends u) c (members_tokens ms) ≡ true
+pub members_end : (ms : Members) (c : Bool) → fold (λ _ u. ends u) c (members_tokens ms) ≡ true
 members_end no_members c = refl
 members_end (member k j ms) c = fold-append (λ _ u. ends u) false (json_tokens j) (members_tokens ms) ∙ members_end ms (fold (λ _ u. ends u) false (json_tokens j))
 

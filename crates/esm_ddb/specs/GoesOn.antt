@@ -1,5 +1,6 @@
 -- What was turned of an input stays when it goes on.
-use Rattle.std.specs.Prelude.{◌≡◌, ℕ, List, ◌++◌, Some}
+use Rattle.std.specs.Prelude.{◌≡◌, ℕ, List, [], ◌++◌, Some}
+use Rattle.esm_record.specs.Input.{begun, ended, lines_of}
 use Rattle.esm_ddb.specs.Translation.{translation_of, translation_so_far}
 use Rattle.esm_ddb.specs.declared.error.DdbLine.{DdbLine}
 use Rattle.esm_ddb.specs.declared.source.Source.{Source}
@@ -12,3 +13,15 @@ pub record GoesOn (s : Source) (bytes more : List ℕ) : Type 0 where
 
 abbrev pub IsCarriedOn : Type 0
 IsCarriedOn = (s : Source) (bytes more : List ℕ) → GoesOn s bytes more
+
+-- the bytes up to the last line feed: those that come first, which have the lines that ended and none that has begun
+pub record UpToLastFeed (bytes : List ℕ) : Type 0 where
+  pub front : List ℕ
+  pub rest : List ℕ
+  pub parts : bytes ≡ front ++ rest
+  pub lines : ended (lines_of front) ≡ ended (lines_of bytes)
+  pub none_begun : begun (lines_of front) ≡ []
+
+-- what the ended lines of an input became is all that the bytes up to its last line feed become
+abbrev pub IsWholeOfFront : Type 0
+IsWholeOfFront = (s : Source) (bytes : List ℕ) → (up : UpToLastFeed bytes) × ((translation_of s up.front).text ≡ (translation_so_far s bytes).text)

@@ -1,4 +1,5 @@
 pub mod Attribute
+pub mod BatchEvents
 pub mod Change
 pub mod Element
 pub mod Event

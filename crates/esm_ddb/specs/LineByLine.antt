@@ -62,10 +62,11 @@ good_records s bytes = records_of s (take (translation_of s bytes).lines (lines_
 abbrev pub AreFirst : List Item → List Record → Type 0
 AreFirst items records = (more : List Item) × (map Stream records ≡ items ++ more)
 
--- of an input's text, or of its first bytes, the records of the input's good lines are read
+-- Of an input's text, or of its first bytes, the records of the input's good lines are read, also where those bytes are read as if no
+-- others followed: a line that is cut off is refused.
 pub record HasRecordsOf (s : Source) (bytes text : List ℕ) : Type 0 where
   pub so_far : AreFirst (input_so_far kinds.Stream text).items (good_records s bytes)
-  pub whole : text ≡ (translation_of s bytes).text → AreFirst (input_of kinds.Stream text).items (good_records s bytes)
+  pub whole : AreFirst (input_of kinds.Stream text).items (good_records s bytes)
   -- all of them where none is refused
   pub all : text ≡ (translation_of s bytes).text → (input_of kinds.Stream text).bad ≡ None → (input_of kinds.Stream text).items ≡ map Stream (good_records s bytes)
 

@@ -6,6 +6,7 @@ use Rattle.json.specs.Json as json
 use Rattle.json.specs.Lex.{tokens}
 use Rattle.serde_json.specs.Read.{max_depth, of_json}
 use Rattle.esm_model.specs.EventText.{event_text, state_text, window_part}
+use Rattle.esm_model.specs.State.{answered_state}
 use Rattle.esm_model.specs.Valid.{IsStreamConfig}
 use Rattle.esm_model.specs.declared.config.Config.{Config}
 use Rattle.esm_model.specs.declared.event.WindowCall.{WindowCall}
@@ -38,6 +39,10 @@ HasItsElements = (c : Config) (rs : List Record) (w : Option WindowCall) → IsS
 
 abbrev pub HasFirstState : Type 0
 HasFirstState = IsState (state_text [])
+
+-- and the state that a window has after a function's answer, whatever that is
+abbrev pub HasAnsweredState : Type 0
+HasAnsweredState = (body : List ℕ) → IsState (state_text (answered_state body))
 
 -- The changed event is no longer than the event, and so within the limit of events: an element is shorter than its base64.
 abbrev pub IsNoLonger : Type 0

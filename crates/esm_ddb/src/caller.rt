@@ -11,7 +11,8 @@ use std::alloc::Global;
 /// A caller over another, which it calls with the event of the DynamoDB stream's records. Its faults are those of the other.
 #[derive(Drop)]
 pub struct DdbCaller<F: Caller> {
-    inner: F,
+    /// The caller below.
+    pub inner: F,
 }
 
 impl<F: Caller> DdbCaller<F> {

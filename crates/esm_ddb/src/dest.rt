@@ -12,7 +12,8 @@ use std::alloc::Global;
 /// of its first `"KinesisBatchInfo":`, and a longer one as it is.
 #[derive(Drop)]
 pub struct DdbDest<T: Dest> {
-    inner: T,
+    /// The destination below.
+    pub inner: T,
     /// Room for the line that is delivered.
     room: Vec<u8>,
 }

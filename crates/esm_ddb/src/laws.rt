@@ -1,8 +1,10 @@
 //! What holds of every line that is turned and of every event, as contracts of functions that do nothing.
-ghost use Rattle.esm_ddb.specs.GoesOn.{IsCarriedOn};
+ghost use Rattle.esm_ddb.specs.BatchEvents.{AreStatesKept, AreStatesWhereNone, HaveTheirElements, HaveTheirElementsRunning};
+ghost use Rattle.esm_ddb.specs.GoesOn.{IsCarriedOn, IsWholeOfFront};
+ghost use Rattle.esm_ddb.specs.ItemText.{AreNamesInOrder};
 ghost use Rattle.esm_ddb.specs.LineByLine.{AreOfChanges, HasRecordsOfLines, IsTurnedLineByLine};
 ghost use Rattle.esm_ddb.specs.ReadsBack.{IsReadBack};
-ghost use Rattle.esm_ddb.specs.RunEvent.{HasFirstState, HasItsElements, HasSourceOfBytes, IsNoLonger};
+ghost use Rattle.esm_ddb.specs.RunEvent.{HasAnsweredState, HasFirstState, HasItsElements, HasSourceOfBytes, IsNoLonger};
 
 /// A line that is turned and is not blank reads back, as a line of a stream's input, as the record of the change that it tells.
 pub fn turned_reads_back()
@@ -33,4 +35,30 @@ pub fn event_has_its_elements()
     ensures first_state { HasFirstState }
     ensures length { IsNoLonger }
     ensures source { HasSourceOfBytes }
+{}
+
+/// The state that a window has after any answer of the function reads as an object, in an event too.
+pub fn answered_state_reads()
+    ensures { HasAnsweredState }
+{}
+
+/// In a run over records of changes the calls of each batcher are those of its history, in their order, each of exactly the elements
+/// of its batch; so is each call that still runs. Of a mapping with tumbling windows the states that were found at opening have to
+/// read as objects; where none was found they do, and where they do so does each that the run keeps.
+pub fn calls_have_their_elements()
+    ensures states { AreStatesWhereNone }
+    ensures kept { AreStatesKept }
+    ensures calls { HaveTheirElements }
+    ensures running { HaveTheirElementsRunning }
+{}
+
+/// An example of how an item's keys and images are written: the members stand in the order of their names' bytes, and of a name that
+/// stands twice the last value counts.
+pub fn names_are_in_order()
+    ensures { AreNamesInOrder }
+{}
+
+/// What the ended lines of an input became is all that its first bytes, up to its last line feed, become.
+pub fn ended_lines_are_whole()
+    ensures { IsWholeOfFront }
 {}

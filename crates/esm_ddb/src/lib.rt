@@ -1,5 +1,5 @@
 //! DynamoDB streams as the streams that the engine runs: a line becomes the line of a record, whose data is the element of an
-//! event; an event gets these elements; a failure line gets the stream's name; and the mapping of such a stream.
+//! event; an event gets these elements; a failure line gets the table's name; and the mapping of such a stream.
 //! Pure values, a caller and a destination over another, and the reading of a source; no device, clock or thread of its own.
 #![tactic(auto)]
 

@@ -91,12 +91,12 @@ left_came s h (inr left) =
     (ltb-true 0 (came_count h left.shard) (middle (has_windows s.config) (nat_lt 0 (came_count h left.shard)) (is_some (kept_state s h left.shard left.window)) left.outstanding))
     (came_of_all h left.shard)
 
-too_few : (begun records bound allowed calls : ℕ) → begun + records ≤ bound → bound ≤ calls → begun ≡ allowed → allowed ≡ calls → 0 < records → ⊥
+pub too_few : (begun records bound allowed calls : ℕ) → begun + records ≤ bound → bound ≤ calls → begun ≡ allowed → allowed ≡ calls → 0 < records → ⊥
 too_few begun records bound allowed calls within enough spent same some = omega (arith, within, enough, spent, same, some)
 
 -- the fields of a mapping that may run
 
-stream_fields : (c : Config) → IsConfigOf (is_stream c.kind) c → is_stream c.kind ≡ true → HasStreamFields c
+pub stream_fields : (c : Config) → IsConfigOf (is_stream c.kind) c → is_stream c.kind ≡ true → HasStreamFields c
 stream_fields c valid kind =
     let config : IsStreamConfig c = subst (λ (b : Bool). IsConfigOf b c) kind valid in
     subst (λ (k : Kind). HasFieldsOf k c) config.kind config.valid.fields
@@ -104,7 +104,7 @@ stream_fields c valid kind =
 -- why a run ended
 
 -- of a stream's mapping
-stream_status : {S D F : Type 0} (t : Telling D F) (f : FilesState D) (s : Setting) (h : List Entry) (i : InputState S) (items : List Item) (l : Option (List ℕ)) (new : Devices D F) (calls : ℕ) (e : MappingEnd)
+pub stream_status : {S D F : Type 0} (t : Telling D F) (f : FilesState D) (s : Setting) (h : List Entry) (i : InputState S) (items : List Item) (l : Option (List ℕ)) (new : Devices D F) (calls : ℕ) (e : MappingEnd)
     → IsFaultless t.disk f new → IsSome l → IsReadThrough i items
     → ((change : Change) → stream.IsCauseOf t f s h (records_in_items (handed i)) i.end l new (end.Changed change) → ⊥)
     → ((why : InputEnd) → i.end ≡ Some why → stream.AllCame s h (records_in_items (handed i)) → 0 < record_count h → calls_begun h ≡ s.calls → ⊥)

@@ -36,6 +36,7 @@ pub mod ReplaySettings
 pub mod OneReplay
 pub mod OneRedrive
 pub mod ReadThrough
+pub mod CompleteDdb
 pub mod CompleteRedrive
 pub mod CompleteRun
 pub mod OneOutcome

@@ -9,6 +9,7 @@ use Rattle.esm_run.specs.Asks.{IsRegistryLeft}
 use Rattle.esm_run.specs.Built.{SpellsBuilt}
 use Rattle.esm_run.specs.Completes as run
 use Rattle.esm_run.specs.Ddb.{DdbOutcome, IsDdbCut}
+use Rattle.esm_run.specs.DdbCompletes as ddb
 use Rattle.esm_run.specs.Generated.{GenOutcome, IsGenCut}
 use Rattle.esm_run.specs.Redrive.{IsRedriveCut, MayComplete, RedriveOutcome}
 use Rattle.esm_run.specs.Replay.{IsReplayCut, ReplayOutcome}
@@ -79,6 +80,7 @@ pub record NoneFailed {S K D C F L N : Type 0} (t : DevicesTell S K D F L N) (wo
 abbrev pub Completes : {S K D C F L N : Type 0} → DevicesTell S K D F L N → Command → (old new : World S K D C F L) → (status : ℕ) → Type 0
 Completes t (Run r) old new status = (run.MayComplete (of_run t) r (history new) (seen old) → status ≡ 0) × (run.MayFinish (of_run t) r (seen old) → (status ≡ 0) ⊎ (status ≡ 1))
 Completes t (Redrive config receives calls visibility timeout traced) old new status = MayComplete (of_run t) (redrive_words config receives calls visibility timeout traced) (seen old) → status ≡ 0
+Completes t (Ddb config calls timeout traced) old new status = ddb.MayComplete (of_run t) config calls (history new) (seen old) → status ≡ 0
 Completes t _ old new status = Unit {0}
 
 -- so does the command that the words spell

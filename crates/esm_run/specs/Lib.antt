@@ -15,6 +15,7 @@ pub mod Reports
 pub mod Redrive
 pub mod Replay
 pub mod Completes
+pub mod DdbCompletes
 pub mod Under
 pub mod Commands
 pub mod Asked

@@ -6,6 +6,7 @@ use Rattle.esm_journal_state.specs.Meaning.{history}
 use Rattle.esm_run.specs.Commands.{Completes, IsLeft, redrive_words}
 use Rattle.esm_run.specs.Tended.{command_of}
 use Rattle.esm_run.specs.World.{devices, history as told_history, of_run, output, seen}
+use Rattle.esm_run.proofs.CompleteDdb.{complete_ddb}
 use Rattle.esm_run.proofs.CompleteRedrive.{complete_redrive, files_complete}
 use Rattle.esm_run.proofs.CompleteRun.{complete_run}
 use Rattle.esm_run.proofs.Cuts.{left_alone, stopped_alone, stopped_at, untouched_alone}
@@ -298,7 +299,22 @@ pub returns-in-Ddb-clause-complete : goal.returns-in-Ddb-clause-complete
 returns-in-Ddb-clause-complete g c = λ known none d spelled.
     let t = devices g.C.Clock g.F.Caller g.D.Disk g.S.Source g.K.Sink g.L.Door g.L.Conn.Link in
     by_command (λ d. Completes t d c.args.world c.ddb.result.world c.ddb.result.status) (map string_bytes c.args.words.now) (Ddb c.in-Ddb.config c.in-Ddb.calls c.in-Ddb.timeout c.in-Ddb.trace) c.one_command.ensures c.in-Ddb.ensures
-    tt d spelled
+    (complete_ddb (of_run t) c.in-Ddb.config c.in-Ddb.calls c.in-Ddb.trace (output t c.args.world c.ddb.result.world) (told_history c.ddb.result.world) (seen c.args.world) (seen c.ddb.result.world) c.ddb.result.status
+    (record {
+      one_command = c.one_command.ensures;
+      whole_goes_on = c.whole_goes_on.ensures;
+      same_told = λ t u payloads. c.same_told.ensures t u (history payloads) (history payloads);
+      one_answer = record {
+        one_mapping = c.one_answer.ensures.one_mapping;
+        no_reason = c.one_answer.ensures.no_reason;
+        one_reason = c.one_answer.ensures.one_reason;
+      };
+      one_expected = record {
+        one_mapping = c.one_expected.ensures.one_mapping;
+        no_reason = c.one_expected.ensures.no_reason;
+        one_reason = c.one_expected.ensures.one_reason;
+      };
+    }) c.bound_is_not_reached.ensures (none.command (Ddb c.in-Ddb.config c.in-Ddb.calls c.in-Ddb.timeout c.in-Ddb.trace) c.in-Ddb.ensures) none.output_told (c.ddb.ensures.outcome known)) d spelled
 
 pub returns-in-Ddb-clause-bad_words : goal.returns-in-Ddb-clause-bad_words
 returns-in-Ddb-clause-bad_words g c = λ bad. absurd (c.ddb.ensures.good_words bad)
