@@ -21,8 +21,9 @@ use Rattle.esm_model.proofs.Histories.{no_repeat_of_legal, order_of_legal}
 use Rattle.esm_journal_state.specs.declared.kept.KeptFate.{KeptFate}
 use Rattle.esm_journal_state.specs.Meaning.{fate_said, history}
 use Rattle.esm_journal_state.proofs.KeptFates.{checkpoint_kept}
-use Rattle.esm_life.specs.Life.{Run, Stage, Ran, Replay, Rewritten, content, IsRunOver, SaysTheSame, IsLife, recorded_fate, FateStays, EachIsEarned, NoneIsCalledAgain, KeysInOrder, CheckpointStays, CheckpointIsRuns}
+use Rattle.esm_life.specs.Life.{Run, Stage, Ran, Replay, Rewritten, content, IsRecorded, IsRunOver, SaysTheSame, IsLife, recorded_fate, FateStays, EachIsEarned, NoneIsCalledAgain, KeysInOrder, CheckpointStays, CheckpointIsRuns}
 use Rattle.esm_history.proofs.GoesOn.{fate_found, fates_after}
+use Rattle.esm_queue_life.proofs.Lives.{IsFrontOrMore, happened_before}
 use Rattle.esm_life.specs.ReplayLaws.{AreReplayLaws}
 use Rattle.esm_life.proofs.ReplayLives.{replay_fate}
 
@@ -92,13 +93,19 @@ gave_it (Closed at w m ∷ h) n i f is = more_given (Closed at w m) h n i f (gav
 gave_it (Replayed k places m ∷ h) n i f is = more_given (Replayed k places m) h n i f (gave_it h n i f is)
 gave_it (Shut m ∷ h) n i f is = more_given (Shut m) h n i f (gave_it h n i f is)
 
+front_or_more : (happened recorded : List Entry) → IsRecorded happened recorded → IsFrontOrMore happened recorded
+front_or_more happened recorded (inl front) = inl front
+front_or_more happened recorded (inr has) = inr (has.hand, has.before, has.later, has.recorded_is, has.happened_is)
+
 pub earned : (r : Run) (before : List Stage) → IsLife (Ran r ∷ before) → EachIsEarned r before
 earned r before life n i f none is =
     let now : given r.recorded n i ≡ Some f = sym (run_fate r before life.1 n i ∙ ap (λ o. option_or o (given r.recorded n i)) none) ∙ is in
     let gave = gave_it r.recorded n i f now in
+    let front = happened_before r.happened r.recorded gave.later gave.before (Gave gave.by n gave.places f gave.line gave.state gave.moment) (front_or_more r.happened r.recorded life.1.kept) gave.is in
     record {
       later = gave.later;
       before = gave.before;
+      lost = front.0;
       by = gave.by;
       places = gave.places;
       line = gave.line;
@@ -106,6 +113,7 @@ earned r before life n i f none is =
       moment = gave.moment;
       gave = gave.is;
       named = gave.named;
+      happened = front.1;
       earned = earned_of_legal r.setting r.recorded life.1.legal_recorded gave.later gave.before gave.by n gave.places f gave.line gave.state gave.moment gave.is;
     }
 

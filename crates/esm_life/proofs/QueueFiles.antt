@@ -1,11 +1,12 @@
 -- What the files hold after a run of a queue is what a further stage of its life leaves.
-use Rattle.std.proofs.Common.{◌≡◌, ◌∙◌, ◌+◌, ℕ, ◌≤◌, Bool, List, [], ◌∷◌, ◌++◌, length, Option, Some, None, ap, ap₂, append-nil, arith, inl, inr, refl, subst, sym}
+use Rattle.std.proofs.Common.{◌≡◌, ◌∙◌, ◌+◌, ℕ, ◌≤◌, Bool, true, List, [], ◌∷◌, ◌++◌, length, Option, Some, None, ap, ap₂, append-nil, arith, inl, inr, refl, subst, sym}
 use Rattle.std.specs.Prelude.{filter_map, reverse}
 use Rattle.std.specs.List.{cons_option}
 use Rattle.std.proofs.lemmas.List.{reverse-reverse}
 use Rattle.esm_io.specs.Meanings.{DiskMeaning}
 use Rattle.esm_folder.specs.declared.disks.Disks.{Disks as FolderDisks}
 use Rattle.esm_folder.specs.Init.{fresh_bytes}
+use Rattle.esm_folder.specs.Upkeep.{AreHonest}
 use Rattle.esm_journal.specs.File.{header_of, Holding, Opening, opened as file_opened}
 use Rattle.esm_journal.specs.Pair.{PairOpensTo, pair_opened}
 use Rattle.esm_journal.specs.State.{OpensTo}
@@ -21,13 +22,16 @@ use Rattle.esm_queue_model.proofs.QueueHistories.{legal_before}
 use Rattle.esm_queue_life.specs.Life.{IsRecorded, IsRunOver, Ran, Stage, content, dead_lines}
 use Rattle.esm_redrive_life.specs.Content.{content_after}
 use Rattle.esm_runner.specs.Files.{FilesState}
-use Rattle.esm_runner.specs.Headline.{Devices}
-use Rattle.esm_runner.specs.QueueHeadline.{HandFollows, LegalOver}
+use Rattle.esm_queue_book.specs.Books.{OpensToFirst, payloads_in}
+use Rattle.esm_runner.specs.Given.{AreGiven}
+use Rattle.esm_runner.specs.Headline.{Devices, telling}
+use Rattle.esm_runner.specs.QueueHeadline.{HandFollows, HandIsGiven, Headline, LegalOver}
 use Rattle.esm_workers.specs.Working.{Outside}
+use Rattle.esm_life.specs.Left.{AreLinesLeft, ArePairLeft}
 use Rattle.esm_life.specs.QueueLaws.{AreQueueLaws}
 use Rattle.esm_life.specs.Queues.{GoesOnWithStage, HasRunOver, IsCompactedLife, IsFoundAgain, IsLeftByStage, IsLifeBegun, IsMigratedLife, IsMigratingLife, IsSameLife, IsWholeStage, KeepsLawsInLife, OpensToLife, stage_of}
 use Rattle.esm_life.proofs.QueueStages.{laws_kept}
-use Rattle.esm_life.proofs.RedriveFiles.{few_in_hand, of_others, all_texts, reversed, settled_so}
+use Rattle.esm_life.proofs.RedriveFiles.{few_in_hand, given_before, of_others, all_texts, reversed, settled_so}
 
 -- the first texts are those of the first entries
 
@@ -61,7 +65,8 @@ first_texts text (e ∷ es) (line ∷ front) rest split = texts_step text e es l
 
 -- what the journal kept
 
-pub record IsKeptOf (s : QueueSetting) (h front kept : List Entry) : Type 0 where
+pub record IsKeptOf (gave : ℕ → Bool) (s : QueueSetting) (h front kept : List Entry) : Type 0 where
+  pub moments : AreGiven gave kept
   pub legal : LegalQueue s kept
   pub recorded : IsRecorded h kept
   pub texts : filter_map (queue_payload s.messages) front ≡ filter_map (queue_payload s.messages) (reverse kept)
@@ -69,38 +74,44 @@ pub record IsKeptOf (s : QueueSetting) (h front kept : List Entry) : Type 0 wher
 legal_here : (s : QueueSetting) (h : List Entry) → LegalOver s h → LegalQueue s h
 legal_here s h legal = legal s.messages (λ i x at. at)
 
-of_front : (s : QueueSetting) (h front lost : List Entry) → LegalQueue s h → lost ++ reverse front ≡ h → IsKeptOf s h front (reverse front)
-of_front s h front lost legal split = record {
+of_front : (gave : ℕ → Bool) (s : QueueSetting) (h front lost : List Entry) → AreGiven gave h → LegalQueue s h → lost ++ reverse front ≡ h → IsKeptOf gave s h front (reverse front)
+of_front gave s h front lost moments legal split = record {
+  moments = given_before gave lost (reverse front) (subst (AreGiven gave) (sym split) moments);
   legal = legal_before s lost (reverse front) (subst (LegalQueue s) (sym split) legal);
   recorded = inl (lost, sym split);
   texts = ap (filter_map (queue_payload s.messages)) (sym (reverse-reverse front));
 }
 
-at_split : (s : QueueSetting) (h front rest lost : List Entry) (e : Entry) → LegalQueue s h → HandFollows s h (e ∷ []) → lost ≡ reverse rest → front ++ rest ≡ reverse h ++ e ∷ [] → lost ++ reverse front ≡ e ∷ h
-    → (kept : List Entry) × IsKeptOf s h front kept
-at_split s h front rest [] e legal follows is split back =
+at_split : (gave : ℕ → Bool) (s : QueueSetting) (h front rest lost : List Entry) (e : Entry) → AreGiven gave h → LegalQueue s h → (follows : HandFollows s h (e ∷ [])) → HandIsGiven gave s h (e ∷ []) follows → lost ≡ reverse rest → front ++ rest ≡ reverse h ++ e ∷ [] → lost ++ reverse front ≡ e ∷ h
+    → (kept : List Entry) × IsKeptOf gave s h front kept
+at_split gave s h front rest [] e moments legal follows given is split back =
     let none : rest ≡ [] = sym (reverse-reverse rest) ∙ ap reverse (sym is) in
     let all : front ≡ reverse h ++ e ∷ [] = sym (append-nil front) ∙ (ap (λ (k : List Entry). front ++ k) (sym none) ∙ split) in
     let to = follows e refl in (
       e ∷ to.before,
       record {
+        moments = (given_before gave to.later to.before (subst (AreGiven gave) to.split moments), given e refl);
         legal = legal_here s (e ∷ to.before) to.follows;
         recorded = inr (record { hand = e; before = to.before; later = to.later; recorded_is = refl; happened_is = to.split; ends = to.ends });
         texts = ap (filter_map (queue_payload s.messages)) all ∙ all_texts (queue_payload s.messages) (of_others s.messages) h to.later to.before e to.split to.ends;
       },
     )
-at_split s h front rest (l ∷ lost) e legal follows is split back =
+at_split gave s h front rest (l ∷ lost) e moments legal follows given is split back =
     let cut : lost ++ reverse front ≡ h = (let whole : l ∷ (lost ++ reverse front) ≡ e ∷ h = back in cc) in
-    (reverse front, of_front s h front lost legal cut)
+    (reverse front, of_front gave s h front lost moments legal cut)
 
-kept_of : (s : QueueSetting) (h hand front rest : List Entry) → LegalQueue s h → HandFollows s h hand → length hand ≤ 1 → front ++ rest ≡ reverse h ++ hand → (kept : List Entry) × IsKeptOf s h front kept
-kept_of s h [] front rest legal follows few split = (reverse front, of_front s h front (reverse rest) legal (reversed h [] front rest split))
-kept_of s h (e ∷ []) front rest legal follows few split = at_split s h front rest (reverse rest) e legal follows refl split (reversed h (e ∷ []) front rest split)
-kept_of s h (e ∷ (another ∷ more)) front rest legal follows few split = absurd (omega (arith, few))
+kept_of : (gave : ℕ → Bool) (s : QueueSetting) (h hand front rest : List Entry) → AreGiven gave h → LegalQueue s h → (follows : HandFollows s h hand) → HandIsGiven gave s h hand follows → length hand ≤ 1 → front ++ rest ≡ reverse h ++ hand → (kept : List Entry) × IsKeptOf gave s h front kept
+kept_of gave s h [] front rest moments legal follows given few split = (reverse front, of_front gave s h front (reverse rest) moments legal (reversed h [] front rest split))
+kept_of gave s h (e ∷ []) front rest moments legal follows given few split = at_split gave s h front rest (reverse rest) e moments legal follows given refl split (reversed h (e ∷ []) front rest split)
+kept_of gave s h (e ∷ (another ∷ more)) front rest moments legal follows given few split = absurd (omega (arith, few))
 
 -- the laws of one run
 
-module _ {D F : Type 0} (m : DiskMeaning D) (callers : Outside F) (line : List ℕ → List ℕ) (config : Config) (calls visibility : ℕ) (f : FilesState D) (messages : List Message) (s : QueueSetting) (h : List Entry) (trouble : Option Trouble) (hand : List Entry) (new : Devices D F) where
+-- since now an honest disk has no image but those of now
+abbrev pub OnlyNow : {D : Type 0} → DiskMeaning D → Type 0
+OnlyNow {D} m = (disk : D) (bytes : List ℕ) → m.honest disk ≡ true → m.since disk (m.moment disk) bytes → m.image disk bytes
+
+module _ {D F : Type 0} (m : DiskMeaning D) (only_now : OnlyNow m) (callers : Outside F) (line : List ℕ → List ℕ) (config : Config) (calls visibility : ℕ) (f : FilesState D) (messages : List Message) (s : QueueSetting) (h : List Entry) (trouble : Option Trouble) (hand : List Entry) (new : Devices D F) where
   abbrev of_kind : Bool
   of_kind = is_fifo config.kind
 
@@ -114,19 +125,35 @@ module _ {D F : Type 0} (m : DiskMeaning D) (callers : Outside F) (line : List �
     kept = kept;
   }
 
+  -- the first payloads of what happened stand in what a crash leaves of the journal, whenever it comes
+  first_left : Headline (telling callers m line) f s h trouble hand new → (one other : List ℕ) → AreHonest m f.journal f.spare → ArePairLeft m f new.journal new.spare one other
+      → OpensToFirst f.pair.epoch f.pair.payloads (payloads_in s.messages (reverse h ++ hand)) one other
+  first_left head one other honest (inl start) = head.crash honest start.settled one other start.journal_since start.spare_since
+  first_left head one other honest (inr opening) = head.crash_since_opening honest one other opening.journal_since opening.spare_since
+
+  -- and the dead letters that were found
+  lines_stay : HasRunOver m callers line config calls visibility f messages s h trouble hand new → (bytes : List ℕ) → m.honest f.failures ≡ true → AreLinesLeft m f new.failures bytes → OpensTo (header_of 1) f.dest.payloads bytes
+  lines_stay run bytes honest (inl start) =
+      subst (OpensTo (header_of 1) f.dest.payloads) (sym (start.settled bytes ((run.headline.failures_read.any_moment honest).each bytes start.since))) (run.opened.opens_lines honest)
+  lines_stay run bytes honest (inr since) =
+      let found : m.honest f.dest.disk ≡ true = run.opened.lines_read.honesty ∙ honest in
+      let keeps = run.opened.lines_kept found run.opened.dest_up in
+      let now : m.image f.dest.disk bytes = only_now f.dest.disk bytes found (subst (λ (d : D). m.since d (m.moment f.dest.disk) bytes) run.headline.failures_same since) in
+      subst (OpensTo (header_of 1) f.dest.payloads) (sym (keeps.durable bytes now)) keeps.opens
+
   pub of_stage : (one other bytes : List ℕ) → IsLeftByStage m callers line config calls visibility f messages s h trouble hand new one other bytes
   of_stage one other bytes run may =
       let head = run.headline in
-      let o = head.crash may.honest may.settled one other may.journal_since may.spare_since in
+      let o = first_left head one other may.honest may.left in
       let first = first_texts (queue_payload s.messages) (reverse h ++ hand) o.front o.rest o.split in
-      let kept = kept_of s h hand first.front first.rest (legal_here s h head.legal_trace) head.hand_follows (few_in_hand trouble hand head.in_hand) first.split in
-      let image : m.image f.failures bytes = (head.failures_read.any_moment may.honest_lines).each bytes may.lines_since in (
+      let kept = kept_of callers.gave s h hand first.front first.rest head.moments (legal_here s h head.legal_trace) head.hand_follows head.hand_given (few_in_hand trouble hand head.in_hand) first.split in (
         record {
           recorded = kept.0;
+          moments = kept.1.moments;
           run_over = run_over run kept.0 kept.1.legal kept.1.recorded;
           content_is = subst (λ (payloads : List (List ℕ)). PairOpensTo (header_of 2) f.pair.epoch (f.pair.payloads ++ payloads) one other) (sym first.are ∙ kept.1.texts) o.opens;
         },
-        subst (OpensTo (header_of 1) f.dest.payloads) (sym (may.settled_lines bytes image)) (run.opened.opens_lines may.honest_lines),
+        lines_stay run bytes may.honest_lines may.lines_left,
       )
 
   pub of_whole : IsWholeStage m callers line config calls visibility f messages s h trouble hand new
@@ -141,6 +168,7 @@ module _ {D F : Type 0} (m : DiskMeaning D) (callers : Outside F) (line : List �
       let left = of_stage one other bytes run may in
       record {
         recorded = left.0.recorded;
+        moments = left.0.moments;
         opens = record {
           is_life = (found.is_life, subst (IsRunOver of_kind (stage_of s h left.0.recorded)) found.content_is left.0.run_over);
           content_is = subst (λ (old : List (List ℕ)). pair_opened (header_of 2) one other ≡ Holding f.pair.epoch (content_after s left.0.recorded old)) found.content_is left.0.content_is.0;

@@ -9,6 +9,7 @@ laws_kept laws fifo stage r life is own = record {
   deletions_stay = laws.stays fifo (stage ∷ []) life is;
   each_deleted_once = laws.once fifo (stage ∷ life) is;
   deletions_are_recorded = laws.recorded fifo stage r life is own;
+  ids_are_kept = laws.ids fifo stage r life is own;
   none_is_called_again = laws.called fifo stage r life is own;
   groups_in_order = λ in_groups. laws.order stage r life (subst (λ (b : Bool). IsLife b (stage ∷ life)) in_groups is) own;
   goes_on = λ later next between next_life rewritten next_own. laws.goes_on fifo later stage next r between life next_life rewritten next_own own;

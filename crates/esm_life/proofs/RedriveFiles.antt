@@ -19,7 +19,7 @@ use Rattle.esm_model.specs.declared.entry.Entry.{Entry}
 use Rattle.esm_model.specs.declared.entry.Entry.TheVariants.{Came, Began, Ended, Gave, Tried, Closed, Replayed, Shut}
 use Rattle.esm_model.specs.declared.item.Message.{Message}
 use Rattle.esm_model.specs.Books.{entry_line, lines_of}
-use Rattle.esm_model.specs.Entries.{holds}
+use Rattle.esm_model.specs.Entries.{holds, moment_of}
 use Rattle.esm_queue_model.specs.QueueSetting.{is_fifo}
 use Rattle.esm_queue_book.specs.Books.{payloads_in}
 use Rattle.esm_queue_life.specs.Life.{Redriven, Stage, content, dead_lines}
@@ -29,9 +29,11 @@ use Rattle.esm_redrive_life.specs.Life.{IsRedriveOver}
 use Rattle.esm_redrive_model.specs.Due.{lined_places, moved_places}
 use Rattle.esm_redrive_model.specs.RedriveSetting.{RedriveSetting}
 use Rattle.esm_runner.specs.Files.{FilesState}
+use Rattle.esm_runner.specs.Given.{AreGiven, IsGiven}
 use Rattle.esm_runner.specs.Headline.{IsInHand}
-use Rattle.esm_redrive_run.specs.Headline.{Disks, Headline, LinesKept, LinesStopped, Words, dead_letters}
+use Rattle.esm_redrive_run.specs.Headline.{Disks, Headline, LinesKept, LinesStopped, OpensToFrontOf, Words, dead_letters}
 use Rattle.esm_redrive_run.specs.Stages.{IsLeftOf, IsStage}
+use Rattle.esm_life.specs.Left.{ArePairLeft}
 use Rattle.esm_life.specs.QueueLaws.{AreQueueLaws}
 use Rattle.esm_life.specs.Redrives.{GoesOnWithStage, IsLeftByStage, IsLeftWhole, IsWholeStage, KeepsLawsInLife, LeftBy, MayBeLeft, run_in, stage_of}
 use Rattle.esm_life.proofs.QueueStages.{laws_kept}
@@ -102,7 +104,17 @@ places_stay (e ∷ lost) kept i at = holds_more (moved_places (lost ++ kept)) (l
 abbrev Follows : RedriveSetting → (h further : List Entry) → Type 0
 Follows s h further = (e : Entry) → further ≡ e ∷ [] → FollowsFront s h e
 
-pub record IsWritten (s : RedriveSetting) (h further kept : List Entry) : Type 0 where
+-- behind which the clock gave its moment
+abbrev FollowsGiven : (ℕ → Bool) → (s : RedriveSetting) (h further : List Entry) → Follows s h further → Type 0
+FollowsGiven gave s h further follows = (e : Entry) (some : further ≡ e ∷ []) → IsGiven gave (follows e some).before (moment_of e)
+
+-- the clock gave the moments of each front of what it gave the moments of
+pub given_before : (gave : ℕ → Bool) (lost kept : List Entry) → AreGiven gave (lost ++ kept) → AreGiven gave kept
+given_before gave [] kept all = all
+given_before gave (e ∷ lost) kept all = given_before gave lost kept all.0
+
+pub record IsWritten (gave : ℕ → Bool) (s : RedriveSetting) (h further kept : List Entry) : Type 0 where
+  pub moments : AreGiven gave kept
   pub left : IsLeftOf s h further kept
   pub texts : (text : Entry → Option (List ℕ)) → IsOfOthers text → filter_map text (reverse h ++ further) ≡ filter_map text (reverse kept)
   pub places : (i : ℕ) → IsTrue (holds (moved_places h) i) → IsTrue (holds (moved_places kept) i)
@@ -115,8 +127,9 @@ all_texts text others h later before e split ends =
     ∙ (ap (λ (ts : List (List ℕ)). ts ++ cons_option (text e) []) (ap (λ (k : List Entry). filter_map text (reverse k)) split ∙ same_texts text others later before ends)
     ∙ sym (added text e before))
 
-whole_one : (s : RedriveSetting) (h : List Entry) (e : Entry) (front : FollowsFront s h e) → IsWritten s h (e ∷ []) (e ∷ front.before)
-whole_one s h e front = record {
+whole_one : (gave : ℕ → Bool) (s : RedriveSetting) (h : List Entry) (e : Entry) (front : FollowsFront s h e) → AreGiven gave h → IsGiven gave front.before (moment_of e) → IsWritten gave s h (e ∷ []) (e ∷ front.before)
+whole_one gave s h e front moments given = record {
+  moments = (given_before gave front.later front.before (subst (AreGiven gave) front.split moments), given);
   left = inr (e, refl, (front, refl));
   texts = λ text others. all_texts text others h front.later front.before e front.split front.ends;
   places = λ i at.
@@ -124,29 +137,32 @@ whole_one s h e front = record {
       (subst (λ (places : List ℕ). IsTrue (holds places i)) (ap moved_places front.split ∙ same_places front.later front.before front.ends) at);
 }
 
-whole : (s : RedriveSetting) (h further : List Entry) → Follows s h further → length further ≤ 1 → (kept : List Entry) × IsWritten s h further kept
-whole s h [] follows few = (h, record { left = inl ([], refl); texts = λ text others. ap (filter_map text) (append-nil (reverse h)); places = λ i at. at })
-whole s h (e ∷ []) follows few = ((e ∷ (follows e refl).before), whole_one s h e (follows e refl))
-whole s h (e ∷ (another ∷ more)) follows few = absurd (omega (arith, few))
+whole : (gave : ℕ → Bool) (s : RedriveSetting) (h further : List Entry) → AreGiven gave h → (follows : Follows s h further) → FollowsGiven gave s h further follows → length further ≤ 1 → (kept : List Entry) × IsWritten gave s h further kept
+whole gave s h [] moments follows given few = (h, record { moments = moments; left = inl ([], refl); texts = λ text others. ap (filter_map text) (append-nil (reverse h)); places = λ i at. at })
+whole gave s h (e ∷ []) moments follows given few = ((e ∷ (follows e refl).before), whole_one gave s h e (follows e refl) moments (given e refl))
+whole gave s h (e ∷ (another ∷ more)) moments follows given few = absurd (omega (arith, few))
 
 -- what is left by the first of them
 
-pub record IsFront (s : RedriveSetting) (h further all front kept : List Entry) : Type 0 where
+pub record IsFront (gave : ℕ → Bool) (s : RedriveSetting) (h further all front kept : List Entry) : Type 0 where
+  pub moments : AreGiven gave kept
   pub left : IsLeftOf s h further kept
   pub texts : (text : Entry → Option (List ℕ)) → IsOfOthers text → filter_map text front ≡ filter_map text (reverse kept)
   pub places : (i : ℕ) → IsTrue (holds (moved_places kept) i) → IsTrue (holds (moved_places all) i)
 
 -- a front of the history
-of_history : (s : RedriveSetting) (h further all front lost : List Entry) → h ≡ lost ++ reverse front → IsWritten s h further all → IsFront s h further all front (reverse front)
-of_history s h further all front lost split written = record {
+of_history : (gave : ℕ → Bool) (s : RedriveSetting) (h further all front lost : List Entry) → AreGiven gave h → h ≡ lost ++ reverse front → IsWritten gave s h further all → IsFront gave s h further all front (reverse front)
+of_history gave s h further all front lost moments split written = record {
+  moments = given_before gave lost (reverse front) (subst (AreGiven gave) split moments);
   left = inl (lost, split);
   texts = λ text others. ap (filter_map text) (sym (reverse-reverse front));
   places = λ i at. written.places i (subst (λ (k : List Entry). IsTrue (holds (moved_places k) i)) (sym split) (places_stay lost (reverse front) i at));
 }
 
 -- or all of them
-of_all : (s : RedriveSetting) (h further all front : List Entry) → front ≡ reverse h ++ further → IsWritten s h further all → IsFront s h further all front all
-of_all s h further all front is written = record {
+of_all : (gave : ℕ → Bool) (s : RedriveSetting) (h further all front : List Entry) → front ≡ reverse h ++ further → IsWritten gave s h further all → IsFront gave s h further all front all
+of_all gave s h further all front is written = record {
+  moments = written.moments;
   left = written.left;
   texts = λ text others. ap (filter_map text) is ∙ written.texts text others;
   places = λ i at. at;
@@ -156,19 +172,19 @@ pub reversed : (h further front rest : List Entry) → front ++ rest ≡ reverse
 reversed h further front rest split =
     sym (reverse-append front rest) ∙ (ap reverse split ∙ (reverse-append (reverse h) further ∙ ap (λ (k : List Entry). reverse further ++ k) (reverse-reverse h)))
 
-split_at : (s : RedriveSetting) (h all front rest lost : List Entry) (e : Entry) → lost ≡ reverse rest → front ++ rest ≡ reverse h ++ e ∷ [] → lost ++ reverse front ≡ e ∷ h → IsWritten s h (e ∷ []) all
-    → (kept : List Entry) × IsFront s h (e ∷ []) all front kept
-split_at s h all front rest [] e is split back written =
+split_at : (gave : ℕ → Bool) (s : RedriveSetting) (h all front rest lost : List Entry) (e : Entry) → AreGiven gave h → lost ≡ reverse rest → front ++ rest ≡ reverse h ++ e ∷ [] → lost ++ reverse front ≡ e ∷ h → IsWritten gave s h (e ∷ []) all
+    → (kept : List Entry) × IsFront gave s h (e ∷ []) all front kept
+split_at gave s h all front rest [] e moments is split back written =
     let none : rest ≡ [] = sym (reverse-reverse rest) ∙ ap reverse (sym is) in
-    (all, of_all s h (e ∷ []) all front (sym (append-nil front) ∙ (ap (λ (k : List Entry). front ++ k) (sym none) ∙ split)) written)
-split_at s h all front rest (l ∷ lost) e is split back written =
+    (all, of_all gave s h (e ∷ []) all front (sym (append-nil front) ∙ (ap (λ (k : List Entry). front ++ k) (sym none) ∙ split)) written)
+split_at gave s h all front rest (l ∷ lost) e moments is split back written =
     let cut : lost ++ reverse front ≡ h = (let whole : l ∷ (lost ++ reverse front) ≡ e ∷ h = back in cc) in
-    (reverse front, of_history s h (e ∷ []) all front lost (sym cut) written)
+    (reverse front, of_history gave s h (e ∷ []) all front lost moments (sym cut) written)
 
-part : (s : RedriveSetting) (h further all front rest : List Entry) → length further ≤ 1 → front ++ rest ≡ reverse h ++ further → IsWritten s h further all → (kept : List Entry) × IsFront s h further all front kept
-part s h [] all front rest few split written = (reverse front, of_history s h [] all front (reverse rest) (sym (reversed h [] front rest split)) written)
-part s h (e ∷ []) all front rest few split written = split_at s h all front rest (reverse rest) e refl split (reversed h (e ∷ []) front rest split) written
-part s h (e ∷ (another ∷ more)) all front rest few split written = absurd (omega (arith, few))
+part : (gave : ℕ → Bool) (s : RedriveSetting) (h further all front rest : List Entry) → AreGiven gave h → length further ≤ 1 → front ++ rest ≡ reverse h ++ further → IsWritten gave s h further all → (kept : List Entry) × IsFront gave s h further all front kept
+part gave s h [] all front rest moments few split written = (reverse front, of_history gave s h [] all front (reverse rest) moments (sym (reversed h [] front rest split)) written)
+part gave s h (e ∷ []) all front rest moments few split written = split_at gave s h all front rest (reverse rest) e moments refl split (reversed h (e ∷ []) front rest split) written
+part gave s h (e ∷ (another ∷ more)) all front rest moments few split written = absurd (omega (arith, few))
 
 -- the files
 
@@ -188,42 +204,46 @@ none_or_all (e ∷ (another ∷ front)) rest tried split few =
     absurd (let less : suc (suc (length (front ++ rest))) ≤ 1 = subst (λ (es : List Entry). length es ≤ 1) (sym split) few in omega (arith, less))
 
 -- the lines that an image of the dead-letter file has; each place that these entries moved has its line there
-pub record HasLines {D : Type 0} (f : FilesState D) (s : RedriveSetting) (h hand tried all : List Entry) (bytes : List ℕ) : Type 0 where
+pub record HasLines {D : Type 0} (gave : ℕ → Bool) (f : FilesState D) (s : RedriveSetting) (h hand tried all : List Entry) (bytes : List ℕ) : Type 0 where
   pub lined : List Entry
+  pub moments : AreGiven gave lined
   pub left : IsLeftOf s h hand lined ⊎ IsLeftOf s h tried lined
   pub places : (i : ℕ) → IsTrue (holds (moved_places all) i) → IsTrue (holds (moved_places lined) i)
   pub opens : OpensTo (header_of 1) (f.dest.payloads ++ lines_of lined) bytes
 
-lines_kept : {D : Type 0} (m : DiskMeaning D) (f : FilesState D) (s : RedriveSetting) (h hand tried all : List Entry) (new : Disks D) (one other bytes : List ℕ) → MayBeLeft m f new one other bytes
-    → IsWritten s h hand all → LinesKept m f (dead_letters (reverse h ++ hand)) new → HasLines f s h hand tried all bytes
-lines_kept m f s h hand tried all new one other bytes may written kept =
+lines_kept : {D : Type 0} (m : DiskMeaning D) (gave : ℕ → Bool) (f : FilesState D) (s : RedriveSetting) (h hand tried all : List Entry) (new : Disks D) (one other bytes : List ℕ) → MayBeLeft m f new one other bytes
+    → IsWritten gave s h hand all → LinesKept m f (dead_letters (reverse h ++ hand)) new → HasLines gave f s h hand tried all bytes
+lines_kept m gave f s h hand tried all new one other bytes may written kept =
     let keeps = kept may.honest_lines in
     let now : OpensTo (header_of 1) (f.dest.payloads ++ dead_letters (reverse h ++ hand)) bytes =
     subst (OpensTo (header_of 1) (f.dest.payloads ++ dead_letters (reverse h ++ hand))) (sym (keeps.durable bytes may.dead)) keeps.opens in
     record {
       lined = all;
+      moments = written.moments;
       left = inl written.left;
       places = λ i at. at;
       opens = subst (λ (lines : List (List ℕ)). OpensTo (header_of 1) (f.dest.payloads ++ lines) bytes) (written.texts entry_line (λ e end. (quiet e end).line)) now;
     }
 
-lines_stopped : {D : Type 0} (m : DiskMeaning D) (f : FilesState D) (s : RedriveSetting) (h hand tried : List Entry) (new : Disks D) (one other bytes : List ℕ) → MayBeLeft m f new one other bytes
-    → Follows s h tried → length tried ≤ 1 → LinesStopped m f (dead_letters (reverse h)) tried new → HasLines f s h hand tried h bytes
-lines_stopped m f s h hand tried new one other bytes may follows few stopped =
+lines_stopped : {D : Type 0} (m : DiskMeaning D) (gave : ℕ → Bool) (f : FilesState D) (s : RedriveSetting) (h hand tried : List Entry) (new : Disks D) (one other bytes : List ℕ) → MayBeLeft m f new one other bytes
+    → AreGiven gave h → (follows : Follows s h tried) → FollowsGiven gave s h tried follows → length tried ≤ 1 → LinesStopped m f (dead_letters (reverse h)) tried new → HasLines gave f s h hand tried h bytes
+lines_stopped m gave f s h hand tried new one other bytes may moments follows given few stopped =
     let o = stopped may.honest_lines bytes may.dead in
     let old = f.dest.payloads ++ dead_letters (reverse h) in
     elim (none_or_all o.front o.rest tried o.split few) [
       | inl none ↦ record {
         lined = h;
+        moments = moments;
         left = inr (inl ([], refl));
         places = λ i at. at;
         opens = subst (λ (lines : List (List ℕ)). OpensTo (header_of 1) lines bytes) (append-nil old)
             (subst (λ (es : List Entry). OpensTo (header_of 1) (old ++ dead_letters es) bytes) none o.opens);
       }
       | inr of_all ↦ (
-          let all = whole s h tried follows few in
+          let all = whole gave s h tried moments follows given few in
           record {
             lined = all.0;
+            moments = all.1.moments;
             left = inr all.1.left;
             places = all.1.places;
             opens = subst (λ (lines : List (List ℕ)). OpensTo (header_of 1) (f.dest.payloads ++ lines) bytes)
@@ -234,12 +254,14 @@ lines_stopped m f s h hand tried new one other bytes may follows few stopped =
     ]
 
 -- both files
-joined : {D : Type 0} (f : FilesState D) (s : RedriveSetting) (h hand tried all front kept : List Entry) (one other bytes : List ℕ)
-    → IsFront s h hand all front kept → PairOpensTo (header_of 2) f.pair.epoch (f.pair.payloads ++ payloads_in s.queue.messages front) one other
-    → HasLines f s h hand tried all bytes → LeftBy f s h hand tried one other bytes
-joined f s h hand tried all front kept one other bytes part opens lines = record {
+joined : {D : Type 0} (gave : ℕ → Bool) (f : FilesState D) (s : RedriveSetting) (h hand tried all front kept : List Entry) (one other bytes : List ℕ)
+    → IsFront gave s h hand all front kept → PairOpensTo (header_of 2) f.pair.epoch (f.pair.payloads ++ payloads_in s.queue.messages front) one other
+    → HasLines gave f s h hand tried all bytes → LeftBy gave f s h hand tried one other bytes
+joined gave f s h hand tried all front kept one other bytes part opens lines = record {
   recorded = kept;
   lined = lines.lined;
+  moments = part.moments;
+  lines_given = lines.moments;
   left = record { recorded_is = part.left; lined_is = lines.left; line_first = λ i at. lines.places i (part.places i at) };
   content_is = subst (λ (payloads : List (List ℕ)). PairOpensTo (header_of 2) f.pair.epoch (f.pair.payloads ++ payloads) one other)
       (part.texts (queue_payload s.queue.messages) (of_others s.queue.messages)) opens;
@@ -247,29 +269,34 @@ joined f s h hand tried all front kept one other bytes part opens lines = record
 }
 
 module _ {D : Type 0} (m : DiskMeaning D) (gave : ℕ → Bool) (f : FilesState D) (s : RedriveSetting) (h hand tried : List Entry) (new : Disks D) (one other bytes : List ℕ) (may : MayBeLeft m f new one other bytes) where
+  -- a front of what happened stands in what a crash leaves of the journal, whenever it comes
+  front_left : (trouble : Option Trouble) → Headline m gave f s h trouble hand tried new → ArePairLeft m f new.journal new.spare one other → OpensToFrontOf s.queue.messages f.pair.epoch f.pair.payloads (reverse h ++ hand) one other
+  front_left trouble headline (inl start) = headline.crash may.honest start.settled one other start.journal_since start.spare_since
+  front_left trouble headline (inr opening) = headline.crash_since_opening may.honest one other opening.journal_since opening.spare_since
+
   -- the dead-letter file did not fail
-  lines_up : (trouble : Option Trouble) → Headline m gave f s h trouble hand tried new → LinesKept m f (dead_letters (reverse h ++ hand)) new → LeftBy f s h hand tried one other bytes
+  lines_up : (trouble : Option Trouble) → Headline m gave f s h trouble hand tried new → LinesKept m f (dead_letters (reverse h ++ hand)) new → LeftBy gave f s h hand tried one other bytes
   lines_up trouble headline kept =
       let few = few_in_hand trouble hand headline.in_hand in
-      let o = headline.crash may.honest may.settled one other may.journal may.spare in
-      let all = whole s h hand headline.hand_follows few in
-      let first = part s h hand all.0 o.front o.rest few o.split all.1 in
-      joined f s h hand tried all.0 o.front first.0 one other bytes first.1 o.opens (lines_kept m f s h hand tried all.0 new one other bytes may all.1 kept)
+      let o = front_left trouble headline may.left in
+      let all = whole gave s h hand headline.moments headline.hand_follows headline.hand_given few in
+      let first = part gave s h hand all.0 o.front o.rest headline.moments few o.split all.1 in
+      joined gave f s h hand tried all.0 o.front first.0 one other bytes first.1 o.opens (lines_kept m gave f s h hand tried all.0 new one other bytes may all.1 kept)
 
   -- it failed, and no entry is in hand
-  lines_down : Headline m gave f s h (Some Dest) hand tried new → LeftBy f s h hand tried one other bytes
+  lines_down : Headline m gave f s h (Some Dest) hand tried new → LeftBy gave f s h hand tried one other bytes
   lines_down headline =
       let none : hand ≡ [] = headline.in_hand in
       let few = few_in_hand (Some Dest) hand none in
-      let o = headline.crash may.honest may.settled one other may.journal may.spare in
-      let written : IsWritten s h hand h = subst (λ (es : List Entry). IsWritten s h es h) (sym none)
-      (record { left = inl ([], refl); texts = λ text others. ap (filter_map text) (append-nil (reverse h)); places = λ i at. at }) in
-      let first = part s h hand h o.front o.rest few o.split written in
+      let o = front_left (Some Dest) headline may.left in
+      let written : IsWritten gave s h hand h = subst (λ (es : List Entry). IsWritten gave s h es h) (sym none)
+      (record { moments = headline.moments; left = inl ([], refl); texts = λ text others. ap (filter_map text) (append-nil (reverse h)); places = λ i at. at }) in
+      let first = part gave s h hand h o.front o.rest headline.moments few o.split written in
       let tried_one : length tried ≤ 1 = subst (λ (es : List Entry). length es ≤ 1) (sym headline.is_tried.2) (omega arith) in
-      joined f s h hand tried h o.front first.0 one other bytes first.1 o.opens
-      (lines_stopped m f s h hand tried new one other bytes may headline.tried_follows tried_one headline.dead_letters_kept)
+      joined gave f s h hand tried h o.front first.0 one other bytes first.1 o.opens
+      (lines_stopped m gave f s h hand tried new one other bytes may headline.moments headline.tried_follows headline.tried_given tried_one headline.dead_letters_kept)
 
-  pub left_by : (trouble : Option Trouble) → Headline m gave f s h trouble hand tried new → LeftBy f s h hand tried one other bytes
+  pub left_by : (trouble : Option Trouble) → Headline m gave f s h trouble hand tried new → LeftBy gave f s h hand tried one other bytes
   left_by None headline = lines_up None headline headline.dead_letters_kept
   left_by (Some Disk) headline = lines_up (Some Disk) headline headline.dead_letters_kept
   left_by (Some Dest) headline = lines_down headline
@@ -318,6 +345,8 @@ of_life m stage gave w f messages s h trouble hand tried new one other bytes lif
     record {
       recorded = left.recorded;
       lined = left.lined;
+      moments = left.moments;
+      lines_given = left.lines_given;
       opens = record {
         is_life = (found.is_life, over);
         content_is = subst (λ (old : List (List ℕ)). pair_opened (header_of 2) one other ≡ Holding f.pair.epoch (content_after s.queue left.recorded old)) found.content_is left.content_is.0;
@@ -333,4 +362,6 @@ settled_so bytes content images is only image at = only image at ∙ sym is
 -- the laws of a life
 
 pub keeps_laws : AreQueueLaws → (fifo : Bool) (s : RedriveSetting) (h recorded lined : List Entry) (life : List Stage) → KeepsLawsInLife fifo s h recorded lined life
-keeps_laws laws fifo s h recorded lined life is over = laws_kept laws fifo (Redriven (stage_of s h recorded lined)) (run_in s h recorded) life (is, over) refl
+keeps_laws laws fifo s h recorded lined life is over =
+    let r = stage_of s h recorded lined in
+    (laws_kept laws fifo (Redriven r) (run_in s h recorded) life (is, over) refl, laws.redrive_earned fifo r life (is, over))

@@ -1,5 +1,7 @@
 -- A run of a replay of which the headline holds is a stage of the life of its mapping.
-use Rattle.std.proofs.Common.{◌≡◌, ℕ, ◌≤◌, Bool, List, [], ◌∷◌, ◌++◌, length, arith, Option, Some, None, subst, sym}
+use Rattle.std.proofs.Common.{◌≡◌, ℕ, ◌≤◌, Bool, List, [], ◌∷◌, ◌++◌, length, arith, inl, inr, Option, Some, None, subst, sym}
+use Rattle.std.specs.Prelude.{reverse}
+use Rattle.esm_folder.specs.Upkeep.{AreHonest}
 use Rattle.esm_io.specs.Meanings.{DiskMeaning}
 use Rattle.esm_journal.specs.File.{header_of, Holding}
 use Rattle.esm_journal.specs.Pair.{pair_opened}
@@ -12,7 +14,9 @@ use Rattle.esm_replay_model.specs.ReplaySetting.{ReplaySetting}
 use Rattle.esm_runner.specs.Files.{FilesState}
 use Rattle.esm_runner.specs.Headline.{IsInHand}
 use Rattle.esm_replay_life.specs.ReplayLife.{IsReplayRunOver}
-use Rattle.esm_replay_run.specs.Headline.{Disks}
+use Rattle.esm_replay_book.specs.Books.{OpensToFirst, payloads_in}
+use Rattle.esm_replay_run.specs.Headline.{Disks, Headline}
+use Rattle.esm_life.specs.Left.{ArePairLeft}
 use Rattle.esm_life.specs.Life.{Stage}
 use Rattle.esm_life.specs.Replays.{IsStage, IsLeftByStage}
 use Rattle.esm_life.specs.Streams.{IsReplayedLife, replay_of}
@@ -39,10 +43,16 @@ stage m gave config calls f came s h trouble hand new left rest opened setting u
   kept = kept;
 }
 
+-- the first payloads of what happened stand in what a crash leaves, whenever it comes
+first_left : {D : Type 0} (m : DiskMeaning D) (gave : ℕ → Bool) (f : FilesState D) (s : ReplaySetting) (h : List Entry) (trouble : Option Trouble) (hand : List Entry) (new : Disks D) (one other : List ℕ) → Headline m gave f s h trouble hand new → AreHonest m f.journal f.spare
+    → ArePairLeft m f new.journal new.spare one other → OpensToFirst f.pair.epoch f.pair.payloads (payloads_in s (reverse h ++ hand)) one other
+first_left m gave f s h trouble hand new one other headline honest (inl start) = headline.crash honest start.settled one other start.journal_since start.spare_since
+first_left m gave f s h trouble hand new one other headline honest (inr opening) = headline.crash_since_opening honest one other opening.journal_since opening.spare_since
+
 pub left_by : {D : Type 0} (m : DiskMeaning D) (gave : ℕ → Bool) (config : Config) (calls : ℕ) (f : FilesState D) (came : List Record) (s : ReplaySetting) (h : List Entry) (trouble : Option Trouble) (hand : List Entry) (new : Disks D) (one other : List ℕ)
     → IsLeftByStage m gave config calls f came s h trouble hand new one other
-left_by m gave config calls f came s h trouble hand new one other opened setting unchanged headline honest settled since other_since =
-    let o = headline.crash honest settled one other since other_since in
+left_by m gave config calls f came s h trouble hand new one other opened setting unchanged headline honest left =
+    let o = first_left m gave f s h trouble hand new one other headline honest left in
     record {
       left = o.front;
       content_is = o.opens;
@@ -52,7 +62,7 @@ left_by m gave config calls f came s h trouble hand new one other opened setting
 pub goes_on : {D : Type 0} (m : DiskMeaning D) (gave : ℕ → Bool) (config : Config) (calls : ℕ) (f : FilesState D) (came : List Record) (s : ReplaySetting) (h : List Entry) (trouble : Option Trouble) (hand : List Entry) (new : Disks D) (one other : List ℕ) (life : List Stage)
     → IsReplayedLife m gave config calls f came s h trouble hand new one other life
 goes_on m gave config calls f came s h trouble hand new one other life opened setting unchanged headline may found =
-    let by = left_by m gave config calls f came s h trouble hand new one other opened setting unchanged headline may.honest may.settled may.journal_since may.spare_since in
+    let by = left_by m gave config calls f came s h trouble hand new one other opened setting unchanged headline may.honest may.left in
     record {
       left = by.left;
       opens = record {

@@ -1,9 +1,10 @@
 -- What the journal holds after a run of a stream's mapping is what a further stage of its life leaves.
-use Rattle.std.proofs.Common.{◌≡◌, ◌∙◌, ◌+◌, ℕ, ◌≤◌, true, false, List, [], ◌∷◌, ◌++◌, length, Option, None, ap, ap₂, append-nil, arith, inl, inr, refl, subst, sym}
+use Rattle.std.proofs.Common.{◌≡◌, ◌∙◌, ◌+◌, ℕ, ◌≤◌, Bool, true, false, List, [], ◌∷◌, ◌++◌, length, Option, None, ap, ap₂, append-nil, arith, inl, inr, refl, subst, sym}
 use Rattle.std.specs.Prelude.{filter_map, reverse, IfSome}
 use Rattle.std.proofs.lemmas.List.{reverse-reverse}
 use Rattle.esm_io.specs.Meanings.{DiskMeaning}
 use Rattle.esm_book.specs.Hand.{is_end}
+use Rattle.esm_folder.specs.Upkeep.{AreHonest}
 use Rattle.esm_folder.specs.declared.disks.Disks.{Disks}
 use Rattle.esm_journal.specs.File.{header_of, Holding, Opening, fresh_file, blank_file}
 use Rattle.esm_journal.specs.Pair.{PairOpensTo, pair_opened}
@@ -20,13 +21,15 @@ use Rattle.esm_model.specs.Step.{Legal}
 use Rattle.esm_model.specs.Valid.{HasFieldsOf, HasStreamFields, IsStreamConfig}
 use Rattle.esm_model.proofs.Histories.{legal_before}
 use Rattle.esm_runner.specs.Files.{FilesState, IsOpenedFiles}
-use Rattle.esm_runner.specs.Headline.{Devices, HandFollows, IsSettingOf}
+use Rattle.esm_runner.specs.Given.{AreGiven}
+use Rattle.esm_runner.specs.Headline.{Devices, HandFollows, HandIsGiven, Headline, IsSettingOf, OpensToFrontOf, telling}
 use Rattle.esm_workers.specs.Working.{Outside}
 use Rattle.esm_history.specs.Content.{GoesOnFrom, IsOpenedOver, content_after}
 use Rattle.esm_life.specs.Life.{AreBetween, CheckpointIsRuns, CheckpointStays, EachFateOnce, EachIsEarned, FateStays, IsLife, IsRecorded, IsRunOver, KeysInOrder, NoneIsCalledAgain, Ran, Run, Stage, content}
+use Rattle.esm_life.specs.Left.{ArePairLeft}
 use Rattle.esm_life.specs.Streams.{GoesOnWithStage, HasRunOver, IsCompactedLife, IsFoundAgain, IsLeftByStage, IsMigratedLife, IsMigratingLife, IsNewLife, IsSameLife, IsWholeStage, KeepsLawsInLife, OpensToLife, stage_of}
 use Rattle.esm_life.specs.Tries.{TriesGoOn}
-use Rattle.esm_life.proofs.RedriveFiles.{all_texts, few_in_hand, reversed, settled_so}
+use Rattle.esm_life.proofs.RedriveFiles.{all_texts, few_in_hand, given_before, reversed, settled_so}
 
 -- what ends a call or the input writes nothing
 of_others : (s : Setting) (e : Entry) → is_end e ≡ true → entry_payload s e ≡ None
@@ -41,7 +44,8 @@ of_others s (Shut moment) end = refl
 
 -- what the journal kept
 
-pub record IsKeptOf (s : Setting) (h front kept : List Entry) : Type 0 where
+pub record IsKeptOf (gave : ℕ → Bool) (s : Setting) (h front kept : List Entry) : Type 0 where
+  pub moments : AreGiven gave kept
   pub legal : Legal s kept
   pub may_be_said : AllMayBeSaid s kept
   pub recorded : IsRecorded h kept
@@ -58,36 +62,38 @@ said_before s (e ∷ lost) kept all = said_before s lost kept all.0
 abbrev HandSaid : Setting → List Entry → Type 0
 HandSaid s hand = (e : Entry) → hand ≡ e ∷ [] → IfSome (entry_said s e) IsSaid
 
-module _ (s : Setting) (h : List Entry) (legal : Legal s h) (said : AllMayBeSaid s h) where
-  of_front : (front lost : List Entry) → lost ++ reverse front ≡ h → IsKeptOf s h front (reverse front)
+module _ (gave : ℕ → Bool) (s : Setting) (h : List Entry) (moments : AreGiven gave h) (legal : Legal s h) (said : AllMayBeSaid s h) where
+  of_front : (front lost : List Entry) → lost ++ reverse front ≡ h → IsKeptOf gave s h front (reverse front)
   of_front front lost split = record {
+    moments = given_before gave lost (reverse front) (subst (AreGiven gave) (sym split) moments);
     legal = legal_before s lost (reverse front) (subst (Legal s) (sym split) legal);
     may_be_said = said_before s lost (reverse front) (subst (AllMayBeSaid s) (sym split) said);
     recorded = inl (lost, sym split);
     texts = ap (filter_map (entry_payload s)) (sym (reverse-reverse front));
   }
 
-  at_split : (front rest lost : List Entry) (e : Entry) → HandFollows s h (e ∷ []) → HandSaid s (e ∷ []) → lost ≡ reverse rest → front ++ rest ≡ reverse h ++ e ∷ [] → lost ++ reverse front ≡ e ∷ h → (kept : List Entry) × IsKeptOf s h front kept
-  at_split front rest [] e follows hand_said is split back =
+  at_split : (front rest lost : List Entry) (e : Entry) (follows : HandFollows s h (e ∷ [])) → HandIsGiven gave s h (e ∷ []) follows → HandSaid s (e ∷ []) → lost ≡ reverse rest → front ++ rest ≡ reverse h ++ e ∷ [] → lost ++ reverse front ≡ e ∷ h → (kept : List Entry) × IsKeptOf gave s h front kept
+  at_split front rest [] e follows given hand_said is split back =
       let none : rest ≡ [] = sym (reverse-reverse rest) ∙ ap reverse (sym is) in
       let all : front ≡ reverse h ++ e ∷ [] = sym (append-nil front) ∙ (ap (λ (k : List Entry). front ++ k) (sym none) ∙ split) in
       let to = follows e refl in (
         e ∷ to.before,
         record {
+          moments = (given_before gave to.later to.before (subst (AreGiven gave) to.split moments), given e refl);
           legal = legal_here s (e ∷ to.before) to.follows;
           may_be_said = (said_before s to.later to.before (subst (AllMayBeSaid s) to.split said), hand_said e refl);
           recorded = inr (record { hand = e; before = to.before; later = to.later; recorded_is = refl; happened_is = to.split; ends = to.ends });
           texts = ap (filter_map (entry_payload s)) all ∙ all_texts (entry_payload s) (of_others s) h to.later to.before e to.split to.ends;
         },
       )
-  at_split front rest (l ∷ lost) e follows hand_said is split back =
+  at_split front rest (l ∷ lost) e follows given hand_said is split back =
       let cut : lost ++ reverse front ≡ h = (let whole : l ∷ (lost ++ reverse front) ≡ e ∷ h = back in cc) in
       (reverse front, of_front front lost cut)
 
-  kept_of : (hand front rest : List Entry) → HandFollows s h hand → HandSaid s hand → length hand ≤ 1 → front ++ rest ≡ reverse h ++ hand → (kept : List Entry) × IsKeptOf s h front kept
-  kept_of [] front rest follows hand_said few split = (reverse front, of_front front (reverse rest) (reversed h [] front rest split))
-  kept_of (e ∷ []) front rest follows hand_said few split = at_split front rest (reverse rest) e follows hand_said refl split (reversed h (e ∷ []) front rest split)
-  kept_of (e ∷ (another ∷ more)) front rest follows hand_said few split = absurd (omega (arith, few))
+  kept_of : (hand front rest : List Entry) (follows : HandFollows s h hand) → HandIsGiven gave s h hand follows → HandSaid s hand → length hand ≤ 1 → front ++ rest ≡ reverse h ++ hand → (kept : List Entry) × IsKeptOf gave s h front kept
+  kept_of [] front rest follows given hand_said few split = (reverse front, of_front front (reverse rest) (reversed h [] front rest split))
+  kept_of (e ∷ []) front rest follows given hand_said few split = at_split front rest (reverse rest) e follows given hand_said refl split (reversed h (e ∷ []) front rest split)
+  kept_of (e ∷ (another ∷ more)) front rest follows given hand_said few split = absurd (omega (arith, few))
 
 -- the laws of one run
 
@@ -113,13 +119,19 @@ module _ {D F : Type 0} (m : DiskMeaning D) (callers : Outside F) (line : List �
     kept = kept;
   }
 
+  -- a front of what happened stands in what a crash leaves, whenever it comes
+  front_left : Headline (telling callers m line) f s h trouble hand new → (one other : List ℕ) → AreHonest m f.journal f.spare → ArePairLeft m f new.journal new.spare one other → OpensToFrontOf s f.pair.epoch f.pair.payloads (reverse h ++ hand) one other
+  front_left head one other honest (inl start) = head.crash honest start.settled one other start.journal_since start.spare_since
+  front_left head one other honest (inr opening) = head.crash_since_opening honest one other opening.journal_since opening.spare_since
+
   pub of_stage : (one other : List ℕ) → IsLeftByStage m callers line config calls f records s h trouble hand new one other
   of_stage one other run may =
       let head = run.headline in
-      let o = head.crash may.honest may.settled one other may.journal_since may.spare_since in
-      let kept = kept_of s h (legal_here s h head.legal_trace) head.can_be_said.entries hand o.front o.rest head.hand_follows head.can_be_said.in_hand (few_in_hand trouble hand head.in_hand) o.split in
+      let o = front_left head one other may.honest may.left in
+      let kept = kept_of callers.gave s h head.moments (legal_here s h head.legal_trace) head.can_be_said.entries hand o.front o.rest head.hand_follows head.hand_given head.can_be_said.in_hand (few_in_hand trouble hand head.in_hand) o.split in
       record {
         recorded = kept.0;
+        moments = kept.1.moments;
         run_over = run_over run kept.0 kept.1.legal kept.1.may_be_said kept.1.recorded;
         content_is = subst (λ (payloads : List (List ℕ)). PairOpensTo (header_of 2) f.pair.epoch (f.pair.payloads ++ payloads) one other) kept.1.texts o.opens;
       }
@@ -138,6 +150,7 @@ module _ {D F : Type 0} (m : DiskMeaning D) (callers : Outside F) (line : List �
       let left = of_stage one other run may in
       record {
         recorded = left.recorded;
+        moments = left.moments;
         opens = record {
           is_life = (found.0, subst (IsRunOver (stage_of s h left.recorded)) found.1 left.run_over);
           content_is = subst (λ (old : List (List ℕ)). pair_opened (header_of 2) one other ≡ Holding f.pair.epoch (content_after s left.recorded old)) found.1 left.content_is.0;

@@ -1,4 +1,5 @@
 pub mod Life
+pub mod Left
 pub mod QueueLaws
 pub mod Queues
 pub mod Redrives

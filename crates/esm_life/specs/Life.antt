@@ -102,10 +102,11 @@ AreBetween (Rewritten list ∷ stages) = AreBetween stages
 abbrev pub FateStays : (later before : List Stage) → Type 0
 FateStays later before = (n i : ℕ) (f : Fate) → recorded_fate before n i ≡ Some f → recorded_fate (later ++ before) n i ≡ Some f
 
--- the run gave the place this fate, and it was earned there
+-- The run gave the place this fate, which was earned by what had happened in it before.
 pub record IsGivenIn (r : Run) (n i : ℕ) (f : Fate) : Type 0 where
   pub later : List Entry
   pub before : List Entry
+  pub lost : List Entry
   pub by : Option LaneId
   pub places : List ℕ
   pub line : Option (List ℕ)
@@ -113,6 +114,7 @@ pub record IsGivenIn (r : Run) (n i : ℕ) (f : Fate) : Type 0 where
   pub moment : ℕ
   pub gave : r.recorded ≡ later ++ Gave by n places f line state moment ∷ before
   pub named : IsTrue (holds places i)
+  pub happened : r.happened ≡ lost ++ before
   pub earned : IsEarned r.setting before by n places f moment
 
 -- a fate that is recorded after a run, and was not before it, was given in it

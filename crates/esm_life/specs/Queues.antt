@@ -16,12 +16,14 @@ use Rattle.esm_model.specs.declared.config.Config.{Config}
 use Rattle.esm_model.specs.declared.entry.Entry.{Entry}
 use Rattle.esm_model.specs.declared.item.Message.{Message}
 use Rattle.esm_queue_model.specs.QueueSetting.{QueueSetting, is_fifo}
-use Rattle.esm_queue_life.specs.Life.{AreRewritten, DeletionStays, EachDeletedOnce, EachIsEarned, GoesOnFrom, GroupsInOrder, IsLife, IsRunOver, NoneIsCalledAgain, Ran, Rewritten, Run, Stage, content, dead_lines, run_of}
+use Rattle.esm_queue_life.specs.Life.{AreRewritten, DeletionStays, EachDeletedOnce, EachIsEarned, GoesOnFrom, GroupsInOrder, IdsAreKept, IsLife, IsRunOver, NoneIsCalledAgain, Ran, Rewritten, Run, Stage, content, dead_lines, run_of}
 use Rattle.esm_redrive_life.specs.Content.{DeletionsAreRecorded, content_after}
 use Rattle.esm_runner.specs.Files.{AreUnwritten, FilesState, IsOpenedFiles}
+use Rattle.esm_runner.specs.Given.{AreGiven}
 use Rattle.esm_runner.specs.Headline.{Devices, telling}
 use Rattle.esm_runner.specs.QueueHeadline.{Headline, IsSettingOf}
 use Rattle.esm_workers.specs.Working.{Outside}
+use Rattle.esm_life.specs.Left.{AreLinesLeft, ArePairLeft}
 
 -- one run
 
@@ -31,20 +33,20 @@ stage_of s h recorded = record { setting = s; happened = h; recorded = recorded 
 
 -- the pair opens to the content that was found, followed by the payloads of what the journal recorded; and with that the run is
 -- one that may stand in a life over what was found
-pub record LeftBy {D : Type 0} (fifo : Bool) (f : FilesState D) (s : QueueSetting) (h : List Entry) (one other : List ℕ) : Type 0 where
+pub record LeftBy {D : Type 0} (gave : ℕ → Bool) (fifo : Bool) (f : FilesState D) (s : QueueSetting) (h : List Entry) (one other : List ℕ) : Type 0 where
   pub recorded : List Entry
+  -- each of its moments is one that the clock gave, that of the entry in hand too
+  pub moments : AreGiven gave recorded
   pub run_over : IsRunOver fifo (stage_of s h recorded) f.pair.payloads
   pub content_is : PairOpensTo (header_of 2) f.pair.epoch (content_after s recorded f.pair.payloads) one other
 
--- a crash may leave these bytes, of each file at any moment since the start of a run that only reads the dead-letter file
+-- a crash may leave these bytes, of each file at any moment since the start of a run that only reads the dead-letter file, or since
+-- its files were opened
 pub record MayBeLeft {D : Type 0} (m : DiskMeaning D) (f : FilesState D) (journal spare failures : D) (one other bytes : List ℕ) : Type 0 where
   pub honest : AreHonest m f.journal f.spare
-  pub settled : AreSettled m f.journal f.spare
   pub honest_lines : m.honest f.failures ≡ true
-  pub settled_lines : Only (m.content f.failures) (m.image f.failures)
-  pub journal_since : m.since journal (m.moment f.journal) one
-  pub spare_since : m.since spare (m.moment f.spare) other
-  pub lines_since : m.since failures (m.moment f.failures) bytes
+  pub left : ArePairLeft m f journal spare one other
+  pub lines_left : AreLinesLeft m f failures bytes
 
 -- a run over opened files, of which the headline holds
 pub record HasRunOver {D F : Type 0} (m : DiskMeaning D) (callers : Outside F) (line : List ℕ → List ℕ) (config : Config) (calls visibility : ℕ) (f : FilesState D) (messages : List Message) (s : QueueSetting) (h : List Entry) (trouble : Option Trouble) (hand : List Entry) (new : Devices D F) : Type 0 where
@@ -74,8 +76,9 @@ pub record HasFoundLife {D : Type 0} (fifo : Bool) (f : FilesState D) (life : Li
   pub lines_are : f.dest.payloads ≡ dead_lines life
 
 -- with a further run of this setting, in which this happened, the life is one, and the bytes open to what it leaves
-pub record LeavesLife (fifo : Bool) (life : List Stage) (s : QueueSetting) (h : List Entry) (epoch : ℕ) (one other bytes : List ℕ) : Type 0 where
+pub record LeavesLife (gave : ℕ → Bool) (fifo : Bool) (life : List Stage) (s : QueueSetting) (h : List Entry) (epoch : ℕ) (one other bytes : List ℕ) : Type 0 where
   pub recorded : List Entry
+  pub moments : AreGiven gave recorded
   pub opens : OpensToLife fifo (Ran (stage_of s h recorded) ∷ life) epoch one other bytes
 
 -- the files that `init` made open to what a life without stages leaves, and a crash leaves nothing else of them
@@ -133,13 +136,14 @@ IsSameLife m fifo life epoch journal spare failures journal' spare' failures' on
     OpensToLife fifo life epoch one other bytes
 
 -- What holds over a life for a further run or redrive in it. A recorded deletion stays, and one payload at most says it of a message.
--- The content says what it said, and exactly what the journal kept of this one. No call of it holds a message whose deletion was
--- recorded when it began, or that it deleted before the call; and the calls of all together keep the order of each message group.
--- The next one, whenever it is, finds deleted what was deleted here.
+-- The content says what it said, and exactly what the journal kept of this one. A message whose deletion was recorded when it began
+-- has in it the id that was recorded. No call of it holds such a message, or one that it deleted before the call; and the calls of
+-- all together keep the order of each message group. The next one, whenever it is, finds deleted what was deleted here.
 pub record KeepsLaws (fifo : Bool) (stage : Stage) (r : Run) (life : List Stage) : Type 0 where
   pub deletions_stay : DeletionStays (stage ∷ []) life
   pub each_deleted_once : EachDeletedOnce (stage ∷ life)
   pub deletions_are_recorded : DeletionsAreRecorded (content life) r.setting r.recorded
+  pub ids_are_kept : IdsAreKept r life
   pub none_is_called_again : NoneIsCalledAgain r life
   pub groups_in_order : fifo ≡ true → GroupsInOrder r life
   pub goes_on : (later : Stage) (next : Run) (between : List Stage) → IsLife fifo (later ∷ between ++ stage ∷ life) → AreRewritten between → run_of later ≡ Some next → GoesOnFrom r next
@@ -149,7 +153,7 @@ pub record KeepsLaws (fifo : Bool) (stage : Stage) (r : Run) (life : List Stage)
 abbrev pub IsLeftByStage : {D F : Type 0} → DiskMeaning D → Outside F → (List ℕ → List ℕ) → Config → (calls visibility : ℕ) → FilesState D → List Message → QueueSetting → List Entry → Option Trouble → (hand : List Entry) → Devices D F → (one other bytes : List ℕ) → Type 0
 IsLeftByStage m callers line config calls visibility f messages s h trouble hand new one other bytes =
     HasRunOver m callers line config calls visibility f messages s h trouble hand new → MayBeLeft m f new.journal new.spare new.failures one other bytes →
-    LeftBy (is_fifo config.kind) f s h one other × OpensTo (header_of 1) f.dest.payloads bytes
+    LeftBy callers.gave (is_fifo config.kind) f s h one other × OpensTo (header_of 1) f.dest.payloads bytes
 
 abbrev pub IsWholeStage : {D F : Type 0} → DiskMeaning D → Outside F → (List ℕ → List ℕ) → Config → (calls visibility : ℕ) → FilesState D → List Message → QueueSetting → List Entry → Option Trouble → (hand : List Entry) → Devices D F → Type 0
 IsWholeStage m callers line config calls visibility f messages s h trouble hand new =
@@ -160,7 +164,7 @@ IsWholeStage m callers line config calls visibility f messages s h trouble hand 
 abbrev pub GoesOnWithStage : {D F : Type 0} → DiskMeaning D → Outside F → (List ℕ → List ℕ) → Config → (calls visibility : ℕ) → FilesState D → List Message → QueueSetting → List Entry → Option Trouble → (hand : List Entry) → Devices D F → (one other bytes : List ℕ) → List Stage → Type 0
 GoesOnWithStage m callers line config calls visibility f messages s h trouble hand new one other bytes life =
     HasRunOver m callers line config calls visibility f messages s h trouble hand new → MayBeLeft m f new.journal new.spare new.failures one other bytes →
-    HasFoundLife (is_fifo config.kind) f life → LeavesLife (is_fifo config.kind) life s h f.pair.epoch one other bytes
+    HasFoundLife (is_fifo config.kind) f life → LeavesLife callers.gave (is_fifo config.kind) life s h f.pair.epoch one other bytes
 
 abbrev pub KeepsLawsInLife : Bool → QueueSetting → (h recorded : List Entry) → List Stage → Type 0
 KeepsLawsInLife fifo s h recorded life =

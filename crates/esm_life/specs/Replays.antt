@@ -1,7 +1,7 @@
 -- A run of a replay as one of the life of its mapping. This product's own.
 use Rattle.std.specs.Prelude.{◌≡◌, ◌∷◌, ◌++◌, ℕ, Bool, List, [], Option, None, reverse, filter_map}
 use Rattle.esm_io.specs.Meanings.{DiskMeaning}
-use Rattle.esm_folder.specs.Upkeep.{AreHonest, AreSettled}
+use Rattle.esm_folder.specs.Upkeep.{AreHonest}
 use Rattle.esm_journal.specs.File.{header_of}
 use Rattle.esm_journal.specs.Pair.{PairOpensTo}
 use Rattle.esm_model.specs.declared.book.Trouble.{Trouble}
@@ -14,6 +14,7 @@ use Rattle.esm_replay.specs.Coming.{first_change}
 use Rattle.esm_runner.specs.Files.{FilesState, IsOpenedFiles}
 use Rattle.esm_replay_run.specs.Headline.{Disks, Headline, IsSettingOf}
 use Rattle.esm_replay_life.specs.ReplayLife.{Added, IsLife as IsReplayLife, IsReplayRunOver, Replay as OneReplay, Rewritten as WrittenAnew, Stage as ReplayStage, content as replay_content}
+use Rattle.esm_life.specs.Left.{ArePairLeft}
 use Rattle.esm_life.specs.Life.{Ran, Replay, Rewritten, Stage, content}
 
 -- A run of which the headline holds is a replay over what was found, whatever front of the payloads of its trace, and of the
@@ -30,12 +31,12 @@ pub record LeftBy {D : Type 0} (f : FilesState D) (s : ReplaySetting) (h hand : 
   pub content_is : PairOpensTo (header_of 2) f.pair.epoch (f.pair.payloads ++ left) one other
   pub stage : IsReplayRunOver (record { setting = s; happened = h; hand = hand; left = left }) f.pair.payloads
 
--- So is whatever a crash leaves of the journal, at any moment since the start of a run of which the headline holds.
+-- So is whatever a crash leaves of the journal, at any moment since the start of a run of which the headline holds, or since its files
+-- were opened.
 abbrev pub IsLeftByStage : {D : Type 0} → DiskMeaning D → (ℕ → Bool) → Config → (calls : ℕ) → FilesState D → (came : List Record) → ReplaySetting → List Entry → Option Trouble → (hand : List Entry) → Disks D → (one other : List ℕ) → Type 0
 IsLeftByStage m gave config calls f came s h trouble hand new one other =
     IsOpenedFiles m f → IsSettingOf config calls f came s → first_change f.said [] came ≡ None → Headline m gave f s h trouble hand new →
-    AreHonest m f.journal f.spare → AreSettled m f.journal f.spare → m.since new.journal (m.moment f.journal) one → m.since new.spare (m.moment f.spare) other →
-    LeftBy f s h hand one other
+    AreHonest m f.journal f.spare → ArePairLeft m f new.journal new.spare one other → LeftBy f s h hand one other
 
 -- a life as a list of replays, to which each run added its payloads
 abbrev pub under_replays : List Stage → List ReplayStage

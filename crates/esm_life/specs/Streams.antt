@@ -20,10 +20,12 @@ use Rattle.esm_replay_life.specs.ReplayLife.{ReplayRun}
 use Rattle.esm_replay_model.specs.ReplaySetting.{ReplaySetting}
 use Rattle.esm_replay_run.specs.Headline.{Disks as ReplayDisks, Headline as ReplayHeadline, IsSettingOf as IsReplaySettingOf}
 use Rattle.esm_runner.specs.Files.{FilesState, IsOpenedFiles}
+use Rattle.esm_runner.specs.Given.{AreGiven}
 use Rattle.esm_runner.specs.Headline.{Devices, Headline, IsSettingOf, telling}
 use Rattle.esm_workers.specs.Working.{Outside}
 use Rattle.esm_history.specs.Content.{GoesOnFrom, OwesNothing, content_after}
 use Rattle.esm_life.specs.Life.{AreBetween, CheckpointIsRuns, CheckpointStays, EachFateOnce, EachIsEarned, FateStays, IsLife, IsRunOver, KeysInOrder, NoneIsCalledAgain, Ran, Replay, Rewritten, Run, Stage, content}
+use Rattle.esm_life.specs.Left.{ArePairLeft}
 use Rattle.esm_life.specs.Tries.{TriesGoOn}
 
 -- one run
@@ -34,17 +36,17 @@ stage_of s h recorded = record { setting = s; happened = h; recorded = recorded 
 
 -- the pair opens to the content that was found, followed by the payloads of what the journal recorded; and with that the run is
 -- one that may stand in a life over what was found
-pub record LeftBy {D : Type 0} (f : FilesState D) (s : Setting) (h : List Entry) (one other : List ℕ) : Type 0 where
+pub record LeftBy {D : Type 0} (gave : ℕ → Bool) (f : FilesState D) (s : Setting) (h : List Entry) (one other : List ℕ) : Type 0 where
   pub recorded : List Entry
+  -- each of its moments is one that the clock gave, that of the entry in hand too
+  pub moments : AreGiven gave recorded
   pub run_over : IsRunOver (stage_of s h recorded) f.pair.payloads
   pub content_is : PairOpensTo (header_of 2) f.pair.epoch (content_after s recorded f.pair.payloads) one other
 
--- a crash may leave these bytes of the journal's disks, of each at any moment since the run's start
+-- a crash may leave these bytes of the journal's disks, of each at any moment since the run's start, or since its files were opened
 pub record MayBeLeft {D : Type 0} (m : DiskMeaning D) (f : FilesState D) (journal spare : D) (one other : List ℕ) : Type 0 where
   pub honest : AreHonest m f.journal f.spare
-  pub settled : AreSettled m f.journal f.spare
-  pub journal_since : m.since journal (m.moment f.journal) one
-  pub spare_since : m.since spare (m.moment f.spare) other
+  pub left : ArePairLeft m f journal spare one other
 
 -- a run over opened files, of which the headline holds
 pub record HasRunOver {D F : Type 0} (m : DiskMeaning D) (callers : Outside F) (line : List ℕ → List ℕ) (config : Config) (calls : ℕ) (f : FilesState D) (records : List Record) (s : Setting) (h : List Entry) (trouble : Option Trouble) (hand : List Entry) (new : Devices D F) : Type 0 where
@@ -71,8 +73,9 @@ abbrev pub HasFoundLife : {D : Type 0} → FilesState D → List Stage → Type 
 HasFoundLife f life = IsLife life × (f.pair.payloads ≡ content life)
 
 -- with a further run of this setting, in which this happened, the life is one, and the bytes open to what it leaves
-pub record LeavesLife (life : List Stage) (s : Setting) (h : List Entry) (epoch : ℕ) (one other : List ℕ) : Type 0 where
+pub record LeavesLife (gave : ℕ → Bool) (life : List Stage) (s : Setting) (h : List Entry) (epoch : ℕ) (one other : List ℕ) : Type 0 where
   pub recorded : List Entry
+  pub moments : AreGiven gave recorded
   pub opens : OpensToLife (Ran (stage_of s h recorded) ∷ life) epoch one other
 
 -- the replay that left these payloads in the journal
@@ -154,7 +157,7 @@ pub record KeepsLaws (r : Run) (life : List Stage) : Type 0 where
 
 abbrev pub IsLeftByStage : {D F : Type 0} → DiskMeaning D → Outside F → (List ℕ → List ℕ) → Config → (calls : ℕ) → FilesState D → List Record → Setting → List Entry → Option Trouble → (hand : List Entry) → Devices D F → (one other : List ℕ) → Type 0
 IsLeftByStage m callers line config calls f records s h trouble hand new one other =
-    HasRunOver m callers line config calls f records s h trouble hand new → MayBeLeft m f new.journal new.spare one other → LeftBy f s h one other
+    HasRunOver m callers line config calls f records s h trouble hand new → MayBeLeft m f new.journal new.spare one other → LeftBy callers.gave f s h one other
 
 abbrev pub IsWholeStage : {D F : Type 0} → DiskMeaning D → Outside F → (List ℕ → List ℕ) → Config → (calls : ℕ) → FilesState D → List Record → Setting → List Entry → Option Trouble → (hand : List Entry) → Devices D F → Type 0
 IsWholeStage m callers line config calls f records s h trouble hand new =
@@ -164,7 +167,7 @@ IsWholeStage m callers line config calls f records s h trouble hand new =
 
 abbrev pub GoesOnWithStage : {D F : Type 0} → DiskMeaning D → Outside F → (List ℕ → List ℕ) → Config → (calls : ℕ) → FilesState D → List Record → Setting → List Entry → Option Trouble → (hand : List Entry) → Devices D F → (one other : List ℕ) → List Stage → Type 0
 GoesOnWithStage m callers line config calls f records s h trouble hand new one other life =
-    HasRunOver m callers line config calls f records s h trouble hand new → MayBeLeft m f new.journal new.spare one other → HasFoundLife f life → LeavesLife life s h f.pair.epoch one other
+    HasRunOver m callers line config calls f records s h trouble hand new → MayBeLeft m f new.journal new.spare one other → HasFoundLife f life → LeavesLife callers.gave life s h f.pair.epoch one other
 
 abbrev pub KeepsLawsInLife : {D F : Type 0} → DiskMeaning D → Outside F → (List ℕ → List ℕ) → Config → (calls : ℕ) → FilesState D → List Record → Setting → List Entry → Option Trouble → (hand : List Entry) → Devices D F → List Stage → Type 0
 KeepsLawsInLife m callers line config calls f records s h trouble hand new life =

@@ -28,6 +28,8 @@ pub(crate) fn queue_laws_hold()
     queue::deletion_stays();
     queue::each_deleted_once();
     queue::each_is_earned();
+    queue::each_redrive_is_earned();
+    queue::ids_are_kept();
     queue::none_is_called_again();
     queue::groups_in_order();
     queue::deletions_are_recorded();

@@ -16,8 +16,8 @@ ghost use Rattle.esm_life.specs.Queues.{IsLeftByStage, IsWholeStage, GoesOnWithS
 use crate::laws::queue_laws_hold;
 use esm_io::{Caller, Disk};
 
-/// Whatever a crash leaves of the files after a run, of each at any moment since its start, is the content of a stage of the life
-/// over what was found, and the dead letters that were found.
+/// Whatever a crash leaves of the files after a run is the content of a stage of the life over what was found, and the dead letters that
+/// were found: of each at any moment since they were opened, and at any since the run's start where its disk had one image then.
 pub fn left_is_stage<D: Disk, F: Caller>()
     ensures { (callers : Outside F) (line : List ℕ → List ℕ) (config : Config) (calls visibility : ℕ) (f : FilesState D) (messages : List Message) (s : QueueSetting)
         (h : List Entry) (trouble : Option Trouble) (hand : List Entry) (new : Devices D F) (one other bytes : List ℕ) →

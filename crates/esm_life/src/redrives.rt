@@ -14,8 +14,8 @@ use crate::laws::queue_laws_hold;
 use esm_io::Disk;
 use esm_redrive_run::stages::run_is_stage;
 
-/// Whatever a crash leaves after a run, of the journal at any moment since its start and of the dead-letter file at its end, is the
-/// content and the lines of a stage of the life over what was found.
+/// Whatever a crash leaves after a run is the content and the lines of a stage of the life over what was found: of the journal at any
+/// moment since its files were opened, and at any since its start where its disks had one image then; of the dead-letter file at its end.
 pub fn left_is_stage<D: Disk>()
     ensures { (gave : ℕ → Bool) (w : Words) (f : FilesState D) (messages : List Message) (s : RedriveSetting) (h : List Entry) (trouble : Option Trouble)
         (hand tried : List Entry) (new : Disks D) (one other bytes : List ℕ) → IsLeftByStage (meaning D.Disk) gave w f messages s h trouble hand tried new one other bytes }
@@ -37,7 +37,7 @@ pub fn life_goes_on<D: Disk>()
     run_is_stage::<D>();
 }
 
-/// And it keeps the laws of the whole life, whatever its files kept of it.
+/// And it keeps the laws of the whole life, whatever its files kept of it: so each deletion that it adds is earned in it.
 pub fn run_keeps_laws()
     ensures { (fifo : Bool) (s : RedriveSetting) (h recorded lined : List Entry) (life : List Stage) → KeepsLawsInLife fifo s h recorded lined life }
 {

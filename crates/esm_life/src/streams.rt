@@ -22,8 +22,8 @@ use crate::life::{
 };
 use esm_io::{Caller, Disk};
 
-/// Whatever a crash leaves of the journal after a run, at any moment since its start, is the content of a stage of the life over
-/// what was found.
+/// Whatever a crash leaves of the journal after a run is the content of a stage of the life over what was found: at any moment since
+/// its files were opened, and at any since its start where its disks had one image then.
 pub fn left_is_stage<D: Disk, F: Caller>()
     ensures { (callers : Outside F) (line : List ℕ → List ℕ) (config : Config) (calls : ℕ) (f : FilesState D) (records : List Record) (s : Setting) (h : List Entry)
         (trouble : Option Trouble) (hand : List Entry) (new : Devices D F) (one other : List ℕ) →
