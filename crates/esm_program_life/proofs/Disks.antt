@@ -1,7 +1,8 @@
 -- What disks leave of a life: those that no call was made on or that were only read, and those of a run.
-use Rattle.std.proofs.Common.{◌≡◌, ◌∙◌, ℕ, Bool, true, false, List, [], ◌∷◌, length, Option, Some, None, arith, refl, subst, sym}
+use Rattle.std.proofs.Common.{◌≡◌, ◌∙◌, ◌⊎◌, ℕ, Bool, true, false, List, [], ◌∷◌, length, Option, Some, None, arith, refl, subst, sym}
 use Rattle.std.specs.Prelude.{◌&&◌, ◌||◌, if◌then◌else◌, nat_lt, not}
-use Rattle.esm_folder.specs.Upkeep.{AreHonest, AreOnlyRead, AreSettled, found}
+use Rattle.esm_cli.specs.declared.command.Command.TheVariants as command
+use Rattle.esm_folder.specs.Upkeep.{AreHonest, AreOnlyRead, AreSettled, HasCompacted, found}
 use Rattle.esm_history.specs.Content.{OwesNothing, content_after}
 use Rattle.esm_io.specs.Images.{Only}
 use Rattle.esm_io.specs.Meanings.{DiskMeaning}
@@ -9,7 +10,8 @@ use Rattle.esm_journal.specs.File.{Damaged, Foreign, Holding, Opening, epoch_in,
 use Rattle.esm_journal.specs.Migrate.{is_version_2}
 use Rattle.esm_journal.specs.Pair.{beside, is_sealed, is_taken, pair_opened}
 use Rattle.esm_journal.specs.Reads.{IsOnlyRead}
-use Rattle.esm_life.specs.Life.{IsRunOver, Ran, Stage}
+use Rattle.esm_life.specs.Left.{IsReadAtEnd, IsSinceOpening, IsSinceStart}
+use Rattle.esm_life.specs.Life.{IsRunOver, Ran, Rewritten, Stage, content}
 use Rattle.esm_life.specs.Replays.{IsStage}
 use Rattle.esm_life.specs.Streams.{GoesOnWithStage, HasFoundLife, HasRunOver, IsCompactedLife, IsFoundAgain, IsReplayedLife, IsSameLife, IsWholeStage, LeavesLife, MayBeLeft, OpensToLife, stage_of}
 use Rattle.esm_model.specs.declared.book.Trouble.{Trouble}
@@ -18,7 +20,9 @@ use Rattle.esm_model.specs.declared.config.Config.{Config}
 use Rattle.esm_model.specs.declared.entry.Entry.{Entry}
 use Rattle.esm_model.specs.declared.item.Record.{Record}
 use Rattle.esm_model.specs.Setting.{Setting}
-use Rattle.esm_program_life.specs.Streams.{HasLife}
+use Rattle.esm_program_life.specs.Streams.{AddsRewritten, HasLife}
+use Rattle.esm_program_life.specs.Written.{HasWritten}
+use Rattle.esm_program_life.proofs.Writes.{Compacts, compacts}
 use Rattle.esm_replay_model.specs.ReplaySetting.{ReplaySetting}
 use Rattle.esm_replay_run.specs.Headline.{Disks as ReplayDisks}
 use Rattle.esm_runner.specs.Files.{FilesState, IsOpenedFiles}
@@ -44,10 +48,9 @@ pub record AreLaws {D : Type 0} (F : Type 0) (m : DiskMeaning D) : Type 0 where
       → IsStage m gave config calls f came s h trouble hand new left rest
   pub compacted : (life : List Stage) (epoch : ℕ) (journal spare journal' spare' : D) (one other : List ℕ) → IsCompactedLife m life epoch journal spare journal' spare' one other
 
--- bytes that a crash may have left of two disks, of each at any moment since it was as before
-pub record AreLeft {D : Type 0} (m : DiskMeaning D) (journal spare journal' spare' : D) (one other : List ℕ) : Type 0 where
-  pub journal_since : m.since journal' (m.moment journal) one
-  pub spare_since : m.since spare' (m.moment spare) other
+-- bytes that a crash may leave of two disks: since the command began, or since these files were opened
+abbrev pub AreLeft : {D : Type 0} → DiskMeaning D → FilesState D → (journal spare journal' spare' : D) → (one other : List ℕ) → Type 0
+AreLeft m f journal spare journal' spare' one other = IsSinceStart m journal spare journal' spare' one other ⊎ IsSinceOpening m f journal' spare' one other
 
 -- what opens
 
@@ -76,26 +79,51 @@ pub not_empty : (one other : List ℕ) (epoch : ℕ) (payloads : List (List ℕ)
 not_empty [] other epoch payloads is none = taken_so (is_taken (header_of 2) other []) (opened_rest other) epoch payloads is
 not_empty (byte ∷ one) other epoch payloads is none = absurd (omega (arith, none))
 
+pub not_empty_spare : (one other : List ℕ) (epoch : ℕ) (payloads : List (List ℕ)) → pair_opened (header_of 2) one other ≡ Holding epoch payloads → length other ≡ 0 → ⊥
+not_empty_spare one [] epoch payloads is none = taken_so (is_taken (header_of 2) one []) (opened_rest one) epoch payloads is
+not_empty_spare one (byte ∷ other) epoch payloads is none = absurd (omega (arith, none))
+
 -- what is left
 
 -- of disks on which no call was made
 module _ {D : Type 0} (m : DiskMeaning D) (only_now : OnlyNow m) (life : List Stage) (epoch : ℕ) (journal spare : D) (has : HasLife m life epoch journal spare) where
-  pub of_unused : (journal' spare' : D) (one other : List ℕ) → journal' ≡ journal → spare' ≡ spare → AreLeft m journal spare journal' spare' one other → OpensToLife life epoch one other
+  pub of_unused : (journal' spare' : D) (one other : List ℕ) → journal' ≡ journal → spare' ≡ spare → IsSinceStart m journal spare journal' spare' one other → OpensToLife life epoch one other
   of_unused journal' spare' one other same same_spare left =
-      let first : one ≡ m.content journal = has.settled.0 one (only_now journal one has.honest.0 (subst (λ (d : D). m.since d (m.moment journal) one) same left.journal_since)) in
-      let second : other ≡ m.content spare = has.settled.1 other (only_now spare other has.honest.1 (subst (λ (d : D). m.since d (m.moment spare) other) same_spare left.spare_since)) in
+      let first : one ≡ m.content journal = left.settled.0 one (only_now journal one has.honest.0 (subst (λ (d : D). m.since d (m.moment journal) one) same left.journal_since)) in
+      let second : other ≡ m.content spare = left.settled.1 other (only_now spare other has.honest.1 (subst (λ (d : D). m.since d (m.moment spare) other) same_spare left.spare_since)) in
       subst (λ (x : List ℕ). OpensToLife life epoch x other) (sym first)
       (subst (λ (y : List ℕ). OpensToLife life epoch (m.content journal) y) (sym second) has.opens)
 
+  -- and of those that were only read, as they read at the end
+  pub of_end : (journal' spare' : D) (one other : List ℕ) → IsReadAtEnd m journal spare journal' spare' one other → OpensToLife life epoch one other
+  of_end journal' spare' one other end =
+      let first : one ≡ m.content journal = end.journal_is ∙ end.read.0.same has.honest.0 in
+      let second : other ≡ m.content spare = end.spare_is ∙ end.read.1.same has.honest.1 in
+      subst (λ (x : List ℕ). OpensToLife life epoch x other) (sym first)
+      (subst (λ (y : List ℕ). OpensToLife life epoch (m.content journal) y) (sym second) has.opens)
+
+  -- and of those that `compact` wrote
+
+  pub of_compacted : (journal' spare' : D) (before after : ℕ) → HasCompacted m journal spare journal' spare' before after → Compacts m (content life) journal' spare'
+  of_compacted journal' spare' before after wrote = compacts m journal spare journal' spare' before after epoch (content life) wrote has.honest has.opens.content_is
+
+  pub of_written : (journal' spare' : D) (by : Compacts m (content life) journal' spare') (one other : List ℕ) → pair_opened (header_of 2) one other ≡ Holding by.epoch by.list → OpensToLife (Rewritten by.list ∷ life) by.epoch one other
+  of_written journal' spare' by one other opens = record { is_life = (has.opens.is_life, record { same = by.compacted.same; good = by.compacted.good_again }); content_is = opens }
+
+  pub adds_rewritten : (journal' spare' : D) → HasWritten m command.Compact journal spare journal' spare' → AddsRewritten m journal spare journal' spare' life
+  adds_rewritten journal' spare' wrote =
+      let by = of_compacted journal' spare' wrote.0 wrote.1 wrote.2 in
+      record { written = wrote; list = by.list; epoch = by.epoch; opens = of_written journal' spare' by (m.content journal') (m.content spare') by.holds.opens; settled = by.holds.settled }
+
 module _ {D F : Type 0} (m : DiskMeaning D) (laws : AreLaws F m) (life : List Stage) (epoch : ℕ) (journal spare : D) (has : HasLife m life epoch journal spare) where
-  pub of_read : (journal' spare' : D) (one other : List ℕ) → AreOnlyRead m journal spare journal' spare' → AreLeft m journal spare journal' spare' one other → OpensToLife life epoch one other
-  of_read journal' spare' one other read left = laws.same life epoch journal spare journal' spare' one other read has.honest has.settled has.opens left.journal_since left.spare_since
+  pub of_read : (journal' spare' : D) (one other : List ℕ) → AreOnlyRead m journal spare journal' spare' → IsSinceStart m journal spare journal' spare' one other → OpensToLife life epoch one other
+  of_read journal' spare' one other read left = laws.same life epoch journal spare journal' spare' one other read has.honest left.settled has.opens left.journal_since left.spare_since
 
   settled_so : (old new : D) → m.honest old ≡ true → Only (m.content old) (m.image old) → IsOnlyRead m old new → Only (m.content new) (m.image new)
   settled_so old new honest only read bytes image = only bytes (read.images honest bytes image) ∙ sym (read.same honest)
 
-  pub settled_of_read : (journal' spare' : D) → AreOnlyRead m journal spare journal' spare' → AreSettled m journal' spare'
-  settled_of_read journal' spare' read = (settled_so journal journal' has.honest.0 has.settled.0 read.0, settled_so spare spare' has.honest.1 has.settled.1 read.1)
+  pub settled_of_read : (journal' spare' : D) → AreOnlyRead m journal spare journal' spare' → AreSettled m journal spare → AreSettled m journal' spare'
+  settled_of_read journal' spare' read was = (settled_so journal journal' has.honest.0 was.0 read.0, settled_so spare spare' has.honest.1 was.1 read.1)
 
   pub of_read_now : (journal' spare' : D) → AreOnlyRead m journal spare journal' spare' → OpensToLife life epoch (m.content journal') (m.content spare')
   of_read_now journal' spare' read =
@@ -114,16 +142,14 @@ module _ {D F : Type 0} (m : DiskMeaning D) (laws : AreLaws F m) (life : List St
     pub found_in : IsOpenedFiles m f → HasFoundLife f life
     found_in opened = laws.found f life epoch opened honest_files (at_files (λ j s. OpensToLife life epoch (m.content j) (m.content s)) has.opens)
 
-    pub may_be : (journal' spare' : D) (one other : List ℕ) → AreLeft m journal spare journal' spare' one other → MayBeLeft m f journal' spare' one other
+    pub may_be : (journal' spare' : D) (one other : List ℕ) → AreLeft m f journal spare journal' spare' one other → MayBeLeft m f journal' spare' one other
     may_be journal' spare' one other left = record {
       honest = honest_files;
-      settled = at_files (AreSettled m) has.settled;
-      journal_since = subst (λ (j : D). m.since journal' (m.moment j) one) (sym journal_is) left.journal_since;
-      spare_since = subst (λ (s : D). m.since spare' (m.moment s) other) (sym spare_is) left.spare_since;
+      left = at_files (λ j s. IsSinceStart m j s journal' spare' one other ⊎ IsSinceOpening m f journal' spare' one other) left;
     }
 
     module _ (callers : Outside F) (line : List ℕ → List ℕ) (config : Config) (calls : ℕ) (records : List Record) (s : Setting) (h : List Entry) (trouble : Option Trouble) (hand : List Entry) (new : Devices D F) (run : HasRunOver m callers line config calls f records s h trouble hand new) where
-      pub of_run : (one other : List ℕ) → AreLeft m journal spare new.journal new.spare one other → LeavesLife life s h f.pair.epoch one other
+      pub of_run : (one other : List ℕ) → AreLeft m f journal spare new.journal new.spare one other → LeavesLife callers.gave life s h f.pair.epoch one other
       of_run one other left = laws.goes_on callers line config calls f records s h trouble hand new one other life run (may_be new.journal new.spare one other left) (found_in run.opened)
 
       pub of_whole : (trouble ≡ Some Disk → ⊥) → OpensToLife (Ran (stage_of s h h) ∷ life) f.pair.epoch (m.content new.journal) (m.content new.spare) × AreSettled m new.journal new.spare × (trouble ≡ None → OwesNothing s h)

@@ -1,4 +1,5 @@
 pub mod ReadInputs
+pub mod Writes
 pub mod Disks
 pub mod Runs
 pub mod Replays
@@ -8,3 +9,6 @@ pub mod QueueDisks
 pub mod QueueRuns
 pub mod QueueCommands
 pub mod QueueSteps
+pub mod DdbElements
+pub mod DdbRecords
+pub mod DdbStates

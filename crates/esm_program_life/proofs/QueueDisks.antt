@@ -1,11 +1,14 @@
 -- What the disks of a queue leave of a life: those that no call was made on or that were only read, and those of a run or a redrive.
-use Rattle.std.proofs.Common.{◌≡◌, ◌∙◌, ℕ, Bool, true, List, ◌∷◌, ◌++◌, Option, Some, ap, subst, sym}
-use Rattle.esm_folder.specs.Upkeep.{AreHonest, AreSettled, found}
+use Rattle.std.proofs.Common.{◌≡◌, ◌∙◌, ◌⊎◌, ℕ, Bool, true, List, [], ◌∷◌, ◌++◌, length, Option, Some, ap, arith, subst, sym}
+use Rattle.esm_cli.specs.declared.command.Command.TheVariants as command
+use Rattle.esm_folder.specs.Upkeep.{AreHonest, AreSettled, HasCompacted, found}
 use Rattle.esm_io.specs.Images.{Only}
 use Rattle.esm_io.specs.Meanings.{DiskMeaning}
-use Rattle.esm_journal.specs.File.{Holding, header_of}
+use Rattle.esm_journal.specs.File.{Foreign, Holding, header_of}
+use Rattle.esm_journal.specs.Pair.{pair_opened}
 use Rattle.esm_journal.specs.Reads.{IsOnlyRead}
 use Rattle.esm_journal.specs.State.{OpensTo}
+use Rattle.esm_life.specs.Left.{AreLinesRead, AreLinesSinceStart, IsReadAtEnd, IsSinceOpening, IsSinceStart}
 use Rattle.esm_life.specs.Queues.{GoesOnWithStage, HasFoundLife, HasRunOver, IsCompactedLife, IsFoundAgain, IsWholeStage, LeavesLife, OpensToLife, stage_of}
 use Rattle.esm_life.specs.Redrives as redrives
 use Rattle.esm_model.specs.declared.book.Trouble.{Trouble}
@@ -14,9 +17,11 @@ use Rattle.esm_model.specs.declared.config.Config.{Config}
 use Rattle.esm_model.specs.declared.entry.Entry.{Entry}
 use Rattle.esm_model.specs.declared.item.Message.{Message}
 use Rattle.esm_model.specs.Books.{lines_of}
-use Rattle.esm_program_life.specs.Queues.{HasLife}
-use Rattle.esm_program_life.proofs.Disks.{OnlyNow}
-use Rattle.esm_queue_life.specs.Life.{IsRunOver, Ran, Redriven, Stage, dead_lines}
+use Rattle.esm_program_life.specs.Queues.{AddsRewritten, HasLife}
+use Rattle.esm_program_life.specs.Written.{HasWritten}
+use Rattle.esm_program_life.proofs.Writes.{Compacts, compacts}
+use Rattle.esm_program_life.proofs.Disks.{AreLeft, OnlyNow}
+use Rattle.esm_queue_life.specs.Life.{IsRunOver, Ran, Redriven, Rewritten, Stage, content, dead_lines}
 use Rattle.esm_queue_model.specs.QueueSetting.{QueueSetting, is_fifo}
 use Rattle.esm_redrive_life.specs.Content.{content_after}
 use Rattle.esm_redrive_life.specs.Life.{IsRedriveOver, IsWhole}
@@ -57,7 +62,48 @@ only_of_unused m only_now old new honest settled same bytes since = settled byte
 pub settled_of_read : {D : Type 0} (m : DiskMeaning D) (old new : D) → m.honest old ≡ true → Only (m.content old) (m.image old) → IsOnlyRead m old new → Only (m.content new) (m.image new)
 settled_of_read m old new honest settled read bytes now = settled bytes (read.images honest bytes now) ∙ sym (read.same honest)
 
+-- a file that opens to lines has bytes
+pub not_empty_lines : (bytes : List ℕ) (lines : List (List ℕ)) → OpensTo (header_of 1) lines bytes → length bytes ≡ 0 → ⊥
+not_empty_lines [] lines opens none = let clash : Foreign ≡ Holding opens.0 lines = opens.1 in cc
+not_empty_lines (byte ∷ bytes) lines opens none = absurd (omega (arith, none))
+
 -- what is left of a life
+
+-- of disks that were only read, as they read at the end
+pub of_end : {D : Type 0} (m : DiskMeaning D) (fifo : Bool) (life : List Stage) (epoch : ℕ) (journal spare failures : D) → HasLife m fifo life epoch journal spare failures → (journal' spare' failures' : D) (one other bytes : List ℕ)
+    → IsReadAtEnd m journal spare journal' spare' one other → AreLinesRead m failures failures' bytes → OpensToLife fifo life epoch one other bytes
+of_end m fifo life epoch journal spare failures has journal' spare' failures' one other bytes end lines =
+    let first : one ≡ m.content journal = end.journal_is ∙ end.read.0.same has.honest.0 in
+    let second : other ≡ m.content spare = end.spare_is ∙ end.read.1.same has.honest.1 in
+    let third : bytes ≡ m.content failures = lines.lines_are ∙ lines.read.same has.honest_lines in
+    subst (λ (x : List ℕ). OpensToLife fifo life epoch x other bytes) (sym first)
+    (subst (λ (y : List ℕ). OpensToLife fifo life epoch (m.content journal) y bytes) (sym second)
+    (subst (λ (z : List ℕ). OpensToLife fifo life epoch (m.content journal) (m.content spare) z) (sym third) has.opens))
+
+module _ {D : Type 0} (m : DiskMeaning D) (fifo : Bool) (life : List Stage) (epoch : ℕ) (journal spare failures : D) (has : HasLife m fifo life epoch journal spare failures) where
+  -- of those that `compact` wrote
+
+  pub of_compacted : (journal' spare' : D) (before after : ℕ) → HasCompacted m journal spare journal' spare' before after → Compacts m (content life) journal' spare'
+  of_compacted journal' spare' before after wrote = compacts m journal spare journal' spare' before after epoch (content life) wrote has.honest has.opens.content_is
+
+  pub of_written : (journal' spare' : D) (by : Compacts m (content life) journal' spare') (one other bytes : List ℕ) → pair_opened (header_of 2) one other ≡ Holding by.epoch by.list → bytes ≡ m.content failures → OpensToLife fifo (Rewritten by.list ∷ life) by.epoch one other bytes
+  of_written journal' spare' by one other bytes opens same_lines = record {
+    is_life = (has.opens.is_life, record { same = by.compacted.same; good = by.compacted.good_again });
+    content_is = opens;
+    lines_are = subst (λ (z : List ℕ). OpensTo (header_of 1) (dead_lines life) z) (sym same_lines) has.opens.lines_are;
+  }
+
+  pub adds_rewritten : (journal' spare' failures' : D) → HasWritten m command.Compact journal spare journal' spare' → failures' ≡ failures → AddsRewritten m fifo journal spare failures journal' spare' failures' life
+  adds_rewritten journal' spare' failures' wrote same_lines =
+      let by = of_compacted journal' spare' wrote.0 wrote.1 wrote.2 in
+      record {
+        written = wrote;
+        lines_same = same_lines;
+        list = by.list;
+        epoch = by.epoch;
+        opens = of_written journal' spare' by (m.content journal') (m.content spare') (m.content failures') by.holds.opens (ap m.content same_lines);
+        settled = by.holds.settled;
+      }
 
 module _ {D F : Type 0} (m : DiskMeaning D) (laws : AreLaws F m) (fifo : Bool) (life : List Stage) (epoch : ℕ) (journal spare failures : D) (has : HasLife m fifo life epoch journal spare failures) where
   pub of_same : (one other bytes : List ℕ) → one ≡ m.content journal → other ≡ m.content spare → bytes ≡ m.content failures → OpensToLife fifo life epoch one other bytes
@@ -78,9 +124,6 @@ module _ {D F : Type 0} (m : DiskMeaning D) (laws : AreLaws F m) (fifo : Bool) (
     pub honest_lines : m.honest f.failures ≡ true
     honest_lines = at_files (λ j s d. m.honest d ≡ true) has.honest_lines
 
-    pub settled_files : AreSettled m f.journal f.spare
-    settled_files = at_files (λ j s d. AreSettled m j s) has.settled
-
     pub found_in : IsOpenedFiles m f → HasFoundLife fifo f life
     found_in opened = laws.found f fifo life epoch opened honest_files honest_lines (at_files (λ j s d. OpensToLife fifo life epoch (m.content j) (m.content s) (m.content d)) has.opens)
 
@@ -88,19 +131,21 @@ module _ {D F : Type 0} (m : DiskMeaning D) (laws : AreLaws F m) (fifo : Bool) (
 
     module _ (callers : Outside F) (line : List ℕ → List ℕ) (config : Config) (calls visibility : ℕ) (kind : is_fifo config.kind ≡ fifo) (messages : List Message) (s : QueueSetting) (h : List Entry) (trouble : Option Trouble) (hand : List Entry) (new : Devices D F)
         (run : HasRunOver m callers line config calls visibility f messages s h trouble hand new) where
-      pub of_run : (one other bytes : List ℕ) → m.since new.journal (m.moment journal) one → m.since new.spare (m.moment spare) other → m.since new.failures (m.moment failures) bytes → LeavesLife fifo life s h f.pair.epoch one other bytes
-      of_run one other bytes since since_spare since_lines =
-          subst (λ (b : Bool). LeavesLife b life s h f.pair.epoch one other bytes) kind
+      pub of_run : (one other bytes : List ℕ) → AreLeft m f journal spare new.journal new.spare one other → AreLinesSinceStart m failures new.failures bytes ⊎ m.since new.failures (m.moment f.dest.disk) bytes → LeavesLife callers.gave fifo life s h f.pair.epoch one other bytes
+      of_run one other bytes left lines_left =
+          subst (λ (b : Bool). LeavesLife callers.gave b life s h f.pair.epoch one other bytes) kind
           (laws.goes_on callers line config calls visibility f messages s h trouble hand new one other bytes life run
           (record {
             honest = honest_files;
-            settled = settled_files;
             honest_lines = honest_lines;
-            settled_lines = at_files (λ j s d. Only (m.content d) (m.image d)) has.settled_lines;
-            journal_since = subst (λ (j : D). m.since new.journal (m.moment j) one) (sym journal_is) since;
-            spare_since = subst (λ (s : D). m.since new.spare (m.moment s) other) (sym spare_is) since_spare;
-            lines_since = subst (λ (d : D). m.since new.failures (m.moment d) bytes) (sym failures_is) since_lines;
+            left = at_files (λ j s d. IsSinceStart m j s new.journal new.spare one other ⊎ IsSinceOpening m f new.journal new.spare one other) left;
+            lines_left = at_files (λ j s d. AreLinesSinceStart m d new.failures bytes ⊎ m.since new.failures (m.moment f.dest.disk) bytes) lines_left;
           }) (subst (λ (b : Bool). HasFoundLife b f life) (sym kind) (found_in run.opened)))
+
+      -- the dead-letter file is as it was opened
+      lines_settled : Only (m.content new.failures) (m.image new.failures)
+      lines_settled =
+          subst (λ (d : D). Only (m.content d) (m.image d)) (sym run.headline.failures_same) (run.opened.lines_kept (run.opened.lines_read.honesty ∙ honest_lines) run.opened.dest_up).durable
 
       pub of_whole : (trouble ≡ Some Disk → ⊥) → OpensToLife fifo (Ran (stage_of s h h) ∷ life) f.pair.epoch (m.content new.journal) (m.content new.spare) (m.content new.failures) × AreSettled m new.journal new.spare × Only (m.content new.failures) (m.image new.failures)
       of_whole up =
@@ -115,23 +160,21 @@ module _ {D F : Type 0} (m : DiskMeaning D) (laws : AreLaws F m) (fifo : Bool) (
               lines_are = subst (OpensTo (header_of 1) (dead_lines life)) (sym lines) has.opens.lines_are;
             },
             holds.settled,
-            settled_of_read m f.failures new.failures honest_lines (at_files (λ j s d. Only (m.content d) (m.image d)) has.settled_lines) run.headline.failures_read,
+            lines_settled,
           )
 
     -- of a redrive
 
     module _ (gave : ℕ → Bool) (w : Words) (kind : is_fifo w.config.kind ≡ fifo) (messages : List Message) (s : RedriveSetting) (h : List Entry) (trouble : Option Trouble) (hand tried : List Entry) (new : RedriveDisks D) (opened : IsOpenedFiles m f) (setting : IsRedriveSettingOf w f messages s)
         (headline : RedriveHeadline m gave f s h trouble hand tried new) where
-      pub of_redrive : (one other bytes : List ℕ) → m.since new.journal (m.moment journal) one → m.since new.spare (m.moment spare) other → m.image new.dead bytes → redrives.LeavesLife fifo life s h f.pair.epoch one other bytes
-      of_redrive one other bytes since since_spare now =
-          subst (λ (b : Bool). redrives.LeavesLife b life s h f.pair.epoch one other bytes) kind
+      pub of_redrive : (one other bytes : List ℕ) → AreLeft m f journal spare new.journal new.spare one other → m.image new.dead bytes → redrives.LeavesLife gave fifo life s h f.pair.epoch one other bytes
+      of_redrive one other bytes left now =
+          subst (λ (b : Bool). redrives.LeavesLife gave b life s h f.pair.epoch one other bytes) kind
           (laws.redriven gave w f messages s h trouble hand tried new one other bytes life opened setting headline
           (record {
             honest = honest_files;
-            settled = settled_files;
             honest_lines = honest_lines;
-            journal = subst (λ (j : D). m.since new.journal (m.moment j) one) (sym journal_is) since;
-            spare = subst (λ (s : D). m.since new.spare (m.moment s) other) (sym spare_is) since_spare;
+            left = at_files (λ j s d. IsSinceStart m j s new.journal new.spare one other ⊎ IsSinceOpening m f new.journal new.spare one other) left;
             dead = now;
           }) (subst (λ (b : Bool). HasFoundLife b f life) (sym kind) (found_in opened)))
 

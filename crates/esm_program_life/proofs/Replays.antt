@@ -1,19 +1,16 @@
 -- What `replay` leaves of a life: with the replay one further stage.
 use Rattle.std.proofs.Common.{◌≡◌, ◌∙◌, ◌⊎◌, ℕ, List, [], ◌∷◌, ◌++◌, Option, Some, None, ap, append-nil, arith, inl, inr, refl, subst, sym}
-use Rattle.std.specs.Prelude.{◌≢◌, filter_map, reverse}
+use Rattle.std.specs.Prelude.{filter_map, reverse}
 use Rattle.esm_folder.specs.Upkeep.{AreOnlyRead, AreSettled, OneRose, found}
 use Rattle.esm_input.specs.declared.ending.InputEnd.{InputEnd}
 use Rattle.esm_input.specs.Positions.{from_start}
 use Rattle.esm_input.specs.Reading.{handed, items_read}
 use Rattle.esm_io.specs.Meanings.{DiskMeaning}
-use Rattle.esm_io.specs.Told.{Grows}
 use Rattle.esm_journal.specs.File.{Holding}
 use Rattle.esm_journal.specs.Pair.{first_disk, second_disk}
 use Rattle.esm_journal_record.specs.EntryPayload.{entry_payload}
 use Rattle.esm_life.specs.Life.{Replay, Stage}
 use Rattle.esm_life.specs.Streams.{OpensToLife, replay_of}
-use Rattle.esm_mapping.specs.Named.{IsExpected}
-use Rattle.esm_mapping.specs.declared.expected.Expected.TheVariants.{Stream}
 use Rattle.esm_mapping.specs.declared.named.NamedMapping.{NamedMapping}
 use Rattle.esm_model.specs.declared.book.Trouble.{Trouble}
 use Rattle.esm_model.specs.declared.book.Trouble.TheVariants as trouble
@@ -21,17 +18,15 @@ use Rattle.esm_model.specs.declared.entry.Entry.{Entry}
 use Rattle.esm_model.specs.declared.item.Item.{Item}
 use Rattle.esm_model.specs.declared.item.LineKind.TheVariants as kinds
 use Rattle.esm_model.specs.declared.item.Record.{Record}
+use Rattle.esm_program_life.specs.Ran.{HasReplayed}
 use Rattle.esm_program_life.specs.Reads.{HasRead}
 use Rattle.esm_program_life.specs.Streams.{HasLife, IsReplayOf}
 use Rattle.esm_program_life.proofs.ReadInputs.{all_read}
 use Rattle.esm_program_life.proofs.Disks.{AreLaws, AreLeft, found_in, honest_files, may_be}
-use Rattle.esm_replay.specs.Coming.{first_change}
 use Rattle.esm_replay_life.specs.ReplayLife.{IsReplayRunOver, ReplayRun}
-use Rattle.esm_replay_book.specs.Serving.{records_in_items}
-use Rattle.esm_replay_model.specs.ReplayRun.{replay_calls}
 use Rattle.esm_replay_model.specs.ReplaySetting.{ReplaySetting}
-use Rattle.esm_replay_run.specs.Ended.{HasEnded, HasLogged, HasNotBegun, HasRun, HasStoppedRun, IsCauseOf, IsFaultOf, Telling, trouble_of}
-use Rattle.esm_replay_run.specs.Headline.{Disks, Headline, IsSettingOf, SomeCame}
+use Rattle.esm_replay_run.specs.Ended.{HasEnded, HasNotBegun, HasRun, HasStoppedRun, IsCauseOf, IsFaultOf, Telling, trouble_of}
+use Rattle.esm_replay_run.specs.Headline.{Disks}
 use Rattle.esm_replay_run.specs.declared.report.ReplayCounts.{ReplayCounts}
 use Rattle.esm_replay_run.specs.declared.run.ReplayEnd.{ReplayEnd}
 use Rattle.esm_replay_run.specs.declared.run.ReplayEnd.TheVariants as end
@@ -39,34 +34,9 @@ use Rattle.esm_run.specs.Answers.{IsReadyFor}
 use Rattle.esm_run.specs.FirstCaller.{IsFirstUsed}
 use Rattle.esm_run.specs.Replay.{replay_asks, replay_disks}
 use Rattle.esm_run.specs.World.{Seen}
-use Rattle.esm_runner.specs.Files.{FilesState, IsOpenedFiles}
+use Rattle.esm_runner.specs.Files.{FilesState}
 use Rattle.esm_runner.specs.Headline.{IsInHand}
 use Rattle.esm_workers.specs.Working.{Outside}
-
--- a replay ran over these disks, whatever ended or stopped it; where a disk failed, this was told too
-pub record HasReplayed {D F : Type 0} (t : Telling D F) (told : Type 0) (status : ℕ) (config : List ℕ) (reads : NamedMapping → List Item → Type 0) (calls : ℕ) (h : List Entry) (journal spare : D) (old new_callers : List F) (new : Disks D) : Type 0 where
-  pub mapping : NamedMapping
-  pub named : IsExpected Stream config mapping
-  pub files : FilesState D
-  pub journal_is : files.journal ≡ journal
-  pub spare_is : files.spare ≡ spare
-  pub opened : IsOpenedFiles t.disk files
-  pub items : List Item
-  pub read : reads mapping items
-  pub came : List Record
-  pub some_came : SomeCame came (records_in_items items)
-  pub unchanged : first_change files.said [] came ≡ None
-  pub setting : ReplaySetting
-  pub is_setting : IsSettingOf mapping.config calls files came setting
-  pub trouble_is : Option Trouble
-  pub hand : List Entry
-  pub headline : Headline t.disk t.callers.gave files setting h trouble_is hand new
-  pub caller : F
-  pub caller_left : F
-  pub first_used : IsFirstUsed old new_callers caller caller_left
-  pub calls_made : HasLogged t.callers.sends setting h (t.callers.log caller) (t.callers.log caller_left)
-  pub calls_ended : status ≢ 70 → Grows (t.callers.log caller) (t.callers.log caller_left) (replay_calls setting t.callers.sends h)
-  pub fault : trouble_is ≡ Some trouble.Disk → OneRose t.disk journal spare new.journal new.spare × told
 
 -- such a replay as `esm` tells of it
 
@@ -222,6 +192,7 @@ module _ {D F : Type 0} (t : Telling D F) (laws : AreLaws F t.disk) (life : List
     came = ran.some_came;
     records_are = ap (λ (s : ReplaySetting). s.base.streams) ran.is_setting.is;
     happened_is = refl;
+    moments = ran.headline.hand_given;
     caller = ran.caller;
     caller_left = ran.caller_left;
     first_used = ran.first_used;
@@ -229,7 +200,7 @@ module _ {D F : Type 0} (t : Telling D F) (laws : AreLaws F t.disk) (life : List
     calls_ended = ran.calls_ended;
   }
 
-  pub adds_replay : (one other : List ℕ) → AreLeft t.disk journal spare new.journal new.spare one other → AddsReplay t.callers life status config reads calls h old new_callers one other
+  pub adds_replay : (one other : List ℕ) → AreLeft t.disk ran.files journal spare new.journal new.spare one other → AddsReplay t.callers life status config reads calls h old new_callers one other
   adds_replay one other left =
       let by = laws.replayed t.callers.gave ran.mapping.config calls ran.files ran.came ran.setting h ran.trouble_is ran.hand new one other life ran.opened ran.is_setting ran.unchanged ran.headline
       (may_be t.disk laws life epoch journal spare has ran.files ran.journal_is ran.spare_is new.journal new.spare one other left) (found_in t.disk laws life epoch journal spare has ran.files ran.journal_is ran.spare_is ran.opened) in

@@ -1,6 +1,5 @@
 -- What `run` and `ddb` leave of a life: with the run of a stream's mapping one further stage.
 use Rattle.std.proofs.Common.{◌≡◌, ℕ, Bool, List, ◌∷◌, Option, Some, None, ap, inl, refl, subst}
-use Rattle.std.specs.Prelude.{◌≢◌}
 use Rattle.esm_folder.specs.Upkeep.{AreSettled, OneRose}
 use Rattle.esm_input.specs.declared.ending.InputEnd.{InputEnd}
 use Rattle.esm_input.specs.Positions.{from_start}
@@ -16,8 +15,9 @@ use Rattle.esm_model.specs.declared.item.Item.{Item}
 use Rattle.esm_model.specs.declared.item.LineKind.TheVariants as kinds
 use Rattle.esm_model.specs.declared.item.Record.{Record}
 use Rattle.esm_model.specs.Setting.{Setting}
+use Rattle.esm_program_life.specs.Ran.{HasRanOver, TellsNoTrouble}
 use Rattle.esm_program_life.specs.Reads.{HasRead}
-use Rattle.esm_program_life.specs.Streams.{HasLife, IsRunOf, IsWholeRun, TellsNoTrouble}
+use Rattle.esm_program_life.specs.Streams.{HasLife, IsRunOf, IsWholeRun}
 use Rattle.esm_program_life.proofs.Disks.{AreLaws, AreLeft, of_run, of_whole}
 use Rattle.esm_report.specs.declared.ending.Ending.{Ending}
 use Rattle.esm_run.specs.Answers.{IsReadyFor}
@@ -26,30 +26,11 @@ use Rattle.esm_run.specs.Headline.{Headline as ToldHeadline}
 use Rattle.esm_run.specs.World.{Seen, devices_of}
 use Rattle.esm_runner.specs.Coming.{records_in_items}
 use Rattle.esm_runner.specs.Ended.{HasStoppedRun, IsCauseOf, IsFaultOf, trouble_of}
-use Rattle.esm_runner.specs.Files.{FilesState, IsOpenedFiles}
+use Rattle.esm_runner.specs.Files.{FilesState}
+use Rattle.esm_runner.specs.Given.{AreGiven}
 use Rattle.esm_runner.specs.Headline.{CallsMade, CallsMadeOrOneMore, Devices, Headline, IsSettingOf, Telling}
 use Rattle.esm_runner.specs.declared.run.MappingEnd.{MappingEnd}
 use Rattle.esm_runner.specs.declared.run.MappingEnd.TheVariants as end
-
--- a stream's mapping ran over these disks, whatever ended or stopped the run; where a disk failed, this was told too
-pub record HasRanOver {D F : Type 0} (t : Telling D F) (told : Type 0) (status : ℕ) (names : NamedMapping → Type 0) (reads : NamedMapping → List Item → Type 0) (calls : ℕ) (h : List Entry) (journal spare : D) (old : List F) (new : Devices D F) : Type 0 where
-  pub mapping : NamedMapping
-  pub named : names mapping
-  pub files : FilesState D
-  pub journal_is : files.journal ≡ journal
-  pub spare_is : files.spare ≡ spare
-  pub opened : IsOpenedFiles t.disk files
-  pub items : List Item
-  pub read : reads mapping items
-  pub setting : Setting
-  pub is_setting : IsSettingOf mapping.config calls files.said (records_in_items items) setting
-  pub trouble_is : Option Trouble
-  pub hand : List Entry
-  pub headline : Headline t files setting h trouble_is hand new
-  pub calls_made : CallsMadeOrOneMore t setting h old new.callers
-  pub calls_ended : status ≢ 70 → CallsMade t setting h old new.callers
-  pub no_trouble : TellsNoTrouble status → trouble_is ≡ None
-  pub fault : trouble_is ≡ Some trouble.Disk → OneRose t.disk journal spare new.journal new.spare × told
 
 -- such a run as `esm` tells of it
 
@@ -67,7 +48,9 @@ headline_of t first traced f s h trouble ending hand old new text told = record 
   in_hand = told.in_hand;
   hand_has_payload = told.hand_has_payload;
   hand_follows = told.hand_follows;
+  hand_given = told.hand_given;
   crash = told.crash_kept;
+  crash_since_opening = told.crash_since_opening;
   one_fate = told.one_fate;
   fate_is_earned = told.fate_is_earned;
   answers_are_logged = told.answers_are_logged;
@@ -189,8 +172,8 @@ module _ {D F : Type 0} (t : Telling D F) (laws : AreLaws F t.disk) (life : List
   over : HasRunOver t.disk t.callers t.line ran.mapping.config calls ran.files (records_in_items ran.items) ran.setting h ran.trouble_is ran.hand new
   over = record { opened = ran.opened; is_setting = ran.is_setting; headline = ran.headline }
 
-  run_is : (recorded : List Entry) → IsRunOf t status names reads calls h old new.callers (stage_of ran.setting h recorded)
-  run_is recorded = record {
+  run_is : (recorded : List Entry) → AreGiven t.callers.gave recorded → IsRunOf t status names reads calls h old new.callers (stage_of ran.setting h recorded)
+  run_is recorded moments = record {
     mapping = ran.mapping;
     named = ran.named;
     config_is = ap (λ (s : Setting). s.config) ran.is_setting.opened;
@@ -199,16 +182,17 @@ module _ {D F : Type 0} (t : Telling D F) (laws : AreLaws F t.disk) (life : List
     read = ran.read;
     came = ran.is_setting.came;
     happened_is = refl;
+    moments = moments;
     calls_made = ran.calls_made;
     calls_ended = ran.calls_ended;
   }
 
-  pub adds_run : (one other : List ℕ) → AreLeft t.disk journal spare new.journal new.spare one other → AddsRun t life status names reads calls h old new.callers one other
+  pub adds_run : (one other : List ℕ) → AreLeft t.disk ran.files journal spare new.journal new.spare one other → AddsRun t life status names reads calls h old new.callers one other
   adds_run one other left =
       let by = of_run t.disk laws life epoch journal spare has ran.files ran.journal_is ran.spare_is t.callers t.line ran.mapping.config calls (records_in_items ran.items) ran.setting h ran.trouble_is ran.hand new over one other left in
-      record { run = stage_of ran.setting h by.recorded; is_run = run_is by.recorded; epoch = ran.files.pair.epoch; opens = by.opens }
+      record { run = stage_of ran.setting h by.recorded; is_run = run_is by.recorded by.moments; epoch = ran.files.pair.epoch; opens = by.opens }
 
   pub adds_whole_run : ((OneRose t.disk journal spare new.journal new.spare × told) → ⊥) → AddsWholeRun t life status names reads calls h old new
   adds_whole_run none =
       let by = of_whole t.disk laws life epoch journal spare has ran.files ran.journal_is ran.spare_is t.callers t.line ran.mapping.config calls (records_in_items ran.items) ran.setting h ran.trouble_is ran.hand new over (λ is. none (ran.fault is)) in
-      record { run = stage_of ran.setting h h; is_run = run_is h; whole = record { recorded = refl; paid = λ quiet. by.2 (ran.no_trouble quiet) }; epoch = ran.files.pair.epoch; opens = by.0; settled = by.1 }
+      record { run = stage_of ran.setting h h; is_run = run_is h ran.headline.moments; whole = record { recorded = refl; paid = λ quiet. by.2 (ran.no_trouble quiet) }; epoch = ran.files.pair.epoch; opens = by.0; settled = by.1 }

@@ -1,5 +1,5 @@
 -- What each command leaves of a life, from what `esm` says of it.
-use Rattle.std.proofs.Common.{◌≡◌, ◌∙◌, ◌⊎◌, ◌+◌, ℕ, Bool, true, false, List, [], Option, Some, None, ap, inl, inr, refl, subst, sym, true≢false}
+use Rattle.std.proofs.Common.{◌≡◌, ◌∙◌, ◌⊎◌, ◌+◌, ℕ, Bool, true, false, List, [], Option, Some, None, ap, arith, inl, inr, refl, subst, sym, true≢false}
 use Rattle.std.specs.Prelude.{◌==◌, ◌≢◌, not}
 use Rattle.std.proofs.lemmas.Bool.{eqb-false, eqb-true}
 use Rattle.esm_cli.specs.Words.{spells}
@@ -7,12 +7,10 @@ use Rattle.esm_cli.specs.declared.command.Command.{Command}
 use Rattle.esm_cli.specs.declared.command.Command.TheVariants as command
 use Rattle.esm_cli.specs.declared.command.RunWords.{RunWords}
 use Rattle.esm_ddb.specs.declared.input.InputTurned.{InputTurned}
-use Rattle.esm_folder.specs.Init.{IsInitEnd}
 use Rattle.esm_folder.specs.Upkeep.{AreOnlyRead, OneRose}
 use Rattle.esm_folder.specs.declared.disks.Disks.{Disks}
-use Rattle.esm_folder.specs.declared.files.InitEnd.{InitEnd}
-use Rattle.esm_folder.specs.declared.files.InitEnd.TheVariants as init_end
 use Rattle.esm_input.specs.Reading.{handed}
+use Rattle.esm_life.specs.Left.{IsSinceOpening, IsSinceStart}
 use Rattle.esm_life.specs.Life.{Ran, Replay, Rewritten, Stage, content}
 use Rattle.esm_life.specs.Streams.{OpensToLife}
 use Rattle.esm_mapping.specs.Named.{IsExpected, IsNamed}
@@ -23,13 +21,16 @@ use Rattle.esm_model.specs.declared.book.Trouble.TheVariants as trouble
 use Rattle.esm_model.specs.declared.item.LineKind.TheVariants as kinds
 use Rattle.esm_model.specs.declared.names.FileName.TheVariants as file
 use Rattle.esm_model.specs.Valid.{is_stream}
-use Rattle.esm_program_life.specs.Streams.{AddsNothing, AddsStage, AddsWhole, HasLife, HasLooked, HidesNoFault, IsAsFound, IsSaid, KeepsLife, KeepsUntouched, KeepsWhole, NamesAStream, NoneFailed, TellsNoTrouble, is_run, reads_again, reads_records, reads_turned}
+use Rattle.esm_program_life.specs.Streams.{AddsNothing, AddsStage, AddsWhole, CompactsLife, HasLife, IsAsFound, IsSaid, KeepsLife, KeepsUntouched, KeepsWhole, MayRun, NamesAStream, NoneFailed, RanOver, is_run, reads_again, reads_records, reads_turned}
+use Rattle.esm_program_life.specs.Ran.{HasRanOver, HasReplayed, HidesNoFault, Shows, TellsNoTrouble}
 use Rattle.esm_program_life.specs.Reads.{NothingHappened}
+use Rattle.esm_program_life.specs.Written.{IsWrittenAtEnd}
 use Rattle.esm_program_life.proofs.ReadInputs.{all_read}
-use Rattle.esm_program_life.proofs.Disks.{AreLaws, AreLeft, OnlyNow, not_empty, of_read, of_read_now, of_unused, settled_of_read, version_of}
-use Rattle.esm_program_life.proofs.Replays.{HasReplayed, adds_replay, adds_whole_replay}
+use Rattle.esm_program_life.proofs.Disks.{AreLaws, OnlyNow, adds_rewritten, not_empty, not_empty_spare, of_compacted, of_end, of_read, of_read_now, of_unused, of_written, settled_of_read, version_of}
+use Rattle.esm_program_life.proofs.Replays.{adds_replay, adds_whole_replay}
 use Rattle.esm_program_life.proofs.Replays as replays
-use Rattle.esm_program_life.proofs.Runs.{HasRanOver, adds_run, adds_whole_run, of_ended, of_stopped}
+use Rattle.esm_program_life.proofs.Writes.{has_compacted, opens_now, told_so}
+use Rattle.esm_program_life.proofs.Runs.{adds_run, adds_whole_run, of_ended, of_stopped}
 use Rattle.esm_replay_run.specs.Ended as replay_ended
 use Rattle.esm_replay_run.specs.declared.run.ReplayEnd.{ReplayEnd}
 use Rattle.esm_replay_run.specs.declared.run.ReplayEnd.TheVariants as replay_end
@@ -41,13 +42,13 @@ use Rattle.esm_run.specs.Built.{SpellsBuilt}
 use Rattle.esm_run.specs.Commands.{HasEnded, IsCut, IsLeft, Outcome, redrive_words}
 use Rattle.esm_run.specs.Ddb.{DdbCause, IsDdbCut, all_left, ddb_asks, never_fails}
 use Rattle.esm_run.specs.Endings.{IsTold, ending_of, ending_of_ddb, ending_of_replay, failed_status_of, status_of}
-use Rattle.esm_run.specs.Initialized.{init_status}
 use Rattle.esm_run.specs.Redrive.{IsRedriveCut, RedriveCause, redrive_asks}
 use Rattle.esm_run.specs.Replay.{IsReplayCut, ReplayCause, replay_asks, replay_disks, replay_tells}
-use Rattle.esm_run.specs.World.{DevicesTell, ddb_tells, devices_of, disks_in, history, of_run, output, seen}
+use Rattle.esm_run.specs.World.{DevicesTell, ddb_tells, devices_of, history, of_run, output, seen}
 use Rattle.esm_run.specs.declared.asked.RedriveWords.{RedriveWords}
 use Rattle.esm_run.specs.declared.world.World.{World}
 use Rattle.esm_runner.specs.Ended.{trouble_of}
+use Rattle.esm_runner.specs.Files.{FilesState}
 use Rattle.esm_runner.specs.declared.run.MappingEnd.{MappingEnd}
 use Rattle.esm_runner.specs.declared.run.MappingEnd.TheVariants as end
 
@@ -131,10 +132,6 @@ module _ {S K D C F L N : Type 0} (t : DevicesTell S K D F L N) (old new : World
   nothing_happened : history new ≡ [] → new.callers.items ≡ old.callers.items → NothingHappened old new
   nothing_happened none uncalled = record { no_trace = none; uncalled = uncalled }
 
-  -- a fault is not hidden
-  abbrev Shows : Type 0
-  Shows = HidesNoFault status → ⊥
-
   unbegun : (a : Asks D) → HasNotBegun t.disk a (history new) (seen old) (seen new) → IsUnbegun
   unbegun a none = (none.unwritten.0, nothing_happened none.untouched.no_trace none.untouched.uncalled)
 
@@ -144,7 +141,7 @@ module _ {S K D C F L N : Type 0} (t : DevicesTell S K D F L N) (old new : World
   -- `run`
 
   abbrev CameOfRun : RunWords → Type 0
-  CameOfRun r = IsUnbegun ⊎ HasRanOver (of_run t).run Shows status (λ (mapping : NamedMapping). IsNamed t.disk r.which old.registry mapping) (reads_records t status old new) r.calls (history new) old.journal old.spare old.callers.items (devices_of (seen new))
+  CameOfRun r = IsUnbegun ⊎ HasRanOver (of_run t).run (Shows status) status (λ (mapping : NamedMapping). IsNamed t.disk r.which old.registry mapping) (reads_records t status old new) r.calls (history new) old.journal old.spare old.callers.items (devices_of (seen new))
 
   no_queue : (mapping : NamedMapping) → is_stream mapping.config.kind ≡ true → is_stream mapping.config.kind ≡ false → ⊥
   no_queue mapping stream queue = true≢false (sym stream ∙ queue)
@@ -152,7 +149,7 @@ module _ {S K D C F L N : Type 0} (t : DevicesTell S K D F L N) (old new : World
   run_caused : (r : RunWords) → NamesAStream t (command.Run r) old.registry → (text : List ℕ) (e : Ending) → RunCause (of_run t) r (history new) (seen old) (seen new) text e → Tells status e → CameOfRun r
   run_caused r names text e (inl none) tells = inl (unrun (asked (of_run t) r) text e none)
   run_caused r names text e (inr (inl ran)) tells =
-      inr (of_ended (of_run t).run (asked (of_run t) r) status (reads_records t status old new) r.calls (history new) (seen old) (seen new) Shows ran.mapping ran.files ran.ready (handed ran.input)
+      inr (of_ended (of_run t).run (asked (of_run t) r) status (reads_records t status old new) r.calls (history new) (seen old) (seen new) (Shows status) ran.mapping ran.files ran.ready (handed ran.input)
       (all_read t.input_faults t.left status kinds.Stream ran.mapping.config.factor ran.mapping.start old.input new.input ran.input ran.is_input.kind ran.is_input.factor ran.is_input.start_is ran.is_input.found ran.is_input.source ran.is_input.read)
       ran.setting ran.is_setting ran.end ran.input.end (t.left new.input) ran.cause
       (λ is. fault_told status e tells (ran.tells ∙ run_fault ran.end is)) (run_quiet status ran.end e ran.tells tells) ran.hand r.read_first r.trace e text ran.headline)
@@ -161,7 +158,7 @@ module _ {S K D C F L N : Type 0} (t : DevicesTell S K D F L N) (old new : World
   run_cut : (r : RunWords) → NamesAStream t (command.Run r) old.registry → status ≡ 70 → IsCut t (command.Run r) old new → CameOfRun r
   run_cut r names short (inl none) = inl (unbegun (asked (of_run t) r) none)
   run_cut r names short (inr (inl (inl ran))) =
-      inr (of_stopped (of_run t).run (asked (of_run t) r) status (reads_records t status old new) r.calls (history new) (seen old) (seen new) Shows (λ hides. hides.memory short) short t.left old.input new.input ran.mapping ran.files ran.ready (λ items read. read) ran.run)
+      inr (of_stopped (of_run t).run (asked (of_run t) r) status (reads_records t status old new) r.calls (history new) (seen old) (seen new) (Shows status) (λ hides. hides.memory short) short t.left old.input new.input ran.mapping ran.files ran.ready (λ items read. read) ran.run)
   run_cut r names short (inr (inl (inr queue))) = absurd (no_queue queue.mapping (names queue.mapping queue.ready.named) queue.kind)
   run_cut r names short (inr (inr ended)) = run_caused r names ended.1.text ended.0 ended.1.cause_is (inl short)
 
@@ -176,12 +173,12 @@ module _ {S K D C F L N : Type 0} (t : DevicesTell S K D F L N) (old new : World
   -- `ddb`
 
   abbrev CameOfDdb : (config : List ℕ) (calls : ℕ) → Type 0
-  CameOfDdb config calls = IsUnbegun ⊎ HasRanOver (ddb_tells (of_run t)) Shows status (λ (mapping : NamedMapping). IsExpected expected.DynamoDb config mapping) (reads_turned t status old new) calls (history new) old.journal old.spare old.callers.items (devices_of (seen new))
+  CameOfDdb config calls = IsUnbegun ⊎ HasRanOver (ddb_tells (of_run t)) (Shows status) status (λ (mapping : NamedMapping). IsExpected expected.DynamoDb config mapping) (reads_turned t status old new) calls (history new) old.journal old.spare old.callers.items (devices_of (seen new))
 
   ddb_caused : (config : List ℕ) (calls : ℕ) (traced : Bool) (text : List ℕ) (e : Ending) → DdbCause (of_run t) config calls traced (history new) (seen old) (seen new) text e → Tells status e → CameOfDdb config calls
   ddb_caused config calls traced text e (inl none) tells = inl (unrun (ddb_asks config) text e none)
   ddb_caused config calls traced text e (inr ran) tells =
-      inr (of_ended (ddb_tells (of_run t)) (ddb_asks config) status (reads_turned t status old new) calls (history new) (seen old) (seen new) Shows ran.mapping ran.files ran.ready (handed ran.input)
+      inr (of_ended (ddb_tells (of_run t)) (ddb_asks config) status (reads_turned t status old new) calls (history new) (seen old) (seen new) (Shows status) ran.mapping ran.files ran.ready (handed ran.input)
       (record {
         lines = ran.lines;
         reading = ran.reading;
@@ -195,7 +192,7 @@ module _ {S K D C F L N : Type 0} (t : DevicesTell S K D F L N) (old new : World
   ddb_cut config calls traced short (inl none) = inl (unbegun (ddb_asks config) none)
   ddb_cut config calls traced short (inr (inl turning)) = inl (turning.unwritten.0, nothing_happened turning.no_trace turning.uncalled)
   ddb_cut config calls traced short (inr (inr (inl ran))) =
-      inr (of_stopped (ddb_tells (of_run t)) (ddb_asks config) status (reads_turned t status old new) calls (history new) (seen old) (seen new) Shows (λ hides. hides.memory short) short all_left ran.lines ran.rest ran.mapping ran.files ran.ready
+      inr (of_stopped (ddb_tells (of_run t)) (ddb_asks config) status (reads_turned t status old new) calls (history new) (seen old) (seen new) (Shows status) (λ hides. hides.memory short) short all_left ran.lines ran.rest ran.mapping ran.files ran.ready
       (λ items read. record { lines = ran.lines; reading = ran.reading; is_turned = ran.is_turned; rest = ran.rest; read = read }) ran.run)
   ddb_cut config calls traced short (inr (inr (inr ended))) = ddb_caused config calls traced ended.1.text ended.0 ended.1.cause_is (inl short)
 
@@ -210,7 +207,7 @@ module _ {S K D C F L N : Type 0} (t : DevicesTell S K D F L N) (old new : World
   -- `replay`
 
   abbrev CameOfReplay : (config : List ℕ) (calls : ℕ) → Type 0
-  CameOfReplay config calls = IsUnbegun ⊎ HasReplayed (replay_tells (of_run t)) Shows status config (reads_again t status old new) calls (history new) old.journal old.spare old.callers.items new.callers.items (replay_disks (seen new))
+  CameOfReplay config calls = IsUnbegun ⊎ HasReplayed (replay_tells (of_run t)) (Shows status) status config (reads_again t status old new) calls (history new) old.journal old.spare old.callers.items new.callers.items (replay_disks (seen new))
 
   begun : {P : Type 0} → (AreOnlyRead t.disk old.journal old.spare new.journal new.spare × (history new ≡ []) × (new.callers.items ≡ old.callers.items)) ⊎ P → IsUnbegun ⊎ P
   begun (inl none) = inl (none.0, nothing_happened none.1 none.2)
@@ -219,13 +216,13 @@ module _ {S K D C F L N : Type 0} (t : DevicesTell S K D F L N) (old new : World
   replay_caused : (config : List ℕ) (calls : ℕ) (traced : Bool) (text : List ℕ) (e : Ending) → ReplayCause (of_run t) config calls traced (history new) (seen old) (seen new) text e → Tells status e → CameOfReplay config calls
   replay_caused config calls traced text e (inl none) tells = inl (unrun (replay_asks config) text e none)
   replay_caused config calls traced text e (inr ran) tells =
-      begun (replays.of_ended (replay_tells (of_run t)) t.input_faults t.left Shows status config (reads_again t status old new) calls (history new) (seen old) (seen new) ran.mapping ran.files ran.ready ran.caller ran.caller_left ran.first_used ran.reading ran.counts (λ items read. read) ran.end ran.run
+      begun (replays.of_ended (replay_tells (of_run t)) t.input_faults t.left (Shows status) status config (reads_again t status old new) calls (history new) (seen old) (seen new) ran.mapping ran.files ran.ready ran.caller ran.caller_left ran.first_used ran.reading ran.counts (λ items read. read) ran.end ran.run
       (λ is. fault_told status e tells (ran.tells ∙ replay_fault ran.end is)))
 
   replay_cut : (config : List ℕ) (calls : ℕ) (traced : Bool) → status ≡ 70 → IsReplayCut (of_run t) config calls traced (history new) (seen old) (seen new) → CameOfReplay config calls
   replay_cut config calls traced short (inl none) = inl (unbegun (replay_asks config) none)
   replay_cut config calls traced short (inr (inl ran)) =
-      begun (replays.of_stopped (replay_tells (of_run t)) t.input_faults t.left Shows status config (reads_again t status old new) calls (history new) (seen old) (seen new) ran.mapping ran.files ran.ready ran.caller ran.caller_left ran.first_used ran.reading ran.counts (λ items read. read) (λ hides. hides.memory short) short ran.run)
+      begun (replays.of_stopped (replay_tells (of_run t)) t.input_faults t.left (Shows status) status config (reads_again t status old new) calls (history new) (seen old) (seen new) ran.mapping ran.files ran.ready ran.caller ran.caller_left ran.first_used ran.reading ran.counts (λ items read. read) (λ hides. hides.memory short) short ran.run)
   replay_cut config calls traced short (inr (inr ended)) = replay_caused config calls traced ended.1.text ended.0 ended.1.cause_is (inl short)
 
   came_of_replay : (config : List ℕ) (calls timeout : ℕ) (traced : Bool) → (status ≢ 70 → HasEnded t (command.Replay config calls timeout traced) old new status) → (status ≡ 70 → IsCut t (command.Replay config calls timeout traced) old new) → CameOfReplay config calls
@@ -253,14 +250,36 @@ module _ {S K D C F L N : Type 0} (t : DevicesTell S K D F L N) (old new : World
 
   -- `init` over files that are there
 
-  init_read : (life : List Stage) (epoch : ℕ) → HasLife t.disk life epoch old.journal old.spare → HasLooked t command.Init old status → (status ≢ 70 → HasEnded t command.Init old new status) → AreOnlyRead t.disk old.journal old.spare new.journal new.spare
-  init_read life epoch has looked ended = let told = ended looked.1.memory in by told.end told.cause (elim told.told [ inl is ↦ inl is.0 | inr is ↦ inr is.0 ])
-    where
-      by : (e : InitEnd) → IsInitEnd t.disk (disks_in old) (disks_in new) e → (status ≡ init_status e) ⊎ (status ≡ 5) → AreOnlyRead t.disk old.journal old.spare new.journal new.spare
-      by init_end.Done made told = absurd (not_empty (t.disk.content old.journal) (t.disk.content old.spare) epoch (content life) has.opens.content_is (made file.Journal has.honest.0).0)
-      by (init_end.NotEmpty f size) why told = let read = (why looked.0).1 in (read file.Journal, read file.Spare)
-      by init_end.DiskFault rose (inl is) = absurd (looked.1.disk is)
-      by init_end.DiskFault rose (inr is) = absurd (looked.1.output is)
+  init_read : (life : List Stage) (epoch : ℕ) → HasLife t.disk life epoch old.journal old.spare → IsLeft t command.Init old new → AreOnlyRead t.disk old.journal old.spare new.journal new.spare
+  init_read life epoch has kept =
+      let one = t.disk.content old.journal in
+      let other = t.disk.content old.spare in
+      let opens = has.opens.content_is in
+      ((kept.files_left file.Journal).kept has.honest.0 (not_empty one other epoch (content life) opens), (kept.files_left file.Spare).kept has.honest.1 (not_empty_spare one other epoch (content life) opens))
+
+  -- over which files a mapping ran
+
+  may_run : (c : Command) → (status ≢ 70 → HasEnded t c old new status) → (status ≡ 70 → IsCut t c old new) → MayRun t c old new status
+  may_run (command.Run r) ended cut names is = elim (came_of_run r names ended cut) [
+    | inl none ↦ inl none
+    | inr ran ↦ inr (ran.files, (ran, refl))
+  ]
+  may_run (command.Ddb config calls timeout traced) ended cut names is = elim (came_of_ddb config calls timeout traced ended cut) [
+    | inl none ↦ inl none
+    | inr ran ↦ inr (ran.files, (ran, refl))
+  ]
+  may_run (command.Replay config calls timeout traced) ended cut names is = elim (came_of_replay config calls timeout traced ended cut) [
+    | inl none ↦ inl none
+    | inr ran ↦ inr (ran.files, (ran, refl))
+  ]
+  may_run (command.Redrive config receives calls visibility timeout traced) ended cut names is = absurd (true≢false (sym is))
+  may_run (command.Gen records) ended cut names is = absurd (true≢false (sym is))
+  may_run (command.Serve requests) ended cut names is = absurd (true≢false (sym is))
+  may_run command.Init ended cut names is = absurd (true≢false (sym is))
+  may_run command.Show ended cut names is = absurd (true≢false (sym is))
+  may_run command.Failures ended cut names is = absurd (true≢false (sym is))
+  may_run command.Migrate ended cut names is = absurd (true≢false (sym is))
+  may_run command.Compact ended cut names is = absurd (true≢false (sym is))
 
   -- what is left of a life
 
@@ -271,50 +290,107 @@ module _ {S K D C F L N : Type 0} (t : DevicesTell S K D F L N) (old new : World
     as_found : (c : Command) (one other : List ℕ) → (is_run c ≡ true → NothingHappened old new) → OpensToLife life epoch one other → Left c one other
     as_found c one other idle opens = inl (record { opens = opens; none_ran = idle })
 
-    unused : (same : new.journal ≡ old.journal) → new.spare ≡ old.spare → (c : Command) → (is_run c ≡ true → NothingHappened old new) → (one other : List ℕ) → AreLeft t.disk old.journal old.spare new.journal new.spare one other → Left c one other
+    unused : (same : new.journal ≡ old.journal) → new.spare ≡ old.spare → (c : Command) → (is_run c ≡ true → NothingHappened old new) → (one other : List ℕ) → IsSinceStart t.disk old.journal old.spare new.journal new.spare one other → Left c one other
     unused same same_spare c idle one other left = as_found c one other idle (of_unused t.disk laws.only_now life epoch old.journal old.spare has new.journal new.spare one other same same_spare left)
 
-    read : AreOnlyRead t.disk old.journal old.spare new.journal new.spare → (c : Command) → (is_run c ≡ true → NothingHappened old new) → (one other : List ℕ) → AreLeft t.disk old.journal old.spare new.journal new.spare one other → Left c one other
+    read : AreOnlyRead t.disk old.journal old.spare new.journal new.spare → (c : Command) → (is_run c ≡ true → NothingHappened old new) → (one other : List ℕ) → IsSinceStart t.disk old.journal old.spare new.journal new.spare one other → Left c one other
     read only c idle one other left = as_found c one other idle (of_read t.disk laws life epoch old.journal old.spare has new.journal new.spare one other only left)
 
-    of_run_came : (r : RunWords) (one other : List ℕ) → AreLeft t.disk old.journal old.spare new.journal new.spare one other → CameOfRun r → Left (command.Run r) one other
+    of_run_came : (r : RunWords) (one other : List ℕ) → IsSinceStart t.disk old.journal old.spare new.journal new.spare one other → CameOfRun r → Left (command.Run r) one other
     of_run_came r one other left (inl none) = read none.0 (command.Run r) (λ is. none.1) one other left
     of_run_came r one other left (inr ran) =
-        let by = adds_run (of_run t).run laws life epoch Shows status (λ (mapping : NamedMapping). IsNamed t.disk r.which old.registry mapping) (reads_records t status old new) r.calls (history new) old.journal old.spare old.callers.items (devices_of (seen new)) has ran one other left in
+        let by = adds_run (of_run t).run laws life epoch (Shows status) status (λ (mapping : NamedMapping). IsNamed t.disk r.which old.registry mapping) (reads_records t status old new) r.calls (history new) old.journal old.spare old.callers.items (devices_of (seen new)) has ran one other (inl left) in
         inr (record { stage = Ran by.run; may_add = by.is_run; epoch = by.epoch; opens = by.opens })
 
-    of_ddb_came : (config : List ℕ) (calls timeout : ℕ) (traced : Bool) (one other : List ℕ) → AreLeft t.disk old.journal old.spare new.journal new.spare one other → CameOfDdb config calls → Left (command.Ddb config calls timeout traced) one other
+    of_ddb_came : (config : List ℕ) (calls timeout : ℕ) (traced : Bool) (one other : List ℕ) → IsSinceStart t.disk old.journal old.spare new.journal new.spare one other → CameOfDdb config calls → Left (command.Ddb config calls timeout traced) one other
     of_ddb_came config calls timeout traced one other left (inl none) = read none.0 (command.Ddb config calls timeout traced) (λ is. none.1) one other left
     of_ddb_came config calls timeout traced one other left (inr ran) =
-        let by = adds_run (ddb_tells (of_run t)) laws life epoch Shows status (λ (mapping : NamedMapping). IsExpected expected.DynamoDb config mapping) (reads_turned t status old new) calls (history new) old.journal old.spare old.callers.items (devices_of (seen new)) has ran one other left in
+        let by = adds_run (ddb_tells (of_run t)) laws life epoch (Shows status) status (λ (mapping : NamedMapping). IsExpected expected.DynamoDb config mapping) (reads_turned t status old new) calls (history new) old.journal old.spare old.callers.items (devices_of (seen new)) has ran one other (inl left) in
         inr (record { stage = Ran by.run; may_add = by.is_run; epoch = by.epoch; opens = by.opens })
 
-    of_replay_came : (config : List ℕ) (calls timeout : ℕ) (traced : Bool) (one other : List ℕ) → AreLeft t.disk old.journal old.spare new.journal new.spare one other → CameOfReplay config calls → Left (command.Replay config calls timeout traced) one other
+    of_replay_came : (config : List ℕ) (calls timeout : ℕ) (traced : Bool) (one other : List ℕ) → IsSinceStart t.disk old.journal old.spare new.journal new.spare one other → CameOfReplay config calls → Left (command.Replay config calls timeout traced) one other
     of_replay_came config calls timeout traced one other left (inl none) = read none.0 (command.Replay config calls timeout traced) (λ is. none.1) one other left
     of_replay_came config calls timeout traced one other left (inr ran) =
-        let by = adds_replay (replay_tells (of_run t)) laws life epoch Shows status config (reads_again t status old new) calls (history new) old.journal old.spare old.callers.items new.callers.items (replay_disks (seen new)) has ran one other left in
+        let by = adds_replay (replay_tells (of_run t)) laws life epoch (Shows status) status config (reads_again t status old new) calls (history new) old.journal old.spare old.callers.items new.callers.items (replay_disks (seen new)) has ran one other (inl left) in
         inr (record { stage = Replay by.replay; may_add = by.is_replay; epoch = by.epoch; opens = by.opens })
 
-    keeps : (c : Command) → NamesAStream t c old.registry → HasLooked t c old status → (status ≢ 70 → HasEnded t c old new status) → (status ≡ 70 → IsCut t c old new) → IsLeft t c old new → (one other : List ℕ) → AreLeft t.disk old.journal old.spare new.journal new.spare one other → Left c one other
-    keeps (command.Run r) names looked ended cut kept one other left = of_run_came r one other left (came_of_run r names ended cut)
-    keeps (command.Ddb config calls timeout traced) names looked ended cut kept one other left = of_ddb_came config calls timeout traced one other left (came_of_ddb config calls timeout traced ended cut)
-    keeps (command.Replay config calls timeout traced) names looked ended cut kept one other left = of_replay_came config calls timeout traced one other left (came_of_replay config calls timeout traced ended cut)
-    keeps (command.Redrive config receives calls visibility timeout traced) names looked ended cut kept one other left =
+    keeps : (c : Command) → NamesAStream t c old.registry → (status ≢ 70 → HasEnded t c old new status) → (status ≡ 70 → IsCut t c old new) → IsLeft t c old new → (one other : List ℕ) → IsSinceStart t.disk old.journal old.spare new.journal new.spare one other → Left c one other
+    keeps (command.Run r) names ended cut kept one other left = of_run_came r one other left (came_of_run r names ended cut)
+    keeps (command.Ddb config calls timeout traced) names ended cut kept one other left = of_ddb_came config calls timeout traced one other left (came_of_ddb config calls timeout traced ended cut)
+    keeps (command.Replay config calls timeout traced) names ended cut kept one other left = of_replay_came config calls timeout traced one other left (came_of_replay config calls timeout traced ended cut)
+    keeps (command.Redrive config receives calls visibility timeout traced) names ended cut kept one other left =
         let w = redrive_words config receives calls visibility timeout traced in
         read (by_status status IsUnbegun (λ short. redrive_cut w names (cut short)) (λ known. let told = ended known in redrive_caused w names told.ended.text told.ending told.ended.cause_is)).0 (command.Redrive config receives calls visibility timeout traced) (λ is. absurd (true≢false (sym is))) one other left
-    keeps (command.Gen records) names looked ended cut kept one other left = unused (ap (λ w. w.journal) kept) (ap (λ w. w.spare) kept) (command.Gen records) (λ is. absurd (true≢false (sym is))) one other left
-    keeps (command.Serve requests) names looked ended cut kept one other left = unused (ap (λ w. w.journal) kept) (ap (λ w. w.spare) kept) (command.Serve requests) (λ is. absurd (true≢false (sym is))) one other left
-    keeps command.Init names looked ended cut kept one other left = read (init_read life epoch has looked ended) command.Init (λ is. absurd (true≢false (sym is))) one other left
-    keeps command.Show names looked ended cut kept one other left = read kept.files_left.used command.Show (λ is. absurd (true≢false (sym is))) one other left
-    keeps command.Failures names looked ended cut kept one other left =
+    keeps (command.Gen records) names ended cut kept one other left = unused (ap (λ w. w.journal) kept) (ap (λ w. w.spare) kept) (command.Gen records) (λ is. absurd (true≢false (sym is))) one other left
+    keeps (command.Serve requests) names ended cut kept one other left = unused (ap (λ w. w.journal) kept) (ap (λ w. w.spare) kept) (command.Serve requests) (λ is. absurd (true≢false (sym is))) one other left
+    keeps command.Init names ended cut kept one other left = read (init_read life epoch has kept) command.Init (λ is. absurd (true≢false (sym is))) one other left
+    keeps command.Show names ended cut kept one other left = read kept.files_left.used command.Show (λ is. absurd (true≢false (sym is))) one other left
+    keeps command.Failures names ended cut kept one other left =
         unused (ap (λ (d : Disks D). d.journal) kept.files_left.unused) (ap (λ (d : Disks D). d.spare) kept.files_left.unused) command.Failures (λ is. absurd (true≢false (sym is))) one other left
-    keeps command.Migrate names looked ended cut kept one other left =
+    keeps command.Migrate names ended cut kept one other left =
         read (kept.files_left.used.0.version_2 has.honest (version_of (t.disk.content old.journal) (t.disk.content old.spare) epoch (content life) has.opens.content_is)) command.Migrate (λ is. absurd (true≢false (sym is))) one other left
-    keeps command.Compact names looked ended cut kept one other left =
-        elim (laws.compacted life epoch old.journal old.spare new.journal new.spare one other kept.files_left.used.0 has.honest has.settled has.opens left.journal_since left.spare_since) [
+    keeps command.Compact names ended cut kept one other left =
+        elim (laws.compacted life epoch old.journal old.spare new.journal new.spare one other kept.files_left.used.0 has.honest left.settled has.opens left.journal_since left.spare_since) [
           | inl opens ↦ as_found command.Compact one other (λ is. absurd (true≢false (sym is))) opens
           | inr wrote ↦ inr (record { stage = Rewritten wrote.0; may_add = tt; epoch = epoch + 1; opens = wrote.1 })
         ]
+
+    -- and since it opened its files
+
+    opened_run : (r : RunWords) (one other : List ℕ) (files : FilesState D) → RanOver t (command.Run r) old new status files → IsSinceOpening t.disk files new.journal new.spare one other → Left (command.Run r) one other
+    opened_run r one other files over opening =
+        let ran = over.0 in
+        let by = adds_run (of_run t).run laws life epoch (Shows status) status (λ (mapping : NamedMapping). IsNamed t.disk r.which old.registry mapping) (reads_records t status old new) r.calls (history new) old.journal old.spare old.callers.items (devices_of (seen new)) has ran one other
+        (inr (subst (λ (f : FilesState D). IsSinceOpening t.disk f new.journal new.spare one other) (sym over.1) opening)) in
+        inr (record { stage = Ran by.run; may_add = by.is_run; epoch = by.epoch; opens = by.opens })
+
+    opened_ddb : (config : List ℕ) (calls timeout : ℕ) (traced : Bool) (one other : List ℕ) (files : FilesState D) → RanOver t (command.Ddb config calls timeout traced) old new status files → IsSinceOpening t.disk files new.journal new.spare one other
+        → Left (command.Ddb config calls timeout traced) one other
+    opened_ddb config calls timeout traced one other files over opening =
+        let ran = over.0 in
+        let by = adds_run (ddb_tells (of_run t)) laws life epoch (Shows status) status (λ (mapping : NamedMapping). IsExpected expected.DynamoDb config mapping) (reads_turned t status old new) calls (history new) old.journal old.spare old.callers.items (devices_of (seen new)) has ran one other
+        (inr (subst (λ (f : FilesState D). IsSinceOpening t.disk f new.journal new.spare one other) (sym over.1) opening)) in
+        inr (record { stage = Ran by.run; may_add = by.is_run; epoch = by.epoch; opens = by.opens })
+
+    opened_replay : (config : List ℕ) (calls timeout : ℕ) (traced : Bool) (one other : List ℕ) (files : FilesState D) → RanOver t (command.Replay config calls timeout traced) old new status files → IsSinceOpening t.disk files new.journal new.spare one other
+        → Left (command.Replay config calls timeout traced) one other
+    opened_replay config calls timeout traced one other files over opening =
+        let ran = over.0 in
+        let by = adds_replay (replay_tells (of_run t)) laws life epoch (Shows status) status config (reads_again t status old new) calls (history new) old.journal old.spare old.callers.items new.callers.items (replay_disks (seen new)) has ran one other
+        (inr (subst (λ (f : FilesState D). IsSinceOpening t.disk f new.journal new.spare one other) (sym over.1) opening)) in
+        inr (record { stage = Replay by.replay; may_add = by.is_replay; epoch = by.epoch; opens = by.opens })
+
+    keeps_opened : (c : Command) (one other : List ℕ) (files : FilesState D) → RanOver t c old new status files → IsSinceOpening t.disk files new.journal new.spare one other → Left c one other
+    keeps_opened (command.Run r) one other files over opening = opened_run r one other files over opening
+    keeps_opened (command.Ddb config calls timeout traced) one other files over opening = opened_ddb config calls timeout traced one other files over opening
+    keeps_opened (command.Replay config calls timeout traced) one other files over opening = opened_replay config calls timeout traced one other files over opening
+    keeps_opened (command.Redrive config receives calls visibility timeout traced) one other files over opening = absurd over
+    keeps_opened (command.Gen records) one other files over opening = absurd over
+    keeps_opened (command.Serve requests) one other files over opening = absurd over
+    keeps_opened command.Init one other files over opening = absurd over
+    keeps_opened command.Show one other files over opening = absurd over
+    keeps_opened command.Failures one other files over opening = absurd over
+    keeps_opened command.Migrate one other files over opening = absurd over
+    keeps_opened command.Compact one other files over opening = absurd over
+
+    -- and where it wrote the pair and came to its end
+
+    keeps_written : (c : Command) (one other : List ℕ) → IsWrittenAtEnd t.disk c old.journal old.spare new.journal new.spare one other → Left c one other
+    keeps_written command.Compact one other wrote =
+        let by = of_compacted t.disk laws.only_now life epoch old.journal old.spare has new.journal new.spare wrote.written.0 wrote.written.1 wrote.written.2 in
+        let opens = opens_now t.disk by.epoch by.list new.journal new.spare one other by.holds wrote.journal_now wrote.spare_now in
+        inr (record { stage = Rewritten by.list; may_add = tt; epoch = by.epoch; opens = of_written t.disk laws.only_now life epoch old.journal old.spare has new.journal new.spare by one other opens })
+    keeps_written command.Migrate one other wrote =
+        absurd (true≢false (sym (version_of (t.disk.content old.journal) (t.disk.content old.spare) epoch (content life) has.opens.content_is) ∙ (wrote.written.1 has.honest).version))
+    keeps_written (command.Run r) one other wrote = absurd wrote.written
+    keeps_written (command.Ddb config calls timeout traced) one other wrote = absurd wrote.written
+    keeps_written (command.Replay config calls timeout traced) one other wrote = absurd wrote.written
+    keeps_written (command.Redrive config receives calls visibility timeout traced) one other wrote = absurd wrote.written
+    keeps_written (command.Gen records) one other wrote = absurd wrote.written
+    keeps_written (command.Serve requests) one other wrote = absurd wrote.written
+    keeps_written command.Init one other wrote = absurd wrote.written
+    keeps_written command.Show one other wrote = absurd wrote.written
+    keeps_written command.Failures one other wrote = absurd wrote.written
 
     -- and of one that ran
 
@@ -325,29 +401,29 @@ module _ {S K D C F L N : Type 0} (t : DevicesTell S K D F L N) (old new : World
     nothing none c = inl (record {
       nothing = none.1;
       opens = of_read_now t.disk laws life epoch old.journal old.spare has new.journal new.spare none.0;
-      settled = settled_of_read t.disk laws life epoch old.journal old.spare has new.journal new.spare none.0;
+      settled = λ was. settled_of_read t.disk laws life epoch old.journal old.spare has new.journal new.spare none.0 was;
     })
 
-    unfailed : NoneFailed t.disk status old.journal old.spare new.journal new.spare → (OneRose t.disk old.journal old.spare new.journal new.spare × Shows) → ⊥
+    unfailed : NoneFailed t.disk status old.journal old.spare new.journal new.spare → (OneRose t.disk old.journal old.spare new.journal new.spare × (Shows status)) → ⊥
     unfailed (inl up) fault = up fault.0
     unfailed (inr hides) fault = fault.1 hides
 
     run_whole : (r : RunWords) → NoneFailed t.disk status old.journal old.spare new.journal new.spare → CameOfRun r → LeftWhole (command.Run r)
     run_whole r none (inl unbegun) = nothing unbegun (command.Run r)
     run_whole r none (inr ran) =
-        let by = adds_whole_run (of_run t).run laws life epoch Shows status (λ (mapping : NamedMapping). IsNamed t.disk r.which old.registry mapping) (reads_records t status old new) r.calls (history new) old.journal old.spare old.callers.items (devices_of (seen new)) has ran (unfailed none) in
+        let by = adds_whole_run (of_run t).run laws life epoch (Shows status) status (λ (mapping : NamedMapping). IsNamed t.disk r.which old.registry mapping) (reads_records t status old new) r.calls (history new) old.journal old.spare old.callers.items (devices_of (seen new)) has ran (unfailed none) in
         inr (record { stage = Ran by.run; may_add = by.is_run; whole = by.whole; epoch = by.epoch; opens = by.opens; settled = by.settled })
 
     ddb_whole : (config : List ℕ) (calls timeout : ℕ) (traced : Bool) → NoneFailed t.disk status old.journal old.spare new.journal new.spare → CameOfDdb config calls → LeftWhole (command.Ddb config calls timeout traced)
     ddb_whole config calls timeout traced none (inl unbegun) = nothing unbegun (command.Ddb config calls timeout traced)
     ddb_whole config calls timeout traced none (inr ran) =
-        let by = adds_whole_run (ddb_tells (of_run t)) laws life epoch Shows status (λ (mapping : NamedMapping). IsExpected expected.DynamoDb config mapping) (reads_turned t status old new) calls (history new) old.journal old.spare old.callers.items (devices_of (seen new)) has ran (unfailed none) in
+        let by = adds_whole_run (ddb_tells (of_run t)) laws life epoch (Shows status) status (λ (mapping : NamedMapping). IsExpected expected.DynamoDb config mapping) (reads_turned t status old new) calls (history new) old.journal old.spare old.callers.items (devices_of (seen new)) has ran (unfailed none) in
         inr (record { stage = Ran by.run; may_add = by.is_run; whole = by.whole; epoch = by.epoch; opens = by.opens; settled = by.settled })
 
     replay_whole : (config : List ℕ) (calls timeout : ℕ) (traced : Bool) → NoneFailed t.disk status old.journal old.spare new.journal new.spare → CameOfReplay config calls → LeftWhole (command.Replay config calls timeout traced)
     replay_whole config calls timeout traced none (inl unbegun) = nothing unbegun (command.Replay config calls timeout traced)
     replay_whole config calls timeout traced none (inr ran) =
-        let by = adds_whole_replay (replay_tells (of_run t)) laws life epoch Shows status config (reads_again t status old new) calls (history new) old.journal old.spare old.callers.items new.callers.items (replay_disks (seen new)) has ran (unfailed none) in
+        let by = adds_whole_replay (replay_tells (of_run t)) laws life epoch (Shows status) status config (reads_again t status old new) calls (history new) old.journal old.spare old.callers.items new.callers.items (replay_disks (seen new)) has ran (unfailed none) in
         inr (record { stage = Replay by.replay; may_add = by.is_replay; whole = by.whole; epoch = by.epoch; opens = by.opens; settled = by.settled })
 
     keeps_ran : (c : Command) → is_run c ≡ true → NamesAStream t c old.registry → NoneFailed t.disk status old.journal old.spare new.journal new.spare → (status ≢ 70 → HasEnded t c old new status) → (status ≡ 70 → IsCut t c old new) → LeftWhole c
@@ -377,17 +453,31 @@ module _ {S K D C F L N : Type 0} (t : DevicesTell S K D F L N) (words : List (L
       by (inl ended) = subst (λ (d : Command). HasEnded t d old new status) (one words ended.0 c ended.1.0 spelled.0) ended.2
       by (inr bad) = absurd (bad.none_spelled c spelled)
 
+-- what came of a command that runs a mapping
+pub command_ran : {S K D C F L N : Type 0} (t : DevicesTell S K D F L N) (words : List (List ℕ)) (old new : World S K D C F L) (status : ℕ) → IsSaid t words old new status → OneCommand → (c : Command) → SpellsBuilt words c → MayRun t c old new status
+command_ran t words old new status said one c spelled = may_run t old new status c (ended_so t words old new status said one c spelled) (λ short. (said.want_of_memory short).each c spelled)
+
 module _ {S K D C F L N : Type 0} (t : DevicesTell S K D F L N) (laws : AreLaws F t.disk) (words : List (List ℕ)) (old new : World S K D C F L) (status : ℕ) (said : IsSaid t words old new status) where
   pub command_keeps : OneCommand → (c : Command) (life : List Stage) (epoch : ℕ) → SpellsBuilt words c → KeepsLife t c old new status life epoch
-  command_keeps one c life epoch spelled has names looked first second since since_spare =
-      keeps t old new status laws life epoch has c names looked (ended_so t words old new status said one c spelled) (λ short. (said.want_of_memory short).each c spelled) (said.left c spelled) first second (record { journal_since = since; spare_since = since_spare })
+  command_keeps one c life epoch spelled has names first second (inl start) =
+      keeps t old new status laws life epoch has c names (ended_so t words old new status said one c spelled) (λ short. (said.want_of_memory short).each c spelled) (said.left c spelled) first second start
+  command_keeps one c life epoch spelled has names first second (inr (inl end)) = inl (record { opens = of_end t.disk laws.only_now life epoch old.journal old.spare has new.journal new.spare first second end.0; none_ran = end.1 })
+  command_keeps one c life epoch spelled has names first second (inr (inr (inl wrote))) = keeps_written t old new status laws life epoch has c first second wrote
+  command_keeps one c life epoch spelled has names first second (inr (inr (inr opened))) = keeps_opened t old new status laws life epoch has c first second opened.0 opened.1 opened.2
 
   pub command_whole : OneCommand → (c : Command) (life : List Stage) (epoch : ℕ) → SpellsBuilt words c → KeepsWhole t c old new status life epoch
   command_whole one c life epoch spelled has names is none = keeps_ran t old new status laws life epoch has c is names none (ended_so t words old new status said one c spelled) (λ short. (said.want_of_memory short).each c spelled)
 
+-- `compact` that ended with 0
+pub compact_writes : {S K D C F L N : Type 0} (t : DevicesTell S K D F L N) (only_now : OnlyNow t.disk) (words : List (List ℕ)) (old new : World S K D C F L) (status : ℕ) (life : List Stage) (epoch : ℕ) → IsSaid t words old new status → OneCommand → SpellsBuilt words command.Compact → CompactsLife t old new status life epoch
+compact_writes {D = D} t only_now words old new status life epoch said one spelled none has =
+    let told = ended_so t words old new status said one command.Compact spelled (λ (is : status ≡ 70). absurd (omega (arith, none, is))) in
+    adds_rewritten t.disk only_now life epoch old.journal old.spare has new.journal new.spare (has_compacted t.disk old.journal old.spare new.journal new.spare told.end told.cause (told_so told.end status (elim told.told [ inl is ↦ inl is.0 | inr is ↦ inr is.0 ]) none))
+
 -- where the words spell none
 pub refusal_keeps : {S K D C F L N : Type 0} (t : DevicesTell S K D F L N) → OnlyNow t.disk → (words : List (List ℕ)) (old new : World S K D C F L) (status : ℕ) (life : List Stage) (epoch : ℕ) → IsSaid t words old new status → ((c : Command) → ¬ SpellsBuilt words c)
     → KeepsUntouched t old new life epoch
-refusal_keeps t only_now words old new status life epoch said none has first second since since_spare =
+refusal_keeps t only_now words old new status life epoch said none has first second (inl start) =
     let same = said.untouched none in
-    of_unused t.disk only_now life epoch old.journal old.spare has new.journal new.spare first second (ap (λ w. w.journal) same) (ap (λ w. w.spare) same) (record { journal_since = since; spare_since = since_spare })
+    of_unused t.disk only_now life epoch old.journal old.spare has new.journal new.spare first second (ap (λ w. w.journal) same) (ap (λ w. w.spare) same) start
+refusal_keeps t only_now words old new status life epoch said none has first second (inr end) = of_end t.disk only_now life epoch old.journal old.spare has new.journal new.spare first second end

@@ -1,13 +1,14 @@
 -- Commands of a stream's folder one after the other, each ended or stopped at any moment, and what they leave of its life. What came
 -- last stands first. This product's own.
-use Rattle.std.specs.Prelude.{◌≡◌, ◌⊎◌, ◌+◌, ◌∷◌, ◌++◌, ℕ, true, List, [], Option, Some, None}
+use Rattle.std.specs.Prelude.{◌≡◌, ◌⊎◌, ◌+◌, ◌∷◌, ◌++◌, ℕ, Bool, true, false, List, [], Option, Some, None}
 use Rattle.esm_cli.specs.declared.command.Command.{Command}
-use Rattle.esm_cli.specs.declared.command.Command.TheVariants.{Migrate}
-use Rattle.esm_folder.specs.Upkeep.{AreHonest, AreSettled}
+use Rattle.esm_cli.specs.declared.command.Command.TheVariants.{Failures, Gen, Migrate, Serve, Show}
+use Rattle.esm_folder.specs.Upkeep.{AreHonest}
+use Rattle.esm_life.specs.Left.{IsReadAtEnd, IsSinceStart}
 use Rattle.esm_life.specs.Life.{Stage}
 use Rattle.esm_life.specs.Streams.{OpensToLife, OpensToLifeOfVersion1}
 use Rattle.esm_program_life.specs.Reads.{NothingHappened}
-use Rattle.esm_program_life.specs.Streams.{HasLooked, IsSaid, MayAdd, NamesAStream, is_run}
+use Rattle.esm_program_life.specs.Streams.{IsSaid, MayAdd, MayBeLeft, NamesAStream, is_run}
 use Rattle.esm_run.specs.Built.{SpellsBuilt}
 use Rattle.esm_run.specs.World.{DevicesTell}
 use Rattle.esm_run.specs.declared.world.World.{World}
@@ -33,23 +34,26 @@ Spell words (Some c) = SpellsBuilt words c
 Spell words None = (c : Command) → ¬ SpellsBuilt words c
 
 -- what is asked of the command
-abbrev pub IsFit : {S K D C F L N : Type 0} → DevicesTell S K D F L N → Option Command → (old : World S K D C F L) → (status : ℕ) → Type 0
-IsFit t (Some c) old status = NamesAStream t c old.registry × HasLooked t c old status
-IsFit t None old status = Unit {0}
+abbrev pub IsFit : {S K D C F L N : Type 0} → DevicesTell S K D F L N → Option Command → (old : World S K D C F L) → Type 0
+IsFit t (Some c) old = NamesAStream t c old.registry
+IsFit t None old = Unit {0}
+
+-- The bytes that may be left of the pair. Words that spell none open no files.
+abbrev pub MayBeLeftBy : {S K D C F L N : Type 0} → DevicesTell S K D F L N → Option Command → (old new : World S K D C F L) → (status : ℕ) → (one other : List ℕ) → Type 0
+MayBeLeftBy t (Some c) old new status one other = MayBeLeft t c old new status one other
+MayBeLeftBy t None old new status one other = IsSinceStart t.disk old.journal old.spare new.journal new.spare one other ⊎ IsReadAtEnd t.disk old.journal old.spare new.journal new.spare one other
 
 -- the command began on what was found, and `esm` says so much of its words
 pub record IsStep {S K D C F L N : Type 0} (t : DevicesTell S K D F L N) (found : PairBytes) (step : Step S K D C F L PairBytes) : Type 0 where
   pub spelled : Spell step.words step.command
   pub said : IsSaid t step.words step.old step.new step.status
-  pub fit : IsFit t step.command step.old step.status
-  -- its disks had these bytes; they are honest, and were synced when they were opened
+  pub fit : IsFit t step.command step.old
+  -- its disks had these bytes; they are honest
   pub honest : AreHonest t.disk step.old.journal step.old.spare
-  pub settled : AreSettled t.disk step.old.journal step.old.spare
   pub journal_found : t.disk.content step.old.journal ≡ found.journal
   pub spare_found : t.disk.content step.old.spare ≡ found.spare
-  -- and a crash may have left those
-  pub journal_left : t.disk.since step.new.journal (t.disk.moment step.old.journal) step.left.journal
-  pub spare_left : t.disk.since step.new.spare (t.disk.moment step.old.spare) step.left.spare
+  -- and those may have been left
+  pub left_so : MayBeLeftBy t step.command step.old step.new step.status step.left.journal step.left.spare
 
 -- what the newest of them left; where there is none, what was found
 abbrev pub left_by : {S K D C F L B : Type 0} → B → List (Step S K D C F L B) → B
@@ -96,10 +100,20 @@ StepsKeepLife t found steps life epoch = AreSteps t found steps → OpensToLife 
 
 -- of a pair of version 1
 
--- each command was `migrate`
+-- the command writes no pair of version 1 but as one of version 2: `migrate`, those that write none, and words that spell none
+abbrev pub may_migrate : Option Command → Bool
+may_migrate (Some Migrate) = true
+may_migrate (Some Show) = true
+may_migrate (Some Failures) = true
+may_migrate (Some (Gen records)) = true
+may_migrate (Some (Serve requests)) = true
+may_migrate None = true
+may_migrate (Some _) = false
+
+-- each command was such a one
 abbrev pub AreMigrations : {S K D C F L B : Type 0} → List (Step S K D C F L B) → Type 0
 AreMigrations [] = Unit {0}
-AreMigrations (step ∷ steps) = AreMigrations steps × (step.command ≡ Some Migrate)
+AreMigrations (step ∷ steps) = AreMigrations steps × (may_migrate step.command ≡ true)
 
 -- what they left opens to the same life, as the pair that it was or with the next epoch as one of version 2
 abbrev pub StepsMigrateLife : {S K D C F L N : Type 0} → DevicesTell S K D F L N → PairBytes → List (Step S K D C F L PairBytes) → List Stage → (epoch : ℕ) → Type 0

@@ -1,5 +1,9 @@
 pub mod Reads
+pub mod Written
+pub mod Ran
 pub mod Streams
 pub mod Commands
+pub mod QueueRan
 pub mod Queues
 pub mod QueueCommands
+pub mod DdbElements

@@ -2,13 +2,13 @@
 -- last stands first. This product's own.
 use Rattle.std.specs.Prelude.{◌≡◌, ◌⊎◌, ◌+◌, ◌∷◌, ◌++◌, ℕ, Bool, true, List, [], Option, Some, None}
 use Rattle.esm_cli.specs.declared.command.Command.{Command}
-use Rattle.esm_folder.specs.Upkeep.{AreHonest, AreSettled}
-use Rattle.esm_io.specs.Images.{Only}
+use Rattle.esm_folder.specs.Upkeep.{AreHonest}
+use Rattle.esm_life.specs.Left.{AreLinesRead, AreLinesSinceStart, IsReadAtEnd, IsSinceStart}
 use Rattle.esm_life.specs.Queues.{OpensToLife, OpensToLifeOfVersion1}
 use Rattle.esm_program_life.specs.Commands.{AreMigrations, Spell, Step, left_by}
-use Rattle.esm_program_life.specs.Queues.{MayAdd, MayBeLines, NamesAQueue, is_run}
+use Rattle.esm_program_life.specs.Queues.{MayAdd, MayBeLeft, NamesAQueue, is_run}
 use Rattle.esm_program_life.specs.Reads.{NothingHappened}
-use Rattle.esm_program_life.specs.Streams.{HasLooked, IsSaid}
+use Rattle.esm_program_life.specs.Streams.{IsSaid}
 use Rattle.esm_queue_life.specs.Life.{Stage}
 use Rattle.esm_run.specs.World.{DevicesTell}
 use Rattle.esm_run.specs.declared.world.World.{World}
@@ -20,32 +20,30 @@ pub record FileBytes : Type 0 where
   pub lines : List ℕ
 
 -- what is asked of the command
-abbrev pub IsFit : {S K D C F L N : Type 0} → DevicesTell S K D F L N → Bool → Option Command → (old : World S K D C F L) → (status : ℕ) → Type 0
-IsFit t fifo (Some c) old status = NamesAQueue t fifo c old.registry × HasLooked t c old status
-IsFit t fifo None old status = Unit {0}
+abbrev pub IsFit : {S K D C F L N : Type 0} → DevicesTell S K D F L N → Bool → Option Command → (old : World S K D C F L) → Type 0
+IsFit t fifo (Some c) old = NamesAQueue t fifo c old.registry
+IsFit t fifo None old = Unit {0}
 
--- the bytes that a crash may leave of the dead-letter file: of a redrive those at its end
-abbrev pub MayBeLeft : {S K D C F L N : Type 0} → DevicesTell S K D F L N → Option Command → (old new : World S K D C F L) → List ℕ → Type 0
-MayBeLeft t (Some c) old new bytes = MayBeLines t c old new bytes
-MayBeLeft t None old new bytes = t.disk.since new.failures (t.disk.moment old.failures) bytes
+-- The bytes that may be left of the three files. Words that spell no command open none.
+abbrev pub MayBeLeftBy : {S K D C F L N : Type 0} → DevicesTell S K D F L N → Option Command → (old new : World S K D C F L) → (status : ℕ) → (one other bytes : List ℕ) → Type 0
+MayBeLeftBy t (Some c) old new status one other bytes = MayBeLeft t c old new status one other bytes
+MayBeLeftBy t None old new status one other bytes =
+    (IsSinceStart t.disk old.journal old.spare new.journal new.spare one other × AreLinesSinceStart t.disk old.failures new.failures bytes)
+    ⊎ (IsReadAtEnd t.disk old.journal old.spare new.journal new.spare one other × AreLinesRead t.disk old.failures new.failures bytes)
 
 -- the command began on what was found, and `esm` says so much of its words
 pub record IsStep {S K D C F L N : Type 0} (t : DevicesTell S K D F L N) (fifo : Bool) (found : FileBytes) (step : Step S K D C F L FileBytes) : Type 0 where
   pub spelled : Spell step.words step.command
   pub said : IsSaid t step.words step.old step.new step.status
-  pub fit : IsFit t fifo step.command step.old step.status
-  -- its disks had these bytes; they are honest, and were synced when they were opened
+  pub fit : IsFit t fifo step.command step.old
+  -- its disks had these bytes; they are honest
   pub honest : AreHonest t.disk step.old.journal step.old.spare
   pub honest_lines : t.disk.honest step.old.failures ≡ true
-  pub settled : AreSettled t.disk step.old.journal step.old.spare
-  pub settled_lines : Only (t.disk.content step.old.failures) (t.disk.image step.old.failures)
   pub journal_found : t.disk.content step.old.journal ≡ found.journal
   pub spare_found : t.disk.content step.old.spare ≡ found.spare
   pub lines_found : t.disk.content step.old.failures ≡ found.lines
-  -- and a crash may have left those
-  pub journal_left : t.disk.since step.new.journal (t.disk.moment step.old.journal) step.left.journal
-  pub spare_left : t.disk.since step.new.spare (t.disk.moment step.old.spare) step.left.spare
-  pub lines_left : MayBeLeft t step.command step.old step.new step.left.lines
+  -- and those may have been left
+  pub left_so : MayBeLeftBy t step.command step.old step.new step.status step.left.journal step.left.spare step.left.lines
 
 -- each began on what the one before it left, the oldest on what was found
 abbrev pub AreSteps : {S K D C F L N : Type 0} → DevicesTell S K D F L N → Bool → FileBytes → List (Step S K D C F L FileBytes) → Type 0
@@ -85,7 +83,7 @@ pub record AddStages {S K D C F L N : Type 0} (t : DevicesTell S K D F L N) (fif
 abbrev pub StepsKeepLife : {S K D C F L N : Type 0} → DevicesTell S K D F L N → Bool → FileBytes → List (Step S K D C F L FileBytes) → List Stage → (epoch : ℕ) → Type 0
 StepsKeepLife t fifo found steps life epoch = AreSteps t fifo found steps → OpensToLife fifo life epoch found.journal found.spare found.lines → AddStages t fifo found steps life
 
--- of a pair of version 1 the same, where each command was `migrate`
+-- of a pair of version 1 the same, where each command is `migrate` or one that writes no journal
 abbrev pub StepsMigrateLife : {S K D C F L N : Type 0} → DevicesTell S K D F L N → Bool → FileBytes → List (Step S K D C F L FileBytes) → List Stage → (epoch : ℕ) → Type 0
 StepsMigrateLife t fifo found steps life epoch =
     AreSteps t fifo found steps → AreMigrations steps → OpensToLifeOfVersion1 fifo life epoch found.journal found.spare found.lines →

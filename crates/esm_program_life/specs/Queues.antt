@@ -1,6 +1,6 @@
 -- What a command leaves of the life of a queue's mapping, by the words of its command line and by what `esm` says of them. In each
 -- definition disks and worlds come first as they were handed in, and then as they were handed back. This product's own.
-use Rattle.std.specs.Prelude.{◌≡◌, ◌≢◌, ◌⊎◌, ◌+◌, ◌++◌, ◌∷◌, ℕ, Bool, true, false, List}
+use Rattle.std.specs.Prelude.{◌≡◌, ◌≢◌, ◌⊎◌, ◌+◌, ◌*◌, ◌++◌, ◌∷◌, ℕ, Bool, true, false, List}
 use Rattle.esm_cli.specs.declared.command.Command.{Command}
 use Rattle.esm_cli.specs.declared.command.Command.TheVariants as command
 use Rattle.esm_folder.specs.Init.{AreHonest as AllAreHonest}
@@ -9,6 +9,7 @@ use Rattle.esm_io.specs.Faults.{Rose}
 use Rattle.esm_io.specs.Images.{Only}
 use Rattle.esm_io.specs.Meanings.{DiskMeaning}
 use Rattle.esm_io.specs.Told.{Grows}
+use Rattle.esm_life.specs.Left.{AreLinesAtEnd, AreLinesRead, AreLinesSinceStart, IsReadAtEnd, IsSinceOpening, IsSinceStart}
 use Rattle.esm_life.specs.Queues.{HasBegunLife, OpensToLife, OpensToLifeOfVersion1}
 use Rattle.esm_mapping.specs.Named.{IsExpected, IsNamed}
 use Rattle.esm_mapping.specs.declared.expected.Expected.TheVariants as expected
@@ -18,15 +19,22 @@ use Rattle.esm_model.specs.declared.entry.Entry.{Entry}
 use Rattle.esm_model.specs.declared.item.Item.{Item}
 use Rattle.esm_model.specs.declared.item.Message.{Message}
 use Rattle.esm_model.specs.Valid.{is_stream}
+use Rattle.esm_program_life.specs.QueueRan.{HasRanOver, HasRedriven, HidesNoFault, Shows, TellsNoTrouble}
 use Rattle.esm_program_life.specs.Reads.{HasRead, NothingHappened}
-use Rattle.esm_program_life.specs.Streams.{HasLooked}
+use Rattle.esm_program_life.specs.Written.{HasWritten, IsWrittenAtEnd}
 use Rattle.esm_queue_life.specs.Life.{Ran, Redriven, Rewritten, Run, Stage}
 use Rattle.esm_queue_model.specs.QueueSetting.{is_fifo}
+use Rattle.esm_queue_model.specs.QueueStep.{SettledQueue}
 use Rattle.esm_redrive_life.specs.Life.{IsWhole as IsWholeRedrive, Redrive}
 use Rattle.esm_redrive_model.specs.RedriveReport.{redrive_calls}
+use Rattle.esm_run.specs.Answers.{IsUnwritten, visibility_of}
+use Rattle.esm_run.specs.Commands.{redrive_words}
 use Rattle.esm_run.specs.FirstCaller.{IsFirstUsed}
-use Rattle.esm_run.specs.World.{DevicesTell, disks_in, history, of_run}
+use Rattle.esm_run.specs.Redrive.{redrive_disks, redrive_tells}
+use Rattle.esm_run.specs.World.{DevicesTell, devices_of, disks_in, history, of_run, seen}
 use Rattle.esm_run.specs.declared.world.World.{World}
+use Rattle.esm_runner.specs.Files.{FilesState}
+use Rattle.esm_runner.specs.Given.{AreGiven}
 use Rattle.esm_runner.specs.Headline.{Telling}
 use Rattle.esm_runner.specs.QueueComing.{messages_in_items}
 use Rattle.esm_runner.specs.QueueEnded.{line_kind}
@@ -36,13 +44,10 @@ use Rattle.esm_workers.specs.Working.{Outside}
 
 -- what is asked of a command
 
--- The pair opens to the content that a life leaves, and the dead-letter file to its lines. The disks are honest, and each has one
--- image, as a disk has that was synced when it was opened.
+-- The pair opens to the content that a life leaves, and the dead-letter file to its lines. The disks are honest.
 pub record HasLife {D : Type 0} (m : DiskMeaning D) (fifo : Bool) (life : List Stage) (epoch : ℕ) (journal spare failures : D) : Type 0 where
   pub honest : AreHonest m journal spare
   pub honest_lines : m.honest failures ≡ true
-  pub settled : AreSettled m journal spare
-  pub settled_lines : Only (m.content failures) (m.image failures)
   pub opens : OpensToLife fifo life epoch (m.content journal) (m.content spare) (m.content failures)
 
 -- a queue of this kind, FIFO or standard
@@ -60,41 +65,44 @@ NamesAQueue t fifo (command.Ddb config calls timeout traced) registry = (mapping
 NamesAQueue t fifo (command.Replay config calls timeout traced) registry = (mapping : NamedMapping) → IsExpected expected.Stream config mapping → IsQueueOf fifo mapping.config.kind
 NamesAQueue t fifo _ registry = Unit {0}
 
--- the bytes that a crash may leave of the dead-letter file: of a redrive those at its end, else those at any moment since the
--- command began
-abbrev pub MayBeLines : {S K D C F L N : Type 0} → DevicesTell S K D F L N → Command → (old new : World S K D C F L) → List ℕ → Type 0
-MayBeLines t (command.Redrive config receives calls visibility timeout traced) old new bytes = t.disk.image new.failures bytes
-MayBeLines t _ old new bytes = t.disk.since new.failures (t.disk.moment old.failures) bytes
-
 -- stages
 
--- The run of a stage is the command's. What happened in it is the history that the command left, over the mapping and the calls of
--- its words; its messages are the first of those that were read of the input; and caller k's log, where told, is the old one followed by
--- the calls of batcher k in that run, or where want of memory stopped it perhaps by one further call of a lane that still runs.
-pub record IsRunOf {D F : Type 0} (t : Telling D F) (status : ℕ) (names : NamedMapping → Type 0) (reads : NamedMapping → List Item → Type 0) (calls : ℕ) (h : List Entry) (old new : List F) (run : Run) : Type 0 where
+-- The run of a stage is the command's. What happened in it is the history that the command left, over the mapping, the calls and the
+-- visibility timeout, in milliseconds, of its words; its messages are the first of those that were read of the input; and caller k's
+-- log, where told, is the old one followed by the calls of batcher k in that run, or where want of memory stopped it perhaps by one
+-- further call of a lane that still runs.
+pub record IsRunOf {D F : Type 0} (t : Telling D F) (status : ℕ) (names : NamedMapping → Type 0) (reads : NamedMapping → List Item → Type 0) (calls visibility : ℕ) (h : List Entry) (old new : List F) (run : Run) : Type 0 where
   pub mapping : NamedMapping
   pub named : names mapping
   pub config_is : run.setting.config ≡ mapping.config
   pub calls_are : run.setting.calls ≡ calls
+  pub visibility_is : run.setting.visibility ≡ visibility
   pub items : List Item
   pub read : reads mapping items
   pub came : (rest : List Message) × (messages_in_items items ≡ run.setting.messages ++ rest)
   pub happened_is : run.happened ≡ h
+  -- each moment of what the journal recorded of it is one that the clock gave
+  pub moments : AreGiven t.callers.gave run.recorded
   pub calls_made : CallsMadeOrOneMore t run.setting h old new
   pub calls_ended : status ≢ 70 → CallsMade t run.setting h old new
 
 -- The redrive of a stage is the command's; of the callers the first one alone was used. Its messages are the first of those that were
 -- read of the input.
-pub record IsRedriveOf {F : Type 0} (callers : Outside F) (status : ℕ) (config : List ℕ) (reads : NamedMapping → List Item → Type 0) (receives calls : ℕ) (h : List Entry) (old new : List F) (redrive : Redrive) : Type 0 where
+pub record IsRedriveOf {F : Type 0} (callers : Outside F) (status : ℕ) (config : List ℕ) (reads : NamedMapping → List Item → Type 0) (receives calls visibility : ℕ) (h : List Entry) (old new : List F) (redrive : Redrive) : Type 0 where
   pub mapping : NamedMapping
   pub named : IsExpected expected.Queue config mapping
   pub config_is : redrive.setting.queue.config ≡ mapping.config
   pub receives_are : redrive.setting.max_receives ≡ receives
   pub calls_are : redrive.setting.queue.calls ≡ calls
+  -- in milliseconds, and in seconds
+  pub visibility_is : redrive.setting.queue.visibility ≡ visibility * 1000
   pub items : List Item
   pub read : reads mapping items
   pub came : (rest : List Message) × (messages_in_items items ≡ redrive.setting.queue.messages ++ rest)
   pub happened_is : redrive.happened ≡ h
+  -- each moment of what the journal recorded of it, and of what the dead-letter file has the lines of, is one that the clock gave
+  pub moments : AreGiven callers.gave redrive.recorded
+  pub lines_given : AreGiven callers.gave redrive.lined
   pub caller : F
   pub caller_left : F
   pub first_used : IsFirstUsed old new caller caller_left
@@ -105,11 +113,21 @@ pub record IsRedriveOf {F : Type 0} (callers : Outside F) (status : ℕ) (config
 abbrev pub reads_messages : {S K D C F L N : Type 0} → DevicesTell S K D F L N → (status : ℕ) → (old new : World S K D C F L) → NamedMapping → List Item → Type 0
 reads_messages t status old new mapping items = HasRead t.left (line_kind mapping.config) mapping.config.factor mapping.config.start status old.input new.input items
 
+-- the command ran its mapping of a queue over these files
+abbrev pub RanOver : {S K D C F L N : Type 0} → DevicesTell S K D F L N → Command → (old new : World S K D C F L) → (status : ℕ) → FilesState D → Type 0
+RanOver t (command.Run r) old new status files =
+    (ran : HasRanOver (of_run t).run (Shows status) status (λ mapping. IsNamed t.disk r.which old.registry mapping) (reads_messages t status old new) r.calls (visibility_of r) (history new) old.journal old.spare old.failures old.callers.items (devices_of (seen new)))
+    × (ran.files ≡ files)
+RanOver t (command.Redrive config receives calls visibility timeout traced) old new status files =
+    (ran : HasRedriven (redrive_tells (of_run t)) (Shows status) status (redrive_words config receives calls visibility timeout traced) (reads_messages t status old new) (history new) old.journal old.spare old.failures old.callers.items new.callers.items (redrive_disks (seen new)))
+    × (ran.files ≡ files)
+RanOver t _ old new status files = ⊥
+
 -- the stage that a command may add to a life: `run` a run of its own, `redrive` a redrive of its own, `compact` the list that it
 -- wrote, and no other command any
 abbrev pub MayAdd : {S K D C F L N : Type 0} → DevicesTell S K D F L N → Command → (old new : World S K D C F L) → (status : ℕ) → Stage → Type 0
-MayAdd t (command.Run r) old new status (Ran run) = IsRunOf (of_run t).run status (λ mapping. IsNamed t.disk r.which old.registry mapping) (reads_messages t status old new) r.calls (history new) old.callers.items new.callers.items run
-MayAdd t (command.Redrive config receives calls visibility timeout traced) old new status (Redriven redrive) = IsRedriveOf (of_run t).run.callers status config (reads_messages t status old new) receives calls (history new) old.callers.items new.callers.items redrive
+MayAdd t (command.Run r) old new status (Ran run) = IsRunOf (of_run t).run status (λ mapping. IsNamed t.disk r.which old.registry mapping) (reads_messages t status old new) r.calls (visibility_of r) (history new) old.callers.items new.callers.items run
+MayAdd t (command.Redrive config receives calls visibility timeout traced) old new status (Redriven redrive) = IsRedriveOf (of_run t).run.callers status config (reads_messages t status old new) receives calls visibility (history new) old.callers.items new.callers.items redrive
 MayAdd t command.Compact old new status (Rewritten list) = Unit {0}
 MayAdd t _ old new status _ = ⊥
 
@@ -119,7 +137,35 @@ is_run (command.Run r) = true
 is_run (command.Redrive config receives calls visibility timeout traced) = true
 is_run _ = false
 
+-- A command that runs a mapping of a queue ran it over files that it had opened, or nothing happened, and nothing was written.
+abbrev pub MayRun : {S K D C F L N : Type 0} → DevicesTell S K D F L N → Bool → Command → (old new : World S K D C F L) → (status : ℕ) → Type 0
+MayRun {S} {K} {D} t fifo c old new status =
+    NamesAQueue t fifo c old.registry → is_run c ≡ true →
+    (IsUnwritten t.disk (seen old) (seen new) × NothingHappened old new) ⊎ ((files : FilesState D) × RanOver t c old new status files)
+
 -- what is left
+
+-- Bytes that a crash may leave of the dead-letter file: of a redrive those at its end, else those at any moment since the command
+-- began; so it had one image then, as a file has that was synced when it was opened.
+abbrev pub MayBeLines : {S K D C F L N : Type 0} → DevicesTell S K D F L N → Command → (old new : World S K D C F L) → List ℕ → Type 0
+MayBeLines t (command.Redrive config receives calls visibility timeout traced) old new bytes = AreLinesAtEnd t.disk old.failures new.failures bytes
+MayBeLines t _ old new bytes = AreLinesSinceStart t.disk old.failures new.failures bytes
+
+-- So where the command ran its mapping over these files: then nothing is asked of what the file was before.
+abbrev pub MayBeLinesOver : {S K D C F L N : Type 0} → DevicesTell S K D F L N → Command → FilesState D → (new : World S K D C F L) → List ℕ → Type 0
+MayBeLinesOver t (command.Redrive config receives calls visibility timeout traced) files new bytes = t.disk.image new.failures bytes
+MayBeLinesOver t _ files new bytes = t.disk.since new.failures (t.disk.moment files.dest.disk) bytes
+
+-- Bytes that may be left of the three files: by a crash, of the journal and its spare at any moment since the command began, of disks
+-- that had one image then; where it ran its mapping, by a crash since its files were opened, whatever one might have left of the disks
+-- before; where `compact` or `migrate` wrote the pair, by a crash at its end; and where nothing was written and no mapping ran, what the
+-- disks read as at its end.
+abbrev pub MayBeLeft : {S K D C F L N : Type 0} → DevicesTell S K D F L N → Command → (old new : World S K D C F L) → (status : ℕ) → (one other bytes : List ℕ) → Type 0
+MayBeLeft {S} {K} {D} t c old new status one other bytes =
+    (IsSinceStart t.disk old.journal old.spare new.journal new.spare one other × MayBeLines t c old new bytes)
+    ⊎ ((IsReadAtEnd t.disk old.journal old.spare new.journal new.spare one other × AreLinesRead t.disk old.failures new.failures bytes × (is_run c ≡ true → NothingHappened old new))
+    ⊎ ((IsWrittenAtEnd t.disk c old.journal old.spare new.journal new.spare one other × AreLinesRead t.disk old.failures new.failures bytes)
+    ⊎ ((files : FilesState D) × RanOver t c old new status files × IsSinceOpening t.disk files new.journal new.spare one other × MayBeLinesOver t c files new bytes)))
 
 -- these bytes open to the life that was found, and the command ran no mapping
 pub record IsAsFound {S K D C F L : Type 0} (fifo : Bool) (c : Command) (old new : World S K D C F L) (life : List Stage) (epoch : ℕ) (one other bytes : List ℕ) : Type 0 where
@@ -133,45 +179,43 @@ pub record AddsStage {S K D C F L N : Type 0} (t : DevicesTell S K D F L N) (fif
   pub epoch : ℕ
   pub opens : OpensToLife fifo (stage ∷ life) epoch one other bytes
 
--- Whatever a crash leaves of the journal and its spare, of each disk at any moment since the command began, and of the dead-letter
--- file opens to the life that was found, or to it with one further stage; where a mapping ran there is that stage, also where its files
--- kept nothing of it. So it is whatever the status, also where want of memory stopped the command.
+-- Whatever is left of the journal and its spare and of the dead-letter file opens to the life that was found, or to it with one
+-- further stage; where a mapping ran there is that stage, also where its files kept nothing of it. So it is whatever the status, also
+-- where want of memory stopped the command.
 abbrev pub KeepsLife : {S K D C F L N : Type 0} → DevicesTell S K D F L N → Bool → Command → (old new : World S K D C F L) → (status : ℕ) → List Stage → (epoch : ℕ) → Type 0
 KeepsLife t fifo c old new status life epoch =
-    HasLife t.disk fifo life epoch old.journal old.spare old.failures → NamesAQueue t fifo c old.registry → HasLooked t c old status →
-    (one other bytes : List ℕ) → t.disk.since new.journal (t.disk.moment old.journal) one → t.disk.since new.spare (t.disk.moment old.spare) other → MayBeLines t c old new bytes →
+    HasLife t.disk fifo life epoch old.journal old.spare old.failures → NamesAQueue t fifo c old.registry →
+    (one other bytes : List ℕ) → MayBeLeft t c old new status one other bytes →
     IsAsFound fifo c old new life epoch one other bytes ⊎ AddsStage t fifo c old new status life one other bytes
 
+-- the journal kept all that happened in the run, after which nothing is called for if there was no trouble: each message that waits
+-- passes the filter, and no lane is owed a deletion
+pub record IsWholeRun (status : ℕ) (run : Run) : Type 0 where
+  pub recorded : run.recorded ≡ run.happened
+  pub settled : TellsNoTrouble status → SettledQueue run.setting run.happened
+
 -- the files kept all that happened in the stage, and after a redrive nothing more is called for
-abbrev pub IsWhole : Stage → Type 0
-IsWhole (Ran run) = run.recorded ≡ run.happened
-IsWhole (Redriven redrive) = IsWholeRedrive redrive
-IsWhole (Rewritten list) = Unit {0}
+abbrev pub IsWhole : (status : ℕ) → Stage → Type 0
+IsWhole status (Ran run) = IsWholeRun status run
+IsWhole status (Redriven redrive) = IsWholeRedrive redrive
+IsWhole status (Rewritten list) = Unit {0}
 
 -- the disks themselves open to the life with one further stage, which is whole, and a crash leaves nothing else of them
 pub record AddsWhole {S K D C F L N : Type 0} (t : DevicesTell S K D F L N) (fifo : Bool) (c : Command) (old new : World S K D C F L) (status : ℕ) (life : List Stage) : Type 0 where
   pub stage : Stage
   pub may_add : MayAdd t c old new status stage
-  pub whole : IsWhole stage
+  pub whole : IsWhole status stage
   pub epoch : ℕ
   pub opens : OpensToLife fifo (stage ∷ life) epoch (t.disk.content new.journal) (t.disk.content new.spare) (t.disk.content new.failures)
   pub settled : AreSettled t.disk new.journal new.spare
   pub settled_lines : Only (t.disk.content new.failures) (t.disk.image new.failures)
 
--- nothing ran, and the disks open to the life that was found, and a crash leaves nothing else of them
+-- nothing ran, and the disks open to the life that was found; where a crash could leave nothing else of one before, it still cannot
 pub record AddsNothing {S K D C F L N : Type 0} (t : DevicesTell S K D F L N) (fifo : Bool) (old new : World S K D C F L) (life : List Stage) (epoch : ℕ) : Type 0 where
   pub nothing : NothingHappened old new
   pub opens : OpensToLife fifo life epoch (t.disk.content new.journal) (t.disk.content new.spare) (t.disk.content new.failures)
-  pub settled : AreSettled t.disk new.journal new.spare
-  pub settled_lines : Only (t.disk.content new.failures) (t.disk.image new.failures)
-
--- the status hides no fault of a disk: with 6 one of the pair failed, with 7 the dead-letter file did, with 5 the output failed and
--- one may have before, and 70 tells nothing
-pub record HidesNoFault (status : ℕ) : Type 0 where
-  pub output : status ≢ 5
-  pub disk : status ≢ 6
-  pub lines : status ≢ 7
-  pub memory : status ≢ 70
+  pub settled : AreSettled t.disk old.journal old.spare → AreSettled t.disk new.journal new.spare
+  pub settled_lines : Only (t.disk.content old.failures) (t.disk.image old.failures) → Only (t.disk.content new.failures) (t.disk.image new.failures)
 
 -- none of the three disks failed, by its count of faults or by the status
 abbrev pub NoneFailed : {D : Type 0} → DiskMeaning D → (status : ℕ) → (journal spare failures journal' spare' failures' : D) → Type 0
@@ -184,11 +228,27 @@ KeepsWhole t fifo c old new status life epoch =
     NoneFailed t.disk status old.journal old.spare old.failures new.journal new.spare new.failures →
     AddsNothing t fifo old new life epoch ⊎ AddsWhole t fifo c old new status life
 
+-- `compact` wrote the pair: the files themselves open to the life with the list that it wrote, and a crash leaves nothing else of the pair
+pub record AddsRewritten {D : Type 0} (m : DiskMeaning D) (fifo : Bool) (journal spare failures journal' spare' failures' : D) (life : List Stage) : Type 0 where
+  pub written : HasWritten m command.Compact journal spare journal' spare'
+  pub lines_same : failures' ≡ failures
+  pub list : List (List ℕ)
+  pub epoch : ℕ
+  pub opens : OpensToLife fifo (Rewritten list ∷ life) epoch (m.content journal') (m.content spare') (m.content failures')
+  pub settled : AreSettled m journal' spare'
+
+-- so it is where it ended with 0
+abbrev pub CompactsLife : {S K D C F L N : Type 0} → DevicesTell S K D F L N → Bool → (old new : World S K D C F L) → (status : ℕ) → List Stage → (epoch : ℕ) → Type 0
+CompactsLife t fifo old new status life epoch =
+    status ≡ 0 → HasLife t.disk fifo life epoch old.journal old.spare old.failures → AddsRewritten t.disk fifo old.journal old.spare old.failures new.journal new.spare new.failures life
+
 -- where the words spell no command the life stays as it is
 abbrev pub KeepsUntouched : {S K D C F L N : Type 0} → DevicesTell S K D F L N → Bool → (old new : World S K D C F L) → List Stage → (epoch : ℕ) → Type 0
 KeepsUntouched t fifo old new life epoch =
     HasLife t.disk fifo life epoch old.journal old.spare old.failures →
-    (one other bytes : List ℕ) → t.disk.since new.journal (t.disk.moment old.journal) one → t.disk.since new.spare (t.disk.moment old.spare) other → t.disk.since new.failures (t.disk.moment old.failures) bytes →
+    (one other bytes : List ℕ) →
+    (IsSinceStart t.disk old.journal old.spare new.journal new.spare one other × AreLinesSinceStart t.disk old.failures new.failures bytes)
+    ⊎ (IsReadAtEnd t.disk old.journal old.spare new.journal new.spare one other × AreLinesRead t.disk old.failures new.failures bytes) →
     OpensToLife fifo life epoch one other bytes
 
 -- a life begins where `init` ended with 0: in it nothing has happened, and a crash leaves nothing else of its files

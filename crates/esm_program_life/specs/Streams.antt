@@ -3,13 +3,13 @@
 use Rattle.std.specs.Prelude.{◌≡◌, ◌≢◌, ◌⊎◌, ◌+◌, ◌++◌, ◌∷◌, ℕ, Bool, true, false, List, [], filter_map, reverse}
 use Rattle.esm_cli.specs.declared.command.Command.{Command}
 use Rattle.esm_cli.specs.declared.command.Command.TheVariants as command
-use Rattle.esm_folder.specs.Init.{AreHonest as AllAreHonest}
-use Rattle.esm_folder.specs.Upkeep.{AreHonest, AreSettled, OneRose}
+use Rattle.esm_folder.specs.Upkeep.{AreHonest, AreOnlyRead, AreSettled, OneRose}
 use Rattle.esm_history.specs.Content.{OwesNothing}
 use Rattle.esm_ingest.specs.Coming.{of_shard}
 use Rattle.esm_io.specs.Meanings.{DiskMeaning}
 use Rattle.esm_io.specs.Told.{Grows}
 use Rattle.esm_journal_record.specs.EntryPayload.{entry_payload}
+use Rattle.esm_life.specs.Left.{IsReadAtEnd, IsSinceOpening, IsSinceStart}
 use Rattle.esm_life.specs.Life.{Ran, Replay, Rewritten, Run, Stage}
 use Rattle.esm_life.specs.Streams.{OpensToLife, OpensToLifeOfVersion1}
 use Rattle.esm_mapping.specs.Named.{IsExpected, IsNamed}
@@ -21,9 +21,11 @@ use Rattle.esm_model.specs.declared.item.LineKind.TheVariants as kinds
 use Rattle.esm_model.specs.declared.item.Record.{Record}
 use Rattle.esm_model.specs.Setting.{records_of}
 use Rattle.esm_model.specs.Valid.{is_stream}
+use Rattle.esm_program_life.specs.Ran.{HasRanOver, HasReplayed, HidesNoFault, Shows, TellsNoTrouble}
 use Rattle.esm_program_life.specs.Reads.{HasRead, HasReadTurned, NothingHappened}
+use Rattle.esm_program_life.specs.Written.{HasWritten, IsWrittenAtEnd}
 use Rattle.esm_replay.specs.Records.{streams_of}
-use Rattle.esm_replay_book.specs.Serving.{records_in_items as replay_records_in_items}
+use Rattle.esm_replay_book.specs.Serving.{AreGiven as AreReplayGiven, records_in_items as replay_records_in_items}
 use Rattle.esm_replay_life.specs.ReplayLife.{ReplayRun}
 use Rattle.esm_replay_model.specs.ReplayRun.{replay_calls}
 use Rattle.esm_replay_model.specs.ReplaySetting.{replay_config}
@@ -32,9 +34,12 @@ use Rattle.esm_replay_run.specs.Headline.{SomeCame}
 use Rattle.esm_run.specs.Built.{SpellsBuilt}
 use Rattle.esm_run.specs.Commands.{IsLeft, IsStopped, Outcome}
 use Rattle.esm_run.specs.FirstCaller.{IsFirstUsed}
-use Rattle.esm_run.specs.World.{DevicesTell, ddb_tells, disks_in, history, of_run}
+use Rattle.esm_run.specs.Replay.{replay_disks, replay_tells}
+use Rattle.esm_run.specs.World.{DevicesTell, ddb_tells, devices_of, history, of_run, seen}
 use Rattle.esm_run.specs.declared.world.World.{World}
 use Rattle.esm_runner.specs.Coming.{records_in_items}
+use Rattle.esm_runner.specs.Files.{FilesState}
+use Rattle.esm_runner.specs.Given.{AreGiven}
 use Rattle.esm_runner.specs.Headline.{CallsMade, CallsMadeOrOneMore, Telling}
 use Rattle.esm_workers.specs.Working.{Outside}
 
@@ -49,11 +54,9 @@ pub record IsSaid {S K D C F L N : Type 0} (t : DevicesTell S K D F L N) (words 
 
 -- what is asked of a command
 
--- The pair opens to the content that a life leaves. Its disks are honest, and each has one image, as a disk has that was synced
--- when it was opened.
+-- The pair opens to the content that a life leaves, and its disks are honest.
 pub record HasLife {D : Type 0} (m : DiskMeaning D) (life : List Stage) (epoch : ℕ) (journal spare : D) : Type 0 where
   pub honest : AreHonest m journal spare
-  pub settled : AreSettled m journal spare
   pub opens : OpensToLife life epoch (m.content journal) (m.content spare)
 
 -- The mapping that the words name is a stream's, if they name one that may run. This asks nothing of a command that names no mapping,
@@ -64,17 +67,6 @@ abbrev pub NamesAStream : {S K D F L N : Type 0} → DevicesTell S K D F L N →
 NamesAStream t (command.Run r) registry = (mapping : NamedMapping) → IsNamed t.disk r.which registry mapping → is_stream mapping.config.kind ≡ true
 NamesAStream t (command.Redrive config receives calls visibility timeout traced) registry = (mapping : NamedMapping) → IsExpected expected.Queue config mapping → is_stream mapping.config.kind ≡ true
 NamesAStream t _ registry = Unit {0}
-
--- the status hides no fault of a disk: with 6 one failed, with 5 the output failed and one may have before, and 70 tells nothing
-pub record HidesNoFault (status : ℕ) : Type 0 where
-  pub output : status ≢ 5
-  pub disk : status ≢ 6
-  pub memory : status ≢ 70
-
--- `init` came to the end of its files, which are honest; its clauses say too little of a disk that failed
-abbrev pub HasLooked : {S K D C F L N : Type 0} → DevicesTell S K D F L N → Command → (old : World S K D C F L) → (status : ℕ) → Type 0
-HasLooked t command.Init old status = AllAreHonest t.disk (disks_in old) × HidesNoFault status
-HasLooked t _ old status = Unit {0}
 
 -- stages
 
@@ -91,6 +83,8 @@ pub record IsRunOf {D F : Type 0} (t : Telling D F) (status : ℕ) (names : Name
   pub read : reads mapping items
   pub came : (n : ℕ) → (rest : List Record) × (of_shard n (records_in_items items) ≡ records_of run.setting n ++ rest)
   pub happened_is : run.happened ≡ h
+  -- each moment of what the journal recorded of it is one that the clock gave
+  pub moments : AreGiven t.callers.gave run.recorded
   pub calls_made : CallsMadeOrOneMore t run.setting h old new
   pub calls_ended : status ≢ 70 → CallsMade t run.setting h old new
 
@@ -107,6 +101,8 @@ pub record IsReplayOf {F : Type 0} (callers : Outside F) (status : ℕ) (config 
   pub came : SomeCame records (replay_records_in_items items)
   pub records_are : replay.setting.base.streams ≡ streams_of records
   pub happened_is : replay.happened ≡ h
+  -- each moment is one that the clock gave, that of the entry in hand too
+  pub moments : AreReplayGiven callers.gave (replay.hand ++ replay.happened)
   pub caller : F
   pub caller_left : F
   pub first_used : IsFirstUsed old new caller caller_left
@@ -122,6 +118,19 @@ reads_turned t status old new mapping items = HasReadTurned t.input_faults t.lef
 
 abbrev pub reads_again : {S K D C F L N : Type 0} → DevicesTell S K D F L N → (status : ℕ) → (old new : World S K D C F L) → NamedMapping → List Item → Type 0
 reads_again t status old new mapping items = HasRead t.left kinds.Stream mapping.config.factor mapping.config.start status old.input new.input items
+
+-- the command ran its mapping over these files
+abbrev pub RanOver : {S K D C F L N : Type 0} → DevicesTell S K D F L N → Command → (old new : World S K D C F L) → (status : ℕ) → FilesState D → Type 0
+RanOver t (command.Run r) old new status files =
+    (ran : HasRanOver (of_run t).run (Shows status) status (λ mapping. IsNamed t.disk r.which old.registry mapping) (reads_records t status old new) r.calls (history new) old.journal old.spare old.callers.items (devices_of (seen new)))
+    × (ran.files ≡ files)
+RanOver t (command.Ddb config calls timeout traced) old new status files =
+    (ran : HasRanOver (ddb_tells (of_run t)) (Shows status) status (λ mapping. IsExpected expected.DynamoDb config mapping) (reads_turned t status old new) calls (history new) old.journal old.spare old.callers.items (devices_of (seen new)))
+    × (ran.files ≡ files)
+RanOver t (command.Replay config calls timeout traced) old new status files =
+    (ran : HasReplayed (replay_tells (of_run t)) (Shows status) status config (reads_again t status old new) calls (history new) old.journal old.spare old.callers.items new.callers.items (replay_disks (seen new)))
+    × (ran.files ≡ files)
+RanOver t _ old new status files = ⊥
 
 -- the stage that a command may add to a life: `run` and `ddb` a run of their own, `replay` a replay of its own, `compact` the list
 -- that it wrote, and no other command any
@@ -139,7 +148,23 @@ is_run (command.Ddb config calls timeout traced) = true
 is_run (command.Replay config calls timeout traced) = true
 is_run _ = false
 
+-- A command that runs a mapping ran it over files that it had opened, or nothing happened, and nothing was written.
+abbrev pub MayRun : {S K D C F L N : Type 0} → DevicesTell S K D F L N → Command → (old new : World S K D C F L) → (status : ℕ) → Type 0
+MayRun {S} {K} {D} t c old new status =
+    NamesAStream t c old.registry → is_run c ≡ true →
+    (AreOnlyRead t.disk old.journal old.spare new.journal new.spare × NothingHappened old new) ⊎ ((files : FilesState D) × RanOver t c old new status files)
+
 -- what is left
+
+-- Bytes that may be left of the pair: by a crash at any moment since the command began, of disks that had one image then; where it ran
+-- its mapping, by a crash at any moment since its files were opened, whatever one might have left of the disks before; where `compact`
+-- or `migrate` wrote it, by a crash at its end; and where nothing was written and no mapping ran, what the disks read as at its end.
+abbrev pub MayBeLeft : {S K D C F L N : Type 0} → DevicesTell S K D F L N → Command → (old new : World S K D C F L) → (status : ℕ) → (one other : List ℕ) → Type 0
+MayBeLeft {S} {K} {D} t c old new status one other =
+    IsSinceStart t.disk old.journal old.spare new.journal new.spare one other
+    ⊎ ((IsReadAtEnd t.disk old.journal old.spare new.journal new.spare one other × (is_run c ≡ true → NothingHappened old new))
+    ⊎ (IsWrittenAtEnd t.disk c old.journal old.spare new.journal new.spare one other
+    ⊎ ((files : FilesState D) × RanOver t c old new status files × IsSinceOpening t.disk files new.journal new.spare one other)))
 
 -- these bytes open to the life that was found, and the command ran no mapping
 pub record IsAsFound {S K D C F L : Type 0} (c : Command) (old new : World S K D C F L) (life : List Stage) (epoch : ℕ) (one other : List ℕ) : Type 0 where
@@ -153,21 +178,14 @@ pub record AddsStage {S K D C F L N : Type 0} (t : DevicesTell S K D F L N) (c :
   pub epoch : ℕ
   pub opens : OpensToLife (stage ∷ life) epoch one other
 
--- Whatever a crash leaves of the pair, of each disk at any moment since the command began, opens to the life that was found, or to
--- it with one further stage; where a mapping ran there is that stage, also where its journal recorded nothing of it. So it is whatever
--- the status, also where want of memory stopped the command.
+-- Whatever is left of the pair opens to the life that was found, or to it with one further stage; where a mapping ran there is
+-- that stage, also where its journal recorded nothing of it. So it is whatever the status, also where want of memory stopped the
+-- command.
 abbrev pub KeepsLife : {S K D C F L N : Type 0} → DevicesTell S K D F L N → Command → (old new : World S K D C F L) → (status : ℕ) → List Stage → (epoch : ℕ) → Type 0
 KeepsLife t c old new status life epoch =
-    HasLife t.disk life epoch old.journal old.spare → NamesAStream t c old.registry → HasLooked t c old status →
-    (one other : List ℕ) → t.disk.since new.journal (t.disk.moment old.journal) one → t.disk.since new.spare (t.disk.moment old.spare) other →
+    HasLife t.disk life epoch old.journal old.spare → NamesAStream t c old.registry →
+    (one other : List ℕ) → MayBeLeft t c old new status one other →
     IsAsFound c old new life epoch one other ⊎ AddsStage t c old new status life one other
-
--- the status tells of no trouble: it hides no fault of a disk, and neither did the failure file fail, with 7, nor did a record come
--- otherwise than it was kept, with 8
-pub record TellsNoTrouble (status : ℕ) : Type 0 where
-  pub hides : HidesNoFault status
-  pub lines : status ≢ 7
-  pub changed : status ≢ 8
 
 -- the journal recorded all that happened in the run, after which nothing is owed if there was no trouble
 pub record IsWholeRun (status : ℕ) (run : Run) : Type 0 where
@@ -189,11 +207,11 @@ pub record AddsWhole {S K D C F L N : Type 0} (t : DevicesTell S K D F L N) (c :
   pub opens : OpensToLife (stage ∷ life) epoch (t.disk.content new.journal) (t.disk.content new.spare)
   pub settled : AreSettled t.disk new.journal new.spare
 
--- nothing ran, and the disks open to the life that was found, and a crash leaves nothing else of them
+-- nothing ran, and the disks open to the life that was found; where a crash could leave nothing else of them before, it still cannot
 pub record AddsNothing {S K D C F L N : Type 0} (t : DevicesTell S K D F L N) (old new : World S K D C F L) (life : List Stage) (epoch : ℕ) : Type 0 where
   pub nothing : NothingHappened old new
   pub opens : OpensToLife life epoch (t.disk.content new.journal) (t.disk.content new.spare)
-  pub settled : AreSettled t.disk new.journal new.spare
+  pub settled : AreSettled t.disk old.journal old.spare → AreSettled t.disk new.journal new.spare
 
 -- no disk of the pair failed, by its count of faults or by the status
 abbrev pub NoneFailed : {D : Type 0} → DiskMeaning D → (status : ℕ) → (journal spare journal' spare' : D) → Type 0
@@ -205,12 +223,23 @@ KeepsWhole t c old new status life epoch =
     HasLife t.disk life epoch old.journal old.spare → NamesAStream t c old.registry → is_run c ≡ true → NoneFailed t.disk status old.journal old.spare new.journal new.spare →
     AddsNothing t old new life epoch ⊎ AddsWhole t c old new status life
 
+-- `compact` wrote the pair: the disks themselves open to the life with the list that it wrote, and a crash leaves nothing else of them
+pub record AddsRewritten {D : Type 0} (m : DiskMeaning D) (journal spare journal' spare' : D) (life : List Stage) : Type 0 where
+  pub written : HasWritten m command.Compact journal spare journal' spare'
+  pub list : List (List ℕ)
+  pub epoch : ℕ
+  pub opens : OpensToLife (Rewritten list ∷ life) epoch (m.content journal') (m.content spare')
+  pub settled : AreSettled m journal' spare'
+
+-- so it is where it ended with 0
+abbrev pub CompactsLife : {S K D C F L N : Type 0} → DevicesTell S K D F L N → (old new : World S K D C F L) → (status : ℕ) → List Stage → (epoch : ℕ) → Type 0
+CompactsLife t old new status life epoch = status ≡ 0 → HasLife t.disk life epoch old.journal old.spare → AddsRewritten t.disk old.journal old.spare new.journal new.spare life
+
 -- where the words spell no command the life stays as it is
 abbrev pub KeepsUntouched : {S K D C F L N : Type 0} → DevicesTell S K D F L N → (old new : World S K D C F L) → List Stage → (epoch : ℕ) → Type 0
 KeepsUntouched t old new life epoch =
     HasLife t.disk life epoch old.journal old.spare →
-    (one other : List ℕ) → t.disk.since new.journal (t.disk.moment old.journal) one → t.disk.since new.spare (t.disk.moment old.spare) other →
-    OpensToLife life epoch one other
+    (one other : List ℕ) → IsSinceStart t.disk old.journal old.spare new.journal new.spare one other ⊎ IsReadAtEnd t.disk old.journal old.spare new.journal new.spare one other → OpensToLife life epoch one other
 
 -- of a pair of version 1: whatever a crash leaves of it while `migrate` writes it as one of version 2 opens to the same life
 abbrev pub MigratesLife : {S K D C F L N : Type 0} → DevicesTell S K D F L N → (old new : World S K D C F L) → List Stage → (epoch : ℕ) → Type 0

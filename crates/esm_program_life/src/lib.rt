@@ -4,6 +4,7 @@
 #![tactic(auto)]
 
 pub mod commands;
+pub mod ddb;
 pub mod program;
 pub mod queues;
 pub mod streams;

@@ -1,8 +1,8 @@
 // That each command of the program keeps the life of a queue's mapping, or adds one stage to it.
 ghost use Rattle.std.specs.Prelude.{ℕ, Bool, List};
 ghost use Rattle.esm_cli.specs.declared.command.Command.{Command};
-ghost use Rattle.esm_cli.specs.declared.command.Command.TheVariants.{Init, Migrate};
-ghost use Rattle.esm_program_life.specs.Queues.{BeginsLife, KeepsLife, KeepsUntouched, KeepsWhole, MigratesLife};
+ghost use Rattle.esm_cli.specs.declared.command.Command.TheVariants.{Compact, Init, Migrate};
+ghost use Rattle.esm_program_life.specs.Queues.{BeginsLife, CompactsLife, KeepsLife, KeepsUntouched, KeepsWhole, MayRun, MigratesLife};
 ghost use Rattle.esm_program_life.specs.Streams.{IsSaid};
 ghost use Rattle.esm_queue_life.specs.Life.{Stage};
 ghost use Rattle.esm_run.specs.Built.{SpellsBuilt};
@@ -20,12 +20,22 @@ use esm_life::redrives::{
 };
 use esm_redrive_run::stages::run_is_stage;
 
-/// Whatever the words spell, and whatever status `esm` answers: what a crash leaves of the journal and of its spare, at any moment
-/// since the command began, and of the dead-letter file opens to the life that they held before, or to it with one further stage, which
-/// is there wherever a mapping ran. For `run` that is a run with the history that the command left, over the messages that it read of
-/// its input; for `redrive` such a redrive; and for `compact` the list that it wrote. The mapping that the words name has to be a
-/// queue's, of one kind throughout, and the disks honest and synced before; of `init` it is said where it told of no fault, and of the
-/// dead-letter file after a redrive at its end.
+/// A command that runs a queue's mapping ran it over files that it had opened, and what `esm` says of that run holds of them; or
+/// nothing happened, and nothing was written.
+pub fn command_runs_queue<S: Source, K: Sink, D: Disk, C: Clock, F: Caller, L: Door>()
+    ensures { (words : List (List ℕ)) (old new : World S K D C F L) (status : ℕ) (c : Command) (fifo : Bool) →
+        IsSaid (devices C.Clock F.Caller D.Disk S.Source K.Sink L.Door L.Conn.Link) words old new status → SpellsBuilt words c →
+        MayRun (devices C.Clock F.Caller D.Disk S.Source K.Sink L.Door L.Conn.Link) fifo c old new status }
+{
+    one_command();
+}
+
+/// Whatever the words spell, and whatever status `esm` answers: what a crash leaves of the journal and of its spare, and of the
+/// dead-letter file opens to the life that they held before, or to it with one further stage, which is there wherever a mapping ran. For
+/// `run` that is a run with the history that the command left, over the messages that it read of its input; for `redrive` such a
+/// redrive; and for `compact` the list that it wrote. The mapping that the words name has to be a queue's, of one kind throughout, and
+/// the disks honest. So it is at any moment since a run's files were opened; and at any since the command began, where the disks were
+/// synced before; of the dead-letter file after a redrive at its end.
 pub fn command_keeps_queue_life<S: Source, K: Sink, D: Disk, C: Clock, F: Caller, L: Door>()
     ensures { (words : List (List ℕ)) (old new : World S K D C F L) (status : ℕ) (c : Command) (fifo : Bool) (life : List Stage) (epoch : ℕ) →
         IsSaid (devices C.Clock F.Caller D.Disk S.Source K.Sink L.Door L.Conn.Link) words old new status → SpellsBuilt words c →
@@ -56,6 +66,16 @@ pub fn command_keeps_queue_whole<S: Source, K: Sink, D: Disk, C: Clock, F: Calle
     redrive_is_whole::<D>();
     run_is_stage::<D>();
     compacted_life_goes_on::<D>();
+}
+
+/// A `compact` that ended with 0 adds the list that it wrote, whatever a crash might have left of the journal's disks before: the files
+/// themselves open to the life with it, and a crash leaves nothing else of the journal.
+pub fn compact_rewrites_queue_life<S: Source, K: Sink, D: Disk, C: Clock, F: Caller, L: Door>()
+    ensures { (words : List (List ℕ)) (old new : World S K D C F L) (status : ℕ) (fifo : Bool) (life : List Stage) (epoch : ℕ) →
+        IsSaid (devices C.Clock F.Caller D.Disk S.Source K.Sink L.Door L.Conn.Link) words old new status → SpellsBuilt words Compact →
+        CompactsLife (devices C.Clock F.Caller D.Disk S.Source K.Sink L.Door L.Conn.Link) fifo old new status life epoch }
+{
+    one_command();
 }
 
 /// Where the words spell no command, the life stays as it is.

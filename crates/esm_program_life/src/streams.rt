@@ -1,9 +1,9 @@
 // That each command of the program keeps the life of a stream's mapping, or adds one stage to it.
 ghost use Rattle.std.specs.Prelude.{ℕ, List};
 ghost use Rattle.esm_cli.specs.declared.command.Command.{Command};
-ghost use Rattle.esm_cli.specs.declared.command.Command.TheVariants.{Init, Migrate};
+ghost use Rattle.esm_cli.specs.declared.command.Command.TheVariants.{Compact, Init, Migrate};
 ghost use Rattle.esm_life.specs.Life.{Stage};
-ghost use Rattle.esm_program_life.specs.Streams.{BeginsLife, IsSaid, KeepsLife, KeepsUntouched, KeepsWhole, MigratesLife};
+ghost use Rattle.esm_program_life.specs.Streams.{BeginsLife, CompactsLife, IsSaid, KeepsLife, KeepsUntouched, KeepsWhole, MayRun, MigratesLife};
 ghost use Rattle.esm_run.specs.Built.{SpellsBuilt};
 ghost use Rattle.esm_run.specs.World.{devices};
 ghost use Rattle.esm_run.specs.declared.world.World.{World};
@@ -16,11 +16,21 @@ use esm_life::streams::{
     migrating_life_stays, replay_goes_on, unwritten_life_stays,
 };
 
-/// Whatever the words spell, and whatever status `esm` answers: what a crash leaves of the journal and of its spare, at any moment
-/// since the command began, opens to the life that they held before, or to it with one further stage, which is there wherever a mapping
-/// ran. For `run` and `ddb` that is a run with the history that the command left, over the records that it read of its input; for
-/// `replay` such a replay; and for `compact` the list that it wrote. The mapping that the words name has to be a stream's, and the disks
-/// honest and synced before; of `init` it is said where it told of no fault.
+/// A command that runs a mapping ran it over files that it had opened, and what `esm` says of that run holds of them; or nothing
+/// happened, and nothing was written.
+pub fn command_runs<S: Source, K: Sink, D: Disk, C: Clock, F: Caller, L: Door>()
+    ensures { (words : List (List ℕ)) (old new : World S K D C F L) (status : ℕ) (c : Command) →
+        IsSaid (devices C.Clock F.Caller D.Disk S.Source K.Sink L.Door L.Conn.Link) words old new status → SpellsBuilt words c →
+        MayRun (devices C.Clock F.Caller D.Disk S.Source K.Sink L.Door L.Conn.Link) c old new status }
+{
+    one_command();
+}
+
+/// Whatever the words spell, and whatever status `esm` answers: what a crash leaves of the journal and of its spare opens to the life
+/// that they held before, or to it with one further stage, which is there wherever a mapping ran. For `run` and `ddb` that is a run with
+/// the history that the command left, over the records that it read of its input; for `replay` such a replay; and for `compact` the list
+/// that it wrote. The mapping that the words name has to be a stream's, and the disks honest. So it is at any moment since a run's
+/// files were opened; and at any since the command began, where the disks were synced before.
 pub fn command_keeps_life<S: Source, K: Sink, D: Disk, C: Clock, F: Caller, L: Door>()
     ensures { (words : List (List ℕ)) (old new : World S K D C F L) (status : ℕ) (c : Command) (life : List Stage) (epoch : ℕ) →
         IsSaid (devices C.Clock F.Caller D.Disk S.Source K.Sink L.Door L.Conn.Link) words old new status → SpellsBuilt words c →
@@ -52,6 +62,16 @@ pub fn command_keeps_whole<S: Source, K: Sink, D: Disk, C: Clock, F: Caller, L: 
     replay_goes_on::<D>();
     run_is_stage::<D>();
     compacted_life_goes_on::<D>();
+}
+
+/// A `compact` that ended with 0 adds the list that it wrote, whatever a crash might have left of the disks before: the disks
+/// themselves open to the life with it, and a crash leaves nothing else of them.
+pub fn compact_rewrites_life<S: Source, K: Sink, D: Disk, C: Clock, F: Caller, L: Door>()
+    ensures { (words : List (List ℕ)) (old new : World S K D C F L) (status : ℕ) (life : List Stage) (epoch : ℕ) →
+        IsSaid (devices C.Clock F.Caller D.Disk S.Source K.Sink L.Door L.Conn.Link) words old new status → SpellsBuilt words Compact →
+        CompactsLife (devices C.Clock F.Caller D.Disk S.Source K.Sink L.Door L.Conn.Link) old new status life epoch }
+{
+    one_command();
 }
 
 /// Where the words spell no command, the life stays as it is.

@@ -1,0 +1,7 @@
+use Rattle.esm_program_life.proofs.StreamCommands.{command_ran}
+use Rattle.esm_program_life.proofs.streams.command_runs.Goals as goal
+use Rattle.esm_run.specs.World.{devices}
+
+pub returns : goal.returns
+returns g c = λ words old new status command said spelled.
+    command_ran (devices g.C.Clock g.F.Caller g.D.Disk g.S.Source g.K.Sink g.L.Door g.L.Conn.Link) words old new status said c.one_command.ensures command spelled
