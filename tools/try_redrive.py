@@ -40,7 +40,7 @@ def redrive_one(t):
     f = t.function(lambda event, number: (begun.append(time.time()), ERROR)[1])
     t.in_folder([message("a")])
     redrive(t, 2, 0, told(1, 0, 1, 2), f.port)
-    t.same("a second between the calls", True, begun[1] - begun[0] >= 0.999)
+    t.same("a second between the calls", True, begun[1] - begun[0] >= 0.95)
     t.same("receives", ["1", "2"], [e["Records"][0]["attributes"]["ApproximateReceiveCount"] for e in f.events])
     t.same("dead letters", [A_LETTER], letters(t))
     t.said("failures", 0, [A_LETTER, "done"])

@@ -6,6 +6,9 @@ use std::io::Eprint;
 /// The exit status of bad words.
 const BAD_WORDS: u8 = 2;
 
+/// The exit status where the output failed, which then tells nothing.
+const OUTPUT_FAULT: u8 = 5;
+
 /// The command line, which README explains.
 const USAGE: [&str; 9] = [
     "usage: esm FOLDER FUNCTIONS DOOR COMMAND [OPTIONS]",
@@ -20,7 +23,7 @@ const USAGE: [&str; 9] = [
 ];
 
 /// How the line begins that tells a refusal, and what to do about it. The first one that fits counts.
-const REMEDIES: [(&[u8], &str); 14] = [
+const REMEDIES: [(&[u8], &str); 18] = [
     (
         b"calls spent",
         "give the command again: what is left is called then",
@@ -38,6 +41,10 @@ const REMEDIES: [(&[u8], &str); 14] = [
         "make the folder ready with init; a journal of version 1 is brought to version 2 by migrate",
     ),
     (
+        b"not a journal",
+        "the file is none of this program's: put back a copy of it, or give another folder",
+    ),
+    (
         b"not empty",
         "the folder is ready; where an init was cut off, remove its four files and do it again",
     ),
@@ -48,6 +55,18 @@ const REMEDIES: [(&[u8], &str); 14] = [
     (
         b"bad payload failures.esm",
         "the line names nothing of this mapping: give the folder's own mapping",
+    ),
+    (
+        b"bad payload",
+        "the file was changed, or another program wrote it: put back a copy of it",
+    ),
+    (
+        b"destination fault",
+        "make room on the disk of failures.esm, or mend its rights, and give the command again",
+    ),
+    (
+        b"door fault",
+        "the port of serve is taken, or is not this user's to open: give another one",
     ),
     (
         b"stream changed",
@@ -118,6 +137,10 @@ fn tell_usage<R: Eprint>(rt: &R, words: &[String]) {
 pub fn advise<R: Eprint>(rt: &R, words: &[String], status: u8, told: &[u8]) {
     if status == BAD_WORDS {
         tell_usage(rt, words);
+        return;
+    }
+    if status == OUTPUT_FAULT {
+        let _ = rt.eprintln("esm: standard output could not be written: what was done stays");
         return;
     }
     if let Some(remedy) = remedy(last_line(told)) {
