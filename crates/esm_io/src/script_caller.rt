@@ -13,6 +13,7 @@ use crate::script::{Script, answer, copy_reply};
 use esm_model::{Bytes, Called, OutOfMemory, Reply, Text};
 use std::alloc::Global;
 use std::marker::Model;
+use std::mem;
 use std::snapshot::Snapshot;
 
 /// A caller in memory that answers by a script, and tells the calls made. Contracts see them all; copies that a program
@@ -24,6 +25,8 @@ pub struct ScriptCaller {
     log: Vec<Snapshot<Called>>,
     copies: Option<Vec<Called>>,
     schedule: Schedule,
+    // Memory for the event of the next call, from that of the last one.
+    spare: Vec<u8>,
 }
 
 impl Model for ScriptCaller {
@@ -71,6 +74,7 @@ impl ScriptCaller {
             log: Vec::new(alloc),
             copies,
             schedule: Schedule::new(fails),
+            spare: Vec::new(alloc),
         }
     }
 
@@ -86,23 +90,37 @@ impl ScriptCaller {
     }
 }
 
-/// A call as it is told.
-fn called(alloc: Global, name: &str, event: &[u8], reply: &Reply) -> Result<Called, OutOfMemory>
+/// A call as it is told, in this memory for its event.
+fn called(
+    alloc: Global,
+    mut spare: Vec<u8>,
+    name: &str,
+    event: &[u8],
+    reply: &Reply,
+) -> Result<Called, OutOfMemory>
     ensures { IfOk result (λ called. called ≡ record { name = name.now; event = event.now; reply = reply.now }) }
 {
+    spare.clear();
+    spare.extend_from_slice(event)?;
     Ok(Called {
         name: Text::from_vec(String::from_str(alloc, name)?),
-        event: Bytes::from_vec(Vec::from_slice(alloc, event)?),
+        event: Bytes::from_vec(spare),
         reply: copy_reply(alloc, reply)?,
     })
 }
 
-/// Puts a call at the end of the log, and of the copies where there are any.
+/// The memory of the call's event.
+fn memory_of(called: Called) -> Vec<u8> {
+    called.event.into_vec()
+}
+
+/// Puts a call at the end of the log, and of the copies where there are any; else its event's memory comes back.
 fn log_call(
+    alloc: Global,
     log: &mut Vec<Snapshot<Called>>,
     copies: &mut Option<Vec<Called>>,
     called: Called,
-) -> Result<(), OutOfMemory>
+) -> Result<Vec<u8>, OutOfMemory>
     requires { IfSome copies.old (λ c. c.items ≡ map (λ c. c.value) log.old.items) }
     ensures logged { OnOk result (map (λ c. c.value) log.new.items ≡ map (λ c. c.value) log.old.items ++ called ∷ []) }
     ensures unlogged { OnErr result (map (λ c. c.value) log.new.items ≡ map (λ c. c.value) log.old.items) }
@@ -111,11 +129,15 @@ fn log_call(
 {
     log.reserve(1)?;
     let told = Snapshot::of(&called);
-    if let Some(copies) = copies {
-        copies.push(called)?;
-    }
+    let spare = match copies {
+        Some(copies) => {
+            copies.push(called)?;
+            Vec::new(alloc)
+        }
+        None => memory_of(called),
+    };
     log.push_reserved(told);
-    Ok(())
+    Ok(spare)
 }
 
 impl Caller for ScriptCaller {
@@ -139,14 +161,15 @@ impl Caller for ScriptCaller {
         ensures copies { self.new.keeps_copies ≡ self.old.keeps_copies }
         ensures counted { self.new.schedule ≡ after_call self.old.schedule }
     {
+        let spare = mem::replace(&mut self.spare, Vec::new(alloc));
         if self.schedule.fails_now() {
-            let called = called(alloc, name, event, &Reply::Lost)?;
-            log_call(&mut self.log, &mut self.copies, called)?;
+            let called = called(alloc, spare, name, event, &Reply::Lost)?;
+            self.spare = log_call(alloc, &mut self.log, &mut self.copies, called)?;
             return Ok(Reply::Lost);
         }
         let reply = answer(alloc, &self.script, self.given, event)?;
-        let called = called(alloc, name, event, &reply)?;
-        log_call(&mut self.log, &mut self.copies, called)?;
+        let called = called(alloc, spare, name, event, &reply)?;
+        self.spare = log_call(alloc, &mut self.log, &mut self.copies, called)?;
         self.given = self.given.saturating_add(1);
         Ok(reply)
     }

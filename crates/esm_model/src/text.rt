@@ -77,6 +77,14 @@ impl Bytes {
         self.bytes.as_slice()
     }
 
+    /// The `Vec` of the bytes, with its memory.
+    pub fn into_vec(self) -> Vec<u8>
+        ensures { result.items ≡ self }
+    {
+        let Bytes { bytes } = self;
+        bytes
+    }
+
     /// A copy of the bytes.
     pub fn copy(&self, alloc: Global) -> Result<Bytes, OutOfMemory>
         ensures { IfOk result (λ copy. copy ≡ self.now) }
