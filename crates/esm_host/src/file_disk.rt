@@ -8,8 +8,8 @@ use crate::streams::above_streams;
 use esm_io::{Disk, Failed};
 use esm_model::{OutOfMemory, Text};
 use std::fs::{File, OpenOptions};
-use std::io::{Read, Seek, SeekFrom, Write};
 use std::marker::Model;
+use std::os::unix::fs::FileExt;
 use std::path::Path;
 use std::rt::Files;
 use std::{fs, io};
@@ -21,7 +21,8 @@ use std::{fs, io};
 /// has locked, the call is a fault and the next one tries again. It works on none of the descriptors of the standard
 /// streams: an open that gave one is a fault too.
 ///
-/// The first `sync` syncs the file's folder too, so that a file that was made is still found there after a crash.
+/// A `sync` syncs the file's bytes and its length (`fdatasync`). The first one syncs the file's folder too, so that a file that
+/// was made is still found there after a crash.
 /// After a `write_at` or a `sync` that failed every later call is a fault: what the system still holds of the bytes
 /// is then unknown, and a further sync could answer Ok without them.
 #[derive(Drop)]
@@ -72,16 +73,6 @@ fn sync_folder<R: Files<File = File>>(rt: &R, path: &str) -> io::Result<()> {
     above_streams(fs::open(rt, folder_of(path))?)?.sync_all()
 }
 
-fn read_at(mut file: &File, at: u64, into: &mut [u8]) -> io::Result<()> {
-    file.seek(SeekFrom::Start(at))?;
-    file.read_exact(into)
-}
-
-fn write_at(mut file: &File, at: u64, from: &[u8]) -> io::Result<()> {
-    file.seek(SeekFrom::Start(at))?;
-    file.write_all(from)
-}
-
 impl<R: Files<File = File> + Clone> FileDisk<R> {
     /// A disk over the file at this path. It opens nothing. `OutOfMemory` where the runtime's handle cannot be copied.
     pub fn new(rt: &R, path: Text) -> Result<Self, OutOfMemory>
@@ -128,7 +119,7 @@ impl<R: Files<File = File> + Clone> FileDisk<R> {
         ensures down { self.old.down ≡ true → IsErr result }
     {
         let file = self.take_file()?;
-        let done = read_at(&file, at, into);
+        let done = file.read_exact_at(into, at);
         self.file = Some(file);
         done
     }
@@ -138,7 +129,7 @@ impl<R: Files<File = File> + Clone> FileDisk<R> {
         ensures down { self.old.down ≡ true → IsErr result }
     {
         let file = self.take_file()?;
-        let done = write_at(&file, at, from);
+        let done = file.write_all_at(from, at);
         self.file = Some(file);
         done
     }
@@ -148,7 +139,7 @@ impl<R: Files<File = File> + Clone> FileDisk<R> {
         ensures down { self.old.down ≡ true → IsErr result }
     {
         let file = self.take_file()?;
-        let done = file.sync_all();
+        let done = file.sync_data();
         self.file = Some(file);
         done?;
         if !self.folder_synced {
