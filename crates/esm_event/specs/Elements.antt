@@ -1,17 +1,35 @@
--- The elements of an event, which all end with the part that names the source.
-use Rattle.std.specs.Prelude.{ℕ, List, ◌++◌, codes}
-use Rattle.esm_model.specs.EventText.{kinesis_part, identity_part}
+-- The elements of an event in the pieces that they are written by.
+use Rattle.std.specs.Prelude.{ℕ, List, ◌++◌, codes, Bool, true, false}
+use Rattle.std.specs.List.{flat_map}
+use Rattle.esm_model.specs.Numbers.{padded_decimal}
+use Rattle.esm_model.specs.JsonText.{escaped_byte}
+use Rattle.esm_model.specs.EventText.{base64_text, seconds_text}
 use Rattle.esm_model.specs.QueueEvent.{queue_record_text}
 use Rattle.esm_model.specs.declared.config.Config.{Config}
 use Rattle.esm_model.specs.declared.item.Record.{Record}
 use Rattle.esm_model.specs.declared.received.Received.{Received}
 
-unfoldable pub element_text : List ℕ → Record → List ℕ
-element_text source r = kinesis_part r ++ identity_part r ++ source
+-- a record's element up to its key: one that is not the first stands after a comma
+abbrev pub opening_text : Bool → List ℕ
+opening_text true = codes "{\"kinesis\":{\"kinesisSchemaVersion\":\"1.0\",\"partitionKey\":\""
+opening_text false = codes ",{\"kinesis\":{\"kinesisSchemaVersion\":\"1.0\",\"partitionKey\":\""
 
--- an element that is not the first stands after a comma
-unfoldable pub following_text : List ℕ → Record → List ℕ
-following_text source r = codes "," ++ element_text source r
+-- its key, sequence number, data and arrival
+unfoldable pub content_text : Record → List ℕ
+content_text r =
+    flat_map escaped_byte r.key ++ codes "\",\"sequenceNumber\":\"" ++ r.seq
+    ++ codes "\",\"data\":\"" ++ base64_text r.payload
+    ++ codes "\",\"approximateArrivalTimestamp\":" ++ seconds_text r.arrival
+
+-- what follows them up to the sequence number again, the same for all records of the shard
+unfoldable pub identity_text : ℕ → List ℕ
+identity_text shard =
+    codes "},\"eventSource\":\"aws:kinesis\",\"eventVersion\":\"1.0\",\"eventID\":\"shardId-"
+    ++ padded_decimal 12 shard ++ codes ":"
+
+-- the element with this opening, identity and source
+unfoldable pub element_text : List ℕ → List ℕ → List ℕ → Record → List ℕ
+element_text opening identity source r = opening ++ content_text r ++ identity ++ r.seq ++ source
 
 -- a message's element that is not the first stands after a comma
 unfoldable pub following_message : Config → Received → List ℕ

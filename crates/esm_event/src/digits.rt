@@ -6,6 +6,9 @@ ghost use Rattle.esm_model.specs.Numbers.{decimal, padded_decimal, padded_hexade
 use esm_model::OutOfMemory;
 use itoa::Buffer;
 
+/// The most digits that are written at once.
+const MAX_WIDTH: u32 = 20;
+
 /// Appends the number's decimal digits. After an `Err` a part of them may stand there.
 pub fn push_decimal(out: &mut Vec<u8>, number: u64) -> Result<(), OutOfMemory>
     ensures { OnOk result (out.new.items ≡ out.old.items ++ decimal number) }
@@ -31,17 +34,36 @@ pub fn push_hexadecimal(out: &mut Vec<u8>, width: u32, number: u64) -> Result<()
     push_digits(out, 16, width, number)
 }
 
-#[tactic(auto, using(esm_model::proofs::NumberLemmas::last_digits_none, esm_model::proofs::NumberLemmas::last_digits_more))]
 fn push_digits(out: &mut Vec<u8>, base: u64, width: u32, number: u64) -> Result<(), OutOfMemory>
     requires low { 0 < base }
     requires high { base ≤ 16 }
     ensures { OnOk result (out.new.items ≡ out.old.items ++ last_digits base width number) }
 {
-    if width == 0 {
-        return Ok(());
+    if width <= MAX_WIDTH {
+        return push_few_digits(out, base, width, number);
     }
     push_digits(out, base, width - 1, number / base)?;
     out.push(digit(number % base))?;
+    Ok(())
+}
+
+/// Writes the digits from the last one, and appends them at once.
+fn push_few_digits(out: &mut Vec<u8>, base: u64, width: u32, number: u64) -> Result<(), OutOfMemory>
+    requires low { 0 < base }
+    requires high { base ≤ 16 }
+    requires few { width ≤ MAX_WIDTH }
+    ensures { OnOk result (out.new.items ≡ out.old.items ++ last_digits base width number) }
+{
+    let mut digits = [b'0'; MAX_WIDTH as usize];
+    let first = MAX_WIDTH as usize - width as usize;
+    let mut at = MAX_WIDTH as usize;
+    let mut rest = number;
+    while at > first {
+        at -= 1;
+        digits[at] = digit(rest % base);
+        rest /= base;
+    }
+    out.extend_from_slice(&digits[first..])?;
     Ok(())
 }
 

@@ -1,7 +1,9 @@
 // JSON texts.
-ghost use Rattle.std.specs.Prelude.{◌≡◌, ◌++◌, OnOk};
+ghost use Rattle.std.specs.Prelude.{◌≡◌, ◌++◌, ◌∷◌, [], true, OnOk};
+ghost use Rattle.std.specs.List.{flat_map};
 ghost use Rattle.esm_model.specs.JsonText.{escape_letter, escaped_byte, quoted, truth_text};
 
+use crate::bytes::push_bytes;
 use crate::digits::push_hexadecimal;
 use esm_model::OutOfMemory;
 
@@ -11,15 +13,54 @@ pub fn push_quoted(out: &mut Vec<u8>, text: &[u8]) -> Result<(), OutOfMemory>
     ensures { OnOk result (out.new.items ≡ out.old.items ++ quoted text.now) }
 {
     out.push(b'"')?;
-    for byte in text {
-        push_escaped(out, *byte)?;
-    }
+    push_escaped(out, text)?;
     out.push(b'"')?;
     Ok(())
 }
 
+/// Appends the UTF-8 text with the escapes of RFC 8259; one that needs none at once.
+/// After an `Err` a part of it may stand there.
+pub(crate) fn push_escaped(out: &mut Vec<u8>, text: &[u8]) -> Result<(), OutOfMemory>
+    ensures { OnOk result (out.new.items ≡ out.old.items ++ flat_map escaped_byte text.now) }
+{
+    if is_plain(text) {
+        push_bytes(out, text)?;
+    } else {
+        push_each(out, text)?;
+    }
+    Ok(())
+}
+
+/// No byte of the text needs an escape.
+pub(crate) fn is_plain(text: &[u8]) -> bool
+    ensures { result ≡ true → flat_map escaped_byte text.now ≡ text.now }
+{
+    for byte in text {
+        if !is_plain_byte(*byte) {
+            return false;
+        }
+    }
+    true
+}
+
 #[tactic(auto, unfolding(esm_model::specs::JsonText::escaped_byte))]
-fn push_escaped(out: &mut Vec<u8>, byte: u8) -> Result<(), OutOfMemory>
+fn is_plain_byte(byte: u8) -> bool
+    ensures { result ≡ true → escaped_byte byte ≡ byte ∷ [] }
+{
+    byte >= 32 && byte != b'"' && byte != b'\\'
+}
+
+fn push_each(out: &mut Vec<u8>, text: &[u8]) -> Result<(), OutOfMemory>
+    ensures { OnOk result (out.new.items ≡ out.old.items ++ flat_map escaped_byte text.now) }
+{
+    for byte in text {
+        push_escape(out, *byte)?;
+    }
+    Ok(())
+}
+
+#[tactic(auto, unfolding(esm_model::specs::JsonText::escaped_byte))]
+fn push_escape(out: &mut Vec<u8>, byte: u8) -> Result<(), OutOfMemory>
     ensures { OnOk result (out.new.items ≡ out.old.items ++ escaped_byte byte) }
 {
     if let Some(letter) = escape_letter(byte) {

@@ -3,6 +3,7 @@
 //! Pure: values in, bytes out. No device, clock or thread.
 #![tactic(auto)]
 
+mod builder;
 pub mod bytes;
 mod dates;
 pub mod digits;
@@ -14,7 +15,9 @@ mod message;
 mod queue;
 mod queue_length;
 pub mod record;
+mod window;
 
+pub use builder::StreamEvent;
 pub use esm_model::{Failure, Received, Response, WindowCall};
 pub use event::stream_event;
 pub use failure::failure_text;

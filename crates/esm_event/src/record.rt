@@ -1,11 +1,11 @@
 // One record of a stream as an element of an event's `Records`.
 ghost use Rattle.std.specs.Prelude.{◌≡◌, ◌++◌, OnOk, IfOk};
-ghost use Rattle.esm_event.specs.Elements.{element_text};
-ghost use Rattle.esm_model.specs.EventText.{base64_text, shard_id, seconds_text, kinesis_part, identity_part, source_part};
+ghost use Rattle.esm_event.specs.Elements.{element_text, content_text, identity_text};
+ghost use Rattle.esm_model.specs.EventText.{base64_text, shard_id, seconds_text, source_part};
 
 use crate::bytes::push_bytes;
 use crate::digits::{push_decimal, push_padded};
-use crate::json::push_quoted;
+use crate::json::push_escaped;
 use base64::encoded_len;
 use base64::engine::general_purpose::STANDARD;
 use esm_model::{Config, OutOfMemory, Record};
@@ -36,48 +36,57 @@ fn push_source(out: &mut Vec<u8>, config: &Config) -> Result<(), OutOfMemory>
     Ok(())
 }
 
-/// Appends the element that ends with `source`. After an `Err` a part of it may stand there.
-pub(crate) fn push_record(
+/// What stands in each element of the shard between the record's arrival and its sequence number.
+pub(crate) fn identity_text(alloc: Global, shard: u64) -> Result<Vec<u8>, OutOfMemory>
+    ensures { IfOk result (λ text. text.items ≡ identity_text shard) }
+{
+    let mut out = Vec::new(alloc);
+    push_identity(&mut out, shard)?;
+    Ok(out)
+}
+
+/// Appends that text. After an `Err` a part of it may stand there.
+pub(crate) fn push_identity(out: &mut Vec<u8>, shard: u64) -> Result<(), OutOfMemory>
+    ensures { OnOk result (out.new.items ≡ out.old.items ++ identity_text shard) }
+{
+    push_bytes(
+        out,
+        b"},\"eventSource\":\"aws:kinesis\",\"eventVersion\":\"1.0\",\"eventID\":\"shardId-",
+    )?;
+    push_padded(out, 12, shard)?;
+    push_bytes(out, b":")?;
+    Ok(())
+}
+
+/// Appends the element with this opening, identity and source. After an `Err` a part of it may stand there.
+pub(crate) fn push_element(
     out: &mut Vec<u8>,
+    opening: &[u8],
+    identity: &[u8],
     source: &[u8],
     item: &Record,
 ) -> Result<(), OutOfMemory>
-    ensures { OnOk result (out.new.items ≡ out.old.items ++ element_text source.now item.now) }
+    ensures { OnOk result (out.new.items
+        ≡ out.old.items ++ element_text opening.now identity.now source.now item.now) }
 {
-    push_kinesis(out, item)?;
-    push_identity(out, item)?;
+    push_bytes(out, opening)?;
+    push_content(out, item)?;
+    push_bytes(out, identity)?;
+    push_bytes(out, item.seq.text().as_bytes())?;
     push_bytes(out, source)?;
     Ok(())
 }
 
-fn push_kinesis(out: &mut Vec<u8>, item: &Record) -> Result<(), OutOfMemory>
-    ensures { OnOk result (out.new.items ≡ out.old.items ++ kinesis_part item.now) }
+fn push_content(out: &mut Vec<u8>, item: &Record) -> Result<(), OutOfMemory>
+    ensures { OnOk result (out.new.items ≡ out.old.items ++ content_text item.now) }
 {
-    push_bytes(
-        out,
-        b"{\"kinesis\":{\"kinesisSchemaVersion\":\"1.0\",\"partitionKey\":",
-    )?;
-    push_quoted(out, item.key.as_slice())?;
-    push_bytes(out, b",\"sequenceNumber\":\"")?;
+    push_escaped(out, item.key.as_slice())?;
+    push_bytes(out, b"\",\"sequenceNumber\":\"")?;
     push_bytes(out, item.seq.text().as_bytes())?;
     push_bytes(out, b"\",\"data\":\"")?;
     push_base64(out, item.payload.as_slice())?;
     push_bytes(out, b"\",\"approximateArrivalTimestamp\":")?;
     push_seconds(out, item.arrival)?;
-    push_bytes(out, b"}")?;
-    Ok(())
-}
-
-fn push_identity(out: &mut Vec<u8>, item: &Record) -> Result<(), OutOfMemory>
-    ensures { OnOk result (out.new.items ≡ out.old.items ++ identity_part item.now) }
-{
-    push_bytes(
-        out,
-        b",\"eventSource\":\"aws:kinesis\",\"eventVersion\":\"1.0\",\"eventID\":\"",
-    )?;
-    push_shard_id(out, item.shard)?;
-    push_bytes(out, b":")?;
-    push_bytes(out, item.seq.text().as_bytes())?;
     Ok(())
 }
 

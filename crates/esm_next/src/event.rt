@@ -1,20 +1,22 @@
 // The call of a lane, with the text of its event.
-ghost use Rattle.std.specs.Prelude.{◌≡◌, ◌≤◌, ◌++◌, ◌∷◌, [], Some, None, IfOk, OnOk, IfSome, unwrap_or, codes};
+ghost use Rattle.std.specs.Prelude.{◌≡◌, ◌≤◌, ◌++◌, ◌∷◌, [], List, Some, None, IfOk, OnOk, IfSome, unwrap_or, codes};
 ghost use Rattle.std.specs.Option.{option_copied, ForSome};
 ghost use Rattle.esm_model.specs.declared.moment.TheConstants.{MAX_MOMENT};
+ghost use Rattle.esm_model.specs.declared.item.Record.{Record};
 ghost use Rattle.esm_model.specs.ValidCall.{IsValidWindowCall};
 ghost use Rattle.esm_model.specs.Setting.{records_at};
 ghost use Rattle.esm_model.specs.Entries.{came_count};
 ghost use Rattle.esm_model.specs.EventText.{event_text};
 ghost use Rattle.esm_model.specs.Calls.{window_call};
+ghost use Rattle.esm_event.specs.Building.{IsEventOf};
 ghost use Rattle.esm_ledger.specs.Ledger.{past_of, setting_of, Keeps};
 ghost use Rattle.esm_next.specs.Following.{job_of};
 ghost use Rattle.esm_next.specs.Deciding.{IsWithinBounds};
 ghost use Rattle.esm_next.specs.Gathering.{call_in};
 
-use esm_event::stream_event;
+use esm_event::{StreamEvent, frame_bytes};
 use esm_ledger::Ledger;
-use esm_model::{Bytes, Job, LaneId, OutOfMemory, Places, Record, WindowCall, WindowState};
+use esm_model::{Bytes, Job, LaneId, OutOfMemory, Places, WindowCall, WindowState};
 use std::alloc::Global;
 
 /// The call of the lane with these places, or the one that closes the window.
@@ -50,62 +52,62 @@ fn event(
     window: Option<&WindowCall>,
 ) -> Result<Bytes, OutOfMemory>
     requires kept { Keeps ledger.now }
-    requires bounds { IsWithinBounds ledger.now }
     requires valid { ForSome (option_copied window) IsValidWindowCall }
     ensures { IfOk result (λ text. text ≡ event_text ledger.now.config (records_at (setting_of ledger.now) shard places.now) (option_copied window.entry)) }
 {
-    let batch = gathered(alloc, ledger, shard, places)?;
-    let text = stream_event(alloc, &ledger.config, batch.as_slice(), window)?;
+    let room = event_bytes(ledger, shard, places, window);
+    let mut event = StreamEvent::begin(alloc, &ledger.config, room)?;
+    push_places(&mut event, ledger, shard, places)?;
+    let text = event.finish(&ledger.config, window)?;
     Ok(Bytes::from_vec(text))
 }
 
-/// Copies of the records at the places, in order.
-fn gathered(
-    alloc: Global,
+/// As many bytes as the event takes, or the greatest `usize` where they are more: only room is made by it.
+fn event_bytes(ledger: &Ledger, shard: u64, places: &[u32], window: Option<&WindowCall>) -> usize
+    requires kept { Keeps ledger.now }
+    requires valid { ForSome (option_copied window) IsValidWindowCall }
+{
+    let mut total = frame_bytes(&ledger.config, window) as usize;
+    for place in places {
+        total = total.saturating_add(ledger.element_length(shard, *place) as usize + 1);
+    }
+    total
+}
+
+/// Appends the elements of the records at the places, in order, to an event with none yet.
+fn push_places(
+    event: &mut StreamEvent,
     ledger: &Ledger,
     shard: u64,
     places: &[u32],
-) -> Result<Vec<Record>, OutOfMemory>
-    requires { Keeps ledger.now }
-    ensures { IfOk result (λ v. v.items ≡ records_at (setting_of ledger.now) shard places.now) }
+) -> Result<(), OutOfMemory>
+    requires kept { Keeps ledger.now }
+    requires begun { IsEventOf ledger.now.config [] event.old }
+    ensures { OnOk result (IsEventOf ledger.now.config (records_at (setting_of ledger.now) shard places.now) event.new) }
 {
-    let mut batch = Vec::with_capacity(alloc, places.len())?;
     for place in places {
-        push_copy(alloc, &mut batch, ledger, shard, *place)?;
+        push_place(event, ledger, shard, *place)?;
     }
-    Ok(batch)
+    Ok(())
 }
 
-fn push_copy(
-    alloc: Global,
-    batch: &mut Vec<Record>,
+fn push_place(
+    event: &mut StreamEvent,
     ledger: &Ledger,
     shard: u64,
     place: u32,
 ) -> Result<(), OutOfMemory>
     requires { Keeps ledger.now }
-    ensures { OnOk result (batch.new.items ≡ batch.old.items ++ records_at (setting_of ledger.now) shard (place ∷ [])) }
+    ensures { OnOk result ((rs : List Record) → IsEventOf ledger.now.config rs event.old
+        → IsEventOf ledger.now.config (rs ++ records_at (setting_of ledger.now) shard (place ∷ [])) event.new) }
 {
     match ledger.record(shard, place) {
         None => Ok(()),
         Some(record) => {
-            let copy = record_copy(alloc, record)?;
-            batch.push(copy)?;
+            event.push(record)?;
             Ok(())
         }
     }
-}
-
-fn record_copy(alloc: Global, item: &Record) -> Result<Record, OutOfMemory>
-    ensures { IfOk result (λ copy. copy ≡ item.now) }
-{
-    Ok(Record {
-        shard: item.shard,
-        seq: item.seq.copy(alloc)?,
-        key: item.key.copy(alloc)?,
-        payload: item.payload.copy(alloc)?,
-        arrival: item.arrival,
-    })
 }
 
 /// A copy of the places.

@@ -1,5 +1,5 @@
 use Rattle.esm_event.proofs.Appending.{then}
-use Rattle.esm_event.proofs.event.push_span.Goals as goal
+use Rattle.esm_event.proofs.window.push_span.Goals as goal
 
 pub returns : goal.returns
 returns c =

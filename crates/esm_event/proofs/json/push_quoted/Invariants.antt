@@ -1,8 +1,0 @@
-use Rattle.std.proofs.Common.{◌≡◌, ◌++◌, codes, take}
-use Rattle.std.specs.List.{flat_map}
-use Rattle.esm_model.specs.JsonText.{escaped_byte}
-use Rattle.esm_event.proofs.json.push_quoted.Given as goal
-
-abbrev pub invariant-loop-byte : goal.invariant-loop-byte
-invariant-loop-byte l =
-    l.out.items ≡ (l.fn.out.items ++ codes "\"") ++ flat_map escaped_byte (take l.byte-index l.text)

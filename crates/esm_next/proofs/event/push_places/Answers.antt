@@ -1,0 +1,21 @@
+use Rattle.std.proofs.Common.{◌≡◌, ℕ, ◌+◌, ◌<◌, List, [], ◌∷◌, ◌++◌, length, get_or, take, sym, ap, subst, ◌∙◌}
+use Rattle.std.proofs.lemmas.List.{take_more}
+use Rattle.std.proofs.lemmas.List.Elements.{filter_map-append}
+use Rattle.esm_model.specs.declared.item.Record.{Record}
+use Rattle.esm_model.specs.Setting.{Setting, record_at, records_at}
+use Rattle.esm_event.specs.Building.{IsEventOf}
+use Rattle.esm_ledger.specs.Ledger.{setting_of}
+use Rattle.esm_next.proofs.event.push_places.Goals as goal
+
+-- the records at one more place
+one_more : (s : Setting) (n : ℕ) (xs : List ℕ) (i : ℕ) → i < length xs → records_at s n (take i xs) ++ records_at s n (get_or xs i 0 ∷ []) ≡ records_at s n (take (i + 1) xs)
+one_more s n xs i within =
+    sym (ap (records_at s n) (take_more xs i 0 within) ∙ filter_map-append (record_at s n) (take i xs) (get_or xs i 0 ∷ []))
+
+pub loop-place-preserved : goal.loop-place-preserved
+loop-place-preserved c =
+    let s = setting_of c.args.ledger.now in
+    let before = records_at s c.args.shard (take c.loop-place.place-index c.args.places.now) in
+    subst (λ (rs : List Record). IsEventOf c.args.ledger.now.config rs c.push_place.new.event)
+    (one_more s c.args.shard c.args.places.now c.loop-place.place-index c.loop-place-test.true)
+    (c.in_ok-push_place.ensures before c.loop-place.invariant)
