@@ -1,7 +1,7 @@
 -- Payloads of entries and of histories over lists of records that go on.
 use Rattle.std.proofs.Common.{◌≡◌, ℕ, zero, suc, ◌<◌, ◌≤◌, List, [], ◌∷◌, ◌++◌, length, map, refl, sym, ap, ◌∙◌, inl, inr, Option, Some, None, arith}
-use Rattle.std.specs.Prelude.{filter_map, option_map, reverse, slice_index_or}
-use Rattle.std.specs.List.{All, cons_option}
+use Rattle.std.specs.Prelude.{filter_map, reverse, slice_index_or}
+use Rattle.std.specs.List.{cons_option}
 use Rattle.std.proofs.lemmas.List.{append-nil, reverse-reverse}
 use Rattle.std.proofs.lemmas.List.Elements.{filter_map-append}
 use Rattle.std.proofs.lemmas.Grind.{reverse_onto}

@@ -1,4 +1,5 @@
 pub mod Payload
+pub mod Fronts
 pub mod Parsing
 pub mod Words
 pub mod EntryPayload

@@ -5,11 +5,13 @@
 mod field;
 pub mod laws;
 mod names;
+mod naming;
 mod parsing;
 pub mod said;
 mod word;
 mod writing;
 
+pub use naming::{begin_fates, begin_tried, push_sequence};
 pub use parsing::read_said;
 pub use said::Said;
 pub use writing::{fate_byte, said_bytes};

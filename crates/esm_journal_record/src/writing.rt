@@ -3,6 +3,7 @@ ghost use Rattle.std.specs.Prelude.{◌≡◌, ◌<◌, ◌^◌, ◌++◌, ◌�
 ghost use Rattle.std.specs.List.{list_all};
 ghost use Rattle.esm_journal_record.specs.declared.said.Said.TheVariants as said;
 ghost use Rattle.esm_journal_record.specs.Payload.{payload_of, IsSaid, eight, four, fate_byte, text_bytes, flagged_bytes, name_bytes, named_bytes, names_bytes, is_short};
+ghost use Rattle.esm_journal_record.specs.Fronts.{fates_front, tried_front};
 
 use crate::said::Said;
 use esm_model::{Bytes, Fate, OutOfMemory, Places, Text, Texts, WindowState};
@@ -90,7 +91,7 @@ fn push_flag_and_state(out: &mut Vec<u8>, state: &WindowState) -> Result<(), Out
     Ok(())
 }
 
-fn push_name(out: &mut Vec<u8>, place: u32, text: &[u8]) -> Result<(), OutOfMemory>
+pub(crate) fn push_name(out: &mut Vec<u8>, place: u32, text: &[u8]) -> Result<(), OutOfMemory>
     requires { length text.now < 256 }
     ensures { OnOk result (out.new.items ≡ out.old.items ++ name_bytes place text.now) }
 {
@@ -131,6 +132,26 @@ fn push_kind(out: &mut Vec<u8>, kind: u8, shard: u64) -> Result<(), OutOfMemory>
     Ok(())
 }
 
+/// What stands in front of the names of a payload of fates, of which so many follow.
+pub(crate) fn push_fates_front(
+    out: &mut Vec<u8>,
+    shard: u64,
+    fate: Fate,
+    moment: u64,
+    state: &Option<WindowState>,
+    count: u32,
+) -> Result<(), OutOfMemory>
+    requires { IfSome state.now (λ s. length s.text < 2 ^ 32) }
+    ensures { OnOk result (out.new.items ≡ out.old.items ++ fates_front shard fate moment state.now count) }
+{
+    push_kind(out, 1, shard)?;
+    push_byte(out, fate_byte(fate))?;
+    push_u64(out, moment)?;
+    push_flagged(out, state)?;
+    push_u32(out, count)?;
+    Ok(())
+}
+
 fn push_fates(
     out: &mut Vec<u8>,
     shard: u64,
@@ -143,11 +164,9 @@ fn push_fates(
     requires { IsSaid (said.Fates shard fate moment state.now places.now texts.now) }
     ensures { OnOk result (out.new.items ≡ out.old.items ++ payload_of (said.Fates shard fate moment state.now places.now texts.now)) }
 {
-    push_kind(out, 1, shard)?;
-    push_byte(out, fate_byte(fate))?;
-    push_u64(out, moment)?;
-    push_flagged(out, state)?;
-    push_named(out, places, texts)?;
+    let count = places.as_slice().len() as u32;
+    push_fates_front(out, shard, fate, moment, state, count)?;
+    push_names(out, places.as_slice(), texts.as_slice())?;
     Ok(())
 }
 
@@ -193,6 +212,23 @@ fn push_state(
     Ok(())
 }
 
+/// What stands in front of the names of a payload of tries, of which so many follow.
+pub(crate) fn push_tried_front(
+    out: &mut Vec<u8>,
+    shard: u64,
+    moment: u64,
+    tries: u32,
+    count: u32,
+) -> Result<(), OutOfMemory>
+    ensures { OnOk result (out.new.items ≡ out.old.items ++ tried_front shard moment tries count) }
+{
+    push_kind(out, 5, shard)?;
+    push_u64(out, moment)?;
+    push_u32(out, tries)?;
+    push_u32(out, count)?;
+    Ok(())
+}
+
 fn push_tried(
     out: &mut Vec<u8>,
     shard: u64,
@@ -204,10 +240,9 @@ fn push_tried(
     requires { IsSaid (said.Tried shard moment tries places.now texts.now) }
     ensures { OnOk result (out.new.items ≡ out.old.items ++ payload_of (said.Tried shard moment tries places.now texts.now)) }
 {
-    push_kind(out, 5, shard)?;
-    push_u64(out, moment)?;
-    push_u32(out, tries)?;
-    push_named(out, places, texts)?;
+    let count = places.as_slice().len() as u32;
+    push_tried_front(out, shard, moment, tries, count)?;
+    push_names(out, places.as_slice(), texts.as_slice())?;
     Ok(())
 }
 

@@ -1,0 +1,57 @@
+// A payload of records, written name by name: what stands in front of the names, and then each of them.
+ghost use Rattle.std.specs.Prelude.{◌≡◌, ◌++◌, ℕ, List, length, IfOk, IfSome, OnOk};
+ghost use Rattle.esm_journal_record.specs.declared.said.Said.TheVariants as said;
+ghost use Rattle.esm_journal_record.specs.Payload.{payload_of, IsState, name_bytes, names_bytes};
+
+use crate::writing::{push_fates_front, push_name, push_tried_front};
+use esm_model::{Fate, OutOfMemory, Seq, WindowState};
+use std::alloc::Global;
+
+/// The bytes that the fields in front of the names take, but for a state.
+const FRONT_ROOM: usize = 32;
+
+/// The bytes that a place with a sequence number of Kinesis takes.
+const NAME_ROOM: usize = 64;
+
+/// A payload of fates is begun: it wants the names of so many records behind it, one `push_sequence` for each.
+pub fn begin_fates(
+    alloc: Global,
+    shard: u64,
+    fate: Fate,
+    moment: u64,
+    state: &Option<WindowState>,
+    count: u32,
+) -> Result<Vec<u8>, OutOfMemory>
+    requires { IfSome state.now IsState }
+    ensures { IfOk result (λ out. (places : List ℕ) (texts : List (List ℕ)) → length places ≡ count →
+        out.items ++ names_bytes places texts ≡ payload_of (said.Fates shard fate moment state.now places texts)) }
+{
+    let room = FRONT_ROOM + NAME_ROOM * count as usize;
+    let mut out = Vec::with_capacity(alloc, room)?;
+    push_fates_front(&mut out, shard, fate, moment, state, count)?;
+    Ok(out)
+}
+
+/// A payload of failed tries is begun: it wants the names of so many records behind it, one `push_sequence` for each.
+pub fn begin_tried(
+    alloc: Global,
+    shard: u64,
+    moment: u64,
+    tries: u32,
+    count: u32,
+) -> Result<Vec<u8>, OutOfMemory>
+    ensures { IfOk result (λ out. (places : List ℕ) (texts : List (List ℕ)) → length places ≡ count →
+        out.items ++ names_bytes places texts ≡ payload_of (said.Tried shard moment tries places texts)) }
+{
+    let room = FRONT_ROOM + NAME_ROOM * count as usize;
+    let mut out = Vec::with_capacity(alloc, room)?;
+    push_tried_front(&mut out, shard, moment, tries, count)?;
+    Ok(out)
+}
+
+/// The place of the next record and its sequence number.
+pub fn push_sequence(out: &mut Vec<u8>, place: u32, seq: &Seq) -> Result<(), OutOfMemory>
+    ensures { OnOk result (out.new.items ≡ out.old.items ++ name_bytes place seq.now) }
+{
+    push_name(out, place, seq.text().as_bytes())
+}
