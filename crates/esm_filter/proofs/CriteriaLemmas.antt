@@ -1,16 +1,24 @@
 -- Patterns one after another.
-use Rattle.std.proofs.Common.{◌≡◌, ℕ, suc, ◌+◌, ◌<◌, List, [], ◌∷◌, ◌++◌, length, ◌==◌, drop, get_or, Bool, true, false, if◌then◌else◌, Option, Some, None, Result, Ok, Err, Vec, Global, IsUtf8, arith, refl, ap, sym, ◌∙◌, append_assoc, add-one, zero-add, add-zero, drop-cons, length-append}
+use Rattle.std.proofs.Common.{◌≡◌, ℕ, suc, ◌+◌, ◌<◌, List, [], ◌∷◌, ◌++◌, length, ◌==◌, drop, get_or, Bool, true, false, if◌then◌else◌, Option, Some, None, option_map, Result, Ok, Err, IfOk, Vec, Global, IsUtf8, arith, refl, ap, sym, subst, ◌∙◌, append_assoc, add-one, zero-add, add-zero, drop-cons, length-append}
 use Rattle.std.specs.List.{list_any}
 use Rattle.std.specs.Str.{is_utf8}
 use Rattle.std.specs.Result.{result_map_both}
 use Rattle.std.proofs.lemmas.Str.{IsUtf8-from_is_utf8, is_utf8-from_IsUtf8}
 use Rattle.serde_json.specs.Data.{Data}
 use Rattle.serde_json.specs.Read.{read}
+use Rattle.serde_json.specs.View.{view}
+use Rattle.serde_json.specs.declared.value.Value.{Value}
 use Rattle.esm_model.specs.Json.{read_json}
-use Rattle.esm_model.specs.Filter.{Seen, fields_pass, patterns_pass}
+use Rattle.esm_model.specs.Filter.{Seen, fields_pass, in_message, in_record, patterns_pass}
 use Rattle.esm_model.specs.Pattern.{Fields, Refusal, Reads, read_pattern, read_patterns, with_first}
+use Rattle.esm_model.specs.declared.item.Record.{Record}
+use Rattle.esm_model.specs.declared.memory.OutOfMemory.{OutOfMemory}
+use Rattle.esm_model.specs.declared.item.Message.{Message}
 use Rattle.esm_filter.specs.Criteria.{patterns_view}
+use Rattle.esm_filter.specs.Named.{is_named, Like}
 use Rattle.esm_filter.specs.View.{fields_view}
+use Rattle.esm_filter.proofs.KeepLemmas.{like_none}
+use Rattle.esm_filter.proofs.LikeLemmas.{messages_alike, records_alike}
 use Rattle.esm_filter.proofs.ViewLemmas.{any_view}
 use Rattle.esm_filter.proofs.ReadLemmas.{Field, none_of_some}
 
@@ -60,3 +68,36 @@ refused_pattern s ps ts i n t why within is count e =
     ap (λ us. then_patterns ps (read_patterns s us)) (drop-cons ts i t within ∙ ap (λ u. u ∷ drop (suc i) ts) (sym is))
     ∙ ap (and_patterns ps s (drop (suc i) ts)) e
     ∙ ap (λ m. Err (m, why)) (add-zero (length ps) ∙ count)
+
+-- ---- what a document is judged by
+
+pub judged_record : (ps qs : List Tree) (r : Record) (bytes : List ℕ) (o : Option Data) (b : Bool) → qs ≡ ps → bytes ≡ r.payload → Like (is_named (patterns_view qs)) (read_json bytes) o
+    → b ≡ patterns_pass (patterns_view qs) (in_record r o) → b ≡ patterns_pass (patterns_view ps) (in_record r (read_json r.payload))
+judged_record ps qs r bytes o b same text like h =
+    h ∙ sym (records_alike (patterns_view qs) r (read_json bytes) o like)
+    ∙ ap (λ (us : List Tree). patterns_pass (patterns_view us) (in_record r (read_json bytes))) same
+    ∙ ap (λ (bs : List ℕ). patterns_pass (patterns_view ps) (in_record r (read_json bs))) text
+
+pub judged_message : (ps qs : List Tree) (m : Message) (bytes : List ℕ) (o : Option Data) (b : Bool) → qs ≡ ps → bytes ≡ m.body → Like (is_named (patterns_view qs)) (read bytes) o
+    → b ≡ patterns_pass (patterns_view qs) (in_message m o) → b ≡ patterns_pass (patterns_view ps) (in_message m (read m.body))
+judged_message ps qs m bytes o b same text like h =
+    h ∙ sym (messages_alike (patterns_view qs) m (read bytes) o like)
+    ∙ ap (λ (us : List Tree). patterns_pass (patterns_view us) (in_message m (read bytes))) same
+    ∙ ap (λ (bs : List ℕ). patterns_pass (patterns_view ps) (in_message m (read bs))) text
+
+-- bytes that are UTF-8, and bytes that are not
+document_of_text : (names : List ℕ → Bool) (bytes text : List ℕ) (o : Option Data) → IsUtf8 bytes → text ≡ bytes → Like names (read text) o → Like names (read_json bytes) o
+document_of_text names bytes text o utf8 same like =
+    let reads : read text ≡ read_json bytes = ap read same ∙ ap (λ (b : Bool). if b then read bytes else None) (sym (is_utf8-from_IsUtf8 bytes utf8)) in
+    subst (λ (d : Option Data). Like names d o) reads like
+
+no_text_at : (bytes : List ℕ) (b : Bool) → is_utf8 bytes ≡ b → ¬ IsUtf8 bytes → read_json bytes ≡ None
+no_text_at bytes true e not' = absurd (not' (IsUtf8-from_is_utf8 bytes e))
+no_text_at bytes false e not' = ap (λ (b : Bool). if b then read bytes else None) e
+
+pub no_text : (names : List ℕ → Bool) (bytes : List ℕ) → ¬ IsUtf8 bytes → Like names (read_json bytes) None
+no_text names bytes not' = like_none names (read_json bytes) (no_text_at bytes (is_utf8 bytes) refl not')
+
+pub text_read : (names : List ℕ → Bool) (bytes text : List ℕ) (r : Result (Option Value) OutOfMemory) → IsUtf8 bytes → text ≡ bytes → IfOk r (λ o. Like names (read text) (option_map view o)) → IfOk r (λ o. Like names (read_json bytes) (option_map view o))
+text_read names bytes text (Ok o) utf8 same like = document_of_text names bytes text (option_map view o) utf8 same like
+text_read names bytes text (Err e) utf8 same like = like

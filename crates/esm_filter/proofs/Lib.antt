@@ -3,3 +3,6 @@ pub mod LeafLemmas
 pub mod ReadLemmas
 pub mod CriteriaLemmas
 pub mod TextLemmas
+pub mod LikeLemmas
+pub mod Tokens
+pub mod KeepLemmas

@@ -11,11 +11,12 @@ ghost use Rattle.esm_filter.specs.Criteria.{IsOneRead, IsRead, JudgesMessages, J
 ghost use Rattle.esm_filter.specs.Judged.{judged_view, value_of};
 ghost use Rattle.esm_filter.specs.View.{fields_view};
 
+use crate::document::{read_bytes, read_document};
 use crate::error::{FilterError, ReadError};
 use crate::judge::{Judged, fields_pass};
 use crate::pattern::Rule;
 use crate::read::read_pattern;
-use esm_model::{Kind, Message, OutOfMemory, Record, Text, parse_json, parse_json_text};
+use esm_model::{Kind, Message, OutOfMemory, Record, Text};
 use serde_json::Value;
 use std::alloc::Global;
 
@@ -132,7 +133,7 @@ impl Criteria {
         self.patterns.as_slice().is_empty()
     }
 
-    /// Whether a stream's record passes; its data is parsed once at most, and not at all where there are no patterns.
+    /// Whether a stream's record passes; its data is read once at most, and not at all where there are no patterns.
     pub fn passes_record(&self, alloc: Global, item: &Record) -> Result<bool, OutOfMemory>
         ensures { IfOk result (λ b. b ≡ patterns_pass (patterns_of self.now) (in_record item.now (read_json item.now.payload))) }
     {
@@ -140,11 +141,12 @@ impl Criteria {
         if none {
             return Ok(true);
         }
-        let json = parse_json(alloc, item.payload.as_slice())?;
-        Ok(record_passes(self.patterns.as_slice(), item, &json))
+        let patterns = self.patterns.as_slice();
+        let json = read_bytes(alloc, patterns, item.payload.as_slice())?;
+        Ok(record_passes(patterns, item, &json))
     }
 
-    /// Whether a queue's message passes; its body is parsed once at most, and not at all where there are no patterns.
+    /// Whether a queue's message passes; its body is read once at most, and not at all where there are no patterns.
     pub fn passes_message(&self, alloc: Global, item: &Message) -> Result<bool, OutOfMemory>
         ensures { IfOk result (λ b. b ≡ patterns_pass (patterns_of self.now) (in_message item.now (read_text item.now.body))) }
     {
@@ -152,7 +154,8 @@ impl Criteria {
         if none {
             return Ok(true);
         }
-        let json = parse_json_text(alloc, item.body.as_str())?;
-        Ok(message_passes(self.patterns.as_slice(), item, &json))
+        let patterns = self.patterns.as_slice();
+        let json = read_document(alloc, patterns, item.body.as_str())?;
+        Ok(message_passes(patterns, item, &json))
     }
 }

@@ -1,4 +1,5 @@
-// Why a text is no filter pattern, and why filter criteria are refused.
+// Why a text is no filter pattern, why filter criteria are refused, and why a document was not read.
+use json::Invalid;
 use std::alloc::{AllocError, AllocFailed};
 
 /// Why a text is no filter pattern.
@@ -54,6 +55,49 @@ where
 
     fn from(_: AllocFailed<T>) -> Self {
         ReadError::OutOfMemory
+    }
+}
+
+/// Why a document was not read.
+#[derive(Clone, Copy, Debug, PartialEq, Eq)]
+pub(crate) enum DocumentError {
+    NotJson,
+    OutOfMemory,
+}
+
+impl From<Invalid> for DocumentError {
+    ghost use Rattle.std.specs.Prelude.{◌≡◌};
+    ghost use Rattle.esm_filter.specs.declared.error.DocumentError.{DocumentError};
+
+    ghost from_gives = { λ _ e. e ≡ DocumentError.NotJson };
+
+    fn from(_: Invalid) -> Self {
+        DocumentError::NotJson
+    }
+}
+
+impl From<AllocError> for DocumentError {
+    ghost use Rattle.std.specs.Prelude.{◌≡◌};
+    ghost use Rattle.esm_filter.specs.declared.error.DocumentError.{DocumentError};
+
+    ghost from_gives = { λ _ e. e ≡ DocumentError.OutOfMemory };
+
+    fn from(_: AllocError) -> Self {
+        DocumentError::OutOfMemory
+    }
+}
+
+impl<T> From<AllocFailed<T>> for DocumentError
+where
+    T: Drop,
+{
+    ghost use Rattle.std.specs.Prelude.{◌≡◌};
+    ghost use Rattle.esm_filter.specs.declared.error.DocumentError.{DocumentError};
+
+    ghost from_gives = { λ _ e. e ≡ DocumentError.OutOfMemory };
+
+    fn from(_: AllocFailed<T>) -> Self {
+        DocumentError::OutOfMemory
     }
 }
 

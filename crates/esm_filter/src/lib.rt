@@ -1,12 +1,16 @@
 //! The filter criteria of a mapping: JSON patterns, of which a record or a message has to pass one.
-//! A pattern's text is read once into a tree; a record is judged by that tree, its data parsed once.
+//! A pattern's text is read once into a tree; a record is judged by that tree, and of its data, which is read once, what
+//! the patterns name is kept.
 //! Pure values; no device, clock or thread.
 #![tactic(auto)]
 
 mod criteria;
+mod document;
 mod error;
 mod judge;
 mod leaf;
+mod names;
+mod number;
 mod operator;
 mod pattern;
 mod read;
