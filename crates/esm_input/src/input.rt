@@ -15,9 +15,34 @@ use esm_record::Lines;
 use std::alloc::Global;
 use std::marker::Model;
 use std::snapshot::Snapshot;
+use std::thread;
+use std::thread::Threads;
 
 /// How many bytes one read asks for.
-const PIECE: usize = 65536;
+const PIECE: usize = 1048576;
+
+/// The most threads that parse lines.
+const MOST_THREADS: usize = 4;
+
+/// How many threads are to parse lines: one for each processor, four at most.
+fn threads_for<R: Threads>(rt: &R) -> usize {
+    match thread::available_parallelism(rt) {
+        Ok(processors) => processors.get().min(MOST_THREADS),
+        Err(_) => 1,
+    }
+}
+
+/// The number of threads that was asked once, or is now.
+fn asked<R: Threads>(rt: &R, known: &mut Option<usize>) -> usize {
+    match *known {
+        Some(threads) => threads,
+        None => {
+            let threads = threads_for(rt);
+            *known = Some(threads);
+            threads
+        }
+    }
+}
 
 /// The input of a run, as it is read. Contracts see what it was made with, the bytes that were read of the source, and why
 /// the reading ended.
@@ -32,6 +57,8 @@ pub struct Input<S: Source> {
     counted: Counted,
     positions: Positions,
     buffer: Vec<u8>,
+    /// How many threads parse lines at most, once it was asked.
+    threads: Option<usize>,
     whole: bool,
     end: Option<InputEnd>,
     failed: bool,
@@ -87,16 +114,21 @@ impl<S: Source> Input<S> {
             counted: Counted::new(alloc),
             positions: Positions::new(alloc),
             buffer,
+            threads: None,
             whole: false,
             end: None,
             failed: false,
         })
     }
 
-    /// Reads one piece of at most 65,536 bytes, and gives the items of the lines that it completes: those before the first
-    /// bad line and within the limits, from the starting position on. Where the reading ends by it, `end` tells why. After
-    /// `OutOfMemory` nothing more is read.
-    pub fn read(&mut self, alloc: Global) -> Result<Vec<Item>, OutOfMemory>
+    /// Reads one piece of at most 1,048,576 bytes, and gives the items of the lines that it completes: those before the first
+    /// bad line and within the limits, from the starting position on. A long piece's lines are parsed by several threads, by
+    /// one where no other can be made. Where the reading ends by it, `end` tells why. After `OutOfMemory` nothing more is read.
+    pub fn read<R: Threads + Sync>(
+        &mut self,
+        rt: &R,
+        alloc: Global,
+    ) -> Result<Vec<Item>, OutOfMemory>
         requires going { self.old.end ≡ None }
         requires good { self.old.failed ≡ false }
         ensures handed { IfOk result (λ items. handed self.new ≡ handed self.old ++ items.items) }
@@ -119,7 +151,8 @@ impl<S: Source> Input<S> {
             }
         };
         let whole = count == 0;
-        let fed = read_lines(&mut self.lines, &self.buffer[..count])?;
+        let threads = asked(rt, &mut self.threads);
+        let fed = read_lines(rt, threads, &mut self.lines, &self.buffer[..count])?;
         let taken = take(
             alloc,
             self.factor,

@@ -14,6 +14,7 @@ use esm_io::{Failed, Source};
 use esm_model::{Item, LimitName, OutOfMemory, Start};
 use esm_record::{BadLine, Fed, Lines};
 use std::alloc::Global;
+use std::thread::Threads;
 
 /// The items that a piece gives out, and why the reading ends by it, if it does.
 #[derive(Drop)]
@@ -36,8 +37,37 @@ pub(crate) fn read_bytes<S: Source>(source: &mut S, buffer: &mut Vec<u8>) -> Res
     source.read(buffer)
 }
 
-/// Reads the lines that a piece completes; an empty piece is the end of the input.
-pub(crate) fn read_lines(lines: &mut Lines, piece: &[u8]) -> Result<Fed, OutOfMemory>
+/// The shortest piece whose lines several threads are to parse, in bytes.
+const MIN_PIECE: usize = 98_304;
+
+/// How many bytes of a piece show whether its lines are short.
+const SAMPLE: usize = 65_536;
+
+/// The bytes of a line, with its line feed, below which it is short on average. Short lines take more memory parsed than read.
+const MIN_LINE: usize = 32;
+
+/// Whether the lines in front of the piece are short, as blank ones are.
+fn has_short_lines(piece: &[u8]) -> bool {
+    let front = &piece[..piece.len().min(SAMPLE)];
+    front.iter().filter(|b| **b == b'\n').count() > front.len() / MIN_LINE
+}
+
+/// How many of so many threads are to parse the lines of the piece: one alone where it is small or its lines are short.
+fn threads_over(threads: usize, piece: &[u8]) -> usize {
+    if piece.len() < MIN_PIECE || has_short_lines(piece) {
+        1
+    } else {
+        threads
+    }
+}
+
+/// Reads the lines that a piece completes, parsed by so many threads at most; an empty piece is the end of the input.
+pub(crate) fn read_lines<R: Threads + Sync>(
+    rt: &R,
+    threads: usize,
+    lines: &mut Lines,
+    piece: &[u8],
+) -> Result<Fed, OutOfMemory>
     requires going { lines.old.finished ≡ false }
     ensures items { IfOk result (λ fed. (input_read lines.old.kind false lines.old.bytes).items ++ fed.items.items
         ≡ (input_read lines.old.kind (length piece.now == 0) (lines.old.bytes ++ piece.now)).items) }
@@ -50,7 +80,7 @@ pub(crate) fn read_lines(lines: &mut Lines, piece: &[u8]) -> Result<Fed, OutOfMe
     if piece.is_empty() {
         lines.finish()
     } else {
-        lines.feed(piece)
+        lines.feed_parallel(rt, threads_over(threads, piece), piece)
     }
 }
 

@@ -17,6 +17,7 @@ use esm_turn::{Seat, Turn};
 use esm_workers::Reading;
 use std::alloc::Global;
 use std::sync::Wait;
+use std::thread::Threads;
 
 /// How long the reader waits for more of the input before it looks again whether it goes on, in milliseconds. This product's own.
 const PATIENCE: u64 = 1_000;
@@ -36,7 +37,7 @@ fn stands<S: Source>(input: &Input<S>)
 
 /// Reads the input to its end and hands its items on, piece by piece. Where no more of it is there it looks whether it goes on,
 /// and then waits for a second at most: so it looks between pieces, and once a second while none comes.
-fn read_on<R: Wait, B: Pooled, S: Source, C: Clock>(
+fn read_on<R: Threads + Wait + Sync, B: Pooled, S: Source, C: Clock>(
     rt: &R,
     alloc: Global,
     turn: &Turn<B>,
@@ -75,7 +76,7 @@ fn read_on<R: Wait, B: Pooled, S: Source, C: Clock>(
         let ready = input.is_ready(0);
         stands(input);
         if ready {
-            let items = input.read(alloc)?;
+            let items = input.read(rt, alloc)?;
             stands(input);
             hand_on(rt, alloc, turn, seat, items, clock)?;
         } else {
@@ -105,7 +106,7 @@ impl<B: Pooled, S: Source> Reading<B> for Reader<S> {
     ghost read = { λ setup before after seen marked told short.
         HasRead S.faults S.left B.items B.differs B.spent setup before.input after.input seen marked told short };
 
-    fn read_all<R: Wait, C: Clock>(
+    fn read_all<R: Threads + Wait + Sync, C: Clock>(
         &mut self,
         rt: &R,
         alloc: Global,

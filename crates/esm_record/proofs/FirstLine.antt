@@ -9,7 +9,7 @@ use Rattle.memchr.specs.Find.{Nowhere, NoneBefore, Passes, is_byte}
 use Rattle.esm_record.specs.Input.{is_line_feed}
 use Rattle.esm_record.specs.Splitting.{NoLineFeed, IsFirstLine}
 
-not_true : (b : Bool) → (b ≡ true → ⊥) → b ≡ false
+pub not_true : (b : Bool) → (b ≡ true → ⊥) → b ≡ false
 not_true true h = absurd (h refl)
 not_true false h = refl
 

@@ -1,4 +1,4 @@
--- What a line says, from what is kept of the items before.
+-- What is said of an item, from what is kept of the items before.
 use Rattle.std.proofs.Common.{◌≡◌, ℕ, Bool, true, false, List, [], ◌∷◌, ◌++◌, Option, None, Result, Ok, Err, refl, sym, ap, ◌∙◌}
 use Rattle.std.specs.Prelude.{◌||◌}
 use Rattle.std.specs.Str.{bytes_eq}
@@ -13,21 +13,10 @@ use Rattle.esm_model.specs.declared.item.Item.{Item}
 use Rattle.esm_model.specs.declared.item.Item.TheVariants.{Stream, Queue}
 use Rattle.esm_record.specs.declared.seen.Seen.{Seen}
 use Rattle.esm_record.specs.Gives.{Fails}
-use Rattle.esm_record.specs.Line.{◌>>=◌, line_of, record_of, message_of}
 use Rattle.esm_record.specs.Ids.{stood_in}
 use Rattle.esm_record.specs.Numbers.{number_in}
 use Rattle.esm_record.specs.Seen.{Follows}
-use Rattle.esm_record.specs.Input.{number_after, in_order, next_record, has_id, has_stood, as_new, next_message, some_item}
-
-same_then : {A : Type 0} (reading : Result A LineError) (f g : A → Result A LineError) → ((x : A) → f x ≡ g x) → (reading >>= f) ≡ (reading >>= g)
-same_then (Ok x) f g same = same x
-same_then (Err why) f g same = refl
-
-pub next_same : (f g : ℕ → Option (List ℕ)) (line : List ℕ) → ((shard : ℕ) → f shard ≡ g shard) → next_record f line ≡ next_record g line
-next_same f g line same = same_then (line_of record_of line) (λ r. in_order (f r.shard) r) (λ r. in_order (g r.shard) r) (λ r. ap (λ (last : Option (List ℕ)). in_order last r) (same r.shard))
-
-pub next_message_same : (f g : List ℕ → Bool) (fifo : Bool) (line : List ℕ) → ((id : List ℕ) → f id ≡ g id) → next_message f fifo line ≡ next_message g fifo line
-next_message_same f g fifo line same = same_then (line_of (message_of fifo) line) (λ m. as_new (f m.id) m) (λ m. as_new (g m.id) m) (λ m. ap (λ (stood : Bool). as_new stood m) (same m.id))
+use Rattle.esm_record.specs.Input.{number_after, has_id, has_stood, some_item}
 
 pub item_fails : {A : Type 0} (make : A → Item) (e : Refusal) (a b : Result A LineError) → a ≡ b → Fails e a → Fails e (some_item make b)
 item_fails make refusal.OutOfMemory a b same fails = tt

@@ -5,6 +5,8 @@ pub mod FirstLine
 pub mod Follows
 pub mod IdSets
 pub mod Inputs
+pub mod Parses
+pub mod Blocks
 pub mod Wholes
 pub mod Records
 pub mod LineTokens

@@ -26,7 +26,7 @@ pub first_line : (bytes : List ℕ) → HasFirst (lines_of bytes)
 first_line [] = ([], [], refl)
 first_line (x ∷ bytes) = first_either (is_line_feed x) x (lines_of bytes)
 
-follow_nil : (parts : List (List ℕ)) → HasFirst parts → parts ≡ follow [] parts
+pub follow_nil : (parts : List (List ℕ)) → HasFirst parts → parts ≡ follow [] parts
 follow_nil parts (part, others, e) = e ∙ ap (follow []) (sym e)
 
 one_more : (b : Bool) (x : ℕ) (p : List ℕ) (ps next : List (List ℕ)) → cond b ([] ∷ (ended (p ∷ ps) ++ follow (begun (p ∷ ps)) next)) (onto_first x (ended (p ∷ ps) ++ follow (begun (p ∷ ps)) next)) ≡ ended (cond b ([] ∷ p ∷ ps) (onto_first x (p ∷ ps))) ++ follow (begun (cond b ([] ∷ p ∷ ps) (onto_first x (p ∷ ps)))) next

@@ -65,7 +65,7 @@ is_long : (line : List ℕ) → 8388608 < length line → too_long line ≡ line
 is_long line long = let yes : ltb 8388608 (length line) ≡ true = grind (arith, nat_tests) in rw yes refl
 
 -- where no line is too long, these are the lines that ended
-so_far_short : (kind : LineKind) (bytes : List ℕ) → length (begun (lines_of bytes)) ≤ 8388608 → input_so_far kind bytes ≡ read_lines kind (ended (lines_of bytes))
+pub so_far_short : (kind : LineKind) (bytes : List ℕ) → length (begun (lines_of bytes)) ≤ 8388608 → input_so_far kind bytes ≡ read_lines kind (ended (lines_of bytes))
 unfolding input_so_far
 so_far_short kind bytes short = ap (λ (ls : List (List ℕ)). read_lines kind (ended (lines_of bytes) ++ ls)) (none_long (begun (lines_of bytes)) short) ∙ ap (read_lines kind) (append-nil (ended (lines_of bytes)))
 

@@ -1,6 +1,7 @@
 pub mod Line
 pub mod Gives
 pub mod Input
+pub mod Parsing
 pub mod GoesOn
 pub mod Numbers
 pub mod Ids

@@ -1,5 +1,6 @@
 // The fields of an input line, and why a line is refused.
-ghost use Rattle.std.specs.Prelude.{◌≡◌, ◌≢◌, ◌<◌, IfOk, IfSome, IfNone};
+ghost use Rattle.std.specs.Prelude.{◌≡◌, ◌≢◌, ◌<◌, IfOk, IfSome, IfNone, if◌then◌else◌};
+ghost use Rattle.std.specs.Str.{bytes_eq};
 ghost use Rattle.esm_record.specs.Line.{name_of, slot_of};
 ghost use Rattle.esm_record.specs.declared.error.Field.{Field};
 
@@ -29,6 +30,13 @@ pub enum Field {
     MessageGroupId,
 }
 
+/// The field, where this is its name.
+fn only(name: &str, wanted: &str, field: Field) -> Option<Field>
+    ensures { result ≡ (if bytes_eq name.now wanted.now then Some field else None) }
+{
+    if name == wanted { Some(field) } else { None }
+}
+
 impl Field {
     /// The member's name in a line.
     pub fn name(self) -> &'static str
@@ -47,21 +55,31 @@ impl Field {
         }
     }
 
-    /// The field of this name.
+    /// The field of this name. Its length leaves at most two names to compare.
     pub fn of_name(name: &str) -> Option<Field>
         ensures named { IfSome result (λ f. name.now ≡ name_of f) }
         ensures none { IfNone result ((f : Field) → name.now ≢ name_of f) }
     {
-        match name {
-            "shardId" => Some(Field::ShardId),
-            "sequenceNumber" => Some(Field::SequenceNumber),
-            "partitionKey" => Some(Field::PartitionKey),
-            "data" => Some(Field::Data),
-            "approximateArrivalTimestamp" => Some(Field::ApproximateArrivalTimestamp),
-            "messageId" => Some(Field::MessageId),
-            "body" => Some(Field::Body),
-            "sentTimestamp" => Some(Field::SentTimestamp),
-            "messageGroupId" => Some(Field::MessageGroupId),
+        match name.len() {
+            4 => match name {
+                "data" => Some(Field::Data),
+                "body" => Some(Field::Body),
+                _ => None,
+            },
+            7 => only(name, "shardId", Field::ShardId),
+            9 => only(name, "messageId", Field::MessageId),
+            12 => only(name, "partitionKey", Field::PartitionKey),
+            13 => only(name, "sentTimestamp", Field::SentTimestamp),
+            14 => match name {
+                "sequenceNumber" => Some(Field::SequenceNumber),
+                "messageGroupId" => Some(Field::MessageGroupId),
+                _ => None,
+            },
+            27 => only(
+                name,
+                "approximateArrivalTimestamp",
+                Field::ApproximateArrivalTimestamp,
+            ),
             _ => None,
         }
     }

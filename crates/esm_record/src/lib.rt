@@ -1,8 +1,9 @@
 //! The input of a mapping: lines of JSON in any pieces of bytes, read into items.
 //! Says the first bad line, with its number and why it is refused.
-//! Pure values; no device, clock or thread.
+//! Pure values; no device and no clock. Threads only parse lines side by side, and what is read is the same without them.
 #![tactic(auto)]
 
+mod block;
 mod error;
 mod fed_bytes;
 mod item;
@@ -13,6 +14,7 @@ mod number;
 mod numbers;
 mod object;
 mod order;
+mod parse;
 mod queue;
 mod seen;
 mod splitter;

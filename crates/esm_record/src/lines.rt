@@ -11,6 +11,7 @@ use crate::splitter::Splitter;
 use esm_model::{LineKind, MAX_LINE, OutOfMemory};
 use std::alloc::Global;
 use std::marker::Model;
+use std::thread::Threads;
 
 /// A reader of an input's lines, in any pieces of bytes.
 /// Contracts see the bytes that it was fed, whether it failed for want of memory and whether it finished.
@@ -45,6 +46,25 @@ fn feed_piece(alloc: Global, reading: &mut Splitter, piece: &[u8]) -> Result<Fed
 {
     let mut items = Vec::new(alloc);
     reading.read_more(alloc, &mut items, piece)?;
+    let bad = reading.bad_line(alloc)?;
+    Ok(Fed { items, bad })
+}
+
+fn feed_piece_parallel<R: Threads + Sync>(
+    rt: &R,
+    alloc: Global,
+    threads: usize,
+    reading: &mut Splitter,
+    piece: &[u8],
+) -> Result<Fed, OutOfMemory>
+    requires { IsNone reading.old.bad → length reading.old.begun.items ≤ MAX_LINE }
+    ensures read { IfOk result (λ fed. (bytes : List ℕ) (before : List Item) → HasRead bytes before [] reading.old
+        → HasRead (bytes ++ piece.now) before fed.items.items reading.new) }
+    ensures bad { IfOk result (λ fed. fed.bad ≡ reading.new.bad) }
+    ensures kind { reading.new.kind ≡ reading.old.kind }
+{
+    let mut items = Vec::new(alloc);
+    reading.read_parallel(rt, alloc, threads, &mut items, piece)?;
     let bad = reading.bad_line(alloc)?;
     Ok(Fed { items, bad })
 }
@@ -99,6 +119,36 @@ impl Lines {
         self.failed = true;
         self.fed.note(piece)?;
         let fed = feed_piece(self.alloc, &mut self.reading, piece)?;
+        self.failed = false;
+        Ok(fed)
+    }
+
+    /// Takes the next piece of the input as `feed` does, its lines parsed by up to `threads` threads side by side and judged
+    /// in order. Where no thread can be made they are parsed one after the other.
+    pub fn feed_parallel<R: Threads + Sync>(
+        &mut self,
+        rt: &R,
+        threads: usize,
+        piece: &[u8],
+    ) -> Result<Fed, OutOfMemory>
+        requires { self.old.finished ≡ false }
+        ensures items { IfOk result (λ fed. (input_so_far self.old.kind self.old.bytes).items ++ fed.items.items
+            ≡ (input_so_far self.old.kind (self.old.bytes ++ piece.now)).items) }
+        ensures bad { IfOk result (λ fed. fed.bad ≡ (input_so_far self.old.kind (self.old.bytes ++ piece.now)).bad) }
+        ensures valid { IfOk result (λ fed. All (IsValidItem self.old.kind) fed.items.items) }
+        ensures bytes { OnOk result (self.new.bytes ≡ self.old.bytes ++ piece.now) }
+        ensures good { OnOk result (self.new.failed ≡ false) }
+        ensures memory { OnErr result (self.new.failed ≡ true) }
+        ensures for_ever { self.old.failed ≡ true → IsErr result }
+        ensures kind { self.new.kind ≡ self.old.kind }
+        ensures going { self.new.finished ≡ false }
+    {
+        if self.failed {
+            return Err(OutOfMemory);
+        }
+        self.failed = true;
+        self.fed.note(piece)?;
+        let fed = feed_piece_parallel(rt, self.alloc, threads, &mut self.reading, piece)?;
         self.failed = false;
         Ok(fed)
     }

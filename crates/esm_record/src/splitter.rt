@@ -1,19 +1,20 @@
 // Splitting the input into lines piece by piece, and reading each up to the first bad one.
-ghost use Rattle.std.specs.Prelude.{◌≡◌, ◌≤◌, ◌<◌, ◌+◌, Some, ℕ, List, ◌++◌, ◌∷◌, [], length, option_to_list, OnOk, IfOk, IfSome, IfNone, IsNone};
+ghost use Rattle.std.specs.Prelude.{◌≡◌, ◌≤◌, ◌+◌, Some, ℕ, List, ◌++◌, [], length, fold, OnOk, IfOk, IsNone};
 ghost use Rattle.esm_model.specs.declared.item.Item.{Item};
-ghost use Rattle.esm_record.specs.Gives.{Gives};
-ghost use Rattle.esm_record.specs.Input.{Input, add_line, input_of, read_after};
-ghost use Rattle.esm_record.specs.Seen.{Follows};
-ghost use Rattle.esm_record.specs.Splitting.{Stands, HasRead, NoLineFeed, IsFirstLine};
+ghost use Rattle.esm_record.specs.Input.{Input, add_line, input_of, lines_of, begun};
+ghost use Rattle.esm_record.specs.Parsing.{parse_line, add_parsed};
+ghost use Rattle.esm_record.specs.Splitting.{Stands, HasRead, NoLineFeed};
 
+use crate::block::{MIN_BLOCK, ended_lines, first_line, parse_lines};
 use crate::error::{BadLine, LineError, Refusal};
-use crate::order::read_next;
+use crate::order::judge;
+use crate::parse::{Parsed, parse_line};
 use crate::seen::Seen;
 use esm_model::{Item, LineKind, MAX_LINE, OutOfMemory};
 use json::Scratch;
-use memchr::memchr;
 use std::alloc::Global;
 use std::mem;
+use std::thread::Threads;
 
 /// What has been read of an input: the good lines, what the next one is judged against, the room that reading takes, the
 /// line that has begun, and the first bad line.
@@ -27,77 +28,51 @@ pub struct Splitter {
     pub bad: Option<BadLine>,
 }
 
-/// The line up to the first line feed, and what follows that.
-fn first_line(bytes: &[u8]) -> Option<(&[u8], &[u8])>
-    ensures some { IfSome result (λ p. IsFirstLine bytes.now p.0.now p.1.now) }
-    ensures none { IfNone result (NoLineFeed bytes.now) }
-{
-    match memchr(b'\n', bytes) {
-        Some(at) => Some((&bytes[..at], &bytes[at + 1..])),
-        None => None,
-    }
-}
-
 /// What the line says that has begun so and ends with this rest. No line has begun then.
-fn read_whole(
+fn parse_whole(
     alloc: Global,
     kind: LineKind,
-    seen: &mut Seen,
     scratch: &mut Scratch,
     begun: &mut Vec<u8>,
     rest: &[u8],
-) -> Result<Option<Item>, Refusal>
+) -> Result<Parsed, OutOfMemory>
     requires { length begun.old.items ≤ MAX_LINE }
-    ensures item { (items : List Item) → Follows items seen.old
-        → Gives result (read_after kind items (begun.old.items ++ rest.now)) }
-    ensures kept { IfOk result (λ o. (items : List Item) → Follows items seen.old
-        → Follows (items ++ option_to_list o) seen.new) }
+    ensures said { IfOk result (λ p. p ≡ parse_line kind (begun.old.items ++ rest.now)) }
     ensures ended { OnOk result (begun.new.items ≡ []) }
 {
     if begun.is_empty() {
-        return read_next(alloc, kind, seen, scratch, rest);
+        return parse_line(alloc, kind, scratch, rest);
     }
     if rest.len() > MAX_LINE - begun.len() {
-        return Err(Refusal::Line(LineError::LineTooLong));
+        begun.clear();
+        return Ok(Err(LineError::LineTooLong));
     }
-    if begun.extend_from_slice(rest).is_err() {
-        return Err(Refusal::OutOfMemory);
-    }
-    match read_next(alloc, kind, seen, scratch, begun.as_slice()) {
-        Ok(item) => {
-            begun.clear();
-            Ok(item)
-        }
-        Err(refusal) => Err(refusal),
-    }
+    begun.extend_from_slice(rest)?;
+    let parsed = parse_line(alloc, kind, scratch, begun.as_slice())?;
+    begun.clear();
+    Ok(parsed)
 }
 
 impl Splitter {
-    /// Ends the line that has begun: this is its rest, and its line feed came.
-    fn end_line(
+    /// Takes what the next line says; nothing after a bad line.
+    fn take_line(
         &mut self,
         alloc: Global,
         items: &mut Vec<Item>,
-        rest: &[u8],
+        parsed: Parsed,
     ) -> Result<(), OutOfMemory>
-        requires going { IsNone self.old.bad }
-        requires short { length self.old.begun.items ≤ MAX_LINE }
         ensures stands { OnOk result ((input : Input) (before : List Item) → Stands input before items.old.items self.old
-            → Stands (add_line self.old.kind input (self.old.begun.items ++ rest.now)) before items.new.items self.new) }
-        ensures ended { OnOk result (IsNone self.new.bad → self.new.begun.items ≡ []) }
+            → Stands (add_parsed input parsed) before items.new.items self.new) }
+        ensures begun { self.new.begun ≡ self.old.begun }
         ensures kind { self.new.kind ≡ self.old.kind }
     {
+        if self.bad.is_some() {
+            return Ok(());
+        }
         let Some(number) = self.good.checked_add(1) else {
             return Err(OutOfMemory);
         };
-        match read_whole(
-            alloc,
-            self.kind,
-            &mut self.seen,
-            &mut self.scratch,
-            &mut self.begun,
-            rest,
-        ) {
+        match judge(alloc, &mut self.seen, parsed) {
             Ok(Some(item)) => {
                 if items.push(item).is_err() {
                     return Err(OutOfMemory);
@@ -106,7 +81,7 @@ impl Splitter {
                 Ok(())
             }
             Ok(None) => {
-                self.good += 1;
+                self.good = number;
                 Ok(())
             }
             Err(Refusal::Line(why)) => {
@@ -116,6 +91,41 @@ impl Splitter {
             }
             Err(Refusal::OutOfMemory) => Err(OutOfMemory),
         }
+    }
+
+    /// Takes what the next lines say, in their order; nothing after a bad line.
+    fn take_lines(
+        &mut self,
+        alloc: Global,
+        items: &mut Vec<Item>,
+        lines: Vec<Parsed>,
+    ) -> Result<(), OutOfMemory>
+        ensures stands { OnOk result ((input : Input) (before : List Item) → Stands input before items.old.items self.old
+            → Stands (fold add_parsed input lines.items) before items.new.items self.new) }
+        ensures begun { OnOk result (self.new.begun ≡ self.old.begun) }
+        ensures kind { self.new.kind ≡ self.old.kind }
+    {
+        for parsed in lines {
+            self.take_line(alloc, items, parsed)?;
+        }
+        Ok(())
+    }
+
+    /// Ends the line that has begun: this is its rest, and its line feed came.
+    fn end_line(
+        &mut self,
+        alloc: Global,
+        items: &mut Vec<Item>,
+        rest: &[u8],
+    ) -> Result<(), OutOfMemory>
+        requires { length self.old.begun.items ≤ MAX_LINE }
+        ensures stands { OnOk result ((input : Input) (before : List Item) → Stands input before items.old.items self.old
+            → Stands (add_line self.old.kind input (self.old.begun.items ++ rest.now)) before items.new.items self.new) }
+        ensures ended { OnOk result (IsNone self.new.bad → self.new.begun.items ≡ []) }
+        ensures kind { self.new.kind ≡ self.old.kind }
+    {
+        let parsed = parse_whole(alloc, self.kind, &mut self.scratch, &mut self.begun, rest)?;
+        self.take_line(alloc, items, parsed)
     }
 
     /// Goes on with the line that has begun, whose line feed is still to come.
@@ -173,6 +183,55 @@ impl Splitter {
         self.begin_line(rest)
     }
 
+    /// Reads lines that line feeds end, where no line has begun; up to so many threads parse them side by side.
+    fn read_lines<R: Threads + Sync>(
+        &mut self,
+        rt: &R,
+        alloc: Global,
+        threads: usize,
+        items: &mut Vec<Item>,
+        lines: &[u8],
+    ) -> Result<(), OutOfMemory>
+        requires going { IsNone self.old.bad }
+        requires fresh { self.old.begun.items ≡ [] }
+        requires whole { begun (lines_of lines.now) ≡ [] }
+        ensures read { OnOk result ((bytes : List ℕ) (before : List Item) → HasRead bytes before items.old.items self.old
+            → HasRead (bytes ++ lines.now) before items.new.items self.new) }
+        ensures fresh { OnOk result (self.new.begun.items ≡ []) }
+        ensures kind { self.new.kind ≡ self.old.kind }
+    {
+        let parsed = parse_lines(rt, alloc, self.kind, threads, lines)?;
+        self.take_lines(alloc, items, parsed)
+    }
+
+    /// Reads the lines that this piece ends, up to the first bad one: the line that has begun, and then the others, which
+    /// up to so many threads parse side by side.
+    fn read_blocks<R: Threads + Sync>(
+        &mut self,
+        rt: &R,
+        alloc: Global,
+        threads: usize,
+        items: &mut Vec<Item>,
+        piece: &[u8],
+    ) -> Result<(), OutOfMemory>
+        requires going { IsNone self.old.bad }
+        requires short { length self.old.begun.items ≤ MAX_LINE }
+        ensures read { OnOk result ((bytes : List ℕ) (before : List Item) → HasRead bytes before items.old.items self.old
+            → HasRead (bytes ++ piece.now) before items.new.items self.new) }
+        ensures kind { self.new.kind ≡ self.old.kind }
+    {
+        let Some((line, after)) = first_line(piece) else {
+            return self.begin_line(piece);
+        };
+        self.end_line(alloc, items, line)?;
+        if self.bad.is_some() {
+            return Ok(());
+        }
+        let (lines, rest) = ended_lines(after);
+        self.read_lines(rt, alloc, threads, items, lines)?;
+        self.read_more(alloc, items, rest)
+    }
+
     /// Nothing has been read.
     #[tactic(auto, unfolding(crate::specs::Input::input_so_far))]
     pub fn new(alloc: Global, kind: LineKind) -> Splitter
@@ -205,6 +264,26 @@ impl Splitter {
             return Ok(());
         }
         self.read_piece(alloc, items, piece)
+    }
+
+    /// Reads the lines that this piece ends as `read_more` does, parsed by up to so many threads side by side.
+    pub fn read_parallel<R: Threads + Sync>(
+        &mut self,
+        rt: &R,
+        alloc: Global,
+        threads: usize,
+        items: &mut Vec<Item>,
+        piece: &[u8],
+    ) -> Result<(), OutOfMemory>
+        requires { IsNone self.old.bad → length self.old.begun.items ≤ MAX_LINE }
+        ensures read { OnOk result ((bytes : List ℕ) (before : List Item) → HasRead bytes before items.old.items self.old
+            → HasRead (bytes ++ piece.now) before items.new.items self.new) }
+        ensures kind { self.new.kind ≡ self.old.kind }
+    {
+        if threads < 2 || piece.len() / 2 < MIN_BLOCK || self.bad.is_some() {
+            return self.read_more(alloc, items, piece);
+        }
+        self.read_blocks(rt, alloc, threads, items, piece)
     }
 
     /// Reads the last line, which no line feed ends; nothing after a bad line.

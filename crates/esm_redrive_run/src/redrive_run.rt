@@ -30,6 +30,7 @@ use esm_serial::{Ran, run_serial};
 use std::alloc::Global;
 use std::snapshot::Snapshot;
 use std::sync::Wait;
+use std::thread::Threads;
 
 /// The disks as they were handed in, for the contracts alone.
 #[derive(Drop)]
@@ -149,7 +150,7 @@ fn begin<S: Source, D: Disk>(
 }
 
 /// Runs the redrive of an opened book.
-fn run_opened<R: Wait, S: Source, D: Disk, C: Clock, F: Caller>(
+fn run_opened<R: Threads + Wait + Sync, S: Source, D: Disk, C: Clock, F: Caller>(
     rt: &R,
     alloc: Global,
     run: Opened<S, D>,
@@ -206,7 +207,7 @@ fn run_opened<R: Wait, S: Source, D: Disk, C: Clock, F: Caller>(
 /// `max_receives` times, 1 to 1,000, without being deleted is moved: its line is written to the dead-letter file, and then its
 /// deletion to the journal. The dead-letter file is the failure file of `files`. `calls` is how many calls may be made in all,
 /// `visibility_ms` the visibility timeout in milliseconds.
-pub fn run_redrive<R: Wait, S: Source, D: Disk, C: Clock, F: Caller>(
+pub fn run_redrive<R: Threads + Wait + Sync, S: Source, D: Disk, C: Clock, F: Caller>(
     rt: &R,
     alloc: Global,
     config: Config,

@@ -14,5 +14,6 @@ use esm_io::Disk;
 /// The laws over lists of redrives speak of each run of which the headline holds: what they ask of one are its clauses.
 pub fn run_is_stage<D: Disk>()
     ensures { (gave : ℕ → Bool) (w : Words) (f : FilesState D) (messages : List Message) (s : RedriveSetting) (h : List Entry) (trouble : Option Trouble)
-        (hand tried : List Entry) (new : Disks D) (recorded lined : List Entry) → IsStage (meaning D.Disk) gave w f messages s h trouble hand tried new recorded lined }
+        (hand tried : List Entry) (new : Disks D) (recorded lined : List Entry) →
+        IsStage (meaning D.Disk) gave w f messages s h trouble hand tried new recorded lined }
 {}

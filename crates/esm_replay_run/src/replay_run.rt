@@ -24,6 +24,7 @@ use esm_serial::{Ran, run_serial};
 use std::alloc::Global;
 use std::snapshot::Snapshot;
 use std::sync::Wait;
+use std::thread::Threads;
 
 /// The mapping and the disks as they were handed in, for the contracts alone.
 #[derive(Drop)]
@@ -112,7 +113,7 @@ fn begin<S: Source, D: Disk>(
 }
 
 /// Runs a replay that was opened.
-fn run_opened<R: Wait, S: Source, D: Disk, C: Clock, F: Caller>(
+fn run_opened<R: Threads + Wait + Sync, S: Source, D: Disk, C: Clock, F: Caller>(
     rt: &R,
     alloc: Global,
     run: Opened<S, D>,
@@ -164,7 +165,7 @@ fn run_opened<R: Wait, S: Source, D: Disk, C: Clock, F: Caller>(
 /// were given up and were not replayed, one call after the other, as the mapping batches and halves, but without retries and
 /// without windows. What succeeds is written to the journal before the next call. The failure file is left as it was opened.
 /// `calls` is how many calls may be made in all.
-pub fn run_replay<R: Wait, S: Source, D: Disk, C: Clock, F: Caller>(
+pub fn run_replay<R: Threads + Wait + Sync, S: Source, D: Disk, C: Clock, F: Caller>(
     rt: &R,
     alloc: Global,
     config: Config,

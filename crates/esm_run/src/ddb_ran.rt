@@ -114,7 +114,8 @@ fn ddb_ran<S, D, F: Caller>(
     ensures trace { result.trace ≡ traced.run.trace }
     // The devices.
     ensures input { result.devices.input ≡ input }
-    ensures disks { (result.devices.journal ≡ traced.run.journal) × (result.devices.spare ≡ traced.run.spare) × (result.devices.failures ≡ traced.run.failures) }
+    ensures disks { (result.devices.journal ≡ traced.run.journal) × (result.devices.spare ≡ traced.run.spare)
+        × (result.devices.failures ≡ traced.run.failures) }
     ensures registry { result.devices.registry ≡ registry }
     ensures callers { result.devices.callers.items ≡ callers_under traced.run.callers.items }
 {

@@ -100,7 +100,8 @@ fn tell_end<K: Sink>(
 ) -> u8
     requires { began.now ≡ Began.Nothing → IfOk end.now (λ ending. stands_alone ending ≡ true) }
     ensures words { result ≡ 2 → end.now ≡ Ok BadWords }
-    ensures told { result ≢ 70 → (ending : Ending) × (end.now ≡ Ok ending) × ((text : List ℕ) → IsReportBehind front.items (reverse trace.now) ending began.now text →
+    ensures told { result ≢ 70 → (ending : Ending) × (end.now ≡ Ok ending)
+        × ((text : List ℕ) → IsReportBehind front.items (reverse trace.now) ending began.now text →
         IsTold (K.faults out.old) (K.faults out.new) (K.written out.old) (K.written out.new) text ending result) }
     ensures untold { result ≡ 70 → out.new ≡ out.old }
 {
@@ -121,7 +122,8 @@ pub fn told<S, K: Sink, D, C, F, L>(
 ) -> Ended<S, K, D, C, F, L>
     requires { ran.began ≡ Began.Nothing → IfOk ran.end (λ ending. stands_alone ending ≡ true) }
     ensures words { result.status ≡ 2 → ran.end ≡ Ok BadWords }
-    ensures told { result.status ≢ 70 → (ending : Ending) × (ran.end ≡ Ok ending) × ((text : List ℕ) → IsReportBehind ran.front.items (reverse ran.trace.items) ending ran.began text →
+    ensures told { result.status ≢ 70 → (ending : Ending) × (ran.end ≡ Ok ending)
+        × ((text : List ℕ) → IsReportBehind ran.front.items (reverse ran.trace.items) ending ran.began text →
         IsTold (K.faults rest.out) (K.faults result.world.out) (K.written rest.out) (K.written result.world.out) text ending result.status) }
     ensures untold { result.status ≡ 70 → result.world.out ≡ rest.out }
     ensures world { result.world ≡ record {

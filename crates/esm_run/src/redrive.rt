@@ -12,10 +12,11 @@ use crate::world::{Ended, World};
 use esm_io::{Caller, Clock, Disk, Door, Sink, Source};
 use std::alloc::Global;
 use std::sync::Wait;
+use std::thread::Threads;
 
 /// Runs the mapping of a queue that the text of the words is, and moves a message that was received as often as it may be to the
 /// dead-letter file; tells how the run ended, and hands the world back with the exit status.
-pub fn redrive<R: Wait, S: Source, K: Sink, D: Disk, C: Clock, F: Caller, L: Door>(
+pub fn redrive<R: Threads + Wait + Sync, S: Source, K: Sink, D: Disk, C: Clock, F: Caller, L: Door>(
     rt: &R,
     alloc: Global,
     words: RedriveWords,

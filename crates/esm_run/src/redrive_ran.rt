@@ -23,6 +23,7 @@ use esm_runner::open_files;
 use esm_traced::{TracedRedrive, run_redrive};
 use std::alloc::Global;
 use std::sync::Wait;
+use std::thread::Threads;
 
 /// How the redrive ended, and the devices that it left.
 fn redrive_ran<S, D, F>(
@@ -70,7 +71,7 @@ fn redrive_ran<S, D, F>(
 
 /// Runs the queue's mapping by the first caller over the opened files. A message is hidden for the seconds of `--visibility` once
 /// it is received.
-fn run_mapping<R: Wait, S: Source, D: Disk, C: Clock, F: Caller>(
+fn run_mapping<R: Threads + Wait + Sync, S: Source, D: Disk, C: Clock, F: Caller>(
     rt: &R,
     alloc: Global,
     words: &RedriveWords,
@@ -120,7 +121,7 @@ fn run_mapping<R: Wait, S: Source, D: Disk, C: Clock, F: Caller>(
 }
 
 /// Reads the mapping that the text of the words is over the opened files, and runs it.
-fn run_opened<R: Wait, S: Source, D: Disk, C: Clock, F: Caller>(
+fn run_opened<R: Threads + Wait + Sync, S: Source, D: Disk, C: Clock, F: Caller>(
     rt: &R,
     alloc: Global,
     words: &RedriveWords,
@@ -145,7 +146,7 @@ fn run_opened<R: Wait, S: Source, D: Disk, C: Clock, F: Caller>(
 }
 
 /// Opens the files of a run, reads the mapping of a queue that the text of the words is, and runs it with a dead-letter file.
-pub fn run_redrive_words<R: Wait, S: Source, D: Disk, C: Clock, F: Caller>(
+pub fn run_redrive_words<R: Threads + Wait + Sync, S: Source, D: Disk, C: Clock, F: Caller>(
     rt: &R,
     alloc: Global,
     words: &RedriveWords,

@@ -11,10 +11,11 @@ use esm_io::{Caller, Clock, Disk, Door, Sink, Source};
 use esm_model::Text;
 use std::alloc::Global;
 use std::sync::Wait;
+use std::thread::Threads;
 
 /// Calls the records again that lines of the failure file name, over the mapping of a stream that the text is; tells how that
 /// ended, and hands the world back with the exit status.
-pub fn replay<R: Wait, S: Source, K: Sink, D: Disk, C: Clock, F: Caller, L: Door>(
+pub fn replay<R: Threads + Wait + Sync, S: Source, K: Sink, D: Disk, C: Clock, F: Caller, L: Door>(
     rt: &R,
     alloc: Global,
     text: Text,

@@ -21,6 +21,7 @@ use esm_runner::open_files;
 use esm_traced::{TracedReplay, run_replay};
 use std::alloc::Global;
 use std::sync::Wait;
+use std::thread::Threads;
 
 /// How the replay ended, and the devices that it left.
 fn replay_ran<S, D, F>(
@@ -68,7 +69,7 @@ fn replay_ran<S, D, F>(
 }
 
 /// Calls the records again that lines of the opened failure file name, by the first caller.
-fn run_mapping<R: Wait, S: Source, D: Disk, C: Clock, F: Caller>(
+fn run_mapping<R: Threads + Wait + Sync, S: Source, D: Disk, C: Clock, F: Caller>(
     rt: &R,
     alloc: Global,
     text: &Text,
@@ -109,7 +110,7 @@ fn run_mapping<R: Wait, S: Source, D: Disk, C: Clock, F: Caller>(
 }
 
 /// Reads the mapping that the text is over the opened files, and runs it.
-fn run_opened<R: Wait, S: Source, D: Disk, C: Clock, F: Caller>(
+fn run_opened<R: Threads + Wait + Sync, S: Source, D: Disk, C: Clock, F: Caller>(
     rt: &R,
     alloc: Global,
     text: &Text,
@@ -135,7 +136,7 @@ fn run_opened<R: Wait, S: Source, D: Disk, C: Clock, F: Caller>(
 }
 
 /// Opens the files of a run, reads the mapping of a stream that the text is, and calls the records again that lines of the failure file name.
-pub fn run_replay_words<R: Wait, S: Source, D: Disk, C: Clock, F: Caller>(
+pub fn run_replay_words<R: Threads + Wait + Sync, S: Source, D: Disk, C: Clock, F: Caller>(
     rt: &R,
     alloc: Global,
     text: &Text,
@@ -144,7 +145,7 @@ pub fn run_replay_words<R: Wait, S: Source, D: Disk, C: Clock, F: Caller>(
     devices: RunDevices<S, D, F>,
     clock: &C,
 ) -> Ran<S, D, F>
-    requires { length devices.callers.items ≡ MAX_LANES }
+    requires callers { length devices.callers.items ≡ MAX_LANES }
     ensures ended { IfOk result.end (EndsWith (ReplayCause (run_tells C.Clock F.Caller D.Disk S.Source) text.now calls trace (reverse result.trace.items)
         (seen_by devices) (seen_by result.devices)) result.front.items (reverse result.trace.items) result.began) }
     ensures stopped { OnErr result.end (IsReplayCut (run_tells C.Clock F.Caller D.Disk S.Source) text.now calls trace (reverse result.trace.items)

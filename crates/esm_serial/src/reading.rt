@@ -14,6 +14,7 @@ use esm_io::{Clock, Source};
 use esm_model::{CameError, Item, MAX_BATCH, OutOfMemory};
 use std::alloc::Global;
 use std::sync::Wait;
+use std::thread::Threads;
 
 /// Why nothing more is read, though there may be more.
 #[derive(Clone, Copy, Debug, PartialEq, Eq)]
@@ -106,7 +107,7 @@ fn stands<S: Source>(input: &Input<S>)
 }
 
 /// Reads the input to its end and hands its items on, piece by piece. It waits for each piece.
-pub(crate) fn read_all<R: Wait, B: Serial, S: Source, C: Clock>(
+pub(crate) fn read_all<R: Threads + Wait + Sync, B: Serial, S: Source, C: Clock>(
     rt: &R,
     alloc: Global,
     book: &mut B,
@@ -137,7 +138,7 @@ pub(crate) fn read_all<R: Wait, B: Serial, S: Source, C: Clock>(
         if input.end().is_some() {
             return Ok(());
         }
-        let items = input.read(alloc)?;
+        let items = input.read(rt, alloc)?;
         stands(input);
         hand_on(alloc, book, items, clock)?;
     }

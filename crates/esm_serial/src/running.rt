@@ -14,6 +14,7 @@ use esm_io::{Caller, Clock, Source};
 use esm_model::OutOfMemory;
 use std::alloc::Global;
 use std::sync::Wait;
+use std::thread::Threads;
 
 /// How the run of a book ended.
 #[derive(Clone, Copy, Debug, PartialEq, Eq)]
@@ -52,7 +53,7 @@ fn note_end<B: Serial, C: Clock>(book: &mut B, clock: &C)
 /// call after the other, and pauses, for a second at most, until nothing is left, all calls allowed were made, or the book is down.
 /// Where the book is down once the input was read, nothing is asked. `name` is the function's. Want of memory ends the run at any
 /// point; where it comes while the input is read, no end of the input is noted, and no call was made.
-pub fn run_serial<R: Wait, B: Serial, S: Source, C: Clock, F: Caller>(
+pub fn run_serial<R: Threads + Wait + Sync, B: Serial, S: Source, C: Clock, F: Caller>(
     rt: &R,
     alloc: Global,
     book: B,

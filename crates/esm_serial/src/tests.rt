@@ -10,6 +10,7 @@ use esm_model::{
 use std::alloc::Global;
 use std::sync::Wait;
 use std::test::Fail;
+use std::thread::Threads;
 
 /// What the book answers to a question.
 #[derive(Clone, Copy)]
@@ -121,7 +122,12 @@ struct Ended {
     moment: u64,
 }
 
-fn run_over<R: Wait>(rt: &R, alloc: Global, text: Vec<u8>, answers: Vec<Answer>) -> Option<Ended> {
+fn run_over<R: Threads + Wait + Sync>(
+    rt: &R,
+    alloc: Global,
+    text: Vec<u8>,
+    answers: Vec<Answer>,
+) -> Option<Ended> {
     let book = Scripted {
         answers,
         ended: 0,

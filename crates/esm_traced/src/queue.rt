@@ -62,7 +62,8 @@ pub fn run_queue<
     ensures said { result.run.said ≡ files.said }
     ensures as_many { length result.run.callers.items ≡ MAX_LANES }
     // What is told before its report.
-    ensures front { is_ok result.run.end ≡ true → IfOk result.front (λ front. front.items ≡ front_text room.trace config.kind (reverse result.run.trace.items)) }
+    ensures front { is_ok result.run.end ≡ true → IfOk result.front (λ front. front.items
+        ≡ front_text room.trace config.kind (reverse result.run.trace.items)) }
 {
     logs_tell::<F>();
     calls_tell_replies();

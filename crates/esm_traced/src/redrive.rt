@@ -18,6 +18,7 @@ use esm_redrive_run::RedriveRun;
 use esm_runner::Files;
 use std::alloc::Global;
 use std::sync::Wait;
+use std::thread::Threads;
 
 /// A run of a redrive, its caller as the calls left it, and what is told of its history before its report, unless there was no
 /// memory for it.
@@ -29,7 +30,7 @@ pub struct TracedRedrive<S, D, F> {
 
 /// Runs the mapping of a queue over the opened files by the one caller, which is recorded where the trace is asked for, and
 /// writes what is told of its history. `visibility_ms` is in milliseconds.
-pub fn run_redrive<R: Wait, S: Source, D: Disk, C: Clock, F: Caller>(
+pub fn run_redrive<R: Threads + Wait + Sync, S: Source, D: Disk, C: Clock, F: Caller>(
     rt: &R,
     alloc: Global,
     config: Config,

@@ -16,6 +16,7 @@ use esm_replay_run::ReplayRun;
 use esm_runner::Files;
 use std::alloc::Global;
 use std::sync::Wait;
+use std::thread::Threads;
 
 /// A run of a replay, its caller as the calls left it, and what is told of its history before its report, unless there was no
 /// memory for it.
@@ -27,7 +28,7 @@ pub struct TracedReplay<S, D, F> {
 
 /// Calls the records again that the lines of the failure file name by the one caller, which is recorded where the trace is
 /// asked for, and writes what is told of the run's history.
-pub fn run_replay<R: Wait, S: Source, D: Disk, C: Clock, F: Caller>(
+pub fn run_replay<R: Threads + Wait + Sync, S: Source, D: Disk, C: Clock, F: Caller>(
     rt: &R,
     alloc: Global,
     config: Config,
@@ -38,7 +39,7 @@ pub fn run_replay<R: Wait, S: Source, D: Disk, C: Clock, F: Caller>(
     clock: &C,
     trace: bool,
 ) -> TracedReplay<S, D, F>
-    requires { IsStreamConfig config }
+    requires config { IsStreamConfig config }
     // The run.
     ensures ended { IfOk result.run.end (HasEnded (telling (outside C.gave F.sends F.log) (meaning D.Disk)) S.faults S.left
         config calls files input result.run.input result.run.reading.value caller result.caller (reverse result.run.trace.items) result.run.counts

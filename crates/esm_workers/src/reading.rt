@@ -1,5 +1,6 @@
 // The trait of what reads an input and hands its items to a book, at the reader's seat.
 ghost use Rattle.std.specs.Prelude.{◌≡◌, [], ℕ, List, Bool, true, false, OnOk, OnErr, Option, None};
+ghost use Rattle.std.specs.Thread.{IsSync};
 ghost use Rattle.esm_model.specs.Books.{entries_told};
 ghost use Rattle.esm_model.specs.Entries.{is_shut};
 ghost use Rattle.esm_model.specs.declared.book.Change.{Change};
@@ -12,6 +13,7 @@ use esm_model::{OutOfMemory, Pooled};
 use esm_turn::{Seat, Turn};
 use std::alloc::Global;
 use std::sync::Wait;
+use std::thread::Threads;
 
 /// What reads an input and hands its items to a book at a turn, and notes the end of the input: the work of seat 0.
 pub trait Reading<T: Pooled> {
@@ -24,7 +26,7 @@ pub trait Reading<T: Pooled> {
 
     /// Reads to the input's end, or until the book is down, all calls allowed were made while more is awaited of an input that
     /// does not tell its bytes, or memory is wanting; in any case it notes the end of the input where the book is not down.
-    fn read_all<R: Wait, C: Clock>(
+    fn read_all<R: Threads + Wait + Sync, C: Clock>(
         &mut self,
         rt: &R,
         alloc: Global,
@@ -32,6 +34,7 @@ pub trait Reading<T: Pooled> {
         seat: &mut Seat<T>,
         clock: &C,
     ) -> Result<(), OutOfMemory>
+        requires sync { IsSync R.row }
         requires ready { ready turn.now.setup self.old }
         requires seated { IsSeated T.author T.may_follow C.gave turn.now 0 seat.old }
         requires unused { seat.old.mine ≡ [] }

@@ -30,7 +30,7 @@ pub struct Ran<T, W, F> {
 }
 
 // The reader reads alone at this turn, which is closed then; answers whether want of memory stopped it.
-fn read_alone<R: Wait, T: Pooled, W: Reading<T>, C: Clock>(
+fn read_alone<R: Threads + Wait + Sync, T: Pooled, W: Reading<T>, C: Clock>(
     rt: &R,
     alloc: Global,
     turn: Turn<T>,

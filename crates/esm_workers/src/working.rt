@@ -19,7 +19,7 @@ use std::thread;
 use std::thread::Threads;
 
 // The reader reads at this seat; answers whether want of memory stopped it.
-pub(crate) fn read<R: Wait, T: Pooled, W: Reading<T>, C: Clock>(
+pub(crate) fn read<R: Threads + Wait + Sync, T: Pooled, W: Reading<T>, C: Clock>(
     rt: &R,
     alloc: Global,
     turn: &Turn<T>,
@@ -51,7 +51,7 @@ struct Site<'a, R, T: Kept, C> {
 }
 
 // The reader's hand reads; answers whether want of memory stopped it.
-fn read_by<R: Wait, T: Pooled, W: Reading<T>, C: Clock>(
+fn read_by<R: Threads + Wait + Sync, T: Pooled, W: Reading<T>, C: Clock>(
     site: &Site<R, T, C>,
     hand: &mut ReaderHand<T, W>,
 ) -> bool

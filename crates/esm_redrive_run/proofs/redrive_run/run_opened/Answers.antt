@@ -29,7 +29,7 @@ abbrev see : {D : Type 0} → SerialRedrive D → Book D
 see b = b.redrive
 
 pub run_serial-ran-requires-clause-fresh : goal.run_serial-ran-requires-clause-fresh
-run_serial-ran-requires-clause-fresh g c =
+run_serial-ran-requires-clause-fresh g c κs within =
     let begun = c.requires.begun in
     record {
       past = ap (λ (v : RedriveView). v.past) begun.core;
@@ -38,10 +38,10 @@ run_serial-ran-requires-clause-fresh g c =
     }
 
 pub run_serial-ran-requires-clause-kind : goal.run_serial-ran-requires-clause-kind
-run_serial-ran-requires-clause-kind g c = ap (λ (i : InputState g.row.S.Denot). i.kind) c.requires.begun.input
+run_serial-ran-requires-clause-kind g c κs within = ap (λ (i : InputState g.row.S.Denot). i.kind) c.requires.begun.input
 
 pub run_serial-ran-requires-clause-unread : goal.run_serial-ran-requires-clause-unread
-run_serial-ran-requires-clause-unread g c = c.requires.begun.unread
+run_serial-ran-requires-clause-unread g c κs within = c.requires.begun.unread
 
 pub returns : goal.returns
 returns g c =

@@ -13,20 +13,23 @@ use Rattle.esm_redrive_run.specs.Runs.{IsRefusal, files_of, words_of}
 use Rattle.esm_redrive_run.proofs.Begins.{as_ended, as_stopped, begun_again, files_are, not_run, unwritten, words_are}
 use Rattle.esm_redrive_run.proofs.redrive_run.run_redrive.Goals as goal
 
-pub run_opened-requires : goal.run_opened-requires
-run_opened-requires g c =
+pub run_opened-requires-clause-begun : goal.run_opened-requires-clause-begun
+run_opened-requires-clause-begun g c κs within =
+    let parts = c.into_parts-pair in
+    let run = c.in-Ok.run' in
+    let w : Words = record { config = c.args.config; calls = c.args.calls; visibility = c.args.visibility_ms; max_receives = c.args.max_receives } in
+    begun_again w parts.result.said parts.result.pair c.into_journal.result c.args.input run.book.redrive run.input run.name c.in-Ok.ensures.begun
+
+pub run_opened-requires-clause-files : goal.run_opened-requires-clause-files
+run_opened-requires-clause-files g c κs within =
     let m : DiskMeaning g.row.D.Denot = meaning g.D.Disk in
     let f : FilesState g.row.D.Denot = c.args.files in
     let parts = c.into_parts-pair in
     let run = c.in-Ok.run' in
-    let w : Words = record { config = c.args.config; calls = c.args.calls; visibility = c.args.visibility_ms; max_receives = c.args.max_receives } in
     let begun = c.in-Ok.ensures.begun in
     let files = files_are parts.result.journal.value parts.result.spare.value parts.result.failures.value parts.result.said run.book.redrive f
     parts.ensures.before.0 parts.ensures.before.1 parts.ensures.before.2 (begun.pair_is ∙ parts.ensures.pair) parts.ensures.said (begun.dest_is ∙ (c.into_journal.ensures ∙ parts.ensures.dest)) in
-    record {
-      begun = begun_again w parts.result.said parts.result.pair c.into_journal.result c.args.input run.book.redrive run.input run.name begun;
-      files = subst (IsOpenedFiles m) (sym files) parts.ensures.opened;
-    }
+    subst (IsOpenedFiles m) (sym files) parts.ensures.opened
 
 pub returns : goal.returns
 returns g c =

@@ -158,7 +158,7 @@ end_of-end-requires g c =
     }
 
 pub run_serial-ran-requires-clause-fresh : goal.run_serial-ran-requires-clause-fresh
-run_serial-ran-requires-clause-fresh g c =
+run_serial-ran-requires-clause-fresh g c κs within =
     let core = c.requires.begun.core in
     record {
       past = ap (λ (v : ReplayView). v.past) core;
@@ -167,14 +167,14 @@ run_serial-ran-requires-clause-fresh g c =
     }
 
 pub run_serial-ran-requires-clause-kind : goal.run_serial-ran-requires-clause-kind
-run_serial-ran-requires-clause-kind g c = ap (λ (i : InputState g.row.S.Denot). i.kind) c.requires.begun.input
+run_serial-ran-requires-clause-kind g c κs within = ap (λ (i : InputState g.row.S.Denot). i.kind) c.requires.begun.input
 
 pub run_serial-ran-requires-clause-good : goal.run_serial-ran-requires-clause-good
-run_serial-ran-requires-clause-good g c = ap (λ (i : InputState g.row.S.Denot). i.failed) c.requires.begun.input
+run_serial-ran-requires-clause-good g c κs within = ap (λ (i : InputState g.row.S.Denot). i.failed) c.requires.begun.input
 
 pub run_serial-ran-requires-clause-name : goal.run_serial-ran-requires-clause-name
-run_serial-ran-requires-clause-name g c =
+run_serial-ran-requires-clause-name g c κs within =
     c.as_str.ensures ∙ (c.requires.begun.name_is ∙ sym (ap (λ (v : ReplayView). v.opened.config.function) c.requires.begun.core))
 
 pub run_serial-ran-requires-clause-unread : goal.run_serial-ran-requires-clause-unread
-run_serial-ran-requires-clause-unread g c = c.requires.begun.unread
+run_serial-ran-requires-clause-unread g c κs within = c.requires.begun.unread

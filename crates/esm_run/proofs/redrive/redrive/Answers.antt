@@ -8,7 +8,7 @@ use Rattle.esm_run.proofs.Worlds.{of_worlds, told_of_worlds}
 use Rattle.esm_run.proofs.redrive.redrive.Goals as goal
 
 pub run_redrive_words-ran-requires-clause-callers : goal.run_redrive_words-ran-requires-clause-callers
-run_redrive_words-ran-requires-clause-callers g c = ap (λ d. length d.callers.items) c.parted-devices.ensures.devices ∙ c.requires.callers
+run_redrive_words-ran-requires-clause-callers g c κs within = ap (λ d. length d.callers.items) c.parted-devices.ensures.devices ∙ c.requires.callers
 
 pub told-requires : goal.told-requires
 told-requires g c = λ nothing.

@@ -7,10 +7,10 @@ use Rattle.esm_traced.specs.Front.{front_text}
 use Rattle.esm_run.proofs.redrive_ran.run_mapping.Goals as goal
 
 pub run_redrive-run-requires-clause-config : goal.run_redrive-run-requires-clause-config
-run_redrive-run-requires-clause-config g c = subst (λ b. IsConfigOf b c.args.mapping.config) c.requires.kind c.requires.may_run.valid
+run_redrive-run-requires-clause-config g c κs within = subst (λ b. IsConfigOf b c.args.mapping.config) c.requires.kind c.requires.may_run.valid
 
 pub run_redrive-run-requires-clause-patterns : goal.run_redrive-run-requires-clause-patterns
-run_redrive-run-requires-clause-patterns g c = c.requires.may_run.patterns
+run_redrive-run-requires-clause-patterns g c κs within = c.requires.may_run.patterns
 
 pub returns-clause-ended : goal.returns-clause-ended
 returns-clause-ended g c =

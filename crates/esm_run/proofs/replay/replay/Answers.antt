@@ -7,8 +7,8 @@ use Rattle.esm_run.proofs.Results.{at_ok, by_result, if_ok}
 use Rattle.esm_run.proofs.Worlds.{of_worlds, told_of_worlds}
 use Rattle.esm_run.proofs.replay.replay.Goals as goal
 
-pub run_replay_words-ran-requires : goal.run_replay_words-ran-requires
-run_replay_words-ran-requires g c = ap (λ d. length d.callers.items) c.parted-devices.ensures.devices ∙ c.requires
+pub run_replay_words-ran-requires-clause-callers : goal.run_replay_words-ran-requires-clause-callers
+run_replay_words-ran-requires-clause-callers g c κs within = ap (λ d. length d.callers.items) c.parted-devices.ensures.devices ∙ c.requires
 
 pub told-requires : goal.told-requires
 told-requires g c = λ nothing.

@@ -7,8 +7,8 @@ use Rattle.esm_traced.specs.Front.{front_text}
 use Rattle.esm_model.specs.declared.config.Kind.TheVariants as source
 use Rattle.esm_run.proofs.replay_ran.run_mapping.Goals as goal
 
-pub run_replay-run-requires : goal.run_replay-run-requires
-run_replay-run-requires g c = subst (λ b. IsConfigOf b c.args.mapping.config) c.requires.kind c.requires.may_run.valid
+pub run_replay-run-requires-clause-config : goal.run_replay-run-requires-clause-config
+run_replay-run-requires-clause-config g c κs within = subst (λ b. IsConfigOf b c.args.mapping.config) c.requires.kind c.requires.may_run.valid
 
 pub returns-clause-ended : goal.returns-clause-ended
 returns-clause-ended g c =

@@ -5,10 +5,10 @@ use Rattle.esm_run.proofs.TextRuns.{text_unnamed}
 use Rattle.esm_run.proofs.replay_ran.run_opened.Goals as goal
 
 pub run_mapping-requires-clause-may_run : goal.run_mapping-requires-clause-may_run
-run_mapping-requires-clause-may_run g c = c.in-Ok.ensures.named.1
+run_mapping-requires-clause-may_run g c κs within = c.in-Ok.ensures.named.1
 
 pub run_mapping-requires-clause-kind : goal.run_mapping-requires-clause-kind
-run_mapping-requires-clause-kind g c = c.in-Ok.ensures.named.0.kind
+run_mapping-requires-clause-kind g c κs within = c.in-Ok.ensures.named.0.kind
 
 pub returns-in-Err-clause-ended : goal.returns-in-Err-clause-ended
 returns-in-Err-clause-ended g c =

@@ -344,7 +344,7 @@ returns-in-Ddb-clause-door g c = λ none. c.ddb.ensures.kept.1
 -- `redrive`
 
 pub redrive-requires-clause-receives : goal.redrive-requires-clause-receives
-redrive-requires-clause-receives g c = receives_within (map string_bytes c.args.words.now) c.in-Redrive.words.config c.in-Redrive.words.max_receives c.in-Redrive.words.calls c.in-Redrive.words.visibility c.in-Redrive.words.timeout c.in-Redrive.words.trace c.in-Redrive.ensures.0
+redrive-requires-clause-receives g c κs within = receives_within (map string_bytes c.args.words.now) c.in-Redrive.words.config c.in-Redrive.words.max_receives c.in-Redrive.words.calls c.in-Redrive.words.visibility c.in-Redrive.words.timeout c.in-Redrive.words.trace c.in-Redrive.ensures.0
 
 pub returns-in-Redrive-clause-outcome : goal.returns-in-Redrive-clause-outcome
 returns-in-Redrive-clause-outcome g c = λ known.

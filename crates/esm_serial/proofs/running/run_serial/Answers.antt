@@ -7,7 +7,7 @@ use Rattle.esm_serial.specs.declared.reading.Stop.TheVariants as stop
 use Rattle.esm_serial.proofs.running.run_serial.Goals as goal
 
 pub read_all-requires-clause-came : goal.read_all-requires-clause-came
-read_all-requires-clause-came g c = none_came (g.B.Serial.items c.args.book) (handed c.args.input) c.begins.ensures.items c.requires.unread
+read_all-requires-clause-came g c κs within = none_came (g.B.Serial.items c.args.book) (handed c.args.input) c.begins.ensures.items c.requires.unread
 
 -- it was read whole
 

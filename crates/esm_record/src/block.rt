@@ -1,0 +1,134 @@
+//! The lines of a block parsed side by side, each as it reads whatever came before it.
+ghost use Rattle.std.specs.Prelude.{◌≡◌, ◌<◌, ◌≤◌, ◌++◌, [], List, Option, Result, length, IfOk, IfSome, IfNone};
+ghost use Rattle.std.specs.Thread.{IsSync};
+ghost use Rattle.esm_model.specs.declared.item.Item.{Item};
+ghost use Rattle.esm_record.specs.declared.error.LineError.{LineError};
+ghost use Rattle.esm_record.specs.Input.{lines_of, begun};
+ghost use Rattle.esm_record.specs.Parsing.{parsed_lines};
+ghost use Rattle.esm_record.specs.Splitting.{NoLineFeed, IsFirstLine};
+
+use crate::parse::{Parsed, parse_line};
+use esm_model::{LineKind, OutOfMemory};
+use json::Scratch;
+use memchr::{memchr, memrchr};
+use std::alloc::Global;
+use std::thread::{Threads, join};
+
+/// Bytes of the shortest block that is worth a thread of its own.
+pub const MIN_BLOCK: usize = 32_768;
+
+/// The line up to the first line feed, and what follows that.
+pub fn first_line(bytes: &[u8]) -> Option<(&[u8], &[u8])>
+    ensures some { IfSome result (λ p. IsFirstLine bytes.now p.0.now p.1.now) }
+    ensures none { IfNone result (NoLineFeed bytes.now) }
+{
+    match memchr(b'\n', bytes) {
+        Some(at) => Some((&bytes[..at], &bytes[at + 1..])),
+        None => None,
+    }
+}
+
+/// The lines up to the last line feed, and what follows that.
+pub fn ended_lines(bytes: &[u8]) -> (&[u8], &[u8])
+    ensures parts { bytes.now ≡ result.0.now ++ result.1.now }
+    ensures whole { begun (lines_of result.0.now) ≡ [] }
+    ensures rest { NoLineFeed result.1.now }
+{
+    match memrchr(b'\n', bytes) {
+        Some(at) => bytes.split_at(at + 1),
+        None => bytes.split_at(0),
+    }
+}
+
+/// The lines up to the first line feed from this place on, and what follows that.
+fn lines_up_to(bytes: &[u8], place: usize) -> (&[u8], &[u8])
+    requires { place ≤ length bytes.now }
+    ensures parts { bytes.now ≡ result.0.now ++ result.1.now }
+    ensures whole { begun (lines_of result.0.now) ≡ [] }
+{
+    match memchr(b'\n', &bytes[place..]) {
+        Some(more) => bytes.split_at(place + more + 1),
+        None => bytes.split_at(0),
+    }
+}
+
+/// What each line of the block says whose line feed came.
+fn parse_block(alloc: Global, kind: LineKind, block: &[u8]) -> Result<Vec<Parsed>, OutOfMemory>
+    ensures { IfOk result (λ v. v.items ≡ parsed_lines kind block.now) }
+{
+    let mut scratch = Scratch::new(alloc);
+    let mut parsed = Vec::new(alloc);
+    let mut rest = block;
+    while let Some((line, after)) = first_line(rest) {
+        let said = parse_line(alloc, kind, &mut scratch, line)?;
+        parsed.push(said)?;
+        rest = after;
+    }
+    Ok(parsed)
+}
+
+/// What the lines of both parts say.
+fn both(
+    front: Result<Vec<Parsed>, OutOfMemory>,
+    back: Result<Vec<Parsed>, OutOfMemory>,
+) -> Result<Vec<Parsed>, OutOfMemory>
+    ensures { (xs ys : List (Result (Option Item) LineError)) → IfOk front (λ v. v.items ≡ xs)
+        → IfOk back (λ v. v.items ≡ ys) → IfOk result (λ v. v.items ≡ xs ++ ys) }
+{
+    let mut all = front?;
+    let mut rest = back?;
+    all.append(&mut rest)?;
+    Ok(all)
+}
+
+/// Bytes of the part of so many threads' work that these threads do.
+fn share_of(bytes: usize, threads: usize, these: usize) -> usize
+    requires some { 0 < threads }
+    requires of_them { these ≤ threads }
+    ensures { result ≤ bytes }
+{
+    bytes / threads * these
+}
+
+/// The same, in blocks of about equal length side by side on so many threads, this one among them.
+#[cycle(blocks)]
+fn parse_blocks<R: Threads + Sync>(
+    rt: &R,
+    alloc: Global,
+    kind: LineKind,
+    threads: usize,
+    block: &[u8],
+) -> Result<Vec<Parsed>, OutOfMemory>
+    ensures { IfOk result (λ v. v.items ≡ parsed_lines kind block.now) }
+{
+    if threads < 2 {
+        return parse_block(alloc, kind, block);
+    }
+    let few = threads / 2;
+    let others = threads - few;
+    let (front, back) = lines_up_to(block, share_of(block.len(), threads, few));
+    let first = move || -> Result<Vec<Parsed>, OutOfMemory>
+        requires { IsSync R.row }
+        ensures { IfOk result (λ v. v.items ≡ parsed_lines kind front.entry.now) }
+    { parse_blocks(rt, alloc, kind, few, front) };
+    let second = move || -> Result<Vec<Parsed>, OutOfMemory>
+        requires { IsSync R.row }
+        ensures { IfOk result (λ v. v.items ≡ parsed_lines kind back.entry.now) }
+    { parse_blocks(rt, alloc, kind, others, back) };
+    let (ahead, behind) = join(rt, first, second);
+    both(ahead, behind)
+}
+
+/// What each line of the block says whose line feed came, parsed by up to so many threads side by side.
+pub fn parse_lines<R: Threads + Sync>(
+    rt: &R,
+    alloc: Global,
+    kind: LineKind,
+    threads: usize,
+    block: &[u8],
+) -> Result<Vec<Parsed>, OutOfMemory>
+    ensures { IfOk result (λ v. v.items ≡ parsed_lines kind block.now) }
+{
+    let threads = threads.min(block.len() / MIN_BLOCK);
+    parse_blocks(rt, alloc, kind, threads, block)
+}
