@@ -19,7 +19,7 @@ pub use batch::Batch;
 pub use batch_records::BatchRecords;
 pub use failure::read_failure;
 pub use first::first_waiting;
-pub use named::names;
+pub use named::{names, names_near};
 pub use parts::Parts;
 pub use ranges::Ranges;
 pub use rows::Named;

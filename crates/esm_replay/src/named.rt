@@ -21,5 +21,23 @@ fn is_failure(fate: Fate) -> bool
 pub fn names(said: &Says, ranges: &Ranges, item: &Record, place: u32, fate: Fate) -> bool
     ensures { result ≡ names_by fate said.now ranges.now item.now place }
 {
-    is_failure(fate) && ranges.hold(item.shard, &item.seq) && !said.replayed(item.shard, place)
+    let mut near = 0;
+    names_near(said, ranges, &mut near, item, place, fate)
+}
+
+/// The same, where a list of records is asked for in turn: the range at `near` is looked at first, as `Ranges::hold_near`
+/// does. Takes no memory.
+pub fn names_near(
+    said: &Says,
+    ranges: &Ranges,
+    near: &mut usize,
+    item: &Record,
+    place: u32,
+    fate: Fate,
+) -> bool
+    ensures { result ≡ names_by fate said.now ranges.now item.now place }
+{
+    is_failure(fate)
+        && ranges.hold_near(near, item.shard, &item.seq)
+        && !said.replayed(item.shard, place)
 }

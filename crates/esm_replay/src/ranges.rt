@@ -2,7 +2,7 @@
 ghost use Rattle.std.specs.Prelude.{◌≡◌, ◌≤◌, ◌==◌, ◌&&◌, not, ℕ, List, None, IfOk, length, true, false, option_copied};
 ghost use Rattle.std.specs.List.Sorted.{IsPermutation, IsSortedBy, IsPartitionPoint};
 ghost use Rattle.esm_replay_model.specs.declared.range.Range.{Range};
-ghost use Rattle.esm_replay_model.specs.ReplaySetting.{is_up_to, is_in_ranges};
+ghost use Rattle.esm_replay_model.specs.ReplaySetting.{is_up_to, is_in_range, is_in_ranges};
 ghost use Rattle.esm_replay.specs.Ranges.{start_of, start_cmp, starts_before, starts_by, reaching, all_reaching, last_range, AllLead};
 
 use esm_model::{OutOfMemory, Seq};
@@ -102,6 +102,23 @@ fn started_by(ranges: &[Range], shard: u64, number: &Seq) -> usize
     ranges.partition_point(|range| !order(range, shard, number).is_gt())
 }
 
+/// Whether the range holds the number of the shard.
+fn holds(range: &Range, shard: u64, number: &Seq) -> bool
+    ensures { result ≡ is_in_range shard number.now range.now }
+{
+    range.shard == shard && (range.first.order(number).is_le() && number.order(&range.last).is_le())
+}
+
+/// Whether there is a range at the place which holds the number of the shard.
+fn holds_at(ranges: &[Range], place: usize, shard: u64, number: &Seq) -> bool
+    ensures { result ≡ true → is_in_ranges ranges.now shard number.now ≡ true }
+{
+    match ranges.get(place) {
+        None => false,
+        Some(range) => holds(range, shard, number),
+    }
+}
+
 /// Whether the range is of the shard and does not end before the number.
 fn reaches(range: &Range, shard: u64, number: &Seq) -> bool
     ensures { result ≡ ((range.now.shard == shard) && is_up_to number.now range.now.last) }
@@ -128,10 +145,23 @@ impl Ranges {
     pub fn hold(&self, shard: u64, number: &Seq) -> bool
         ensures { result ≡ is_in_ranges self.now shard number.now }
     {
+        let mut near = 0;
+        self.hold_near(&mut near, shard, number)
+    }
+
+    /// The same, where a list of records is asked for in turn: the range at `near` is looked at first, and where that does
+    /// not hold the number, `near` is the range at which the search ended. Any `near` will do. Takes no memory.
+    pub fn hold_near(&self, near: &mut usize, shard: u64, number: &Seq) -> bool
+        ensures { result ≡ is_in_ranges self.now shard number.now }
+    {
+        if holds_at(self.ranges.as_slice(), *near, shard, number) {
+            return true;
+        }
         let count = started_by(self.ranges.as_slice(), shard, number);
         if count == 0 {
             return false;
         }
+        *near = count - 1;
         reaches(&self.ranges[count - 1], shard, number)
     }
 }

@@ -1,12 +1,12 @@
 // The named records of each shard, gathered from the records in the order in which they came.
-ghost use Rattle.std.specs.Prelude.{◌≡◌, ℕ, ◌==◌, ◌<◌, ◌^◌, [], List, false, IfOk, OnOk, length, get_or};
+ghost use Rattle.std.specs.Prelude.{◌≡◌, ℕ, ◌==◌, ◌<◌, ◌^◌, [], List, false, IfOk, OnOk, None, Some, length, get_or};
 ghost use Rattle.std.specs.Ordering.{nat_cmp};
 ghost use Rattle.std.specs.BTreeMap.{get};
 ghost use Rattle.esm_model.specs.declared.config.Config.{Config};
 ghost use Rattle.esm_journal_state.specs.SaidLists.{SaidLists};
 ghost use Rattle.esm_replay_model.specs.declared.range.Range.{Range};
 ghost use Rattle.esm_replay.specs.Records.{setting_with, are_named};
-ghost use Rattle.esm_replay.specs.Rows.{came_in, named_in, count_in, IsGrown, IsGrownAt, IsRowAt};
+ghost use Rattle.esm_replay.specs.Rows.{came_in, count_in, IsGrown, IsGrownAt, IsRowAt};
 
 use esm_model::{OutOfMemory, Record};
 use std::alloc::Global;
@@ -26,57 +26,49 @@ pub struct Row {
     pub named: Vec<Named>,
 }
 
-fn came_in(row: &Option<Row>) -> u32
-    ensures { result ≡ came_in row.now }
+/// One more record of the row's shard, which is named or not and stands at `at` among all.
+fn grow(row: &mut Row, is_named: bool, at: u32) -> Result<(), OutOfMemory>
+    requires { row.old.came < u32.MAX }
+    ensures { OnOk result (IsGrown is_named at (Some row.old) row.new) }
 {
-    match row {
-        None => 0,
-        Some(row) => row.came,
-    }
-}
-
-fn row_or_new(alloc: Global, row: Option<Row>) -> Row
-    ensures came { result.came ≡ came_in row }
-    ensures named { result.named.items ≡ named_in row }
-{
-    match row {
-        Some(row) => row,
-        None => Row {
-            came: 0,
-            named: Vec::new(alloc),
-        },
-    }
-}
-
-/// The row with one more record, which is named or not and stands at `at` among all.
-fn grown(alloc: Global, row: Option<Row>, is_named: bool, at: u32) -> Result<Row, OutOfMemory>
-    requires { came_in row < u32.MAX }
-    ensures { IfOk result (IsGrown is_named at row) }
-{
-    let mut row = row_or_new(alloc, row);
     let place = row.came;
     if is_named {
         row.named.push(Named { place, at })?;
     }
-    row.came += 1;
+    row.came = place + 1;
+    Ok(())
+}
+
+/// The row of a shard's first record, which is named or not and stands at `at` among all.
+fn first_row(alloc: Global, is_named: bool, at: u32) -> Result<Row, OutOfMemory>
+    ensures { IfOk result (IsGrown is_named at None) }
+{
+    let mut row = Row {
+        came: 0,
+        named: Vec::new(alloc),
+    };
+    grow(&mut row, is_named, at)?;
     Ok(row)
 }
 
-/// One more record comes, which is named or not and stands at `at` among all.
+/// One more record comes of the shard, which is named or not and stands at `at` among all. A shard that has a row is looked
+/// up once, and its row stays where it is.
 fn add(
     alloc: Global,
     rows: &mut BTreeMap<u64, Row>,
-    item: &Record,
+    shard: u64,
     is_named: bool,
     at: u32,
 ) -> Result<(), OutOfMemory>
-    requires { came_in (get nat_cmp rows.old item.now.shard) < u32.MAX }
-    ensures here { OnOk result (IsGrownAt is_named at (get nat_cmp rows.old item.now.shard) (get nat_cmp rows.new item.now.shard)) }
-    ensures others { OnOk result ((q : ℕ) → (item.now.shard == q) ≡ false → get nat_cmp rows.new q ≡ get nat_cmp rows.old q) }
+    requires { came_in (get nat_cmp rows.old shard) < u32.MAX }
+    ensures here { OnOk result (IsGrownAt is_named at (get nat_cmp rows.old shard) (get nat_cmp rows.new shard)) }
+    ensures others { OnOk result ((q : ℕ) → (shard == q) ≡ false → get nat_cmp rows.new q ≡ get nat_cmp rows.old q) }
 {
-    let row = rows.remove(&item.shard);
-    let row = grown(alloc, row, is_named, at)?;
-    rows.insert(item.shard, row)?;
+    if let Some(row) = rows.get_mut(&shard) {
+        return grow(row, is_named, at);
+    }
+    let row = first_row(alloc, is_named, at)?;
+    rows.insert(shard, row)?;
     Ok(())
 }
 
@@ -102,7 +94,7 @@ pub(crate) fn rows_of(
     let mut rows = BTreeMap::new(alloc);
     for (i, item) in records.iter().enumerate() {
         let is_named = named_at(named, i);
-        add(alloc, &mut rows, item, is_named, i as u32)?;
+        add(alloc, &mut rows, item.shard, is_named, i as u32)?;
     }
     Ok(rows)
 }

@@ -1,5 +1,5 @@
 -- The first record that differs, record by record.
-use Rattle.std.proofs.Common.{◌≡◌, ℕ, zero, suc, ◌+◌, ◌<◌, ◌≤◌, List, [], ◌∷◌, ◌++◌, length, get_or, take, drop, refl, sym, ap, ap₂, ◌∙◌, subst, arith, true, false, add-one, append_assoc, Option, Some, None}
+use Rattle.std.proofs.Common.{◌≡◌, ℕ, zero, suc, ◌+◌, ◌<◌, ◌≤◌, List, [], ◌∷◌, ◌++◌, length, get_or, take, drop, refl, sym, ap, ap₂, ◌∙◌, arith, true, false, add-one, append_assoc, Option, Some, None}
 use Rattle.std.specs.Prelude.{◌==◌, ◌&&◌, not, Bool, is_some, option_map, unwrap_or}
 use Rattle.std.specs.Option.{option_or}
 use Rattle.std.specs.Ordering.{nat_cmp}
@@ -22,21 +22,20 @@ use Rattle.esm_replay_model.specs.ReplaySetting.{is_in_ranges}
 use Rattle.esm_replay.specs.Records.{of_shard, names, are_named}
 use Rattle.esm_replay.proofs.Naming.{named_append}
 use Rattle.esm_replay.specs.Coming.{other_text, kept_otherwise, change_of, change_at, first_change}
-use Rattle.esm_replay_core.specs.Counts.{AreCounted, HasOneMore}
+use Rattle.esm_replay_core.specs.Counts.{AreCounted}
 use Rattle.esm_replay_core.proofs.Standing.{few_of_shard}
-use Rattle.esm_replay_core.proofs.Paying.{counted_more}
 
--- a count of the first records of a list
-pub counted_few : (m : BTreeMap ℕ ℕ) (items : List Record) (i q : ℕ) → i ≤ length items → AreCounted m (take i items) → count_at (get nat_cmp m) q ≤ i
-counted_few m items i q low are =
+-- the first records of a list are not more of a shard than of all
+pub few_front : (items : List Record) (i q : ℕ) → i ≤ length items → length (of_shard q (take i items)) ≤ i
+few_front items i q low =
     let few : length (of_shard q (take i items)) ≤ length (take i items) = few_of_shard q (take i items) in
     let long : length (take i items) ≡ i = length-take-le i items low in
-    let is : count_at (get nat_cmp m) q ≡ length (of_shard q (take i items)) = are q in
     omega arith
 
-pub place_is : (m own : BTreeMap ℕ ℕ) (before front : List Record) (q : ℕ) → AreCounted m before → AreCounted own front → count_at (get nat_cmp m) q + count_at (get nat_cmp own) q ≡ length (of_shard q (before ++ front))
-place_is m own before front q are own_are =
-    ap₂ (λ (a b : ℕ). a + b) (are q) (own_are q)
+-- a record that comes after these stands at this place of its shard
+pub place_is : (m : BTreeMap ℕ ℕ) (before front : List Record) (q : ℕ) → AreCounted m before → count_at (get nat_cmp m) q + length (of_shard q front) ≡ length (of_shard q (before ++ front))
+place_is m before front q are =
+    ap (λ (a : ℕ). a + length (of_shard q front)) (are q)
     ∙ sym (ap (λ (xs : List Record). length xs) (filter-append (λ (x : Record). x.shard == q) before front) ∙ length-append (of_shard q before) (of_shard q front))
 
 pub front_more : (items : List Record) (i : ℕ) (item : Record) → i < length items → item ≡ get_or items i item → take (i + 1) items ≡ take i items ++ item ∷ []
@@ -44,10 +43,6 @@ front_more items i item low at = take_more items i item low ∙ ap (λ (x : Reco
 
 pub rest_less : (items : List Record) (i : ℕ) (item : Record) → i < length items → item ≡ get_or items i item → drop i items ≡ item ∷ drop (i + 1) items
 rest_less items i item low at = drop-cons items i item low ∙ ap (λ (k : ℕ). get_or items i item ∷ drop k items) (sym (add-one i)) ∙ ap (λ (x : Record). x ∷ drop (i + 1) items) (sym at)
-
-pub own_more : (own own' : BTreeMap ℕ ℕ) (items : List Record) (i : ℕ) (item : Record) → i < length items → item ≡ get_or items i item → AreCounted own (take i items) → HasOneMore item.shard own own' → AreCounted own' (take (i + 1) items)
-own_more own own' items i item low at are more =
-    subst (AreCounted own') (sym (front_more items i item low at)) (counted_more own own' (take i items) item are more)
 
 pub or_some : (o x : Option Change) → is_some o ≡ true → option_or o x ≡ o
 or_some (Some c) x some = refl
@@ -58,11 +53,11 @@ or_none (Some c) x none = absurd (cc)
 or_none None x none = refl
 
 -- the next record is looked at
-module _ (told : SaidLists) (m own : BTreeMap ℕ ℕ) (items : List Record) (i : ℕ) (item : Record) (place : ℕ) (change : Option Change) (low : i < length items) (at : item ≡ get_or items i item)
-    (own_are : AreCounted own (take i items)) (place_of : place ≡ count_at (get nat_cmp m) item.shard + count_at (get nat_cmp own) item.shard)
+module _ (told : SaidLists) (m : BTreeMap ℕ ℕ) (items : List Record) (i : ℕ) (item : Record) (place : ℕ) (change : Option Change) (low : i < length items) (at : item ≡ get_or items i item)
+    (place_of : place ≡ count_at (get nat_cmp m) item.shard + length (of_shard item.shard (take i items)))
     (change_is : change ≡ option_map (change_of item place) (kept_otherwise told item.shard place item.seq)) (before : List Record) (are : AreCounted m before) where
   here : change ≡ change_at told (before ++ take i items) item
-  here = change_is ∙ ap (λ (k : ℕ). option_map (change_of item k) (kept_otherwise told item.shard k item.seq)) (place_of ∙ place_is m own before (take i items) item.shard are own_are)
+  here = change_is ∙ ap (λ (k : ℕ). option_map (change_of item k) (kept_otherwise told item.shard k item.seq)) (place_of ∙ place_is m before (take i items) item.shard are)
 
   pub looked : first_change told (before ++ take i items) (drop i items) ≡ option_or change (first_change told (before ++ take (i + 1) items) (drop (i + 1) items))
   looked =
@@ -119,10 +114,10 @@ not_named told ranges item place none =
     ap (λ (o : Option FoundFate). unwrap_or (option_map (λ (f : FoundFate). is_failure f.fate) o) false && (is_in_ranges ranges item.shard item.seq && not (is_replay_told told item.shard place))) (sym none)
 
 -- one more record is looked at
-pub named_more : (told : SaidLists) (ranges : List Range) (m own : BTreeMap ℕ ℕ) (before items : List Record) (i : ℕ) (item : Record) (place : ℕ) (b : Bool) (old new : List Bool) → i < length items → item ≡ get_or items i item
-    → AreCounted m before → AreCounted own (take i items) → place ≡ count_at (get nat_cmp m) item.shard + count_at (get nat_cmp own) item.shard → b ≡ names told ranges item place
+pub named_more : (told : SaidLists) (ranges : List Range) (m : BTreeMap ℕ ℕ) (before items : List Record) (i : ℕ) (item : Record) (place : ℕ) (b : Bool) (old new : List Bool) → i < length items → item ≡ get_or items i item
+    → AreCounted m before → place ≡ count_at (get nat_cmp m) item.shard + length (of_shard item.shard (take i items)) → b ≡ names told ranges item place
     → old ≡ are_named told ranges before (take i items) → new ≡ old ++ b ∷ [] → new ≡ are_named told ranges before (take (i + 1) items)
-named_more told ranges m own before items i item place b old new low at are own_are place_of is olds news =
+named_more told ranges m before items i item place b old new low at are place_of is olds news =
     news
-    ∙ ap₂ (λ (bs : List Bool) (x : Bool). bs ++ x ∷ []) olds (is ∙ ap (names told ranges item) (place_of ∙ place_is m own before (take i items) item.shard are own_are))
+    ∙ ap₂ (λ (bs : List Bool) (x : Bool). bs ++ x ∷ []) olds (is ∙ ap (names told ranges item) (place_of ∙ place_is m before (take i items) item.shard are))
     ∙ sym (ap (are_named told ranges before) (front_more items i item low at) ∙ named_append told ranges before (take i items) (item ∷ []))

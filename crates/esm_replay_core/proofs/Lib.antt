@@ -4,6 +4,7 @@ pub mod Named
 pub mod Fronts
 pub mod Saying
 pub mod Counting
+pub mod Tallying
 pub mod Choices
 pub mod Keeping
 pub mod Closing

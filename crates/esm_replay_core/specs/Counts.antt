@@ -1,10 +1,11 @@
 -- Counts of the records of each shard. Only this crate's proofs cite this.
-use Rattle.std.specs.Prelude.{◌≡◌, ℕ, ◌+◌, ◌==◌, List, length, IsSome, if◌then◌else◌}
+use Rattle.std.specs.Prelude.{◌≡◌, ℕ, ◌+◌, ◌==◌, List, length, IsSome, unwrap_or, if◌then◌else◌}
 use Rattle.std.specs.Ordering.{nat_cmp}
 use Rattle.std.specs.Map.{count_at}
 use Rattle.std.specs.BTreeMap.{BTreeMap, get}
 use Rattle.esm_model.specs.declared.item.Record.{Record}
 use Rattle.esm_replay.specs.Records.{of_shard}
+use Rattle.esm_replay_core.specs.declared.tally.Tally.{Tally}
 
 -- of each shard the number of its records in the list
 abbrev pub AreCounted : BTreeMap ℕ ℕ → List Record → Type 0
@@ -23,3 +24,15 @@ pub record IsRecounted (m m' : BTreeMap ℕ ℕ) : Type 0 where
 pub record HasOneMore (shard : ℕ) (m m' : BTreeMap ℕ ℕ) : Type 0 where
   pub more : (q : ℕ) → count_at (get nat_cmp m') q ≡ (if shard == q then count_at (get nat_cmp m) q + 1 else count_at (get nat_cmp m) q)
   pub keys : (q : ℕ) → IsSome (get nat_cmp m q) → IsSome (get nat_cmp m' q)
+
+-- the place of the next record of a shard: by what came of it in a list, else by what came before the list
+abbrev pub next_in : BTreeMap ℕ ℕ → BTreeMap ℕ ℕ → ℕ → ℕ
+next_in counts others q = unwrap_or (get nat_cmp others q) (count_at (get nat_cmp counts) q)
+
+-- the same, where that of one shard is at hand
+abbrev pub next_place : BTreeMap ℕ ℕ → Tally → ℕ → ℕ
+next_place counts t q = if t.shard == q then t.place else next_in counts t.others q
+
+-- so many of each shard came before, and these records of the list
+abbrev pub AreTallied : BTreeMap ℕ ℕ → Tally → List Record → Type 0
+AreTallied counts t rs = (q : ℕ) → next_place counts t q ≡ count_at (get nat_cmp counts) q + length (of_shard q rs)

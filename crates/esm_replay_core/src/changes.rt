@@ -11,13 +11,13 @@ ghost use Rattle.esm_journal_state.specs.SaidLists.{tries_told};
 ghost use Rattle.esm_book.specs.Decided.{IsRefused};
 ghost use Rattle.esm_replay.specs.Records.{names, are_named};
 ghost use Rattle.esm_replay.specs.Coming.{other_text, kept_otherwise, change_of, first_change};
-ghost use Rattle.esm_replay_core.specs.Counts.{AreCounted, HasOneMore};
+ghost use Rattle.esm_replay_core.specs.Counts.{AreCounted};
 
-use crate::counts::count_of;
+use crate::tally::{count_next, new_tally, take_in_hand};
 use esm_book::Refusal;
 use esm_journal_state::Says;
 use esm_model::{Change, OutOfMemory, Record, Seq, Text};
-use esm_replay::{Ranges, names};
+use esm_replay::{Ranges, names_near};
 use std::alloc::Global;
 use std::collections::BTreeMap;
 
@@ -107,11 +107,12 @@ fn change_from(
     }
 }
 
-/// What the journal tells of the record at the place. Its fate is looked up once.
+/// What the journal tells of the record at the place. Its fate is looked up once, and the range at `near` first.
 fn look_up(
     alloc: Global,
     said: &Says,
     ranges: &Ranges,
+    near: &mut usize,
     item: &Record,
     place: u32,
 ) -> Result<Look, OutOfMemory>
@@ -130,20 +131,10 @@ fn look_up(
         Some(found) => {
             let kept = kept_otherwise(said, item, place, Some(found.text));
             let change = change_from(alloc, item, place, kept)?;
-            let is_named = names(said, ranges, item, place, found.fate);
+            let is_named = names_near(said, ranges, near, item, place, found.fate);
             Ok(Look { change, is_named })
         }
     }
-}
-
-/// One more record of the shard, which has so many.
-fn add_one(counts: &mut BTreeMap<u64, u32>, shard: u64, count: u32) -> Result<(), OutOfMemory>
-    requires is { count ≡ count_at (get nat_cmp counts.old) shard }
-    requires few { count < u32.MAX }
-    ensures { OnOk result (HasOneMore shard counts.old counts.new) }
-{
-    counts.insert(shard, count + 1)?;
-    Ok(())
 }
 
 /// The first of the records that differs from what the journal kept of its place, where so many of each shard came before;
@@ -160,19 +151,18 @@ pub(crate) fn first_change(
     ensures named { IfOk result (λ looked. (before : List Record) → AreCounted counts.now before → looked.change ≡ None →
         looked.named.items ≡ are_named said.now ranges.now before items.now) }
 {
-    let mut own: BTreeMap<u64, u32> = BTreeMap::new(alloc);
+    let mut tally = new_tally(alloc, counts);
     let mut named = Vec::with_capacity(alloc, items.len())?;
+    let mut near = 0;
     for item in items {
-        let before = count_of(counts, item.shard);
-        let here = count_of(&own, item.shard);
-        let place = before + here;
-        let found = look_up(alloc, said, ranges, item, place)?;
+        take_in_hand(&mut tally, counts, item.shard)?;
+        let found = look_up(alloc, said, ranges, &mut near, item, tally.place)?;
         let Look { change, is_named } = found;
         if change.is_some() {
             return Ok(Looked { change, named });
         }
         named.push(is_named)?;
-        add_one(&mut own, item.shard, here)?;
+        count_next(&mut tally);
     }
     Ok(Looked {
         change: None,

@@ -1,5 +1,5 @@
 // How many records of each shard came.
-ghost use Rattle.std.specs.Prelude.{◌≡◌, ◌<◌, All, OnOk, IsSome, is_some};
+ghost use Rattle.std.specs.Prelude.{◌≡◌, ◌<◌, true, All, IfSome, OnOk, Some, IsSome, is_some};
 ghost use Rattle.std.specs.Ordering.{nat_cmp};
 ghost use Rattle.std.specs.Map.{count_at};
 ghost use Rattle.std.specs.BTreeMap.{get};
@@ -36,6 +36,32 @@ fn make_count(counts: &mut BTreeMap<u64, u32>, shard: u64) -> Result<(), OutOfMe
     Ok(())
 }
 
+/// Whether the last record was of the shard.
+fn is_shard(last: Option<u64>, shard: u64) -> bool
+    ensures { result ≡ true → last ≡ Some shard }
+{
+    match last {
+        None => false,
+        Some(last) => last == shard,
+    }
+}
+
+/// The same, where the last record's shard has a count: no look-up where it is this shard.
+fn make_next(
+    counts: &mut BTreeMap<u64, u32>,
+    last: Option<u64>,
+    shard: u64,
+) -> Result<(), OutOfMemory>
+    requires { IfSome last (λ q. IsSome (get nat_cmp counts.old q)) }
+    ensures same { IsRecounted counts.old counts.new }
+    ensures there { OnOk result (IsSome (get nat_cmp counts.new shard)) }
+{
+    if is_shard(last, shard) {
+        return Ok(());
+    }
+    make_count(counts, shard)
+}
+
 /// A count for the shard of each record, which is 0 where it had none.
 pub(crate) fn make_counts(
     counts: &mut BTreeMap<u64, u32>,
@@ -44,8 +70,10 @@ pub(crate) fn make_counts(
     ensures same { IsRecounted counts.old counts.new }
     ensures there { OnOk result (All (HasCount counts.new) items.now) }
 {
+    let mut last = None;
     for item in items {
-        make_count(counts, item.shard)?;
+        make_next(counts, last, item.shard)?;
+        last = Some(item.shard);
     }
     Ok(())
 }
@@ -56,9 +84,8 @@ pub(crate) fn count_one(counts: &mut BTreeMap<u64, u32>, shard: u64)
     requires few { count_at (get nat_cmp counts.old) shard < u32.MAX }
     ensures { HasOneMore shard counts.old counts.new }
 {
-    let count = count_of(counts, shard);
-    match counts.insert(shard, count + 1) {
-        Ok(_) => {}
-        Err(_) => unreachable!(),
+    match counts.get_mut(&shard) {
+        Some(count) => *count += 1,
+        None => unreachable!(),
     }
 }

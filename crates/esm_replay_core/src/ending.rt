@@ -8,8 +8,8 @@ ghost use Rattle.esm_journal_record.specs.Payload.{payload_of, IsSaid};
 ghost use Rattle.esm_replay_core.specs.Ending.{IsReplayOf, MayEnd, IsEnding};
 
 use crate::owed::Replay;
-use esm_journal_record::{Said, said_bytes};
-use esm_model::{Config, Job, OutOfMemory, Places, Reply, Seq, Text, Texts, Verdict};
+use crate::payload::replayed_bytes;
+use esm_model::{Config, Job, OutOfMemory, Places, Reply, Seq, Verdict};
 use esm_replay::{Parts, Waiting};
 use esm_verdict::{Call, judge, read_stream};
 use std::alloc::Global;
@@ -38,20 +38,6 @@ fn verdict_of(
     Ok(judge(config, names.len() as u32, 0, answer.reading))
 }
 
-/// Copies of the texts of the first so many sequence numbers.
-fn first_texts(alloc: Global, names: &[Seq], count: usize) -> Result<Vec<Text>, OutOfMemory>
-    requires { count ≤ length names.now }
-    ensures { IfOk result (λ texts. texts.items ≡ take count names.now) }
-{
-    let first = &names[..count];
-    let mut texts = Vec::with_capacity(alloc, count)?;
-    for name in first {
-        let text = String::from_str(alloc, name.text())?;
-        texts.push(Text::from_vec(text))?;
-    }
-    Ok(texts)
-}
-
 /// The payload that says of the first so many records of a call that they are replayed.
 fn replay_payload(
     alloc: Global,
@@ -66,15 +52,7 @@ fn replay_payload(
     requires said { IsSaid (said.Replayed shard moment (take count places.now) (take count names.now)) }
     ensures { IfOk result (λ payload. payload.items ≡ payload_of (said.Replayed shard moment (take count places.now) (take count names.now))) }
 {
-    let texts = first_texts(alloc, names, count)?;
-    let copy = Vec::from_slice(alloc, &places[..count])?;
-    let said = Said::Replayed {
-        shard,
-        moment,
-        places: Places::from_vec(copy),
-        texts: Texts::from_vec(texts),
-    };
-    said_bytes(alloc, &said)
+    replayed_bytes(alloc, shard, moment, &places[..count], &names[..count])
 }
 
 /// What is replayed of the first so many records of a call, where there are any.

@@ -10,8 +10,10 @@ mod counts;
 mod decisions;
 mod ending;
 mod owed;
+mod payload;
 mod pieces;
 mod replay_core;
+mod tally;
 
 pub use decisions::{Opened, ReplayAnswer, ReplayCall, ReplayEntry, ReplayNext};
 pub use replay_core::ReplayCore;

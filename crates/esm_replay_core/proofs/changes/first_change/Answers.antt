@@ -1,40 +1,42 @@
-use Rattle.std.proofs.Common.{◌≡◌, ◌∙◌, ◌+◌, ◌++◌, true, false, Option, List, take, drop, sym, ap, ap₂, arith, rules}
+use Rattle.std.proofs.Common.{◌≡◌, ◌∙◌, ◌+◌, ◌++◌, true, false, Option, List, take, drop, sym, ap, arith}
 use Rattle.std.specs.Prelude.{is_some}
+use Rattle.std.specs.Ordering.{nat_cmp}
+use Rattle.std.specs.Map.{count_at}
+use Rattle.std.specs.BTreeMap.{get}
 use Rattle.std.proofs.lemmas.List.{append-nil, take_all}
 use Rattle.esm_model.specs.declared.book.Change.{Change}
 use Rattle.esm_model.specs.declared.item.Record.{Record}
 use Rattle.esm_replay.specs.Records.{are_named}
 use Rattle.esm_replay.specs.Coming.{first_change}
-use Rattle.esm_replay_core.proofs.Differing.{counted_few, own_more, looked, named_more, none_after, or_some, or_none}
+use Rattle.esm_replay_core.proofs.Tallying.{tally_more, place_at_hand, still_tallied}
+use Rattle.esm_replay_core.proofs.Differing.{few_front, looked, named_more, none_after, or_some, or_none}
 use Rattle.esm_replay_core.proofs.changes.first_change.Goals as goal
 
 pub loop-item-init : goal.loop-item-init
 loop-item-init c = record {
-  counted = λ q. search rules;
+  tallied = λ q. (let is = c.new_tally-tally.ensures q in let none : count_at (get nat_cmp c.args.counts.now) q ≡ count_at (get nat_cmp c.args.counts.now) q + 0 = omega arith in is ∙ none);
   named = λ before are. c.in_ok-named.ensures.items;
   rest = λ before are. ap (λ (rs : List Record). first_change c.args.said.now rs c.args.items.now) (sym (append-nil before));
 }
 
-pub overflow_add-place : goal.overflow_add-place
-overflow_add-place c =
+pub count_next-requires : goal.count_next-requires
+count_next-requires c =
     let x = c.item-item.result in
+    let i = c.loop-item.item-index in
     let few = c.requires x.shard in
-    let here = counted_few c.loop-item.own c.args.items.now c.loop-item.item-index x.shard (omega (arith, c.loop-item-test.true)) c.loop-item.invariant.counted in
-    omega (arith, few, here, c.count_of-before.ensures, c.count_of-here.ensures, c.loop-item-test.true)
-
-pub add_one-requires-clause-few : goal.add_one-requires-clause-few
-add_one-requires-clause-few c =
-    let x = c.item-item.result in
-    let few = c.requires x.shard in
-    let here = counted_few c.loop-item.own c.args.items.now c.loop-item.item-index x.shard (omega (arith, c.loop-item-test.true)) c.loop-item.invariant.counted in
-    omega (arith, few, here, c.count_of-here.ensures, c.loop-item-test.true)
+    let front = few_front c.args.items.now i x.shard (omega (arith, c.loop-item-test.true)) in
+    let tallied = still_tallied c.args.counts.now c.loop-item.tally c.take_in_hand.new.tally (take i c.args.items.now) c.in_ok-take_in_hand.ensures.same c.loop-item.invariant.tallied in
+    let place = place_at_hand c.args.counts.now c.take_in_hand.new.tally (take i c.args.items.now) x.shard c.in_ok-take_in_hand.ensures.here tallied in
+    omega (arith, few, front, place, c.loop-item-test.true)
 
 pub returns-then-is_some-clause-change : goal.returns-then-is_some-clause-change
 returns-then-is_some-clause-change c = λ before are.
     let x = c.item-item.result in
     let i = c.loop-item.item-index in
+    let tallied = still_tallied c.args.counts.now c.loop-item.tally c.take_in_hand.new.tally (take i c.args.items.now) c.in_ok-take_in_hand.ensures.same c.loop-item.invariant.tallied in
+    let place = place_at_hand c.args.counts.now c.take_in_hand.new.tally (take i c.args.items.now) x.shard c.in_ok-take_in_hand.ensures.here tallied in
     sym (c.loop-item.invariant.rest before are
-    ∙ looked c.args.said.now c.args.counts.now c.loop-item.own c.args.items.now i x (c.count_of-before.result + c.count_of-here.result) c.in_ok-found.found.change c.loop-item-test.true c.item-item.is c.loop-item.invariant.counted (ap₂ (λ a b. a + b) c.count_of-before.ensures c.count_of-here.ensures) c.in_ok-found.ensures.change before are
+    ∙ looked c.args.said.now c.args.counts.now c.args.items.now i x c.take_in_hand.new.tally.place c.in_ok-found.found.change c.loop-item-test.true c.item-item.is place c.in_ok-found.ensures.change before are
     ∙ or_some c.in_ok-found.found.change (first_change c.args.said.now (before ++ take (i + 1) c.args.items.now) (drop (i + 1) c.args.items.now)) (sym c.is_some.ensures ∙ c.if-is_some.true))
 
 pub returns-then-is_some-clause-named : goal.returns-then-is_some-clause-named
@@ -47,13 +49,15 @@ pub loop-item-preserved : goal.loop-item-preserved
 loop-item-preserved c =
     let x = c.item-item.result in
     let i = c.loop-item.item-index in
+    let tallied = still_tallied c.args.counts.now c.loop-item.tally c.take_in_hand.new.tally (take i c.args.items.now) c.in_ok-take_in_hand.ensures.same c.loop-item.invariant.tallied in
+    let place = place_at_hand c.args.counts.now c.take_in_hand.new.tally (take i c.args.items.now) x.shard c.in_ok-take_in_hand.ensures.here tallied in
     record {
-      counted = own_more c.loop-item.own c.add_one.new.counts c.args.items.now i x c.loop-item-test.true c.item-item.is c.loop-item.invariant.counted c.in_ok-add_one.ensures;
-      named = λ before are. named_more c.args.said.now c.args.ranges.now c.args.counts.now c.loop-item.own before c.args.items.now i x (c.count_of-before.result + c.count_of-here.result) c.in_ok-found.found.is_named c.loop-item.named.items c.push.new.self.items
-          c.loop-item-test.true c.item-item.is are c.loop-item.invariant.counted (ap₂ (λ a b. a + b) c.count_of-before.ensures c.count_of-here.ensures) c.in_ok-found.ensures.named (c.loop-item.invariant.named before are) c.in_ok-push.ensures.items;
+      tallied = tally_more c.args.counts.now c.take_in_hand.new.tally c.count_next.new.tally c.args.items.now i x c.loop-item-test.true c.item-item.is c.in_ok-take_in_hand.ensures.here tallied c.count_next.ensures;
+      named = λ before are. named_more c.args.said.now c.args.ranges.now c.args.counts.now before c.args.items.now i x c.take_in_hand.new.tally.place c.in_ok-found.found.is_named c.loop-item.named.items c.push.new.self.items
+          c.loop-item-test.true c.item-item.is are place c.in_ok-found.ensures.named (c.loop-item.invariant.named before are) c.in_ok-push.ensures.items;
       rest = λ before are.
           c.loop-item.invariant.rest before are
-          ∙ looked c.args.said.now c.args.counts.now c.loop-item.own c.args.items.now i x (c.count_of-before.result + c.count_of-here.result) c.in_ok-found.found.change c.loop-item-test.true c.item-item.is c.loop-item.invariant.counted (ap₂ (λ a b. a + b) c.count_of-before.ensures c.count_of-here.ensures) c.in_ok-found.ensures.change before are
+          ∙ looked c.args.said.now c.args.counts.now c.args.items.now i x c.take_in_hand.new.tally.place c.in_ok-found.found.change c.loop-item-test.true c.item-item.is place c.in_ok-found.ensures.change before are
           ∙ or_none c.in_ok-found.found.change (first_change c.args.said.now (before ++ take (i + 1) c.args.items.now) (drop (i + 1) c.args.items.now)) (sym c.is_some.ensures ∙ c.if-is_some.false);
     }
 

@@ -24,4 +24,4 @@ returns-in_ok-change-in-Some-clause-change c =
 pub returns-in_ok-change-in-Some-clause-named : goal.returns-in_ok-change-in-Some-clause-named
 returns-in_ok-change-in-Some-clause-named c =
     let fate = fate_kept_fate (fate_told c.args.said.now c.args.item.now.shard c.args.place) (Some (fate_kept c.in-Some.found.fate c.in-Some.found.text.now)) c.in-Some.ensures in
-    c.names-is_named.ensures ∙ named_by c.args.said.now c.args.ranges.now c.args.item.now c.args.place c.in-Some.found.fate (sym fate)
+    c.names_near-is_named.ensures ∙ named_by c.args.said.now c.args.ranges.now c.args.item.now c.args.place c.in-Some.found.fate (sym fate)

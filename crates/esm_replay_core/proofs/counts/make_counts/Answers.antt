@@ -7,15 +7,16 @@ use Rattle.esm_replay_core.proofs.Counting.{then_recounted, counts_more}
 use Rattle.esm_replay_core.proofs.counts.make_counts.Goals as goal
 
 pub loop-item-init : goal.loop-item-init
-loop-item-init c = record { same = record { same = λ q. refl; keys = λ q has. has }; there = All-nil (HasCount c.args.counts.now) }
+loop-item-init c = record { same = record { same = λ q. refl; keys = λ q has. has }; there = All-nil (HasCount c.args.counts.now); last = tt }
 
-pub returns-in_err-make_count-clause-same : goal.returns-in_err-make_count-clause-same
-returns-in_err-make_count-clause-same c = then_recounted c.args.counts.now c.loop-item.counts c.make_count.new.counts c.loop-item.invariant.same c.make_count.ensures.same
+pub returns-in_err-make_next-clause-same : goal.returns-in_err-make_next-clause-same
+returns-in_err-make_next-clause-same c = then_recounted c.args.counts.now c.loop-item.counts c.make_next.new.counts c.loop-item.invariant.same c.make_next.ensures.same
 
 pub loop-item-preserved : goal.loop-item-preserved
 loop-item-preserved c = record {
-  same = then_recounted c.args.counts.now c.loop-item.counts c.make_count.new.counts c.loop-item.invariant.same c.make_count.ensures.same;
-  there = counts_more c.loop-item.counts c.make_count.new.counts c.args.items.now c.loop-item.item-index c.item-item.result c.loop-item-test.true c.item-item.is c.make_count.ensures.same c.in_ok-make_count.ensures.there c.loop-item.invariant.there;
+  same = then_recounted c.args.counts.now c.loop-item.counts c.make_next.new.counts c.loop-item.invariant.same c.make_next.ensures.same;
+  there = counts_more c.loop-item.counts c.make_next.new.counts c.args.items.now c.loop-item.item-index c.item-item.result c.loop-item-test.true c.item-item.is c.make_next.ensures.same c.in_ok-make_next.ensures.there c.loop-item.invariant.there;
+  last = c.in_ok-make_next.ensures.there;
 }
 
 pub returns-clause-there : goal.returns-clause-there
