@@ -1,5 +1,5 @@
 // What a person is told on standard error behind a refusal: what to do about it.
-use esm_cli::table::Verb;
+use esm_cli::table::{COMMANDS, NUMBERS, OptionName, Verb};
 use memchr::memrchr;
 use std::io::Eprint;
 
@@ -9,17 +9,13 @@ const BAD_WORDS: u8 = 2;
 /// The exit status where the output failed, which then tells nothing.
 const OUTPUT_FAULT: u8 = 5;
 
-/// The command line, which README explains.
-const USAGE: [&str; 9] = [
+/// The command line up to the commands, which README explains.
+const USAGE: [&str; 5] = [
     "usage: esm FOLDER FUNCTIONS DOOR COMMAND [OPTIONS]",
     "  FOLDER     - for memory and standard input, or a folder that init made ready, with its input.jsonl",
     "  FUNCTIONS  ok, poison:TEXT, or the port of 127.0.0.1 at which the function is served",
     "  DOOR       the port of serve; 0 where none is served",
-    "  COMMAND    run {--config TEXT | --mapping UUID} [--calls N] [--visibility N] [--timeout N] [--read-first] [--trace]",
-    "             ddb --config TEXT [--calls N] [--timeout N] [--trace]",
-    "             redrive --config TEXT --max-receives N [--calls N] [--visibility N] [--timeout N] [--trace]",
-    "             replay --config TEXT [--calls N] [--timeout N] [--trace]",
-    "             init, show, failures, compact, migrate, serve --requests N, gen --records N",
+    "  COMMAND    one of these, with its options:",
 ];
 
 /// How the line begins that tells a refusal, and what to do about it. The first one that fits counts.
@@ -119,6 +115,56 @@ fn last_line(text: &[u8]) -> &[u8] {
     }
 }
 
+/// Whether the command needs the option.
+fn is_needed(option: OptionName) -> bool {
+    for rule in NUMBERS.iter() {
+        if rule.option == option {
+            return rule.default.is_none();
+        }
+    }
+    option == OptionName::Config
+}
+
+/// What stands behind the option's name.
+fn value_of(option: OptionName) -> &'static str {
+    match option {
+        OptionName::Config => " TEXT",
+        OptionName::Mapping => " UUID",
+        _ if option.has_value() => " N",
+        _ => "",
+    }
+}
+
+/// Tells how the option is spelled, in brackets where the command does not need it.
+fn tell_option<R: Eprint>(rt: &R, option: OptionName) {
+    let (open, close) = if is_needed(option) {
+        (" --", "")
+    } else {
+        (" [--", "]")
+    };
+    for part in [open, option.name(), value_of(option), close] {
+        let _ = rt.eprint(part);
+    }
+}
+
+/// Tells how the command is spelled, with the options that its table has. A mapping by its id stands in place of its text.
+fn tell_command<R: Eprint>(rt: &R, word: &str) {
+    let _ = rt.eprint("             ");
+    let _ = rt.eprint(word);
+    let options: &[OptionName] = match Verb::named(word) {
+        Some(verb) => verb.options(),
+        None => &[],
+    };
+    for option in options {
+        if *option == OptionName::Mapping {
+            let _ = rt.eprint(", or --mapping UUID in its place,");
+        } else {
+            tell_option(rt, *option);
+        }
+    }
+    let _ = rt.eprintln("");
+}
+
 /// Tells which word was not understood, where that is known, and how a command is spelled.
 fn tell_usage<R: Eprint>(rt: &R, words: &[String]) {
     if let Some(verb) = words.get(3) {
@@ -129,6 +175,9 @@ fn tell_usage<R: Eprint>(rt: &R, words: &[String]) {
     }
     for line in USAGE.iter() {
         let _ = rt.eprintln(*line);
+    }
+    for word in COMMANDS.iter() {
+        tell_command(rt, *word);
     }
 }
 

@@ -132,6 +132,15 @@ pub const MAX_RECEIVES: NumberRule = NumberRule {
     default: None,
 };
 
+/// The words that name the commands, in the order in which a person is told them.
+pub const COMMANDS: [&str; 11] = [
+    "run", "ddb", "redrive", "replay", "init", "show", "failures", "compact", "migrate", "serve",
+    "gen",
+];
+
+/// The rule of each option that gives a number.
+pub const NUMBERS: [NumberRule; 6] = [CALLS, VISIBILITY, TIMEOUT, RECORDS, REQUESTS, MAX_RECEIVES];
+
 impl Verb {
     /// The command that the word names.
     pub fn named(word: &str) -> Option<Verb>
