@@ -26,15 +26,15 @@ impl Clock for TickClock {
     }
 }
 
-/// Callers of a function that always fails.
-fn callers(alloc: Global) -> Result<Vec<ScriptCaller>, OutOfMemory>
+/// Callers of a function that always answers, with its own error or without.
+pub fn callers(alloc: Global, error: bool) -> Result<Vec<ScriptCaller>, OutOfMemory>
     ensures { IfOk result (λ callers. length callers.items ≡ 64) }
 {
     let mut callers = Vec::new(alloc);
     for batcher in 0..64usize {
         let reply = Reply::Answered {
             status: 200,
-            error: true,
+            error,
             body: Bytes::from_vec(Vec::new(alloc)),
         };
         callers.push(ScriptCaller::new(alloc, Script::Always(reply), Vec::new(alloc)))?;
@@ -74,7 +74,7 @@ fn delays_from_the_end(rt: HostRuntime) -> Result<(), Fail> {
         &words,
         Vec::from_slice(alloc, RECORD)?,
         clock,
-        callers(alloc)?,
+        callers(alloc, true)?,
     )?;
     assert_eq!(rt; told.status, 0);
     let moments = moments(alloc, told.trace.as_slice())?;

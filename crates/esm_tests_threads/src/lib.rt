@@ -1,5 +1,5 @@
-//! Batchers that are threads, through the top call: two calls that run at once, functions that take their time, and a clock
-//! that never stands still. The crate has nothing but these tests, so that the crate of the top call is proved once.
+//! Batchers that are threads, through the top call: two calls that run at once, functions that take their time, a clock
+//! that never stands still, and lines that several threads parse. The crate has nothing but these tests, so that the crate of the top call is proved once.
 #![tactic(auto)]
 
 #[cfg(test)]
@@ -10,5 +10,7 @@ mod functions;
 mod gates;
 #[cfg(test)]
 mod lanes;
+#[cfg(test)]
+mod reading;
 #[cfg(test)]
 mod worlds;

@@ -37,7 +37,7 @@ fn world<C: Clock + Drop, F: Caller + Drop>(
     ensures trace { IfOk result (λ world. world.trace.items ≡ []) }
 {
     Ok(World {
-        input: MemSource::new(input, 65536, Vec::new(alloc)),
+        input: MemSource::new(input, 1_048_576, Vec::new(alloc)),
         out: MemSink::new(alloc, 65536, Vec::new(alloc)),
         journal: disk(alloc, &FRESH, &[])?,
         spare: disk(alloc, &SPARE, &[])?,
