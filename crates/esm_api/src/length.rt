@@ -74,7 +74,8 @@ fn also(bytes: &[u8], field: &HeaderSpan, name: &[u8], found: Named) -> Named
     requires found { IsNamedWithin (length bytes.now) found }
     ensures within { IsNamedWithin (length bytes.now) result }
     ensures values { (values : List (List ℕ)) → IsNamed bytes.now values found
-        → IsNamed bytes.now (values ++ (if is_named name.now (header_bytes bytes.now field.now) then (header_bytes bytes.now field.now).1 ∷ [] else [])) result }
+        → IsNamed bytes.now (values ++ (if is_named name.now (header_bytes bytes.now field.now) then
+        (header_bytes bytes.now field.now).1 ∷ [] else [])) result }
 {
     if !eq_ignore_case(field.name.of(bytes), name) {
         return found;

@@ -113,8 +113,10 @@ fn receive_body<L: Link>(
     requires len { head.len ≤ first }
     requires planned { IsPlanned (take first buffer.old.items) head }
     requires counted { L.faults link.old ≤ MAX_FAULTS }
-    ensures whole { IfOk result (λ filled. IfSome filled (ReceivesBody (L.told link.old) (L.told link.new) (take first buffer.old.items) head buffer.new.items)) }
-    ensures cut { IfOk result (λ filled. filled ≡ None → ReadsOnUnfinished (L.told link.old) (L.told link.new) (take first buffer.old.items) × IsReadOut (L.told link.new)) }
+    ensures whole { IfOk result (λ filled. IfSome filled (ReceivesBody (L.told link.old) (L.told link.new)
+        (take first buffer.old.items) head buffer.new.items)) }
+    ensures cut { IfOk result (λ filled. filled ≡ None → ReadsOnUnfinished (L.told link.old) (L.told link.new) (take first buffer.old.items)
+        × IsReadOut (L.told link.new)) }
     ensures fault { OnErr result (ReadsOnUnfinished (L.told link.old) (L.told link.new) (take first buffer.old.items)) }
     ensures cause { OnErr result (Rose (L.faults link.old) (L.faults link.new)) }
     ensures count { IsCount (L.faults link.old) (L.faults link.new) }

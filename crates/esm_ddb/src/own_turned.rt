@@ -59,7 +59,8 @@ fn own_element(alloc: Global, source: &Source, line: &OwnLine<'_>) -> Result<Vec
 
 /// The line of the record whose element has this text.
 fn record_line(alloc: Global, line: &OwnLine<'_>, payload: &[u8]) -> Result<Vec<u8>, OutOfMemory>
-    ensures { IfOk result (λ text. text.items ≡ place_part line.now.shard line.now.seq.now ++ content_part (hexadecimal (md5 line.now.keys.now)) payload.now line.now.arrival) }
+    ensures { IfOk result (λ text. text.items ≡ place_part line.now.shard line.now.seq.now
+        ++ content_part (hexadecimal (md5 line.now.keys.now)) payload.now line.now.arrival) }
 {
     let mut out = Vec::with_capacity(alloc, room_for(payload))?;
     push_place(&mut out, line.shard, line.seq)?;

@@ -200,7 +200,8 @@ fn receive_early_body<L: Link>(
     requires counted { L.faults link.old ≤ MAX_FAULTS }
     ensures read { ReadsInto (L.told link.old) (L.told link.new) first (vec_len buffer.old) (vec_len buffer.new) }
     ensures answered { IfOk result (λ reply. reply ≢ Reply.Lost → AnswersWhole (L.told link.old) (L.told link.new) (take first buffer.old.items) reply) }
-    ensures missed { IfOk result (λ reply. reply ≡ Reply.Lost → Misses (L.told link.old) (L.told link.new) (take first buffer.old.items) (L.faults link.old) (L.faults link.new)) }
+    ensures missed { IfOk result (λ reply. reply ≡ Reply.Lost → Misses (L.told link.old) (L.told link.new) (take first buffer.old.items)
+        (L.faults link.old) (L.faults link.new)) }
     ensures count { IsCount (L.faults link.old) (L.faults link.new) }
     ensures room { vec_len buffer.new ≤ MAX_RESPONSE + 1 }
 {

@@ -14,7 +14,8 @@ use crate::laws::replay_laws_hold;
 /// What a run finds is what the run before it knew when its journal's last payload was written, whatever replays and rewritings
 /// stand between them.
 pub fn each_run_goes_on()
-    ensures { (r next : Run) (between before : List Stage) → IsLife (Ran next ∷ between ++ Ran r ∷ before) → AreBetween between → HasStreamFields r.setting.config → GoesOnFrom r.setting r.recorded next.setting }
+    ensures { (r next : Run) (between before : List Stage) → IsLife (Ran next ∷ between ++ Ran r ∷ before) → AreBetween between →
+        HasStreamFields r.setting.config → GoesOnFrom r.setting r.recorded next.setting }
 {
     replay_laws_hold();
 }
@@ -22,7 +23,8 @@ pub fn each_run_goes_on()
 /// Wherever a run stopped, the next one finds the tries that it knew, where no lane is owed one; in any case no more, and one less at
 /// most.
 pub fn each_run_finds_tries()
-    ensures { (r next : Run) (between before : List Stage) → IsLife (Ran next ∷ between ++ Ran r ∷ before) → AreBetween between → HasStreamFields r.setting.config → TriesGoOn r.setting r.recorded next.setting }
+    ensures { (r next : Run) (between before : List Stage) → IsLife (Ran next ∷ between ++ Ran r ∷ before) → AreBetween between →
+        HasStreamFields r.setting.config → TriesGoOn r.setting r.recorded next.setting }
 {
     replay_laws_hold();
 }

@@ -19,21 +19,24 @@ use esm_io::{Caller, Disk};
 /// Whatever a crash leaves of the files after a run is the content of a stage of the life over what was found, and the dead letters that
 /// were found: of each at any moment since they were opened, and at any since the run's start where its disk had one image then.
 pub fn left_is_stage<D: Disk, F: Caller>()
-    ensures { (callers : Outside F) (line : List ℕ → List ℕ) (config : Config) (calls visibility : ℕ) (f : FilesState D) (messages : List Message) (s : QueueSetting)
+    ensures { (callers : Outside F) (line : List ℕ → List ℕ) (config : Config) (calls visibility : ℕ) (f : FilesState D) (messages : List Message)
+        (s : QueueSetting)
         (h : List Entry) (trouble : Option Trouble) (hand : List Entry) (new : Devices D F) (one other bytes : List ℕ) →
         IsLeftByStage (meaning D.Disk) callers line config calls visibility f messages s h trouble hand new one other bytes }
 {}
 
 /// Where no disk of the journal failed the stage is whole, and the journal has all that happened in it.
 pub fn ended_is_whole<D: Disk, F: Caller>()
-    ensures { (callers : Outside F) (line : List ℕ → List ℕ) (config : Config) (calls visibility : ℕ) (f : FilesState D) (messages : List Message) (s : QueueSetting)
+    ensures { (callers : Outside F) (line : List ℕ → List ℕ) (config : Config) (calls visibility : ℕ) (f : FilesState D) (messages : List Message)
+        (s : QueueSetting)
         (h : List Entry) (trouble : Option Trouble) (hand : List Entry) (new : Devices D F) →
         IsWholeStage (meaning D.Disk) callers line config calls visibility f messages s h trouble hand new }
 {}
 
 /// So a run that found what a life leaves adds a stage to it, and each image of its files opens to what the life then leaves.
 pub fn life_goes_on<D: Disk, F: Caller>()
-    ensures { (callers : Outside F) (line : List ℕ → List ℕ) (config : Config) (calls visibility : ℕ) (f : FilesState D) (messages : List Message) (s : QueueSetting)
+    ensures { (callers : Outside F) (line : List ℕ → List ℕ) (config : Config) (calls visibility : ℕ) (f : FilesState D) (messages : List Message)
+        (s : QueueSetting)
         (h : List Entry) (trouble : Option Trouble) (hand : List Entry) (new : Devices D F) (one other bytes : List ℕ) (life : List Stage) →
         GoesOnWithStage (meaning D.Disk) callers line config calls visibility f messages s h trouble hand new one other bytes life }
 {}

@@ -18,7 +18,8 @@ use esm_redrive_run::stages::run_is_stage;
 /// moment since its files were opened, and at any since its start where its disks had one image then; of the dead-letter file at its end.
 pub fn left_is_stage<D: Disk>()
     ensures { (gave : ℕ → Bool) (w : Words) (f : FilesState D) (messages : List Message) (s : RedriveSetting) (h : List Entry) (trouble : Option Trouble)
-        (hand tried : List Entry) (new : Disks D) (one other bytes : List ℕ) → IsLeftByStage (meaning D.Disk) gave w f messages s h trouble hand tried new one other bytes }
+        (hand tried : List Entry) (new : Disks D) (one other bytes : List ℕ) →
+        IsLeftByStage (meaning D.Disk) gave w f messages s h trouble hand tried new one other bytes }
 {
     run_is_stage::<D>();
 }
@@ -32,7 +33,8 @@ pub fn ended_is_whole<D: Disk>()
 /// So a run that found what a life leaves adds a stage to it, and each image of its files opens to what the life then leaves.
 pub fn life_goes_on<D: Disk>()
     ensures { (gave : ℕ → Bool) (w : Words) (f : FilesState D) (messages : List Message) (s : RedriveSetting) (h : List Entry) (trouble : Option Trouble)
-        (hand tried : List Entry) (new : Disks D) (one other bytes : List ℕ) (life : List Stage) → GoesOnWithStage (meaning D.Disk) gave w f messages s h trouble hand tried new one other bytes life }
+        (hand tried : List Entry) (new : Disks D) (one other bytes : List ℕ) (life : List Stage) →
+        GoesOnWithStage (meaning D.Disk) gave w f messages s h trouble hand tried new one other bytes life }
 {
     run_is_stage::<D>();
 }

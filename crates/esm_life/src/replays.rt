@@ -25,14 +25,16 @@ use esm_replay_life::life::runs_replay_nothing;
 
 /// The laws over lists of replays speak of each run of a replay of which the headline holds: what they ask of one are its clauses.
 pub fn run_is_stage<D: Disk>()
-    ensures { (gave : ℕ → Bool) (config : Config) (calls : ℕ) (f : FilesState D) (came : List Record) (s : ReplaySetting) (h : List Entry) (trouble : Option Trouble)
+    ensures { (gave : ℕ → Bool) (config : Config) (calls : ℕ) (f : FilesState D) (came : List Record) (s : ReplaySetting) (h : List Entry)
+        (trouble : Option Trouble)
         (hand : List Entry) (new : Disks D) (left rest : List (List ℕ)) → IsStage (meaning D.Disk) gave config calls f came s h trouble hand new left rest }
 {}
 
 /// Whatever a crash leaves of the journal after such a run is the content of a stage over what was found: at any moment since its files
 /// were opened, and at any since its start where its disks had one image then.
 pub fn left_is_stage<D: Disk>()
-    ensures { (gave : ℕ → Bool) (config : Config) (calls : ℕ) (f : FilesState D) (came : List Record) (s : ReplaySetting) (h : List Entry) (trouble : Option Trouble)
+    ensures { (gave : ℕ → Bool) (config : Config) (calls : ℕ) (f : FilesState D) (came : List Record) (s : ReplaySetting) (h : List Entry)
+        (trouble : Option Trouble)
         (hand : List Entry) (new : Disks D) (one other : List ℕ) → IsLeftByStage (meaning D.Disk) gave config calls f came s h trouble hand new one other }
 {}
 

@@ -25,7 +25,8 @@ use esm_io::{Caller, Disk};
 /// Whatever a crash leaves of the journal after a run is the content of a stage of the life over what was found: at any moment since
 /// its files were opened, and at any since its start where its disks had one image then.
 pub fn left_is_stage<D: Disk, F: Caller>()
-    ensures { (callers : Outside F) (line : List ℕ → List ℕ) (config : Config) (calls : ℕ) (f : FilesState D) (records : List Record) (s : Setting) (h : List Entry)
+    ensures { (callers : Outside F) (line : List ℕ → List ℕ) (config : Config) (calls : ℕ) (f : FilesState D) (records : List Record)
+        (s : Setting) (h : List Entry)
         (trouble : Option Trouble) (hand : List Entry) (new : Devices D F) (one other : List ℕ) →
         IsLeftByStage (meaning D.Disk) callers line config calls f records s h trouble hand new one other }
 {}
@@ -33,21 +34,24 @@ pub fn left_is_stage<D: Disk, F: Caller>()
 /// Where no disk of the journal failed the stage is whole, and the journal has all that happened in it; where the run ended without
 /// any trouble, nothing is owed after it.
 pub fn ended_is_whole<D: Disk, F: Caller>()
-    ensures { (callers : Outside F) (line : List ℕ → List ℕ) (config : Config) (calls : ℕ) (f : FilesState D) (records : List Record) (s : Setting) (h : List Entry)
+    ensures { (callers : Outside F) (line : List ℕ → List ℕ) (config : Config) (calls : ℕ) (f : FilesState D) (records : List Record)
+        (s : Setting) (h : List Entry)
         (trouble : Option Trouble) (hand : List Entry) (new : Devices D F) →
         IsWholeStage (meaning D.Disk) callers line config calls f records s h trouble hand new }
 {}
 
 /// So a run that found what a life leaves adds a stage to it, and each image of its journal opens to what the life then leaves.
 pub fn life_goes_on<D: Disk, F: Caller>()
-    ensures { (callers : Outside F) (line : List ℕ → List ℕ) (config : Config) (calls : ℕ) (f : FilesState D) (records : List Record) (s : Setting) (h : List Entry)
+    ensures { (callers : Outside F) (line : List ℕ → List ℕ) (config : Config) (calls : ℕ) (f : FilesState D) (records : List Record)
+        (s : Setting) (h : List Entry)
         (trouble : Option Trouble) (hand : List Entry) (new : Devices D F) (one other : List ℕ) (life : List Stage) →
         GoesOnWithStage (meaning D.Disk) callers line config calls f records s h trouble hand new one other life }
 {}
 
 /// And it keeps the laws of the whole life, whatever its journal recorded of it.
 pub fn run_keeps_laws<D: Disk, F: Caller>()
-    ensures { (callers : Outside F) (line : List ℕ → List ℕ) (config : Config) (calls : ℕ) (f : FilesState D) (records : List Record) (s : Setting) (h : List Entry)
+    ensures { (callers : Outside F) (line : List ℕ → List ℕ) (config : Config) (calls : ℕ) (f : FilesState D) (records : List Record)
+        (s : Setting) (h : List Entry)
         (trouble : Option Trouble) (hand : List Entry) (new : Devices D F) (life : List Stage) →
         KeepsLawsInLife (meaning D.Disk) callers line config calls f records s h trouble hand new life }
 {
@@ -92,7 +96,8 @@ pub fn migrating_life_stays<D: Disk>()
 
 /// A replay between two runs, however it stops, adds a stage to the life.
 pub fn replay_goes_on<D: Disk>()
-    ensures { (gave : ℕ → Bool) (config : Config) (calls : ℕ) (f : FilesState D) (came : List Record) (s : ReplaySetting) (h : List Entry) (trouble : Option Trouble)
+    ensures { (gave : ℕ → Bool) (config : Config) (calls : ℕ) (f : FilesState D) (came : List Record) (s : ReplaySetting) (h : List Entry)
+        (trouble : Option Trouble)
         (hand : List Entry) (new : ReplayDisks D) (one other : List ℕ) (life : List Stage) →
         IsReplayedLife (meaning D.Disk) gave config calls f came s h trouble hand new one other life }
 {}

@@ -93,7 +93,8 @@ fn answer_of(
 ) -> Result<Answer, OutOfMemory>
     requires kept { Keeps ledger.now }
     requires few { length places.now ≤ MAX_BATCH }
-    ensures reading { IfOk result (λ a. a.reading ≡ reading ledger.now.config (sequences_at (setting_of ledger.now) shard places.now) (is_some closing) reply.now) }
+    ensures reading { IfOk result (λ a. a.reading ≡ reading ledger.now.config (sequences_at (setting_of ledger.now) shard places.now)
+        (is_some closing) reply.now) }
     ensures within { IfOk result (λ a. IsWithin (length places.now) a.reading) }
     ensures state { IfOk result (λ a. a.state ≡ reply_state ledger.now.config reply.now) }
     ensures in_answer { IfOk result (λ a. IsStateIn reply.now a.state) }

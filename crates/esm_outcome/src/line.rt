@@ -99,7 +99,8 @@ fn failure_of(
     requires rest { IsRest ledger.now lane left.now }
     requires some { 1 ≤ length left.now }
     requires moment { now ≤ MAX_MOMENT }
-    ensures failure { IfOk result (λ f. f ≡ failure_of (setting_of ledger.now) (Entry.Ended lane reply.now now ∷ past_of ledger.now) lane.shard left.now false now) }
+    ensures failure { IfOk result (λ f. f ≡ failure_of (setting_of ledger.now)
+        (Entry.Ended lane reply.now now ∷ past_of ledger.now) lane.shard left.now false now) }
     ensures valid { IfOk result IsValidFailure }
 {
     let place = left[0];

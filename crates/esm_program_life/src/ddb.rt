@@ -57,7 +57,8 @@ pub fn stage_sends_elements<S: Source, K: Sink, D: Disk, C: Clock, F: Caller, L:
 /// By the words, whatever the status: `ddb` over a journal that opens to a life runs nothing, or each caller's log, where told, grows
 /// by calls of exactly the elements of their batches. The journal's disks have to be honest.
 pub fn ddb_sends_elements<S: Source, K: Sink, D: Disk, C: Clock, F: Caller, L: Door>()
-    ensures { (words : List (List ℕ)) (old new : World S K D C F L) (status : ℕ) (config : List ℕ) (calls timeout : ℕ) (traced : Bool) (life : List Stage) (epoch : ℕ) →
+    ensures { (words : List (List ℕ)) (old new : World S K D C F L) (status : ℕ) (config : List ℕ) (calls timeout : ℕ) (traced : Bool)
+        (life : List Stage) (epoch : ℕ) →
         IsSaid (devices C.Clock F.Caller D.Disk S.Source K.Sink L.Door L.Conn.Link) words old new status →
         SpellsBuilt words (Ddb config calls timeout traced) →
         SendsElements (devices C.Clock F.Caller D.Disk S.Source K.Sink L.Door L.Conn.Link) config calls old new status life epoch }

@@ -42,9 +42,11 @@ pub fn opened_is_timed<D: Disk>()
 /// Where a clock gave the moments of a book's entries and of those that it owes, so it is after a call whose moment the clock
 /// gave: after one that was carried out, one in which a disk failed, and one of which one entry was noted.
 pub fn moments_stay<D: Disk>()
-    ensures all { (gave : ℕ → Bool) (moment : ℕ) (messages : List Message) (es : List Entry) (old new : BookState D) → gave moment ≡ true → IsTimedView gave old.core →
+    ensures all { (gave : ℕ → Bool) (moment : ℕ) (messages : List Message) (es : List Entry) (old new : BookState D) → gave moment ≡ true →
+        IsTimedView gave old.core →
         HaveMoment (moment_for old.core.past moment) es → AddedAll (disk D.Disk) messages old new es → IsTimedView gave new.core }
-    ensures some { (gave : ℕ → Bool) (moment : ℕ) (messages : List Message) (es : List Entry) (old new : BookState D) → gave moment ≡ true → IsTimedView gave old.core →
+    ensures some { (gave : ℕ → Bool) (moment : ℕ) (messages : List Message) (es : List Entry) (old new : BookState D) → gave moment ≡ true →
+        IsTimedView gave old.core →
         HaveMoment (moment_for old.core.past moment) es → AddedSome (disk D.Disk) messages old new es → IsTimedView gave new.core }
     ensures one { (gave : ℕ → Bool) (moment : ℕ) (e : Entry) (old new : BookState D) → gave moment ≡ true → IsTimedView gave old.core →
         moment_of e ≡ moment_for old.core.past moment → AddedOne old new e → IsTimedView gave new.core }
@@ -54,5 +56,6 @@ pub fn moments_stay<D: Disk>()
 /// is given behind that front.
 pub fn hand_is_timed()
     ensures hand { (gave : ℕ → Bool) (v : CoreView) (trouble : Option Trouble) → IsTimedView gave v → AreTimed gave (in_hand trouble v.owed) }
-    ensures front { (gave : ℕ → Bool) (s : QueueSetting) (h : List Entry) (e : Entry) (follows : MayFollowFront s h e) → IsTimed gave e → IsGivenBehind gave follows.before (moment_of e) }
+    ensures front { (gave : ℕ → Bool) (s : QueueSetting) (h : List Entry) (e : Entry) (follows : MayFollowFront s h e) → IsTimed gave e →
+        IsGivenBehind gave follows.before (moment_of e) }
 {}

@@ -17,7 +17,11 @@ fn bring_one(queue: &mut Queue, alloc: Global, said: &Says, message: Message, mo
     requires room { 0 < queue.old.spare }
     requires few { length queue.old.state.messages + 1 < 2 ^ 32 }
     requires in_time { moment ≤ MAX_MOMENT }
-    ensures state { (s : QueueSetting) → s.deletions ≡ said.now.deletions → queue.new.state ≡ record queue.old.state { messages = queue.old.state.messages ++ coming_from s moment (length queue.old.state.messages) (one_coming message) } }
+    ensures state { (s : QueueSetting) → s.deletions ≡ said.now.deletions →
+        queue.new.state ≡ record queue.old.state {
+          messages = queue.old.state.messages
+              ++ coming_from s moment (length queue.old.state.messages) (one_coming message);
+        } }
     ensures number { length queue.new.state.messages ≡ length queue.old.state.messages + 1 }
     ensures spare { queue.old.spare ≤ queue.new.spare + 1 }
     ensures deleted { deleted_number queue.new.state ≡ deleted_number queue.old.state + (if result then 1 else 0) }
@@ -43,7 +47,11 @@ pub(crate) fn bring(
     requires room { length coming.items ≤ queue.old.spare }
     requires few { length queue.old.state.messages + length coming.items < 2 ^ 32 }
     requires in_time { moment ≤ MAX_MOMENT }
-    ensures state { (s : QueueSetting) → s.deletions ≡ said.now.deletions → queue.new.state ≡ record queue.old.state { messages = queue.old.state.messages ++ coming_from s moment (length queue.old.state.messages) coming.items } }
+    ensures state { (s : QueueSetting) → s.deletions ≡ said.now.deletions →
+        queue.new.state ≡ record queue.old.state {
+          messages = queue.old.state.messages
+              ++ coming_from s moment (length queue.old.state.messages) coming.items;
+        } }
     ensures deleted { deleted_number queue.new.state ≡ deleted_number queue.old.state + result }
 {
     let mut deleted = 0;

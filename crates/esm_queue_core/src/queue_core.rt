@@ -260,7 +260,8 @@ impl QueueCore {
     ) -> Result<u32, OutOfMemory>
         requires settled { self.old.owed ≡ [] }
         requires runs { IsRunningJob self.old.past job }
-        ensures owes { OnOk result (self.new ≡ owing self.old [] (ended_entries self.old.setting self.old.past job.lane reply (moment_for self.old.past moment))) }
+        ensures owes { OnOk result (self.new ≡ owing self.old [] (ended_entries self.old.setting self.old.past job.lane reply
+            (moment_for self.old.past moment))) }
         ensures answer { IfOk result (λ count. count ≡ length (ended_places self.old.setting self.old.past job.lane reply (moment_for self.old.past moment))) }
         ensures unchanged { OnErr result (self.new ≡ self.old) }
         ensures undone { OnOk result (forgotten self.new ≡ self.old) }

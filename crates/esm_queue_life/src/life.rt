@@ -48,7 +48,8 @@ pub fn ids_are_kept()
 
 /// No call of a run or of a redrive holds a message whose deletion was recorded when it began, or that it deleted before the call.
 pub fn none_is_called_again()
-    ensures { (fifo : Bool) (stage : Stage) (r : Run) (before : List Stage) → IsLife fifo (stage ∷ before) → run_of stage ≡ Some r → NoneIsCalledAgain r before }
+    ensures { (fifo : Bool) (stage : Stage) (r : Run) (before : List Stage) → IsLife fifo (stage ∷ before) → run_of stage ≡ Some r →
+        NoneIsCalledAgain r before }
 {}
 
 /// Of a FIFO queue no two runs' calls break the order of a message group.

@@ -23,7 +23,8 @@ ghost use Rattle.esm_record_bounds.specs.Bounds.{AreWithinBounds, AreCountedInFo
 /// The lists that the history of a stream's book tells are within the bounds, where the states are that its journal told
 /// of at opening.
 pub fn told_within()
-    ensures { (setup : Setup) (history : List Told) → AreStatesWithin setup.states → IsLegal (stream_may_follow setup) history → AreWithinBounds (setting_told setup history) }
+    ensures { (setup : Setup) (history : List Told) → AreStatesWithin setup.states → IsLegal (stream_may_follow setup) history →
+        AreWithinBounds (setting_told setup history) }
 {}
 
 /// A window's state that a legal history keeps: the window's start is at most the last moment, and its text has at most
@@ -40,7 +41,8 @@ pub fn legal_may_be_said()
 /// The payload of an entry of a legal history is not too long for a journal, where the entry has one. Records that are
 /// filtered at their arrival are as many as came at once, which the history leaves open: at most as many as a batch has.
 pub fn payload_within()
-    ensures { (s : Setting) (h : List Entry) (e : Entry) → AreWithinBounds s → IsStreamConfig s.config → Legal s (e ∷ h) → AreCountedInFourBytes h → FiltersFew e → IfSome (entry_said s e) (λ said. length (payload_of said) ≤ MAX_PAYLOAD) }
+    ensures { (s : Setting) (h : List Entry) (e : Entry) → AreWithinBounds s → IsStreamConfig s.config → Legal s (e ∷ h) → AreCountedInFourBytes h →
+        FiltersFew e → IfSome (entry_said s e) (λ said. length (payload_of said) ≤ MAX_PAYLOAD) }
 {}
 
 /// Where no record of a shard was to be filtered, no more are after records of it came than those.
@@ -50,15 +52,18 @@ pub fn filtered_few()
 
 /// Of the entries that the end of a call calls for at most one has a failure line.
 pub fn one_line()
-    ensures { (s : Setting) (h : List Entry) (lane : LaneId) (reply : Reply) (m : ℕ) → length (filter_map entry_line (owed s (Ended lane reply m ∷ h) lane)) ≤ 1 }
+    ensures { (s : Setting) (h : List Entry) (lane : LaneId) (reply : Reply) (m : ℕ) →
+        length (filter_map entry_line (owed s (Ended lane reply m ∷ h) lane)) ≤ 1 }
 {}
 
 /// A failure line of a stream's mapping has at most the bytes that a destination takes.
 pub fn line_within()
-    ensures { (s : Setting) (h : List Entry) (n : ℕ) (places : List ℕ) (expired : Bool) (m : ℕ) (line : List ℕ) → AreWithinBounds s → IsStreamConfig s.config → failure_line s h n places expired m ≡ Some line → length line ≤ MAX_PAYLOAD }
+    ensures { (s : Setting) (h : List Entry) (n : ℕ) (places : List ℕ) (expired : Bool) (m : ℕ) (line : List ℕ) → AreWithinBounds s →
+        IsStreamConfig s.config → failure_line s h n places expired m ≡ Some line → length line ≤ MAX_PAYLOAD }
 {}
 
 /// So has that of an entry of a legal history, where the entry has one.
 pub fn lines_within()
-    ensures { (s : Setting) (h : List Entry) (e : Entry) (line : List ℕ) → AreWithinBounds s → IsStreamConfig s.config → Legal s (e ∷ h) → entry_line e ≡ Some line → length line ≤ MAX_PAYLOAD }
+    ensures { (s : Setting) (h : List Entry) (e : Entry) (line : List ℕ) → AreWithinBounds s → IsStreamConfig s.config → Legal s (e ∷ h) →
+        entry_line e ≡ Some line → length line ≤ MAX_PAYLOAD }
 {}

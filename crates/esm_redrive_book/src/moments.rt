@@ -32,16 +32,19 @@ pub fn entries_have_moment()
 /// Whatever moments a clock gave, it gave those of the entries of a redrive that was just opened, and of those that it owes:
 /// there are none.
 pub fn opened_is_timed<D: Disk, T: Dest>()
-    ensures { (gave : ℕ → Bool) (config : Config) (calls visibility max_receives : ℕ) (lines : List (List ℕ)) (pair : PairState D) (dest : T) (b : BookState D T) →
+    ensures { (gave : ℕ → Bool) (config : Config) (calls visibility max_receives : ℕ) (lines : List (List ℕ)) (pair : PairState D) (dest : T)
+        (b : BookState D T) →
         IsOpened config calls visibility max_receives lines pair dest b → IsTimedView gave b.core }
 {}
 
 /// Where a clock gave the moments of a redrive's entries and of those that it owes, so it is after a call whose moment the clock
 /// gave: after one that was carried out, one in which a device failed, and one of which one entry was noted.
 pub fn moments_stay<D: Disk, T: Dest>()
-    ensures all { (gave : ℕ → Bool) (moment : ℕ) (messages : List Message) (es : List Entry) (old new : BookState D T) → gave moment ≡ true → IsTimedView gave old.core →
+    ensures all { (gave : ℕ → Bool) (moment : ℕ) (messages : List Message) (es : List Entry) (old new : BookState D T) → gave moment ≡ true →
+        IsTimedView gave old.core →
         HaveMoment (moment_for old.core.past moment) es → AddedAll (disk D.Disk) (destination T.Dest) messages old new es → IsTimedView gave new.core }
-    ensures some { (gave : ℕ → Bool) (moment : ℕ) (messages : List Message) (es : List Entry) (trouble : Trouble) (old new : BookState D T) → gave moment ≡ true → IsTimedView gave old.core →
+    ensures some { (gave : ℕ → Bool) (moment : ℕ) (messages : List Message) (es : List Entry) (trouble : Trouble) (old new : BookState D T) →
+        gave moment ≡ true → IsTimedView gave old.core →
         HaveMoment (moment_for old.core.past moment) es → AddedSome (disk D.Disk) (destination T.Dest) messages old new es trouble → IsTimedView gave new.core }
     ensures one { (gave : ℕ → Bool) (moment : ℕ) (e : Entry) (old new : BookState D T) → gave moment ≡ true → IsTimedView gave old.core →
         moment_of e ≡ moment_for old.core.past moment → AddedOne old new e → IsTimedView gave new.core }
@@ -52,5 +55,6 @@ pub fn moments_stay<D: Disk, T: Dest>()
 pub fn hand_is_timed()
     ensures hand { (gave : ℕ → Bool) (v : RedriveView) (trouble : Option Trouble) → IsTimedView gave v → AreTimed gave (in_hand trouble v.owed) }
     ensures tried { (gave : ℕ → Bool) (v : RedriveView) (trouble : Option Trouble) → IsTimedView gave v → AreTimed gave (in_delivery trouble v.owed) }
-    ensures front { (gave : ℕ → Bool) (s : RedriveSetting) (h : List Entry) (e : Entry) (follows : FollowsFront s h e) → IsTimed gave e → IsGivenBehind gave follows.before (moment_of e) }
+    ensures front { (gave : ℕ → Bool) (s : RedriveSetting) (h : List Entry) (e : Entry) (follows : FollowsFront s h e) → IsTimed gave e →
+        IsGivenBehind gave follows.before (moment_of e) }
 {}

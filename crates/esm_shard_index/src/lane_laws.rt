@@ -21,7 +21,8 @@ pub fn lane_begins()
 /// One more entry of a legal history makes of a lane what the calls of the table make of it, whatever the other lanes
 /// and shards do: an entry that is neither of the lane nor a `Came` of its shard leaves it.
 pub fn lane_goes_on()
-    ensures { (s : Setting) (h : List Entry) (e : Entry) (lane : LaneId) (v : LaneView) → HasFoundTries s lane.shard → Legal s (e ∷ h) → IsLane s h lane v → IsLane s (e ∷ h) lane (after_entry s h lane v e) }
+    ensures { (s : Setting) (h : List Entry) (e : Entry) (lane : LaneId) (v : LaneView) → HasFoundTries s lane.shard → Legal s (e ∷ h) →
+        IsLane s h lane v → IsLane s (e ∷ h) lane (after_entry s h lane v e) }
 {}
 
 /// So a lane that is kept from the start is as the history says.
@@ -31,17 +32,20 @@ pub fn lane_is_told()
 
 /// Where a lane owes nothing and no open record of its shard is refused by the filter, its group is its front piece.
 pub fn lane_is_grouped()
-    ensures { (s : Setting) (h : List Entry) (lane : LaneId) (v : LaneView) → debts s h lane ≡ [] → unsorted s h lane.shard ≡ [] → IsLane s h lane v → IsGrouped s h lane v }
+    ensures { (s : Setting) (h : List Entry) (lane : LaneId) (v : LaneView) → debts s h lane ≡ [] → unsorted s h lane.shard ≡ [] →
+        IsLane s h lane v → IsGrouped s h lane v }
 {}
 
 /// The tries of a batch that runs are those of the front piece.
 pub fn call_has_tries()
-    ensures { (s : Setting) (h : List Entry) (lane : LaneId) (v : LaneView) (r : Running) → IsLane s h lane v → v.state.running ≡ Some r → 1 ≤ r.count → HasCallTries s h lane v }
+    ensures { (s : Setting) (h : List Entry) (lane : LaneId) (v : LaneView) (r : Running) → IsLane s h lane v → v.state.running ≡ Some r →
+        1 ≤ r.count → HasCallTries s h lane v }
 {}
 
 /// The lane's delay is computed from what is kept of it.
 pub fn lane_has_delay()
-    ensures { (s : Setting) (h : List Entry) (lane : LaneId) (v : LaneView) → IsLane s h lane v → delay_end s h lane ≡ delay_from v.state.failures v.state.last_end }
+    ensures { (s : Setting) (h : List Entry) (lane : LaneId) (v : LaneView) → IsLane s h lane v →
+        delay_end s h lane ≡ delay_from v.state.failures v.state.last_end }
 {}
 
 /// What is kept of a lane stays within what came and what was called.
@@ -51,25 +55,32 @@ pub fn lane_is_bounded()
 
 /// The records of a `Came` may be looked at one by one: each that arrives in the lane is added.
 pub fn arrivals_are_added()
-    ensures { (s : Setting) (lane : LaneId) (first count : ℕ) (v : LaneView) → let standing = standing_at s lane.shard in let before = after_arrivals standing (arriving s lane first count) v in let place = first + count in after_arrivals standing (arriving s lane first (suc count)) v ≡ (if arrives s lane place then after_came (standing place) place before else before) }
+    ensures { (s : Setting) (lane : LaneId) (first count : ℕ) (v : LaneView) →
+        let standing = standing_at s lane.shard in let before = after_arrivals standing
+        (arriving s lane first count) v in let place = first + count in after_arrivals standing (arriving s lane first (suc count)) v
+        ≡ (if arrives s lane place then after_came (standing place) place before else before) }
 {}
 
 /// Records that come fit where so many arrivals are reserved.
 pub fn arrivals_do_fit()
-    ensures { (s : Setting) (lane : LaneId) (first count : ℕ) (v : LaneView) → ArrivalsFit s lane first count v (after_arrivals (standing_at s lane.shard) (arriving s lane first count) v) }
+    ensures { (s : Setting) (lane : LaneId) (first count : ℕ) (v : LaneView) →
+        ArrivalsFit s lane first count v (after_arrivals (standing_at s lane.shard) (arriving s lane first count) v) }
 {}
 
 /// A lane stays as the history says where memory is reserved for it.
 pub fn reserve_keeps_lane()
-    ensures { (s : Setting) (h : List Entry) (lane : LaneId) (adds splits : ℕ) (v : LaneView) → IsLane s h lane v → IsLane s h lane (after_reserved adds splits v) }
+    ensures { (s : Setting) (h : List Entry) (lane : LaneId) (adds splits : ℕ) (v : LaneView) → IsLane s h lane v →
+        IsLane s h lane (after_reserved adds splits v) }
 {}
 
 /// Over lists of records that go on from its own, a lane says the same.
 pub fn lane_over_more_records()
-    ensures { (s : Setting) (after : List Stream) (h : List Entry) (lane : LaneId) (v : LaneView) → Extends s.streams after → Legal s h → IsLane s h lane v → IsLane (over s after) h lane v }
+    ensures { (s : Setting) (after : List Stream) (h : List Entry) (lane : LaneId) (v : LaneView) → Extends s.streams after → Legal s h →
+        IsLane s h lane v → IsLane (over s after) h lane v }
 {}
 
 /// And an entry makes the same of it.
 pub fn entry_over_more_records()
-    ensures { (s : Setting) (after : List Stream) (h : List Entry) (e : Entry) (lane : LaneId) (v : LaneView) → Extends s.streams after → Legal s (e ∷ h) → after_entry (over s after) h lane v e ≡ after_entry s h lane v e }
+    ensures { (s : Setting) (after : List Stream) (h : List Entry) (e : Entry) (lane : LaneId) (v : LaneView) → Extends s.streams after →
+        Legal s (e ∷ h) → after_entry (over s after) h lane v e ≡ after_entry s h lane v e }
 {}

@@ -154,7 +154,8 @@ impl Progress {
     pub fn give(&mut self, places: &[u32], fate: Fate)
         requires came { (i : ℕ) → holds places.now i ≡ true → i < length self.old.fated }
         ensures len { length self.new.fated ≡ length self.old.fated }
-        ensures fated { (i : ℕ) → i < length self.old.fated → slice_index_or self.new.fated i false ≡ (slice_index_or self.old.fated i false || holds places.now i) }
+        ensures fated { (i : ℕ) → i < length self.old.fated → slice_index_or self.new.fated i false
+            ≡ (slice_index_or self.old.fated i false || holds places.now i) }
         ensures others { (f : Fate) → same_fate f fate ≡ false → count_in self.new.counts f ≡ count_in self.old.counts f }
         ensures given { count_in self.new.counts fate + number_of self.old.fated ≡ count_in self.old.counts fate + number_of self.new.fated }
         ensures room { self.new.room ≡ self.old.room }

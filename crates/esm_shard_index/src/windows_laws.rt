@@ -41,7 +41,8 @@ pub fn windows_stay()
 
 /// Which windows of a shard that came are outstanding and which are due.
 pub fn windows_tell()
-    ensures { (s : Setting) (h : List Entry) (n : ℕ) (t : WindowTable) → has_windows s.config ≡ true → 1 ≤ came_count h n → IsWindows s h n t → WindowsTell s h n t }
+    ensures { (s : Setting) (h : List Entry) (n : ℕ) (t : WindowTable) → has_windows s.config ≡ true → 1 ≤ came_count h n → IsWindows s h n t →
+        WindowsTell s h n t }
 {}
 
 /// A window never goes back in a shard.

@@ -33,7 +33,8 @@ pub fn entries_have_moment()
 pub fn moments_stay<D: Disk, T: Dest>()
     ensures all { (gave : ℕ → Bool) (moment : ℕ) (s : Setting) (es : List Entry) (old new : BookState D T) → gave moment ≡ true → IsTimedView gave old.core →
         HaveMoment (moment_for old.core.past moment) es → AddedAll (disk D.Disk) (destination T.Dest) s old new es → IsTimedView gave new.core }
-    ensures some { (gave : ℕ → Bool) (moment : ℕ) (s : Setting) (es : List Entry) (trouble : Trouble) (old new : BookState D T) → gave moment ≡ true → IsTimedView gave old.core →
+    ensures some { (gave : ℕ → Bool) (moment : ℕ) (s : Setting) (es : List Entry) (trouble : Trouble) (old new : BookState D T) → gave moment ≡ true →
+        IsTimedView gave old.core →
         HaveMoment (moment_for old.core.past moment) es → AddedSome (disk D.Disk) (destination T.Dest) s old new es trouble → IsTimedView gave new.core }
     ensures one { (gave : ℕ → Bool) (moment : ℕ) (e : Entry) (old new : BookState D T) → gave moment ≡ true → IsTimedView gave old.core →
         moment_of e ≡ moment_for old.core.past moment → AddedOne old new e → IsTimedView gave new.core }
@@ -41,7 +42,8 @@ pub fn moments_stay<D: Disk, T: Dest>()
 
 /// A book that was just opened has no entry and owes none, so whatever a clock gave, it gave the moments of them all.
 pub fn opened_is_timed<D: Disk, T: Dest>()
-    ensures { (gave : ℕ → Bool) (config : Config) (calls : ℕ) (pair : PairState D) (dest : T) (b : BookState D T) → IsOpened config calls pair dest b → IsTimedView gave b.core }
+    ensures { (gave : ℕ → Bool) (config : Config) (calls : ℕ) (pair : PairState D) (dest : T) (b : BookState D T) → IsOpened config calls pair dest b →
+        IsTimedView gave b.core }
 {}
 
 /// Then a clock gave the moment of the entry in hand, where a disk failed, and of the one whose line was being delivered, where
@@ -49,5 +51,6 @@ pub fn opened_is_timed<D: Disk, T: Dest>()
 pub fn hand_is_timed()
     ensures hand { (gave : ℕ → Bool) (v : CoreView) (trouble : Option Trouble) → IsTimedView gave v → AreTimed gave (in_hand trouble v.owed) }
     ensures tried { (gave : ℕ → Bool) (v : CoreView) (trouble : Option Trouble) → IsTimedView gave v → AreTimed gave (in_delivery trouble v.owed) }
-    ensures front { (gave : ℕ → Bool) (s : Setting) (h : List Entry) (e : Entry) (follows : MayFollowFront s h e) → IsTimed gave e → IsGivenBehind gave follows.before (moment_of e) }
+    ensures front { (gave : ℕ → Bool) (s : Setting) (h : List Entry) (e : Entry) (follows : MayFollowFront s h e) → IsTimed gave e →
+        IsGivenBehind gave follows.before (moment_of e) }
 {}
