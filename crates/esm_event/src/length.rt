@@ -31,7 +31,7 @@ pub fn stream_bytes(config: &Config, item: &Record) -> u32
 {
     let key = key_bytes(item);
     let sequence = item.seq.text().len();
-    let data = base64_bytes(item.payload.as_slice());
+    let data = data_bytes(item);
     let seconds = decimal_bytes(item.arrival / 1000);
     let source = source_bytes(config);
     (FIXED_BYTES + key + 2 * sequence + data + seconds + source) as u32
@@ -43,6 +43,15 @@ fn key_bytes(item: &Record) -> usize
     ensures bound { result ≤ 6144 }
 {
     escaped_bytes(item.key.as_str())
+}
+
+#[tactic(auto, using(crate::proofs::LengthLemmas::base64_length))]
+fn data_bytes(item: &Record) -> usize
+    requires { IsValidRecord item.now }
+    ensures value { result ≡ length (base64_text item.now.payload) }
+    ensures bound { result ≤ 1398104 }
+{
+    item.payload.text().len()
 }
 
 /// The bytes of a JSON text between its quotation marks.
@@ -68,15 +77,6 @@ fn escaped_length(byte: u8) -> usize
         0..=31 => 6,
         _ => 1,
     }
-}
-
-#[tactic(auto, using(crate::proofs::LengthLemmas::base64_length))]
-fn base64_bytes(bytes: &[u8]) -> usize
-    requires { length bytes.now ≤ MAX_DATA }
-    ensures value { result ≡ length (base64_text bytes.now) }
-    ensures bound { result ≤ 1398104 }
-{
-    (bytes.len() + 2) / 3 * 4
 }
 
 pub(crate) fn decimal_bytes(number: u64) -> usize

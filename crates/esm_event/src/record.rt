@@ -84,7 +84,7 @@ fn push_content(out: &mut Vec<u8>, item: &Record) -> Result<(), OutOfMemory>
     push_bytes(out, b"\",\"sequenceNumber\":\"")?;
     push_bytes(out, item.seq.text().as_bytes())?;
     push_bytes(out, b"\",\"data\":\"")?;
-    push_base64(out, item.payload.as_slice())?;
+    push_bytes(out, item.payload.text())?;
     push_bytes(out, b"\",\"approximateArrivalTimestamp\":")?;
     push_seconds(out, item.arrival)?;
     Ok(())

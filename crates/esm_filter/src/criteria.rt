@@ -11,7 +11,7 @@ ghost use Rattle.esm_filter.specs.Criteria.{IsOneRead, IsRead, JudgesMessages, J
 ghost use Rattle.esm_filter.specs.Judged.{judged_view, value_of};
 ghost use Rattle.esm_filter.specs.View.{fields_view};
 
-use crate::document::{read_bytes, read_document};
+use crate::document::{read_document, read_encoded};
 use crate::error::{FilterError, ReadError};
 use crate::judge::{Judged, fields_pass};
 use crate::pattern::Rule;
@@ -133,7 +133,8 @@ impl Criteria {
         self.patterns.as_slice().is_empty()
     }
 
-    /// Whether a stream's record passes; its data is read once at most, and not at all where there are no patterns.
+    /// Whether a stream's record passes; its data is decoded and read once at most, and not at all where there are no
+    /// patterns.
     pub fn passes_record(&self, alloc: Global, item: &Record) -> Result<bool, OutOfMemory>
         ensures { IfOk result (λ b. b ≡ patterns_pass (patterns_of self.now) (in_record item.now (read_json item.now.payload))) }
     {
@@ -142,7 +143,7 @@ impl Criteria {
             return Ok(true);
         }
         let patterns = self.patterns.as_slice();
-        let json = read_bytes(alloc, patterns, item.payload.as_slice())?;
+        let json = read_encoded(alloc, patterns, &item.payload)?;
         Ok(record_passes(patterns, item, &json))
     }
 

@@ -12,7 +12,7 @@ use crate::error::DocumentError;
 use crate::names::is_named;
 use crate::number::number_of;
 use crate::pattern::Rule;
-use esm_model::OutOfMemory;
+use esm_model::{Encoded, OutOfMemory};
 use json::{Reader, Scratch, Token};
 use serde_json::{Map, Value};
 use std::alloc::Global;
@@ -194,7 +194,7 @@ pub(crate) fn read_document(
 }
 
 /// The same of bytes, which are no JSON where they are no UTF-8.
-pub(crate) fn read_bytes(
+fn read_bytes(
     alloc: Global,
     patterns: &[Vec<(String, Rule)>],
     bytes: &[u8],
@@ -205,4 +205,16 @@ pub(crate) fn read_bytes(
         Ok(text) => read_document(alloc, patterns, text),
         Err(_) => Ok(None),
     }
+}
+
+/// The same of bytes that are kept as base64.
+pub(crate) fn read_encoded(
+    alloc: Global,
+    patterns: &[Vec<(String, Rule)>],
+    bytes: &Encoded,
+) -> Result<Option<Value>, OutOfMemory>
+    ensures { IfOk result (λ json. Like (is_named (patterns_view patterns.now)) (read_json bytes.now) (option_map view json)) }
+{
+    let decoded = bytes.decoded(alloc)?;
+    read_bytes(alloc, patterns, decoded.as_slice())
 }

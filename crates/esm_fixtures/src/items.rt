@@ -6,7 +6,7 @@ ghost use Rattle.esm_model.specs.Valid.{IsValidRecord, is_between, char_count};
 ghost use Rattle.esm_queue_model.specs.WorkedHistories.{message};
 
 use crate::mappings::text;
-use esm_model::{Bytes, Message, Record, Seq, SeqError};
+use esm_model::{Encoded, Message, Record, Seq, SeqError};
 use std::alloc::{AllocError, Global};
 
 /// The record of shard 0 with this sequence number, partition key and data, which arrived at moment 0.
@@ -24,12 +24,14 @@ pub fn record_of(
 {
     let seq = Seq::read(alloc, sequence)?;
     let key = text(alloc, key)?;
-    let payload = Vec::from_slice(alloc, payload)?;
+    let Ok(payload) = Encoded::of(alloc, payload) else {
+        return Err(SeqError::OutOfMemory);
+    };
     Ok(Record {
         shard: 0,
         seq,
         key,
-        payload: Bytes::from_vec(payload),
+        payload,
         arrival: 0,
     })
 }

@@ -26,7 +26,7 @@ fn bytes_of(item: &Item) -> usize
     ensures { result ≡ item_bytes item.now }
 {
     match item {
-        Item::Stream(record) => record.payload.as_slice().len(),
+        Item::Stream(record) => record.payload.len(),
         Item::Queue(message) => message.body.as_slice().len(),
     }
 }

@@ -1,5 +1,6 @@
 pub mod EventFacts
 pub mod EventLength
+pub mod EncodedFacts
 mod ReadingFacts
 mod FilterFacts
 pub mod Lists

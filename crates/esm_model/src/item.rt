@@ -1,6 +1,7 @@
 // What a source holds: a record of a stream, and a message of a queue; and what a line of an input gives.
+use crate::encoded::Encoded;
 use crate::sequence::Seq;
-use crate::text::{Bytes, Text};
+use crate::text::Text;
 
 /// A record of a stream: its shard's number, its partition key, its data and its approximate arrival
 /// in milliseconds since 1970.
@@ -9,7 +10,7 @@ pub struct Record {
     pub shard: u64,
     pub seq: Seq,
     pub key: Text,
-    pub payload: Bytes,
+    pub payload: Encoded,
     pub arrival: u64,
 }
 

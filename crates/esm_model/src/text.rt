@@ -151,6 +151,14 @@ impl Texts {
         Texts { texts }
     }
 
+    /// The `Vec` of the texts, with its memory.
+    pub fn into_vec(self) -> Vec<Text>
+        ensures { result.items ≡ self }
+    {
+        let Texts { texts } = self;
+        texts
+    }
+
     pub fn as_slice(&self) -> &[Text]
         ensures { result.now ≡ self.now }
     {

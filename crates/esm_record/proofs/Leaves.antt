@@ -1,5 +1,5 @@
 -- The leaves of an object's members, a member at a time.
-use Rattle.std.proofs.Common.{◌≡◌, ℕ, ◌<◌, ◌==◌, Bool, true, false, cond, List, length, get_or, Option, Some, None, option_map, refl, sym, ap, ◌∙◌}
+use Rattle.std.proofs.Common.{◌≡◌, ℕ, ◌<◌, ◌==◌, Bool, true, false, cond, List, length, get_or, Option, Some, None, option_map, refl, sym, ap, subst, ◌∙◌}
 use Rattle.std.specs.Str.{bytes_eq}
 use Rattle.std.proofs.lemmas.Bool.{eqb-true, eqb-false}
 use Rattle.std.proofs.lemmas.List.{get_or-set_same, get_or-set_other}
@@ -88,3 +88,6 @@ module _ (h : Field) (name : List ℕ) (d : Data) (ms : Members) (old new : Foun
 
   pub kept_named : AreFound (put name d ms) new
   kept_named f = kept_at f (slot_of f == slot_of h) refl
+
+pub kept_as : (h : Field) (name : List ℕ) (d : Data) (ms : Members) (found : Found) → name ≡ name_of h → AreFound (put (name_of h) d ms) found → AreFound (put name d ms) found
+kept_as h name d ms found named are = subst (λ (n : List ℕ). AreFound (put n d ms) found) (sym named) are

@@ -1,5 +1,6 @@
 pub mod Bodies
 pub mod Digits
+pub mod EncodedLengths
 pub mod Feeds
 pub mod FirstLine
 pub mod Follows
@@ -12,6 +13,10 @@ pub mod Records
 pub mod LineTokens
 pub mod Leaves
 pub mod Tokens
+pub mod PlainTexts
+pub mod UsualDigits
+pub mod UsualLines
+pub mod UsualParts
 pub mod Splits
 pub mod Steps
 pub mod Valid

@@ -23,12 +23,14 @@ use Rattle.esm_record.specs.Line.{◌>>=◌, name_of, slot_of, only_object, obje
 
 abbrev pub text_in : Leaf → Option (List ℕ)
 text_in (leaf.Text s) = Some s.now
+text_in (leaf.Plain p) = Some p.bytes.now
 text_in (leaf.Whole n) = None
 text_in leaf.Other = None
 
 -- a number with neither sign, fraction nor exponent
 abbrev pub whole_in : Leaf → Option ℕ
 whole_in (leaf.Text s) = None
+whole_in (leaf.Plain p) = None
 whole_in (leaf.Whole n) = Some n
 whole_in leaf.Other = None
 

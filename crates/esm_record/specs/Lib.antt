@@ -8,4 +8,6 @@ pub mod Ids
 pub mod Seen
 pub mod Splitting
 pub mod Leaf
+pub mod Usual
 pub mod Fed
+pub mod Encoded

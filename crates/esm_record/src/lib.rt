@@ -4,6 +4,7 @@
 #![tactic(auto)]
 
 mod block;
+mod encoded;
 mod error;
 mod fed_bytes;
 mod item;
@@ -15,10 +16,12 @@ mod numbers;
 mod object;
 mod order;
 mod parse;
+mod plain;
 mod queue;
 mod seen;
 mod splitter;
 mod stream;
+mod usual;
 
 pub use error::{BadLine, Field, LineError};
 pub use item::Fed;

@@ -4,6 +4,7 @@ ghost use Rattle.esm_record.specs.Leaf.{moment_in, field_in, leaf_at, IsObjectOf
 
 use crate::error::{Field, LineError, Refusal};
 use crate::object::{Found, Leaf, read_object};
+use crate::usual::read_usual;
 use esm_model::MAX_MOMENT;
 use json::Scratch;
 use std::str::from_utf8;
@@ -18,6 +19,9 @@ pub fn read_line<'a>(
     requires sized { length found.old.leaves ≡ 9 }
     ensures { IsObjectOf line.now result found.new }
 {
+    if read_usual(line, found) {
+        return Ok(());
+    }
     let Ok(text) = from_utf8(line) else {
         return Err(Refusal::Line(LineError::NotJson));
     };

@@ -5,12 +5,15 @@ ghost use Rattle.json.specs.Json.{value, items, members};
 ghost use Rattle.json.specs.Token as token;
 ghost use Rattle.serde_json.specs.Data.{Data, Members, no_members, put};
 ghost use Rattle.serde_json.specs.Read.{of_json, of_items, of_members, converted, read};
+ghost use Rattle.esm_record.specs.Line.{name_of};
 ghost use Rattle.esm_record.specs.Leaf.{text_in, whole_in, IsLeafOf, ReadsLeaf, PassesItems, PassesMembers, ReadsMembers, opens_object, leaf_at, AreFound, IsObjectRead};
 
 use crate::error::Field;
 use crate::number::whole_number;
+use crate::plain::Plain;
 use esm_model::OutOfMemory;
 use json::{Invalid, Reader, Scratch, Token};
+use std::str::from_utf8;
 
 /// How deep arrays and objects nest within the object of a line.
 const MAX_DEPTH: usize = 126;
@@ -19,6 +22,8 @@ const MAX_DEPTH: usize = 126;
 #[derive(Clone, Copy, Drop)]
 pub enum Leaf<'a> {
     Text(&'a str),
+    /// A text too.
+    Plain(Plain<'a>),
     /// A number with neither sign, fraction nor exponent, below 2^64.
     Whole(u64),
     Other,
@@ -30,6 +35,21 @@ impl<'a> Leaf<'a> {
     {
         match self {
             Leaf::Text(text) => Some(text),
+            Leaf::Plain(plain) => match from_utf8(plain.bytes) {
+                Ok(text) => Some(text),
+                Err(_) => unreachable!(),
+            },
+            Leaf::Whole(_) | Leaf::Other => None,
+        }
+    }
+
+    /// The bytes of its text, at which nothing looks.
+    pub fn bytes(self) -> Option<&'a [u8]>
+        ensures { option_map (λ b. b.now) result ≡ text_in self.entry }
+    {
+        match self {
+            Leaf::Text(text) => Some(text.as_bytes()),
+            Leaf::Plain(plain) => Some(plain.bytes),
             Leaf::Whole(_) | Leaf::Other => None,
         }
     }
@@ -39,7 +59,7 @@ impl<'a> Leaf<'a> {
     {
         match self {
             Leaf::Whole(number) => Some(number),
-            Leaf::Text(_) | Leaf::Other => None,
+            Leaf::Text(_) | Leaf::Plain(_) | Leaf::Other => None,
         }
     }
 }
@@ -62,7 +82,19 @@ impl<'a> Found<'a> {
     pub fn leaf(&self, field: Field) -> Option<Leaf<'a>>
         ensures { result ≡ leaf_at field self.now }
     {
-        self.leaves[field.slot()]
+        let leaves = &self.leaves[..];
+        leaves[field.slot()]
+    }
+
+    /// The next member of the object, whose name is this field's.
+    pub fn keep_field(&mut self, field: Field, leaf: Leaf<'a>)
+        requires { length self.old.leaves ≡ 9 }
+        ensures kept { (d : Data) (ms : Members) → IsLeafOf d leaf.entry → AreFound ms self.old → AreFound (put (name_of field) d ms) self.new }
+        ensures sized { length self.new.leaves ≡ 9 }
+    {
+        let at = field.slot();
+        let leaves = &mut self.leaves[..];
+        leaves[at] = Some(leaf);
     }
 
     /// The next member of the object.
@@ -72,8 +104,7 @@ impl<'a> Found<'a> {
         ensures sized { length self.new.leaves ≡ 9 }
     {
         if let Some(field) = Field::of_name(name) {
-            let at = field.slot();
-            self.leaves[at] = Some(leaf);
+            self.keep_field(field, leaf);
         }
     }
 }

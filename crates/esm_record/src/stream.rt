@@ -9,13 +9,12 @@ ghost use Rattle.esm_record.specs.Gives.{Gives};
 ghost use Rattle.esm_record.specs.Line as spec;
 ghost use Rattle.esm_record.specs.Leaf.{text_in, of_text_in, field_in, record_in, leaf_at};
 
+use crate::encoded::encoded_length;
 use crate::error::{Field, LineError, Refusal};
 use crate::line::{moment_of, read_line};
 use crate::object::{Found, Leaf};
-use base64::DecodeAllocError;
-use base64::engine::general_purpose::STANDARD;
 use esm_model::spelling::are_digits;
-use esm_model::{Bytes, MAX_DATA, OutOfMemory, Record, Seq, SeqError, Text};
+use esm_model::{Encoded, MAX_DATA, OutOfMemory, Record, Seq, SeqError, Text};
 use json::Scratch;
 use std::alloc::Global;
 
@@ -106,17 +105,27 @@ fn partition_key_in(alloc: Global, leaf: Leaf<'_>) -> Result<Option<Text>, OutOf
     Ok(Some(Text::from_vec(String::from_str(alloc, text)?)))
 }
 
-#[inline(never)]
-fn payload_in(alloc: Global, leaf: Leaf<'_>) -> Result<Option<Bytes>, OutOfMemory>
-    ensures { IfOk result (λ o. o ≡ of_text_in spec.payload leaf.entry) }
+/// The data that the base64 text is, kept as that text.
+fn data_of(alloc: Global, text: &[u8]) -> Result<Option<Encoded>, OutOfMemory>
+    ensures { IfOk result (λ o. o ≡ spec.payload text.now) }
 {
-    let Some(text) = leaf.text() else {
+    let Some(len) = encoded_length(text) else {
         return Ok(None);
     };
-    match STANDARD.decode(alloc, text.as_bytes()) {
-        Ok(bytes) if bytes.len() <= MAX_DATA => Ok(Some(Bytes::from_vec(bytes))),
-        Ok(_) | Err(DecodeAllocError::DecodeError(_)) => Ok(None),
-        Err(DecodeAllocError::OutOfMemory) => Err(OutOfMemory),
+    if MAX_DATA < len {
+        return Ok(None);
+    }
+    let copied = Vec::from_slice(alloc, text)?;
+    Ok(Some(Encoded::from_text(copied, len)))
+}
+
+#[inline(never)]
+fn payload_in(alloc: Global, leaf: Leaf<'_>) -> Result<Option<Encoded>, OutOfMemory>
+    ensures { IfOk result (λ o. o ≡ of_text_in spec.payload leaf.entry) }
+{
+    match leaf.bytes() {
+        Some(text) => data_of(alloc, text),
+        None => Ok(None),
     }
 }
 
@@ -153,7 +162,7 @@ fn partition_key_of(alloc: Global, line: &Found<'_>) -> Result<Text, Refusal>
     }
 }
 
-fn payload_of(alloc: Global, line: &Found<'_>) -> Result<Bytes, Refusal>
+fn payload_of(alloc: Global, line: &Found<'_>) -> Result<Encoded, Refusal>
     ensures { Gives result (field_in Field.Data (of_text_in spec.payload) (leaf_at Field.Data line.now)) }
 {
     match line.leaf(Field::Data) {

@@ -10,7 +10,7 @@ ghost use Rattle.esm_tests_books.specs.Streams.{lanes_mapping, IsOpen, Runs, Kee
 use esm_book::Nowhere;
 use esm_fixtures::{fresh_pair, stream_mapping, text};
 use esm_io::MemDisk;
-use esm_model::{BookError, Bytes, Config, Entry, Job, Next, Record, Reply, Seq};
+use esm_model::{BookError, Bytes, Config, Encoded, Entry, Job, Next, Record, Reply, Seq};
 use esm_stream_book::Book;
 use std::alloc::{AllocError, Global};
 use std::test::Fail;
@@ -46,11 +46,12 @@ fn item(alloc: Global, seq: &str, key: &str) -> Result<Record, Fail>
 {
     let seq = Seq::read(alloc, seq)?;
     let key = text(alloc, key)?;
+    let payload = Encoded::of(alloc, b"Hello")?;
     Ok(Record {
         shard: 0,
         seq,
         key,
-        payload: Bytes::from_vec(b"Hello".to_vec(alloc)?),
+        payload,
         arrival: 0,
     })
 }

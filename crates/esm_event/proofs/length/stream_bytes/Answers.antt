@@ -5,5 +5,4 @@ use Rattle.esm_event.proofs.length.stream_bytes.Goals as goal
 pub returns-clause-value : goal.returns-clause-value
 returns-clause-value c =
     let sequence = ap length c.text-sequence.ensures.value in
-    let payload = rw c.as_slice.ensures at c.base64_bytes-data.ensures.value in
-    omega (arith, length-record_text c.args.config.now c.args.item.now, sequence, payload, c.key_bytes-key.ensures.value, c.decimal_bytes-seconds.ensures.value, c.source_bytes-source.ensures.value)
+    omega (arith, length-record_text c.args.config.now c.args.item.now, sequence, c.data_bytes-data.ensures.value, c.key_bytes-key.ensures.value, c.decimal_bytes-seconds.ensures.value, c.source_bytes-source.ensures.value)

@@ -1,4 +1,4 @@
-use Rattle.std.proofs.Common.{option_map}
+use Rattle.std.proofs.Common.{option_map, refl}
 use Rattle.serde_json.specs.View.{view}
 use Rattle.esm_model.specs.Filter.{in_record}
 use Rattle.esm_model.specs.Json.{read_json}
@@ -11,5 +11,5 @@ returns-then-none c =
 
 pub returns : goal.returns
 returns c =
-    judged_record c.args.self.now.patterns.items c.as_slice-patterns.result.now c.args.item.now c.as_slice.result.now (option_map view c.in_ok-json.json) c.record_passes.result
-    c.as_slice-patterns.ensures.value c.as_slice.ensures c.in_ok-json.ensures c.record_passes.ensures
+    judged_record c.args.self.now.patterns.items c.as_slice-patterns.result.now c.args.item.now c.args.item.now.payload (option_map view c.in_ok-json.json) c.record_passes.result
+    c.as_slice-patterns.ensures.value refl c.in_ok-json.ensures c.record_passes.ensures

@@ -1,0 +1,12 @@
+// How far the run of a book has come, for whoever watches it.
+
+/// How far a run has come. Nothing is promised of these numbers: they are for whoever watches.
+#[derive(Clone, Copy, Debug, PartialEq, Eq)]
+pub struct Progress {
+    /// The records, or messages, that came.
+    pub came: u64,
+    /// Those of them that have their fate.
+    pub settled: u64,
+    /// Those of them that a call which runs was made for.
+    pub in_calls: u64,
+}
