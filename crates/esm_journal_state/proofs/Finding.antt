@@ -1,14 +1,12 @@
 -- Looking up in the lists that are told is looking up in the maps.
-use Rattle.std.proofs.Common.{◌≡◌, ◌≢◌, ℕ, suc, ◌+◌, ◌<◌, ◌^◌, ◌&&◌, ◌||◌, Bool, true, false, cond, eqb, List, [], ◌∷◌, length, Option, Some, None, refl, sym, ap, subst, ◌∙◌, arith, inl, inr}
-use Rattle.std.specs.Prelude.{map, find, filter, option_map, is_some, unwrap_or}
+use Rattle.std.proofs.Common.{◌≡◌, ℕ, suc, ◌&&◌, ◌||◌, Bool, true, false, cond, eqb, List, [], ◌∷◌, length, Option, Some, None, refl, sym, ap, ◌∙◌, inl, inr}
+use Rattle.std.specs.Prelude.{map, find, filter, option_map, is_some}
 use Rattle.std.specs.List.{list_any}
 use Rattle.std.specs.Ordering.{nat_cmp, is_eq}
 use Rattle.std.specs.Map.{lookup}
 use Rattle.std.specs.BTreeMap.{is_at}
-use Rattle.std.proofs.lemmas.Bool.{cases_eq, cases_Bool, eq-eqb, ne_eqb, and_parts, or_left, or_right}
+use Rattle.std.proofs.lemmas.Bool.{cases_eq, eq-eqb, ne_eqb}
 use Rattle.std.proofs.lemmas.Iterator.Adapters.{option_map_id}
-use Rattle.std.proofs.lemmas.List.{length-map}
-use Rattle.std.proofs.lemmas.Map.Steps.{le-length_from_below}
 use Rattle.esm_model.specs.declared.setup.FoundFate.{FoundFate}
 use Rattle.esm_model.specs.declared.setup.FoundTries.{FoundTries}
 use Rattle.esm_model.specs.declared.setup.FoundState.{FoundState}
@@ -117,81 +115,3 @@ deletion_found es i =
 pub any_number : (ks : List ℕ) (n : ℕ) → list_any (eqb n) ks ≡ list_any (λ k. is_eq (nat_cmp n k)) ks
 any_number [] n = refl
 any_number (k ∷ ks) n = ap (λ b. b || list_any (eqb n) ks) (sym (is_eq-nat n k)) ∙ ap (λ b. is_eq (nat_cmp n k) || b) (any_number ks n)
-
--- the frontier
-
-key_listed : (es : List ((ℕ × ℕ) × KeptFate)) (n q : ℕ) → is_some (lookup (is_at (pair_cmp (n, q))) es) ≡ true → list_any (eqb q) (map (λ e. e.0.1) es) ≡ true
-key_listed [] n q found = absurd cc
-key_listed (e ∷ es) n q found =
-    elim (cases_Bool (is_eq (pair_cmp (n, q) e.0))) [
-      | inl here ↦
-          (let both : (eqb e.0.0 n && eqb e.0.1 q) ≡ true = at_pair n q e.0.0 e.0.1 ∙ here in
-          or_left (eqb q e.0.1) (list_any (eqb q) (map (λ e. e.0.1) es)) (eqb-flip q e.0.1 ∙ (and_parts (eqb e.0.0 n) (eqb e.0.1 q) both).1))
-      | inr apart ↦
-          (let others : is_some (lookup (is_at (pair_cmp (n, q))) es) ≡ true = sym (ap (λ b. is_some (cond b (Some e.1) (lookup (is_at (pair_cmp (n, q))) es))) apart) ∙ found in
-          or_right (eqb q e.0.1) (list_any (eqb q) (map (λ e. e.0.1) es)) (key_listed es n q others))
-    ]
-
--- as many places from 0 that all have a fate are not more than the fates
-pub front_small : (es : List ((ℕ × ℕ) × KeptFate)) (n place : ℕ) → length es < 2 ^ 32 → ((i : ℕ) → i < place → is_some (lookup (is_at (pair_cmp (n, i))) es) ≡ true)
-    → is_some (lookup (is_at (pair_cmp (n, place))) es) ≡ true → place + 1 < 2 ^ 32
-front_small es n place few below here =
-    let all : (q : ℕ) → q < place + 1 → is_some (lookup (is_at (pair_cmp (n, q))) es) ≡ true =
-    λ q lt. elim (cases_eq q place) [ inl same ↦ rw same here | inr apart ↦ below q (omega arith) ] in
-    let listed : (q : ℕ) → q < place + 1 → list_any (eqb q) (map (λ e. e.0.1) es) ≡ true = λ q lt. key_listed es n q (all q lt) in
-    omega (arith, le-length_from_below (map (λ e. e.0.1) es) (place + 1) listed, length-map es (λ e. e.0.1), few)
-
--- the frontiers of shards, where the fates that are left have the place 0 of each shard that none was kept for
-pub record AreFrontiers (fates left : List ((ℕ × ℕ) × KeptFate)) (frontier : ℕ → ℕ) : Type 0 where
-  pub below : (n i : ℕ) → i < frontier n → is_some (lookup (is_at (pair_cmp (n, i))) fates) ≡ true
-  pub end : (n : ℕ) → is_some (lookup (is_at (pair_cmp (n, frontier n))) fates) ≡ true → (frontier n ≡ 0) × (is_some (lookup (is_at (pair_cmp (n, 0))) left) ≡ true)
-
-and_false : (b : Bool) → (b && false) ≡ false
-and_false true = refl
-and_false false = refl
-
-still_left : (k : ℕ × ℕ) (v : KeptFate) (left : List ((ℕ × ℕ) × KeptFate)) (n : ℕ) → (eqb k.0 n && eqb k.1 0) ≡ false → is_some (lookup (is_at (pair_cmp (n, 0))) ((k, v) ∷ left)) ≡ true
-    → is_some (lookup (is_at (pair_cmp (n, 0))) left) ≡ true
-still_left k v left n apart found =
-    sym (ap (λ b. is_some (cond b (Some v) (lookup (is_at (pair_cmp (n, 0))) left))) (sym (at_pair n 0 k.0 k.1) ∙ apart)) ∙ found
-
--- one whose place is not 0 tells nothing of frontiers
-pub frontiers_passed : (fates left : List ((ℕ × ℕ) × KeptFate)) (k : ℕ × ℕ) (v : KeptFate) (frontier : ℕ → ℕ) → AreFrontiers fates ((k, v) ∷ left) frontier → k.1 ≢ 0 → AreFrontiers fates left frontier
-frontiers_passed fates left k v frontier kept apart = record {
-  below = kept.below;
-  end = λ n found.
-      let was = kept.end n found in
-      (was.0, still_left k v left n (ap (λ b. eqb k.0 n && b) (ne_eqb k.1 0 apart) ∙ and_false (eqb k.0 n)) was.1);
-}
-
-counted_once : (b : Bool) (frontier : ℕ) (old : Option ℕ) → unwrap_or (cond b (Some frontier) old) 0 ≡ cond b frontier (unwrap_or old 0)
-counted_once true frontier old = refl
-counted_once false frontier old = refl
-
--- the numbers by shard, after one was kept
-pub count_updated : (shard n frontier : ℕ) (old new : Option ℕ) → new ≡ cond (is_eq (nat_cmp shard n)) (Some frontier) old → unwrap_or new 0 ≡ cond (eqb shard n) frontier (unwrap_or old 0)
-count_updated shard n frontier old new e =
-    ap (λ o. unwrap_or o 0) (e ∙ ap (λ b. cond b (Some frontier) old) (is_eq-nat shard n)) ∙ counted_once (eqb shard n) frontier old
-
--- with that of one more shard
-pub frontiers_more : (fates left : List ((ℕ × ℕ) × KeptFate)) (k : ℕ × ℕ) (v : KeptFate) (before after : ℕ → ℕ) (frontier : ℕ) → AreFrontiers fates ((k, v) ∷ left) before
-    → ((i : ℕ) → i < frontier → is_some (lookup (is_at (pair_cmp (k.0, i))) fates) ≡ true) → lookup (is_at (pair_cmp (k.0, frontier))) fates ≡ None
-    → ((n : ℕ) → after n ≡ cond (eqb k.0 n) frontier (before n)) → AreFrontiers fates left after
-frontiers_more fates left k v before after frontier kept below ended changed =
-    let has : ℕ → ℕ → Bool = λ n i. is_some (lookup (is_at (pair_cmp (n, i))) fates) in
-    let here : (n : ℕ) → k.0 ≡ n → after n ≡ frontier = λ n same. changed n ∙ ap (λ b. cond b frontier (before n)) (eq-eqb k.0 n same) in
-    let others : (n : ℕ) → k.0 ≢ n → after n ≡ before n = λ n apart. changed n ∙ ap (λ b. cond b frontier (before n)) (ne_eqb k.0 n apart) in
-    record {
-      below = λ n i lt. elim (cases_eq k.0 n) [
-        | inl same ↦ ap (λ m. has m i) (sym same) ∙ below i (subst (λ f. i < f) (here n same) lt)
-        | inr apart ↦ kept.below n i (subst (λ f. i < f) (others n apart) lt)
-      ];
-      end = λ n found. elim (cases_eq k.0 n) [
-        | inl same ↦
-            (let none : false ≡ true = sym (ap is_some ended) ∙ ap (λ f. has k.0 f) (sym (here n same)) ∙ ap (λ m. has m (after n)) same ∙ found in
-            absurd cc)
-        | inr apart ↦
-            (let was = kept.end n (ap (λ f. has n f) (sym (others n apart)) ∙ found) in
-            (others n apart ∙ was.0, still_left k v left n (ap (λ b. b && eqb k.1 0) (ne_eqb k.0 n apart)) was.1))
-      ];
-    }

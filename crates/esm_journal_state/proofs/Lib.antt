@@ -1,5 +1,7 @@
 pub mod Pairs
 pub mod Finding
+pub mod Frontiers
+pub mod Fresh
 pub mod Gathering
 pub mod Regrouping
 pub mod Joining

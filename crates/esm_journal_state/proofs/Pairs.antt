@@ -1,11 +1,12 @@
 -- One more place or window in a map by shard and number.
-use Rattle.std.proofs.Common.{◌≡◌, ℕ, ◌+◌, ◌-◌, ◌<◌, ◌≤◌, ◌&&◌, ◌||◌, Bool, true, false, cond, eqb, List, length, get_or, take, drop, Option, Some, None, refl, sym, ap, ◌∙◌, add-one, drop-cons, arith, inl, inr}
+use Rattle.std.proofs.Common.{◌≡◌, ℕ, ◌+◌, ◌<◌, ◌≤◌, ◌&&◌, ◌||◌, Bool, true, false, cond, eqb, List, [], ◌∷◌, ◌++◌, length, get_or, take, drop, Option, Some, None, refl, sym, ap, ◌∙◌, add-one, drop-cons, arith, inl, inr}
 use Rattle.std.specs.Prelude.{option_map}
 use Rattle.std.specs.Option.{option_or}
 use Rattle.std.specs.Ordering.{nat_cmp, is_eq, ordering_then}
 use Rattle.std.specs.declared.cmp.Ordering.{Ordering}
 use Rattle.std.specs.declared.cmp.Ordering.TheVariants.{Less, Equal, Greater}
 use Rattle.std.proofs.lemmas.Bool.{cases_order, eq-eqb, ne_eqb, lt-ltb, le-ltb}
+use Rattle.std.proofs.lemmas.List.{length-append, take-take, get_or-take}
 use Rattle.std.proofs.lemmas.List.Folds.{list_any_more}
 use Rattle.esm_model.specs.Entries.{holds}
 use Rattle.esm_journal_state.specs.Meaning.{text_named, only_at, any_named}
@@ -60,41 +61,69 @@ named_more f places texts k i d text p q is =
     ∙ option_map-cond f (eqb (get_or places k 0) i) (get_or texts k d) (text_named (drop (k + 1) places) (drop (k + 1) texts) i)
     ∙ ap (λ t. cond (eqb (get_or places k 0) i) (Some (f t)) (option_map f (text_named (drop (k + 1) places) (drop (k + 1) texts) i))) (sym is)
 
--- keeping the places from the index on, and then the one before them
-pub kept_more : {A : Type 0} (f : List ℕ → A) (shard n i : ℕ) (places : List ℕ) (texts : List (List ℕ)) (index : ℕ) (d text : List ℕ) (before now after : Option A)
-    → 0 < index → index ≤ length places → length texts ≡ length places → text ≡ get_or texts (index - 1) d
-    → after ≡ cond (is_eq (pair_cmp (shard, get_or places (index - 1) 0) (n, i))) (Some (f text)) now
-    → now ≡ option_or (only_at (eqb shard n) (option_map f (text_named (drop index places) (drop index texts) i))) before
-    → after ≡ option_or (only_at (eqb shard n) (option_map f (text_named (drop (index - 1) places) (drop (index - 1) texts) i))) before
-kept_more {A} f shard n i places texts index d text before now after some within same is step kept =
-    let k = index - 1 in
-    let next : k + 1 ≡ index = omega arith in
+-- the last of the texts that are left
+
+last_text : (texts : List (List ℕ)) (text d : List ℕ) → get_or (texts ++ text ∷ []) (length texts) d ≡ text
+last_text [] text d = refl
+last_text (t ∷ texts) text d = last_text texts text d
+
+others_left : (texts : List (List ℕ)) (text : List ℕ) → take (length texts) (texts ++ text ∷ []) ≡ texts
+others_left [] text = refl
+others_left (t ∷ texts) text = ap (λ rest. t ∷ rest) (others_left texts text)
+
+pub one_less : (left rest : List (List ℕ)) (text : List ℕ) → left ≡ rest ++ text ∷ [] → length left ≡ length rest + 1
+one_less left rest text e = ap length e ∙ length-append rest (text ∷ [])
+
+-- without their last the texts that are left are the first ones still
+pub first_left : (texts left rest : List (List ℕ)) (text : List ℕ) → left ≡ take (length left) texts → left ≡ rest ++ text ∷ [] → rest ≡ take (length rest) texts
+first_left texts left rest text first e =
+    sym (others_left rest text)
+    ∙ ap (take (length rest)) (sym e ∙ first)
+    ∙ take-take (length rest) (length left) texts (omega (arith, one_less left rest text e))
+
+text_left : (texts left rest : List (List ℕ)) (text : List ℕ) → left ≡ take (length left) texts → left ≡ rest ++ text ∷ [] → text ≡ get_or texts (length rest) text
+text_left texts left rest text first e =
+    sym (last_text rest text text)
+    ∙ ap (λ ts. get_or ts (length rest) text) (sym e ∙ first)
+    ∙ get_or-take (length left) texts (length rest) text (omega (arith, one_less left rest text e))
+
+-- keeping the places whose texts are taken from the end, and then the one before them
+pub kept_more : {A : Type 0} (f : List ℕ → A) (shard n i : ℕ) (places : List ℕ) (texts left rest : List (List ℕ)) (text : List ℕ) (index : ℕ) (before now after : Option A)
+    → index ≡ length rest → length texts ≡ length places → length left ≤ length places → left ≡ take (length left) texts → left ≡ rest ++ text ∷ []
+    → after ≡ cond (is_eq (pair_cmp (shard, get_or places index 0) (n, i))) (Some (f text)) now
+    → now ≡ option_or (only_at (eqb shard n) (option_map f (text_named (drop (length left) places) (drop (length left) texts) i))) before
+    → after ≡ option_or (only_at (eqb shard n) (option_map f (text_named (drop (length rest) places) (drop (length rest) texts) i))) before
+kept_more {A} f shard n i places texts left rest text index before now after at same within first e step kept =
+    let k = length rest in
+    let less : length left ≡ k + 1 = one_less left rest text e in
     let others = option_map f (text_named (drop (k + 1) places) (drop (k + 1) texts) i) in
     let here = eqb (get_or places k 0) i in
-    let was : now ≡ option_or (only_at (eqb shard n) others) before = kept ∙ ap (λ m. option_or (only_at (eqb shard n) (option_map f (text_named (drop m places) (drop m texts) i))) before) (sym next) in
+    let was : now ≡ option_or (only_at (eqb shard n) others) before = kept ∙ ap (λ m. option_or (only_at (eqb shard n) (option_map f (text_named (drop m places) (drop m texts) i))) before) less in
     step
+    ∙ ap (λ j. cond (is_eq (pair_cmp (shard, get_or places j 0) (n, i))) (Some (f text)) now) at
     ∙ ap (λ b. cond b (Some (f text)) now) (same_pair shard (get_or places k 0) n i)
     ∙ ap (λ o. cond (eqb shard n && here) (Some (f text)) o) was
     ∙ put (eqb shard n) here (f text) others before
-    ∙ ap (λ o. option_or (only_at (eqb shard n) o) before) (sym (named_more f places texts k i d text (omega arith) (omega arith) is))
+    ∙ ap (λ o. option_or (only_at (eqb shard n) o) before) (sym (named_more f places texts k i text text (omega (arith, less, within)) (omega (arith, less, within, same)) (text_left texts left rest text first e)))
 
 -- the same in a map by place alone
-pub kept_more_alone : {A : Type 0} (f : List ℕ → A) (i : ℕ) (places : List ℕ) (texts : List (List ℕ)) (index : ℕ) (d text : List ℕ) (before now after : Option A)
-    → 0 < index → index ≤ length places → length texts ≡ length places → text ≡ get_or texts (index - 1) d
-    → after ≡ cond (is_eq (nat_cmp (get_or places (index - 1) 0) i)) (Some (f text)) now
-    → now ≡ option_or (option_map f (text_named (drop index places) (drop index texts) i)) before
-    → after ≡ option_or (option_map f (text_named (drop (index - 1) places) (drop (index - 1) texts) i)) before
-kept_more_alone {A} f i places texts index d text before now after some within same is step kept =
-    let k = index - 1 in
-    let next : k + 1 ≡ index = omega arith in
+pub kept_more_alone : {A : Type 0} (f : List ℕ → A) (i : ℕ) (places : List ℕ) (texts left rest : List (List ℕ)) (text : List ℕ) (index : ℕ) (before now after : Option A)
+    → index ≡ length rest → length texts ≡ length places → length left ≤ length places → left ≡ take (length left) texts → left ≡ rest ++ text ∷ []
+    → after ≡ cond (is_eq (nat_cmp (get_or places index 0) i)) (Some (f text)) now
+    → now ≡ option_or (option_map f (text_named (drop (length left) places) (drop (length left) texts) i)) before
+    → after ≡ option_or (option_map f (text_named (drop (length rest) places) (drop (length rest) texts) i)) before
+kept_more_alone {A} f i places texts left rest text index before now after at same within first e step kept =
+    let k = length rest in
+    let less : length left ≡ k + 1 = one_less left rest text e in
     let others = option_map f (text_named (drop (k + 1) places) (drop (k + 1) texts) i) in
     let here = eqb (get_or places k 0) i in
-    let was : now ≡ option_or others before = kept ∙ ap (λ m. option_or (option_map f (text_named (drop m places) (drop m texts) i)) before) (sym next) in
+    let was : now ≡ option_or others before = kept ∙ ap (λ m. option_or (option_map f (text_named (drop m places) (drop m texts) i)) before) less in
     step
+    ∙ ap (λ j. cond (is_eq (nat_cmp (get_or places j 0) i)) (Some (f text)) now) at
     ∙ ap (λ b. cond b (Some (f text)) now) (is_eq-nat (get_or places k 0) i)
     ∙ ap (λ o. cond here (Some (f text)) o) was
     ∙ put_one here (f text) others before
-    ∙ ap (λ o. option_or o before) (sym (named_more f places texts k i d text (omega arith) (omega arith) is))
+    ∙ ap (λ o. option_or o before) (sym (named_more f places texts k i text text (omega (arith, less, within)) (omega (arith, less, within, same)) (text_left texts left rest text first e)))
 
 -- places alone
 

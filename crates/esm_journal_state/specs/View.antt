@@ -1,5 +1,5 @@
 -- What a `Says` tells, by its maps.
-use Rattle.std.specs.Prelude.{ℕ, ◌≡◌, ◌<◌, ◌^◌, nat_eq, List, length, map, None, is_some, true}
+use Rattle.std.specs.Prelude.{ℕ, ◌≡◌, ◌<◌, ◌^◌, ◌==◌, nat_eq, List, length, map, None, is_some, true, if◌then◌else◌}
 use Rattle.std.specs.List.{list_any}
 use Rattle.std.specs.List.Sorted.{IsStrictlyIncreasing}
 use Rattle.std.specs.Ordering.{nat_cmp}
@@ -11,6 +11,7 @@ use Rattle.esm_model.specs.declared.setup.FoundState.{FoundState}
 use Rattle.esm_model.specs.declared.setup.FoundWindowTries.{FoundWindowTries}
 use Rattle.esm_journal_state.specs.declared.kept.KeptFate.{KeptFate}
 use Rattle.esm_journal_state.specs.declared.kept.KeptTries.{KeptTries}
+use Rattle.esm_journal_state.specs.declared.gather.AtHand.{AtHand}
 use Rattle.esm_journal_state.specs.declared.lookup.SaidState.{SaidState}
 use Rattle.esm_journal_state.specs.declared.lookup.SaidWindowTries.{SaidWindowTries}
 use Rattle.esm_journal_state.specs.declared.lookup.Says.TheInside.{Inside}
@@ -63,3 +64,7 @@ pub record IsGathered (a : Inside) : Type 0 where
 -- the state of a window
 abbrev pub stated : (ℕ × ℕ) × List ℕ → SaidState
 stated e = record { shard = e.0.0; state = record { window = e.0.1; text = e.1 } }
+
+-- the number of a shard, where that of one shard is at hand
+abbrev pub number_with : map.BTreeMap ℕ ℕ → AtHand → ℕ → ℕ
+number_with numbers hand n = if hand.shard == n then hand.number else count_at (map.get nat_cmp numbers) n

@@ -12,12 +12,11 @@ use crate::table::{
 };
 use esm_journal_record::Said;
 use esm_model::{Fate, OutOfMemory, Places, Texts, WindowState};
-use std::alloc::Global;
 
-/// Adds what one more payload says. After an `Err` a part of it may stand there.
-pub(crate) fn add(alloc: Global, table: &mut Table, said: &Said) -> Result<(), OutOfMemory>
-    requires { IsSaid said.now }
-    ensures { OnOk result ((h : List Said) → IsTable table.old h → IsTable table.new (said.now ∷ h)) }
+/// Adds what one more payload says, whose texts it keeps. After an `Err` a part of it may stand there.
+pub(crate) fn add(table: &mut Table, said: Said) -> Result<(), OutOfMemory>
+    requires { IsSaid said }
+    ensures { OnOk result ((h : List Said) → IsTable table.old h → IsTable table.new (said ∷ h)) }
 {
     match said {
         Said::Fates {
@@ -27,9 +26,9 @@ pub(crate) fn add(alloc: Global, table: &mut Table, said: &Said) -> Result<(), O
             places,
             texts,
             ..
-        } => { add_fates(alloc, table, *shard, *fate, state, places, texts) }
+        } => { add_fates(table, shard, fate, state, &places, texts) }
         Said::Closed { shard, window, .. } => {
-            add_closed(table, *shard, *window);
+            add_closed(table, shard, window);
             Ok(())
         }
         Said::Deleted {
@@ -37,53 +36,46 @@ pub(crate) fn add(alloc: Global, table: &mut Table, said: &Said) -> Result<(), O
             places,
             texts,
             ..
-        } => add_deleted(alloc, table, *fate, places, texts),
-        Said::State { shard, state, .. } => add_state(alloc, table, *shard, state),
+        } => add_deleted(table, fate, &places, texts),
+        Said::State { shard, state, .. } => add_state(table, shard, state),
         Said::Tried {
             shard,
             tries,
             places,
             texts,
             ..
-        } => add_tried(alloc, table, *shard, *tries, places, texts),
+        } => add_tried(table, shard, tries, &places, texts),
         Said::WindowTried {
             shard,
             window,
             tries,
             ..
-        } => add_window_tried(table, *shard, *window, *tries),
-        Said::Replayed {
-            shard,
-            places,
-            texts,
-            ..
-        } => add_replayed(table, *shard, places, texts),
+        } => add_window_tried(table, shard, window, tries),
+        Said::Replayed { shard, places, .. } => add_replayed(table, shard, &places),
     }
 }
 
 fn add_fates(
-    alloc: Global,
     table: &mut Table,
     shard: u64,
     fate: Fate,
-    state: &Option<WindowState>,
+    state: Option<WindowState>,
     places: &Places,
-    texts: &Texts,
+    texts: Texts,
 ) -> Result<(), OutOfMemory>
-    requires { length texts.now ≡ length places.now }
+    requires { length texts ≡ length places.now }
     ensures { OnOk result ((h : List Said) (moment : ℕ) → IsTable table.old h
-        → IsTable table.new (said.Fates shard fate moment state.now places.now texts.now ∷ h)) }
+        → IsTable table.new (said.Fates shard fate moment state places.now texts ∷ h)) }
 {
     keep_fates(
-        alloc,
         &mut table.fates,
         shard,
         fate,
         places.as_slice(),
-        texts.as_slice(),
+        texts.into_vec(),
     )?;
     drop_tries(&mut table.tries, shard, places.as_slice());
-    keep_some_state(alloc, &mut table.states, shard, state)?;
+    keep_some_state(&mut table.states, shard, state)?;
     Ok(())
 }
 
@@ -95,56 +87,47 @@ fn add_closed(table: &mut Table, shard: u64, window: u64)
 }
 
 fn add_deleted(
-    alloc: Global,
     table: &mut Table,
     fate: Fate,
     places: &Places,
-    texts: &Texts,
+    texts: Texts,
 ) -> Result<(), OutOfMemory>
-    requires { length texts.now ≡ length places.now }
+    requires { length texts ≡ length places.now }
     ensures { OnOk result ((h : List Said) (moment : ℕ) → IsTable table.old h
-        → IsTable table.new (said.Deleted fate moment places.now texts.now ∷ h)) }
+        → IsTable table.new (said.Deleted fate moment places.now texts ∷ h)) }
 {
     keep_deletions(
-        alloc,
         &mut table.deletions,
         fate,
         places.as_slice(),
-        texts.as_slice(),
+        texts.into_vec(),
     )
 }
 
-fn add_state(
-    alloc: Global,
-    table: &mut Table,
-    shard: u64,
-    state: &WindowState,
-) -> Result<(), OutOfMemory>
+fn add_state(table: &mut Table, shard: u64, state: WindowState) -> Result<(), OutOfMemory>
     ensures { OnOk result ((h : List Said) (moment : ℕ) → IsTable table.old h
-        → IsTable table.new (said.State shard moment state.now ∷ h)) }
+        → IsTable table.new (said.State shard moment state ∷ h)) }
 {
-    keep_state(alloc, &mut table.states, shard, state)
+    keep_state(&mut table.states, shard, state)
 }
 
 fn add_tried(
-    alloc: Global,
     table: &mut Table,
     shard: u64,
     tries: u32,
     places: &Places,
-    texts: &Texts,
+    texts: Texts,
 ) -> Result<(), OutOfMemory>
-    requires { length texts.now ≡ length places.now }
+    requires { length texts ≡ length places.now }
     ensures { OnOk result ((h : List Said) (moment : ℕ) → IsTable table.old h
-        → IsTable table.new (said.Tried shard moment tries places.now texts.now ∷ h)) }
+        → IsTable table.new (said.Tried shard moment tries places.now texts ∷ h)) }
 {
     keep_tries(
-        alloc,
         &mut table.tries,
         shard,
         tries,
         places.as_slice(),
-        texts.as_slice(),
+        texts.into_vec(),
     )
 }
 
@@ -161,14 +144,9 @@ fn add_window_tried(
     Ok(())
 }
 
-fn add_replayed(
-    table: &mut Table,
-    shard: u64,
-    places: &Places,
-    texts: &Texts,
-) -> Result<(), OutOfMemory>
-    ensures { OnOk result ((h : List Said) (moment : ℕ) → IsTable table.old h
-        → IsTable table.new (said.Replayed shard moment places.now texts.now ∷ h)) }
+fn add_replayed(table: &mut Table, shard: u64, places: &Places) -> Result<(), OutOfMemory>
+    ensures { OnOk result ((h : List Said) (moment : ℕ) (texts : List (List ℕ)) → IsTable table.old h
+        → IsTable table.new (said.Replayed shard moment places.now texts ∷ h)) }
 {
     keep_replays(&mut table.replays, shard, places.as_slice())
 }

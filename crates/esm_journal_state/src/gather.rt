@@ -1,5 +1,5 @@
 // What a table tells, gathered for the calls of `Says`.
-ghost use Rattle.std.specs.Prelude.{◌≡◌, ℕ, ◌<◌, ◌^◌, ◌==◌, ◌||◌, nat_eq, List, length, map, filter, true, None, is_some, IfOk, OnOk};
+ghost use Rattle.std.specs.Prelude.{◌≡◌, ℕ, ◌<◌, ◌^◌, ◌==◌, ◌||◌, nat_eq, List, length, map, filter, true, false, None, is_some, option_map, unwrap_or, IfOk, OnOk};
 ghost use Rattle.std.specs.List.{list_any};
 ghost use Rattle.std.specs.List.Sorted.{IsStrictlyIncreasing};
 ghost use Rattle.std.specs.Ordering.{nat_cmp};
@@ -11,7 +11,7 @@ ghost use Rattle.esm_journal_record.specs.declared.said.Said.{Said};
 ghost use Rattle.esm_journal_state.specs.Table.{IsTable, HasOrder, pair_cmp};
 ghost use Rattle.esm_journal_state.specs.Tells.{Tells};
 ghost use Rattle.esm_journal_state.specs.SaidLists.{IsInOrder};
-ghost use Rattle.esm_journal_state.specs.View.{stated};
+ghost use Rattle.esm_journal_state.specs.View.{stated, number_with};
 
 use crate::kept::{KeptFate, KeptTries};
 use crate::lookup::{SaidState, Says};
@@ -54,6 +54,13 @@ pub(crate) fn gathered(alloc: Global, table: Table) -> Result<Says, OutOfMemory>
     })
 }
 
+/// A shard, and its number so far, before the numbers have it.
+#[derive(Clone, Copy)]
+pub(crate) struct AtHand {
+    shard: u64,
+    number: u32,
+}
+
 /// The maps are in order, as the length of each tells the proof.
 fn in_order(table: &Table)
     ensures { HasOrder table.now }
@@ -66,20 +73,25 @@ fn in_order(table: &Table)
     let _ = table.deletions.len();
 }
 
-/// The first place of the shard without a fate.
-fn frontier_of(fates: &BTreeMap<Place, KeptFate>, shard: u64) -> u32
-    requires { btree_map_len fates.now < 2 ^ 32 }
-    ensures below { (i : ℕ) → i < result → is_some (map.get pair_cmp fates.now (shard, i)) ≡ true }
-    ensures end { map.get pair_cmp fates.now (shard, result) ≡ None }
+/// Puts the number at hand where its shard is another, and takes up that of the shard.
+fn taken_up(
+    numbers: &mut BTreeMap<u64, u32>,
+    hand: AtHand,
+    shard: u64,
+) -> Result<AtHand, OutOfMemory>
+    ensures shard { IfOk result (λ now. now.shard ≡ shard) }
+    ensures numbers { IfOk result (λ now. (n : ℕ) → number_with numbers.new now n ≡ number_with numbers.old hand n) }
 {
-    let mut place: u32 = 0;
-    while fates.contains_key(&(shard, place)) {
-        place += 1;
+    if hand.shard == shard {
+        return Ok(hand);
     }
-    place
+    numbers.insert(hand.shard, hand.number)?;
+    let number = number_at(numbers, shard);
+    Ok(AtHand { shard, number })
 }
 
-/// For each shard whose place 0 has a fate its first place without one; of each other shard place 0 is the first.
+/// For each shard its first place without a fate: the fates stand in the order of the places, so each place that is
+/// the first without one so far moves it on by one.
 fn frontiers_of(
     alloc: Global,
     fates: &BTreeMap<Place, KeptFate>,
@@ -90,11 +102,18 @@ fn frontiers_of(
     ensures end { IfOk result (λ frontiers. (n : ℕ) → map.get pair_cmp fates.now (n, count_at (map.get nat_cmp frontiers) n) ≡ None) }
 {
     let mut frontiers = BTreeMap::new(alloc);
+    let _ = fates.len();
+    let mut hand = AtHand {
+        shard: 0,
+        number: 0,
+    };
     for (place, _) in fates {
-        if place.1 == 0 {
-            frontiers.insert(place.0, frontier_of(fates, place.0))?;
+        hand = taken_up(&mut frontiers, hand, place.0)?;
+        if place.1 == hand.number {
+            hand.number += 1;
         }
     }
+    frontiers.insert(hand.shard, hand.number)?;
     Ok(frontiers)
 }
 
@@ -108,10 +127,15 @@ fn counts_of(
         ≡ length (filter (λ e. e.0.0 == n) fates.now.entries)) }
 {
     let mut counts = BTreeMap::new(alloc);
+    let mut hand = AtHand {
+        shard: 0,
+        number: 0,
+    };
     for (place, _) in fates {
-        let before = number_at(&counts, place.0);
-        counts.insert(place.0, before + 1)?;
+        hand = taken_up(&mut counts, hand, place.0)?;
+        hand.number += 1;
     }
+    counts.insert(hand.shard, hand.number)?;
     Ok(counts)
 }
 
@@ -125,7 +149,17 @@ pub(crate) fn number_at(numbers: &BTreeMap<u64, u32>, shard: u64) -> u32
     }
 }
 
-/// Adds the shards of the keys.
+/// Whether this is the shard of the last key.
+fn is_last(last: Option<u64>, shard: u64) -> bool
+    ensures { result ≡ unwrap_or (option_map (λ number. number == shard) last) false }
+{
+    match last {
+        None => false,
+        Some(number) => number == shard,
+    }
+}
+
+/// Adds the shards of the keys, each once for the keys of it that stand in a row.
 fn add_shards<T: Ord, V>(
     shards: &mut BTreeSet<u64>,
     keyed: &BTreeMap<(u64, T), V>,
@@ -133,8 +167,12 @@ fn add_shards<T: Ord, V>(
     ensures { OnOk result ((n : ℕ) → set.contains nat_cmp shards.new n
         ≡ (list_any (λ e. e.0.0 == n) keyed.now.entries || set.contains nat_cmp shards.old n)) }
 {
+    let mut last = None;
     for (key, _) in keyed {
-        shards.insert(key.0)?;
+        if !is_last(last, key.0) {
+            shards.insert(key.0)?;
+            last = Some(key.0);
+        }
     }
     Ok(())
 }

@@ -29,7 +29,7 @@ fn take(alloc: Global, table: &mut Table, payload: &[u8]) -> Result<bool, OutOfM
     if is_bad(table, &said) {
         return Ok(false);
     }
-    add(alloc, table, &said)?;
+    add(table, said)?;
     Ok(true)
 }
 

@@ -1,15 +1,17 @@
 // Which payloads are bad for a book.
-ghost use Rattle.std.specs.Prelude.{◌≡◌, ℕ, List, length};
-ghost use Rattle.std.specs.Option.{option_copied, option_or};
+ghost use Rattle.std.specs.Prelude.{◌≡◌, ◌≤◌, ℕ, List, length, true, false, None};
+ghost use Rattle.std.specs.Option.{option_copied};
 ghost use Rattle.std.specs.BTreeMap as map;
-ghost use Rattle.esm_journal_state.specs.Meaning.{any_named, differs, has_failed, is_failure, known_text, is_spent, is_no_replay, is_deleted, is_bad};
-ghost use Rattle.esm_journal_record.specs.Payload.{IsSaid};
-ghost use Rattle.esm_journal_state.specs.Table.{known_in};
+ghost use Rattle.esm_journal_state.specs.Meaning.{any_named, differs, is_failure, tries_text, is_spent, is_no_replay, is_deleted, is_bad};
+ghost use Rattle.esm_journal_record.specs.Payload.{IsSaid, rises};
+ghost use Rattle.esm_journal_state.specs.Table.{known_in, pair_cmp};
 
 use crate::kept::KeptFate;
-use crate::table::Table;
+use crate::table::{Place, Table};
 use esm_journal_record::Said;
 use esm_model::{Fate, Text};
+use std::collections::BTreeMap;
+use std::ops::Bound;
 
 /// Whether it is bad for a book to say so, where the table has what was said before.
 pub(crate) fn is_bad(table: &Table, said: &Said) -> bool
@@ -53,12 +55,9 @@ fn differs(kept: Option<&Text>, text: &Text) -> bool
     }
 }
 
-fn known_text<'a>(table: &'a Table, shard: u64, place: u32) -> Option<&'a Text>
-    ensures { option_copied result ≡ known_text (known_in table.now) shard place }
+fn tried_text<'a>(table: &'a Table, shard: u64, place: u32) -> Option<&'a Text>
+    ensures { option_copied result ≡ tries_text ((known_in table.now).tries shard place) }
 {
-    if let Some(kept) = table.fates.get(&(shard, place)) {
-        return Some(&kept.text);
-    }
     match table.tries.get(&(shard, place)) {
         None => None,
         Some(kept) => Some(&kept.text),
@@ -74,25 +73,46 @@ fn is_failure(fate: Fate) -> bool
     }
 }
 
-fn has_failed(kept: Option<&KeptFate>) -> bool
-    ensures { result ≡ has_failed (option_copied kept.entry) }
-{
-    match kept {
-        None => false,
-        Some(kept) => is_failure(kept.fate),
-    }
-}
-
 fn is_spent(table: &Table, shard: u64, place: u32, text: &Text) -> bool
     ensures { result ≡ is_spent (known_in table.now) shard place text.now }
 {
-    table.fates.contains_key(&(shard, place)) || differs(known_text(table, shard, place), text)
+    table.fates.contains_key(&(shard, place)) || differs(tried_text(table, shard, place), text)
+}
+
+/// Whether no place of the shard from the first to the last has a fate.
+fn none_between(fates: &BTreeMap<Place, KeptFate>, shard: u64, first: u32, last: u32) -> bool
+    requires { first ≤ last }
+    ensures { result ≡ true → (i : ℕ) → first ≤ i → i ≤ last → map.get pair_cmp fates.now (shard, i) ≡ None }
+{
+    let (from, to) = (
+        Bound::Included((shard, first)),
+        Bound::Included((shard, last)),
+    );
+    match fates.range((from, to)).next() {
+        None => true,
+        Some(_) => false,
+    }
+}
+
+/// Whether one search finds that none of the places was named before; of a single place a look-up finds it as soon.
+fn are_new(table: &Table, shard: u64, places: &[u32]) -> bool
+    requires { rises places.now ≡ true }
+    ensures { result ≡ true → (texts : List (List ℕ)) → any_named (is_spent (known_in table.now) shard) places.now texts ≡ false }
+{
+    if places.len() < 2 || !table.tries.is_empty() {
+        return false;
+    }
+    none_between(&table.fates, shard, places[0], places[places.len() - 1])
 }
 
 fn any_spent(table: &Table, shard: u64, places: &[u32], texts: &[Text]) -> bool
-    requires { length texts.now ≡ length places.now }
+    requires same { length texts.now ≡ length places.now }
+    requires rising { rises places.now ≡ true }
     ensures { result ≡ any_named (is_spent (known_in table.now) shard) places.now texts.now }
 {
+    if are_new(table, shard, places) {
+        return false;
+    }
     for index in 0..places.len() {
         if is_spent(table, shard, places[index], &texts[index]) {
             return true;
@@ -104,10 +124,14 @@ fn any_spent(table: &Table, shard: u64, places: &[u32], texts: &[Text]) -> bool
 fn is_no_replay(table: &Table, shard: u64, place: u32, text: &Text) -> bool
     ensures { result ≡ is_no_replay (known_in table.now) shard place text.now }
 {
-    if !has_failed(table.fates.get(&(shard, place))) || table.replays.contains(&(shard, place)) {
-        return true;
+    match table.fates.get(&(shard, place)) {
+        None => true,
+        Some(kept) => {
+            !is_failure(kept.fate)
+                || table.replays.contains(&(shard, place))
+                || differs(Some(&kept.text), text)
+        }
     }
-    differs(known_text(table, shard, place), text)
 }
 
 fn any_no_replay(table: &Table, shard: u64, places: &[u32], texts: &[Text]) -> bool

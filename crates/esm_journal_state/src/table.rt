@@ -46,63 +46,54 @@ pub(crate) fn empty_table(alloc: Global) -> Table
 }
 
 pub(crate) fn keep_fates(
-    alloc: Global,
     fates: &mut BTreeMap<Place, KeptFate>,
     shard: u64,
     fate: Fate,
     places: &[u32],
-    texts: &[Text],
+    mut texts: Vec<Text>,
 ) -> Result<(), OutOfMemory>
-    requires { length texts.now ≡ length places.now }
+    requires { length texts.items ≡ length places.now }
     ensures { OnOk result ((n i : ℕ) → map.get pair_cmp fates.new (n, i)
-        ≡ option_or (only_at (shard == n) (option_map (fate_kept fate) (text_named places.now texts.now i))) (map.get pair_cmp fates.old (n, i))) }
+        ≡ option_or (only_at (shard == n) (option_map (fate_kept fate) (text_named places.now texts.items i))) (map.get pair_cmp fates.old (n, i))) }
 {
-    let mut index = places.len();
-    while index > 0 {
-        index -= 1;
-        let text = texts[index].copy(alloc)?;
-        fates.insert((shard, places[index]), KeptFate { fate, text })?;
+    while let Some(text) = texts.pop() {
+        let place = places[texts.len()];
+        fates.insert((shard, place), KeptFate { fate, text })?;
     }
     Ok(())
 }
 
 pub(crate) fn keep_tries(
-    alloc: Global,
     kept: &mut BTreeMap<Place, KeptTries>,
     shard: u64,
     tries: u32,
     places: &[u32],
-    texts: &[Text],
+    mut texts: Vec<Text>,
 ) -> Result<(), OutOfMemory>
-    requires { length texts.now ≡ length places.now }
+    requires { length texts.items ≡ length places.now }
     ensures { OnOk result ((n i : ℕ) → map.get pair_cmp kept.new (n, i)
-        ≡ option_or (only_at (shard == n) (option_map (tries_kept tries) (text_named places.now texts.now i))) (map.get pair_cmp kept.old (n, i))) }
+        ≡ option_or (only_at (shard == n) (option_map (tries_kept tries) (text_named places.now texts.items i))) (map.get pair_cmp kept.old (n, i))) }
 {
-    let mut index = places.len();
-    while index > 0 {
-        index -= 1;
-        let text = texts[index].copy(alloc)?;
-        kept.insert((shard, places[index]), KeptTries { tries, text })?;
+    while let Some(text) = texts.pop() {
+        let place = places[texts.len()];
+        kept.insert((shard, place), KeptTries { tries, text })?;
     }
     Ok(())
 }
 
 pub(crate) fn keep_deletions(
-    alloc: Global,
     deletions: &mut BTreeMap<u32, KeptFate>,
     fate: Fate,
     places: &[u32],
-    texts: &[Text],
+    mut texts: Vec<Text>,
 ) -> Result<(), OutOfMemory>
-    requires { length texts.now ≡ length places.now }
+    requires { length texts.items ≡ length places.now }
     ensures { OnOk result ((i : ℕ) → map.get nat_cmp deletions.new i
-        ≡ option_or (option_map (fate_kept fate) (text_named places.now texts.now i)) (map.get nat_cmp deletions.old i)) }
+        ≡ option_or (option_map (fate_kept fate) (text_named places.now texts.items i)) (map.get nat_cmp deletions.old i)) }
 {
-    let mut index = places.len();
-    while index > 0 {
-        index -= 1;
-        let text = texts[index].copy(alloc)?;
-        deletions.insert(places[index], KeptFate { fate, text })?;
+    while let Some(text) = texts.pop() {
+        let place = places[texts.len()];
+        deletions.insert(place, KeptFate { fate, text })?;
     }
     Ok(())
 }
@@ -111,6 +102,9 @@ pub(crate) fn drop_tries(tries: &mut BTreeMap<Place, KeptTries>, shard: u64, pla
     ensures { (n i : ℕ) → map.get pair_cmp tries.new (n, i)
         ≡ (if (shard == n) && holds places.now i then None else map.get pair_cmp tries.old (n, i)) }
 {
+    if tries.is_empty() {
+        return;
+    }
     for place in places {
         let _ = tries.remove(&(shard, *place));
     }
@@ -131,30 +125,27 @@ pub(crate) fn keep_replays(
 }
 
 pub(crate) fn keep_state(
-    alloc: Global,
     states: &mut BTreeMap<Window, Bytes>,
     shard: u64,
-    state: &WindowState,
+    state: WindowState,
 ) -> Result<(), OutOfMemory>
     ensures { OnOk result ((n w : ℕ) → map.get pair_cmp states.new (n, w)
-        ≡ option_or (only_at (shard == n) (state_in (Some state.now) w)) (map.get pair_cmp states.old (n, w))) }
+        ≡ option_or (only_at (shard == n) (state_in (Some state) w)) (map.get pair_cmp states.old (n, w))) }
 {
-    let text = state.text.copy(alloc)?;
-    states.insert((shard, state.window), text)?;
+    states.insert((shard, state.window), state.text)?;
     Ok(())
 }
 
 pub(crate) fn keep_some_state(
-    alloc: Global,
     states: &mut BTreeMap<Window, Bytes>,
     shard: u64,
-    state: &Option<WindowState>,
+    state: Option<WindowState>,
 ) -> Result<(), OutOfMemory>
     ensures { OnOk result ((n w : ℕ) → map.get pair_cmp states.new (n, w)
-        ≡ option_or (only_at (shard == n) (state_in state.now w)) (map.get pair_cmp states.old (n, w))) }
+        ≡ option_or (only_at (shard == n) (state_in state w)) (map.get pair_cmp states.old (n, w))) }
 {
     match state {
         None => Ok(()),
-        Some(state) => keep_state(alloc, states, shard, state),
+        Some(state) => keep_state(states, shard, state),
     }
 }
