@@ -11,14 +11,14 @@ use Rattle.esm_model.specs.declared.book.Change.{Change}
 use Rattle.esm_model.specs.declared.entry.Entry.{Entry}
 use Rattle.esm_model.specs.declared.setup.FoundFate.{FoundFate}
 use Rattle.esm_model.specs.declared.setup.FoundTries.{FoundTries}
-use Rattle.esm_model.specs.Setting.{Setting}
+use Rattle.esm_model.specs.Setting.{Setting, found_fate, found_try}
 use Rattle.esm_model.specs.Entries.{came_count}
 use Rattle.esm_journal_state.specs.declared.kept.KeptFate.{KeptFate}
 use Rattle.esm_journal_state.specs.declared.kept.KeptTries.{KeptTries}
 use Rattle.esm_journal_state.specs.Tells.{fate_of_found, tries_of_found}
 use Rattle.esm_journal_state.proofs.Pairs.{is_eq-nat}
 use Rattle.esm_ingest.specs.Coming.{of_shard, count_of}
-use Rattle.esm_ingest.specs.Changes.{change_at, first_change_from, first_change}
+use Rattle.esm_ingest.specs.Changes.{change_at, change_of, other_text, place_after, first_change_from, first_change}
 use Rattle.esm_ingest.proofs.Shards.{of_last}
 
 -- one more record of a list
@@ -105,6 +105,16 @@ change_more s h xs i x place c low is at differs none so_far =
 
 pub change_none : (s : Setting) (h : List Entry) (xs : List Record) (i : ℕ) → length xs ≤ i → first_change_from s h (take i xs) (drop i xs) ≡ first_change s h xs → None ≡ first_change s h xs
 change_none s h xs i past so_far = sym (ap (first_change_from s h (take i xs)) (drop_of_length-le xs past)) ∙ so_far
+
+-- where nothing was kept, none differs
+pub nothing_changes : (s : Setting) (h : List Entry) (before rs : List Record) → ((n i : ℕ) → found_fate s n i ≡ None) → ((n i : ℕ) → found_try s n i ≡ None) → first_change_from s h before rs ≡ None
+nothing_changes s h before [] fates tries = refl
+nothing_changes s h before (r ∷ rs) fates tries =
+    let place = place_after h before r in
+    let rest = first_change_from s h (before ++ r ∷ []) rs in
+    ap (λ (o : Option FoundFate). option_or (option_map (change_of r place) (option_or (other_text r.seq (option_map (λ (f : FoundFate). f.text) o)) (other_text r.seq (option_map (λ (f : FoundTries). f.text) (found_try s r.shard place))))) rest) (fates r.shard place)
+    ∙ (ap (λ (o : Option FoundTries). option_or (option_map (change_of r place) (other_text r.seq (option_map (λ (f : FoundTries). f.text) o))) rest) (tries r.shard place)
+    ∙ nothing_changes s h (before ++ r ∷ []) rs fates tries)
 
 -- the texts that were kept
 

@@ -2,7 +2,7 @@
 use Rattle.std.proofs.Common.{◌≡◌, ℕ, zero, suc, ◌<◌, Bool, true, false, cond, List, [], ◌∷◌, ◌++◌, map, set, length, refl, sym, ap, ◌∙◌, subst, inl, inr, arith, get_or, Option, Some, None}
 use Rattle.std.specs.Prelude.{◌==◌, option_map, slice_get}
 use Rattle.std.specs.Ordering.{nat_cmp, is_eq}
-use Rattle.std.proofs.lemmas.Bool.{cases_Bool, eqb-true}
+use Rattle.std.proofs.lemmas.Bool.{cases_Bool, eq-eqb, eqb-true}
 use Rattle.esm_journal_state.proofs.Pairs.{is_eq-nat}
 use Rattle.std.proofs.lemmas.Option.{slice_get_read, same_Some}
 use Rattle.esm_model.specs.declared.item.Record.{Record}
@@ -123,6 +123,10 @@ index_next k n len count before after was now same next so_far more =
     ∙ (ap (λ (b : Bool). cond b (Some len) before) (is_eq-nat k n)
     ∙ (ap (λ (i : ℕ). cond (k == n) (Some i) before) same
     ∙ (ap (λ (o : Option ℕ). cond (k == n) (Some count) o) so_far ∙ sym more)))
+
+-- that of a new shard
+pub index_here : (k len : ℕ) (before after : Option ℕ) → after ≡ cond (is_eq (nat_cmp k k)) (Some len) before → after ≡ Some len
+index_here k len before after next = next ∙ ap (λ (b : Bool). cond b (Some len) before) (is_eq-nat k k ∙ eq-eqb k k refl)
 
 -- the end of a list
 

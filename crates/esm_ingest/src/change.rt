@@ -1,5 +1,5 @@
 // Finding the first record that comes with another sequence number than the journal kept at its place.
-ghost use Rattle.std.specs.Prelude.{◌≡◌, ℕ, ◌+◌, ◌<◌, IfOk, List, option_map, option_copied, unwrap_or};
+ghost use Rattle.std.specs.Prelude.{◌≡◌, IfOk, option_map, option_copied, unwrap_or};
 ghost use Rattle.std.specs.Ordering.{nat_cmp};
 ghost use Rattle.std.specs.BTreeMap.{get};
 ghost use Rattle.esm_model.specs.declared.setup.FoundFate.{FoundFate};
@@ -11,7 +11,7 @@ ghost use Rattle.esm_ingest.specs.Coming.{FitPlaces};
 ghost use Rattle.esm_ingest.specs.Changes.{change_at, change_of, first_change, kept_otherwise, other_text};
 
 use esm_journal_state::Says;
-use esm_ledger::Ledger;
+use esm_ledger::{Ledger, is_any_told};
 use esm_model::{Change, OutOfMemory, Record, Seq, Text};
 use std::alloc::Global;
 use std::collections::BTreeMap;
@@ -110,7 +110,7 @@ fn next_place(ledger: &Ledger, next: &BTreeMap<u64, u32>, shard: u64) -> u32
 
 /// The first record of the list that stands in the stream with another sequence number than the journal kept of it, with a
 /// fate or with tries; `None` exactly where none does. Linear in the list, but for the logarithm of the number of its
-/// shards and of what was found at opening.
+/// shards and of what was found at opening; where nothing was found, no record is looked at.
 pub fn first_change(
     alloc: Global,
     ledger: &Ledger,
@@ -120,6 +120,9 @@ pub fn first_change(
     requires places { FitPlaces (past_of ledger.now) items.now }
     ensures { IfOk result (λ change. change ≡ first_change (setting_of ledger.now) (past_of ledger.now) items.now) }
 {
+    if !is_any_told(&ledger.found) {
+        return Ok(None);
+    }
     let mut next: BTreeMap<u64, u32> = BTreeMap::new(alloc);
     for item in items {
         let place = next_place(ledger, &next, item.shard);

@@ -1,8 +1,9 @@
 // Grouping the records of a list by shard, in the order in which the shards first appear.
-ghost use Rattle.std.specs.Prelude.{◌≡◌, ℕ, ◌==◌, [], Some, None, length, map, IfOk, OnOk, if◌then◌else◌};
+ghost use Rattle.std.specs.Prelude.{◌≡◌, ℕ, ◌==◌, [], Some, None, length, map, IfOk, IfSome, OnOk, if◌then◌else◌};
 ghost use Rattle.std.specs.Ordering.{nat_cmp};
 ghost use Rattle.std.specs.BTreeMap.{get};
 ghost use Rattle.esm_ingest.specs.Coming.{with_record, with_records};
+ghost use Rattle.esm_ingest.specs.declared.group.Run.{Run};
 ghost use Rattle.esm_ingest.specs.Inside.{stream_in, names_in, place_in};
 
 use esm_model::{OutOfMemory, Record};
@@ -39,35 +40,65 @@ fn push_record(groups: &mut Vec<Group>, at: usize, item: Record) -> Result<(), O
     Ok(())
 }
 
-/// The record is the next of its shard; the index tells where each shard's group is.
+/// The group that a record went to.
+#[derive(Clone, Copy)]
+struct Run {
+    shard: u64,
+    at: usize,
+}
+
+/// Where the shard's group is; that of the last record is not looked up.
+fn place_of(index: &BTreeMap<u64, usize>, last: Option<Run>, shard: u64) -> Option<usize>
+    requires { IfSome last (λ (r : Run). get nat_cmp index.now r.shard ≡ Some r.at) }
+    ensures { result ≡ get nat_cmp index.now shard }
+{
+    match last {
+        Some(run) if run.shard == shard => Some(run.at),
+        _ => index.get(&shard).copied(),
+    }
+}
+
+/// The record is the next of its shard; the index tells where each shard's group is, and the run where the last record's
+/// is.
 fn add(
     alloc: Global,
     groups: &mut Vec<Group>,
     index: &mut BTreeMap<u64, usize>,
+    last: Option<Run>,
     item: Record,
-) -> Result<(), OutOfMemory>
-    requires { (n : ℕ) → get nat_cmp index.old n ≡ place_in (names_in groups.old.items) n }
+) -> Result<Run, OutOfMemory>
+    requires index { (n : ℕ) → get nat_cmp index.old n ≡ place_in (names_in groups.old.items) n }
+    requires last { IfSome last (λ (r : Run). get nat_cmp index.old r.shard ≡ Some r.at) }
     ensures index { OnOk result ((n : ℕ) → get nat_cmp index.new n ≡ place_in (names_in groups.new.items) n) }
     ensures groups { OnOk result (map stream_in groups.new.items ≡ with_record (map stream_in groups.old.items) item) }
+    ensures run { IfOk result (λ (r : Run). get nat_cmp index.new r.shard ≡ Some r.at) }
 {
-    let known = index.get(&item.shard).copied();
-    match known {
-        Some(at) => push_record(groups, at, item),
+    let shard = item.shard;
+    match place_of(index, last, shard) {
+        Some(at) => {
+            push_record(groups, at, item)?;
+            Ok(Run { shard, at })
+        }
         None => {
-            index.insert(item.shard, groups.len())?;
-            push_group(alloc, groups, item)
+            let at = groups.len();
+            index.insert(shard, at)?;
+            push_group(alloc, groups, item)?;
+            Ok(Run { shard, at })
         }
     }
 }
 
-/// The records by their shards, in the order in which the shards first appear.
+/// The records by their shards, in the order in which the shards first appear. A group is looked up once for a run of
+/// records of its shard.
 pub fn grouped(alloc: Global, items: Vec<Record>) -> Result<Vec<Group>, OutOfMemory>
     ensures { IfOk result (λ groups. map stream_in groups.items ≡ with_records [] items.items) }
 {
     let mut groups = Vec::new(alloc);
     let mut index = BTreeMap::new(alloc);
+    let mut last = None;
     for item in items {
-        add(alloc, &mut groups, &mut index, item)?;
+        let run = add(alloc, &mut groups, &mut index, last, item)?;
+        last = Some(run);
     }
     Ok(groups)
 }

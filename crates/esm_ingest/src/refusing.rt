@@ -1,5 +1,5 @@
 // The places of a shard's records that have no found fate and fail the filter.
-ghost use Rattle.std.specs.Prelude.{◌≡◌, ℕ, ◌+◌, ◌<◌, ◌^◌, IfOk, length};
+ghost use Rattle.std.specs.Prelude.{◌≡◌, ◌+◌, ◌<◌, IfOk, length};
 ghost use Rattle.esm_model.specs.Setting.{Setting};
 ghost use Rattle.esm_ingest.specs.Parts.{is_refused_at, refused_from};
 ghost use Rattle.esm_ingest.specs.Judged.{IsJudgedBy};

@@ -1,12 +1,11 @@
 -- What was found at opening of records and windows of a shard.
-use Rattle.std.proofs.Common.{◌≡◌, ℕ, zero, suc, ◌+◌, ◌-◌, ◌%◌, ◌<◌, ◌≤◌, Bool, true, false, not, ◌&&◌, List, [], ◌∷◌, length, map, filter, drop, get_or, refl, sym, ap, ◌∙◌, subst, inl, inr, Option, Some, None, arith, is_none}
+use Rattle.std.proofs.Common.{◌≡◌, ℕ, zero, suc, ◌+◌, ◌<◌, ◌≤◌, Bool, true, false, not, ◌&&◌, List, [], ◌∷◌, length, map, filter, refl, sym, ap, ◌∙◌, subst, inl, inr, Option, Some, None, arith, is_none}
 use Rattle.std.specs.Prelude.{◌==◌, IfSome, All, option_map, unwrap_or, find, slice_get, slice_index_or, if◌then◌else◌}
 use Rattle.std.proofs.Math.Nat.{mod-lt}
 use Rattle.std.proofs.lemmas.Bool.{cases_Bool}
 use Rattle.std.proofs.lemmas.List.Elements.{All-nil, All-cons}
 use Rattle.esm_model.specs.declared.limits.TheConstants.{MAX_TRIES}
 use Rattle.esm_model.specs.declared.item.Record.{Record}
-use Rattle.esm_model.specs.declared.entry.Fate.{Fate}
 use Rattle.esm_model.specs.declared.setup.FoundFate.{FoundFate}
 use Rattle.esm_model.specs.declared.setup.FoundTries.{FoundTries}
 use Rattle.esm_model.specs.declared.setup.FoundState.{FoundState}
@@ -19,16 +18,15 @@ use Rattle.esm_journal_state.specs.declared.kept.KeptFate.{KeptFate}
 use Rattle.esm_journal_state.specs.declared.kept.KeptTries.{KeptTries}
 use Rattle.esm_journal_state.specs.declared.lookup.SaidState.{SaidState}
 use Rattle.esm_journal_state.specs.declared.lookup.SaidWindowTries.{SaidWindowTries}
-use Rattle.esm_journal_state.specs.SaidLists.{SaidLists, fate_told, tries_told, state_told, window_tries_told}
+use Rattle.esm_journal_state.specs.SaidLists.{SaidLists, fate_told, tries_told}
 use Rattle.esm_journal_state.specs.Tells.{fate_of_found, tries_of_found}
 use Rattle.esm_journal_state.specs.View.{found_state, of_window}
-use Rattle.esm_shard_index.specs.LaneHistory.{HasFoundTries, arrives}
+use Rattle.esm_shard_index.specs.LaneHistory.{HasFoundTries}
 use Rattle.esm_shard_index.specs.Progress.{AreFound, found_at}
 use Rattle.esm_ledger.specs.declared.arriving.Landing.{Landing}
 use Rattle.esm_ledger.specs.Shard.{lane_id}
 use Rattle.esm_ledger.specs.Arriving.{IsLanding, IsWithin, landing_at, lands_in, tries_found}
 use Rattle.esm_ledger.specs.Coming.{TellsPassing}
-use Rattle.esm_ledger.specs.Found.{TellsOf}
 use Rattle.esm_ledger.specs.Measuring.{fate_for, tries_for, landing_for, fates_from, landings_from, state_from, tries_from}
 
 -- what is read of one place

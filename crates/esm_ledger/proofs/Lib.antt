@@ -15,4 +15,6 @@ pub mod Readings
 pub mod Notes
 pub mod Prepared
 pub mod Founds
+pub mod Untold
+pub mod Counts
 pub mod NextRecords

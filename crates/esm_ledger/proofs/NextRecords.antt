@@ -1,38 +1,33 @@
 -- Records that come next to their shard.
-use Rattle.std.proofs.Common.{◌≡◌, ℕ, zero, suc, ◌+◌, ◌<◌, ◌≤◌, Bool, true, false, not, ◌&&◌, List, [], ◌∷◌, ◌++◌, length, map, refl, sym, ap, ◌∙◌, subst, inl, inr, Option, Some, None, arith, is_some}
-use Rattle.std.specs.Prelude.{◌==◌, IfSome, All, slice_get, nat_le, vec_len, vec_capacity, if◌then◌else◌}
+use Rattle.std.proofs.Common.{◌≡◌, ℕ, zero, suc, ◌+◌, ◌<◌, ◌≤◌, Bool, true, false, not, ◌&&◌, List, [], ◌∷◌, ◌++◌, length, refl, sym, ap, ◌∙◌, subst, inl, inr, Option, Some, arith, is_some}
+use Rattle.std.specs.Prelude.{All, slice_get, nat_le}
 use Rattle.std.proofs.lemmas.Bool.{cases_Bool, leb-true}
 use Rattle.esm_model.specs.declared.config.Config.{Config}
 use Rattle.esm_model.specs.declared.config.Kind.{Kind}
 use Rattle.esm_model.specs.declared.item.Record.{Record}
-use Rattle.esm_model.specs.declared.lane.LaneId.{LaneId}
 use Rattle.esm_model.specs.declared.entry.Entry.{Entry}
-use Rattle.esm_model.specs.Valid.{IsStreamConfig, HasFieldsOf, is_between}
+use Rattle.esm_model.specs.Valid.{IsStreamConfig, HasFieldsOf}
 use Rattle.esm_model.specs.Setting.{Setting, Stream, Extends, over, records_in, record_at}
 use Rattle.esm_model.specs.Entries.{holds, came_count, shards_that_came}
 use Rattle.esm_model.specs.Step.{Legal}
 use Rattle.esm_model.proofs.Lists.{In, not_in}
 use Rattle.esm_model.proofs.Records.{same_records, window_same}
 use Rattle.esm_shard_index.specs.Windows.{WindowTable, IsWindows, window_before}
-use Rattle.esm_shard_index.specs.Windows as windows
-use Rattle.esm_shard_index.specs.LaneView.{lane_in}
 use Rattle.esm_shard_index.specs.LaneHistory.{HasFoundTries}
 use Rattle.esm_shard_index.proofs.WindowSteps.{windows_begin}
 use Rattle.esm_model.specs.Windows.{window_of}
 use Rattle.esm_ledger.specs.declared.arriving.Arriving.{Arriving}
-use Rattle.esm_ledger.specs.declared.coming.Coming.{Coming}
 use Rattle.esm_ledger.specs.declared.ledger.Ledger.{Ledger}
 use Rattle.esm_ledger.specs.declared.measure.Measure.{Measure}
 use Rattle.esm_ledger.specs.declared.shard.ShardLedger.{ShardLedger}
 use Rattle.esm_ledger.specs.Shard.{IsShard, measure_at}
 use Rattle.esm_ledger.specs.Arriving.{AreArriving, IsEven, IsWithin, HasRoomFor}
-use Rattle.esm_ledger.specs.Ledger.{past_of, setting_of, IsAt, HasRoom, HasShardRoom, Keeps}
+use Rattle.esm_ledger.specs.Ledger.{past_of, setting_of, IsAt, Keeps}
 use Rattle.esm_ledger.specs.Coming.{with_list, grown, IsComing, TellsPassing}
-use Rattle.esm_ledger.specs.Prepared.{StaysElsewhere}
 use Rattle.esm_ledger.specs.Measuring.{last_window}
 use Rattle.esm_ledger.specs.Found.{HasFoundWindows, TellsOf}
 use Rattle.esm_ledger.proofs.Ledgers.{own_legal, names, shard_in, shard_found, records_here, records_absent, nowhere_none, IsNowhere}
-use Rattle.esm_ledger.proofs.Comes.{grown_extends, known_of}
+use Rattle.esm_ledger.proofs.Comes.{grown_extends}
 use Rattle.esm_ledger.proofs.Prepared.{records_grown}
 
 -- the configuration's factor

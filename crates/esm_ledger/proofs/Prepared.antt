@@ -1,5 +1,5 @@
 -- What is prepared for entries that are to follow, and what of it stays.
-use Rattle.std.proofs.Common.{◌≡◌, ℕ, zero, suc, ◌+◌, ◌<◌, ◌≤◌, Bool, true, false, not, ◌&&◌, ◌||◌, List, [], ◌∷◌, ◌++◌, length, map, filter, set, refl, sym, ap, ◌∙◌, subst, inl, inr, Option, Some, None, arith, Vec, Global, is_some, is_none, append-nil, ◌⊎◌}
+use Rattle.std.proofs.Common.{◌≡◌, ℕ, zero, suc, ◌+◌, ◌<◌, ◌≤◌, Bool, true, false, not, ◌&&◌, ◌||◌, List, [], ◌∷◌, ◌++◌, length, map, filter, refl, sym, ap, ◌∙◌, subst, inl, inr, Option, Some, None, arith, Vec, Global, is_none, append-nil, ◌⊎◌}
 use Rattle.std.specs.Prelude.{◌==◌, ◌≢◌, IfSome, IfNone, All, slice_get, option_map, unwrap_or, vec_len, vec_capacity, if◌then◌else◌}
 use Rattle.std.proofs.lemmas.Bool.{cases_Bool, eq-eqb, eqb-true, false_from_ne_true}
 use Rattle.std.proofs.lemmas.List.Folds.{list_any-append}
@@ -16,7 +16,6 @@ use Rattle.esm_model.specs.Step.{Legal}
 use Rattle.esm_model.specs.Lane.{same_lane}
 use Rattle.esm_shard_index.specs.LaneView.{LaneView, Table, lane_in}
 use Rattle.esm_shard_index.specs.declared.lane_state.LaneState.{LaneState}
-use Rattle.esm_shard_index.specs.LaneHistory.{arrives}
 use Rattle.esm_shard_index.specs.Progress.{found_at}
 use Rattle.esm_shard_index.specs.Places.{places_from}
 use Rattle.esm_shard_index.specs.WindowEntries.{has_entry}
@@ -32,7 +31,7 @@ use Rattle.esm_ledger.specs.Ledger.{past_of, setting_of, stream_of, IsAt, HasRoo
 use Rattle.esm_ledger.specs.Prepared.{StaysAt, StaysElsewhere, Stays}
 use Rattle.esm_ledger.specs.Adding.{IsChanged, KeepsOthers, KeepsSplits, KeepsStates, KeepsClosings, EndsAt}
 use Rattle.esm_ledger.proofs.Staying.{shard_stays, shard_over}
-use Rattle.esm_ledger.proofs.Ledgers.{own_legal, set_cases, IsSet, one_place, ledger_distinct}
+use Rattle.esm_ledger.proofs.Ledgers.{own_legal, set_cases, IsSet}
 use Rattle.esm_ledger.proofs.KeptLedgers.{SameBase, setting_same}
 use Rattle.esm_ledger.proofs.ShardChanges.{keeps_prepared, HasAsMany}
 use Rattle.esm_ledger.proofs.Comes.{grown_extends, push_cases}

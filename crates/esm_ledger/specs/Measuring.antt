@@ -1,6 +1,6 @@
 -- What is kept beside records that come, one after the other, and what was found of their shard. Only this crate's
 -- proofs cite this.
-use Rattle.std.specs.Prelude.{ℕ, suc, ◌-◌, ◌==◌, max, Bool, ◌&&◌, List, [], ◌∷◌, length, Option, Some, None, is_none, option_map, if◌then◌else◌}
+use Rattle.std.specs.Prelude.{ℕ, suc, ◌==◌, max, Bool, ◌&&◌, List, [], ◌∷◌, length, Option, Some, None, is_none, option_map, if◌then◌else◌}
 use Rattle.esm_model.specs.declared.config.Config.{Config}
 use Rattle.esm_model.specs.declared.item.Record.{Record}
 use Rattle.esm_model.specs.declared.entry.Fate.{Fate}

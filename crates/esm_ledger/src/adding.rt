@@ -1,10 +1,10 @@
 //! Adding an entry to a ledger: each takes no memory, within what is prepared.
-ghost use Rattle.std.specs.Prelude.{◌≡◌, ◌≢◌, ℕ, List, Option, ◌+◌, ◌<◌, ◌≤◌, ◌∷◌, [], true, false, length, IfSome, Some, None};
-ghost use Rattle.esm_model.specs.Entries.{came_count, is_running, is_shut};
+ghost use Rattle.std.specs.Prelude.{◌≡◌, ◌≢◌, ℕ, Option, ◌+◌, ◌<◌, ◌∷◌, true, false, length, IfSome, Some, None};
+ghost use Rattle.esm_model.specs.Entries.{came_count};
 ghost use Rattle.esm_model.specs.Lane.{same_lane};
 ghost use Rattle.esm_model.specs.declared.lane.LaneId.{LaneId};
 ghost use Rattle.esm_model.specs.Tries.{verdict_after};
-ghost use Rattle.esm_ledger.specs.Ledger.{past_of, setting_of, LegalOver, HasRoom, HasShardRoom, Rests, Keeps, HasSplits, HasState, IsClosingPrepared};
+ghost use Rattle.esm_ledger.specs.Ledger.{past_of, setting_of, LegalOver, HasRoom, HasShardRoom, Keeps, HasSplits, HasState, IsClosingPrepared};
 ghost use Rattle.esm_ledger.specs.Prepared.{StaysAt, StaysElsewhere, Stays};
 ghost use Rattle.esm_model.specs.FailureLine.{response_in};
 ghost use Rattle.esm_ledger.specs.Coming.{grown, IsComing};

@@ -1,5 +1,5 @@
 //! What an entry changes of the shard that it is of, where the ledger has it.
-ghost use Rattle.std.specs.Prelude.{◌≡◌, ◌≢◌, ℕ, List, Option, ◌≤◌, ◌<◌, ◌∷◌, [], true, length, IfSome, IfNone, Some, None, ◌+◌, ◌++◌, vec_len, vec_capacity};
+ghost use Rattle.std.specs.Prelude.{◌≡◌, ◌≢◌, ℕ, List, Option, ◌<◌, ◌∷◌, length, IfSome, IfNone, Some, None, ◌+◌, ◌++◌, vec_len, vec_capacity};
 ghost use Rattle.esm_ledger.specs.Arriving.{IsEven};
 ghost use Rattle.esm_ledger.specs.Coming.{CanTake, Takes, listed};
 ghost use Rattle.esm_model.specs.declared.lane.LaneId.{LaneId};

@@ -1,20 +1,26 @@
 //! What the journal told at opening of records and windows of a shard that is about to come.
-ghost use Rattle.std.specs.Prelude.{◌≡◌, ℕ, ◌+◌, ◌≤◌, ◌==◌, ◌&&◌, Some, length, if◌then◌else◌, IfOk, OnOk};
+ghost use Rattle.std.specs.Prelude.{◌≡◌, ℕ, ◌+◌, ◌≤◌, ◌==◌, ◌&&◌, false, None, Some, length, if◌then◌else◌, IfOk, OnOk};
 ghost use Rattle.esm_model.specs.Ruling.{capped_tries};
+ghost use Rattle.esm_journal_state.specs.SaidLists.{fate_told, tries_told};
 ghost use Rattle.esm_shard_index.specs.Windows.{state_in, tries_in};
 ghost use Rattle.esm_ledger.specs.Measuring.{fate_for, tries_for, landing_for, fates_from, landings_from, state_from, tries_from};
 ghost use Rattle.esm_ledger.specs.Found.{HasFoundWindows};
 
 use crate::arriving::Landing;
+use crate::told::is_told;
 use esm_journal_state::{SaidState, SaidWindowTries, Says};
 use esm_model::{Fate, MAX_TRIES, OutOfMemory, Record, lane_of};
 use esm_shard_index::Windows;
 use std::alloc::Global;
 
-/// The fate that was found of the record at the place.
-fn fate_of(found: &Says, shard: u64, place: u32) -> Option<Fate>
+/// The fate that was found of the record at the place; `told` says whether anything was found of its shard.
+fn fate_of(found: &Says, told: bool, shard: u64, place: u32) -> Option<Fate>
+    requires { told ≡ false → fate_told found.now shard place ≡ None }
     ensures { result ≡ fate_for found.now shard place }
 {
+    if !told {
+        return None;
+    }
     match found.fate(shard, place) {
         None => None,
         Some(told) => Some(told.fate),
@@ -22,9 +28,13 @@ fn fate_of(found: &Says, shard: u64, place: u32) -> Option<Fate>
 }
 
 /// The tries that were found of it, 10,001 at most.
-fn tries_of(found: &Says, shard: u64, place: u32) -> Option<u32>
+fn tries_of(found: &Says, told: bool, shard: u64, place: u32) -> Option<u32>
+    requires { told ≡ false → tries_told found.now shard place ≡ None }
     ensures { result ≡ tries_for found.now shard place }
 {
+    if !told {
+        return None;
+    }
     match found.tries(shard, place) {
         None => None,
         Some(told) => Some(capped(told.tries)),
@@ -37,24 +47,27 @@ fn capped(tries: u32) -> u32
     MAX_TRIES.min(tries)
 }
 
-/// Where the record at the place comes to, if it has no found fate and passes the filter.
+/// Where the record at the place, with this found fate, comes to, if it has none and passes the filter.
 fn landing_of(
     found: &Says,
+    told: bool,
     factor: u32,
     shard: u64,
     place: u32,
+    fate: Option<Fate>,
     item: &Record,
     passes: bool,
 ) -> Option<Landing>
     requires some { 1 ≤ factor }
     requires most { factor ≤ 10 }
+    requires fate { fate ≡ fate_for found.now shard place }
+    requires tries { told ≡ false → tries_told found.now shard place ≡ None }
     ensures { result ≡ landing_for factor found.now shard place item.now passes }
 {
-    let fate = fate_of(found, shard, place);
     if passes && fate.is_none() {
         Some(Landing {
             lane: lane_of(&item.key, factor),
-            tries: tries_of(found, shard, place),
+            tries: tries_of(found, told, shard, place),
         })
     } else {
         None
@@ -68,7 +81,8 @@ pub struct Fated {
     pub landings: Vec<Option<Landing>>,
 }
 
-/// Of these records of the shard, from the place `first` on.
+/// Of these records of the shard, from the place `first` on. Each is looked up once for its fate, and where it comes to a
+/// lane once for its tries; none is where nothing was found of the shard.
 pub fn found_records(
     alloc: Global,
     found: &Says,
@@ -85,12 +99,15 @@ pub fn found_records(
     ensures fates { IfOk result (λ f. f.fates.items ≡ fates_from found.now shard first records.now) }
     ensures landings { IfOk result (λ f. f.landings.items ≡ landings_from factor found.now shard first records.now passing.now) }
 {
-    let mut fates = Vec::new(alloc);
-    let mut landings = Vec::new(alloc);
+    let told = is_told(found, shard);
+    let mut fates = Vec::with_capacity(alloc, records.len())?;
+    let mut landings = Vec::with_capacity(alloc, records.len())?;
     for i in 0..records.len() {
         let place = first + i as u32;
-        fates.push(fate_of(found, shard, place))?;
-        let landing = landing_of(found, factor, shard, place, &records[i], passing[i]);
+        let item = &records[i];
+        let fate = fate_of(found, told, shard, place);
+        let landing = landing_of(found, told, factor, shard, place, fate, item, passing[i]);
+        fates.push(fate)?;
         landings.push(landing)?;
     }
     Ok(Fated { fates, landings })

@@ -1,12 +1,10 @@
 // The ledger of a stream's book: the history of entries, with quick tables of what it says.
-ghost use Rattle.std.specs.Prelude.{◌≡◌, ◌≢◌, ℕ, List, ◌+◌, ◌<◌, ◌≤◌, ◌∷◌, [], true, false, length, reverse, OnOk, OnErr, IfOk, IfSome, IfNone, IsSome, Some, None, slice_get, ◌++◌, vec_len, vec_capacity};
+ghost use Rattle.std.specs.Prelude.{◌≡◌, ℕ, ◌+◌, ◌<◌, ◌∷◌, [], true, false, length, reverse, OnOk, IfOk, IfSome, IfNone, Some, None, slice_get, ◌++◌, vec_len, vec_capacity};
 ghost use Rattle.esm_model.specs.declared.lane.LaneId.{LaneId};
 ghost use Rattle.esm_model.specs.Valid.{IsStreamConfig};
-ghost use Rattle.esm_model.specs.Setting.{Setting};
-ghost use Rattle.esm_model.specs.Entries.{last_moment, came_count, is_shut, calls_begun, is_running};
-ghost use Rattle.esm_model.specs.Tries.{verdict_after};
+ghost use Rattle.esm_model.specs.Entries.{came_count, is_shut, calls_begun};
 ghost use Rattle.esm_shard_index.specs.LaneHistory.{HasFoundTries};
-ghost use Rattle.esm_ledger.specs.Ledger.{past_of, setting_of, opened_with, LegalOver, IsAt, HasRoom, HasShardRoom, Rests, Keeps, HasSplits, HasState};
+ghost use Rattle.esm_ledger.specs.Ledger.{past_of, setting_of, opened_with, IsAt, HasRoom, HasShardRoom, Rests, Keeps, HasSplits, HasState};
 ghost use Rattle.esm_ledger.specs.Prepared.{StaysElsewhere, Stays};
 ghost use Rattle.esm_shard_index.specs.WindowEntries.{has_entry};
 

@@ -12,10 +12,12 @@ mod ledger;
 mod measure;
 mod measuring;
 mod preparing;
+mod progress;
 mod reading;
 mod shard;
 pub mod shard_laws;
 mod shard_steps;
+mod told;
 mod upcoming;
 
 pub use arriving::{Arriving, Landing};
@@ -23,3 +25,4 @@ pub use coming::Coming;
 pub use ledger::Ledger;
 pub use measure::Measure;
 pub use shard::ShardLedger;
+pub use told::{is_any_told, is_told};

@@ -1,5 +1,5 @@
 //! What is to be kept of records that are about to come, from the records and what was found of them.
-ghost use Rattle.std.specs.Prelude.{◌≡◌, ℕ, ◌+◌, ◌<◌, ◌≤◌, max, length, Some, None, slice_get, IfOk};
+ghost use Rattle.std.specs.Prelude.{◌≡◌, ℕ, ◌+◌, ◌<◌, max, length, Some, slice_get, IfOk};
 ghost use Rattle.std.specs.List.{All};
 ghost use Rattle.esm_model.specs.declared.item.Record.{Record};
 ghost use Rattle.esm_model.specs.Valid.{IsStreamConfig, IsValidRecord};
@@ -51,8 +51,8 @@ fn measured(
     ensures windows { IfOk result (λ m. m.windows.items ≡ open_of config.now before records.now fates.now) }
     ensures last { IfOk result (λ m. m.last ≡ last_of config.now before records.now) }
 {
-    let mut measures = Vec::new(alloc);
-    let mut windows = Vec::new(alloc);
+    let mut measures = Vec::with_capacity(alloc, records.len())?;
+    let mut windows = Vec::with_capacity(alloc, records.len())?;
     let mut last = before;
     for i in 0..records.len() {
         let record = &records[i];

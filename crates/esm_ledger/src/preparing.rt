@@ -1,10 +1,10 @@
 //! Memory for records of a shard that are about to come.
-ghost use Rattle.std.specs.Prelude.{◌≡◌, ◌≢◌, ℕ, ◌+◌, ◌<◌, ◌≤◌, true, length, vec_len, vec_capacity, OnOk};
+ghost use Rattle.std.specs.Prelude.{◌≡◌, ℕ, ◌+◌, ◌<◌, ◌≤◌, true, [], ◌∷◌, Some, length, slice_index_or, vec_len, vec_capacity, IfOk, OnOk};
 ghost use Rattle.esm_model.specs.Entries.{holds};
 ghost use Rattle.esm_shard_index.specs.LaneView.{lane_in};
 ghost use Rattle.esm_shard_index.specs.WindowEntries.{has_entry};
 ghost use Rattle.esm_shard_index.specs.Windows.{open_in};
-ghost use Rattle.esm_ledger.specs.Arriving.{landing_count, lands_in};
+ghost use Rattle.esm_ledger.specs.Arriving.{landing_count};
 
 use crate::arriving::{Arriving, Landing};
 use crate::measure::Measure;
@@ -56,28 +56,46 @@ pub fn reserve_tables(
     windows.prepare_open(arriving.windows.as_slice())
 }
 
-/// Whether the record comes to the lane.
-fn lands(landing: Option<Landing>, lane: u32) -> bool
-    ensures { result ≡ lands_in lane landing }
+/// One more record comes to its lane, where that is one of those that are counted.
+fn count_landing(counts: &mut [u32], landing: Landing)
+    requires { (k : ℕ) → k < length counts.old → slice_index_or counts.old k 0 < u32.MAX }
+    ensures size { length counts.new ≡ length counts.old }
+    ensures each { (k : ℕ) → k < length counts.old → slice_index_or counts.new k 0 ≡ slice_index_or counts.old k 0 + landing_count k (Some landing ∷ []) }
+{
+    let at = landing.lane as usize;
+    if at >= counts.len() {
+        return;
+    }
+    counts[at] += 1;
+}
+
+/// One more record comes, to a lane or to none.
+fn count_record(counts: &mut [u32], landing: Option<Landing>)
+    requires { (k : ℕ) → k < length counts.old → slice_index_or counts.old k 0 < u32.MAX }
+    ensures size { length counts.new ≡ length counts.old }
+    ensures each { (k : ℕ) → k < length counts.old → slice_index_or counts.new k 0 ≡ slice_index_or counts.old k 0 + landing_count k (landing ∷ []) }
 {
     match landing {
-        None => false,
-        Some(landing) => landing.lane == lane,
+        None => {}
+        Some(landing) => count_landing(counts, landing),
     }
 }
 
-/// How many of the records come to the lane.
-fn count_landing(landings: &[Option<Landing>], lane: u32) -> u32
+/// How many of the records come to each of so many lanes.
+fn count_landings(
+    alloc: Global,
+    lanes: u32,
+    landings: &[Option<Landing>],
+) -> Result<Vec<u32>, OutOfMemory>
     requires { length landings.now ≤ u32.MAX }
-    ensures { result ≡ landing_count lane landings.now }
+    ensures size { IfOk result (λ counts. length counts.items ≡ lanes) }
+    ensures each { IfOk result (λ counts. (k : ℕ) → k < lanes → slice_index_or counts.items k 0 ≡ landing_count k landings.now) }
 {
-    let mut count = 0;
+    let mut counts = vec![in alloc; 0; lanes as usize]?;
     for landing in landings {
-        if lands(*landing, lane) {
-            count += 1;
-        }
+        count_record(counts.as_mut_slice(), *landing);
     }
-    count
+    Ok(counts)
 }
 
 /// Memory for the records in each of the lanes. After `OutOfMemory` what is told of the lanes has not changed.
@@ -95,8 +113,9 @@ pub fn reserve_lanes(
     ensures splits { (k : ℕ) → (lane_in lanes.old k).kept.splits ≤ (lane_in lanes.new k).kept.splits }
     ensures ok { OnOk result ((k : ℕ) → k < length lanes.old.lanes → landing_count k landings.now ≤ (lane_in lanes.new k).kept.adds) }
 {
+    let counts = count_landings(alloc, count, landings)?;
     for lane in 0..count {
-        lanes.reserve(alloc, lane, count_landing(landings, lane), 0)?;
+        lanes.reserve(alloc, lane, counts[lane as usize], 0)?;
     }
     Ok(())
 }

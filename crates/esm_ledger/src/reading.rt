@@ -1,26 +1,24 @@
 //! What is read of a ledger, each by the definition of its word. Nothing takes memory.
-ghost use Rattle.std.specs.Prelude.{◌≡◌, ℕ, ◌<◌, ◌≤◌, ◌↔◌, [], Some, true, false, length, option_copied, slice_get, MatchOption, IfSome, IsNone};
-ghost use Rattle.esm_model.specs.declared.entry.Fate.{Fate};
+ghost use Rattle.std.specs.Prelude.{◌≡◌, ℕ, ◌<◌, ◌≤◌, ◌↔◌, [], Some, true, false, length, option_copied, slice_get, IfSome, IsNone};
 ghost use Rattle.esm_model.specs.declared.item.Record.{Record};
 ghost use Rattle.esm_model.specs.Setting.{record_at};
 ghost use Rattle.esm_model.specs.EventText.{record_text};
 ghost use Rattle.esm_model.specs.Entries.{came_count, came_moment, is_running, last_call, batch_of};
-ghost use Rattle.esm_model.specs.Fates.{open_places, fate_count};
+ghost use Rattle.esm_model.specs.Fates.{open_places};
 ghost use Rattle.esm_model.specs.Tries.{window_tries};
-ghost use Rattle.esm_model.specs.Windows.{has_windows, window_of, kept_state, is_due, is_outstanding};
+ghost use Rattle.esm_model.specs.Windows.{window_of, kept_state, is_outstanding};
 ghost use Rattle.esm_model.specs.Batches.{delay_end};
 ghost use Rattle.esm_model.specs.FailureLine.{calls_of, response_of};
-ghost use Rattle.esm_shard_index.specs.FateCounts.{count_in};
 ghost use Rattle.esm_shard_index.specs.LaneSteps.{IsGroupOf};
 ghost use Rattle.esm_shard_index.specs.WindowsLaws.{closing_of};
 ghost use Rattle.esm_ledger.specs.Shard.{closing_in, measure_at};
-ghost use Rattle.esm_ledger.specs.Ledger.{past_of, setting_of, Rests, Keeps};
-ghost use Rattle.esm_ledger.specs.Reading.{lane_of_batcher, checkpoint_of, spread_of, IsLaneSettled, IsLeastDueWindow};
+ghost use Rattle.esm_ledger.specs.Ledger.{past_of, setting_of, Keeps};
+ghost use Rattle.esm_ledger.specs.Reading.{lane_of_batcher, IsLaneSettled, IsLeastDueWindow};
 
 use crate::ledger::Ledger;
 use crate::measure::Measure;
 use esm_model::{Bytes, LaneId, Record, Response};
-use esm_shard_index::{FateCounts, Front, Running};
+use esm_shard_index::{Front, Running};
 
 impl Ledger {
     /// The lane that the batcher serves; `None` where its shard has not come.

@@ -14,6 +14,7 @@ pub mod Leaving
 pub mod Paying
 pub mod Deciding
 pub mod Shutting
+pub mod Names
 pub mod Payloads
 pub mod Calls
 pub mod Lengths

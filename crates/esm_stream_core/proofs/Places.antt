@@ -1,8 +1,8 @@
 -- The places that the filter refuses, among records that come.
-use Rattle.std.proofs.Common.{◌≡◌, ◌≢◌, ℕ, zero, suc, ◌+◌, ◌-◌, ◌<◌, ◌≤◌, Bool, true, false, not, ◌||◌, ◌&&◌, List, [], ◌∷◌, ◌++◌, length, take, drop, get_or, set, refl, sym, ap, ap₂, ◌∙◌, inl, inr, arith, Option, Some, None}
+use Rattle.std.proofs.Common.{◌≡◌, ◌≢◌, ℕ, zero, suc, ◌+◌, ◌-◌, ◌<◌, ◌≤◌, Bool, true, false, not, ◌||◌, ◌&&◌, List, [], ◌∷◌, length, take, get_or, set, refl, sym, ap, ap₂, ◌∙◌, inl, inr, arith, Option, Some, None}
 use Rattle.std.specs.Prelude.{◌==◌, All, is_none, slice_get}
 use Rattle.std.specs.List.{AllByRecursion}
-use Rattle.std.proofs.Math.Seq.{take-suc, drop-cons}
+use Rattle.std.proofs.Math.Seq.{take-suc}
 use Rattle.std.proofs.lemmas.Bool.{cases_Bool, eq-eqb, eqb-true, false_from_ne_true}
 use Rattle.std.proofs.lemmas.Option.{slice_get_within}
 use Rattle.std.proofs.lemmas.List.{get_or-set_other}
@@ -16,7 +16,7 @@ use Rattle.esm_model.specs.Entries.{holds}
 use Rattle.esm_model.specs.Owed.{is_refused}
 use Rattle.esm_ledger.specs.Coming.{TellsPassing}
 use Rattle.esm_ingest.specs.Parts.{is_refused_at, refused_from}
-use Rattle.esm_stream_core.specs.Gathered.{IsFrom, names_in}
+use Rattle.esm_stream_core.specs.Gathered.{IsFrom}
 
 -- one more place
 
@@ -54,25 +54,6 @@ marked passing xs i first count k all low above within so_far =
           get_or-set_other passing (get_or xs i 0 - first) k false false other
           ∙ (so_far ∙ sym (ap not (holds_next xs i (first + k) low ∙ (ap (λ (b : Bool). holds (take i xs) (first + k) || b) off ∙ or_none (holds (take i xs) (first + k)))))))
     ]
-
--- the sequence number of one more record
-
-names_cons : (first : ℕ) (rs : List Record) (place : ℕ) (r : Record) (xs : List ℕ) → slice_get rs (place - first) ≡ Some r → names_in first rs (place ∷ xs) ≡ r.seq ∷ names_in first rs xs
-names_cons first rs place r xs at = rw at refl
-
-append_one : (xs : List (List ℕ)) (x : List ℕ) (ys : List (List ℕ)) → (xs ++ x ∷ []) ++ ys ≡ xs ++ x ∷ ys
-append_one [] x ys = refl
-append_one (y ∷ xs) x ys = ap (λ (zs : List (List ℕ)). y ∷ zs) (append_one xs x ys)
-
-pub names_next : (first : ℕ) (rs : List Record) (xs : List ℕ) (i place : ℕ) (r : Record) (names now all : List (List ℕ)) → i < length xs → get_or xs i 0 ≡ place → slice_get rs (place - first) ≡ Some r → now ≡ names ++ r.seq ∷ []
-    → names ++ names_in first rs (drop i xs) ≡ all → now ++ names_in first rs (drop (i + 1) xs) ≡ all
-names_next first rs xs i place r names now all low is at more so_far =
-    let e : suc i ≡ i + 1 = omega arith in
-    let next : drop i xs ≡ place ∷ drop (i + 1) xs = drop-cons xs i 0 low ∙ ap₂ (λ (p : ℕ) (n : ℕ). p ∷ drop n xs) is e in
-    ap (λ (ys : List (List ℕ)). ys ++ names_in first rs (drop (i + 1) xs)) more
-    ∙ (append_one names r.seq (names_in first rs (drop (i + 1) xs))
-    ∙ (ap (λ (ys : List (List ℕ)). names ++ ys) (sym (ap (names_in first rs) next ∙ names_cons first rs place r (drop (i + 1) xs) at))
-    ∙ so_far))
 
 -- the refused places of a part
 

@@ -1,7 +1,7 @@
 // Records that come to the ledger: the arrivals that are owed, part by part, and what the filter refuses of them.
 ghost use Rattle.std.specs.Prelude.{◌≡◌, ℕ, ◌+◌, ◌<◌, ◌++◌, ◌∷◌, [], All, not, true, false, map, length, reverse, slice_index_or, IfOk, OnOk, OnErr};
 ghost use Rattle.esm_model.specs.Entries.{holds};
-ghost use Rattle.esm_journal_record.specs.Payload.{IsSaid};
+ghost use Rattle.esm_journal_record.specs.Payload.{payload_of, IsSaid, names_bytes};
 ghost use Rattle.esm_ledger.specs.Ledger.{past_of, setting_of, HasRoom, HasShardRoom, Keeps};
 ghost use Rattle.esm_ledger.specs.Prepared.{StaysElsewhere};
 ghost use Rattle.esm_ingest.specs.Parts.{part};
@@ -17,9 +17,9 @@ ghost use Rattle.esm_stream_core.specs.Kept.{Decides, IsSame};
 use crate::owed::{Act, Owed};
 use crate::stream_core::StreamCore;
 use esm_ingest::ShardRecords;
-use esm_journal_record::{Said, said_bytes};
+use esm_journal_record::{begin_fates, push_sequence};
 use esm_ledger::{Coming, Ledger};
-use esm_model::{Bytes, Fate, OutOfMemory, Places, Record, Text, Texts};
+use esm_model::{Bytes, Fate, OutOfMemory, Places, Record};
 use std::alloc::Global;
 use std::mem;
 
@@ -42,22 +42,41 @@ fn passing_of(
     Ok(passing)
 }
 
-/// Copies of the sequence numbers of the records at the places; the first record stands at the place `first`.
-fn names_from(
-    alloc: Global,
+/// The places and the sequence numbers of the records there go behind what is written; the first record stands at the
+/// place `first`.
+fn push_names(
+    out: &mut Vec<u8>,
     first: u32,
     records: &[Record],
     places: &[u32],
-) -> Result<Vec<Text>, OutOfMemory>
+) -> Result<(), OutOfMemory>
     requires { All (IsFrom first (length records.now)) places.now }
-    ensures { IfOk result (λ names. names.items ≡ names_in first records.now places.now) }
+    ensures { OnOk result (out.new.items ≡ out.old.items ++ names_bytes places.now (names_in first records.now places.now)) }
 {
-    let mut names = Vec::with_capacity(alloc, places.len())?;
     for place in places {
-        let name = String::from_str(alloc, records[(*place - first) as usize].seq.text())?;
-        names.push(Text::from_vec(name))?;
+        push_sequence(out, *place, &records[(*place - first) as usize].seq)?;
     }
-    Ok(names)
+    Ok(())
+}
+
+/// What is written of the refused places of a part.
+fn filtered_payload(
+    alloc: Global,
+    shard: u64,
+    first: u32,
+    records: &[Record],
+    places: &Places,
+    moment: u64,
+) -> Result<Vec<u8>, OutOfMemory>
+    requires within { All (IsFrom first (length records.now)) places.now }
+    requires said { IsSaid (part_said moment (record { shard = shard; first = first; records = records.now; refused = places.now })) }
+    ensures { IfOk result (λ out. out.items ≡ payload_of (part_said moment (record { shard = shard; first = first; records = records.now; refused = places.now }))) }
+{
+    let (fate, state) = (Fate::Filtered, None);
+    let places = places.as_slice();
+    let mut out = begin_fates(alloc, shard, fate, moment, &state, places.len() as u32)?;
+    push_names(&mut out, first, records, places)?;
+    Ok(out)
 }
 
 /// The refused places of a part are filtered, with what is written of that.
@@ -73,16 +92,7 @@ fn filtered(
     requires said { IsSaid (part_said moment (record { shard = shard; first = first; records = records.now; refused = places })) }
     ensures { IfOk result (λ owed. owed ≡ filtered_owed moment (record { shard = shard; first = first; records = records.now; refused = places })) }
 {
-    let names = names_from(alloc, first, records, places.as_slice())?;
-    let said = Said::Fates {
-        shard,
-        fate: Fate::Filtered,
-        moment,
-        state: None,
-        places: places.copy(alloc)?,
-        texts: Texts::from_vec(names),
-    };
-    let payload = said_bytes(alloc, &said)?;
+    let payload = filtered_payload(alloc, shard, first, records, &places, moment)?;
     let act = Act::Gave {
         by: None,
         shard,
@@ -177,8 +187,8 @@ fn gather(
     ensures all { IfOk result (IsGathered ledger.new moment (map part parts.items)) }
 {
     let mut gathered = Gathered {
-        coming: Vec::new(alloc),
-        came: Vec::new(alloc),
+        coming: Vec::with_capacity(alloc, parts.len())?,
+        came: Vec::with_capacity(alloc, parts.len())?,
         filtered: Vec::new(alloc),
     };
     for next in parts {

@@ -13,6 +13,7 @@ mod finishing;
 mod fitting;
 mod owed;
 mod payload;
+mod progress;
 mod reading;
 mod standing;
 mod stream_core;

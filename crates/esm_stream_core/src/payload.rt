@@ -1,13 +1,13 @@
 //! What is written of an owed entry.
-ghost use Rattle.std.specs.Prelude.{◌≡◌, ◌++◌, ℕ, List, [], Some, None, map, reverse, option_copied, IfOk, OnOk};
-ghost use Rattle.std.specs.List.{cons_option};
+ghost use Rattle.std.specs.Prelude.{◌≡◌, ◌++◌, ℕ, List, Some, None, length, map, reverse, option_copied, IfOk, OnOk};
 ghost use Rattle.esm_model.specs.declared.item.Record.{Record};
 ghost use Rattle.esm_model.specs.declared.entry.Fate.{Fate};
 ghost use Rattle.esm_model.specs.declared.entry.Entry.{Entry};
 ghost use Rattle.esm_model.specs.Setting.{Setting, sequences_at};
 ghost use Rattle.esm_model.specs.Valid.{IsStreamConfig};
 ghost use Rattle.esm_journal_record.specs.declared.said.Said.{Said};
-ghost use Rattle.esm_journal_record.specs.Payload.{payload_of, IsSaid};
+ghost use Rattle.esm_journal_record.specs.EntryPayload.{entry_payload};
+ghost use Rattle.esm_journal_record.specs.Payload.{payload_of, IsSaid, name_bytes, names_bytes};
 ghost use Rattle.esm_ledger.specs.Ledger.{setting_of, Keeps};
 ghost use Rattle.esm_outcome.specs.Dues.{due_entry};
 ghost use Rattle.esm_record_bounds.specs.Bounds.{AreWithinBounds};
@@ -15,9 +15,9 @@ ghost use Rattle.esm_stream_core.specs.declared.owed.Act.{Act};
 ghost use Rattle.esm_stream_core.specs.Acts.{IsWritten, IsWritable, AreWritable, AreNext, AreDue, due_act};
 
 use crate::owed::{Act, Owed};
-use esm_journal_record::{Said, said_bytes};
+use esm_journal_record::{Said, begin_fates, begin_tried, push_sequence, said_bytes};
 use esm_ledger::Ledger;
-use esm_model::{Bytes, Fate, LaneId, OutOfMemory, Places, Record, Text, Texts, WindowState};
+use esm_model::{Bytes, Fate, LaneId, OutOfMemory, Places, Record, Text, WindowState};
 use esm_outcome::Due;
 use esm_record_bounds::laws::{legal_may_be_said, lines_within, payload_within};
 use std::alloc::Global;
@@ -31,73 +31,62 @@ pub(crate) fn next_may_be_written()
     lines_within();
 }
 
-/// A copy of the record's sequence number goes behind the others.
-fn push_name(
-    names: &mut Vec<Text>,
-    alloc: Global,
-    found: Option<&Record>,
-) -> Result<(), OutOfMemory>
-    ensures { OnOk result (names.new.items ≡ names.old.items ++ map (λ (r : Record). r.seq) (cons_option (option_copied found.entry) [])) }
+/// The record's place and sequence number go behind what is written, where there is one.
+fn push_name(out: &mut Vec<u8>, place: u32, found: Option<&Record>) -> Result<(), OutOfMemory>
+    ensures { (r : Record) → option_copied found.entry ≡ Some r → OnOk result (out.new.items ≡ out.old.items ++ name_bytes place r.seq) }
 {
-    if let Some(record) = found {
-        let name = String::from_str(alloc, record.seq.text())?;
-        names.push(Text::from_vec(name))?;
+    match found {
+        None => Ok(()),
+        Some(record) => push_sequence(out, place, &record.seq),
+    }
+}
+
+/// The places and the sequence numbers of the shard's records there, in order, go behind what is written.
+fn push_names(
+    out: &mut Vec<u8>,
+    ledger: &Ledger,
+    shard: u64,
+    places: &[u32],
+) -> Result<(), OutOfMemory>
+    requires kept { Keeps ledger.now }
+    requires stand { length (sequences_at (setting_of ledger.now) shard places.now) ≡ length places.now }
+    ensures { OnOk result (out.new.items ≡ out.old.items ++ names_bytes places.now (sequences_at (setting_of ledger.now) shard places.now)) }
+{
+    for place in places {
+        push_name(out, *place, ledger.record(shard, *place))?;
     }
     Ok(())
 }
 
-/// Copies of the sequence numbers of the shard's records at the places, in order.
-fn names_at(
-    alloc: Global,
-    ledger: &Ledger,
-    shard: u64,
-    places: &[u32],
-) -> Result<Vec<Text>, OutOfMemory>
-    requires { Keeps ledger.now }
-    ensures { IfOk result (λ names. names.items ≡ sequences_at (setting_of ledger.now) shard places.now) }
+/// The act, with its payload.
+fn owed_with(act: Act, payload: Vec<u8>) -> Owed
+    ensures act { result.act ≡ act }
+    ensures payload { result.payload ≡ Some payload.items }
 {
-    let mut names = Vec::with_capacity(alloc, places.len())?;
-    for place in places {
-        push_name(&mut names, alloc, ledger.record(shard, *place))?;
-    }
-    Ok(names)
-}
-
-/// The act, with the payload that says so.
-fn owed_by(alloc: Global, act: Act, said: &Said) -> Result<Owed, OutOfMemory>
-    requires { IsSaid said.now }
-    ensures act { IfOk result (λ owed. owed.act ≡ act) }
-    ensures payload { IfOk result (λ owed. owed.payload ≡ Some (payload_of said.now)) }
-{
-    let payload = said_bytes(alloc, said)?;
-    Ok(Owed {
+    Owed {
         act,
         payload: Some(Bytes::from_vec(payload)),
-    })
+    }
 }
 
-/// What is said where records of the shard get a fate.
-fn fates_said(
+/// What is written where records of the shard get a fate.
+fn fates_payload(
     alloc: Global,
     ledger: &Ledger,
     shard: u64,
     places: &Places,
     fate: Fate,
-    state: Option<WindowState>,
+    state: &Option<WindowState>,
     moment: u64,
-) -> Result<Said, OutOfMemory>
-    requires { Keeps ledger.now }
-    ensures { IfOk result (λ said. said ≡ Said.Fates shard fate moment state places.now (sequences_at (setting_of ledger.now) shard places.now)) }
+) -> Result<Vec<u8>, OutOfMemory>
+    requires kept { Keeps ledger.now }
+    requires said { IsSaid (Said.Fates shard fate moment state.now places.now (sequences_at (setting_of ledger.now) shard places.now)) }
+    ensures { IfOk result (λ out. out.items ≡ payload_of (Said.Fates shard fate moment state.now places.now (sequences_at (setting_of ledger.now) shard places.now))) }
 {
-    let names = names_at(alloc, ledger, shard, places.as_slice())?;
-    Ok(Said::Fates {
-        shard,
-        fate,
-        moment,
-        state,
-        places: places.copy(alloc)?,
-        texts: Texts::from_vec(names),
-    })
+    let places = places.as_slice();
+    let mut out = begin_fates(alloc, shard, fate, moment, state, places.len() as u32)?;
+    push_names(&mut out, ledger, shard, places)?;
+    Ok(out)
 }
 
 /// Records of the lane that expire.
@@ -114,16 +103,15 @@ pub(crate) fn expired(
     ensures act { IfOk result (λ owed. owed.act ≡ Act.Expired lane places line moment) }
     ensures written { IfOk result (IsWritten (setting_of ledger.now)) }
 {
-    let fate = Fate::Expired;
-    let said = fates_said(alloc, ledger, lane.shard, &places, fate, None, moment)?;
+    let (fate, state) = (Fate::Expired, None);
+    let payload = fates_payload(alloc, ledger, lane.shard, &places, fate, &state, moment)?;
     let act = Act::Expired {
         lane,
         places,
         line,
         moment,
     };
-    let owed = owed_by(alloc, act, &said)?;
-    Ok(owed)
+    Ok(owed_with(act, payload))
 }
 
 /// A copy of the state, where there is one.
@@ -158,8 +146,7 @@ fn given(
     ensures act { IfOk result (λ owed. owed.act ≡ Act.Gave (Some lane) lane.shard places fate line state state moment) }
     ensures written { IfOk result (IsWritten (setting_of ledger.now)) }
 {
-    let kept = state_copy(alloc, &state)?;
-    let said = fates_said(alloc, ledger, lane.shard, &places, fate, kept, moment)?;
+    let payload = fates_payload(alloc, ledger, lane.shard, &places, fate, &state, moment)?;
     let copy = state_copy(alloc, &state)?;
     let act = Act::Gave {
         by: Some(lane),
@@ -171,41 +158,53 @@ fn given(
         copy,
         moment,
     };
-    let owed = owed_by(alloc, act, &said)?;
-    Ok(owed)
+    Ok(owed_with(act, payload))
 }
 
-/// What is said where a failed try of the shard's records counts, or of a window's final call.
-fn tried_said(
+/// What is written where a failed try of the shard's records counts.
+fn records_tried(
     alloc: Global,
     ledger: &Ledger,
     shard: u64,
     places: &Places,
+    tries: u32,
+    moment: u64,
+) -> Result<Vec<u8>, OutOfMemory>
+    requires kept { Keeps ledger.now }
+    requires said { IsSaid (Said.Tried shard moment tries places.now (sequences_at (setting_of ledger.now) shard places.now)) }
+    ensures { IfOk result (λ out. out.items ≡ payload_of (Said.Tried shard moment tries places.now (sequences_at (setting_of ledger.now) shard places.now))) }
+{
+    let places = places.as_slice();
+    let mut out = begin_tried(alloc, shard, moment, tries, places.len() as u32)?;
+    push_names(&mut out, ledger, shard, places)?;
+    Ok(out)
+}
+
+/// What is written where a failed try of the lane's records counts, or of a window's final call.
+fn tried_payload(
+    alloc: Global,
+    ledger: &Ledger,
+    lane: LaneId,
+    places: &Places,
     closing: Option<u64>,
     tries: u32,
     moment: u64,
-) -> Result<Said, OutOfMemory>
-    requires { Keeps ledger.now }
-    ensures records { closing ≡ None → IfOk result (λ said. said ≡ Said.Tried shard moment tries places.now (sequences_at (setting_of ledger.now) shard places.now)) }
-    ensures window { (w : ℕ) → closing ≡ Some w → IfOk result (λ said. said ≡ Said.WindowTried shard w moment tries) }
+) -> Result<Vec<u8>, OutOfMemory>
+    requires kept { Keeps ledger.now }
+    requires writable { IsWritable (setting_of ledger.now) (Entry.Tried lane places.now closing tries moment) }
+    ensures { IfOk result (λ out. entry_payload (setting_of ledger.now) (Entry.Tried lane places.now closing tries moment) ≡ Some out.items) }
 {
     match closing {
-        None => {
-            let names = names_at(alloc, ledger, shard, places.as_slice())?;
-            Ok(Said::Tried {
-                shard,
+        None => records_tried(alloc, ledger, lane.shard, places, tries, moment),
+        Some(window) => {
+            let said = Said::WindowTried {
+                shard: lane.shard,
+                window,
                 moment,
                 tries,
-                places: places.copy(alloc)?,
-                texts: Texts::from_vec(names),
-            })
+            };
+            said_bytes(alloc, &said)
         }
-        Some(window) => Ok(Said::WindowTried {
-            shard,
-            window,
-            moment,
-            tries,
-        }),
     }
 }
 
@@ -224,7 +223,7 @@ fn tried(
     ensures act { IfOk result (λ owed. owed.act ≡ Act.Tried lane places closing tries moment) }
     ensures written { IfOk result (IsWritten (setting_of ledger.now)) }
 {
-    let said = tried_said(alloc, ledger, lane.shard, &places, closing, tries, moment)?;
+    let payload = tried_payload(alloc, ledger, lane, &places, closing, tries, moment)?;
     let act = Act::Tried {
         lane,
         places,
@@ -232,8 +231,7 @@ fn tried(
         tries,
         moment,
     };
-    let owed = owed_by(alloc, act, &said)?;
-    Ok(owed)
+    Ok(owed_with(act, payload))
 }
 
 /// A window that is closed.
@@ -247,13 +245,13 @@ fn closed(alloc: Global, lane: LaneId, window: u64, moment: u64) -> Result<Owed,
         window,
         moment,
     };
+    let payload = said_bytes(alloc, &said)?;
     let act = Act::Closed {
         lane,
         window,
         moment,
     };
-    let owed = owed_by(alloc, act, &said)?;
-    Ok(owed)
+    Ok(owed_with(act, payload))
 }
 
 /// What the end of the lane's call calls for, with what is written of it.

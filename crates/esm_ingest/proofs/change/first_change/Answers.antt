@@ -1,10 +1,10 @@
-use Rattle.std.proofs.Common.{◌≡◌, ◌∙◌, ◌+◌, take, refl, sym, arith, rules}
+use Rattle.std.proofs.Common.{◌≡◌, ◌∙◌, ◌+◌, [], take, refl, sym, arith, rules}
 use Rattle.std.specs.Ordering.{nat_cmp}
 use Rattle.std.specs.BTreeMap.{get}
 use Rattle.esm_model.specs.Entries.{came_count}
 use Rattle.esm_ledger.specs.Ledger.{past_of, setting_of}
 use Rattle.esm_ingest.specs.Coming.{count_of}
-use Rattle.esm_ingest.proofs.Changing.{place_within, next_more, change_found, change_more, change_none}
+use Rattle.esm_ingest.proofs.Changing.{place_within, next_more, change_found, change_more, change_none, nothing_changes}
 use Rattle.esm_ingest.proofs.change.first_change.Goals as goal
 
 pub loop-item-init : goal.loop-item-init
@@ -38,3 +38,8 @@ loop-item-preserved c =
 
 pub returns : goal.returns
 returns c = change_none (setting_of c.args.ledger.now) (past_of c.args.ledger.now) c.args.items.now c.loop-item.item-index c.loop-item-test.false c.loop-item.invariant.so_far
+
+pub returns-then-not-is_any_told : goal.returns-then-not-is_any_told
+returns-then-not-is_any_told c =
+    let none = c.if-not-is_any_told.true in
+    sym (nothing_changes (setting_of c.args.ledger.now) (past_of c.args.ledger.now) [] c.args.items.now (c.is_any_told.ensures.fates none) (c.is_any_told.ensures.tries none))

@@ -15,6 +15,7 @@ loop-item-init c =
     let same = ap (λ (xs : List Record). length xs) gives.0 in
     record {
       index = λ n. search rules;
+      run = tt;
       so_far = ap₂ (λ (gs : List Group) (rs : List Record). with_records (map stream_in gs) rs) c.new-groups.ensures.items gives.0;
       left = gives.1 ∙ (all ∙ sym same);
     }
@@ -29,8 +30,9 @@ loop-item-preserved c =
     let short : length (into_iter_items at.item-iterator) ≡ suc (length (into_iter_items c.next.new.self)) = ap (λ (xs : List Record). length xs) steps in
     let left = inv.left in
     record {
-      index = c.in_ok-add.ensures.index;
-      so_far = ap (λ (ts : List Stream). with_records ts (into_iter_items c.next.new.self)) c.in_ok-add.ensures.groups ∙ (ap (λ (rs : List Record). with_records (map stream_in at.groups.items) rs) (sym steps) ∙ inv.so_far);
+      index = c.in_ok-run.ensures.index;
+      run = c.in_ok-run.ensures.run;
+      so_far = ap (λ (ts : List Stream). with_records ts (into_iter_items c.next.new.self)) c.in_ok-run.ensures.groups ∙ (ap (λ (rs : List Record). with_records (map stream_in at.groups.items) rs) (sym steps) ∙ inv.so_far);
       left = omega (arith, short, left, gone);
     }
 

@@ -1,4 +1,4 @@
-use Rattle.std.proofs.Common.{◌≡◌, ℕ, List, Option, None, ap, sym, ◌∙◌}
+use Rattle.std.proofs.Common.{ℕ, List, Option, ap, ◌∙◌}
 use Rattle.std.specs.Prelude.{option_map, find, ◌==◌, ◌&&◌}
 use Rattle.esm_model.specs.declared.setup.FoundState.{FoundState}
 use Rattle.esm_journal_state.specs.declared.lookup.SaidWindowTries.{SaidWindowTries}

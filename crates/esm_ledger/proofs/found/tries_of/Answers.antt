@@ -1,4 +1,7 @@
-use Rattle.std.proofs.Common.{◌∙◌, ap, Some}
+use Rattle.std.proofs.Common.{◌∙◌, ap, sym, Some}
+use Rattle.std.specs.Prelude.{option_map}
+use Rattle.esm_model.specs.declared.setup.FoundTries.{FoundTries}
+use Rattle.esm_model.specs.Ruling.{capped_tries}
 use Rattle.esm_journal_state.specs.SaidLists.{tries_told}
 use Rattle.esm_ledger.proofs.Founds.{tries_read}
 use Rattle.esm_ledger.proofs.found.tries_of.Goals as goal
@@ -8,3 +11,6 @@ returns-in-None c = tries_read _ (tries_told c.args.found.now c.args.shard c.arg
 
 pub returns-in-Some : goal.returns-in-Some
 returns-in-Some c = ap Some c.capped.ensures ∙ tries_read _ (tries_told c.args.found.now c.args.shard c.args.place) c.in-Some.ensures
+
+pub returns-then-not-told : goal.returns-then-not-told
+returns-then-not-told c = ap (option_map (λ (f : FoundTries). capped_tries f.tries)) (sym (c.requires c.if-not-told.true))

@@ -1,4 +1,4 @@
-use Rattle.std.proofs.Common.{◌≡◌, ◌+◌, ◌++◌, ◌∷◌, [], ℕ, List, length, Some, sym, ap, ◌∙◌, subst, refl, arith, rules, Vec, Global, vec_len}
+use Rattle.std.proofs.Common.{◌≡◌, ◌+◌, ◌++◌, ◌∷◌, [], ℕ, List, length, Some, sym, ap, ◌∙◌, subst, arith, rules, Vec, Global, vec_len}
 use Rattle.std.specs.Prelude.{slice_get, vec_capacity}
 use Rattle.esm_model.specs.declared.entry.Entry.TheVariants.{Came}
 use Rattle.esm_model.specs.Entries.{came_count}

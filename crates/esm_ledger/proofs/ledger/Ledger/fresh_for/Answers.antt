@@ -1,9 +1,5 @@
-use Rattle.std.proofs.Common.{◌≡◌, ◌∙◌, Option, Some, None, not, true, false, sym, ap, refl, subst}
-use Rattle.esm_ledger.specs.declared.shard.ShardLedger.{ShardLedger}
-use Rattle.esm_ledger.specs.Shard.{IsShard}
-use Rattle.esm_ledger.specs.Arriving.{HasRoomFor}
-use Rattle.esm_ledger.specs.Ledger.{past_of, setting_of}
-use Rattle.esm_ledger.proofs.Ledgers.{nowhere_none, is_that}
+use Rattle.std.proofs.Common.{not, sym, ap}
+use Rattle.esm_ledger.proofs.Ledgers.{nowhere_none}
 use Rattle.esm_ledger.proofs.NextRecords.{nowhere_new, somewhere_known}
 use Rattle.esm_ledger.proofs.ledger.Ledger.fresh_for.Goals as goal
 

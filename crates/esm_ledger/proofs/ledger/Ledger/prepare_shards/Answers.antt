@@ -1,6 +1,5 @@
-use Rattle.std.proofs.Common.{ℕ, refl, arith}
+use Rattle.std.proofs.Common.{refl}
 use Rattle.esm_ledger.specs.declared.ledger.Ledger.{Ledger}
-use Rattle.esm_ledger.specs.Ledger.{HasShardRoom}
 use Rattle.esm_ledger.proofs.Prepared.{widened}
 use Rattle.esm_ledger.proofs.ledger.Ledger.prepare_shards.Goals as goal
 

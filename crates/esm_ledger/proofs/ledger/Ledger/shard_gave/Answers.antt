@@ -1,4 +1,4 @@
-use Rattle.std.proofs.Common.{refl, ap, ◌∷◌, ◌≡◌}
+use Rattle.std.proofs.Common.{refl, ap, ◌∷◌}
 use Rattle.std.specs.Vec.{with_item}
 use Rattle.esm_model.specs.declared.entry.Entry.TheVariants.{Gave}
 use Rattle.std.proofs.lemmas.Option.{IfSome_then}

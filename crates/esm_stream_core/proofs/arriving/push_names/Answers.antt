@@ -1,11 +1,15 @@
-use Rattle.std.proofs.Common.{◌≡◌, ◌∙◌, ◌++◌, ◌∷◌, [], ℕ, List, ◌-◌, ◌<◌, length, get_or, refl, ap, arith, rules}
+use Rattle.std.proofs.Common.{◌∙◌, ◌++◌, ℕ, ◌-◌, ◌<◌, length, get_or, refl, sym, ap, arith}
+use Rattle.std.specs.Prelude.{slice_get}
 use Rattle.std.proofs.lemmas.Option.{slice_get_read}
+use Rattle.esm_model.specs.declared.item.Record.{Record}
+use Rattle.esm_journal_record.specs.Payload.{name_bytes, names_bytes}
 use Rattle.esm_stream_core.specs.Gathered.{names_in}
-use Rattle.esm_stream_core.proofs.Places.{names_next}
-use Rattle.esm_stream_core.proofs.arriving.names_from.Goals as goal
+use Rattle.esm_stream_core.proofs.Names.{name_next}
+use Rattle.esm_stream_core.proofs.arriving.push_names.Goals as goal
 
 pub loop-place-preserved : goal.loop-place-preserved
 loop-place-preserved c =
+    let x = c.args in
     let at = c.loop-place in
     let xs = c.args.places.now in
     let rs = c.args.records.now in
@@ -14,8 +18,7 @@ loop-place-preserved c =
     let place = get_or c.args.places.now at.place-index 0 in
     let r = c.index-records-place.result in
     let inside : get_or c.args.places.now at.place-index 0 - c.args.first < length c.args.records.now = (let a = from.0 in let b = from.1 in omega (arith, a, b)) in
-    let name : c.from_vec.result ≡ r.seq = search rules in
-    names_next c.args.first rs xs at.place-index place r at.names.items c.push.new.self.items (names_in c.args.first rs xs) low refl
+    name_next (λ (i : ℕ). slice_get rs (i - x.first)) xs at.place-index r at.out.items c.push_sequence.new.out.items (x.out.now.items ++ names_bytes xs (names_in x.first rs xs)) low
     (slice_get_read rs (length rs) (place - c.args.first) r refl inside c.index-records-place.is)
-    (c.in_ok-push.ensures.items ∙ ap (λ (t : List ℕ). at.names.items ++ t ∷ []) name)
+    (c.in_ok-push_sequence.ensures ∙ ap (λ (q : Record). at.out.items ++ name_bytes place q.seq) (sym c.index-records-place.is))
     at.invariant

@@ -1,0 +1,28 @@
+// Whether the journal told of a shard at opening, so that nothing is looked up that cannot be there.
+ghost use Rattle.std.specs.Prelude.{◌≡◌, ℕ, false, None};
+ghost use Rattle.esm_journal_state.specs.SaidLists.{fate_told, tries_told};
+
+use esm_journal_state::Says;
+
+/// Whether anything was told of the shard; where not, no record of it has a found fate or found tries. Logarithmic in
+/// the number of shards that were told of.
+pub fn is_told(found: &Says, shard: u64) -> bool
+    ensures fates { result ≡ false → (i : ℕ) → fate_told found.now shard i ≡ None }
+    ensures tries { result ≡ false → (i : ℕ) → tries_told found.now shard i ≡ None }
+{
+    match found.shards().binary_search(&shard) {
+        Ok(_) => true,
+        Err(_) => false,
+    }
+}
+
+/// Whether anything was told of any shard; where not, no record has a found fate or found tries.
+pub fn is_any_told(found: &Says) -> bool
+    ensures fates { result ≡ false → (n i : ℕ) → fate_told found.now n i ≡ None }
+    ensures tries { result ≡ false → (n i : ℕ) → tries_told found.now n i ≡ None }
+{
+    match found.shards() {
+        [] => false,
+        _ => true,
+    }
+}
