@@ -3,6 +3,8 @@
 import contextlib
 import json
 import os
+import pty
+import re
 import select
 import shutil
 import signal
@@ -380,6 +382,46 @@ def slow_reader(t):
     t.same("output", f"served {count + 4}\ndone\n", serving.communicate(timeout=60)[0])
 
 
+def all_of(descriptor):
+    """What is read from the pipe or the pseudo-terminal until its last writer has left."""
+    told = b""
+    while True:
+        try:
+            piece = os.read(descriptor, 4096)
+        except OSError:  # so a pseudo-terminal says it
+            piece = b""
+        if not piece:
+            return told.decode()
+        told += piece
+
+
+def watched_run(t):
+    """Once a second a terminal at standard error is shown how far a run has come, in a line that is erased at the end; a pipe
+    there is shown nothing. The report is the same."""
+
+    def slow(event, number):
+        time.sleep(0.05)
+        return OK
+
+    function = t.function(slow)
+    lines = [record(n) for n in range(1, 61)]
+    report = text_of([shard_line(60, 60, succeeded=60), "calls 60", "done"])
+    for is_terminal in (True, False):
+        watcher, end = pty.openpty() if is_terminal else os.pipe()
+        pipes = {"stdin": subprocess.PIPE, "stdout": subprocess.PIPE, "stderr": end}
+        run = t.begin(["run", "--config", json.dumps(STREAM | {"BatchSize": 1})], function.port, **pipes)
+        os.close(end)
+        t.same("output", report, run.communicate(text_of(lines), timeout=60)[0])
+        told = all_of(watcher)
+        os.close(watcher)
+        shown = [tuple(map(int, line)) for line in re.findall(r"\r\x1b\[Kesm: came (\d+), settled (\d+), in calls (\d+)\r", told)]
+        line = "\r\x1b[Kesm: came %d, settled %d, in calls %d\r"
+        t.same("what is shown", "".join(line % counts for counts in shown) + ("\r\x1b[K" if is_terminal else ""), told)
+        t.same("records that came", {60} if is_terminal else set(), {came for came, _, _ in shown})
+        t.same("settled ones", sorted({settled for _, settled, _ in shown}), [settled for _, settled, _ in shown])
+        t.between("lines", 2 if is_terminal else 0, 6 if is_terminal else 0, len(shown))
+
+
 # the machine
 
 
@@ -499,6 +541,6 @@ SLOW = [slow_client, slow_reader]
 CASES = [
     closed_by_run, closed_by_others, closed_by_serve, closed_input, early_answers, no_answer, no_connection,
     trickling_answer, large_replies, few_descriptors, no_reader, fault_with_open_input, spent_with_open_input,
-    spent_with_dripping_input, spent_before_the_input, full_pipe, foreign_requests, stopped_serve, no_threads, moved_date,
-    small_stack, *SLOW,
+    spent_with_dripping_input, spent_before_the_input, full_pipe, foreign_requests, stopped_serve, watched_run, no_threads,
+    moved_date, small_stack, *SLOW,
 ]

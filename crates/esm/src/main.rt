@@ -1,6 +1,6 @@
 //! The program: it takes the folder, the functions and the door from the first three words, makes the real world and
-//! does what the other words ask for. What it tells goes to standard output, and what to do about a refusal to standard
-//! error.
+//! does what the other words ask for. What it tells goes to standard output; what to do about a refusal, and on a terminal
+//! how far a run has come, goes to standard error.
 #![tactic(auto)]
 
 ghost use Rattle.std.specs.Prelude.{◌≡◌, ◌≢◌, ◌⊎◌, [], map, length};

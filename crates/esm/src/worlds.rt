@@ -29,11 +29,12 @@ pub type HostWorld<H, S, D> = World<
     TcpDoor<H>,
 >;
 
-/// The world of what the words name, over this input and these disks.
+/// The world of what the words name, by this clock, over this input and these disks.
 fn world_of<H: Runtime + Net + Clone, S: Source + Drop, D: Disk + Drop>(
     host: &H,
     alloc: Global,
     opening: Opening<'_>,
+    clock: HostClock<H>,
     input: S,
     disks: Disks<D>,
 ) -> Result<HostWorld<H, S, D>, OutOfMemory>
@@ -42,14 +43,15 @@ fn world_of<H: Runtime + Net + Clone, S: Source + Drop, D: Disk + Drop>(
     ensures trace { IfOk result (λ world. world.trace.items ≡ []) }
 {
     let timeout = read_timeout(alloc, opening.command)?;
+    let shown = clock.shown()?;
     Ok(World {
         input,
-        out: TailSink::new(alloc, StdoutSink::new(host)?),
+        out: TailSink::new(alloc, StdoutSink::new(host, shown)?),
         journal: disks.journal,
         spare: disks.spare,
         failures: disks.failures,
         registry: disks.registry,
-        clock: HostClock::new(host)?,
+        clock,
         callers: callers(host, alloc, opening.functions, timeout)?,
         door: TcpDoor::new(host, opening.door)?,
         trace: Vec::new(alloc),
@@ -66,8 +68,9 @@ pub fn memory_world<H: Runtime + Net + Clone>(
     ensures answering { IfOk result (λ world. AreCallers opening.entry.functions (map string_bytes opening.entry.command.now) world.callers.items) }
     ensures trace { IfOk result (λ world. world.trace.items ≡ []) }
 {
+    let clock = HostClock::watched_at_input(host, alloc)?;
     let input = StdinSource::new(host, alloc)?;
-    world_of(host, alloc, opening, input, fresh_disks(alloc)?)
+    world_of(host, alloc, opening, clock, input, fresh_disks(alloc)?)
 }
 
 /// The world of a folder, whose files are opened when they are first used.
@@ -81,6 +84,8 @@ pub fn folder_world<H: Runtime + Files<File = File> + Net + Clone>(
     ensures answering { IfOk result (λ world. AreCallers opening.entry.functions (map string_bytes opening.entry.command.now) world.callers.items) }
     ensures trace { IfOk result (λ world. world.trace.items ≡ []) }
 {
+    let clock = HostClock::watched(host, alloc)?;
     let input = input_in(host, alloc, folder)?;
-    world_of(host, alloc, opening, input, disks_in(host, alloc, folder)?)
+    let disks = disks_in(host, alloc, folder)?;
+    world_of(host, alloc, opening, clock, input, disks)
 }

@@ -1,25 +1,42 @@
-// The clock of the host, which tells the moment and pauses.
+// The clock of the host, which tells the moment, pauses, and shows on a terminal how far a run has come.
 ghost use Rattle.std.specs.Prelude.{◌≡◌, ◌+◌, ◌/◌, ◌≤◌, ◌^◌, ◌-◌, min, true};
 ghost use Rattle.std.specs.Duration.{as_nanos};
 
+use crate::terminal::{Shown, is_in_front, is_terminal};
 use esm_io::Clock;
-use esm_model::OutOfMemory;
+use esm_model::{OutOfMemory, Progress};
+use std::alloc::Global;
+use std::io::Eprint;
 use std::marker::Model;
+use std::sync::atomic::{AtomicU64, Ordering};
 use std::time::Duration;
+
+/// How long nothing is shown between two shows, in milliseconds.
+const SHOW_EVERY: u64 = 1_000;
+
+/// The moment of the next show where nobody watches, and while a thread is at one.
+const NEVER: u64 = u64::MAX;
 
 /// The host's clock. It reads the date once, when it is made, and goes on by the steady clock: a date that is set
 /// afterwards changes nothing. The steady clock stands while the machine is suspended, so that afterwards this one lags
 /// behind the date by that time.
+///
+/// It may be watched at the terminal of standard error: there it shows how far a run has come, when the book makes a step
+/// and at most once a second, while this process is in the terminal's foreground.
 #[derive(Drop)]
-pub struct HostClock<R: std::rt::Clock + Clone> {
+pub struct HostClock<R: std::rt::Clock + Eprint + Clone> {
     rt: R,
     /// When it was made, in milliseconds since 1970.
     date: u64,
     /// What the steady clock read then, where it could be read.
     begun: Option<Duration>,
+    /// The moment from which on something may be shown again, in milliseconds since 1970, or `NEVER`.
+    next_show: AtomicU64,
+    /// Whether a line is shown; none where nobody watches.
+    shown: Option<Shown>,
 }
 
-impl<R: std::rt::Clock + Clone> Model for HostClock<R> {
+impl<R: std::rt::Clock + Eprint + Clone> Model for HostClock<R> {
     ghost use Rattle.esm_host.specs.Forms.{HostClockState};
 
     ghost Value = { HostClockState };
@@ -27,10 +44,33 @@ impl<R: std::rt::Clock + Clone> Model for HostClock<R> {
     ghost view = { λ s. record { date = s.date } };
 }
 
-impl<R: std::rt::Clock + Clone> HostClock<R> {
-    /// The clock of this host. Where the date cannot be read, it counts from 0. `OutOfMemory` where the runtime's handle
-    /// cannot be copied.
+impl<R: std::rt::Clock + Eprint + Clone> HostClock<R> {
+    /// The clock of this host, which nobody watches. Where the date cannot be read, it counts from 0. `OutOfMemory` where
+    /// the runtime's handle cannot be copied.
     pub fn new(rt: &R) -> Result<Self, OutOfMemory> {
+        HostClock::made(rt, None)
+    }
+
+    /// The clock of this host, watched where standard error is a terminal. A short run is shown nothing: the first show
+    /// comes a second after it was made.
+    pub fn watched(rt: &R, alloc: Global) -> Result<Self, OutOfMemory> {
+        if is_terminal(libc::STDERR_FILENO) {
+            return HostClock::made(rt, Some(Shown::new(alloc)?));
+        }
+        HostClock::made(rt, None)
+    }
+
+    /// The same of a run that reads standard input. Where that is a terminal too, nobody watches: lines that are typed
+    /// would be wiped off the screen.
+    pub fn watched_at_input(rt: &R, alloc: Global) -> Result<Self, OutOfMemory> {
+        if is_terminal(libc::STDIN_FILENO) {
+            return HostClock::made(rt, None);
+        }
+        HostClock::watched(rt, alloc)
+    }
+
+    /// The clock of this host, which shows lines where there is what they are noted in.
+    fn made(rt: &R, shown: Option<Shown>) -> Result<Self, OutOfMemory> {
         let date = match rt.since_1970() {
             Ok(since) => after(0, since),
             Err(_) => 0,
@@ -39,8 +79,32 @@ impl<R: std::rt::Clock + Clone> HostClock<R> {
             rt: rt.clone()?,
             date,
             begun: rt.monotonic().ok(),
+            next_show: AtomicU64::new(first_show(date, shown.is_some())),
+            shown,
         })
     }
+
+    /// What tells whether a line is shown, for whoever is to erase it; none where nobody watches.
+    pub fn shown(&self) -> Result<Option<Shown>, OutOfMemory> {
+        match &self.shown {
+            None => Ok(None),
+            Some(shown) => Ok(Some(shown.share()?)),
+        }
+    }
+
+    /// From now on nothing is shown for a second.
+    fn rest(&self) {
+        let next = self.now().saturating_add(SHOW_EVERY);
+        self.next_show.store(next, Ordering::SeqCst);
+    }
+}
+
+/// The moment of the first show of a clock that was made at this date, in milliseconds since 1970.
+fn first_show(date: u64, is_watched: bool) -> u64 {
+    if is_watched {
+        return date.saturating_add(SHOW_EVERY);
+    }
+    NEVER
 }
 
 /// The moment so long after a date, both in milliseconds, up to the last one.
@@ -50,7 +114,7 @@ fn after(date: u64, gone: Duration) -> u64
     date.saturating_add(u64::try_from(gone.as_millis()).unwrap_or(u64::MAX))
 }
 
-impl<R: std::rt::Clock + Clone> Clock for HostClock<R> {
+impl<R: std::rt::Clock + Eprint + Clone> Clock for HostClock<R> {
     ghost gave = { λ moment. true };
 
     /// The date when it was made where the steady clock cannot be read.
@@ -72,5 +136,36 @@ impl<R: std::rt::Clock + Clone> Clock for HostClock<R> {
             self.rt.sleep(Duration::from_millis(until - now));
         }
         self.now().max(until)
+    }
+
+    /// At most once a second, whoever asks, first a second after the clock was made, and not while a line is being shown: a
+    /// terminal that stands still holds one thread and no other.
+    fn is_watched(&self) -> bool {
+        let due = self.next_show.load(Ordering::SeqCst);
+        if due == NEVER {
+            return false;
+        }
+        if self.now() < due {
+            return false;
+        }
+        let mine = self
+            .next_show
+            .compare_exchange(due, NEVER, Ordering::SeqCst, Ordering::SeqCst);
+        if mine.is_err() {
+            return false;
+        }
+        if is_in_front() {
+            return true;
+        }
+        self.rest();
+        false
+    }
+
+    /// On standard error, in a line that the next one overwrites, and that is erased before the output goes on.
+    fn show(&self, progress: Progress) {
+        if let Some(shown) = &self.shown {
+            shown.tell(&self.rt, progress);
+            self.rest();
+        }
     }
 }

@@ -15,6 +15,7 @@ mod stdout_sink;
 mod streams;
 mod tcp_door;
 mod tcp_link;
+mod terminal;
 mod timed;
 
 pub use file_disk::FileDisk;
@@ -26,3 +27,4 @@ pub use stdout_sink::StdoutSink;
 pub use streams::fill_streams;
 pub use tcp_door::TcpDoor;
 pub use tcp_link::TcpLink;
+pub use terminal::Shown;

@@ -3,20 +3,23 @@ ghost use Rattle.std.specs.Prelude.{◌≡◌, None, IfOk};
 
 use crate::again::write_again;
 use crate::real::counted;
+use crate::terminal::Shown;
 use esm_io::{Failed, Sink};
 use esm_model::OutOfMemory;
 use std::io;
-use std::io::Write;
+use std::io::{Eprint, Write};
 use std::marker::Model;
 
 /// Standard output.
 #[derive(Drop)]
-pub struct StdoutSink<R: Print + Clone> {
+pub struct StdoutSink<R: Print + Eprint + Clone> {
     rt: R,
     faults: u64,
+    /// Whether a line on the terminal tells how far a run has come, which is erased before a write.
+    shown: Option<Shown>,
 }
 
-impl<R: Print + Clone> Model for StdoutSink<R> {
+impl<R: Print + Eprint + Clone> Model for StdoutSink<R> {
     ghost use Rattle.esm_host.specs.Forms.{RealState};
 
     ghost Value = { RealState };
@@ -24,25 +27,30 @@ impl<R: Print + Clone> Model for StdoutSink<R> {
     ghost view = { λ s. record { faults = s.faults } };
 }
 
-impl<R: Print + Clone> StdoutSink<R> {
-    /// Standard output. It writes nothing. `OutOfMemory` where the runtime's handle cannot be copied.
-    pub fn new(rt: &R) -> Result<Self, OutOfMemory>
+impl<R: Print + Eprint + Clone> StdoutSink<R> {
+    /// Standard output, beside a clock that notes here which lines it shows, if one does. It writes nothing. `OutOfMemory`
+    /// where the runtime's handle cannot be copied.
+    pub fn new(rt: &R, shown: Option<Shown>) -> Result<Self, OutOfMemory>
         ensures faultless { IfOk result (λ sink. sink.faults ≡ 0) }
     {
         Ok(StdoutSink {
             rt: rt.clone()?,
             faults: 0,
+            shown,
         })
     }
 }
 
-impl<R: Print + Clone> Sink for StdoutSink<R> {
+impl<R: Print + Eprint + Clone> Sink for StdoutSink<R> {
     ghost faults = { λ s. s.faults };
 
     ghost written = { λ s. None };
 
     /// What takes nothing of bytes that are there has failed.
     fn write(&mut self, from: &[u8]) -> Result<usize, Failed> {
+        if let Some(shown) = &self.shown {
+            shown.erase(&self.rt);
+        }
         let count = write_again(&mut Printer { rt: &self.rt }, from);
         counted(&mut self.faults, count)
     }

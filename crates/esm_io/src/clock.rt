@@ -1,5 +1,8 @@
-// The trait of clocks, which tell moments in milliseconds since 1970 and wait until one.
+// The trait of clocks, which tell moments in milliseconds since 1970, wait until one, and show as time goes on how far a run
+// has come.
 ghost use Rattle.std.specs.Prelude.{◌≡◌, ◌≤◌, ℕ, Bool, true};
+
+use esm_model::Progress;
 
 /// Moments, in milliseconds since 1970-01-01T00:00:00Z. A clock is shared, so two answers are unrelated.
 pub trait Clock {
@@ -14,4 +17,14 @@ pub trait Clock {
     fn pause(&self, until: u64) -> u64
         ensures given { gave result ≡ true }
         ensures not_before { until ≤ result };
+
+    /// Whether somebody watches the run who was shown nothing for a second. Nobody watches, but where a clock says so.
+    fn is_watched(&self) -> bool {
+        false
+    }
+
+    /// Shows whoever watches how far the run has come. No contract speaks of it.
+    fn show(&self, progress: Progress) {
+        let _ = progress;
+    }
 }

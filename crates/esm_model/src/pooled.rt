@@ -24,6 +24,7 @@ use crate::book::{BookError, CameError, Job, Next};
 use crate::entry::Reply;
 use crate::item::Item;
 use crate::kept::Kept;
+use crate::progress::Progress;
 use std::alloc::Global;
 
 /// A book that a reader and batchers share, each with a seat at a turn: the reader has the seat 0, and batcher `k` the seat
@@ -158,6 +159,9 @@ pub trait Pooled: Kept {
         requires rests { (k : ℕ) → rests (Self.setup self.now) (Self.history self.now) k }
         ensures over { result ≡ Some true → (k : ℕ) → k < batchers → finished (Self.setup self.now) (Self.history self.now) k }
         ensures left { result ≡ Some false → (k : ℕ) × (k < batchers) × left (Self.setup self.now) (Self.history self.now) k };
+
+    /// How far the book has come, for whoever watches the run; nothing is promised of it. Takes no memory.
+    fn progress(&self) -> Progress;
 
     /// Before the first entry no item came and no batcher has called. Does nothing.
     fn begins()

@@ -12,6 +12,7 @@ ghost use Rattle.esm_pool.specs.Readings.{IsStopAt, IsStopFor, MayGoOn, stop_of}
 use esm_io::Clock;
 use esm_model::{CameError, Item, MAX_BATCH, OutOfMemory, Pooled};
 use esm_turn::{Held, Seat, Turn};
+use esm_workers::{show, watched};
 use std::alloc::Global;
 use std::sync::Wait;
 
@@ -74,7 +75,9 @@ fn note<R: Wait, B: Pooled, C: Clock>(
     let moment = clock.now();
     let Held { mut value } = turn.take(rt, seat);
     let came = value.bring(alloc, list, moment);
+    let progress = watched(clock, &value);
     turn.give(seat, Held { value });
+    show(clock, progress);
     stopped(came)
 }
 
@@ -145,7 +148,9 @@ pub(crate) fn look<R: Wait, B: Pooled, C: Clock>(
     B::stays();
     let Held { value } = turn.take(rt, seat);
     let stop = stop_at(&value);
+    let progress = watched(clock, &value);
     turn.give(seat, Held { value });
+    show(clock, progress);
     stop
 }
 

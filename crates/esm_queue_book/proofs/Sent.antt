@@ -139,7 +139,7 @@ module _ (C D T Origin Entry Call Answer : RattleType) (c : Decisions.Ghosts C.D
   durable_send : IsSend C → IsSend D → IsSend T → IsSend (Durable.the_row C D T Origin Entry Call Answer c d t)
   durable_send core disk dest = search (pair.the_send, sendable, crosses) depth 40
 
--- a book, whose one field is its core over its journal
+-- a book, whose fields are its core over its journal, and a count
 module _ (D : RattleType) (d : Disk.Ghosts D.Denot) where
   abbrev durable : Field
   durable = Durable.the_field QueueCore.the_row D Nowhere.the_row Opened.the_row QueueEntry.the_row QueueCall.the_row QueueAnswer.the_row decisions d no_dest
@@ -147,4 +147,4 @@ module _ (D : RattleType) (d : Disk.Ghosts D.Denot) where
   pub book_send : IsSend D → IsSend (QueueBook.the_row D d)
   book_send disk =
       let held = durable_send QueueCore.the_row D Nowhere.the_row Opened.the_row QueueEntry.the_row QueueCall.the_row QueueAnswer.the_row decisions d no_dest core_send disk nowhere.the_send in
-      view_send (Inside.the_row D d) _ _ _ _ (declared_send (Inside.the_type D d) (as_row_send durable held, tt))
+      view_send (Inside.the_row D d) _ _ _ _ (declared_send (Inside.the_type D d) (as_row_send durable held, (u64s, tt)))

@@ -14,7 +14,9 @@ use crate::lasting::{
 };
 use crate::queue_book::QueueBook;
 use esm_io::Disk;
-use esm_model::{BookError, CameError, Item, Job, Message, Next, OutOfMemory, Pooled, Reply};
+use esm_model::{
+    BookError, CameError, Item, Job, Message, Next, OutOfMemory, Pooled, Progress, Reply,
+};
 use std::alloc::Global;
 
 /// What is true of the book's history, whoever made its calls. Does nothing.
@@ -122,6 +124,15 @@ impl<D: Disk> Pooled for QueueBook<D> {
     fn is_over(&self, _batchers: u32) -> Option<bool> {
         know(self);
         Some(QueueBook::is_over(self))
+    }
+
+    fn progress(&self) -> Progress {
+        let counted = self.durable.core().progress();
+        Progress {
+            came: counted.came,
+            settled: counted.settled,
+            in_calls: self.in_calls,
+        }
     }
 
     fn begins() {

@@ -59,6 +59,9 @@ pub struct QueueParts<D: Disk> {
 #[derive(Drop)]
 pub struct QueueBook<D: Disk> {
     pub(crate) durable: Durable<QueueCore, D, Nowhere>,
+    /// How many messages the calls that run are of, while the book is up, for whoever watches the run. No contract speaks of
+    /// it.
+    pub(crate) in_calls: u64,
 }
 
 impl<D: Disk> Model for QueueBook<D> {
@@ -90,6 +93,14 @@ fn open_over<D: Disk>(
     Ok(QueueCore::new(alloc, config, criteria, calls, visibility_ms, said)?)
 }
 
+/// How many messages the call is of, where a call is answered.
+fn called_by(next: &Next) -> u64 {
+    match next {
+        Next::Call(job) => job.places.as_slice().len() as u64,
+        Next::Gave(_) | Next::Idle { until: _ } | Next::Spent | Next::Finished => 0,
+    }
+}
+
 impl<D: Disk> QueueBook<D> {
     /// A book in which no message came, for so many calls in all, with the deletions that the journal told of.
     /// `BadPayload` exactly where a payload is bad for a book, with the index of the first such one. The journal is as
@@ -111,6 +122,7 @@ impl<D: Disk> QueueBook<D> {
         match open_over(alloc, config, calls, visibility_ms, &pair) {
             Ok(core) => Ok(QueueBook {
                 durable: Durable::new(core, pair, Nowhere {}),
+                in_calls: 0,
             }),
             Err(why) => Err(Refused { why, back: pair }),
         }
@@ -187,7 +199,10 @@ impl<D: Disk> QueueBook<D> {
             return Err(BookError::Down);
         }
         match carry(&mut self.durable, alloc, QueueCall::Next(batcher, moment)) {
-            Ok(QueueAnswer::Next(next)) => Ok(next),
+            Ok(QueueAnswer::Next(next)) => {
+                self.in_calls = self.in_calls.saturating_add(called_by(&next));
+                Ok(next)
+            }
             Ok(QueueAnswer::Taken | QueueAnswer::Deleted(_)) => unreachable!(),
             Err(Stop::DiskFault) => Err(BookError::DiskFault),
             Err(Stop::Changed(_)) => unreachable!(),
@@ -220,6 +235,7 @@ impl<D: Disk> QueueBook<D> {
         ensures down { IsErrOf result BookError.Down ↔ IsSome self.old.trouble }
         ensures no_memory { IsErrOf result BookError.OutOfMemory → IsSame self.old self.new }
     {
+        let called = job.places.as_slice().len() as u64;
         if is_down(&self.durable) {
             note_end(&mut self.durable, job, reply, moment);
             return Err(BookError::Down);
@@ -229,7 +245,10 @@ impl<D: Disk> QueueBook<D> {
             alloc,
             QueueCall::Done(job, reply, moment),
         ) {
-            Ok(QueueAnswer::Deleted(count)) => Ok(count),
+            Ok(QueueAnswer::Deleted(count)) => {
+                self.in_calls = self.in_calls.saturating_sub(called);
+                Ok(count)
+            }
             Ok(QueueAnswer::Taken | QueueAnswer::Next(_)) => unreachable!(),
             Err(Stop::DiskFault) => Err(BookError::DiskFault),
             Err(Stop::Changed(_)) => unreachable!(),
@@ -295,7 +314,10 @@ impl<D: Disk> QueueBook<D> {
         ensures trouble { result.trouble ≡ self.trouble }
         ensures pair { result.pair ≡ self.pair }
     {
-        let QueueBook { durable } = self;
+        let QueueBook {
+            durable,
+            in_calls: _,
+        } = self;
         let Parts {
             core,
             pair,

@@ -12,6 +12,7 @@ pub mod laws;
 pub mod next;
 pub mod owed;
 mod paying;
+mod progress;
 mod queue_core;
 mod standing;
 pub mod worked;

@@ -57,14 +57,14 @@ pub struct QueueCore {
     /// What the journal told of deletions.
     said: Says,
     criteria: Criteria,
-    queue: Queue,
+    pub(crate) queue: Queue,
     history: Vec<Entry>,
     /// The moment of the last entry.
     last: u64,
     shut: bool,
     begun: u64,
     /// How many messages are deleted.
-    deleted: u32,
+    pub(crate) deleted: u32,
     /// At least as many as calls run.
     running: usize,
     /// The messages whose `Came` is owed.

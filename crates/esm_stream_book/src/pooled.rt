@@ -3,7 +3,7 @@ use crate::coming::records_of;
 use crate::lasting::{batchers_begin, batchers_last, finished_excludes, items_last};
 use crate::stream_book::Book;
 use esm_io::{Dest, Disk};
-use esm_model::{BookError, CameError, Item, Job, Next, Pooled, Reply};
+use esm_model::{BookError, CameError, Item, Job, Next, Pooled, Progress, Reply};
 use std::alloc::Global;
 
 impl<D: Disk, T: Dest> Pooled for Book<D, T> {
@@ -80,6 +80,10 @@ impl<D: Disk, T: Dest> Pooled for Book<D, T> {
     fn is_over(&self, batchers: u32) -> Option<bool> {
         let _trouble = self.trouble();
         Book::is_over(self, batchers)
+    }
+
+    fn progress(&self) -> Progress {
+        self.durable.core().progress()
     }
 
     fn begins() {

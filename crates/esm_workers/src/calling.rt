@@ -13,6 +13,7 @@ ghost use Rattle.esm_workers.specs.Rounds.{GoesOnFrom, IsAnswer, StopsWork, answ
 ghost use Rattle.esm_workers.specs.Seated.{IsSeated};
 ghost use Rattle.esm_workers.specs.Working.{HasLogged, HasEnded};
 
+use crate::watching::{show, watched};
 use esm_io::{Caller, Clock};
 use esm_model::{BookError, Job, Next, OutOfMemory, Pooled, Reply};
 use esm_turn::{Held, Seat, Turn};
@@ -44,7 +45,9 @@ fn ask<R: Wait, T: Pooled, C: Clock>(
     let moment = clock.now();
     let Held { mut value } = turn.take(rt, seat);
     let next = value.ask(alloc, batcher, moment);
+    let progress = watched(clock, &value);
     turn.give(seat, Held { value });
+    show(clock, progress);
     next
 }
 
@@ -107,7 +110,9 @@ fn tell<R: Wait, T: Pooled, C: Clock>(
     let moment = clock.now();
     let Held { mut value } = turn.take(rt, seat);
     let next = end_and_ask(&mut value, alloc, batcher, job, reply, moment);
+    let progress = watched(clock, &value);
     turn.give(seat, Held { value });
+    show(clock, progress);
     next
 }
 

@@ -11,12 +11,14 @@ mod on_time;
 mod pack;
 mod reading;
 mod running;
+mod watching;
 mod working;
 
 pub use calling::{MAX_PAUSE, call_all};
 pub use on_time::OnTime;
 pub use reading::Reading;
 pub use running::{Ran, run_hands};
+pub use watching::{show, watched};
 
 #[cfg(test)]
 mod tests;

@@ -2,7 +2,7 @@
 ghost use Rattle.std.specs.Prelude.{◌≡◌, ℕ, true};
 
 use esm_io::Clock;
-use esm_model::{BookError, CameError, Item, Job, Kept, Next, Pooled, Reply};
+use esm_model::{BookError, CameError, Item, Job, Kept, Next, Pooled, Progress, Reply};
 use std::alloc::Global;
 use std::marker::{Model, PhantomData};
 use std::snapshot::Snapshot;
@@ -124,6 +124,10 @@ impl<B: Pooled, C: Clock> Pooled for OnTime<B, C> {
 
     fn is_over(&self, batchers: u32) -> Option<bool> {
         self.book.is_over(batchers)
+    }
+
+    fn progress(&self) -> Progress {
+        self.book.progress()
     }
 
     fn begins() {

@@ -2,7 +2,7 @@
 use crate::calling::call_all;
 use crate::on_time::OnTime;
 use esm_io::{Clock, Script, ScriptCaller, StepClock};
-use esm_model::{BookError, CameError, Item, Job, Kept, Next, Pooled, Reply};
+use esm_model::{BookError, CameError, Item, Job, Kept, Next, Pooled, Progress, Reply};
 use esm_turn::Turn;
 use std::alloc::Global;
 use std::sync::Wait;
@@ -114,6 +114,15 @@ impl Pooled for Scripted {
 
     fn is_over(&self, _: u32) -> Option<bool> {
         None
+    }
+
+    // no record came
+    fn progress(&self) -> Progress {
+        Progress {
+            came: 0,
+            settled: 0,
+            in_calls: 0,
+        }
     }
 
     fn begins() {}

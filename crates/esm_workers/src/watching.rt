@@ -1,0 +1,18 @@
+// What whoever watches a run is shown: how far its book has come.
+use esm_io::Clock;
+use esm_model::{Pooled, Progress};
+
+/// How far the book has come, where somebody watches who was shown nothing for a second.
+pub fn watched<T: Pooled, C: Clock>(clock: &C, book: &T) -> Option<Progress> {
+    if clock.is_watched() {
+        return Some(book.progress());
+    }
+    None
+}
+
+/// Shows whoever watches how far the book has come, where that was looked for.
+pub fn show<C: Clock>(clock: &C, progress: Option<Progress>) {
+    if let Some(progress) = progress {
+        clock.show(progress);
+    }
+}
