@@ -1,4 +1,5 @@
 pub mod Adds
+pub mod Aheads
 pub mod Destinations
 pub mod Entries
 pub mod Files

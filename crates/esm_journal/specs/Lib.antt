@@ -2,6 +2,7 @@ pub mod File
 pub mod Bytes
 pub mod Fresh
 pub mod Reads
+pub mod Ahead
 pub mod Head
 pub mod Room
 pub mod Log

@@ -1,30 +1,38 @@
 // A file is read in pieces: its head, and then entry by entry up to the first gate that is not open.
-ghost use Rattle.std.specs.Prelude.{◌≡◌, ◌≢◌, ◌+◌, ◌<◌, ◌≤◌, true, ℕ, List, [], ◌∷◌, ◌++◌, length, take, drop, slice_index, IfOk, IfErr, IfSome, IfNone, MatchOption, OnOk, OnErr};
-ghost use Rattle.std.specs.List.{All};
-ghost use Rattle.esm_io.specs.Faults.{IsCount, Rose};
-ghost use Rattle.esm_io.specs.Images.{Only, LeavesOnly};
+ghost use Rattle.std.specs.Prelude.{◌≡◌, ◌≢◌, ◌+◌, ◌<◌, ◌≤◌, true, ℕ, [], ◌∷◌, ◌++◌, length, take, drop, slice_index, IfOk, IfErr, IfSome, IfNone};
+ghost use Rattle.esm_io.specs.Faults.{Rose};
 ghost use Rattle.std.specs.Int.{w32, to_be_bytes, from_be_bytes};
 ghost use Rattle.esm_io.specs.Meanings.{disk as meaning};
 ghost use Rattle.esm_journal.specs.File.{number_in, entry, entries, end_of, AreShort, Damaged, read_from};
+ghost use Rattle.esm_journal.specs.Ahead.{IsAhead};
 ghost use Rattle.esm_journal.specs.Reads.{IsOnlyRead, RefusedFor};
 
+use crate::ahead::{Ahead, READ_SIZE, bytes_at};
 use crate::error::OpenError;
 use crate::format::FIRST_GATE;
-use crate::through::{read_at, settle, size_of};
-use esm_io::{Disk, Failed};
+use esm_io::Disk;
 use esm_model::{Bytes, MAX_PAYLOAD};
 use std::alloc::Global;
 
 /// The gate byte at a place.
-fn byte_at<D: Disk>(disk: &mut D, place: u64) -> Result<u8, Failed>
-    requires within { D.honest disk.old ≡ true → place < length (D.content disk.old) }
+fn byte_at<D: Disk>(
+    alloc: Global,
+    disk: &mut D,
+    ahead: &mut Ahead,
+    place: u64,
+    size: u64,
+) -> Result<u8, OpenError>
+    requires within { place < size }
+    requires size { D.honest disk.old ≡ true → size ≡ length (D.content disk.old) }
+    requires ahead { IsAhead (meaning D.Disk) disk.old ahead.old }
     ensures byte { D.honest disk.old ≡ true → IfOk result (λ byte. byte ≡ slice_index (D.content disk.old) place) }
+    ensures ahead { IsAhead (meaning D.Disk) disk.new ahead.new }
     ensures only_read { IsOnlyRead (meaning D.Disk) disk.old disk.new }
-    ensures cause { OnErr result (Rose (D.faults disk.old) (D.faults disk.new)) }
+    ensures refused { IfErr result (λ e.
+        RefusedFor (λ first. ⊥) (λ place. ⊥) (Rose (D.faults disk.old) (D.faults disk.new)) e) }
 {
-    let mut byte = [0];
-    read_at(disk, place, &mut byte)?;
-    Ok(byte[0])
+    ahead.read_on(alloc, disk, place, 1, size)?;
+    Ok(ahead.part(place, 1)[0])
 }
 
 /// The number that four bytes write.
@@ -37,33 +45,54 @@ fn number_of(four: &[u8]) -> u32
 }
 
 /// The number that the four bytes from a place on write.
-fn number_at<D: Disk>(disk: &mut D, place: u64) -> Result<u32, Failed>
-    requires within { D.honest disk.old ≡ true → place + 4 ≤ length (D.content disk.old) }
-    ensures number { D.honest disk.old ≡ true → IfOk result (λ n. n ≡ number_in (drop place (D.content disk.old))) }
-    ensures written { D.honest disk.old ≡ true → IfOk result (λ n. to_be_bytes w32 n ≡ take 4 (drop place (D.content disk.old))) }
-    ensures only_read { IsOnlyRead (meaning D.Disk) disk.old disk.new }
-    ensures cause { OnErr result (Rose (D.faults disk.old) (D.faults disk.new)) }
-{
-    let mut four = [0; 4];
-    read_at(disk, place, &mut four)?;
-    Ok(number_of(&four))
-}
-
-/// So many bytes from a place on.
-fn bytes_at<D: Disk>(
+fn number_at<D: Disk>(
     alloc: Global,
     disk: &mut D,
+    ahead: &mut Ahead,
+    place: u64,
+    size: u64,
+) -> Result<u32, OpenError>
+    requires within { place + 4 ≤ size }
+    requires size { D.honest disk.old ≡ true → size ≡ length (D.content disk.old) }
+    requires ahead { IsAhead (meaning D.Disk) disk.old ahead.old }
+    ensures number { D.honest disk.old ≡ true →
+        IfOk result (λ n. n ≡ number_in (drop place (D.content disk.old))) }
+    ensures written { D.honest disk.old ≡ true →
+        IfOk result (λ n. to_be_bytes w32 n ≡ take 4 (drop place (D.content disk.old))) }
+    ensures ahead { IsAhead (meaning D.Disk) disk.new ahead.new }
+    ensures only_read { IsOnlyRead (meaning D.Disk) disk.old disk.new }
+    ensures refused { IfErr result (λ e.
+        RefusedFor (λ first. ⊥) (λ place. ⊥) (Rose (D.faults disk.old) (D.faults disk.new)) e) }
+{
+    ahead.read_on(alloc, disk, place, 4, size)?;
+    Ok(number_of(ahead.part(place, 4)))
+}
+
+/// The payload of so many bytes from a place on. A long one is not read ahead but by itself.
+fn payload_at<D: Disk>(
+    alloc: Global,
+    disk: &mut D,
+    ahead: &mut Ahead,
     place: u64,
     count: usize,
+    size: u64,
 ) -> Result<Bytes, OpenError>
-    requires within { D.honest disk.old ≡ true → place + count ≤ length (D.content disk.old) }
-    ensures bytes { D.honest disk.old ≡ true → IfOk result (λ bytes. bytes ≡ take count (drop place (D.content disk.old))) }
+    requires within { place + count ≤ size }
+    requires size { D.honest disk.old ≡ true → size ≡ length (D.content disk.old) }
+    requires ahead { IsAhead (meaning D.Disk) disk.old ahead.old }
+    ensures bytes { D.honest disk.old ≡ true →
+        IfOk result (λ bytes. bytes ≡ take count (drop place (D.content disk.old))) }
     ensures size { IfOk result (λ bytes. length bytes ≡ count) }
+    ensures ahead { IsAhead (meaning D.Disk) disk.new ahead.new }
     ensures only_read { IsOnlyRead (meaning D.Disk) disk.old disk.new }
-    ensures refused { IfErr result (λ e. RefusedFor (λ first. ⊥) (λ place. ⊥) (Rose (D.faults disk.old) (D.faults disk.new)) e) }
+    ensures refused { IfErr result (λ e.
+        RefusedFor (λ first. ⊥) (λ place. ⊥) (Rose (D.faults disk.old) (D.faults disk.new)) e) }
 {
-    let mut bytes = vec![in alloc; 0; count]?;
-    read_at(disk, place, bytes.as_mut_slice())?;
+    if count > READ_SIZE {
+        return bytes_at(alloc, disk, place, count);
+    }
+    ahead.read_on(alloc, disk, place, count, size)?;
+    let bytes = Vec::from_slice(alloc, ahead.part(place, count))?;
     Ok(Bytes::from_vec(bytes))
 }
 
@@ -71,36 +100,41 @@ fn bytes_at<D: Disk>(
 fn read_entry<D: Disk>(
     alloc: Global,
     disk: &mut D,
+    ahead: &mut Ahead,
     place: u64,
     size: u64,
 ) -> Result<Option<Bytes>, OpenError>
     requires within { place < size }
     requires size { D.honest disk.old ≡ true → size ≡ length (D.content disk.old) }
-    ensures closed { D.honest disk.old ≡ true → IfOk result (λ found. IfNone found (slice_index (D.content disk.old) place ≢ 1)) }
+    requires ahead { IsAhead (meaning D.Disk) disk.old ahead.old }
+    ensures closed { D.honest disk.old ≡ true →
+        IfOk result (λ found. IfNone found (slice_index (D.content disk.old) place ≢ 1)) }
     ensures whole { D.honest disk.old ≡ true → IfOk result (λ found. IfSome found (λ payload.
         drop place (D.content disk.old) ≡ 1 ∷ [] ++ entry payload ++ drop (place + 5 + length payload) (D.content disk.old))) }
     ensures next { IfOk result (λ found. IfSome found (λ payload. place + 5 + length payload < size)) }
     ensures short { IfOk result (λ found. IfSome found (λ payload. length payload ≤ MAX_PAYLOAD)) }
+    ensures ahead { IsAhead (meaning D.Disk) disk.new ahead.new }
     ensures only_read { IsOnlyRead (meaning D.Disk) disk.old disk.new }
     ensures refused { IfErr result (λ e. RefusedFor (λ first. ⊥)
-        (λ damage. D.honest disk.old ≡ true → (epoch : ℕ) → read_from epoch place 0 (drop place (D.content disk.old)) ≡ Damaged damage)
+        (λ damage. D.honest disk.old ≡ true → (epoch : ℕ) →
+        read_from epoch place 0 (drop place (D.content disk.old)) ≡ Damaged damage)
         (Rose (D.faults disk.old) (D.faults disk.new)) e) }
 {
-    if byte_at(disk, place)? != 1 {
+    if byte_at(alloc, disk, ahead, place, size)? != 1 {
         return Ok(None);
     }
     let left = size - place;
     if left < 5 {
         return Err(OpenError::Damaged(size));
     }
-    let count = number_at(disk, place + 1)?;
+    let count = number_at(alloc, disk, ahead, place + 1, size)?;
     if count as usize > MAX_PAYLOAD {
         return Err(OpenError::Damaged(place + 1));
     }
     if left - 5 <= u64::from(count) {
         return Err(OpenError::Damaged(size));
     }
-    let payload = bytes_at(alloc, disk, place + 5, count as usize)?;
+    let payload = payload_at(alloc, disk, ahead, place + 5, count as usize, size)?;
     Ok(Some(payload))
 }
 
@@ -124,8 +158,9 @@ pub(crate) fn read_entries<D: Disk>(
         (Rose (D.faults disk.old) (D.faults disk.new)) e) }
 {
     let mut payloads = Vec::new(alloc);
+    let mut ahead = Ahead::new(alloc);
     let mut place = FIRST_GATE;
-    while let Some(payload) = read_entry(alloc, disk, place, size)? {
+    while let Some(payload) = read_entry(alloc, disk, &mut ahead, place, size)? {
         place += 5 + payload.as_slice().len() as u64;
         payloads.push(payload)?;
     }

@@ -99,8 +99,10 @@ impl<D: Disk> Dest for FileDest<D> {
         ensures uncounted { IsErrOf result DestError.OutOfMemory → D.faults self.new.disk ≡ D.faults self.old.disk }
         ensures kept { KeepsWhileUp (meaning D.Disk) self.new }
         ensures stopped { KeepsWhileDown (meaning D.Disk) self.new }
-        ensures any_moment { D.honest self.old.disk ≡ true → (IsErrOf result DestError.OutOfMemory → ⊥) → (held : List (List ℕ)) → Some self.old.payloads ≡ Some held →
-            LeavesOnly (λ d. D.moment d.disk) (λ d. D.image_since d.disk) self.old self.new (IsEither (λ left lines. OpensTo (header_of 1) lines left) held line.now) }
+        ensures any_moment { D.honest self.old.disk ≡ true → (IsErrOf result DestError.OutOfMemory → ⊥) → (held : List (List ℕ)) →
+            Some self.old.payloads ≡ Some held →
+            LeavesOnly (λ d. D.moment d.disk) (λ d. D.image_since d.disk) self.old self.new
+            (IsEither (λ left lines. OpensTo (header_of 1) lines left) held line.now) }
         ensures durable { D.honest self.old.disk ≡ true → (held : List (List ℕ)) → Some self.old.payloads ≡ Some held →
             OnOk result ((left : List ℕ) → D.image_since self.new.disk (D.moment self.new.disk) left → OpensTo (header_of 1) (held ++ line.now ∷ []) left) }
         ensures moment_kept { IsErrOf result DestError.OutOfMemory → D.moment self.new.disk ≡ D.moment self.old.disk }

@@ -1,5 +1,5 @@
 // What a file holds.
-ghost use Rattle.std.specs.Prelude.{◌≡◌, true, List, ℕ, length, IfOk, IfErr, OnOk};
+ghost use Rattle.std.specs.Prelude.{◌≡◌, true, length, IfOk, IfErr, OnOk};
 ghost use Rattle.esm_io.specs.Faults.{IsCount, Rose};
 ghost use Rattle.esm_io.specs.Images.{Only};
 ghost use Rattle.esm_io.specs.Meanings.{disk as meaning};

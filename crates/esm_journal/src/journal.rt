@@ -1,5 +1,5 @@
 // The journal in one file: making it, opening it, reading its payloads and adding to them.
-ghost use Rattle.std.specs.Prelude.{◌≡◌, ◌≢◌, ◌+◌, ◌<◌, ◌≤◌, ℕ, List, [], ◌∷◌, ◌++◌, true, false, length, IfOk, IfErr, OnOk, OnErr, IsErrOf};
+ghost use Rattle.std.specs.Prelude.{◌≡◌, ◌≢◌, ◌+◌, ◌<◌, ℕ, [], ◌∷◌, ◌++◌, true, false, length, IfOk, IfErr, OnOk, OnErr, IsErrOf};
 ghost use Rattle.esm_io.specs.Faults.{IsCount, Rose};
 ghost use Rattle.esm_io.specs.Images.{LeavesOnly, Only};
 ghost use Rattle.esm_io.specs.Meanings.{disk as meaning};
@@ -63,8 +63,10 @@ impl<D: Disk> Journal<D> {
         ensures only_read { D.honest disk ≡ true → length (D.content disk) ≢ 0 → IfErr result (λ refused. IsOnlyRead (meaning D.Disk) disk refused.back) }
         ensures unchanged { IfErr result (λ refused. (refused.why ≡ InitError.DiskFault → ⊥) → IsOnlyRead (meaning D.Disk) disk refused.back) }
         // What a crash leaves at any moment of the call.
-        ensures any_moment { D.honest disk ≡ true → IfOk result (λ journal. LeavesOnly D.moment D.image_since disk journal.disk (WasOrHoldsNone (D.image disk))) }
-        ensures any_moment_err { D.honest disk ≡ true → IfErr result (λ refused. LeavesOnly D.moment D.image_since disk refused.back (WasOrHoldsNone (D.image disk))) }
+        ensures any_moment { D.honest disk ≡ true →
+            IfOk result (λ journal. LeavesOnly D.moment D.image_since disk journal.disk (WasOrHoldsNone (D.image disk))) }
+        ensures any_moment_err { D.honest disk ≡ true →
+            IfErr result (λ refused. LeavesOnly D.moment D.image_since disk refused.back (WasOrHoldsNone (D.image disk))) }
         // The disk is as honest as it was, and its count of faults never falls.
         ensures honesty { IfOk result (λ journal. D.honest journal.disk ≡ D.honest disk) }
         ensures back_honesty { IfErr result (λ refused. D.honest refused.back ≡ D.honest disk) }
@@ -103,7 +105,8 @@ impl<D: Disk> Journal<D> {
         ensures unchanged { IfErr result (λ refused. (refused.why ≡ InitError.DiskFault → ⊥) → IsOnlyRead (meaning D.Disk) disk refused.back) }
         // What a crash leaves at any moment of the call.
         ensures any_moment { D.honest disk ≡ true → IfOk result (λ made. LeavesOnly D.moment D.image_since disk made (WasOrHoldsNone (D.image disk))) }
-        ensures any_moment_err { D.honest disk ≡ true → IfErr result (λ refused. LeavesOnly D.moment D.image_since disk refused.back (WasOrHoldsNone (D.image disk))) }
+        ensures any_moment_err { D.honest disk ≡ true →
+            IfErr result (λ refused. LeavesOnly D.moment D.image_since disk refused.back (WasOrHoldsNone (D.image disk))) }
         // The disk is as honest as it was, and its count of faults never falls.
         ensures honesty { IfOk result (λ made. D.honest made ≡ D.honest disk) }
         ensures back_honesty { IfErr result (λ refused. D.honest refused.back ≡ D.honest disk) }
@@ -177,7 +180,8 @@ impl<D: Disk> Journal<D> {
     pub fn append(&mut self, alloc: Global, payload: &[u8]) -> Result<(), AppendError>
         // What Ok leaves.
         ensures added { OnOk result (self.new.payloads ≡ self.old.payloads ++ payload.now ∷ []) }
-        ensures bytes { D.honest self.old.disk ≡ true → OnOk result (D.content self.new.disk ≡ with_payload self.old.payloads payload.now (D.content self.old.disk)) }
+        ensures bytes { D.honest self.old.disk ≡ true →
+            OnOk result (D.content self.new.disk ≡ with_payload self.old.payloads payload.now (D.content self.old.disk)) }
         ensures room { OnOk result (self.new.room ≡ room_after self.old.room (length payload.now)) }
         ensures up { OnOk result (self.new.down ≡ false) }
         // What an error leaves: after `DiskFault` the journal is down; after the others nothing has changed.

@@ -30,7 +30,8 @@ pub fn file_beside_spare()
 /// of the other, in whichever order they are handed in.
 pub fn file_beside_new()
     ensures opens { (header : List ℕ) (epoch : ℕ) (payloads list : List (List ℕ)) (used other : List ℕ) → length header ≡ 8 →
-        IsFile header epoch payloads used → IsSpareOrNew header epoch header (epoch + 1) list other → PairOpensToOldOrNew header epoch payloads list used other }
+        IsFile header epoch payloads used → IsSpareOrNew header epoch header (epoch + 1) list other →
+        PairOpensToOldOrNew header epoch payloads list used other }
 {}
 
 /// A file does not hinder one of a greater epoch: a list that was written anew goes on beside the file so far.
@@ -41,7 +42,8 @@ pub fn file_before_new()
 
 /// What `init`, `first` and `blank` may leave holds no payload: neither one file with any header, nor two as a pair.
 pub fn fresh_holds_none()
-    ensures single { (header bytes : List ℕ) → HoldsNone bytes → (epoch : ℕ) (payloads : List (List ℕ)) → opened header bytes ≡ Holding epoch payloads → payloads ≡ [] }
+    ensures single { (header bytes : List ℕ) → HoldsNone bytes → (epoch : ℕ) (payloads : List (List ℕ)) → opened header bytes ≡ Holding epoch payloads →
+        payloads ≡ [] }
     ensures pair { (header one other : List ℕ) → HoldsNone one → HoldsNone other →
         (epoch : ℕ) (payloads : List (List ℕ)) → pair_opened header one other ≡ Holding epoch payloads → payloads ≡ [] }
 {}

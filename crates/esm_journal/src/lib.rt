@@ -3,6 +3,7 @@
 //! whole payloads alone.
 #![tactic(auto)]
 
+mod ahead;
 pub mod crossing;
 mod entry_reading;
 pub mod error;

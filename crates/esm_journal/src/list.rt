@@ -1,5 +1,5 @@
 // The bytes of a whole list of payloads, and copies of them.
-ghost use Rattle.std.specs.Prelude.{◌≡◌, ◌+◌, ◌<◌, ◌≤◌, ◌^◌, ℕ, [], ◌∷◌, ◌++◌, length, IfOk, vec_len, vec_capacity};
+ghost use Rattle.std.specs.Prelude.{◌≡◌, ◌+◌, ◌<◌, ◌≤◌, ◌^◌, [], ◌∷◌, ◌++◌, length, IfOk, vec_len, vec_capacity};
 ghost use Rattle.esm_journal.specs.File.{entries, AreShort};
 ghost use Rattle.esm_journal.specs.Room.{total_room};
 ghost use Rattle.esm_journal.specs.Replace.{first_too_long};

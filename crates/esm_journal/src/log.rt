@@ -1,5 +1,5 @@
 // A file that is open: what is kept of it in memory, and its disk.
-ghost use Rattle.std.specs.Prelude.{◌≡◌, ◌+◌, ◌<◌, ◌≤◌, ◌^◌, ◌⊎◌, ℕ, List, [], ◌∷◌, ◌++◌, true, false, length, vec_len, vec_capacity, OnOk, OnErr, IsErrOf};
+ghost use Rattle.std.specs.Prelude.{◌≡◌, ◌+◌, ◌<◌, ◌≤◌, ◌^◌, ◌⊎◌, ℕ, [], ◌∷◌, ◌++◌, true, false, length, vec_len, vec_capacity, OnOk, OnErr, IsErrOf};
 ghost use Rattle.esm_io.specs.Faults.{IsCount, Rose, MAX_FAULTS};
 ghost use Rattle.esm_io.specs.Images.{overwritten, Torn, Only, LeavesOnly};
 ghost use Rattle.esm_io.specs.Meanings.{disk as meaning};
@@ -36,7 +36,8 @@ fn add_entry<D: Disk>(disk: &mut D, gate: u64, frame: &[u8]) -> Result<(), Faile
     requires synced { D.honest disk.old ≡ true → Only (D.content disk.old) (D.image disk.old) }
     requires within { D.honest disk.old ≡ true → gate < length (D.content disk.old) }
     requires fits { gate + 1 < 2 ^ 64 }
-    ensures written { D.honest disk.old ≡ true → OnOk result (D.content disk.new ≡ overwritten (overwritten (D.content disk.old) (gate + 1) frame.now) gate (1 ∷ [])) }
+    ensures written { D.honest disk.old ≡ true →
+        OnOk result (D.content disk.new ≡ overwritten (overwritten (D.content disk.old) (gate + 1) frame.now) gate (1 ∷ [])) }
     ensures durable { D.honest disk.old ≡ true → OnOk result (Only (D.content disk.new) (D.image disk.new)) }
     ensures any_moment { D.honest disk.old ≡ true → LeavesOnly D.moment D.image_since disk.old disk.new
         (λ image. Torn (gate + 1) (length frame.now) (D.content disk.old) image ⊎ Torn gate 1 (overwritten (D.content disk.old) (gate + 1) frame.now) image) }
@@ -76,16 +77,19 @@ impl<D: Disk> Log<D> {
         ensures header { self.new.header ≡ self.old.header }
         ensures epoch { self.new.epoch ≡ self.old.epoch }
         ensures added { OnOk result (self.new.payloads.items ≡ self.old.payloads.items ++ payload.now ∷ []) }
-        ensures bytes { D.honest self.old.disk ≡ true → OnOk result (D.content self.new.disk ≡ with_payload self.old.payloads.items payload.now (D.content self.old.disk)) }
+        ensures bytes { D.honest self.old.disk ≡ true →
+            OnOk result (D.content self.new.disk ≡ with_payload self.old.payloads.items payload.now (D.content self.old.disk)) }
         ensures not_added { OnErr result (self.new.payloads.items ≡ self.old.payloads.items) }
         ensures up { OnOk result (self.new.down ≡ false) }
         ensures was_up { OnOk result (self.old.down ≡ false) }
         ensures room_used { OnOk result (room_of self.new.spares.items ≡ room_after (room_of self.old.spares.items) (length payload.now)) }
         ensures down { IsErrOf result AppendError.Down → IsUnchanged self.old self.new × (self.old.down ≡ true) }
         ensures is_down { self.old.down ≡ true → IsErrOf result AppendError.Down }
-        ensures too_long { (n : ℕ) → IsErrOf result (AppendError.TooLong n) → IsUnchanged self.old self.new × (self.old.down ≡ false) × (n ≡ length payload.now) × (MAX_PAYLOAD < length payload.now) }
+        ensures too_long { (n : ℕ) → IsErrOf result (AppendError.TooLong n) →
+            IsUnchanged self.old self.new × (self.old.down ≡ false) × (n ≡ length payload.now) × (MAX_PAYLOAD < length payload.now) }
         ensures is_too_long { self.old.down ≡ false → MAX_PAYLOAD < length payload.now → IsErrOf result (AppendError.TooLong (length payload.now)) }
-        ensures no_memory { IsErrOf result AppendError.OutOfMemory → IsUnchanged self.old self.new × (HasRoom (room_of self.old.spares.items) (length payload.now) → ⊥) }
+        ensures no_memory { IsErrOf result AppendError.OutOfMemory →
+            IsUnchanged self.old self.new × (HasRoom (room_of self.old.spares.items) (length payload.now) → ⊥) }
         ensures fault { IsErrOf result AppendError.DiskFault → (self.new.down ≡ true) × Rose (D.faults self.old.disk) (D.faults self.new.disk) }
         ensures any_moment { D.honest self.old.disk ≡ true → self.old.down ≡ false → LeavesOnly D.moment D.image_since self.old.disk self.new.disk
             (IsEither self.old.header self.old.epoch self.old.payloads.items (self.old.payloads.items ++ payload.now ∷ [])) }

@@ -1,12 +1,10 @@
 // A pair of version 1, whose list is written anew as one of version 2.
-ghost use Rattle.std.specs.Prelude.{◌≡◌, ◌⊎◌, ◌+◌, ◌<◌, ◌≤◌, ◌==◌, ℕ, List, [], ◌∷◌, ◌++◌, true, false, length, IfOk, IfErr, OnErr};
-ghost use Rattle.esm_io.specs.Faults.{IsCount, Rose, MAX_FAULTS};
-ghost use Rattle.esm_io.specs.Images.{Only, LeavesOnly};
+ghost use Rattle.std.specs.Prelude.{◌≡◌, ◌⊎◌, ◌+◌, ◌<◌, ◌==◌, [], ◌∷◌, ◌++◌, true, IfOk, IfErr, OnErr};
+ghost use Rattle.esm_io.specs.Faults.{Rose};
 ghost use Rattle.esm_io.specs.Meanings.{disk as meaning};
-ghost use Rattle.esm_journal.specs.File.{entries, end_of, header_of, eight_at, AreShort, IsFile, Foreign, Damaged};
-ghost use Rattle.esm_journal.specs.Pair.{IsSpare, IsOther, pair_opened};
+ghost use Rattle.esm_journal.specs.File.{entries, header_of, eight_at, Foreign, Damaged};
+ghost use Rattle.esm_journal.specs.Pair.{pair_opened};
 ghost use Rattle.esm_journal.specs.Reads.{IsOnlyRead, RefusedFor};
-ghost use Rattle.esm_journal.specs.Replace.{IsSpareOrNew};
 ghost use Rattle.esm_journal.specs.Migrate.{is_version_2, with_next_epoch};
 ghost use Rattle.esm_journal.specs.Taken.{IsReadPair};
 
@@ -20,7 +18,8 @@ use std::alloc::Global;
 
 /// One of two disks is sealed with the header of version 2.
 pub(crate) fn has_version_2<D: Disk>(first: &mut D, second: &mut D) -> Result<bool, Failed>
-    ensures version { D.honest first.old ≡ true → D.honest second.old ≡ true → IfOk result (λ found. found ≡ is_version_2 (D.content first.old) (D.content second.old)) }
+    ensures version { D.honest first.old ≡ true → D.honest second.old ≡ true →
+        IfOk result (λ found. found ≡ is_version_2 (D.content first.old) (D.content second.old)) }
     ensures first_read { IsOnlyRead (meaning D.Disk) first.old first.new }
     ensures second_read { IsOnlyRead (meaning D.Disk) second.old second.new }
     ensures cause { OnErr result (Rose (D.faults first.old) (D.faults first.new) ⊎ Rose (D.faults second.old) (D.faults second.new)) }
@@ -49,8 +48,10 @@ pub(crate) fn read_old_pair<D: Disk>(
     ensures first_read { IsOnlyRead (meaning D.Disk) first.old first.new }
     ensures second_read { IsOnlyRead (meaning D.Disk) second.old second.new }
     ensures refused { IfErr result (λ e. RefusedFor
-        (λ eight. D.honest first.old ≡ true → D.honest second.old ≡ true → (with_next_epoch (pair_opened (header_of 1) (D.content first.old) (D.content second.old)) ≡ Foreign) × (eight ≡ eight_at (D.content first.old) 0))
-        (λ damage. D.honest first.old ≡ true → D.honest second.old ≡ true → with_next_epoch (pair_opened (header_of 1) (D.content first.old) (D.content second.old)) ≡ Damaged damage)
+        (λ eight. D.honest first.old ≡ true → D.honest second.old ≡ true →
+        (with_next_epoch (pair_opened (header_of 1) (D.content first.old) (D.content second.old)) ≡ Foreign) × (eight ≡ eight_at (D.content first.old) 0))
+        (λ damage. D.honest first.old ≡ true → D.honest second.old ≡ true →
+        with_next_epoch (pair_opened (header_of 1) (D.content first.old) (D.content second.old)) ≡ Damaged damage)
         (Rose (D.faults first.old) (D.faults first.new) ⊎ Rose (D.faults second.old) (D.faults second.new)) e) }
 {
     let taken = read_pair(alloc, first, second, SINGLE)?;

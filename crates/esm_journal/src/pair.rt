@@ -1,5 +1,5 @@
 // The journal in two files, one in use and one spare, told apart by their seals and epochs.
-ghost use Rattle.std.specs.Prelude.{◌≡◌, ◌≢◌, ◌⊎◌, ◌+◌, ◌<◌, ◌≤◌, ℕ, List, [], ◌∷◌, ◌++◌, true, false, not, Some, length, IfOk, IfErr, OnOk, OnErr, IsErrOf};
+ghost use Rattle.std.specs.Prelude.{◌≡◌, ◌≢◌, ◌⊎◌, ◌+◌, ◌<◌, ℕ, List, [], ◌∷◌, ◌++◌, true, false, not, Some, length, IfOk, IfErr, OnOk, OnErr, IsErrOf};
 ghost use Rattle.esm_io.specs.Faults.{IsCount, Rose};
 ghost use Rattle.esm_io.specs.Images.{LeavesOnly, Only};
 ghost use Rattle.esm_io.specs.Meanings.{disk as meaning};
@@ -40,14 +40,13 @@ pub struct Pair<D: Disk> {
 }
 
 impl<D: Disk> Model for Pair<D> {
-    ghost use Rattle.std.specs.Prelude.{◌≡◌, ◌≤◌};
+    ghost use Rattle.std.specs.Prelude.{◌≡◌};
     ghost use Rattle.esm_journal.specs.Pair.{PairState, pair_code};
 
     ghost Value = { PairState D };
 
     ghost coded = { pair_code D.code };
 
-    ghost use Rattle.esm_io.specs.Faults.{MAX_FAULTS};
     ghost use Rattle.esm_io.specs.Meanings.{disk as meaning};
     ghost use Rattle.esm_journal.specs.File.{header_of};
     ghost use Rattle.esm_journal.specs.Room.{room_of};
@@ -73,15 +72,18 @@ impl<D: Disk> Pair<D> {
     /// or where it is not and the other has fewer than 18 bytes, with their number. Nothing is written.
     pub fn open(alloc: Global, journal: D, spare: D) -> Result<Pair<D>, Refused<OpenError, (D, D)>>
         // What Ok tells: the payloads, the epoch, and that nothing was written.
-        ensures opened { D.honest journal ≡ true → D.honest spare ≡ true → IfOk result (λ pair. pair_opened (header_of 2) (D.content journal) (D.content spare) ≡ Holding pair.epoch pair.payloads) }
+        ensures opened { D.honest journal ≡ true → D.honest spare ≡ true →
+            IfOk result (λ pair. pair_opened (header_of 2) (D.content journal) (D.content spare) ≡ Holding pair.epoch pair.payloads) }
         ensures fresh { IfOk result (λ pair. (pair.down ≡ false) × (pair.room ≡ [])) }
         ensures first_read { IfOk result (λ pair. IsOnlyRead (meaning D.Disk) journal (first_disk pair)) }
         ensures second_read { IfOk result (λ pair. IsOnlyRead (meaning D.Disk) spare (second_disk pair)) }
         // What a crash leaves after Ok.
-        ensures kept { D.honest journal ≡ true → D.honest spare ≡ true → IfOk result (λ pair. PairKeeps (meaning D.Disk) (header_of 2) pair.epoch pair.payloads pair.used pair.spare) }
+        ensures kept { D.honest journal ≡ true → D.honest spare ≡ true →
+            IfOk result (λ pair. PairKeeps (meaning D.Disk) (header_of 2) pair.epoch pair.payloads pair.used pair.spare) }
         // When each error comes, and that nothing was written.
         ensures refused { IfErr result (λ refused. RefusedFor
-            (λ first. D.honest journal ≡ true → D.honest spare ≡ true → (pair_opened (header_of 2) (D.content journal) (D.content spare) ≡ Foreign) × (first ≡ eight_at (D.content journal) 0))
+            (λ first. D.honest journal ≡ true → D.honest spare ≡ true →
+            (pair_opened (header_of 2) (D.content journal) (D.content spare) ≡ Foreign) × (first ≡ eight_at (D.content journal) 0))
             (λ place. D.honest journal ≡ true → D.honest spare ≡ true → pair_opened (header_of 2) (D.content journal) (D.content spare) ≡ Damaged place)
             (Rose (D.faults journal) (D.faults refused.back.0) ⊎ Rose (D.faults spare) (D.faults refused.back.1)) refused.why) }
         ensures first_back { IfErr result (λ refused. IsOnlyRead (meaning D.Disk) journal refused.back.0) }
@@ -157,7 +159,8 @@ impl<D: Disk> Pair<D> {
         ensures unchanged { IfErr result (λ refused. (refused.why ≡ InitError.DiskFault → ⊥) → IsOnlyRead (meaning D.Disk) disk refused.back) }
         // What a crash leaves at any moment of the call.
         ensures any_moment { D.honest disk ≡ true → IfOk result (λ made. LeavesOnly D.moment D.image_since disk made (WasOrHoldsNone (D.image disk))) }
-        ensures any_moment_err { D.honest disk ≡ true → IfErr result (λ refused. LeavesOnly D.moment D.image_since disk refused.back (WasOrHoldsNone (D.image disk))) }
+        ensures any_moment_err { D.honest disk ≡ true →
+            IfErr result (λ refused. LeavesOnly D.moment D.image_since disk refused.back (WasOrHoldsNone (D.image disk))) }
         // The disk is as honest as it was, and its count of faults never falls.
         ensures honesty { IfOk result (λ made. D.honest made ≡ D.honest disk) }
         ensures back_honesty { IfErr result (λ refused. D.honest refused.back ≡ D.honest disk) }
@@ -207,7 +210,8 @@ impl<D: Disk> Pair<D> {
         ensures swapped { self.new.swapped ≡ self.old.swapped }
         // What Ok leaves.
         ensures added { OnOk result (self.new.payloads ≡ self.old.payloads ++ payload.now ∷ []) }
-        ensures bytes { D.honest self.old.used ≡ true → OnOk result (D.content self.new.used ≡ with_payload self.old.payloads payload.now (D.content self.old.used)) }
+        ensures bytes { D.honest self.old.used ≡ true →
+            OnOk result (D.content self.new.used ≡ with_payload self.old.payloads payload.now (D.content self.old.used)) }
         ensures room { OnOk result (self.new.room ≡ room_after self.old.room (length payload.now)) }
         ensures up { OnOk result (self.new.down ≡ false) }
         // What an error leaves: after `DiskFault` the pair is down; after the others nothing has changed.
@@ -224,7 +228,8 @@ impl<D: Disk> Pair<D> {
         ensures is_too_long { self.old.down ≡ false → MAX_PAYLOAD < length payload.now → IsErrOf result (AppendError.TooLong (length payload.now)) }
         // What a crash leaves: of the disk in use and of both disks since the call began, and once it has returned.
         ensures any_moment { D.honest self.old.used ≡ true → self.old.down ≡ false →
-            LeavesOnly D.moment D.image_since self.old.used self.new.used (IsEither (header_of 2) self.old.epoch self.old.payloads (self.old.payloads ++ payload.now ∷ [])) }
+            LeavesOnly D.moment D.image_since self.old.used self.new.used
+            (IsEither (header_of 2) self.old.epoch self.old.payloads (self.old.payloads ++ payload.now ∷ [])) }
         ensures pair_images { D.honest self.old.used ≡ true → D.honest self.old.spare ≡ true → self.old.down ≡ false → (one other : List ℕ) →
             D.image_since self.new.used (D.moment self.old.used) one → D.image_since self.new.spare (D.moment self.old.spare) other →
             PairOpensToEither (header_of 2) self.old.epoch self.old.payloads payload.now one other }
@@ -244,7 +249,8 @@ impl<D: Disk> Pair<D> {
         // What Ok leaves: the disk that was the spare one is in use, and the one that was in use is the spare one.
         ensures written { OnOk result (self.new.payloads ≡ payloads.now) }
         ensures next_epoch { OnOk result (self.new.epoch ≡ self.old.epoch + 1) }
-        ensures bytes { D.honest self.old.spare ≡ true → OnOk result (D.content self.new.used ≡ rewritten (header_of 2) (self.old.epoch + 1) payloads.now (D.content self.old.spare)) }
+        ensures bytes { D.honest self.old.spare ≡ true →
+            OnOk result (D.content self.new.used ≡ rewritten (header_of 2) (self.old.epoch + 1) payloads.now (D.content self.old.spare)) }
         ensures room { OnOk result (self.new.room ≡ self.old.room) }
         ensures up { OnOk result (self.new.down ≡ false) }
         ensures replaced { OnOk result (self.new.spare ≡ self.old.used) }
@@ -257,16 +263,20 @@ impl<D: Disk> Pair<D> {
         // When each error comes.
         ensures down { IsErrOf result AppendError.Down → (self.new ≡ self.old) × (self.old.down ≡ true) }
         ensures is_down { self.old.down ≡ true → IsErrOf result AppendError.Down }
-        ensures too_long { (n : ℕ) → IsErrOf result (AppendError.TooLong n) → (self.new ≡ self.old) × (self.old.down ≡ false) × (first_too_long payloads.now ≡ Some n) }
+        ensures too_long { (n : ℕ) → IsErrOf result (AppendError.TooLong n) →
+            (self.new ≡ self.old) × (self.old.down ≡ false) × (first_too_long payloads.now ≡ Some n) }
         ensures is_too_long { self.old.down ≡ false → (n : ℕ) → first_too_long payloads.now ≡ Some n → IsErrOf result (AppendError.TooLong n) }
         ensures short_enough { AreShort payloads.now → (n : ℕ) → IsErrOf result (AppendError.TooLong n) → ⊥ }
         // What a crash leaves: of the disk that is written and of both disks since the call began, and once it has returned.
         ensures any_moment { D.honest self.old.used ≡ true → D.honest self.old.spare ≡ true → self.old.down ≡ false →
-            OnOk result (LeavesOnly D.moment D.image_since self.old.spare self.new.used (IsSpareOrNew (header_of 2) self.old.epoch (header_of 2) (self.old.epoch + 1) payloads.now)) }
+            OnOk result (LeavesOnly D.moment D.image_since self.old.spare self.new.used
+            (IsSpareOrNew (header_of 2) self.old.epoch (header_of 2) (self.old.epoch + 1) payloads.now)) }
         ensures any_moment_err { D.honest self.old.used ≡ true → D.honest self.old.spare ≡ true → self.old.down ≡ false →
-            OnErr result (LeavesOnly D.moment D.image_since self.old.spare self.new.spare (IsSpareOrNew (header_of 2) self.old.epoch (header_of 2) (self.old.epoch + 1) payloads.now)) }
+            OnErr result (LeavesOnly D.moment D.image_since self.old.spare self.new.spare
+            (IsSpareOrNew (header_of 2) self.old.epoch (header_of 2) (self.old.epoch + 1) payloads.now)) }
         ensures pair_images { D.honest self.old.used ≡ true → D.honest self.old.spare ≡ true → self.old.down ≡ false → (one other : List ℕ) →
-            D.image_since (first_disk self.new) (D.moment (first_disk self.old)) one → D.image_since (second_disk self.new) (D.moment (second_disk self.old)) other →
+            D.image_since (first_disk self.new) (D.moment (first_disk self.old)) one →
+            D.image_since (second_disk self.new) (D.moment (second_disk self.old)) other →
             PairOpensToOldOrNew (header_of 2) self.old.epoch self.old.payloads payloads.now one other }
         ensures kept { PairKeepsWhileUp (meaning D.Disk) self.new }
         // The disk is as honest as it was, and its count of faults never falls.

@@ -1,12 +1,12 @@
 // Which of two files is in use, and what it holds.
-ghost use Rattle.std.specs.Prelude.{◌≡◌, ◌⊎◌, ◌≤◌, ◌==◌, ◌&&◌, true, false, ℕ, List, length, nat_eq, IfOk, IfErr, OnOk, OnErr};
+ghost use Rattle.std.specs.Prelude.{◌≡◌, ◌⊎◌, ◌≤◌, ◌==◌, ◌&&◌, true, false, ℕ, List, length, nat_eq, IfOk, IfErr, OnOk};
 ghost use Rattle.std.specs.Cmp.Lexicographic.{pointwise};
 ghost use Rattle.esm_io.specs.Faults.{Rose, MAX_FAULTS};
 ghost use Rattle.esm_io.specs.Images.{Only};
 ghost use Rattle.esm_io.specs.Meanings.{disk as meaning};
 ghost use Rattle.esm_journal.specs.File.{end_of, AreShort, IsFile, Foreign, Damaged, eight_at, opened_rest};
 ghost use Rattle.esm_journal.specs.Head.{IsHead};
-ghost use Rattle.esm_journal.specs.Pair.{is_sealed, is_taken, beside, pair_opened, IsOther};
+ghost use Rattle.esm_journal.specs.Pair.{is_taken, beside, pair_opened, IsOther};
 ghost use Rattle.esm_journal.specs.Reads.{IsOnlyRead, RefusedFor};
 ghost use Rattle.esm_journal.specs.Taken.{IsTaken};
 
@@ -83,8 +83,10 @@ pub(crate) fn read_pair<D: Disk>(
 ) -> Result<Taken, OpenError>
     requires { length header ≡ 8 }
     ensures taken { D.honest first.old ≡ true → D.honest second.old ≡ true → IfOk result (IsTaken header (D.content first.old) (D.content second.old)) }
-    ensures first_file { D.honest first.old ≡ true → IfOk result (λ taken. taken.swapped ≡ false → IsFile header taken.found.epoch taken.found.payloads.items (D.content first.old)) }
-    ensures second_file { D.honest second.old ≡ true → IfOk result (λ taken. taken.swapped ≡ true → IsFile header taken.found.epoch taken.found.payloads.items (D.content second.old)) }
+    ensures first_file { D.honest first.old ≡ true →
+        IfOk result (λ taken. taken.swapped ≡ false → IsFile header taken.found.epoch taken.found.payloads.items (D.content first.old)) }
+    ensures second_file { D.honest second.old ≡ true →
+        IfOk result (λ taken. taken.swapped ≡ true → IsFile header taken.found.epoch taken.found.payloads.items (D.content second.old)) }
     ensures first_other { D.honest first.old ≡ true → IfOk result (λ taken. taken.swapped ≡ true → IsOther taken.spare_sealed (D.content first.old)) }
     ensures second_other { D.honest second.old ≡ true → IfOk result (λ taken. taken.swapped ≡ false → IsOther taken.spare_sealed (D.content second.old)) }
     ensures end { IfOk result (λ taken. taken.found.end ≡ end_of taken.found.payloads.items) }
@@ -96,7 +98,8 @@ pub(crate) fn read_pair<D: Disk>(
     ensures faults { OnOk result (D.faults first.new ≤ MAX_FAULTS) }
     ensures spare_faults { OnOk result (D.faults second.new ≤ MAX_FAULTS) }
     ensures refused { IfErr result (λ e. RefusedFor
-        (λ eight. D.honest first.old ≡ true → D.honest second.old ≡ true → (pair_opened header (D.content first.old) (D.content second.old) ≡ Foreign) × (eight ≡ eight_at (D.content first.old) 0))
+        (λ eight. D.honest first.old ≡ true → D.honest second.old ≡ true →
+        (pair_opened header (D.content first.old) (D.content second.old) ≡ Foreign) × (eight ≡ eight_at (D.content first.old) 0))
         (λ damage. D.honest first.old ≡ true → D.honest second.old ≡ true → pair_opened header (D.content first.old) (D.content second.old) ≡ Damaged damage)
         (Rose (D.faults first.old) (D.faults first.new) ⊎ Rose (D.faults second.old) (D.faults second.new)) e) }
 {

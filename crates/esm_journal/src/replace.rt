@@ -54,7 +54,8 @@ fn write_list<D: Disk>(disk: &mut D, header: [u8; 8], epoch: u64, list: &[u8]) -
     requires eight { length header ≡ 8 }
     requires closed { D.honest disk.old ≡ true → IsClosed (D.content disk.old) }
     requires synced { D.honest disk.old ≡ true → Only (D.content disk.old) (D.image disk.old) }
-    ensures written { D.honest disk.old ≡ true → (payloads : List (List ℕ)) → list.now ≡ entries payloads ++ 0 ∷ [] → OnOk result (IsUnsealed header epoch payloads (D.content disk.new)) }
+    ensures written { D.honest disk.old ≡ true → (payloads : List (List ℕ)) → list.now ≡ entries payloads ++ 0 ∷ [] →
+        OnOk result (IsUnsealed header epoch payloads (D.content disk.new)) }
     ensures bytes { D.honest disk.old ≡ true → OnOk result (D.content disk.new
         ≡ (header ++ to_be_bytes w64 epoch) ++ slice_index (D.content disk.old) 16 ∷ (list.now ++ drop (length list.now) (drop 17 (D.content disk.old)))) }
     ensures closed { D.honest disk.old ≡ true → OnOk result (IsClosed (D.content disk.new)) }
@@ -84,8 +85,10 @@ pub(crate) fn replace_file<D: Disk>(
     requires long { D.honest disk.old ≡ true → 18 ≤ length (D.content disk.old) }
     requires synced { D.honest disk.old ≡ true → Only (D.content disk.old) (D.image disk.old) }
     requires faults { D.faults disk.old ≤ MAX_FAULTS }
-    ensures file { D.honest disk.old ≡ true → (payloads : List (List ℕ)) → AreShort payloads → list.now ≡ entries payloads ++ 0 ∷ [] → OnOk result (IsFile header epoch payloads (D.content disk.new)) }
-    ensures bytes { D.honest disk.old ≡ true → (payloads : List (List ℕ)) → list.now ≡ entries payloads ++ 0 ∷ [] → OnOk result (D.content disk.new ≡ rewritten header epoch payloads (D.content disk.old)) }
+    ensures file { D.honest disk.old ≡ true → (payloads : List (List ℕ)) → AreShort payloads → list.now ≡ entries payloads ++ 0 ∷ [] →
+        OnOk result (IsFile header epoch payloads (D.content disk.new)) }
+    ensures bytes { D.honest disk.old ≡ true → (payloads : List (List ℕ)) → list.now ≡ entries payloads ++ 0 ∷ [] →
+        OnOk result (D.content disk.new ≡ rewritten header epoch payloads (D.content disk.old)) }
     ensures durable { D.honest disk.old ≡ true → OnOk result (Only (D.content disk.new) (D.image disk.new)) }
     ensures any_moment { D.honest disk.old ≡ true → (payloads : List (List ℕ)) → AreShort payloads → list.now ≡ entries payloads ++ 0 ∷ [] →
         (kept : List ℕ) (lower : ℕ) → IsSpare kept lower (D.content disk.old) →

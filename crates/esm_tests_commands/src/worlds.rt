@@ -1,7 +1,5 @@
 // Worlds of devices in memory, made of what an example says, and the one call of the program.
 ghost use Rattle.std.specs.Prelude.{◌≡◌, [], length, IfOk};
-ghost use Rattle.std.specs.List.{All};
-ghost use Rattle.esm_io.specs.Forms.{IsUnused};
 ghost use Rattle.esm_io.specs.Script.{HasNoLost};
 ghost use Rattle.esm_model.specs.declared.entry.Reply.TheVariants as Reply;
 

@@ -1,0 +1,109 @@
+// The bytes of a file that were read ahead of their use, so that one read of the disk serves many entries.
+ghost use Rattle.std.specs.Prelude.{◌≡◌, ◌+◌, ◌-◌, ◌≤◌, ◌↔◌, IsTrue, true, ℕ, List, [], length, take, drop, IfOk, IfErr, OnOk};
+ghost use Rattle.esm_io.specs.Faults.{Rose};
+ghost use Rattle.esm_io.specs.Meanings.{disk as meaning};
+ghost use Rattle.esm_journal.specs.Ahead.{IsPart, IsAhead};
+ghost use Rattle.esm_journal.specs.Reads.{IsOnlyRead, RefusedFor};
+
+use crate::error::OpenError;
+use crate::through::read_at;
+use esm_io::Disk;
+use esm_model::Bytes;
+use std::alloc::Global;
+
+/// How many bytes are read at once, where the file has so many left.
+pub(crate) const READ_SIZE: usize = 65_536;
+
+/// Bytes of a file that were read ahead.
+#[derive(Drop)]
+pub(crate) struct Ahead {
+    /// The place of the first of them, in bytes from the start of the file.
+    pub(crate) start: u64,
+    pub(crate) bytes: Bytes,
+}
+
+/// So many bytes from a place on.
+pub(crate) fn bytes_at<D: Disk>(
+    alloc: Global,
+    disk: &mut D,
+    place: u64,
+    count: usize,
+) -> Result<Bytes, OpenError>
+    requires within { D.honest disk.old ≡ true → place + count ≤ length (D.content disk.old) }
+    ensures bytes { D.honest disk.old ≡ true →
+        IfOk result (λ bytes. bytes ≡ take count (drop place (D.content disk.old))) }
+    ensures size { IfOk result (λ bytes. length bytes ≡ count) }
+    ensures only_read { IsOnlyRead (meaning D.Disk) disk.old disk.new }
+    ensures refused { IfErr result (λ e.
+        RefusedFor (λ first. ⊥) (λ place. ⊥) (Rose (D.faults disk.old) (D.faults disk.new)) e) }
+{
+    let mut bytes = vec![in alloc; 0; count]?;
+    read_at(disk, place, bytes.as_mut_slice())?;
+    Ok(Bytes::from_vec(bytes))
+}
+
+impl Ahead {
+    /// No byte yet.
+    pub(crate) fn new(alloc: Global) -> Self
+        ensures { result.bytes ≡ [] }
+    {
+        Ahead {
+            start: 0,
+            bytes: Bytes::from_vec(Vec::new(alloc)),
+        }
+    }
+
+    /// So many bytes from a place on are there.
+    fn has(&self, place: u64, count: usize) -> bool
+        ensures { IsTrue result ↔ (self.now.start ≤ place) × (place + count ≤ self.now.start + length self.now.bytes) }
+    {
+        if place < self.start {
+            return false;
+        }
+        let passed = place - self.start;
+        let size = self.bytes.as_slice().len() as u64;
+        passed <= size && count as u64 <= size - passed
+    }
+
+    /// Sees to it that so many bytes from a place on are there. `size` is the file's length in bytes. After an `Err` the
+    /// bytes from before are there still.
+    pub(crate) fn read_on<D: Disk>(
+        &mut self,
+        alloc: Global,
+        disk: &mut D,
+        place: u64,
+        count: usize,
+        size: u64,
+    ) -> Result<(), OpenError>
+        requires few { count ≤ READ_SIZE }
+        requires within { place + count ≤ size }
+        requires size { D.honest disk.old ≡ true → size ≡ length (D.content disk.old) }
+        requires ahead { IsAhead (meaning D.Disk) disk.old self.old }
+        ensures from { OnOk result (self.new.start ≤ place) }
+        ensures to { OnOk result (place + count ≤ self.new.start + length self.new.bytes) }
+        ensures ahead { IsAhead (meaning D.Disk) disk.new self.new }
+        ensures only_read { IsOnlyRead (meaning D.Disk) disk.old disk.new }
+        ensures refused { IfErr result (λ e.
+            RefusedFor (λ first. ⊥) (λ place. ⊥) (Rose (D.faults disk.old) (D.faults disk.new)) e) }
+    {
+        if self.has(place, count) {
+            return Ok(());
+        }
+        let left = (size - place).min(READ_SIZE as u64) as usize;
+        let bytes = bytes_at(alloc, disk, place, left)?;
+        self.start = place;
+        self.bytes = bytes;
+        Ok(())
+    }
+
+    /// So many bytes from a place on, which are there.
+    pub(crate) fn part(&self, place: u64, count: usize) -> &[u8]
+        requires from { self.now.start ≤ place }
+        requires to { place + count ≤ self.now.start + length self.now.bytes }
+        ensures part { (content : List ℕ) → IsPart content self.now → result.now ≡ take count (drop place content) }
+        ensures size { length result.now ≡ count }
+    {
+        let passed = (place - self.start) as usize;
+        &self.bytes.as_slice()[passed..][..count]
+    }
+}
