@@ -32,7 +32,7 @@ in_shard n i j le = ap (λ o. is_gt (ordering_then o (nat_cmp i j))) (same_numbe
 -- the greatest of numbers that rise is the last
 
 -- each of the numbers is from low to high
-abbrev AreBetween : ℕ → ℕ → List ℕ → Type 0
+abbrev pub AreBetween : ℕ → ℕ → List ℕ → Type 0
 AreBetween low high ns = AllByRecursion (λ n. (low ≤ n) × (n ≤ high)) ns
 
 rising_between : (low next n : ℕ) (ns : List ℕ) → low ≤ next → rises_from next (n ∷ ns) ≡ true
@@ -48,14 +48,14 @@ rising_between low next n (m ∷ ns) le rising =
     (omega (arith, le, here), omega (arith, above, rest.1), ((rest.0, rest.1), rest.2))
 
 -- from the first
-bounds : (n : ℕ) (ns : List ℕ) → rises (n ∷ ns) ≡ true → AreBetween n (get_or (n ∷ ns) (length ns) 0) (n ∷ ns)
+pub bounds : (n : ℕ) (ns : List ℕ) → rises (n ∷ ns) ≡ true → AreBetween n (get_or (n ∷ ns) (length ns) 0) (n ∷ ns)
 bounds n [] rising = ((omega arith, omega arith), tt)
 bounds n (m ∷ ns) rising =
     let after = (and_parts (nat_le 0 n) (rises_from (suc n) (m ∷ ns)) rising).1 in
     let rest = rising_between n (suc n) m ns (omega arith) after in
     ((omega arith, omega (arith, rest.0, rest.1)), ((rest.0, rest.1), rest.2))
 
-last_place : (n : ℕ) (ns : List ℕ) → length (n ∷ ns) - 1 ≡ length ns
+pub last_place : (n : ℕ) (ns : List ℕ) → length (n ∷ ns) - 1 ≡ length ns
 last_place n ns = omega arith
 
 pub first_to_last : (places : List ℕ) → 2 ≤ length places → rises places ≡ true → get_or places 0 0 ≤ get_or places (length places - 1) 0

@@ -1,4 +1,5 @@
 pub mod Pairs
+pub mod Recent
 pub mod Finding
 pub mod Frontiers
 pub mod Fresh

@@ -39,7 +39,7 @@ text_more : (places : List ℕ) (texts : List (List ℕ)) (k i : ℕ) (d : List 
     → text_named (drop k places) (drop k texts) i ≡ cond (eqb (get_or places k 0) i) (Some (get_or texts k d)) (text_named (drop (k + 1) places) (drop (k + 1) texts) i)
 text_more places texts k i d p q = rw (drop-cons places k 0, drop-cons texts k d, add-one) refl
 
-option_map-cond : {A B : Type 0} (f : A → B) (b : Bool) (x : A) (o : Option A) → option_map f (cond b (Some x) o) ≡ cond b (Some (f x)) (option_map f o)
+pub option_map-cond : {A B : Type 0} (f : A → B) (b : Bool) (x : A) (o : Option A) → option_map f (cond b (Some x) o) ≡ cond b (Some (f x)) (option_map f o)
 option_map-cond f true x o = refl
 option_map-cond f false x o = refl
 

@@ -6,3 +6,4 @@ pub mod View
 pub mod Bad
 pub mod Pieces
 pub mod Compact
+pub mod Growing

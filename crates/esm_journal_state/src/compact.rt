@@ -1,9 +1,10 @@
 // The shorter list of payloads that says the same.
-ghost use Rattle.std.specs.Prelude.{◌≡◌, ◌≤◌, ℕ, ◌++◌, List, [], true, length, map, max, reverse, IfOk, OnOk, IfErr};
+ghost use Rattle.std.specs.Prelude.{◌≡◌, ◌≤◌, ◌++◌, List, true, length, map, max, reverse, IfOk, OnOk, IfErr};
 ghost use Rattle.std.specs.List.{All, AllByRecursion};
 ghost use Rattle.esm_journal_record.specs.declared.said.Said.{Said};
 ghost use Rattle.esm_journal_state.specs.Bad.{IsFirstBad};
-ghost use Rattle.esm_journal_state.specs.Compact.{moment_of, greatest_moment, fate_from, fates_of, tried_of, replayed_of, deleted_of, state_of_window, tried_of_window, IsCompacted, SameSaid};
+ghost use Rattle.esm_journal_state.specs.Compact.{moment_of, greatest_moment, fate_from, fates_of, tried_of, replayed_of, deleted_of};
+ghost use Rattle.esm_journal_state.specs.Compact.{state_of_window, tried_of_window, IsCompacted, SameSaid};
 ghost use Rattle.esm_journal_state.specs.Meaning.{history, are_good};
 ghost use Rattle.esm_journal_record.specs.Payload.{IsSaid, payload_of};
 ghost use Rattle.esm_journal_state.specs.Table.{IsTable};

@@ -2,6 +2,7 @@
 ghost use Rattle.std.specs.Prelude.{◌≡◌, ℕ, List, ◌∷◌, true, reverse, IfOk, OnOk, IfErr};
 ghost use Rattle.esm_journal_record.specs.declared.said.Said.{Said};
 ghost use Rattle.esm_journal_state.specs.Bad.{IsFirstBad, IsAt};
+ghost use Rattle.esm_journal_state.specs.Growing.{IsGrown};
 ghost use Rattle.esm_journal_state.specs.Meaning.{history, is_good, are_good};
 ghost use Rattle.esm_journal_state.specs.Table.{IsTable};
 ghost use Rattle.esm_journal_state.specs.Tells.{Tells};
@@ -10,26 +11,28 @@ ghost use Rattle.esm_journal_state.specs.SaidLists.{IsInOrder};
 use crate::add::add;
 use crate::error::SaysError;
 use crate::gather::gathered;
+use crate::growing::{Growing, empty_growing, make_ready, settle};
 use crate::judge::is_bad;
 use crate::lookup::Says;
-use crate::table::{Table, empty_table};
+use crate::table::Table;
 use esm_journal_record::read_said;
 use esm_model::{Bytes, OutOfMemory};
 use std::alloc::Global;
 
 /// Adds what one more payload says, where it is good.
-fn take(alloc: Global, table: &mut Table, payload: &[u8]) -> Result<bool, OutOfMemory>
-    ensures judged { IfOk result (λ good. (h : List Said) → IsTable table.old h → good ≡ is_good h payload.now) }
-    ensures added { IfOk result (λ good. good ≡ true → (payloads : List (List ℕ)) → IsTable table.old (history payloads)
-        → IsTable table.new (history (payload.now ∷ payloads))) }
+fn take(alloc: Global, growing: &mut Growing, payload: &[u8]) -> Result<bool, OutOfMemory>
+    ensures judged { IfOk result (λ good. (h : List Said) → IsGrown growing.old h → good ≡ is_good h payload.now) }
+    ensures added { IfOk result (λ good. good ≡ true → (payloads : List (List ℕ)) → IsGrown growing.old (history payloads)
+        → IsGrown growing.new (history (payload.now ∷ payloads))) }
 {
     let Some(said) = read_said(alloc, payload)? else {
         return Ok(false);
     };
-    if is_bad(table, &said) {
+    make_ready(alloc, growing, &said)?;
+    if is_bad(&growing.table, &said) {
         return Ok(false);
     }
-    add(table, said)?;
+    add(growing, said)?;
     Ok(true)
 }
 
@@ -49,13 +52,14 @@ pub(crate) fn table_of(alloc: Global, payloads: &[Bytes]) -> Result<Table, SaysE
     ensures good { OnOk result (are_good (reverse payloads.now) ≡ true) }
     ensures bad { IfErr result (λ e. IsFirstBad payloads.now e) }
 {
-    let mut table = empty_table(alloc);
+    let mut growing = empty_growing(alloc);
     for (index, payload) in payloads.iter().enumerate() {
-        if !take(alloc, &mut table, payload.as_slice())? {
+        if !take(alloc, &mut growing, payload.as_slice())? {
             return Err(bad_payload(index));
         }
     }
-    Ok(table)
+    settle(alloc, &mut growing)?;
+    Ok(growing.table)
 }
 
 /// What the payloads say, the oldest first. Near-linear in their bytes: each place costs a logarithm.

@@ -7,6 +7,7 @@ mod add;
 mod compact;
 mod error;
 mod gather;
+mod growing;
 mod history;
 mod judge;
 pub mod kept;

@@ -1,10 +1,10 @@
 // What a list of payloads says.
-ghost use Rattle.std.specs.Prelude.{◌≡◌, ℕ, ◌<◌, ◌==◌, nat_eq, List, true, Some, None, length, map, filter, option_map, is_some, unwrap_or, IfOk};
+ghost use Rattle.std.specs.Prelude.{◌≡◌, ℕ, ◌<◌, ◌==◌, nat_eq, true, Some, None, length, map, filter, option_map, is_some, unwrap_or, IfOk};
 ghost use Rattle.std.specs.List.{list_any};
 ghost use Rattle.std.specs.List.Sorted.{IsStrictlyIncreasing};
 ghost use Rattle.esm_model.specs.declared.setup.FoundWindowTries.{FoundWindowTries};
 ghost use Rattle.esm_journal_state.specs.Meaning.{fate_kept, tries_kept};
-ghost use Rattle.esm_journal_state.specs.SaidLists.{fate_told, tries_told, state_told, window_tries_told, is_replay_told, deletion_told, fates_count, has_shard};
+ghost use Rattle.esm_journal_state.specs.SaidLists.{fate_told, tries_told, window_tries_told, is_replay_told, deletion_told, fates_count, has_shard};
 ghost use Rattle.esm_journal_state.specs.Tells.{fate_of_found, tries_of_found, deletion_of_found};
 ghost use Rattle.esm_journal_state.specs.View.{found_state, found_window_tries, of_window};
 
@@ -183,7 +183,8 @@ fn tries_of_shard(
     window_tries: &BTreeMap<Window, u32>,
     shard: u64,
 ) -> Result<Vec<SaidWindowTries>, OutOfMemory>
-    ensures { IfOk result (λ found. map (of_window shard) found.items ≡ filter (λ (f : FoundWindowTries). f.shard == shard) (map found_window_tries window_tries.now.entries)) }
+    ensures { IfOk result (λ found. map (of_window shard) found.items
+        ≡ filter (λ (f : FoundWindowTries). f.shard == shard) (map found_window_tries window_tries.now.entries)) }
 {
     let mut found = Vec::new(alloc);
     for (of, tries) in window_tries {

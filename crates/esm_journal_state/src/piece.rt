@@ -1,5 +1,5 @@
 // Places of one group.
-ghost use Rattle.std.specs.Prelude.{◌≡◌, ◌<◌, ◌∷◌, [], reverse, IfOk, OnOk};
+ghost use Rattle.std.specs.Prelude.{◌≡◌, ◌<◌, ◌∷◌, reverse, IfOk, OnOk};
 ghost use Rattle.esm_journal_state.specs.Pieces.{piece_of, has_room, grown, piece_after, pieces};
 
 use esm_model::{MAX_BATCH, OutOfMemory, Places, Text, Texts};

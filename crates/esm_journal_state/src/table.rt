@@ -1,11 +1,10 @@
 // What payloads say of places and windows, as maps.
-ghost use Rattle.std.specs.Prelude.{◌≡◌, ℕ, ◌==◌, ◌&&◌, ◌||◌, List, ◌∷◌, [], Some, None, length, option_map, IfOk, OnOk, if◌then◌else◌};
+ghost use Rattle.std.specs.Prelude.{◌≡◌, ℕ, ◌==◌, ◌&&◌, ◌||◌, [], Some, None, length, option_map, OnOk, if◌then◌else◌};
 ghost use Rattle.std.specs.Option.{option_or};
 ghost use Rattle.std.specs.Ordering.{nat_cmp};
 ghost use Rattle.std.specs.BTreeMap as map;
 ghost use Rattle.std.specs.BTreeSet as set;
 ghost use Rattle.esm_model.specs.Entries.{holds};
-ghost use Rattle.esm_journal_record.specs.declared.said.Said.{Said};
 ghost use Rattle.esm_journal_state.specs.Meaning.{text_named, only_at, fate_kept, tries_kept, state_in};
 ghost use Rattle.esm_journal_state.specs.Table.{pair_cmp, IsTable};
 
@@ -43,24 +42,6 @@ pub(crate) fn empty_table(alloc: Global) -> Table
         replays: BTreeSet::new(alloc),
         deletions: BTreeMap::new(alloc),
     }
-}
-
-pub(crate) fn keep_fates(
-    fates: &mut BTreeMap<Place, KeptFate>,
-    shard: u64,
-    fate: Fate,
-    places: &[u32],
-    mut texts: Vec<Text>,
-) -> Result<(), OutOfMemory>
-    requires { length texts.items ≡ length places.now }
-    ensures { OnOk result ((n i : ℕ) → map.get pair_cmp fates.new (n, i)
-        ≡ option_or (only_at (shard == n) (option_map (fate_kept fate) (text_named places.now texts.items i))) (map.get pair_cmp fates.old (n, i))) }
-{
-    while let Some(text) = texts.pop() {
-        let place = places[texts.len()];
-        fates.insert((shard, place), KeptFate { fate, text })?;
-    }
-    Ok(())
 }
 
 pub(crate) fn keep_tries(

@@ -9,7 +9,8 @@ returns c = λ h moment old. record {
   fates = old.fates;
   tries = old.tries;
   states = old.states;
-  window_tries = λ n w. rw (← old.window_tries n w) (changed c.args.shard n c.args.window w (Some c.args.tries) (map.get pair_cmp c.args.table.now.window_tries (n, w)) (map.get pair_cmp c.insert.new.self (n, w)) (c.in_ok-insert.ensures.updates.0 (n, w)));
+  window_tries = λ n w. rw (← old.window_tries n w) (changed c.args.shard n c.args.window w (Some c.args.tries) (map.get pair_cmp c.args.growing.now.table.window_tries (n, w)) (map.get pair_cmp c.insert.new.self (n, w)) (c.in_ok-insert.ensures.updates.0 (n, w)));
   replays = old.replays;
   deletions = old.deletions;
+  tops = old.tops;
 }
