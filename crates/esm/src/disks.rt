@@ -1,7 +1,6 @@
-// The disks and the input of a run, in memory or in a folder.
+// The disks and the input of a run, with a folder or without.
 use esm_folder::{Disks, InitEnd, Initialized, init};
-use esm_host::{FileDisk, FileSource};
-use esm_io::MemDisk;
+use esm_host::{FileDisk, FileSource, FleetingDisk};
 use esm_model::{FileName, OutOfMemory, Text};
 use std::alloc::Global;
 use std::fs::File;
@@ -10,19 +9,14 @@ use std::rt::Files;
 /// The input of a folder.
 const INPUT: &str = "input.jsonl";
 
-/// A disk without bytes.
-fn empty(alloc: Global) -> MemDisk {
-    MemDisk::new(alloc, Vec::new(alloc), Vec::new(alloc))
-}
-
-/// The disks of a world without a folder, in memory, as an `init` leaves them. They have no failing calls, so what is
-/// made on them is refused for want of memory alone.
-pub fn fresh_disks(alloc: Global) -> Result<Disks<MemDisk>, OutOfMemory> {
+/// The disks of a world without a folder, as an `init` leaves them. They keep no journal, and what is made on them is refused
+/// for want of memory alone: none of its calls is a fault.
+pub fn fresh_disks(alloc: Global) -> Result<Disks<FleetingDisk>, OutOfMemory> {
     let disks = Disks {
-        journal: empty(alloc),
-        spare: empty(alloc),
-        failures: empty(alloc),
-        registry: empty(alloc),
+        journal: FleetingDisk::new(),
+        spare: FleetingDisk::new(),
+        failures: FleetingDisk::new(),
+        registry: FleetingDisk::new(),
     };
     match init(alloc, disks) {
         Initialized {

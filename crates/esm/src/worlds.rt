@@ -9,9 +9,9 @@ use crate::opening::Opening;
 use crate::tail_sink::TailSink;
 use crate::timeouts::read_timeout;
 use esm_folder::Disks;
-use esm_host::{FileDisk, FileSource, HostClock, StdinSource, StdoutSink, TcpDoor};
+use esm_host::{FileDisk, FileSource, FleetingDisk, HostClock, StdinSource, StdoutSink, TcpDoor};
 use esm_invoke::ProgramCaller;
-use esm_io::{Disk, MemDisk, Source};
+use esm_io::{Disk, Source};
 use esm_model::{MAX_LANES, OutOfMemory};
 use esm_run::World;
 use std::alloc::Global;
@@ -58,12 +58,12 @@ fn world_of<H: Runtime + Net + Clone, S: Source + Drop, D: Disk + Drop>(
     })
 }
 
-/// The world without a folder: standard input, and disks in memory as an `init` leaves them.
+/// The world without a folder: standard input, and disks that keep no journal, as an `init` leaves them.
 pub fn memory_world<H: Runtime + Net + Clone>(
     host: &H,
     alloc: Global,
     opening: Opening<'_>,
-) -> Result<HostWorld<H, StdinSource<H>, MemDisk>, OutOfMemory>
+) -> Result<HostWorld<H, StdinSource<H>, FleetingDisk>, OutOfMemory>
     ensures callers { IfOk result (λ world. length world.callers.items ≡ MAX_LANES) }
     ensures answering { IfOk result (λ world. AreCallers opening.entry.functions (map string_bytes opening.entry.command.now) world.callers.items) }
     ensures trace { IfOk result (λ world. world.trace.items ≡ []) }

@@ -1,5 +1,5 @@
 -- What the devices of the host hold. This product's own.
-use Rattle.std.specs.Prelude.{ℕ, Bool, Option}
+use Rattle.std.specs.Prelude.{ℕ, Bool, List, Option}
 use Rattle.std.specs.Duration.{as_nanos}
 use Rattle.std.specs.declared.time.Duration.{Duration}
 use Rattle.esm_host.specs.declared.deadline.Deadline.{Deadline}
@@ -11,6 +11,12 @@ pub record RealState : Type 0 where
 -- a file as a disk: whether it is down for good, and its count of faults
 pub record FileDiskState : Type 0 where
   pub down : Bool
+  pub faults : ℕ
+
+-- a disk that stands for no file: its first bytes, 0 where nothing was written; its length in bytes, and its count of faults
+pub record FleetingDiskState : Type 0 where
+  pub kept : List ℕ
+  pub len : ℕ
   pub faults : ℕ
 
 -- a limit of time, in nanoseconds, and what the steady clock read when it began, none before

@@ -140,7 +140,7 @@ impl<R: std::rt::Clock + Eprint + Clone> Clock for HostClock<R> {
 
     /// At most once a second, whoever asks, first a second after the clock was made, and not while a line is being shown: a
     /// terminal that stands still holds one thread and no other.
-    fn is_watched(&self) -> bool {
+    fn takes_show(&self) -> bool {
         let due = self.next_show.load(Ordering::SeqCst);
         if due == NEVER {
             return false;

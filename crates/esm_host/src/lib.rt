@@ -6,6 +6,7 @@ mod again;
 mod deadline;
 mod file_disk;
 mod file_source;
+mod fleeting_disk;
 mod host_clock;
 mod no_connection;
 mod ready;
@@ -20,6 +21,7 @@ mod timed;
 
 pub use file_disk::FileDisk;
 pub use file_source::FileSource;
+pub use fleeting_disk::FleetingDisk;
 pub use host_clock::HostClock;
 pub use no_connection::NoConnection;
 pub use stdin_source::StdinSource;

@@ -18,8 +18,8 @@ pub trait Clock {
         ensures given { gave result ≡ true }
         ensures not_before { until ≤ result };
 
-    /// Whether somebody watches the run who was shown nothing for a second. Nobody watches, but where a clock says so.
-    fn is_watched(&self) -> bool {
+    /// Whether a show is due: true to one caller, who then shows. None is, but where a clock says so.
+    fn takes_show(&self) -> bool {
         false
     }
 

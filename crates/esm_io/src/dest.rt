@@ -86,5 +86,6 @@ pub trait Dest {
         ensures cause { IsErrOf result DestError.Failed → Rose (faults self.old) (faults self.new) };
 
     /// What a crash now may leave is what one since an earlier moment may have left.
-    ghost counts_now: { (dest : Self) (t : ℕ) (left : List ℕ) → honest dest ≡ true → t ≤ moment dest → image_since dest (moment dest) left → image_since dest t left };
+    ghost counts_now: { (dest : Self) (t : ℕ) (left : List ℕ) → honest dest ≡ true → t ≤ moment dest → image_since dest (moment dest) left →
+        image_since dest t left };
 }

@@ -1,5 +1,5 @@
 // A disk in memory, which fails at chosen calls and tells what a crash may leave of its bytes.
-ghost use Rattle.std.specs.Prelude.{◌≡◌, ◌+◌, ◌≤◌, ℕ, true, false, List, [], ◌∷◌, ◌++◌, length, take, drop, OnOk, OnErr, IfOk, IfErr, IsOk, IsErr};
+ghost use Rattle.std.specs.Prelude.{◌≡◌, ◌+◌, ◌≤◌, true, false, [], ◌∷◌, ◌++◌, length, take, drop, OnOk, OnErr, IfOk, IfErr, IsOk, IsErr};
 ghost use Rattle.esm_io.specs.Faults.{IsCount, Rose};
 ghost use Rattle.esm_io.specs.Images.{overwritten, Torn, Follows, Within, Only, Elapses};
 ghost use Rattle.esm_io.specs.Schedule.{is_due, after_call, after_failure};
@@ -117,7 +117,8 @@ fn record_write(
 ) -> Result<(), AllocError>
     requires { at ≤ length bytes.old.items }
     ensures written { OnOk result (bytes.new.items ≡ overwritten bytes.old.items at from.now) }
-    ensures recorded { OnOk result (steps.new.items ≡ steps.old.items ++ DiskStep.Wrote at (length from.now) (take (length from.now) (drop at bytes.old.items)) ∷ []) }
+    ensures recorded { OnOk result (steps.new.items ≡ steps.old.items
+        ++ DiskStep.Wrote at (length from.now) (take (length from.now) (drop at bytes.old.items)) ∷ []) }
     ensures err { OnErr result (bytes.new.items ≡ bytes.old.items) }
     ensures unrecorded { OnErr result (steps.new.items ≡ steps.old.items) }
 {
@@ -164,7 +165,8 @@ impl Disk for MemDisk {
         ensures same { self.new.content ≡ self.old.content }
         ensures steps { self.new.steps ≡ self.old.steps }
         ensures images { Within (IsImage self.old.content self.old.steps) (IsImageSince self.new.content self.new.steps (length self.old.steps)) }
-        ensures time { Elapses (length self.old.steps) (length self.new.steps) (IsImageSince self.old.content self.old.steps) (IsImageSince self.new.content self.new.steps) }
+        ensures time { Elapses (length self.old.steps) (length self.new.steps) (IsImageSince self.old.content self.old.steps)
+            (IsImageSince self.new.content self.new.steps) }
         ensures count { IsCount self.old.schedule.faults self.new.schedule.faults }
         ensures cause { OnErr result (Rose self.old.schedule.faults self.new.schedule.faults) }
         ensures due { is_due self.old.schedule ≡ true → IsErr result }
@@ -186,7 +188,8 @@ impl Disk for MemDisk {
         ensures steps { self.new.steps ≡ self.old.steps }
         // What a crash may leave.
         ensures images { Within (IsImage self.old.content self.old.steps) (IsImageSince self.new.content self.new.steps (length self.old.steps)) }
-        ensures time { Elapses (length self.old.steps) (length self.new.steps) (IsImageSince self.old.content self.old.steps) (IsImageSince self.new.content self.new.steps) }
+        ensures time { Elapses (length self.old.steps) (length self.new.steps) (IsImageSince self.old.content self.old.steps)
+            (IsImageSince self.new.content self.new.steps) }
         // Faults, and which calls fail.
         ensures count { IsCount self.old.schedule.faults self.new.schedule.faults }
         ensures cause { OnErr result (Rose self.old.schedule.faults self.new.schedule.faults) }
@@ -208,13 +211,16 @@ impl Disk for MemDisk {
         requires { at ≤ length self.old.content }
         // What a read gives, and the record of the write.
         ensures written { OnOk result (self.new.content ≡ overwritten self.old.content at from.now) }
-        ensures recorded { OnOk result (self.new.steps ≡ DiskStep.Wrote at (length from.now) (take (length from.now) (drop at self.old.content)) ∷ self.old.steps) }
+        ensures recorded { OnOk result (self.new.steps
+            ≡ DiskStep.Wrote at (length from.now) (take (length from.now) (drop at self.old.content)) ∷ self.old.steps) }
         ensures torn { OnErr result (Torn at (length from.now) self.old.content self.new.content) }
         ensures unwritten { OnErr result (self.new.content ≡ self.old.content) }
         ensures unrecorded { OnErr result (self.new.steps ≡ self.old.steps) }
         // What a crash may leave.
-        ensures images { Follows (Torn at (length from.now)) (IsImage self.old.content self.old.steps) (IsImageSince self.new.content self.new.steps (length self.old.steps)) }
-        ensures time { Elapses (length self.old.steps) (length self.new.steps) (IsImageSince self.old.content self.old.steps) (IsImageSince self.new.content self.new.steps) }
+        ensures images { Follows (Torn at (length from.now)) (IsImage self.old.content self.old.steps)
+            (IsImageSince self.new.content self.new.steps (length self.old.steps)) }
+        ensures time { Elapses (length self.old.steps) (length self.new.steps) (IsImageSince self.old.content self.old.steps)
+            (IsImageSince self.new.content self.new.steps) }
         // Faults, and which calls fail.
         ensures count { IsCount self.old.schedule.faults self.new.schedule.faults }
         ensures cause { OnErr result (Rose self.old.schedule.faults self.new.schedule.faults) }
@@ -249,7 +255,8 @@ impl Disk for MemDisk {
         ensures unrecorded { OnErr result (self.new.steps ≡ self.old.steps) }
         // What a crash may leave meanwhile.
         ensures images { Within (IsImage self.old.content self.old.steps) (IsImageSince self.new.content self.new.steps (length self.old.steps)) }
-        ensures time { Elapses (length self.old.steps) (length self.new.steps) (IsImageSince self.old.content self.old.steps) (IsImageSince self.new.content self.new.steps) }
+        ensures time { Elapses (length self.old.steps) (length self.new.steps) (IsImageSince self.old.content self.old.steps)
+            (IsImageSince self.new.content self.new.steps) }
         // Faults, and which calls fail.
         ensures count { IsCount self.old.schedule.faults self.new.schedule.faults }
         ensures cause { OnErr result (Rose self.old.schedule.faults self.new.schedule.faults) }

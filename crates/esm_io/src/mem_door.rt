@@ -94,7 +94,8 @@ impl Door for MemDoor {
     }
 
     fn close(&mut self, _alloc: Global, conn: MemLink) -> Result<(), OutOfMemory>
-        ensures listed { OnOk result (Closes (Some (map closed_link self.old.closed)) (Some (map closed_link self.new.closed)) (Some conn.talk) conn.schedule.faults) }
+        ensures listed { OnOk result (Closes (Some (map closed_link self.old.closed)) (Some (map closed_link self.new.closed))
+            (Some conn.talk) conn.schedule.faults) }
         ensures unlisted { OnErr result (self.new.closed ≡ self.old.closed) }
         ensures last { OnOk result (self.new.closed ≡ self.old.closed ++ conn ∷ []) }
         ensures links { self.new.links ≡ self.old.links }

@@ -1,5 +1,5 @@
 // A connection in memory, which reads and writes in pieces and fails at chosen calls.
-ghost use Rattle.std.specs.Prelude.{◌≡◌, ◌<◌, ◌≤◌, ℕ, Some, [], length, take, drop, min, true, false, IfOk, OnOk, OnErr, IsOk, IsErr};
+ghost use Rattle.std.specs.Prelude.{◌≡◌, ◌<◌, ◌≤◌, Some, length, take, drop, min, true, false, IfOk, OnOk, OnErr, IsOk, IsErr};
 ghost use Rattle.esm_io.specs.Faults.{IsCount, Rose};
 ghost use Rattle.esm_io.specs.Talks.{Reads, Writes, IsReadOut};
 ghost use Rattle.esm_io.specs.Schedule.{is_due, after_call, after_failure};

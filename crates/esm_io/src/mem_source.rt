@@ -1,5 +1,5 @@
 // A source in memory, which gives its bytes in pieces and fails at chosen reads.
-ghost use Rattle.std.specs.Prelude.{◌≡◌, ◌<◌, ◌≤◌, ℕ, Some, length, take, drop, min, true, false, IfOk, OnErr, IsOk, IsErr};
+ghost use Rattle.std.specs.Prelude.{◌≡◌, ◌<◌, ◌≤◌, Some, length, take, drop, min, true, false, IfOk, OnErr, IsOk, IsErr};
 ghost use Rattle.esm_io.specs.Faults.{IsCount, Rose};
 ghost use Rattle.esm_io.specs.Told.{TakesFront, IsAtEnd};
 ghost use Rattle.esm_io.specs.Schedule.{is_due, after_call};

@@ -1,5 +1,5 @@
 // A caller in memory that answers by a script, and keeps copies of its calls where it is told to.
-ghost use Rattle.std.specs.Prelude.{◌≡◌, ℕ, Some, [], ◌∷◌, ◌++◌, map, true, false, if◌then◌else◌, is_some, IfOk, IfSome, OnOk, OnErr};
+ghost use Rattle.std.specs.Prelude.{◌≡◌, Some, [], ◌∷◌, ◌++◌, map, true, false, if◌then◌else◌, is_some, IfOk, IfSome, OnOk, OnErr};
 ghost use Rattle.esm_io.specs.Faults.{IsCount, Rose};
 ghost use Rattle.esm_io.specs.Told.{Grows};
 ghost use Rattle.esm_io.specs.Schedule.{is_due, one_more, after_call};
@@ -36,7 +36,14 @@ impl Model for ScriptCaller {
 
     ghost Value = { CallerState };
 
-    ghost view = { λ s. record { script = s.script; given = s.given; log = map (λ c. c.value) s.log.items; keeps_copies = is_some s.copies; schedule = s.schedule } };
+    ghost view = { λ s. record {
+      script = s.script;
+      given = s.given;
+      log = map
+          (λ c. c.value) s.log.items;
+      keeps_copies = is_some s.copies;
+      schedule = s.schedule;
+    } };
 
     ghost invariant = { λ s. HasNoLost s.script × IfSome s.copies (λ c. c.items ≡ map (λ c. c.value) s.log.items) };
 }

@@ -7,6 +7,8 @@ mod api;
 #[cfg(test)]
 mod crossing;
 #[cfg(test)]
+mod fleeting;
+#[cfg(test)]
 mod invoke;
 #[cfg(test)]
 mod journal;

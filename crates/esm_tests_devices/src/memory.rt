@@ -1,5 +1,5 @@
 // One happy path for each form, a call that fails in mid-stream, and crashes by choice.
-ghost use Rattle.std.specs.Prelude.{◌≡◌, ℕ, [], ◌∷◌, false, IfOk};
+ghost use Rattle.std.specs.Prelude.{◌≡◌, false};
 
 use esm_io::put_byte::put_byte;
 use esm_io::{

@@ -2,9 +2,9 @@
 use esm_io::Clock;
 use esm_model::{Pooled, Progress};
 
-/// How far the book has come, where somebody watches who was shown nothing for a second.
+/// How far the book has come, where a show is due: whoever is told shows it.
 pub fn watched<T: Pooled, C: Clock>(clock: &C, book: &T) -> Option<Progress> {
-    if clock.is_watched() {
+    if clock.takes_show() {
         return Some(book.progress());
     }
     None
