@@ -6,7 +6,7 @@ use Rattle.esm_model.specs.Numbers.{padded_decimal}
 use Rattle.esm_model.specs.JsonText.{escaped_byte}
 use Rattle.esm_model.specs.EventText.{base64_text, seconds_text, record_text, source_part, window_part, event_text}
 use Rattle.esm_model.specs.declared.config.Config.{Config}
-use Rattle.esm_model.specs.declared.item.Record.{Record}
+use Rattle.esm_model.specs.Records.{Record}
 use Rattle.esm_model.specs.declared.event.WindowCall.{WindowCall}
 use Rattle.esm_event.specs.Elements.{opening_text, content_text, identity_text, element_text}
 use Rattle.esm_event.specs.Building.{is_none}

@@ -4,7 +4,7 @@ use Rattle.std.proofs.lemmas.List.{take_all}
 use Rattle.esm_model.specs.EventText.{record_text, event_text}
 use Rattle.esm_model.specs.declared.event.WindowCall.{WindowCall}
 use Rattle.esm_model.specs.declared.config.Config.{Config}
-use Rattle.esm_model.specs.declared.item.Record.{Record}
+use Rattle.esm_model.specs.Records.{Record}
 use Rattle.esm_model.proofs.EventLength.{length-event_text}
 use Rattle.esm_event.proofs.LengthLemmas.{frame_length, is_zero, is_some}
 

@@ -13,7 +13,7 @@ use Rattle.esm_model.specs.EventText.{base64_text, record_text, event_text, wind
 use Rattle.esm_model.specs.Dates.{second_text, day_text}
 use Rattle.esm_model.specs.declared.event.WindowCall.{WindowCall}
 use Rattle.esm_model.specs.declared.config.Config.{Config}
-use Rattle.esm_model.specs.declared.item.Record.{Record}
+use Rattle.esm_model.specs.Records.{Record}
 use Rattle.esm_model.proofs.NumberLemmas.{length-last_digits}
 
 pub length-record_text : (c : Config) (r : Record) → length (record_text c r) ≡ 321 + length (flat_map escaped_byte r.key) + 2 * length r.seq + length (base64_text r.payload) + length (decimal (r.arrival / 1000)) + (length c.account + length c.region + length c.source_arn)

@@ -3,7 +3,7 @@ use Rattle.std.specs.Prelude.{◌≡◌, List, [], ◌∷◌, ◌++◌, codes, B
 use Rattle.std.specs.List.{join_by}
 use Rattle.esm_model.specs.EventText.{record_text, source_part}
 use Rattle.esm_model.specs.declared.config.Config.{Config}
-use Rattle.esm_model.specs.declared.item.Record.{Record}
+use Rattle.esm_model.specs.Records.{Record}
 use Rattle.esm_event.specs.Elements.{identity_text}
 use Rattle.esm_event.specs.declared.builder.StreamEvent.{StreamEvent}
 

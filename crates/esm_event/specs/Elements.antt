@@ -6,7 +6,7 @@ use Rattle.esm_model.specs.JsonText.{escaped_byte}
 use Rattle.esm_model.specs.EventText.{base64_text, seconds_text}
 use Rattle.esm_model.specs.QueueEvent.{queue_record_text}
 use Rattle.esm_model.specs.declared.config.Config.{Config}
-use Rattle.esm_model.specs.declared.item.Record.{Record}
+use Rattle.esm_model.specs.Records.{Record}
 use Rattle.esm_model.specs.declared.received.Received.{Received}
 
 -- a record's element up to its key: one that is not the first stands after a comma

@@ -4,7 +4,7 @@ ghost use Rattle.std.specs.Option.{option_copied, ForSome};
 ghost use Rattle.esm_model.specs.ValidCall.{IsValidWindowCall};
 ghost use Rattle.esm_model.specs.EventText.{event_text};
 ghost use Rattle.esm_model.specs.declared.config.Config.{Config};
-ghost use Rattle.esm_model.specs.declared.item.Record.{Record};
+ghost use Rattle.esm_model.specs.Records.{Record};
 ghost use Rattle.esm_event.specs.Elements.{opening_text, identity_text};
 ghost use Rattle.esm_event.specs.Building.{IsEventOf};
 
@@ -49,7 +49,7 @@ impl StreamEvent {
         ensures { OnOk result ((c : Config) (rs : List Record)
             → IsEventOf c rs self.old → IsEventOf c (rs ++ item.now ∷ []) self.new) }
     {
-        self.turn_to(item.shard)?;
+        self.turn_to(item.shard())?;
         let opening = opening(self.bare);
         let identity = self.identity.as_slice();
         push_element(

@@ -5,7 +5,7 @@ ghost use Rattle.esm_model.specs.Valid.{IsValidRecord, IsStreamConfig};
 ghost use Rattle.esm_model.specs.ValidCall.{IsValidWindowCall};
 ghost use Rattle.esm_model.specs.EventText.{record_text, event_text};
 ghost use Rattle.esm_model.specs.declared.config.Config.{Config};
-ghost use Rattle.esm_model.specs.declared.item.Record.{Record};
+ghost use Rattle.esm_model.specs.Records.{Record};
 ghost use Rattle.esm_event.specs.Building.{IsEventOf};
 
 use crate::builder::StreamEvent;

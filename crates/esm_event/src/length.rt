@@ -30,9 +30,9 @@ pub fn stream_bytes(config: &Config, item: &Record) -> u32
     ensures bound { result ≤ 2000000 }
 {
     let key = key_bytes(item);
-    let sequence = item.seq.text().len();
+    let sequence = item.seq().len();
     let data = data_bytes(item);
-    let seconds = decimal_bytes(item.arrival / 1000);
+    let seconds = decimal_bytes(item.arrival() / 1000);
     let source = source_bytes(config);
     (FIXED_BYTES + key + 2 * sequence + data + seconds + source) as u32
 }
@@ -42,7 +42,7 @@ fn key_bytes(item: &Record) -> usize
     ensures value { result ≡ length (flat_map escaped_byte item.now.key) }
     ensures bound { result ≤ 6144 }
 {
-    escaped_bytes(item.key.as_str())
+    escaped_bytes(item.key())
 }
 
 #[tactic(auto, using(crate::proofs::LengthLemmas::base64_length))]
@@ -51,17 +51,17 @@ fn data_bytes(item: &Record) -> usize
     ensures value { result ≡ length (base64_text item.now.payload) }
     ensures bound { result ≤ 1398104 }
 {
-    item.payload.text().len()
+    item.base64().len()
 }
 
 /// The bytes of a JSON text between its quotation marks.
-pub(crate) fn escaped_bytes(text: &str) -> usize
+pub(crate) fn escaped_bytes(text: &[u8]) -> usize
     requires { length text.now ≤ MAX_DATA }
     ensures value { result ≡ length (flat_map escaped_byte text.now) }
     ensures bound { result ≤ 6 * length text.now }
 {
     let mut total = 0;
-    for byte in text.as_bytes() {
+    for byte in text {
         total += escaped_length(*byte);
     }
     total

@@ -1,9 +1,7 @@
 // How long the texts of a queue's event are, without writing them.
-ghost use Rattle.std.specs.Prelude.{◌≡◌, ◌≤◌, ◌+◌, ◌*◌, length, flat_map};
+ghost use Rattle.std.specs.Prelude.{◌≡◌, ◌≤◌, ◌+◌, ◌*◌, length};
 ghost use Rattle.std.specs.Option.{ForSome};
-ghost use Rattle.esm_model.specs.declared.limits.TheConstants.{MAX_DATA};
 ghost use Rattle.esm_model.specs.Numbers.{decimal};
-ghost use Rattle.esm_model.specs.JsonText.{escaped_byte};
 ghost use Rattle.esm_model.specs.QueueEvent.{IsQueueConfig, IsValidReceived, group_part, queue_record_text};
 
 use crate::length::{decimal_bytes, escaped_bytes};
@@ -25,7 +23,7 @@ pub fn queue_bytes(config: &Config, item: &Received) -> u32
 {
     let id = item.message.id.as_slice().len();
     let numbers = numbers_bytes(item);
-    let body = escaped_bytes(item.message.body.as_str());
+    let body = escaped_bytes(item.message.body.as_slice());
     let group = group_bytes(item);
     let queue = config.source_arn.as_slice().len() + config.region.as_slice().len();
     (FIXED_BYTES + id + numbers + body + group + queue) as u32
@@ -52,6 +50,6 @@ fn group_bytes(item: &Received) -> usize
 {
     match &item.message.group {
         None => 0,
-        Some(text) => GROUP_BYTES + escaped_bytes(text.as_str()),
+        Some(text) => GROUP_BYTES + escaped_bytes(text.as_slice()),
     }
 }

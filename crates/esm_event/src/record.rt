@@ -72,7 +72,7 @@ pub(crate) fn push_element(
     push_bytes(out, opening)?;
     push_content(out, item)?;
     push_bytes(out, identity)?;
-    push_bytes(out, item.seq.text().as_bytes())?;
+    push_bytes(out, item.seq())?;
     push_bytes(out, source)?;
     Ok(())
 }
@@ -80,13 +80,13 @@ pub(crate) fn push_element(
 fn push_content(out: &mut Vec<u8>, item: &Record) -> Result<(), OutOfMemory>
     ensures { OnOk result (out.new.items ≡ out.old.items ++ content_text item.now) }
 {
-    push_escaped(out, item.key.as_slice())?;
+    push_escaped(out, item.key())?;
     push_bytes(out, b"\",\"sequenceNumber\":\"")?;
-    push_bytes(out, item.seq.text().as_bytes())?;
+    push_bytes(out, item.seq())?;
     push_bytes(out, b"\",\"data\":\"")?;
-    push_bytes(out, item.payload.text())?;
+    push_bytes(out, item.base64())?;
     push_bytes(out, b"\",\"approximateArrivalTimestamp\":")?;
-    push_seconds(out, item.arrival)?;
+    push_seconds(out, item.arrival())?;
     Ok(())
 }
 

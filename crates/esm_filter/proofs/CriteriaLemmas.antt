@@ -11,7 +11,7 @@ use Rattle.serde_json.specs.declared.value.Value.{Value}
 use Rattle.esm_model.specs.Json.{read_json}
 use Rattle.esm_model.specs.Filter.{Seen, fields_pass, in_message, in_record, patterns_pass}
 use Rattle.esm_model.specs.Pattern.{Fields, Refusal, Reads, read_pattern, read_patterns, with_first}
-use Rattle.esm_model.specs.declared.item.Record.{Record}
+use Rattle.esm_model.specs.Records.{Record}
 use Rattle.esm_model.specs.declared.memory.OutOfMemory.{OutOfMemory}
 use Rattle.esm_model.specs.declared.item.Message.{Message}
 use Rattle.esm_filter.specs.Criteria.{patterns_view}

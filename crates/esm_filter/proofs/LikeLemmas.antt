@@ -9,7 +9,7 @@ use Rattle.serde_json.proofs.Views.{get_member-put, get_member-put_other}
 use Rattle.esm_model.specs.Filter.{Seen, plain, members_in, in_object, json_members, record_field, in_record, is_text_body, message_text, in_message, rule_passes, fields_pass, one_passes, patterns_pass}
 use Rattle.esm_model.specs.Leaves.{is_leaf, items_list, leaves, some_passes, tests_pass}
 use Rattle.esm_model.specs.Pattern.{Rule, tests, nested, one_of, Fields, no_fields, field, Choices, no_choices, choice}
-use Rattle.esm_model.specs.declared.item.Record.{Record}
+use Rattle.esm_model.specs.Records.{Record}
 use Rattle.esm_model.specs.declared.item.Message.{Message}
 use Rattle.esm_filter.specs.Named.{named_by_rule, named_in, named_by_choices, is_named, Covers, Like, AreLike}
 

@@ -7,7 +7,7 @@ use Rattle.esm_model.specs.Json.{read_json}
 use Rattle.esm_model.specs.Valid.{is_stream}
 use Rattle.esm_model.specs.Filter.{patterns_pass, in_record, in_message, passes, passes_message}
 use Rattle.esm_model.specs.declared.config.Kind.{Kind}
-use Rattle.esm_model.specs.declared.item.Record.{Record}
+use Rattle.esm_model.specs.Records.{Record}
 use Rattle.esm_model.specs.declared.item.Message.{Message}
 use Rattle.esm_filter.specs.ReadOutcome.{refusal_view}
 use Rattle.esm_filter.specs.View.{fields_view}

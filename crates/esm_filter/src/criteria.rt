@@ -11,7 +11,7 @@ ghost use Rattle.esm_filter.specs.Criteria.{IsOneRead, IsRead, JudgesMessages, J
 ghost use Rattle.esm_filter.specs.Judged.{judged_view, value_of};
 ghost use Rattle.esm_filter.specs.View.{fields_view};
 
-use crate::document::{read_document, read_encoded};
+use crate::document::{read_data, read_document};
 use crate::error::{FilterError, ReadError};
 use crate::judge::{Judged, fields_pass};
 use crate::pattern::Rule;
@@ -143,7 +143,7 @@ impl Criteria {
             return Ok(true);
         }
         let patterns = self.patterns.as_slice();
-        let json = read_encoded(alloc, patterns, &item.payload)?;
+        let json = read_data(alloc, patterns, item)?;
         Ok(record_passes(patterns, item, &json))
     }
 

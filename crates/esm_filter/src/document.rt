@@ -12,7 +12,7 @@ use crate::error::DocumentError;
 use crate::names::is_named;
 use crate::number::number_of;
 use crate::pattern::Rule;
-use esm_model::{Encoded, OutOfMemory};
+use esm_model::{OutOfMemory, Record};
 use json::{Reader, Scratch, Token};
 use serde_json::{Map, Value};
 use std::alloc::Global;
@@ -207,14 +207,14 @@ fn read_bytes(
     }
 }
 
-/// The same of bytes that are kept as base64.
-pub(crate) fn read_encoded(
+/// The same of a record's data.
+pub(crate) fn read_data(
     alloc: Global,
     patterns: &[Vec<(String, Rule)>],
-    bytes: &Encoded,
+    item: &Record,
 ) -> Result<Option<Value>, OutOfMemory>
-    ensures { IfOk result (λ json. Like (is_named (patterns_view patterns.now)) (read_json bytes.now) (option_map view json)) }
+    ensures { IfOk result (λ json. Like (is_named (patterns_view patterns.now)) (read_json item.now.payload) (option_map view json)) }
 {
-    let decoded = bytes.decoded(alloc)?;
+    let decoded = item.decoded(alloc)?;
     read_bytes(alloc, patterns, decoded.as_slice())
 }

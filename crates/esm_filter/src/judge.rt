@@ -1,5 +1,5 @@
 //! Whether an object passes a pattern.
-ghost use Rattle.std.specs.Prelude.{◌≡◌, if◌then◌else◌, ◌&&◌, ◌∷◌, [], map, option_map, codes};
+ghost use Rattle.std.specs.Prelude.{◌≡◌, if◌then◌else◌, ◌&&◌, ◌∷◌, [], map, option_map};
 ghost use Rattle.std.specs.List.{list_any};
 ghost use Rattle.serde_json.specs.Data as json_data;
 ghost use Rattle.serde_json.specs.Find.{get_member};
@@ -114,9 +114,9 @@ fn record_field<'r>(item: &'r Record, key: &str) -> Option<&'r str>
     if key == "kinesisSchemaVersion" {
         Some("1.0")
     } else if key == "partitionKey" {
-        Some(item.key.as_str())
+        Some(item.key_text())
     } else if key == "sequenceNumber" {
-        Some(item.seq.text())
+        Some(item.seq_text())
     } else {
         None
     }

@@ -1,13 +1,25 @@
 // Records and messages of the worked examples.
-ghost use Rattle.std.specs.Prelude.{◌≡◌, ◌≤◌, true, false, length, None, IfOk};
+ghost use Rattle.std.specs.Prelude.{◌≡◌, ◌≤◌, true, false, length, None, Ok, IfOk};
+ghost use Rattle.std.specs.String.{string_bytes};
+ghost use Rattle.base64.specs.Engines.{standard};
+ghost use Rattle.base64.specs.GeneralPurpose.{decode_of};
 ghost use Rattle.esm_model.specs.declared.limits.TheConstants.{MAX_DATA, MAX_KEY};
 ghost use Rattle.esm_model.specs.Sequence.{is_sequence};
 ghost use Rattle.esm_model.specs.Valid.{IsValidRecord, is_between, char_count};
 ghost use Rattle.esm_queue_model.specs.WorkedHistories.{message};
 
 use crate::mappings::text;
-use esm_model::{Encoded, Message, Record, Seq, SeqError};
+use base64::engine::general_purpose::STANDARD;
+use esm_model::spelling::is_sequence;
+use esm_model::{Message, Record, SeqError};
 use std::alloc::{AllocError, Global};
+
+/// The standard padded base64 of the bytes (RFC 4648, section 4).
+fn base64_of(alloc: Global, bytes: &[u8]) -> Result<String, AllocError>
+    ensures { IfOk result (λ text. decode_of standard (string_bytes text) ≡ Ok bytes.now) }
+{
+    STANDARD.encode(alloc, bytes)
+}
 
 /// The record of shard 0 with this sequence number, partition key and data, which arrived at moment 0.
 /// `BadSeq` exactly where the text is not that of a sequence number.
@@ -22,18 +34,17 @@ pub fn record_of(
     ensures bad { result ≡ Err SeqError.BadSeq → is_sequence sequence.now ≡ false }
     ensures good { IfOk result (λ r. is_sequence sequence.now ≡ true) }
 {
-    let seq = Seq::read(alloc, sequence)?;
-    let key = text(alloc, key)?;
-    let Ok(payload) = Encoded::of(alloc, payload) else {
+    if !is_sequence(sequence.as_bytes()) {
+        return Err(SeqError::BadSeq);
+    }
+    let Ok(len) = u32::try_from(payload.len()) else {
         return Err(SeqError::OutOfMemory);
     };
-    Ok(Record {
-        shard: 0,
-        seq,
-        key,
-        payload,
-        arrival: 0,
-    })
+    let data = base64_of(alloc, payload)?;
+    match Record::of(alloc, 0, sequence.as_bytes(), key, data.as_bytes(), len, 0) {
+        Ok(item) => Ok(item),
+        Err(_) => Err(SeqError::OutOfMemory),
+    }
 }
 
 /// The message of a standard queue with this id and body, which was sent at moment 0.

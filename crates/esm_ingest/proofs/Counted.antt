@@ -3,7 +3,7 @@ use Rattle.std.proofs.Common.{◌≡◌, ℕ, ◌<◌, false, List, [], ◌∷�
 use Rattle.std.specs.Prelude.{◌==◌}
 use Rattle.std.proofs.lemmas.Bool.{cases_Bool}
 use Rattle.std.proofs.lemmas.Option.{slice_get_read}
-use Rattle.esm_model.specs.declared.item.Record.{Record}
+use Rattle.esm_model.specs.Records.{Record}
 use Rattle.esm_model.specs.Setting.{records_in, records_of}
 use Rattle.esm_model.specs.Entries.{holds, came_count}
 use Rattle.esm_model.proofs.Lists.{Distinct}

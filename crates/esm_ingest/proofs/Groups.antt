@@ -5,7 +5,7 @@ use Rattle.std.specs.Ordering.{nat_cmp, is_eq}
 use Rattle.std.proofs.lemmas.Bool.{cases_Bool, eq-eqb, eqb-true}
 use Rattle.esm_journal_state.proofs.Pairs.{is_eq-nat}
 use Rattle.std.proofs.lemmas.Option.{slice_get_read, same_Some}
-use Rattle.esm_model.specs.declared.item.Record.{Record}
+use Rattle.esm_model.specs.Records.{Record}
 use Rattle.esm_model.specs.Setting.{Stream}
 use Rattle.esm_ingest.specs.declared.group.Group.{Group}
 use Rattle.esm_ingest.specs.Coming.{with_record}

@@ -3,7 +3,7 @@ use Rattle.std.proofs.Common.{◌≡◌, ℕ, ◌≤◌, Bool, true, false, not,
 use Rattle.std.specs.Prelude.{◌==◌, filter}
 use Rattle.std.proofs.lemmas.Bool.{cases_Bool, eq-eqb, eqb-true}
 use Rattle.std.proofs.lemmas.List.Elements.{filter-append}
-use Rattle.esm_model.specs.declared.item.Record.{Record}
+use Rattle.esm_model.specs.Records.{Record}
 use Rattle.esm_model.specs.Entries.{holds}
 use Rattle.esm_model.proofs.Lists.{In, In-cases, In-filter, filter-In, apart, not_in, Distinct, Distinct-filter}
 use Rattle.esm_ingest.specs.Coming.{shards_of, of_shard}

@@ -1,7 +1,7 @@
 -- What a list of records of several shards leaves, shard by shard. Source: the Kinesis Data Streams developer guide (the
 -- records of a shard have an order, those of different shards none).
 use Rattle.std.specs.Prelude.{ℕ, ◌+◌, ◌<◌, ◌==◌, not, List, [], ◌∷◌, ◌++◌, filter, length, if◌then◌else◌}
-use Rattle.esm_model.specs.declared.item.Record.{Record}
+use Rattle.esm_model.specs.Records.{Record}
 use Rattle.esm_model.specs.declared.entry.Entry.{Entry}
 use Rattle.esm_model.specs.Setting.{Stream}
 use Rattle.esm_model.specs.Entries.{came_count}

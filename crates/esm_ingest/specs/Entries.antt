@@ -1,7 +1,7 @@
 -- The entries of a list of records that comes: one `Came` for each shard, then what the filter gives. Source: the Lambda
 -- Developer Guide, event filtering for Kinesis.
 use Rattle.std.specs.Prelude.{ℕ, List, [], ◌∷◌, ◌++◌, map, length, None}
-use Rattle.esm_model.specs.declared.item.Record.{Record}
+use Rattle.esm_model.specs.Records.{Record}
 use Rattle.esm_model.specs.declared.entry.Fate.TheVariants.{Filtered}
 use Rattle.esm_model.specs.declared.entry.Entry.{Entry}
 use Rattle.esm_model.specs.declared.entry.Entry.TheVariants.{Came, Gave}

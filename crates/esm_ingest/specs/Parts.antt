@@ -1,7 +1,7 @@
 -- A list of records in parts, one for each shard. Source: the Lambda Developer Guide, event filtering for Kinesis (a record
 -- that does not pass is not sent to the function).
 use Rattle.std.specs.Prelude.{◌≡◌, ℕ, ◌+◌, ◌<◌, ◌≤◌, Bool, ◌&&◌, is_none, All, List, [], ◌∷◌, map, length, if◌then◌else◌}
-use Rattle.esm_model.specs.declared.item.Record.{Record}
+use Rattle.esm_model.specs.Records.{Record}
 use Rattle.esm_model.specs.declared.entry.Entry.{Entry}
 use Rattle.esm_model.specs.Setting.{Setting, Stream, found_fate}
 use Rattle.esm_model.specs.Entries.{came_count}

@@ -1,6 +1,6 @@
 -- What records that come leave of a history that is legal and settled. This product's own.
 use Rattle.std.specs.Prelude.{◌≡◌, ℕ, false, List, ◌∷◌, ◌++◌, length, None}
-use Rattle.esm_model.specs.declared.item.Record.{Record}
+use Rattle.esm_model.specs.Records.{Record}
 use Rattle.esm_model.specs.declared.entry.Entry.{Entry}
 use Rattle.esm_model.specs.Setting.{Setting, Stream, Extends, over, records_of}
 use Rattle.esm_model.specs.Entries.{came_count, is_shut}

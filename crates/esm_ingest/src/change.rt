@@ -12,7 +12,7 @@ ghost use Rattle.esm_ingest.specs.Changes.{change_at, change_of, first_change, k
 
 use esm_journal_state::Says;
 use esm_ledger::{Ledger, is_any_told};
-use esm_model::{Change, OutOfMemory, Record, Seq, Text};
+use esm_model::{Change, OutOfMemory, Record, Text};
 use std::alloc::Global;
 use std::collections::BTreeMap;
 
@@ -37,13 +37,13 @@ fn tries_text(said: &Says, shard: u64, place: u32) -> Option<&Text>
 }
 
 /// The text, where there is one and it is another than the sequence number.
-fn other_text<'a>(seq: &Seq, kept: Option<&'a Text>) -> Option<&'a Text>
+fn other_text<'a>(seq: &[u8], kept: Option<&'a Text>) -> Option<&'a Text>
     ensures { option_copied result ≡ other_text seq.now (option_copied kept.entry) }
 {
     match kept {
         None => None,
         Some(kept) => {
-            if kept.as_slice() == seq.text().as_bytes() {
+            if kept.as_slice() == seq {
                 None
             } else {
                 Some(kept)
@@ -56,9 +56,9 @@ fn other_text<'a>(seq: &Seq, kept: Option<&'a Text>) -> Option<&'a Text>
 fn kept_otherwise<'a>(ledger: &'a Ledger, item: &Record, place: u32) -> Option<&'a Text>
     ensures { option_copied result ≡ kept_otherwise (setting_of ledger.now) item.now.shard place item.now.seq }
 {
-    match other_text(&item.seq, fate_text(&ledger.found, item.shard, place)) {
+    match other_text(item.seq(), fate_text(&ledger.found, item.shard(), place)) {
         Some(kept) => Some(kept),
-        None => other_text(&item.seq, tries_text(&ledger.found, item.shard, place)),
+        None => other_text(item.seq(), tries_text(&ledger.found, item.shard(), place)),
     }
 }
 
@@ -74,9 +74,9 @@ fn change_from(
     match kept {
         None => Ok(None),
         Some(kept) => {
-            let given = String::from_str(alloc, item.seq.text())?;
+            let given = String::from_str(alloc, item.seq_text())?;
             Ok(Some(Change {
-                shard: item.shard,
+                shard: item.shard(),
                 place,
                 kept: kept.copy(alloc)?,
                 given: Text::from_vec(given),
@@ -125,13 +125,14 @@ pub fn first_change(
     }
     let mut next: BTreeMap<u64, u32> = BTreeMap::new(alloc);
     for item in items {
-        let place = next_place(ledger, &next, item.shard);
+        let shard = item.shard();
+        let place = next_place(ledger, &next, shard);
         let change = change_at(alloc, ledger, item, place)?;
         if change.is_some() {
             return Ok(change);
         }
         let after = place + 1;
-        next.insert(item.shard, after)?;
+        next.insert(shard, after)?;
     }
     Ok(None)
 }

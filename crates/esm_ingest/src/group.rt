@@ -20,10 +20,11 @@ pub struct Group {
 /// The record is the first of its shard.
 fn push_group(alloc: Global, groups: &mut Vec<Group>, item: Record) -> Result<(), OutOfMemory>
     requires { place_in (names_in groups.old.items) item.shard ≡ None }
-    ensures index { OnOk result ((n : ℕ) → place_in (names_in groups.new.items) n ≡ (if item.shard == n then Some (length groups.old.items) else place_in (names_in groups.old.items) n)) }
+    ensures index { OnOk result ((n : ℕ) → place_in (names_in groups.new.items) n
+        ≡ (if item.shard == n then Some (length groups.old.items) else place_in (names_in groups.old.items) n)) }
     ensures groups { OnOk result (map stream_in groups.new.items ≡ with_record (map stream_in groups.old.items) item) }
 {
-    let shard = item.shard;
+    let shard = item.shard();
     let mut records = Vec::new(alloc);
     records.push(item)?;
     groups.push(Group { shard, records })?;
@@ -73,7 +74,7 @@ fn add(
     ensures groups { OnOk result (map stream_in groups.new.items ≡ with_record (map stream_in groups.old.items) item) }
     ensures run { IfOk result (λ (r : Run). get nat_cmp index.new r.shard ≡ Some r.at) }
 {
-    let shard = item.shard;
+    let shard = item.shard();
     match place_of(index, last, shard) {
         Some(at) => {
             push_record(groups, at, item)?;

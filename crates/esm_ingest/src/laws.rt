@@ -1,7 +1,7 @@
 //! What records that come leave of a legal history, each as the contract of a function that does nothing. A history is
 //! written newest entry first; it is settled where it calls for nothing more.
 ghost use Rattle.std.specs.Prelude.{◌≡◌, ℕ, List, length};
-ghost use Rattle.esm_model.specs.declared.item.Record.{Record};
+ghost use Rattle.esm_model.specs.Records.{Record};
 ghost use Rattle.esm_model.specs.declared.entry.Entry.{Entry};
 ghost use Rattle.esm_model.specs.Setting.{Setting, records_of};
 ghost use Rattle.esm_model.specs.Entries.{came_count};

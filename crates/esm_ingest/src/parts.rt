@@ -69,7 +69,8 @@ pub fn by_shard(
     requires places { FitPlaces (past_of ledger.now) items.items }
     ensures parts { IfOk result (λ parts. map part parts.items ≡ parts_of (setting_of ledger.now) (past_of ledger.now) items.items) }
     ensures each { IfOk result (λ parts. All (CanCome (past_of ledger.now)) (map part parts.items)) }
-    ensures streams { IfOk result (λ parts. grown_by (setting_of ledger.now).streams (map part parts.items) ≡ with_records (setting_of ledger.now).streams items.items) }
+    ensures streams { IfOk result (λ parts. grown_by (setting_of ledger.now).streams (map part parts.items)
+        ≡ with_records (setting_of ledger.now).streams items.items) }
 {
     let groups = grouped(alloc, items)?;
     let mut parts = Vec::new(alloc);

@@ -1,10 +1,10 @@
 -- Counts of items, and the limits that they pass.
-use Rattle.std.proofs.Common.{◌≡◌, ◌+◌, ◌*◌, ◌<◌, ◌≤◌, ℕ, Bool, true, List, [], ◌∷◌, ◌++◌, length, get_or, take, drop, sym, ap, ◌∙◌, subst, arith, append_assoc, Option, Some, None}
+use Rattle.std.proofs.Common.{◌≡◌, ◌+◌, ◌*◌, ◌<◌, ◌≤◌, ℕ, Bool, true, false, List, [], ◌∷◌, ◌++◌, length, get_or, take, drop, sym, ap, ◌∙◌, subst, arith, append_assoc, Option, Some, None}
 use Rattle.std.specs.Prelude.{◌==◌, nat_le, nat_lt, if◌then◌else◌}
 use Rattle.std.specs.List.{list_any}
 use Rattle.std.proofs.lemmas.List.{append-nil, length-append, take_more, drop_more, take_all, drop_all}
 use Rattle.esm_model.specs.declared.limits.TheConstants.{MAX_RECORDS, MAX_INPUT, MAX_SHARDS, MAX_LANES}
-use Rattle.esm_model.specs.declared.item.Record.{Record}
+use Rattle.esm_model.specs.Records.{Record}
 use Rattle.esm_model.specs.declared.item.Item.{Item}
 use Rattle.esm_model.specs.declared.item.Item.TheVariants.{Stream}
 use Rattle.esm_model.specs.declared.names.LimitName.{LimitName}
@@ -22,6 +22,18 @@ held_same shards found x r b same is value held =
 
 pub held_length : (shards found : List ℕ) (x : Item) (r : Record) (n : ℕ) (b : Bool) → found ≡ shards → x ≡ Stream r → b ≡ list_any (λ y. y == r.shard) found → b ≡ true → n ≡ length found → n ≡ length (shards_with shards x)
 held_length shards found x r n b same is value held count = count ∙ ap (λ l. length l) (same ∙ sym (held_same shards found x r b same is value held))
+
+-- it did not
+pub new_same : (shards found : List ℕ) (x : Item) (r : Record) (b : Bool) → found ≡ shards → x ≡ Stream r → b ≡ list_any (λ y. y == r.shard) found → b ≡ false → shards_with shards x ≡ shards ++ r.shard ∷ []
+new_same shards found x r b same is value new =
+    let before : list_any (λ y. y == r.shard) shards ≡ false = ap (λ l. list_any (λ y. y == r.shard) l) (sym same) ∙ sym value ∙ new in
+    ap (shards_with shards) is ∙ ap (λ t. if t then shards else shards ++ r.shard ∷ []) before
+
+pub new_length : (shards found : List ℕ) (x : Item) (r : Record) (n : ℕ) (b : Bool) → found ≡ shards → x ≡ Stream r → b ≡ list_any (λ y. y == r.shard) found → b ≡ false → n ≡ length found → n + 1 ≡ length (shards_with shards x)
+new_length shards found x r n b same is value new count =
+    let long : length (shards ++ r.shard ∷ []) ≡ length shards + 1 = length-append shards (r.shard ∷ []) in
+    let all : length found ≡ length shards = ap (λ l. length l) same in
+    rw (new_same shards found x r b same is value new) (omega (arith, long, all, count))
 
 abbrev passed_at : (factor items bytes : ℕ) (shards : List ℕ) (x : Item) → Option LimitName
 passed_at factor items bytes shards x =

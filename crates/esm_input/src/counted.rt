@@ -26,7 +26,7 @@ fn bytes_of(item: &Item) -> usize
     ensures { result ≡ item_bytes item.now }
 {
     match item {
-        Item::Stream(record) => record.payload.len(),
+        Item::Stream(record) => record.data_len(),
         Item::Queue(message) => message.body.as_slice().len(),
     }
 }
@@ -37,9 +37,11 @@ fn note_shard(shards: &mut Vec<u64>, item: &Item) -> Result<(), OutOfMemory>
     ensures kept { OnErr result (shards.new.items ≡ shards.old.items) }
 {
     if let Item::Stream(record) = item {
-        if !shards.contains(&record.shard) {
-            shards.push(record.shard)?;
+        let shard = record.shard();
+        if shards.contains(&shard) {
+            return Ok(());
         }
+        shards.push(shard)?;
     }
     Ok(())
 }
@@ -64,7 +66,8 @@ impl Counted {
     {
         match item {
             Item::Stream(record) => {
-                if self.shards.contains(&record.shard) {
+                let shard = record.shard();
+                if self.shards.contains(&shard) {
                     self.shards.len()
                 } else {
                     self.shards.len() + 1

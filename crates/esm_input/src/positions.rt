@@ -32,13 +32,14 @@ impl Positions {
         let Item::Stream(record) = item else {
             return Ok(true);
         };
-        if self.begun.contains(&record.shard) {
+        let shard = record.shard();
+        if self.begun.contains(&shard) {
             return Ok(true);
         }
-        if record.arrival < moment {
+        if record.arrival() < moment {
             return Ok(false);
         }
-        self.begun.push(record.shard)?;
+        self.begun.push(shard)?;
         Ok(true)
     }
 

@@ -4,7 +4,7 @@ ghost use Rattle.esm_journal_record.specs.declared.said.Said.TheVariants as said
 ghost use Rattle.esm_journal_record.specs.Payload.{payload_of, IsState, name_bytes, names_bytes};
 
 use crate::writing::{push_fates_front, push_name, push_tried_front};
-use esm_model::{Fate, OutOfMemory, Seq, WindowState};
+use esm_model::{Fate, OutOfMemory, Record, WindowState};
 use std::alloc::Global;
 
 /// The bytes that the fields in front of the names take, but for a state.
@@ -49,9 +49,9 @@ pub fn begin_tried(
     Ok(out)
 }
 
-/// The place of the next record and its sequence number.
-pub fn push_sequence(out: &mut Vec<u8>, place: u32, seq: &Seq) -> Result<(), OutOfMemory>
-    ensures { OnOk result (out.new.items ≡ out.old.items ++ name_bytes place seq.now) }
+/// The place of the next record, and its sequence number.
+pub fn push_sequence(out: &mut Vec<u8>, place: u32, item: &Record) -> Result<(), OutOfMemory>
+    ensures { OnOk result (out.new.items ≡ out.old.items ++ name_bytes place item.now.seq) }
 {
-    push_name(out, place, seq.text().as_bytes())
+    push_name(out, place, item.seq())
 }

@@ -1,6 +1,7 @@
 -- What a fate makes of a shard that is kept.
-use Rattle.std.proofs.Common.{◌≡◌, ℕ, ◌+◌, ◌-◌, ◌<◌, true, false, ◌||◌, List, [], ◌∷◌, ◌++◌, length, drop, map, refl, sym, ap, ◌∙◌, subst, Option, Some, None, get_or}
+use Rattle.std.proofs.Common.{◌≡◌, ℕ, ◌+◌, ◌-◌, ◌<◌, true, false, not, ◌&&◌, ◌||◌, List, [], ◌∷◌, ◌++◌, length, drop, map, refl, sym, ap, ◌∙◌, subst, Option, Some, None, get_or}
 use Rattle.std.specs.Prelude.{◌≢◌}
+use Rattle.esm_model.specs.Records.{Record}
 use Rattle.esm_model.specs.declared.lane.LaneId.{LaneId}
 use Rattle.esm_model.specs.declared.entry.Fate.{Fate}
 use Rattle.esm_model.specs.declared.entry.Fate.TheVariants.{Succeeded, Filtered, Expired, Exhausted}
@@ -30,7 +31,9 @@ use Rattle.esm_shard_index.proofs.CallingSteps.{callings_stay}
 use Rattle.esm_shard_index.proofs.ProgressSteps.{progress_gives}
 use Rattle.esm_shard_index.proofs.WindowSteps.{windows_give}
 use Rattle.esm_ledger.specs.declared.shard.ShardLedger.{ShardLedger}
-use Rattle.esm_ledger.specs.Shard.{IsShard, lane_id, measure_at, windows_at}
+use Rattle.esm_ledger.specs.Held.{Held}
+use Rattle.esm_ledger.specs.Shard.{IsShard, AreRecords, lane_id, measure_at, windows_at}
+use Rattle.esm_ledger.proofs.Holding.{held_gone}
 use Rattle.esm_ledger.proofs.Shards.{records_stay, lanes_step, at_lane}
 
 -- the places of a legal `Gave` of a lane are the first of its open places
@@ -86,7 +89,10 @@ gave_leaves s h lane v (Some at) n places Exhausted line state m other = refl
 gave_leaves s h lane v (Some at) n places Expired line state m other = absurd (other refl)
 
 -- what a fate makes of the tallies and the windows
-pub record IsGiven (c : ShardLedger) (progress : Tally) (windows : WindowTable) (places : List ℕ) (f : Fate) (state : Option WindowState) : Type 0 where
+pub record IsGiven (c : ShardLedger) (records : Held) (progress : Tally) (windows : WindowTable) (places : List ℕ) (f : Fate) (state : Option WindowState) : Type 0 where
+  pub items : records.items ≡ c.records.items
+  pub slots : length records.held ≡ length c.records.held
+  pub held : (i : ℕ) → get_or records.held i false ≡ (get_or c.records.held i false && not (holds places i))
   pub len : length progress.fated ≡ length c.progress.fated
   pub fated : (i : ℕ) → i < length c.progress.fated → get_or progress.fated i false ≡ (get_or c.progress.fated i false || holds places i)
   pub others : (g : Fate) → same_fate g f ≡ false → count_in progress.counts g ≡ count_in c.progress.counts g
@@ -96,19 +102,20 @@ pub record IsGiven (c : ShardLedger) (progress : Tally) (windows : WindowTable) 
   pub tries : windows.tries ≡ c.windows.tries
   pub last : windows.last ≡ c.windows.last
 
-pub shard_given : (s : Setting) (h : List Entry) (c : ShardLedger) (progress : Tally) (windows : WindowTable) (lanes : Table) (by : Option LaneId) (places : List ℕ) (f : Fate) (line : Option (List ℕ)) (state : Option WindowState) (m : ℕ)
-    → IsGiven c progress windows places f state
+pub shard_given : (s : Setting) (h : List Entry) (c : ShardLedger) (records : Held) (progress : Tally) (windows : WindowTable) (lanes : Table) (by : Option LaneId) (places : List ℕ) (f : Fate) (line : Option (List ℕ)) (state : Option WindowState) (m : ℕ)
+    → IsGiven c records progress windows places f state
     → ((k : ℕ) → lane_in lanes k ≡ after_entry s h (lane_id c.shard k) (lane_in c.lanes k) (Gave by c.shard places f line state m))
     → length lanes.lanes ≡ length c.lanes.lanes
     → HasFoundTries s c.shard → Legal s (Gave by c.shard places f line state m ∷ h) → IsShard s h c
-    → IsShard s (Gave by c.shard places f line state m ∷ h) (record c { progress = progress; windows = windows; lanes = lanes })
-shard_given s h c progress windows lanes by places f line state m gives each size some legal is =
+    → IsShard s (Gave by c.shard places f line state m ∷ h) (record c { records = records; progress = progress; windows = windows; lanes = lanes })
+shard_given s h c records progress windows lanes by places f line state m gives each size some legal is =
     let e = Gave by c.shard places f line state m in
     let came = gave_came s h by c.shard places f line state m legal in
     record {
-      records = records_stay s h e c.shard c.records.items c.measures.items refl is.records;
+      records = subst (λ (rs : List Record). AreRecords s (e ∷ h) c.shard rs c.measures.items) (sym gives.items) (records_stay s h e c.shard c.records.items c.measures.items refl is.records);
       progress = progress_gives s h c.shard c.progress progress by places f line state m is.progress
           (λ i member. subst (λ k. i < k) (sym is.progress.came) (came i member)) gives.len gives.fated gives.others gives.given;
+      held = held_gone c.records.held records.held c.progress.fated progress.fated places is.held gives.slots gives.held gives.len gives.fated;
       arrivals = arrivals_stay h c.shard c.arrivals e tt is.arrivals;
       callings = callings_stay h c.shard c.callings e tt is.callings;
       windows = windows_give s h c.shard c.windows windows by places f line state m is.windows
@@ -121,21 +128,21 @@ shard_given s h c progress windows lanes by places f line state m gives each siz
       lanes = lanes_step s h e c.shard c.lanes lanes some legal is.lanes each;
     }
 
-pub shard_gave : (s : Setting) (h : List Entry) (c : ShardLedger) (progress : Tally) (windows : WindowTable) (by : Option LaneId) (places : List ℕ) (f : Fate) (line : Option (List ℕ)) (state : Option WindowState) (m : ℕ)
-    → f ≢ Expired → IsGiven c progress windows places f state
+pub shard_gave : (s : Setting) (h : List Entry) (c : ShardLedger) (records : Held) (progress : Tally) (windows : WindowTable) (by : Option LaneId) (places : List ℕ) (f : Fate) (line : Option (List ℕ)) (state : Option WindowState) (m : ℕ)
+    → f ≢ Expired → IsGiven c records progress windows places f state
     → HasFoundTries s c.shard → Legal s (Gave by c.shard places f line state m ∷ h) → IsShard s h c
-    → IsShard s (Gave by c.shard places f line state m ∷ h) (record c { progress = progress; windows = windows })
-shard_gave s h c progress windows by places f line state m other gives some legal is =
-    shard_given s h c progress windows c.lanes by places f line state m gives
+    → IsShard s (Gave by c.shard places f line state m ∷ h) (record c { records = records; progress = progress; windows = windows })
+shard_gave s h c records progress windows by places f line state m other gives some legal is =
+    shard_given s h c records progress windows c.lanes by places f line state m gives
     (λ k. gave_leaves s h (lane_id c.shard k) (lane_in c.lanes k) by c.shard places f line state m other) refl some legal is
 
-pub shard_expired : (s : Setting) (h : List Entry) (c : ShardLedger) (progress : Tally) (windows : WindowTable) (lanes : Table) (lane : ℕ) (places : List ℕ) (line : Option (List ℕ)) (m : ℕ)
-    → IsGiven c progress windows places Expired None
+pub shard_expired : (s : Setting) (h : List Entry) (c : ShardLedger) (records : Held) (progress : Tally) (windows : WindowTable) (lanes : Table) (lane : ℕ) (places : List ℕ) (line : Option (List ℕ)) (m : ℕ)
+    → IsGiven c records progress windows places Expired None
     → lane_in lanes lane ≡ after_expired (length places) (lane_in c.lanes lane)
     → ((k : ℕ) → k ≢ lane → lane_in lanes k ≡ lane_in c.lanes k)
     → length lanes.lanes ≡ length c.lanes.lanes
     → HasFoundTries s c.shard → Legal s (Gave (Some (lane_id c.shard lane)) c.shard places Expired line None m ∷ h) → IsShard s h c
-    → IsShard s (Gave (Some (lane_id c.shard lane)) c.shard places Expired line None m ∷ h) (record c { progress = progress; windows = windows; lanes = lanes })
-shard_expired s h c progress windows lanes lane places line m gives here others size some legal is =
-    shard_given s h c progress windows lanes (Some (lane_id c.shard lane)) places Expired line None m gives
+    → IsShard s (Gave (Some (lane_id c.shard lane)) c.shard places Expired line None m ∷ h) (record c { records = records; progress = progress; windows = windows; lanes = lanes })
+shard_expired s h c records progress windows lanes lane places line m gives here others size some legal is =
+    shard_given s h c records progress windows lanes (Some (lane_id c.shard lane)) places Expired line None m gives
     (at_lane c.shard lane (λ k. after_expired (length places)) c.lanes lanes here others) size some legal is

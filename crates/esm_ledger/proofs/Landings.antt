@@ -1,5 +1,5 @@
 -- What records that come make of a shard that is kept.
-use Rattle.std.proofs.Common.{◌≡◌, ℕ, zero, suc, ◌+◌, ◌-◌, ◌<◌, ◌≤◌, Bool, true, false, List, [], ◌∷◌, ◌++◌, length, length-append, map, filter, take, drop, get_or, add-one, refl, sym, ap, ◌∙◌, subst, inl, inr, Option, Some, None, arith, is_some, add-zero, Vec, Global}
+use Rattle.std.proofs.Common.{◌≡◌, ℕ, zero, suc, ◌+◌, ◌-◌, ◌<◌, ◌≤◌, Bool, true, false, List, [], ◌∷◌, ◌++◌, length, length-append, map, filter, take, drop, get_or, add-one, refl, sym, ap, ◌∙◌, subst, inl, inr, Option, Some, None, arith, is_some, is_none, add-zero, Vec, Global}
 use Rattle.std.specs.Prelude.{◌==◌, ◌⊎◌, IfSome, slice_get, if◌then◌else◌}
 use Rattle.std.proofs.lemmas.Bool.{cases_Bool, cases_lt, eq-eqb}
 use Rattle.std.proofs.lemmas.Option.{slice_get_within}
@@ -7,7 +7,7 @@ use Rattle.std.proofs.Math.ListN.{get_or-append}
 use Rattle.std.proofs.Math.Seq.{drop-cons}
 use Rattle.std.proofs.lemmas.List.{get_or-append-add, map_more}
 use Rattle.std.proofs.lemmas.List.Elements.{filter-append}
-use Rattle.esm_model.specs.declared.item.Record.{Record}
+use Rattle.esm_model.specs.Records.{Record}
 use Rattle.esm_model.specs.declared.entry.Fate.{Fate}
 use Rattle.esm_model.specs.declared.entry.Entry.{Entry}
 use Rattle.esm_model.specs.declared.entry.Entry.TheVariants.{Came}
@@ -36,7 +36,9 @@ use Rattle.esm_ledger.specs.declared.arriving.Arriving.{Arriving}
 use Rattle.esm_ledger.specs.declared.arriving.Landing.{Landing}
 use Rattle.esm_ledger.specs.declared.measure.Measure.{Measure}
 use Rattle.esm_ledger.specs.declared.shard.ShardLedger.{ShardLedger}
+use Rattle.esm_ledger.specs.Held.{Held}
 use Rattle.esm_ledger.specs.Shard.{IsShard, AreRecords, lane_id, nothing, measure_at}
+use Rattle.esm_ledger.proofs.Holding.{held_came}
 use Rattle.esm_ledger.specs.Arriving.{AreArriving, IsEven, IsLanding, landing_at, IsWithin, landing_count, lands_in, land_in, landed}
 use Rattle.esm_shard_index.proofs.LaneArrivals.{arrived_places}
 use Rattle.esm_shard_index.proofs.LaneSteps.{lane_step}
@@ -170,13 +172,13 @@ pub record IsCome (c : ShardLedger) (a : Arriving) (m : ℕ) (progress : Tally) 
   pub lands : (k : ℕ) → lane_in lanes k ≡ landed k (length c.progress.fated) a.landings.items (lane_in c.lanes k)
   pub size : length lanes.lanes ≡ length c.lanes.lanes
 
-pub shard_came : (s : Setting) (h : List Entry) (c : ShardLedger) (a : Arriving) (m : ℕ) (records : Vec Record Global) (measures : Vec Measure Global) (progress : Tally) (arrivals : Coming) (callings : Called) (windows : WindowTable) (lanes : Table)
-    → records.items ≡ c.records.items ++ a.records.items → measures.items ≡ c.measures.items ++ a.measures.items
+pub shard_came : (s : Setting) (h : List Entry) (c : ShardLedger) (a : Arriving) (m : ℕ) (records : Held) (measures : Vec Measure Global) (progress : Tally) (arrivals : Coming) (callings : Called) (windows : WindowTable) (lanes : Table)
+    → records.items ≡ c.records.items ++ a.records.items → records.held ≡ c.records.held ++ map is_none a.fates.items → measures.items ≡ c.measures.items ++ a.measures.items
     → IsEven a → IsCome c a m progress arrivals callings windows lanes
     → HasFoundTries s c.shard → Legal s (Came c.shard (came_count h c.shard) (length a.records.items) m ∷ h)
     → AreArriving s c.shard (came_count h c.shard) a → IsShard s h c
     → IsShard s (Came c.shard (came_count h c.shard) (length a.records.items) m ∷ h) (record c { records = records; measures = measures; progress = progress; arrivals = arrivals; callings = callings; windows = windows; lanes = lanes })
-shard_came s h c a m records measures progress arrivals callings windows lanes more longer even comes some legal stand is =
+shard_came s h c a m records measures progress arrivals callings windows lanes more held longer even comes some legal stand is =
     let n = c.shard in
     let first = came_count h n in
     let count = length a.records.items in
@@ -186,6 +188,7 @@ shard_came s h c a m records measures progress arrivals callings windows lanes m
           (subst (λ (ms : List Measure). AreRecords s (e ∷ h) n (c.records.items ++ a.records.items) ms) (sym longer)
           (records_came s h n m c.records.items a.records.items c.measures.items a.measures.items is.records even.measures stand.stand stand.lengths stand.measured));
       progress = progress_comes s h n c.progress progress a.fates.items first count m is.progress (sym even.fates) stand.fates comes.fated comes.counts;
+      held = held_came c.records.held records.held c.progress.fated progress.fated a.fates.items is.held held comes.fated;
       arrivals = arrivals_come h n c.arrivals arrivals count m is.arrivals comes.runs comes.came;
       callings = callings_come h n c.callings callings first count m is.callings comes.len comes.calls comes.responses;
       windows = windows_come s h n c.windows windows first count m is.windows

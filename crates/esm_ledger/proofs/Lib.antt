@@ -1,3 +1,5 @@
+pub mod HeldRecords
+pub mod Holding
 pub mod Shards
 pub mod Gifts
 pub mod Staying

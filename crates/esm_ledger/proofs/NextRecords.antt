@@ -4,7 +4,7 @@ use Rattle.std.specs.Prelude.{All, slice_get, nat_le}
 use Rattle.std.proofs.lemmas.Bool.{cases_Bool, leb-true}
 use Rattle.esm_model.specs.declared.config.Config.{Config}
 use Rattle.esm_model.specs.declared.config.Kind.{Kind}
-use Rattle.esm_model.specs.declared.item.Record.{Record}
+use Rattle.esm_model.specs.Records.{Record}
 use Rattle.esm_model.specs.declared.entry.Entry.{Entry}
 use Rattle.esm_model.specs.Valid.{IsStreamConfig, HasFieldsOf}
 use Rattle.esm_model.specs.Setting.{Setting, Stream, Extends, over, records_in, record_at}

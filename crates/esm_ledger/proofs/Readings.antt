@@ -1,9 +1,9 @@
 -- What is read of a ledger.
-use Rattle.std.proofs.Common.{◌≡◌, ℕ, ◌<◌, ◌≤◌, ◌/◌, ◌%◌, Bool, true, false, ◌&&◌, List, [], length, refl, sym, ap, ◌∙◌, subst, Option, Some, None, arith}
-use Rattle.std.specs.Prelude.{◌==◌, not, nat_lt, slice_get, is_some, option_map, filter}
+use Rattle.std.proofs.Common.{◌≡◌, ℕ, ◌<◌, ◌≤◌, ◌/◌, ◌%◌, Bool, true, false, ◌&&◌, List, [], length, get_or, refl, sym, ap, ◌∙◌, subst, Option, Some, None, arith}
+use Rattle.std.specs.Prelude.{◌==◌, not, nat_lt, slice_get, is_some, is_none, option_map, filter}
 use Rattle.std.proofs.lemmas.Bool.{eqb-true, false_from_ne_true, lt-ltb}
 use Rattle.std.proofs.lemmas.Option.{slice_get-map, slice_get_within}
-use Rattle.esm_model.specs.declared.item.Record.{Record}
+use Rattle.esm_model.specs.Records.{Record}
 use Rattle.esm_model.specs.declared.lane.LaneId.{LaneId}
 use Rattle.esm_model.specs.declared.entry.Fate.{Fate}
 use Rattle.esm_model.specs.declared.entry.Entry.{Entry}
@@ -36,6 +36,7 @@ use Rattle.esm_ledger.specs.declared.shard.ShardLedger.{ShardLedger}
 use Rattle.esm_ledger.specs.Shard.{measure_at, called_places, closing_in}
 use Rattle.esm_ledger.specs.Ledger.{past_of, setting_of, IsAt, Rests, Keeps}
 use Rattle.esm_ledger.specs.Reading.{lane_of_batcher, checkpoint_of, spread_of, IsLaneSettled, IsLeastDueWindow}
+use Rattle.esm_ledger.proofs.Holding.{open_held}
 use Rattle.esm_ledger.proofs.Shards.{call_runs}
 use Rattle.esm_ledger.proofs.Fitting.{running_below, tells}
 use Rattle.esm_ledger.proofs.Ledgers.{own_legal, IsNowhere, nowhere_none, somewhere_some, records_here, records_absent}
@@ -114,6 +115,13 @@ record_here c n i x r at = ap (λ (rs : List Record). slice_get rs i) (records_h
 
 pub record_absent : (c : Ledger) (n i : ℕ) → IsNowhere c n → record_at (setting_of c) n i ≡ None
 record_absent c n i none = ap (λ (rs : List Record). slice_get rs i) (records_absent c n none)
+
+pub held_here : (c : Ledger) (n i : ℕ) (x : ShardLedger) → Keeps c → IsAt c n x → lacks_fate (setting_of c) (past_of c) n i ≡ true → i < length x.records.items → get_or x.records.held i false ≡ true
+held_here c n i x k at none low =
+    let is = k.each n x at in
+    let within : i < came_count (past_of c) x.shard = subst (λ (m : ℕ). i < m) is.records.came low in
+    let lacks : is_none (fate (setting_of c) (past_of c) x.shard i) ≡ true = subst (λ (m : ℕ). lacks_fate (setting_of c) (past_of c) m i ≡ true) (sym at.2) none in
+    open_held x.records.held x.progress.fated i (fate (setting_of c) (past_of c) x.shard i) is.held (subst (λ (m : ℕ). i < m) (sym is.progress.came) within) (is.progress.fated i within) lacks
 
 pub came_here : (c : Ledger) (n : ℕ) (x : ShardLedger) → Keeps c → IsAt c n x → came_count (past_of c) x.shard ≡ came_count (past_of c) n
 came_here c n x k at = ap (came_count (past_of c)) at.2

@@ -1,9 +1,8 @@
 -- What a change of one shard makes of a ledger.
-use Rattle.std.proofs.Common.{◌≡◌, ℕ, ◌<◌, ◌≤◌, true, false, List, ◌∷◌, length, set, get_or, refl, sym, ap, ◌∙◌, subst, inl, inr, Option, Some, arith, Vec, Global}
+use Rattle.std.proofs.Common.{◌≡◌, ℕ, ◌<◌, ◌≤◌, true, false, List, ◌∷◌, length, set, get_or, refl, sym, ap, ◌∙◌, subst, inl, inr, Option, Some, arith}
 use Rattle.std.specs.Prelude.{◌==◌, ◌≢◌, OnOk, OnErr, Ok, Err, Result, slice_get}
 use Rattle.std.proofs.lemmas.Bool.{cases_eq, eqb-true, false_from_ne_true}
 use Rattle.std.proofs.lemmas.Option.{slice_get_read}
-use Rattle.esm_model.specs.declared.item.Record.{Record}
 use Rattle.esm_model.specs.declared.lane.LaneId.{LaneId}
 use Rattle.esm_model.specs.declared.entry.Fate.{Fate}
 use Rattle.esm_model.specs.declared.entry.Reply.{Reply}
@@ -20,6 +19,7 @@ use Rattle.esm_shard_index.specs.LaneHistory.{HasFoundTries}
 use Rattle.esm_ledger.specs.declared.ledger.Ledger.{Ledger}
 use Rattle.esm_ledger.specs.declared.shard.ShardLedger.{ShardLedger}
 use Rattle.esm_ledger.specs.Shard.{IsShard, LeavesShard, lane_id}
+use Rattle.esm_ledger.specs.Held.{Held}
 use Rattle.esm_ledger.specs.Ledger.{past_of, setting_of, IsAt, HasRoom, Rests, Keeps}
 use Rattle.esm_ledger.specs.Adding.{IsChanged, AreShards, KeepsSplits, EndsAt, RestsAt}
 use Rattle.esm_ledger.proofs.Staying.{shard_stays}
@@ -118,7 +118,7 @@ pub read_at : (xs : List ShardLedger) (i : ℕ) (x : ShardLedger) → i < length
 read_at xs i x low is = slice_get_read xs (length xs) i x refl low is
 
 pub set_at : (xs ys : List ShardLedger) (i : ℕ) (x y : ShardLedger) → i < length xs → x ≡ get_or xs i x → ys ≡ set xs i y → y.shard ≡ x.shard → y.records ≡ x.records → IsSet xs ys i x y
-set_at xs ys i x y low is now shard records = record { at = read_at xs i x low is; now = now; shard = shard; records = ap (λ (v : Vec Record Global). v.items) records }
+set_at xs ys i x y low is now shard records = record { at = read_at xs i x low is; now = now; shard = shard; records = ap (λ (v : Held). v.items) records }
 
 pub set_items_at : (xs ys : List ShardLedger) (i : ℕ) (x y : ShardLedger) → i < length xs → x ≡ get_or xs i x → ys ≡ set xs i y → y.shard ≡ x.shard → y.records.items ≡ x.records.items → IsSet xs ys i x y
 set_items_at xs ys i x y low is now shard records = record { at = read_at xs i x low is; now = now; shard = shard; records = records }

@@ -3,7 +3,7 @@ use Rattle.std.proofs.Common.{◌≡◌, ℕ, suc, ◌+◌, ◌<◌, true, false
 use Rattle.std.specs.Prelude.{◌==◌, ◌≢◌, if◌then◌else◌}
 use Rattle.std.proofs.lemmas.Bool.{cases_Bool}
 use Rattle.esm_model.specs.Lane.{same_lane}
-use Rattle.esm_model.specs.declared.item.Record.{Record}
+use Rattle.esm_model.specs.Records.{Record}
 use Rattle.esm_model.specs.declared.lane.LaneId.{LaneId}
 use Rattle.esm_model.specs.declared.event.Response.{Response}
 use Rattle.esm_model.specs.declared.verdict.Verdict.{Verdict}
@@ -100,6 +100,7 @@ shard_began s h c callings lanes lane places closing m len calls responses here 
     record {
       records = records_stay s h e c.shard c.records.items c.measures.items refl is.records;
       progress = progress_stays s h c.shard c.progress e tt is.progress;
+      held = is.held;
       arrivals = arrivals_stay h c.shard c.arrivals e tt is.arrivals;
       callings = call_begins h (lane_id c.shard lane) c.callings callings places closing m is.callings len calls responses;
       windows = windows_stay s h c.shard c.windows e tt is.windows;
@@ -128,6 +129,7 @@ shard_ended s h c callings windows lanes lane response verdict reply m known len
     record {
       records = records_stay s h e c.shard c.records.items c.measures.items refl is.records;
       progress = progress_stays s h c.shard c.progress e tt is.progress;
+      held = is.held;
       arrivals = arrivals_stay h c.shard c.arrivals e tt is.arrivals;
       callings = call_ends h (lane_id c.shard lane) c.callings callings (called_places (lane_in c.lanes lane)) reply m is.callings call.places len calls
           (λ i. responses i ∙ ap (λ (o : Option Response). if holds (called_places (lane_in c.lanes lane)) i then o else response_at c.callings i) answered);
@@ -153,6 +155,7 @@ shard_closed s h c windows lane window m states tries opened last some legal is 
     record {
       records = records_stay s h e c.shard c.records.items c.measures.items refl is.records;
       progress = progress_stays s h c.shard c.progress e tt is.progress;
+      held = is.held;
       arrivals = arrivals_stay h c.shard c.arrivals e tt is.arrivals;
       callings = callings_stay h c.shard c.callings e tt is.callings;
       windows = windows_close s h (lane_id c.shard lane) c.windows windows window m is.windows states tries opened last;

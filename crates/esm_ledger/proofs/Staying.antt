@@ -1,8 +1,8 @@
 -- What changes nothing of a shard that is kept: entries elsewhere, more records, and all before its first record.
-use Rattle.std.proofs.Common.{◌≡◌, ℕ, zero, suc, ◌+◌, ◌<◌, ◌≤◌, Bool, true, false, ◌&&◌, List, [], ◌∷◌, length, refl, sym, ap, ◌∙◌, subst, inl, inr, Option, Some, None, arith}
+use Rattle.std.proofs.Common.{◌≡◌, ℕ, zero, suc, ◌+◌, ◌<◌, ◌≤◌, Bool, true, false, ◌&&◌, List, [], ◌∷◌, length, map, not, refl, sym, ap, ◌∙◌, subst, inl, inr, Option, Some, None, arith}
 use Rattle.std.specs.Prelude.{◌==◌, filter, slice_get, slice_index, if◌then◌else◌}
 use Rattle.std.proofs.lemmas.Bool.{cases_Bool, eqb-true}
-use Rattle.esm_model.specs.declared.item.Record.{Record}
+use Rattle.esm_model.specs.Records.{Record}
 use Rattle.esm_model.specs.declared.lane.LaneId.{LaneId}
 use Rattle.esm_model.specs.declared.entry.Fate.{Fate}
 use Rattle.esm_model.specs.declared.entry.Fate.TheVariants.{Succeeded, Filtered, Expired, Exhausted}
@@ -55,6 +55,7 @@ shard_stays s h (Came shard first count m) c some off legal is =
     record {
       records = records_stay s h e c.shard c.records.items c.measures.items (rw off refl) is.records;
       progress = progress_stays s h c.shard c.progress e off is.progress;
+      held = is.held;
       arrivals = arrivals_stay h c.shard c.arrivals e off is.arrivals;
       callings = callings_stay h c.shard c.callings e off is.callings;
       windows = windows_stay s h c.shard c.windows e off is.windows;
@@ -66,6 +67,7 @@ shard_stays s h (Began at places closing m) c some off legal is =
     record {
       records = records_stay s h e c.shard c.records.items c.measures.items refl is.records;
       progress = progress_stays s h c.shard c.progress e tt is.progress;
+      held = is.held;
       arrivals = arrivals_stay h c.shard c.arrivals e tt is.arrivals;
       callings = callings_stay h c.shard c.callings e off is.callings;
       windows = windows_stay s h c.shard c.windows e tt is.windows;
@@ -77,6 +79,7 @@ shard_stays s h (Ended at reply m) c some off legal is =
     record {
       records = records_stay s h e c.shard c.records.items c.measures.items refl is.records;
       progress = progress_stays s h c.shard c.progress e tt is.progress;
+      held = is.held;
       arrivals = arrivals_stay h c.shard c.arrivals e tt is.arrivals;
       callings = callings_stay h c.shard c.callings e off is.callings;
       windows = windows_stay s h c.shard c.windows e off is.windows;
@@ -88,6 +91,7 @@ shard_stays s h (Gave by shard places f line state m) c some off legal is =
     record {
       records = records_stay s h e c.shard c.records.items c.measures.items refl is.records;
       progress = progress_stays s h c.shard c.progress e off is.progress;
+      held = is.held;
       arrivals = arrivals_stay h c.shard c.arrivals e tt is.arrivals;
       callings = callings_stay h c.shard c.callings e tt is.callings;
       windows = windows_stay s h c.shard c.windows e off is.windows;
@@ -99,6 +103,7 @@ shard_stays s h (Closed at w m) c some off legal is =
     record {
       records = records_stay s h e c.shard c.records.items c.measures.items refl is.records;
       progress = progress_stays s h c.shard c.progress e tt is.progress;
+      held = is.held;
       arrivals = arrivals_stay h c.shard c.arrivals e tt is.arrivals;
       callings = callings_stay h c.shard c.callings e tt is.callings;
       windows = windows_stay s h c.shard c.windows e off is.windows;
@@ -110,6 +115,7 @@ shard_stays s h (Tried at places closing t m) c some off legal is =
     record {
       records = records_stay s h e c.shard c.records.items c.measures.items refl is.records;
       progress = progress_stays s h c.shard c.progress e tt is.progress;
+      held = is.held;
       arrivals = arrivals_stay h c.shard c.arrivals e tt is.arrivals;
       callings = callings_stay h c.shard c.callings e tt is.callings;
       windows = windows_stay s h c.shard c.windows e tt is.windows;
@@ -121,6 +127,7 @@ shard_stays s h (Shut m) c some off legal is =
     record {
       records = records_stay s h e c.shard c.records.items c.measures.items refl is.records;
       progress = progress_stays s h c.shard c.progress e tt is.progress;
+      held = is.held;
       arrivals = arrivals_stay h c.shard c.arrivals e tt is.arrivals;
       callings = callings_stay h c.shard c.callings e tt is.callings;
       windows = windows_stay s h c.shard c.windows e tt is.windows;
@@ -160,6 +167,7 @@ shard_over s after h c more legal is =
     record {
       records = records_over s after h more same c.shard c.records.items c.measures.items is.records;
       progress = record { came = is.progress.came; fated = is.progress.fated; counts = is.progress.counts; ahead = is.progress.ahead };
+      held = is.held;
       arrivals = is.arrivals;
       callings = is.callings;
       windows = windows_over s after h same legal c.shard c.windows is.windows;
@@ -238,10 +246,10 @@ shard_before s (e ∷ h) c some legal none is =
 
 -- a shard of which no record came
 
-pub shard_new : (s : Setting) (h : List Entry) (c : ShardLedger) → c.records.items ≡ [] → c.measures.items ≡ [] → c.progress.fated ≡ [] → ((f : Fate) → count_in c.progress.counts f ≡ 0)
+pub shard_new : (s : Setting) (h : List Entry) (c : ShardLedger) → c.records.items ≡ [] → c.records.held ≡ [] → c.measures.items ≡ [] → c.progress.fated ≡ [] → ((f : Fate) → count_in c.progress.counts f ≡ 0)
     → c.arrivals.runs ≡ [] → c.arrivals.came ≡ 0 → c.callings.records ≡ [] → length c.lanes.lanes ≡ s.config.factor → ((k : ℕ) → lane_in c.lanes k ≡ empty_view)
     → HasFoundTries s c.shard → Legal s h → came_count h c.shard ≡ 0 → IsWindows s [] c.shard c.windows → IsShard s h c
-shard_new s h c records measures fated counts runs came callings size empty some legal none windows =
+shard_new s h c records held measures fated counts runs came callings size empty some legal none windows =
     shard_before s h c some legal none (record {
       records = record {
         came = ap length records;
@@ -251,6 +259,7 @@ shard_new s h c records measures fated counts runs came callings size empty some
         windows = λ i low. absurd (omega (arith, low));
       };
       progress = progress_begins s c.shard c.progress fated counts;
+      held = held ∙ sym (ap (map not) fated);
       arrivals = arrivals_begin c.shard c.arrivals runs came;
       callings = callings_begin c.shard c.callings callings;
       windows = windows;

@@ -1,11 +1,12 @@
 -- A shard of which nothing was found.
-use Rattle.std.proofs.Common.{◌≡◌, ℕ, zero, suc, ◌+◌, ◌-◌, ◌<◌, ◌≤◌, false, ◌&&◌, ◌||◌, List, [], ◌∷◌, length, get_or, refl, sym, subst, inl, inr, None, arith}
-use Rattle.std.specs.Prelude.{◌==◌, nat_eq, find, Err}
+use Rattle.std.proofs.Common.{◌≡◌, ℕ, zero, suc, ◌+◌, ◌-◌, ◌<◌, ◌≤◌, true, false, ◌&&◌, ◌||◌, List, [], ◌∷◌, length, get_or, refl, sym, subst, inl, inr, None, arith}
+use Rattle.std.specs.Prelude.{◌==◌, nat_eq, find, Ok, Err}
 use Rattle.std.specs.List.{list_any}
 use Rattle.std.specs.List.Sorted.{IsStrictlyIncreasing, IsBinarySearchResult}
 use Rattle.std.specs.Ordering.{nat_cmp}
-use Rattle.std.proofs.lemmas.Bool.{cases_Bool, cases_lt, eqb-true, or_parts}
+use Rattle.std.proofs.lemmas.Bool.{cases_Bool, cases_lt, eq-eqb, eqb-true, or_parts}
 use Rattle.std.proofs.lemmas.List.Sorted.{searched}
+use Rattle.std.proofs.lemmas.List.Folds.{list_any_at}
 use Rattle.esm_model.specs.declared.setup.FoundFate.{FoundFate}
 use Rattle.esm_model.specs.declared.setup.FoundState.{FoundState}
 use Rattle.esm_model.specs.declared.setup.FoundTries.{FoundTries}
@@ -41,6 +42,14 @@ not_listed xs n i result up =
       | inl before ↦ (let less = parts.1 k before in omega (arith, less, is))
       | inr after ↦ (let more = parts.2 k after low in omega (arith, more, is))
     ])
+
+pub found_listed : (xs : List ℕ) (n i : ℕ) → IsBinarySearchResult (λ y. nat_cmp y n) xs (Ok i) → IsStrictlyIncreasing xs → list_any (nat_eq n) xs ≡ true
+found_listed xs n i result up =
+    let parts : (i < length xs) × (get_or xs i 0 ≡ n) = searched xs n (Ok i) result (ordered xs up) in
+    list_any_at (nat_eq n) xs i 0 parts.0 (eq-eqb n (get_or xs i 0) (sym parts.1))
+
+pub some_listed : (xs : List ℕ) → 0 < length xs → (n : ℕ) × (list_any (nat_eq n) xs ≡ true)
+some_listed xs some = (get_or xs 0 0, list_any_at (nat_eq (get_or xs 0 0)) xs 0 0 some (eq-eqb (get_or xs 0 0) (get_or xs 0 0) refl))
 
 pub none_listed : (xs : List ℕ) (n : ℕ) → length xs ≡ 0 → list_any (nat_eq n) xs ≡ false
 none_listed [] n none = refl

@@ -1,6 +1,6 @@
 -- Records of a shard that are about to come, and what is kept of them. This product's own.
 use Rattle.std.specs.Prelude.{◌≡◌, ℕ, suc, ◌+◌, ◌<◌, ◌≤◌, ◌==◌, Bool, true, false, List, [], ◌∷◌, length, filter, Option, Some, None, IfSome, slice_get, slice_index_or, option_map, if◌then◌else◌, vec_len, vec_capacity}
-use Rattle.esm_model.specs.declared.item.Record.{Record}
+use Rattle.esm_model.specs.Records.{Record}
 use Rattle.esm_model.specs.declared.limits.TheConstants.{MAX_TRIES}
 use Rattle.esm_model.specs.declared.setup.FoundTries.{FoundTries}
 use Rattle.esm_model.specs.Setting.{Setting, record_at, found_try}
@@ -75,7 +75,7 @@ landed k first (l ∷ landings) v = landed k (suc first) landings (land_in k fir
 
 -- the records find the memory that they need
 pub record HasRoomFor (c : ShardLedger) (a : Arriving) : Type 0 where
-  pub records : vec_len c.records + vec_len a.records ≤ vec_capacity c.records
+  pub records : length a.records.items ≤ c.records.room
   pub measures : vec_len c.measures + vec_len a.measures ≤ vec_capacity c.measures
   pub progress : length a.fates.items ≤ c.progress.room
   pub arrivals : 0 < c.arrivals.room

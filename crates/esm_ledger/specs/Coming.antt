@@ -1,7 +1,7 @@
 -- Records of a shard that a ledger is about to take, and the setting with them. This product's own.
 use Rattle.std.specs.Prelude.{◌≡◌, ℕ, ◌+◌, ◌<◌, ◌≤◌, ◌==◌, Bool, false, not, is_some, List, [], ◌∷◌, ◌++◌, length, Option, Some, None, slice_get, slice_set, slice_index_or, if◌then◌else◌}
 use Rattle.std.specs.List.{All}
-use Rattle.esm_model.specs.declared.item.Record.{Record}
+use Rattle.esm_model.specs.Records.{Record}
 use Rattle.esm_model.specs.Setting.{Setting, Stream, over, found_fate}
 use Rattle.esm_model.specs.Entries.{holds, came_count, shards_that_came}
 use Rattle.esm_model.specs.declared.entry.Entry.{Entry}

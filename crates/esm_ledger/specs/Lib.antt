@@ -1,3 +1,5 @@
+pub mod Held
+pub mod Slots
 pub mod Shard
 pub mod Arriving
 pub mod ShardLaws

@@ -2,7 +2,7 @@
 -- proofs cite this.
 use Rattle.std.specs.Prelude.{ℕ, suc, ◌==◌, max, Bool, ◌&&◌, List, [], ◌∷◌, length, Option, Some, None, is_none, option_map, if◌then◌else◌}
 use Rattle.esm_model.specs.declared.config.Config.{Config}
-use Rattle.esm_model.specs.declared.item.Record.{Record}
+use Rattle.esm_model.specs.Records.{Record}
 use Rattle.esm_model.specs.declared.entry.Fate.{Fate}
 use Rattle.esm_model.specs.EventText.{record_text}
 use Rattle.esm_model.specs.Windows.{window_floor}

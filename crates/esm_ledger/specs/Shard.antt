@@ -1,6 +1,6 @@
 -- What is kept of one shard, and what it says of a history. This product's own.
-use Rattle.std.specs.Prelude.{◌≡◌, ℕ, ◌<◌, List, length, map, Option, Some, None, slice_get, slice_index_or, take, ⊤, false, ◌==◌}
-use Rattle.esm_model.specs.declared.item.Record.{Record}
+use Rattle.std.specs.Prelude.{◌≡◌, ℕ, ◌<◌, List, length, map, not, Option, Some, None, slice_get, slice_index_or, take, ⊤, false, ◌==◌}
+use Rattle.esm_model.specs.Records.{Record}
 use Rattle.esm_model.specs.declared.lane.LaneId.{LaneId}
 use Rattle.esm_model.specs.declared.entry.Entry.{Entry}
 use Rattle.esm_model.specs.declared.entry.Entry.TheVariants.{Came, Began, Ended, Gave, Closed}
@@ -45,6 +45,8 @@ pub record AreRecords (s : Setting) (h : List Entry) (n : ℕ) (records : List R
 pub record IsShard (s : Setting) (h : List Entry) (c : ShardLedger) : Type 0 where
   pub records : AreRecords s h c.shard c.records.items c.measures.items
   pub progress : IsProgress s h c.shard c.progress
+  -- a record is held exactly while it has no fate
+  pub held : c.records.held ≡ map not c.progress.fated
   pub arrivals : IsArrivals h c.shard c.arrivals
   pub callings : IsCallings h c.shard c.callings
   pub windows : IsWindows s h c.shard c.windows

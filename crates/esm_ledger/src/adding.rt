@@ -27,7 +27,8 @@ impl Ledger {
         requires legal { LegalOver (grown (setting_of self.old) coming.shard coming.arriving.records.items)
             (Entry.Came coming.shard (came_count (past_of self.old) coming.shard) (length coming.arriving.records.items) moment ∷ past_of self.old) }
         ensures kept { Keeps self.new }
-        ensures past { past_of self.new ≡ Entry.Came coming.shard (came_count (past_of self.old) coming.shard) (length coming.arriving.records.items) moment ∷ past_of self.old }
+        ensures past { past_of self.new ≡ Entry.Came coming.shard (came_count (past_of self.old) coming.shard)
+            (length coming.arriving.records.items) moment ∷ past_of self.old }
         ensures setting { setting_of self.new ≡ grown (setting_of self.old) coming.shard coming.arriving.records.items }
         ensures room { (n : ℕ) → HasRoom self.old (n + 1) → HasRoom self.new n }
         // What is prepared for further entries stays; a shard that comes for the first time takes the room of one.

@@ -66,7 +66,7 @@ fn landing_of(
 {
     if passes && fate.is_none() {
         Some(Landing {
-            lane: lane_of(&item.key, factor),
+            lane: lane_of(item.key(), factor),
             tries: tries_of(found, told, shard, place),
         })
     } else {
@@ -149,7 +149,8 @@ fn load_state(
     state: &SaidState,
     shard: u64,
 ) -> Result<(), OutOfMemory>
-    ensures states { OnOk result ((w : ℕ) → state_in windows.new w ≡ (if (state.now.shard == shard) && (state.now.state.window == w) then Some state.now.state.text else state_in windows.old w)) }
+    ensures states { OnOk result ((w : ℕ) → state_in windows.new w
+        ≡ (if (state.now.shard == shard) && (state.now.state.window == w) then Some state.now.state.text else state_in windows.old w)) }
     ensures opened { windows.new.opened ≡ windows.old.opened }
     ensures tries { windows.new.tries ≡ windows.old.tries }
     ensures last { windows.new.last ≡ windows.old.last }

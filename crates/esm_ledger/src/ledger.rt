@@ -1,5 +1,6 @@
 // The ledger of a stream's book: the history of entries, with quick tables of what it says.
-ghost use Rattle.std.specs.Prelude.{◌≡◌, ℕ, ◌+◌, ◌<◌, ◌∷◌, [], true, false, length, reverse, OnOk, IfOk, IfSome, IfNone, Some, None, slice_get, ◌++◌, vec_len, vec_capacity};
+ghost use Rattle.std.specs.Prelude.{◌≡◌, ℕ, ◌+◌, ◌<◌, ◌∷◌, [], true, false, length, reverse, OnOk, IfOk, IfSome, IfNone, Some, None};
+ghost use Rattle.std.specs.Prelude.{slice_get, ◌++◌, vec_len, vec_capacity};
 ghost use Rattle.esm_model.specs.declared.lane.LaneId.{LaneId};
 ghost use Rattle.esm_model.specs.Valid.{IsStreamConfig};
 ghost use Rattle.esm_model.specs.Entries.{came_count, is_shut, calls_begun};
@@ -140,7 +141,8 @@ impl Ledger {
 
     /// The index of the shard among those that came, if it came. There are 16 at most.
     pub(crate) fn find(&self, shard: u64) -> Option<usize>
-        ensures at { IfSome result (λ i. (i < length self.now.shards.items) × ((x : ShardLedger) → slice_get self.now.shards.items i ≡ Some x → x.shard ≡ shard)) }
+        ensures at { IfSome result (λ i. (i < length self.now.shards.items)
+            × ((x : ShardLedger) → slice_get self.now.shards.items i ≡ Some x → x.shard ≡ shard)) }
         ensures none { IfNone result ((x : ShardLedger) → IsAt self.now shard x → ⊥) }
     {
         self.shards

@@ -1,7 +1,7 @@
 //! What is to be kept of records that are about to come, from the records and what was found of them.
 ghost use Rattle.std.specs.Prelude.{◌≡◌, ℕ, ◌+◌, ◌<◌, max, length, Some, slice_get, IfOk};
 ghost use Rattle.std.specs.List.{All};
-ghost use Rattle.esm_model.specs.declared.item.Record.{Record};
+ghost use Rattle.esm_model.specs.Records.{Record};
 ghost use Rattle.esm_model.specs.Valid.{IsStreamConfig, IsValidRecord};
 ghost use Rattle.esm_model.specs.Setting.{Setting, record_at};
 ghost use Rattle.esm_model.specs.Windows.{window_floor};
@@ -56,7 +56,7 @@ fn measured(
     let mut last = before;
     for i in 0..records.len() {
         let record = &records[i];
-        last = window_after(config, last, record.arrival);
+        last = window_after(config, last, record.arrival());
         let length = stream_bytes(config, record);
         let window = last;
         measures.push(Measure { length, window })?;

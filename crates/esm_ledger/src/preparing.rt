@@ -8,19 +8,22 @@ ghost use Rattle.esm_ledger.specs.Arriving.{landing_count};
 
 use crate::arriving::{Arriving, Landing};
 use crate::measure::Measure;
-use esm_model::{OutOfMemory, Record};
+use crate::records::Records;
+use esm_model::OutOfMemory;
 use esm_shard_index::{Arrivals, Callings, LaneTable, Progress, Windows};
 use std::alloc::Global;
 
 /// Memory for the records and what stands beside them. After `OutOfMemory` they are as before.
 pub fn reserve_records(
-    records: &mut Vec<Record>,
+    records: &mut Records,
     measures: &mut Vec<Measure>,
     arriving: &Arriving,
 ) -> Result<(), OutOfMemory>
     ensures records { records.new.items ≡ records.old.items }
     ensures measures { measures.new.items ≡ measures.old.items }
-    ensures records_ok { OnOk result (vec_len records.new + vec_len arriving.now.records ≤ vec_capacity records.new) }
+    ensures held { records.new.held ≡ records.old.held }
+    ensures records_room { records.old.room ≤ records.new.room }
+    ensures records_ok { OnOk result (length arriving.now.records.items ≤ records.new.room) }
     ensures measures_ok { OnOk result (vec_len measures.new + vec_len arriving.now.measures ≤ vec_capacity measures.new) }
 {
     records.reserve(arriving.records.len())?;

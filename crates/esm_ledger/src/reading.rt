@@ -1,10 +1,10 @@
 //! What is read of a ledger, each by the definition of its word. Nothing takes memory.
-ghost use Rattle.std.specs.Prelude.{◌≡◌, ℕ, ◌<◌, ◌≤◌, ◌↔◌, [], Some, true, false, length, option_copied, slice_get, IfSome, IsNone};
-ghost use Rattle.esm_model.specs.declared.item.Record.{Record};
+ghost use Rattle.std.specs.Prelude.{◌≡◌, ℕ, ◌<◌, ◌≤◌, ◌↔◌, [], Some, true, false, length, option_copied, IfSome, IsNone};
+ghost use Rattle.esm_model.specs.Records.{Record};
 ghost use Rattle.esm_model.specs.Setting.{record_at};
 ghost use Rattle.esm_model.specs.EventText.{record_text};
 ghost use Rattle.esm_model.specs.Entries.{came_count, came_moment, is_running, last_call, batch_of};
-ghost use Rattle.esm_model.specs.Fates.{open_places};
+ghost use Rattle.esm_model.specs.Fates.{open_places, lacks_fate};
 ghost use Rattle.esm_model.specs.Tries.{window_tries};
 ghost use Rattle.esm_model.specs.Windows.{window_of, kept_state, is_outstanding};
 ghost use Rattle.esm_model.specs.Batches.{delay_end};
@@ -100,14 +100,15 @@ impl Ledger {
         }
     }
 
-    /// The shard's record at the place, if it came.
+    /// The shard's record at the place, if it came; it is held as long as it has no fate.
     pub fn record(&self, shard: u64, place: u32) -> Option<&Record>
-        requires { Keeps self.now }
+        requires kept { Keeps self.now }
+        requires open { lacks_fate (setting_of self.now) (past_of self.now) shard place ≡ true }
         ensures { option_copied result ≡ record_at (setting_of self.now) shard place }
     {
         match self.kept(shard) {
             None => None,
-            Some(kept) => record_of(&kept.records, place),
+            Some(kept) => kept.records.get(place),
         }
     }
 
@@ -231,16 +232,6 @@ fn closing_window(running: Option<Running>) -> Option<u64>
     match running {
         None => None,
         Some(running) => running.closing,
-    }
-}
-
-/// The record at the place, if it came.
-fn record_of(records: &Vec<Record>, place: u32) -> Option<&Record>
-    ensures { option_copied result ≡ slice_get records.now.items place }
-{
-    match records.get(place as usize) {
-        None => None,
-        Some(record) => Some(record),
     }
 }
 

@@ -22,17 +22,18 @@ ghost use Rattle.esm_ledger.specs.Arriving.{AreArriving, IsEven, IsWithin, HasRo
 use crate::arriving::Arriving;
 use crate::measure::Measure;
 use crate::preparing::{reserve_lanes, reserve_records, reserve_tables};
+use crate::records::Records;
 use crate::shard_steps::{count_try, land, leave_windows, take_state};
-use esm_model::{Fate, OutOfMemory, Record, Response, Verdict, WindowState};
+use esm_model::{Fate, OutOfMemory, Response, Verdict, WindowState};
 use esm_shard_index::{Arrivals, Callings, LaneTable, Progress, Running, Windows};
 use std::alloc::Global;
 
-/// What is kept of one shard: its records that came, and the tables that say what the history says of them. Once the
-/// memory is prepared, adding an entry takes none.
+/// What is kept of one shard: its records that came, of which those without a fate are held, and the tables that say what
+/// the history says of them. Once the memory is prepared, adding an entry takes none.
 #[derive(Drop)]
 pub struct ShardLedger {
     pub shard: u64,
-    pub records: Vec<Record>,
+    pub records: Records,
     pub measures: Vec<Measure>,
     pub progress: Progress,
     pub arrivals: Arrivals,
@@ -58,7 +59,7 @@ impl ShardLedger {
     {
         Ok(ShardLedger {
             shard,
-            records: Vec::new(alloc),
+            records: Records::new(alloc),
             measures: Vec::new(alloc),
             progress: Progress::new(alloc),
             arrivals: Arrivals::new(alloc),
@@ -109,6 +110,7 @@ impl ShardLedger {
         requires few { length arriving.now.landings.items ≤ u32.MAX }
         ensures shard { self.new.shard ≡ self.old.shard }
         ensures records { self.new.records.items ≡ self.old.records.items }
+        ensures records_room { self.old.records.room ≤ self.new.records.room }
         ensures ok { OnOk result (HasRoomFor self.new arriving.now) }
         ensures kept { (s : Setting) (h : List Entry) → IsShard s h self.old → IsShard s h self.new }
         ensures splits { (k : ℕ) → (lane_in self.old.lanes k).kept.splits ≤ (lane_in self.new.lanes k).kept.splits }
@@ -187,7 +189,8 @@ impl ShardLedger {
         requires answered { fate ≢ Fate.Expired }
         requires prepared { IfSome state (λ x. has_entry self.old.windows.states x.window ≡ true) }
         ensures shard { self.new.shard ≡ self.old.shard }
-        ensures records { self.new.records ≡ self.old.records }
+        ensures records { self.new.records.items ≡ self.old.records.items }
+        ensures records_room { self.old.records.room ≤ self.new.records.room }
         ensures kept { (s : Setting) (h : List Entry) (by : Option LaneId) (line : Option (List ℕ)) (m : ℕ) → HasFoundTries s self.old.shard →
             Legal s (Entry.Gave by self.old.shard places.now fate line state m ∷ h) →
             IsShard s h self.old → IsShard s (Entry.Gave by self.old.shard places.now fate line state m ∷ h) self.new }
@@ -196,6 +199,7 @@ impl ShardLedger {
         ensures tries { self.new.windows.tries ≡ self.old.windows.tries }
     {
         self.progress.give(places, fate);
+        self.records.let_go(places);
         leave_windows(&mut self.windows, self.measures.as_slice(), places);
         take_state(&mut self.windows, state);
     }
@@ -209,7 +213,8 @@ impl ShardLedger {
         requires within { length places.now ≤ front_length (lane_in self.old.lanes lane).kept.pieces }
         requires short { length places.now ≤ u32.MAX }
         ensures shard { self.new.shard ≡ self.old.shard }
-        ensures records { self.new.records ≡ self.old.records }
+        ensures records { self.new.records.items ≡ self.old.records.items }
+        ensures records_room { self.old.records.room ≤ self.new.records.room }
         ensures kept { (s : Setting) (h : List Entry) (line : Option (List ℕ)) (m : ℕ) → HasFoundTries s self.old.shard →
             Legal s (Entry.Gave (Some (lane_id self.old.shard lane)) self.old.shard places.now Fate.Expired line None m ∷ h) →
             IsShard s h self.old →
@@ -219,6 +224,7 @@ impl ShardLedger {
         ensures tries { self.new.windows.tries ≡ self.old.windows.tries }
     {
         self.progress.give(places, Fate::Expired);
+        self.records.let_go(places);
         leave_windows(&mut self.windows, self.measures.as_slice(), places);
         self.lanes.expire(lane, places.len() as u32);
     }
@@ -253,15 +259,21 @@ impl ShardLedger {
         ensures tries { self.new.windows.tries ≡ self.old.windows.tries }
     {
         let first = self.progress.len();
-        let count = arriving.records.len();
-        let mut arriving = arriving;
-        self.progress.came(arriving.fates.as_slice());
+        let Arriving {
+            records,
+            mut measures,
+            fates,
+            landings,
+            windows,
+            last,
+        } = arriving;
+        let count = records.len();
+        self.progress.came(fates.as_slice());
         self.arrivals.came(count as u32, moment);
         self.callings.came(count);
-        self.windows
-            .came(arriving.windows.as_slice(), arriving.last);
-        land(&mut self.lanes, alloc, first, arriving.landings.as_slice());
-        let _ = self.records.append(&mut arriving.records);
-        let _ = self.measures.append(&mut arriving.measures);
+        self.windows.came(windows.as_slice(), last);
+        land(&mut self.lanes, alloc, first, landings.as_slice());
+        self.records.came(records, fates.as_slice());
+        let _ = self.measures.append(&mut measures);
     }
 }

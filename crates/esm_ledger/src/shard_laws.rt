@@ -18,37 +18,46 @@ ghost use Rattle.esm_ledger.specs.ShardLaws.{CallFits, EndFits, GiftFits, Expiry
 
 /// An entry of another shard changes nothing of a shard, and neither do the note of a try and the end of the input.
 pub fn shard_stays()
-    ensures { (s : Setting) (h : List Entry) (e : Entry) (c : ShardLedger) → HasFoundTries s c.shard → LeavesShard c.shard e → Legal s (e ∷ h) → IsShard s h c → IsShard s (e ∷ h) c }
+    ensures { (s : Setting) (h : List Entry) (e : Entry) (c : ShardLedger) → HasFoundTries s c.shard → LeavesShard c.shard e → Legal s (e ∷ h) →
+        IsShard s h c → IsShard s (e ∷ h) c }
 {}
 
 /// Over lists of records that go on from its own, a shard says the same.
 pub fn shard_over_more_records()
-    ensures { (s : Setting) (after : List Stream) (h : List Entry) (c : ShardLedger) → Extends s.streams after → Legal s h → IsShard s h c → IsShard (over s after) h c }
+    ensures { (s : Setting) (after : List Stream) (h : List Entry) (c : ShardLedger) → Extends s.streams after → Legal s h → IsShard s h c →
+        IsShard (over s after) h c }
 {}
 
 /// A call that begins in a legal history may be added.
 pub fn call_fits()
-    ensures { (s : Setting) (h : List Entry) (lane : LaneId) (places : List ℕ) (closing : Option ℕ) (m : ℕ) (c : ShardLedger) → Legal s (Entry.Began lane places closing m ∷ h) → s.calls < 4294967296 → came_count h c.shard < 4294967296 → lane.shard ≡ c.shard → IsShard s h c → CallFits c lane.lane places }
+    ensures { (s : Setting) (h : List Entry) (lane : LaneId) (places : List ℕ) (closing : Option ℕ) (m : ℕ) (c : ShardLedger) →
+        Legal s (Entry.Began lane places closing m ∷ h) → s.calls < 4294967296 → came_count h c.shard < 4294967296 → lane.shard ≡ c.shard →
+        IsShard s h c → CallFits c lane.lane places }
 {}
 
 /// And so may its end.
 pub fn end_fits()
-    ensures { (s : Setting) (h : List Entry) (lane : LaneId) (reply : Reply) (m : ℕ) (c : ShardLedger) → Legal s (Entry.Ended lane reply m ∷ h) → s.calls < 4294967296 → lane.shard ≡ c.shard → IsShard s h c → EndFits c lane.lane }
+    ensures { (s : Setting) (h : List Entry) (lane : LaneId) (reply : Reply) (m : ℕ) (c : ShardLedger) → Legal s (Entry.Ended lane reply m ∷ h) →
+        s.calls < 4294967296 → lane.shard ≡ c.shard → IsShard s h c → EndFits c lane.lane }
 {}
 
 /// The places that get a fate in a legal history may be given it.
 pub fn gift_fits()
-    ensures { (s : Setting) (h : List Entry) (by : Option LaneId) (places : List ℕ) (f : Fate) (line : Option (List ℕ)) (state : Option WindowState) (m : ℕ) (c : ShardLedger) → Legal s (Entry.Gave by c.shard places f line state m ∷ h) → IsShard s h c → GiftFits c places }
+    ensures { (s : Setting) (h : List Entry) (by : Option LaneId) (places : List ℕ) (f : Fate) (line : Option (List ℕ)) (state : Option WindowState)
+        (m : ℕ) (c : ShardLedger) → Legal s (Entry.Gave by c.shard places f line state m ∷ h) → IsShard s h c → GiftFits c places }
 {}
 
 /// And those that expire are of the front piece of their lane.
 pub fn expiry_fits()
-    ensures { (s : Setting) (h : List Entry) (lane : LaneId) (places : List ℕ) (line : Option (List ℕ)) (state : Option WindowState) (m : ℕ) (c : ShardLedger) → Legal s (Entry.Gave (Some lane) c.shard places Fate.Expired line state m ∷ h) → came_count h c.shard < 4294967296 → lane.lane < s.config.factor → IsShard s h c → ExpiryFits c lane.lane places }
+    ensures { (s : Setting) (h : List Entry) (lane : LaneId) (places : List ℕ) (line : Option (List ℕ)) (state : Option WindowState) (m : ℕ)
+        (c : ShardLedger) → Legal s (Entry.Gave (Some lane) c.shard places Fate.Expired line state m ∷ h) → came_count h c.shard < 4294967296 →
+        lane.lane < s.config.factor → IsShard s h c → ExpiryFits c lane.lane places }
 {}
 
 /// Records whose number fits 32 bits with those that came may come.
 pub fn arrivals_fit()
-    ensures { (s : Setting) (h : List Entry) (a : Arriving) (c : ShardLedger) → Legal s h → IsEven a → came_count h c.shard + length a.records.items < 4294967296 → IsShard s h c → FitsNumbers c a }
+    ensures { (s : Setting) (h : List Entry) (a : Arriving) (c : ShardLedger) → Legal s h → IsEven a →
+        came_count h c.shard + length a.records.items < 4294967296 → IsShard s h c → FitsNumbers c a }
 {}
 
 /// The checkpoint, the spread and the number of open records.

@@ -21,7 +21,8 @@ use std::alloc::Global;
 /// A failed try counts for the window that the call closes, if it closes one, where the rest of its verdict is counted.
 pub fn count_try(windows: &mut Windows, running: Option<Running>, rest: Rest)
     requires { IfSome (closing_in running) (λ w. has_entry windows.old.tries w ≡ true) }
-    ensures tries { (w : ℕ) → tries_in windows.new w ≡ (if is_closed_by (closing_in running) w && is_counted rest then capped_tries (tries_in windows.old w + 1) else tries_in windows.old w) }
+    ensures tries { (w : ℕ) → tries_in windows.new w
+        ≡ (if is_closed_by (closing_in running) w && is_counted rest then capped_tries (tries_in windows.old w + 1) else tries_in windows.old w) }
     ensures opened { windows.new.opened ≡ windows.old.opened }
     ensures states { windows.new.states ≡ windows.old.states }
     ensures last { windows.new.last ≡ windows.old.last }

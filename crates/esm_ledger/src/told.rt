@@ -1,12 +1,13 @@
 // Whether the journal told of a shard at opening, so that nothing is looked up that cannot be there.
-ghost use Rattle.std.specs.Prelude.{◌≡◌, ℕ, false, None};
-ghost use Rattle.esm_journal_state.specs.SaidLists.{fate_told, tries_told};
+ghost use Rattle.std.specs.Prelude.{◌≡◌, ℕ, true, false, None};
+ghost use Rattle.esm_journal_state.specs.SaidLists.{fate_told, tries_told, has_shard};
 
 use esm_journal_state::Says;
 
 /// Whether anything was told of the shard; where not, no record of it has a found fate or found tries. Logarithmic in
 /// the number of shards that were told of.
 pub fn is_told(found: &Says, shard: u64) -> bool
+    ensures told { result ≡ has_shard found.now shard }
     ensures fates { result ≡ false → (i : ℕ) → fate_told found.now shard i ≡ None }
     ensures tries { result ≡ false → (i : ℕ) → tries_told found.now shard i ≡ None }
 {
@@ -18,6 +19,8 @@ pub fn is_told(found: &Says, shard: u64) -> bool
 
 /// Whether anything was told of any shard; where not, no record has a found fate or found tries.
 pub fn is_any_told(found: &Says) -> bool
+    ensures some { result ≡ true → (n : ℕ) × (has_shard found.now n ≡ true) }
+    ensures none { result ≡ false → (n : ℕ) → has_shard found.now n ≡ false }
     ensures fates { result ≡ false → (n i : ℕ) → fate_told found.now n i ≡ None }
     ensures tries { result ≡ false → (n i : ℕ) → tries_told found.now n i ≡ None }
 {

@@ -1,7 +1,7 @@
 //! Preparing all that is kept of records that come next to their shard.
 ghost use Rattle.std.specs.Prelude.{◌≡◌, ℕ, ◌+◌, ◌≤◌, not, Some, length, is_some, slice_get, IfOk, OnOk};
 ghost use Rattle.std.specs.List.{All};
-ghost use Rattle.esm_model.specs.declared.item.Record.{Record};
+ghost use Rattle.esm_model.specs.Records.{Record};
 ghost use Rattle.esm_model.specs.Valid.{IsStreamConfig, IsValidRecord};
 ghost use Rattle.esm_model.specs.Setting.{Setting, record_at};
 ghost use Rattle.esm_model.specs.Entries.{holds, came_count, shards_that_came};
@@ -43,7 +43,8 @@ fn arriving_of(
     requires all { length passing.now ≡ length records.items }
     ensures records { IfOk result (λ a. a.records.items ≡ records.items) }
     ensures even { IfOk result IsEven }
-    ensures within { IfOk result (λ a. (s : Setting) → TellsOf s config.now found.now → HasFoundTries s shard → All (IsWithin config.now.factor) a.landings.items) }
+    ensures within { IfOk result (λ a. (s : Setting) → TellsOf s config.now found.now → HasFoundTries s shard →
+        All (IsWithin config.now.factor) a.landings.items) }
     ensures stand { IfOk result (λ a. (s : Setting) → TellsOf s config.now found.now → before ≡ window_before s shard first →
         ((k : ℕ) (r : Record) → slice_get records.items k ≡ Some r → record_at s shard (first + k) ≡ Some r) →
         TellsPassing s shard first records.items passing.now → AreArriving s shard first a) }
@@ -167,7 +168,8 @@ impl Ledger {
         requires kept { Keeps self.now }
         requires few { length arriving.now.landings.items ≤ u32.MAX }
         ensures named { IfOk result (λ fresh. is_some fresh ≡ not (holds (shards_that_came (past_of self.now)) shard)) }
-        ensures fresh { IfOk result (λ fresh. (y : ShardLedger) → fresh ≡ Some y → (y.shard ≡ shard) × IsShard (setting_of self.now) (past_of self.now) y × HasRoomFor y arriving.now) }
+        ensures fresh { IfOk result (λ fresh. (y : ShardLedger) → fresh ≡ Some y →
+            (y.shard ≡ shard) × IsShard (setting_of self.now) (past_of self.now) y × HasRoomFor y arriving.now) }
     {
         match self.kept(shard) {
             None => {

@@ -1,25 +1,22 @@
 -- A history says the same over all lists that agree on the records that came, also over shorter ones: an entry that may
 -- follow over the one lists may follow over the others.
 use Rattle.std.proofs.Common.{◌≡◌, ℕ, ◌+◌, ◌-◌, ◌<◌, ◌≤◌, true, cond, length, take, refl, sym, ap, ◌∙◌, subst, inl, inr, Option, Some, None, List, ◌∷◌, arith, eq-eqb}
-use Rattle.std.specs.Prelude.{◌==◌, take_while, slice_get}
+use Rattle.std.specs.Prelude.{take_while, slice_get}
 use Rattle.std.proofs.lemmas.Option.{slice_get_cases, slice_get_within}
 use Rattle.esm_model.specs.declared.limits.TheConstants.{MAX_EXPIRED}
-use Rattle.esm_model.specs.declared.item.Record.{Record}
 use Rattle.esm_model.specs.declared.lane.LaneId.{LaneId}
-use Rattle.esm_model.specs.declared.setup.FoundFate.{FoundFate}
-use Rattle.esm_model.specs.declared.setup.FoundTries.{FoundTries}
 use Rattle.esm_model.specs.declared.entry.Fate.TheVariants.{Succeeded, Filtered, Expired, Exhausted}
 use Rattle.esm_model.specs.declared.entry.WindowState.{WindowState}
 use Rattle.esm_model.specs.declared.entry.Entry.{Entry}
 use Rattle.esm_model.specs.declared.entry.Entry.TheVariants.{Came, Began, Ended, Gave, Tried, Closed, Replayed, Shut}
-use Rattle.esm_model.specs.Setting.{Setting, Stream, over, records_of, record_at, found_fate, found_try}
+use Rattle.esm_model.specs.Setting.{Setting, Stream, over, records_of, record_at}
 use Rattle.esm_model.specs.Entries.{came_count}
 use Rattle.esm_model.specs.Batches.{is_expired, group}
 use Rattle.esm_model.specs.Owed.{IsOwed}
 use Rattle.esm_model.specs.Step.{Legal, MayFollow, MayCome, MayCall, MayBegin, MayBeginFinal, MayFilter, MayExpire}
 use Rattle.esm_model.proofs.Lists.{take_while_agree}
 use Rattle.esm_model.proofs.Paid.{expired_In}
-use Rattle.esm_model.proofs.Records.{SameRecords, same_before, covered_open, expired_same, due_window_same, group_same, group_In, batch_same, delay_same, ready_same, front_same}
+use Rattle.esm_model.proofs.Records.{SameRecords, covered_open, expired_same, due_window_same, group_same, group_In, batch_same, delay_same, ready_same, front_same}
 use Rattle.esm_model.proofs.Extended.{line_same, owed_same, unsorted_same, settled_same}
 
 -- what a `Came` covers came with it

@@ -1,5 +1,5 @@
 -- A base64 text is that of the bytes that it decodes to.
-use Rattle.std.specs.Prelude.{◌≡◌, ℕ, List, [], Some, None, Ok, Err, refl, length, option_map, unwrap_or}
+use Rattle.std.specs.Prelude.{◌≡◌, ℕ, List, [], Some, Ok, Err, refl, length, option_map, unwrap_or}
 use Rattle.std.specs.declared.result.Result.{Result}
 use Rattle.std.specs.Result.{result_ok}
 use Rattle.std.proofs.Common.{sym, ap, ◌∙◌}
@@ -8,7 +8,7 @@ use Rattle.base64.specs.declared.decode.DecodeError.{DecodeError}
 use Rattle.base64.specs.Engines.{standard}
 use Rattle.base64.specs.GeneralPurpose.{IsBytes, decode_of, encode_of}
 use Rattle.base64.proofs.EngineFacts.{decode_of_strict}
-use Rattle.esm_model.specs.Encoded.{encoded_in, IsBase64Of}
+use Rattle.esm_model.specs.Records.{encoded_in, IsBase64Of}
 
 by_result : (text : List ℕ) (n : ℕ) (r : Result (List ℕ) DecodeError) → IsBytes text → decode_of standard text ≡ r → option_map length (result_ok r) ≡ Some n → IsBase64Of n text
 by_result text n (Ok b) bytes eq some =

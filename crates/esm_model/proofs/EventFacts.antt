@@ -8,7 +8,7 @@ use Rattle.esm_model.specs.Dates.{new_year, days_of_months, year_of, month_of, d
 use Rattle.esm_model.specs.EventText.{base64_text, record_text, event_text}
 use Rattle.esm_model.specs.FailureText.{failure_text}
 use Rattle.esm_model.specs.declared.config.Config.{Config}
-use Rattle.esm_model.specs.declared.item.Record.{Record}
+use Rattle.esm_model.specs.Records.{Record}
 use Rattle.esm_model.specs.declared.event.Failure.{Failure}
 use Rattle.esm_model.specs.declared.event.WindowCall.{WindowCall}
 

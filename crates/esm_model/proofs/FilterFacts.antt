@@ -4,7 +4,7 @@ use Rattle.std.specs.Str.{is_utf8, chars}
 use Rattle.serde_json.proofs.OnLiterals.{serde_json_on_literals}
 use Rattle.esm_model.specs.Pattern.{Refusal, too_long, not_json, not_object, empty, bad_test, Reads, read_pattern}
 use Rattle.esm_model.specs.Filter.{passes, passes_message}
-use Rattle.esm_model.specs.declared.item.Record.{Record}
+use Rattle.esm_model.specs.Records.{Record}
 
 abbrev one_record : List ℕ → Record
 one_record payload = record { shard = 0; seq = codes "1"; key = codes "1"; payload = payload; arrival = 0 }

@@ -1,6 +1,7 @@
 pub mod EventFacts
 pub mod EventLength
 pub mod EncodedFacts
+pub mod RecordFacts
 mod ReadingFacts
 mod FilterFacts
 pub mod Lists

@@ -3,7 +3,7 @@ use Rattle.std.proofs.Common.{◌≡◌, ℕ, true, false, sym, ap, ◌∙◌, O
 use Rattle.std.specs.Prelude.{◌%◌, option_map, unwrap_or}
 use Rattle.std.proofs.lemmas.Bool.{eq-eqb}
 use Rattle.esm_model.specs.Lane.{lane_of}
-use Rattle.esm_model.specs.declared.item.Record.{Record}
+use Rattle.esm_model.specs.Records.{Record}
 use Rattle.esm_model.specs.declared.lane.LaneId.{LaneId}
 use Rattle.esm_model.specs.Setting.{Setting, record_at, is_in_lane, is_key_of}
 

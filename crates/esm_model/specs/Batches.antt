@@ -6,7 +6,7 @@ use Rattle.std.specs.List.{list_all}
 use Rattle.esm_model.specs.declared.limits.TheConstants.{MAX_EVENT}
 use Rattle.esm_model.specs.Moment.{moment_after}
 use Rattle.esm_model.specs.Lane.{same_lane}
-use Rattle.esm_model.specs.declared.item.Record.{Record}
+use Rattle.esm_model.specs.Records.{Record}
 use Rattle.esm_model.specs.declared.lane.LaneId.{LaneId}
 use Rattle.esm_model.specs.declared.verdict.Rest.{Rest}
 use Rattle.esm_model.specs.declared.entry.Entry.{Entry}

@@ -10,7 +10,7 @@ use Rattle.esm_model.specs.Numbers.{decimal, padded_decimal}
 use Rattle.esm_model.specs.JsonText.{quoted, truth_text}
 use Rattle.esm_model.specs.Dates.{second_text}
 use Rattle.esm_model.specs.declared.config.Config.{Config}
-use Rattle.esm_model.specs.declared.item.Record.{Record}
+use Rattle.esm_model.specs.Records.{Record}
 use Rattle.esm_model.specs.declared.event.WindowCall.{WindowCall}
 
 -- standard padded base64 (RFC 4648, section 4)

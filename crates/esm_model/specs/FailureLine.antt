@@ -1,6 +1,6 @@
 -- What a failure line tells. Source: the Lambda Developer Guide, event source mappings for Kinesis, failure destinations.
 use Rattle.std.specs.Prelude.{ℕ, suc, ◌-◌, ◌==◌, Bool, ◌&&◌, List, [], ◌∷◌, length, Option, Some, None, option_map, unwrap_or, slice_index, if◌then◌else◌}
-use Rattle.esm_model.specs.declared.item.Record.{Record}
+use Rattle.esm_model.specs.Records.{Record}
 use Rattle.esm_model.specs.declared.entry.Reply.{Reply}
 use Rattle.esm_model.specs.declared.entry.Reply.TheVariants.{Answered, Garbled, Lost}
 use Rattle.esm_model.specs.declared.entry.Entry.{Entry}

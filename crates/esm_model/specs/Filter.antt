@@ -7,9 +7,9 @@ use Rattle.serde_json.specs.Data.{Data, null, boolean, number, string, array, ob
 use Rattle.serde_json.specs.Find.{get_member}
 use Rattle.serde_json.specs.Read.{read}
 use Rattle.esm_model.specs.Json.{read_json}
-use Rattle.esm_model.specs.Pattern.{Test, Rule, tests, nested, one_of, Fields, no_fields, field, Choices, no_choices, choice, Reads, read_pattern}
+use Rattle.esm_model.specs.Pattern.{Rule, tests, nested, one_of, Fields, no_fields, field, Choices, no_choices, choice, Reads, read_pattern}
 use Rattle.esm_model.specs.Leaves.{is_leaf, leaves, some_passes, tests_pass}
-use Rattle.esm_model.specs.declared.item.Record.{Record}
+use Rattle.esm_model.specs.Records.{Record}
 use Rattle.esm_model.specs.declared.item.Message.{Message}
 
 -- ---- the object that is judged

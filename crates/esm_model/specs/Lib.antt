@@ -6,7 +6,7 @@ pub mod ValidMessage
 pub mod Numbers
 pub mod JsonText
 pub mod Dates
-pub mod Encoded
+pub mod Records
 pub mod EventText
 pub mod QueueEvent
 pub mod FailureText

@@ -1,7 +1,7 @@
 -- The event of a function's call for a queue's batch. Source: the Lambda Developer Guide, "Using Lambda with Amazon SQS"
 -- (the example event). The text of `receiptHandle` is this product's own. Ids, ARNs and regions have no character that
 -- needs an escape, and stand as they are.
-use Rattle.std.specs.Prelude.{ℕ, ◌≡◌, ◌≤◌, List, [], ◌++◌, codes, Bool, true, false, Option, Some, None}
+use Rattle.std.specs.Prelude.{ℕ, ◌≡◌, ◌≤◌, List, [], ◌++◌, codes, false, Option, Some, None}
 use Rattle.std.specs.List.{join_by, flat_map}
 use Rattle.md5.specs.Md5.{md5}
 use Rattle.esm_model.specs.declared.moment.TheConstants.{MAX_MOMENT}

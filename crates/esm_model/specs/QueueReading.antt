@@ -1,6 +1,6 @@
 -- How a queue's answer is read. Source: the Lambda Developer Guide, "Implementing partial batch responses" for Amazon SQS
 -- (`batchItemFailures`, `itemIdentifier`). That every status other than 200 counts as not run is this product's own.
-use Rattle.std.specs.Prelude.{ℕ, ◌==◌, List, [], ◌∷◌, length, filter, codes, true, false, not, if◌then◌else◌, Option, Some, None}
+use Rattle.std.specs.Prelude.{ℕ, ◌==◌, List, [], ◌∷◌, length, filter, codes, not, if◌then◌else◌, Option, Some, None}
 use Rattle.serde_json.specs.Data.{Data, null, array, object}
 use Rattle.serde_json.specs.Find.{get_member}
 use Rattle.esm_model.specs.Json.{read_json}

@@ -1,6 +1,6 @@
 -- Which settings there are. This product's own.
 use Rattle.std.specs.Prelude.{◌≡◌, ℕ, Some}
-use Rattle.esm_model.specs.declared.item.Record.{Record}
+use Rattle.esm_model.specs.Records.{Record}
 use Rattle.esm_model.specs.Setting.{Setting, record_at}
 
 -- each record stands in the list of its own shard

@@ -11,7 +11,7 @@ use Rattle.esm_model.specs.declared.config.Kind.TheVariants.{Stream, Standard, F
 use Rattle.esm_model.specs.declared.config.Start.{Start}
 use Rattle.esm_model.specs.declared.config.Start.TheVariants.{TrimHorizon, At}
 use Rattle.esm_model.specs.declared.config.Config.{Config}
-use Rattle.esm_model.specs.declared.item.Record.{Record}
+use Rattle.esm_model.specs.Records.{Record}
 
 -- characters
 

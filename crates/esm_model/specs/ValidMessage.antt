@@ -1,8 +1,7 @@
 -- Which messages of a queue are valid. Sources: the SQS API Reference, `SendMessage` (`MessageBody`: 1 byte to 1 MiB of
 -- the characters that XML allows; `MessageGroupId`: 1 to 128 letters, digits and punctuation) and the Lambda quotas; the
 -- form of an id is this product's own.
-use Rattle.std.specs.Prelude.{◌≡◌, ℕ, ◌==◌, nat_le, nat_lt, not, ◌≤◌, Bool, true, false, ◌&&◌, ◌||◌, List, [], ◌∷◌, length, Option, Some, None}
-use Rattle.std.specs.List.{list_all}
+use Rattle.std.specs.Prelude.{◌≡◌, ℕ, ◌==◌, nat_le, not, ◌≤◌, Bool, true, false, ◌&&◌, ◌||◌, List, [], ◌∷◌, length, Option, Some, None}
 use Rattle.esm_model.specs.declared.moment.TheConstants.{MAX_MOMENT}
 use Rattle.esm_model.specs.declared.limits.TheConstants.{MAX_DATA}
 use Rattle.esm_model.specs.declared.config.Kind.{Kind}

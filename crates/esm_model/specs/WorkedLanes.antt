@@ -1,6 +1,6 @@
 -- Worked examples: two lanes of a shard.
 use Rattle.std.specs.Prelude.{◌≡◌, List, [], ◌∷◌, codes, Some, None}
-use Rattle.esm_model.specs.declared.item.Record.{Record}
+use Rattle.esm_model.specs.Records.{Record}
 use Rattle.esm_model.specs.declared.lane.LaneId.{LaneId}
 use Rattle.esm_model.specs.declared.entry.Fate.TheVariants.{Succeeded, Exhausted}
 use Rattle.esm_model.specs.declared.entry.Entry.{Entry}

@@ -1,18 +1,6 @@
-// What a source holds: a record of a stream, and a message of a queue; and what a line of an input gives.
-use crate::encoded::Encoded;
-use crate::sequence::Seq;
+// What a line of an input gives: a record of a stream, or a message of a queue.
+use crate::record::Record;
 use crate::text::Text;
-
-/// A record of a stream: its shard's number, its partition key, its data and its approximate arrival
-/// in milliseconds since 1970.
-#[derive(Drop, Debug)]
-pub struct Record {
-    pub shard: u64,
-    pub seq: Seq,
-    pub key: Text,
-    pub payload: Encoded,
-    pub arrival: u64,
-}
 
 /// A message of a queue; `group` is there exactly where the queue is FIFO, `sent` is in milliseconds since 1970.
 #[derive(Drop, Debug)]

@@ -2,7 +2,6 @@
 ghost use Rattle.std.specs.Prelude.{◌≡◌, ◌≤◌, ◌<◌};
 ghost use Rattle.esm_model.specs.Lane as spec;
 
-use crate::text::Text;
 use md5::{Digest, Md5};
 
 /// A lane of a shard: one of `ParallelizationFactor` many, each of which runs one batch at a time.
@@ -13,7 +12,7 @@ pub struct LaneId {
 }
 
 /// The number of the lane that the partition key belongs to, below the factor; with one lane no MD5 is computed.
-pub fn lane_of(key: &Text, factor: u32) -> u32
+pub fn lane_of(key: &[u8], factor: u32) -> u32
     requires some { 1 ≤ factor }
     requires most { factor ≤ 10 }
     ensures value { result ≡ spec.lane_of key.now factor }
@@ -22,6 +21,6 @@ pub fn lane_of(key: &Text, factor: u32) -> u32
     if factor == 1 {
         return 0;
     }
-    let digest = Md5::digest(key.as_slice());
+    let digest = Md5::digest(key);
     (u128::from_be_bytes(digest) % factor as u128) as u32
 }

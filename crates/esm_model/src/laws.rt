@@ -71,12 +71,14 @@ pub fn calls_kept()
 
 /// In a legal history they stay when the lists of records go on.
 pub fn calls_kept_over_more_records()
-    ensures { (s : Setting) (sends : List ℕ → List ℕ) (h : List Entry) (batcher : ℕ) (after : List Stream) → Extends s.streams after → Legal s h → CallsKeptOver s sends h batcher after }
+    ensures { (s : Setting) (sends : List ℕ → List ℕ) (h : List Entry) (batcher : ℕ) (after : List Stream) → Extends s.streams after →
+        Legal s h → CallsKeptOver s sends h batcher after }
 {}
 
 /// And so do those that end in what follows a history.
 pub fn calls_since_kept_over_more_records()
-    ensures { (s : Setting) (sends : List ℕ → List ℕ) (later before : List Entry) (batcher : ℕ) (after : List Stream) → Extends s.streams after → Legal s (later ++ before) → CallsSinceKeptOver s sends later before batcher after }
+    ensures { (s : Setting) (sends : List ℕ → List ℕ) (later before : List Entry) (batcher : ℕ) (after : List Stream) → Extends s.streams after →
+        Legal s (later ++ before) → CallsSinceKeptOver s sends later before batcher after }
 {}
 
 /// Three records with two retry attempts need at most fifteen calls, and one more for a reply that was not run.

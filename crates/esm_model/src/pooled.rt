@@ -89,7 +89,8 @@ pub trait Pooled: Kept {
         ensures some { SomeCome (items (Self.history self.old)) (items (Self.history self.new)) list.items }
         // When an error comes, and what it tells.
         ensures down { IfErr result (λ e. (e ≡ refusal.OutOfMemory) ⊎ (Self.mark self.new ≡ true)) }
-        ensures changed { (change : Change) → IsErrOf result (refusal.StreamChanged change) → differs (Self.setup self.old) (Self.history self.old) list.items change }
+        ensures changed { (change : Change) → IsErrOf result (refusal.StreamChanged change) →
+            differs (Self.setup self.old) (Self.history self.old) list.items change }
         ensures tells { Self.change self.new ≡ change_told (Self.change self.old) result };
 
     /// The input ended, at the moment, in milliseconds; that is noted where the book is not down. Takes no memory.
@@ -113,7 +114,8 @@ pub trait Pooled: Kept {
         ensures goes_on { GoesOn (meaning Self.Kept) (batcher + 1) self.old self.new }
         ensures moments { AllAt moment (Self.history self.old) (added (Self.history self.old) (Self.history self.new)) }
         ensures timed { (gave : ℕ → Bool) → gave moment ≡ true → timed gave self.old → timed gave self.new }
-        ensures no_end { (sends : List ℕ → List ℕ) → calls (Self.setup self.old) sends (Self.history self.new) batcher ≡ calls (Self.setup self.old) sends (Self.history self.old) batcher }
+        ensures no_end { (sends : List ℕ → List ℕ) → calls (Self.setup self.old) sends (Self.history self.new) batcher
+            ≡ calls (Self.setup self.old) sends (Self.history self.old) batcher }
         // What is answered.
         ensures answer { IfOk result (Answers Self.rests Self.runs (Self.setup self.old) (Self.history self.new) batcher) }
         ensures finished { IfOk result (λ answer. answer ≡ next.Finished → finished (Self.setup self.old) (Self.history self.new) batcher) }
@@ -139,7 +141,8 @@ pub trait Pooled: Kept {
         ensures moments { AllAt moment (Self.history self.old) (added (Self.history self.old) (Self.history self.new)) }
         ensures timed { (gave : ℕ → Bool) → gave moment ≡ true → timed gave self.old → timed gave self.new }
         ensures called { (IsErrOf result why.OutOfMemory → ⊥) → (sends : List ℕ → List ℕ) →
-            calls (Self.setup self.old) sends (Self.history self.new) batcher ≡ calls (Self.setup self.old) sends (Self.history self.old) batcher ++ call_of (Self.setup self.old) sends job.event reply ∷ [] }
+            calls (Self.setup self.old) sends (Self.history self.new) batcher ≡ calls (Self.setup self.old) sends (Self.history self.old) batcher
+            ++ call_of (Self.setup self.old) sends job.event reply ∷ [] }
         ensures rests { (IsErrOf result why.OutOfMemory → ⊥) → rests (Self.setup self.old) (Self.history self.new) batcher }
         // When an error comes, and what it leaves.
         ensures unchanged { IsErrOf result why.OutOfMemory → Self.history self.new ≡ Self.history self.old }
@@ -174,11 +177,14 @@ pub trait Pooled: Kept {
         ensures calls { (s : Setup) (sends : List ℕ → List ℕ) (h es : List Told) (k : ℕ) → OthersFollow Self.author Self.may_follow s (k + 1) h es →
             calls s sends (h ++ es) k ≡ calls s sends h k }
         ensures rests { (s : Setup) (h es : List Told) (k : ℕ) → OthersFollow Self.author Self.may_follow s (k + 1) h es → rests s h k → rests s (h ++ es) k }
-        ensures runs { (s : Setup) (h es : List Told) (k : ℕ) (job : Job) → OthersFollow Self.author Self.may_follow s (k + 1) h es → runs s h k job → runs s (h ++ es) k job }
-        ensures finished { (s : Setup) (h es : List Told) (k : ℕ) → OthersFollow Self.author Self.may_follow s (k + 1) h es → finished s h k → finished s (h ++ es) k }
+        ensures runs { (s : Setup) (h es : List Told) (k : ℕ) (job : Job) → OthersFollow Self.author Self.may_follow s (k + 1) h es →
+            runs s h k job → runs s (h ++ es) k job }
+        ensures finished { (s : Setup) (h es : List Told) (k : ℕ) → OthersFollow Self.author Self.may_follow s (k + 1) h es → finished s h k →
+            finished s (h ++ es) k }
         ensures spent { (s : Setup) (h es : List Told) (n : ℕ) → OthersFollow Self.author Self.may_follow s n h es → spent s h → spent s (h ++ es) }
         ensures items { (s : Setup) (h es : List Told) → OthersFollow Self.author Self.may_follow s 0 h es → StayAsTheyAre (items h) (items (h ++ es)) }
-        ensures shut { (s : Setup) (h es : List Told) → OthersFollow Self.author Self.may_follow s 0 h es → is_shut (entries_told (h ++ es)) ≡ is_shut (entries_told h) };
+        ensures shut { (s : Setup) (h es : List Told) → OthersFollow Self.author Self.may_follow s 0 h es →
+            is_shut (entries_told (h ++ es)) ≡ is_shut (entries_told h) };
 
     /// Where a batcher has finished, nothing is left for it. Does nothing.
     fn excludes()

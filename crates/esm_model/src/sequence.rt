@@ -63,6 +63,20 @@ impl Seq {
         })
     }
 
+    /// The sequence number with these digits: a copy of them.
+    #[tactic(auto, using(crate::proofs::RecordFacts::sequence_utf8))]
+    pub fn of_digits(alloc: Global, digits: &[u8]) -> Result<Seq, OutOfMemory>
+        requires { is_sequence digits.now ≡ true }
+        ensures { IfOk result (λ s. s ≡ digits.now) }
+    {
+        match String::from_utf8(Vec::from_slice(alloc, digits)?) {
+            Ok(digits) => Ok(Seq {
+                digits: Text::from_vec(digits),
+            }),
+            Err(_) => unreachable!(),
+        }
+    }
+
     /// A copy of the number.
     pub fn copy(&self, alloc: Global) -> Result<Seq, OutOfMemory>
         ensures { IfOk result (λ copy. copy ≡ self.now) }
@@ -79,12 +93,24 @@ impl Seq {
         self.digits.as_str()
     }
 
+    pub fn digits(&self) -> &[u8]
+        ensures value { result.now ≡ self.now }
+        ensures spelled { is_sequence self.now ≡ true }
+    {
+        self.digits.as_slice()
+    }
+
     /// The order of the numbers: by the number of digits, then digit by digit.
     pub fn order(&self, other: &Seq) -> Ordering
         ensures { result ≡ sequence_order self.now other.now }
     {
-        let mine = self.digits.as_slice();
-        let theirs = other.digits.as_slice();
-        mine.len().cmp(&theirs.len()).then(mine.cmp(theirs))
+        number_order(self.digits(), other.digits())
     }
+}
+
+/// The order of two sequence numbers by their digits: by how many there are, then digit by digit.
+pub fn number_order(a: &[u8], b: &[u8]) -> Ordering
+    ensures { result ≡ sequence_order a.now b.now }
+{
+    a.len().cmp(&b.len()).then(a.cmp(b))
 }

@@ -2,7 +2,8 @@
 use crate::config::Config;
 use crate::device::DeviceFound;
 use crate::entry::{Entry, Fate};
-use crate::item::{Message, Record};
+use crate::item::Message;
+use crate::record::Record;
 use crate::text::{Bytes, Text};
 use std::collections::LinkedList;
 

@@ -1,12 +1,11 @@
 -- The front of a lane, and what is left to say once its calls and its delay leave it free.
-use Rattle.std.proofs.Common.{◌≡◌, ℕ, ◌≤◌, Bool, List, [], ◌∷◌, length, take_while, refl, sym, ap, ◌∙◌, Option, Some, None, arith}
+use Rattle.std.proofs.Common.{◌≡◌, ℕ, ◌≤◌, Bool, List, [], ◌∷◌, length, take_while, refl, sym, ap, ◌∙◌, Some, None, arith}
 use Rattle.esm_model.specs.declared.lane.LaneId.{LaneId}
 use Rattle.esm_model.specs.declared.book.Next.{Next}
 use Rattle.esm_model.specs.declared.book.Next.TheVariants as next
 use Rattle.esm_model.specs.declared.entry.Entry.{Entry}
 use Rattle.esm_model.specs.Setting.{Setting}
 use Rattle.esm_model.specs.Fates.{open_places}
-use Rattle.esm_model.specs.Tries.{is_fresh}
 use Rattle.esm_model.specs.Batches.{same_piece, group_of, group}
 use Rattle.esm_shard_index.specs.LaneSteps.{IsGroupOf}
 use Rattle.esm_ledger.specs.Reading.{IsLeastDueWindow}

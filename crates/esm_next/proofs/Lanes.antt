@@ -1,8 +1,8 @@
 -- What is decided for a lane is what the rules say of it.
-use Rattle.std.proofs.Common.{◌≡◌, ℕ, ◌<◌, ◌≤◌, Bool, true, false, not, cond, ◌&&◌, List, [], ◌∷◌, length, take, take_while, refl, sym, ap, ◌∙◌, Some, None, arith}
+use Rattle.std.proofs.Common.{◌≡◌, ℕ, ◌<◌, ◌≤◌, Bool, true, false, not, cond, ◌&&◌, List, [], ◌∷◌, length, take, take_while, refl, sym, ap, ◌∙◌, subst, Some, None, arith}
 use Rattle.std.specs.Prelude.{All, nat_le, nat_lt, slice_index}
 use Rattle.std.proofs.lemmas.Bool.{le-leb, lt-leb, lt-ltb, le-ltb}
-use Rattle.std.proofs.lemmas.List.Elements.{All-cons, All-nil}
+use Rattle.std.proofs.lemmas.List.Elements.{All-cons, All-nil, All-take}
 use Rattle.esm_model.specs.declared.limits.TheConstants.{MAX_EXPIRED}
 use Rattle.esm_model.specs.Moment.{moment_after}
 use Rattle.esm_model.specs.declared.lane.LaneId.{LaneId}
@@ -11,17 +11,19 @@ use Rattle.esm_model.specs.declared.book.Next.TheVariants as next
 use Rattle.esm_model.specs.declared.entry.Entry.{Entry}
 use Rattle.esm_model.specs.Setting.{Setting}
 use Rattle.esm_model.specs.Entries.{came_count, is_shut, calls_begun}
-use Rattle.esm_model.specs.Fates.{open_places}
+use Rattle.esm_model.specs.Fates.{lacks_fate, open_places}
 use Rattle.esm_model.specs.Batches.{group_of, is_expired, delay_end}
 use Rattle.esm_model.specs.Windows.{is_outstanding}
 use Rattle.esm_model.specs.Step.{is_front_expired}
 use Rattle.esm_model.proofs.Lists.{In, In-here, In-there, In-take}
+use Rattle.esm_model.proofs.Sound.{open_In}
+use Rattle.esm_model.proofs.Records.{group_In}
 use Rattle.esm_ledger.specs.Reading.{IsLeastDueWindow}
 use Rattle.esm_next.specs.declared.decision.Decision.{Decision}
 use Rattle.esm_next.specs.declared.decision.Decision.TheVariants as decision
 use Rattle.esm_next.specs.Following.{outstanding, due_windows, least, is_nothing, pause, next_call, next_allowed, next_quiet, next_of}
 use Rattle.esm_next.specs.Deciding.{answer_of, Gives, IsDecided}
-use Rattle.esm_next.specs.Gathering.{IsFrontOf}
+use Rattle.esm_next.specs.Gathering.{AreOpen, IsFrontOf}
 use Rattle.esm_next.proofs.Told.{none_due, some_due, none_outstanding, some_outstanding}
 use Rattle.esm_next.proofs.Fronts.{ExpiresSo, expires_so, covered_group}
 
@@ -38,12 +40,21 @@ module _ (s : Setting) (h : List Entry) (lane : LaneId) (m : ℕ) where
   pub front_expires : (places : List ℕ) (fresh : Bool) (count : ℕ) → IsFrontOf s h lane places fresh → count ≤ length places → take count places ≡ take MAX_EXPIRED (take_while (is_expired s lane.shard m) places) → ExpiresSo s h lane m places count
   front_expires places fresh count front within taken = expires_so s h lane m places count front.group_is (open_some places fresh front) within taken
 
-  all_low : (n : ℕ) (xs : List ℕ) → ((i : ℕ) → In xs i → i < n) → All (λ p. p < n) xs
-  all_low n [] each = All-nil (λ p. p < n)
-  all_low n (x ∷ xs) each = All-cons (λ p. p < n) x xs (each x (In-here x xs x refl)) (all_low n xs (λ i member. each i (In-there x xs i member)))
+  all_of : (P : ℕ → Type 0) (xs : List ℕ) → ((i : ℕ) → In xs i → P i) → All P xs
+  all_of P [] each = All-nil P
+  all_of P (x ∷ xs) each = All-cons P x xs (each x (In-here x xs x refl)) (all_of P xs (λ i member. each i (In-there x xs i member)))
 
   pub front_came : (places : List ℕ) (fresh : Bool) (k : ℕ) → IsFrontOf s h lane places fresh → All (λ p. p < came_count h lane.shard) (take k places)
-  front_came places fresh k front = all_low (came_count h lane.shard) (take k places) (λ i member. covered_group s h lane places front.group_is i (In-take k places i member))
+  front_came places fresh k front = all_of (λ p. p < came_count h lane.shard) (take k places) (λ i member. covered_group s h lane places front.group_is i (In-take k places i member))
+
+  -- no record of the lane's group has a fate
+  pub front_open : (places : List ℕ) (fresh : Bool) → IsFrontOf s h lane places fresh → AreOpen s h lane.shard places
+  front_open places fresh front =
+      all_of (λ i. lacks_fate s h lane.shard i ≡ true) places
+      (λ i member. (open_In s h lane i (group_In s h lane i (subst (λ (xs : List ℕ). In xs i) (sym front.group_is) member))).2)
+
+  pub first_open : (places : List ℕ) (fresh : Bool) (k : ℕ) → IsFrontOf s h lane places fresh → AreOpen s h lane.shard (take k places)
+  first_open places fresh k front = All-take (λ i. lacks_fate s h lane.shard i ≡ true) k places (front_open places fresh front)
 
   pub first_came : (places : List ℕ) (fresh : Bool) → IsFrontOf s h lane places fresh → slice_index places 0 < came_count h lane.shard
   first_came places fresh front = at places front.some (λ i member. covered_group s h lane places front.group_is i member)

@@ -1,9 +1,9 @@
 -- The records of a failure line are those that came.
-use Rattle.std.proofs.Common.{◌≡◌, ℕ, ◌-◌, ◌<◌, ◌≤◌, Bool, true, List, [], length, sym, refl, ap, ◌∙◌, inl, inr, Option, Some, None, arith}
-use Rattle.std.specs.Prelude.{All, option_map, unwrap_or, slice_index}
+use Rattle.std.proofs.Common.{◌≡◌, ℕ, ◌<◌, ◌≤◌, true, List, [], length, sym, refl, ap, ◌∙◌, inl, inr, Option, Some, None, arith}
+use Rattle.std.specs.Prelude.{option_map, unwrap_or, slice_index}
 use Rattle.std.proofs.lemmas.Option.{slice_get_cases}
 use Rattle.esm_model.specs.declared.moment.TheConstants.{MAX_MOMENT}
-use Rattle.esm_model.specs.declared.item.Record.{Record}
+use Rattle.esm_model.specs.Records.{Record}
 use Rattle.esm_model.specs.declared.entry.Entry.{Entry}
 use Rattle.esm_model.specs.declared.event.Failure.{Failure}
 use Rattle.esm_model.specs.declared.event.Response.{Response}

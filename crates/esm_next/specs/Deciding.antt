@@ -2,7 +2,7 @@
 use Rattle.std.specs.Prelude.{◌≡◌, ℕ, ◌<◌, ◌≤◌, ⊤, true, List, [], ◌∷◌, length, Option, Some, None}
 use Rattle.esm_model.specs.declared.limits.TheConstants.{MAX_SHARD, MAX_DATA}
 use Rattle.esm_model.specs.declared.moment.TheConstants.{MAX_MOMENT}
-use Rattle.esm_model.specs.declared.item.Record.{Record}
+use Rattle.esm_model.specs.Records.{Record}
 use Rattle.esm_model.specs.declared.lane.LaneId.{LaneId}
 use Rattle.esm_model.specs.declared.book.Next.{Next}
 use Rattle.esm_model.specs.declared.book.Next.TheVariants as next

@@ -1,17 +1,18 @@
 // The batch of a lane: how many of its group's first records the next call takes, and until when it waits for more.
-ghost use Rattle.std.specs.Prelude.{◌≡◌, ◌≤◌, ◌<◌, false, IfOk, length, map, slice_index, ◌∷◌, [], None};
+ghost use Rattle.std.specs.Prelude.{◌≡◌, ◌≤◌, ◌<◌, true, false, IfOk, length, map, slice_index, None};
 ghost use Rattle.std.specs.List.{All};
 ghost use Rattle.std.specs.Option.{option_copied, ForSome};
 ghost use Rattle.esm_model.specs.declared.limits.TheConstants.{MAX_EVENT};
 ghost use Rattle.esm_model.specs.ValidCall.{IsValidWindowCall};
 ghost use Rattle.esm_model.specs.Entries.{came_count};
+ghost use Rattle.esm_model.specs.Fates.{lacks_fate};
 ghost use Rattle.esm_model.specs.Batches.{is_expired};
 ghost use Rattle.esm_next.specs.Cuts.{IsLongestPrefix, why_of};
 ghost use Rattle.esm_ledger.specs.Ledger.{past_of, setting_of, Keeps};
 ghost use Rattle.esm_next.specs.Following.{next_batch};
 ghost use Rattle.esm_next.specs.Deciding.{IsWithinBounds, answer_of, Gives};
 ghost use Rattle.esm_next.specs.Gathering as spec;
-ghost use Rattle.esm_next.specs.Gathering.{piece_of, limits_of, frame_of, element_bytes, IsFrontOf, wait_of};
+ghost use Rattle.esm_next.specs.Gathering.{piece_of, limits_of, frame_of, element_bytes, AreOpen, IsFrontOf, wait_of};
 
 use crate::decision::Decision;
 use crate::event::{job, window_call_of};
@@ -85,6 +86,7 @@ fn cut_front(
     requires kept { Keeps ledger.now }
     requires bounds { IsWithinBounds ledger.now }
     requires came { All (λ p. p < came_count (past_of ledger.now) shard) front.now }
+    requires open { AreOpen (setting_of ledger.now) (past_of ledger.now) shard front.now }
     requires some { 1 ≤ length front.now }
     requires valid { ForSome (option_copied window) IsValidWindowCall }
     requires young { is_expired (setting_of ledger.now) shard now (slice_index front.now 0) ≡ false }
@@ -106,6 +108,7 @@ fn cut_front(
 fn first_bytes(ledger: &Ledger, shard: u64, place: u32) -> u32
     requires kept { Keeps ledger.now }
     requires bounds { IsWithinBounds ledger.now }
+    requires open { lacks_fate (setting_of ledger.now) (past_of ledger.now) shard place ≡ true }
     ensures value { result ≡ element_bytes (setting_of ledger.now) shard place }
     ensures bound { result ≤ 2000000 }
 {
@@ -140,6 +143,7 @@ fn pieces(
 ) -> Result<Vec<SizedItem>, OutOfMemory>
     requires kept { Keeps ledger.now }
     requires came { All (λ p. p < came_count (past_of ledger.now) shard) places.now }
+    requires open { AreOpen (setting_of ledger.now) (past_of ledger.now) shard places.now }
     ensures { IfOk result (λ v. v.items ≡ map (piece_of (setting_of ledger.now) (past_of ledger.now) shard) places.now) }
 {
     let mut pieces = Vec::with_capacity(alloc, places.len())?;
@@ -152,6 +156,7 @@ fn pieces(
 fn piece(ledger: &Ledger, shard: u64, place: u32) -> SizedItem
     requires kept { Keeps ledger.now }
     requires came { place < came_count (past_of ledger.now) shard }
+    requires open { lacks_fate (setting_of ledger.now) (past_of ledger.now) shard place ≡ true }
     ensures { result ≡ piece_of (setting_of ledger.now) (past_of ledger.now) shard place }
 {
     SizedItem {

@@ -1,18 +1,19 @@
 // The call of a lane, with the text of its event.
-ghost use Rattle.std.specs.Prelude.{◌≡◌, ◌≤◌, ◌++◌, ◌∷◌, [], List, Some, None, IfOk, OnOk, IfSome, unwrap_or, codes};
+ghost use Rattle.std.specs.Prelude.{◌≡◌, ◌≤◌, ◌++◌, ◌∷◌, [], List, Some, None, true, IfOk, OnOk, unwrap_or, codes};
 ghost use Rattle.std.specs.Option.{option_copied, ForSome};
 ghost use Rattle.esm_model.specs.declared.moment.TheConstants.{MAX_MOMENT};
-ghost use Rattle.esm_model.specs.declared.item.Record.{Record};
+ghost use Rattle.esm_model.specs.Records.{Record};
 ghost use Rattle.esm_model.specs.ValidCall.{IsValidWindowCall};
 ghost use Rattle.esm_model.specs.Setting.{records_at};
 ghost use Rattle.esm_model.specs.Entries.{came_count};
+ghost use Rattle.esm_model.specs.Fates.{lacks_fate};
 ghost use Rattle.esm_model.specs.EventText.{event_text};
 ghost use Rattle.esm_model.specs.Calls.{window_call};
 ghost use Rattle.esm_event.specs.Building.{IsEventOf};
 ghost use Rattle.esm_ledger.specs.Ledger.{past_of, setting_of, Keeps};
 ghost use Rattle.esm_next.specs.Following.{job_of};
 ghost use Rattle.esm_next.specs.Deciding.{IsWithinBounds};
-ghost use Rattle.esm_next.specs.Gathering.{call_in};
+ghost use Rattle.esm_next.specs.Gathering.{AreOpen, call_in};
 
 use esm_event::{StreamEvent, frame_bytes};
 use esm_ledger::Ledger;
@@ -30,6 +31,7 @@ pub(crate) fn job(
 ) -> Result<Job, OutOfMemory>
     requires kept { Keeps ledger.now }
     requires bounds { IsWithinBounds ledger.now }
+    requires open { AreOpen (setting_of ledger.now) (past_of ledger.now) lane.shard places.now }
     requires valid { ForSome (option_copied window) IsValidWindowCall }
     requires window { option_copied window ≡ window_call (setting_of ledger.now) (past_of ledger.now) lane.shard places.now closing }
     ensures { IfOk result (λ job. job ≡ job_of (setting_of ledger.now) (past_of ledger.now) lane places.now closing) }
@@ -52,6 +54,7 @@ fn event(
     window: Option<&WindowCall>,
 ) -> Result<Bytes, OutOfMemory>
     requires kept { Keeps ledger.now }
+    requires open { AreOpen (setting_of ledger.now) (past_of ledger.now) shard places.now }
     requires valid { ForSome (option_copied window) IsValidWindowCall }
     ensures { IfOk result (λ text. text ≡ event_text ledger.now.config (records_at (setting_of ledger.now) shard places.now) (option_copied window.entry)) }
 {
@@ -82,6 +85,7 @@ fn push_places(
     places: &[u32],
 ) -> Result<(), OutOfMemory>
     requires kept { Keeps ledger.now }
+    requires open { AreOpen (setting_of ledger.now) (past_of ledger.now) shard places.now }
     requires begun { IsEventOf ledger.now.config [] event.old }
     ensures { OnOk result (IsEventOf ledger.now.config (records_at (setting_of ledger.now) shard places.now) event.new) }
 {
@@ -97,7 +101,8 @@ fn push_place(
     shard: u64,
     place: u32,
 ) -> Result<(), OutOfMemory>
-    requires { Keeps ledger.now }
+    requires kept { Keeps ledger.now }
+    requires open { lacks_fate (setting_of ledger.now) (past_of ledger.now) shard place ≡ true }
     ensures { OnOk result ((rs : List Record) → IsEventOf ledger.now.config rs event.old
         → IsEventOf ledger.now.config (rs ++ records_at (setting_of ledger.now) shard (place ∷ [])) event.new) }
 {

@@ -6,12 +6,14 @@ ghost use Rattle.esm_model.specs.declared.moment.TheConstants.{MAX_MOMENT};
 ghost use Rattle.esm_model.specs.declared.book.Next.TheVariants as next;
 ghost use Rattle.esm_model.specs.ValidCall.{IsValidFailure};
 ghost use Rattle.esm_model.specs.Entries.{came_count};
+ghost use Rattle.esm_model.specs.Fates.{lacks_fate};
 ghost use Rattle.esm_model.specs.Batches as spec;
 ghost use Rattle.esm_model.specs.FailureLine.{failure_line, failure_of, sequence_at, arrival_at};
 ghost use Rattle.esm_model.specs.FailureText as text;
 ghost use Rattle.esm_ledger.specs.Ledger.{past_of, setting_of, Keeps};
 ghost use Rattle.esm_next.specs.Following.{expiring};
 ghost use Rattle.esm_next.specs.Deciding.{IsWithinBounds, answer_of, Gives};
+ghost use Rattle.esm_next.specs.Gathering.{AreOpen};
 
 use crate::decision::Decision;
 use crate::event::copied;
@@ -22,7 +24,8 @@ use std::alloc::Global;
 
 /// How many of the first places expire at the moment, at most 10,000. It looks at these places and at one more.
 pub(crate) fn expired_count(ledger: &Ledger, shard: u64, places: &[u32], now: u64) -> usize
-    requires { Keeps ledger.now }
+    requires kept { Keeps ledger.now }
+    requires open { AreOpen (setting_of ledger.now) (past_of ledger.now) shard places.now }
     ensures within { result ≤ length places.now }
     ensures few { result ≤ MAX_EXPIRED }
     ensures prefix { take result places.now ≡ take MAX_EXPIRED (take_while (spec.is_expired (setting_of ledger.now) shard now) places.now) }
@@ -41,7 +44,8 @@ pub(crate) fn expired_count(ledger: &Ledger, shard: u64, places: &[u32], now: u6
 }
 
 fn is_expired(ledger: &Ledger, shard: u64, place: u32, now: u64) -> bool
-    requires { Keeps ledger.now }
+    requires kept { Keeps ledger.now }
+    requires open { lacks_fate (setting_of ledger.now) (past_of ledger.now) shard place ≡ true }
     ensures { result ≡ spec.is_expired (setting_of ledger.now) shard now place }
 {
     match ledger.record(shard, place) {
@@ -55,7 +59,7 @@ fn is_older(age_ms: Option<u64>, item: &Record, now: u64) -> bool
 {
     match age_ms {
         None => false,
-        Some(age) => now.saturating_sub(item.arrival) > age,
+        Some(age) => now.saturating_sub(item.arrival()) > age,
     }
 }
 
@@ -70,6 +74,7 @@ pub(crate) fn expire(
     requires kept { Keeps ledger.now }
     requires bounds { IsWithinBounds ledger.now }
     requires came { All (λ p. p < came_count (past_of ledger.now) lane.shard) places.now }
+    requires open { AreOpen (setting_of ledger.now) (past_of ledger.now) lane.shard places.now }
     requires some { 1 ≤ length places.now }
     requires few { length places.now ≤ MAX_EXPIRED }
     requires expired { places.now ≡ expiring (setting_of ledger.now) (past_of ledger.now) lane now }
@@ -96,6 +101,7 @@ fn line(
     requires kept { Keeps ledger.now }
     requires bounds { IsWithinBounds ledger.now }
     requires came { All (λ p. p < came_count (past_of ledger.now) shard) places.now }
+    requires open { AreOpen (setting_of ledger.now) (past_of ledger.now) shard places.now }
     requires some { 1 ≤ length places.now }
     requires few { length places.now ≤ MAX_EXPIRED }
     requires moment { now ≤ MAX_MOMENT }
@@ -117,10 +123,12 @@ fn told_line(
     requires kept { Keeps ledger.now }
     requires bounds { IsWithinBounds ledger.now }
     requires came { All (λ p. p < came_count (past_of ledger.now) shard) places.now }
+    requires open { AreOpen (setting_of ledger.now) (past_of ledger.now) shard places.now }
     requires some { 1 ≤ length places.now }
     requires few { length places.now ≤ MAX_EXPIRED }
     requires moment { now ≤ MAX_MOMENT }
-    ensures { IfOk result (λ line. line ≡ text.failure_text ledger.now.config (failure_of (setting_of ledger.now) (past_of ledger.now) shard places.now true now)) }
+    ensures { IfOk result (λ line. line ≡ text.failure_text ledger.now.config
+        (failure_of (setting_of ledger.now) (past_of ledger.now) shard places.now true now)) }
 {
     let failure = failure(alloc, ledger, shard, places, now)?;
     failure_text(alloc, &ledger.config, &failure)
@@ -137,6 +145,7 @@ fn failure(
     requires kept { Keeps ledger.now }
     requires bounds { IsWithinBounds ledger.now }
     requires came { All (λ p. p < came_count (past_of ledger.now) shard) places.now }
+    requires open { AreOpen (setting_of ledger.now) (past_of ledger.now) shard places.now }
     requires some { 1 ≤ length places.now }
     requires few { length places.now ≤ MAX_EXPIRED }
     requires moment { now ≤ MAX_MOMENT }
@@ -173,6 +182,7 @@ fn edge_of(alloc: Global, ledger: &Ledger, shard: u64, place: u32) -> Result<Edg
     requires kept { Keeps ledger.now }
     requires bounds { IsWithinBounds ledger.now }
     requires came { place < came_count (past_of ledger.now) shard }
+    requires open { lacks_fate (setting_of ledger.now) (past_of ledger.now) shard place ≡ true }
     ensures seq { IfOk result (λ e. e.seq ≡ sequence_at (setting_of ledger.now) shard place) }
     ensures arrival { IfOk result (λ e. e.arrival ≡ arrival_at (setting_of ledger.now) shard place) }
     ensures early { IfOk result (λ e. e.arrival ≤ MAX_MOMENT) }
@@ -180,8 +190,8 @@ fn edge_of(alloc: Global, ledger: &Ledger, shard: u64, place: u32) -> Result<Edg
     match ledger.record(shard, place) {
         None => unreachable!(),
         Some(record) => Ok(Edge {
-            seq: record.seq.copy(alloc)?,
-            arrival: record.arrival,
+            seq: record.number(alloc)?,
+            arrival: record.arrival(),
         }),
     }
 }
@@ -190,10 +200,11 @@ fn edge_of(alloc: Global, ledger: &Ledger, shard: u64, place: u32) -> Result<Edg
 #[tactic(auto, using(crate::proofs::Lines::arrival_none, crate::proofs::Lines::arrival_there))]
 pub(crate) fn arrival(ledger: &Ledger, shard: u64, place: u32) -> u64
     requires kept { Keeps ledger.now }
+    requires open { lacks_fate (setting_of ledger.now) (past_of ledger.now) shard place ≡ true }
     ensures { result ≡ arrival_at (setting_of ledger.now) shard place }
 {
     match ledger.record(shard, place) {
         None => 0,
-        Some(record) => record.arrival,
+        Some(record) => record.arrival(),
     }
 }

@@ -1,5 +1,5 @@
 // The longest prefix of a lane's items that one call may take.
-ghost use Rattle.std.specs.Prelude.{◌≡◌, ◌<◌, ◌≤◌, ◌+◌, length, IsTrue, ◌↔◌};
+ghost use Rattle.std.specs.Prelude.{◌≡◌, ◌<◌, ◌≤◌, ◌+◌, IsTrue, ◌↔◌};
 ghost use Rattle.esm_model.specs.Moment.{moment_after};
 ghost use Rattle.esm_next.specs.Cuts.{CanBegin, IsLongestPrefix, first_window, first_came, is_expired, why_of};
 ghost use Rattle.esm_next.specs.Steps.{GoesOn};

@@ -1,20 +1,22 @@
 -- The running call of a lane, as it is read off a ledger.
-use Rattle.std.proofs.Common.{◌≡◌, ℕ, ◌<◌, ◌≤◌, Bool, List, [], ◌∷◌, ◌++◌, length, sym, ap, ◌∙◌, subst, Option, Some, None, arith, get_or}
+use Rattle.std.proofs.Common.{◌≡◌, ℕ, ◌<◌, ◌≤◌, Bool, true, List, [], ◌∷◌, ◌++◌, length, sym, ap, ◌∙◌, subst, Option, Some, None, arith, get_or}
 use Rattle.std.specs.Prelude.{slice_index, is_some}
+use Rattle.std.proofs.lemmas.List.Elements.{All-from_get_or}
 use Rattle.esm_model.specs.declared.limits.TheConstants.{MAX_BATCH}
 use Rattle.esm_model.specs.declared.lane.LaneId.{LaneId}
 use Rattle.esm_model.specs.declared.entry.Reply.{Reply}
 use Rattle.esm_model.specs.declared.verdict.Reading.{Reading}
 use Rattle.esm_model.specs.Setting.{sequences_at}
 use Rattle.esm_model.specs.Entries.{came_count, last_call, batch_of}
-use Rattle.esm_model.specs.Fates.{open_places}
+use Rattle.esm_model.specs.Fates.{lacks_fate, open_places}
 use Rattle.esm_model.specs.Reading.{reading}
 use Rattle.esm_model.specs.Ruling.{ruling}
 use Rattle.esm_model.specs.Tries.{tries, tries_for, verdict_after}
 use Rattle.esm_model.specs.Owed.{Settled}
 use Rattle.esm_model.proofs.Lists.{In}
+use Rattle.esm_model.proofs.Sound.{open_In}
 use Rattle.esm_model.proofs.Records.{covered_running}
-use Rattle.esm_model.proofs.Paid.{running_front}
+use Rattle.esm_model.proofs.Paid.{running_front, running_In}
 use Rattle.esm_shard_index.specs.LaneSteps.{IsGroupOf}
 use Rattle.esm_shard_index.specs.WindowsLaws.{closing_of}
 use Rattle.esm_ledger.specs.declared.ledger.Ledger.{Ledger}
@@ -22,7 +24,7 @@ use Rattle.esm_ledger.specs.Ledger.{past_of, setting_of, Keeps}
 use Rattle.esm_ledger.specs.Reading.{IsLaneSettled}
 use Rattle.esm_ledger.proofs.Readings.{legal_of}
 use Rattle.esm_outcome.specs.Ending.{SettledOver}
-use Rattle.esm_outcome.specs.Parts.{IsRunningCall}
+use Rattle.esm_outcome.specs.Parts.{IsRunningCall, AreOpen}
 use Rattle.esm_outcome.proofs.Calls.{Runs, runs, within_batch, get_In, running_first}
 use Rattle.esm_outcome.proofs.Verdicts.{verdict_told}
 
@@ -44,6 +46,15 @@ pub called_came : (c : Ledger) (lane : LaneId) (places : List ℕ) (closing : Op
 called_came c lane places closing j k is within =
     covered_running (setting_of c) (past_of c) lane (legal_of c k.rests) is.runs (get_or places j 0)
     (subst (λ (xs : List ℕ). In xs (get_or places j 0)) is.places_are (get_In places j within))
+
+-- none of its records has a fate
+pub called_open : (c : Ledger) (lane : LaneId) (places : List ℕ) (closing : Option ℕ) → Keeps c → IsRunningCall c lane places closing → AreOpen (setting_of c) (past_of c) lane.shard places
+called_open c lane places closing k is =
+    let s = setting_of c in
+    let h = past_of c in
+    All-from_get_or (λ i. lacks_fate s h lane.shard i ≡ true) places 0 (λ j within.
+    (open_In s h lane (get_or places j 0)
+    (running_In s h lane (legal_of c k.rests) is.runs (get_or places j 0) (subst (λ (xs : List ℕ). In xs (get_or places j 0)) is.places_are (get_In places j within)))).2)
 
 -- a batch has records
 pub batch_some : (c : Ledger) (lane : LaneId) (places : List ℕ) → Keeps c → IsRunningCall c lane places None → 1 ≤ length places

@@ -1,6 +1,6 @@
 -- How many entries an end calls for, how many records get a fate by them, and which window they need.
-use Rattle.std.proofs.Common.{◌≡◌, ℕ, zero, suc, ◌+◌, ◌<◌, ◌≤◌, Bool, true, false, cond, List, [], ◌∷◌, ◌++◌, length, take, drop, refl, sym, ap, ◌∙◌, subst, Option, Some, None, arith, length-append}
-use Rattle.std.specs.Prelude.{◌≢◌, IfSome, option_map}
+use Rattle.std.proofs.Common.{◌≡◌, ℕ, ◌+◌, ◌≤◌, true, List, [], ◌∷◌, ◌++◌, length, refl, sym, ap, ◌∙◌, subst, Option, Some, None, arith, length-append}
+use Rattle.std.specs.Prelude.{◌≢◌, IfSome}
 use Rattle.std.specs.Option.{option_or}
 use Rattle.esm_model.specs.declared.lane.LaneId.{LaneId}
 use Rattle.esm_model.specs.declared.entry.Entry.{Entry}
@@ -16,12 +16,12 @@ use Rattle.esm_shard_index.specs.WindowsLaws.{closing_of}
 use Rattle.esm_ledger.specs.declared.ledger.Ledger.{Ledger}
 use Rattle.esm_ledger.specs.declared.shard.ShardLedger.{ShardLedger}
 use Rattle.esm_ledger.specs.Shard.{closing_in}
-use Rattle.esm_ledger.specs.Ledger.{past_of, IsAt, Keeps}
+use Rattle.esm_ledger.specs.Ledger.{IsAt}
 use Rattle.esm_ledger.proofs.Readings.{closing_here}
 use Rattle.esm_outcome.specs.declared.outcome.Due.{Due}
-use Rattle.esm_outcome.specs.Dues.{given_by, given_count, window_in, window_by, window_given}
-use Rattle.esm_outcome.specs.Preparing.{IsPrepared, PreparesEnd, IsOfWindow, AreOfWindow}
-use Rattle.esm_outcome.specs.Parts.{success_dues, give_up_dues, close_dues, tried_dues, rest_dues, given_up}
+use Rattle.esm_outcome.specs.Dues.{given_count, window_in, window_given}
+use Rattle.esm_outcome.specs.Preparing.{IsPrepared, PreparesEnd, AreOfWindow}
+use Rattle.esm_outcome.specs.Parts.{success_dues, give_up_dues, close_dues, rest_dues, given_up}
 
 -- a batch has no window to close, and a final call has no records
 abbrev pub IsEither : Option ℕ → List ℕ → List ℕ → Type 0

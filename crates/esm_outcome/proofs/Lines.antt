@@ -1,11 +1,11 @@
 -- The failure line of records that are given up by a call's end.
-use Rattle.std.proofs.Common.{◌≡◌, ℕ, zero, suc, ◌+◌, ◌-◌, ◌<◌, ◌≤◌, Bool, true, false, cond, ◌&&◌, List, [], ◌∷◌, ◌++◌, length, drop, get_or, refl, sym, ap, ◌∙◌, subst, inl, inr, Option, Some, None, arith}
-use Rattle.std.specs.Prelude.{◌==◌, slice_get, slice_index, option_map, unwrap_or}
+use Rattle.std.proofs.Common.{◌≡◌, ℕ, ◌-◌, ◌<◌, ◌≤◌, true, false, cond, List, [], ◌∷◌, length, get_or, refl, sym, ap, ◌∙◌, subst, inl, inr, Option, Some, None, arith}
+use Rattle.std.specs.Prelude.{◌==◌, slice_index, option_map, unwrap_or}
 use Rattle.std.proofs.lemmas.Bool.{and_from, eq-eqb}
 use Rattle.std.proofs.lemmas.Option.{slice_get_cases}
 use Rattle.esm_model.specs.declared.limits.TheConstants.{MAX_SHARD, MAX_BATCH}
 use Rattle.esm_model.specs.declared.moment.TheConstants.{MAX_MOMENT}
-use Rattle.esm_model.specs.declared.item.Record.{Record}
+use Rattle.esm_model.specs.Records.{Record}
 use Rattle.esm_model.specs.declared.lane.LaneId.{LaneId}
 use Rattle.esm_model.specs.declared.entry.Reply.{Reply}
 use Rattle.esm_model.specs.declared.entry.Entry.{Entry}
@@ -14,16 +14,19 @@ use Rattle.esm_model.specs.declared.event.Failure.{Failure}
 use Rattle.esm_model.specs.declared.event.Response.{Response}
 use Rattle.esm_model.specs.Setting.{Setting, records_of, record_at}
 use Rattle.esm_model.specs.Entries.{holds, came_count, last_call, batch_of}
+use Rattle.esm_model.specs.Fates.{lacks_fate}
 use Rattle.esm_model.specs.FailureLine.{calls_of, response_in, response_of, sequence_at, arrival_at, last_of, failure_of}
 use Rattle.esm_model.specs.Step.{Legal}
 use Rattle.esm_model.proofs.Lists.{In}
+use Rattle.esm_model.proofs.Sound.{open_In}
 use Rattle.esm_model.proofs.Records.{came_within, covered_running}
+use Rattle.esm_model.proofs.Paid.{running_In}
 use Rattle.esm_ledger.specs.declared.ledger.Ledger.{Ledger}
 use Rattle.esm_ledger.specs.Ledger.{past_of, setting_of, Keeps}
 use Rattle.esm_ledger.proofs.Readings.{legal_of}
 use Rattle.esm_outcome.specs.Ending.{AreValidRecords}
 use Rattle.esm_outcome.specs.Parts.{IsRest}
-use Rattle.esm_outcome.proofs.Calls.{Runs, runs, within_batch, drop_In, drop_shorter}
+use Rattle.esm_outcome.proofs.Calls.{runs, within_batch, drop_In, drop_shorter}
 
 -- a record that came is there
 
@@ -61,6 +64,12 @@ left_In c lane left k is within =
 
 pub left_came : (c : Ledger) (lane : LaneId) (left : List ℕ) (k : ℕ) → Keeps c → IsRest c lane left → k < length left → get_or left k 0 < came_count (past_of c) lane.shard
 left_came c lane left k kept is within = covered_running (setting_of c) (past_of c) lane (legal_of c kept.rests) is.runs (get_or left k 0) (left_In c lane left k is within)
+
+pub left_open : (c : Ledger) (lane : LaneId) (left : List ℕ) (k : ℕ) → Keeps c → IsRest c lane left → k < length left → lacks_fate (setting_of c) (past_of c) lane.shard (get_or left k 0) ≡ true
+left_open c lane left k kept is within =
+    let s = setting_of c in
+    let h = past_of c in
+    (open_In s h lane (get_or left k 0) (running_In s h lane (legal_of c kept.rests) is.runs (get_or left k 0) (left_In c lane left k is within))).2
 
 pub left_few : (c : Ledger) (lane : LaneId) (left : List ℕ) → Keeps c → IsRest c lane left → length left ≤ MAX_BATCH
 left_few c lane left kept is =

@@ -1,28 +1,25 @@
 -- What is found of a call's end is all that an outcome tells.
 use Rattle.std.proofs.Common.{◌≡◌, ℕ, zero, suc, ◌+◌, ◌<◌, ◌≤◌, true, false, List, [], ◌∷◌, ◌++◌, length, take, drop, map, refl, sym, ap, ◌∙◌, subst, Option, Some, None, arith, get_or}
 use Rattle.std.specs.Prelude.{slice_index}
-use Rattle.std.specs.Option.{option_or}
 use Rattle.esm_model.specs.declared.moment.TheConstants.{MAX_MOMENT}
 use Rattle.esm_model.specs.declared.lane.LaneId.{LaneId}
 use Rattle.esm_model.specs.declared.entry.Reply.{Reply}
 use Rattle.esm_model.specs.declared.entry.WindowState.{WindowState}
 use Rattle.esm_model.specs.declared.entry.Entry.TheVariants.{Ended}
 use Rattle.esm_model.specs.declared.verdict.Rest.TheVariants as rest
-use Rattle.esm_model.specs.declared.verdict.StateRead.{StateRead}
 use Rattle.esm_model.specs.declared.verdict.Verdict.{Verdict}
-use Rattle.esm_model.specs.Entries.{came_count, last_moment, last_call, batch_of, is_running}
+use Rattle.esm_model.specs.Entries.{came_count, last_moment}
 use Rattle.esm_model.specs.FailureLine.{failure_line}
 use Rattle.esm_model.specs.Tries.{tries_for, verdict_after}
 use Rattle.esm_model.specs.Windows.{has_windows}
-use Rattle.esm_model.specs.Owed.{state_in_reply, owed}
-use Rattle.esm_shard_index.specs.WindowsLaws.{closing_of}
+use Rattle.esm_model.specs.Owed.{state_in_reply}
 use Rattle.esm_ledger.specs.declared.ledger.Ledger.{Ledger}
 use Rattle.esm_ledger.specs.Ledger.{past_of, setting_of, LegalOver, Keeps}
 use Rattle.esm_outcome.specs.declared.outcome.Due.{Due}
-use Rattle.esm_outcome.specs.Dues.{due_entry, window_in}
+use Rattle.esm_outcome.specs.Dues.{due_entry}
 use Rattle.esm_outcome.specs.Ending.{SettledOver, AreOwedOver, MaySettle}
-use Rattle.esm_outcome.specs.Parts.{IsRunningCall, IsRest, text_in, success_state, success_dues, rest_dues}
-use Rattle.esm_outcome.proofs.Calls.{Runs, drop_shorter}
+use Rattle.esm_outcome.specs.Parts.{IsRunningCall, IsRest, success_state, success_dues, rest_dues}
+use Rattle.esm_outcome.proofs.Calls.{drop_shorter}
 use Rattle.esm_outcome.proofs.Called.{ran, ran_places, ran_closing, called_few, called_came, final_none}
 use Rattle.esm_outcome.proofs.Owing.{Found, found_dues, found_owed, state_found, ended_legal, owed_over, end_settles}
 use Rattle.esm_outcome.proofs.Counting.{IsEither}

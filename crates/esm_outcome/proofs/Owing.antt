@@ -1,5 +1,5 @@
 -- What is found is what the end calls for, over all lists of records that go on; and it can be added in order.
-use Rattle.std.proofs.Common.{◌≡◌, ℕ, zero, suc, ◌+◌, ◌<◌, ◌≤◌, Bool, true, false, cond, List, [], ◌∷◌, ◌++◌, length, take, drop, map, refl, sym, ap, ◌∙◌, subst, Option, Some, None, arith}
+use Rattle.std.proofs.Common.{◌≡◌, ℕ, zero, suc, ◌+◌, ◌≤◌, Bool, true, false, cond, List, [], ◌∷◌, ◌++◌, length, take, drop, map, refl, sym, ap, ◌∙◌, subst, Option, Some, None, arith}
 use Rattle.std.proofs.lemmas.List.{map-append}
 use Rattle.esm_model.specs.declared.moment.TheConstants.{MAX_MOMENT}
 use Rattle.esm_model.specs.declared.lane.LaneId.{LaneId}
@@ -7,7 +7,7 @@ use Rattle.esm_model.specs.declared.entry.Fate.TheVariants.{Succeeded, Exhausted
 use Rattle.esm_model.specs.declared.entry.Reply.{Reply}
 use Rattle.esm_model.specs.declared.entry.WindowState.{WindowState}
 use Rattle.esm_model.specs.declared.entry.Entry.{Entry}
-use Rattle.esm_model.specs.declared.entry.Entry.TheVariants.{Ended, Gave, Tried, Closed}
+use Rattle.esm_model.specs.declared.entry.Entry.TheVariants.{Ended, Gave}
 use Rattle.esm_model.specs.declared.verdict.Rest.{Rest}
 use Rattle.esm_model.specs.declared.verdict.Rest.TheVariants as rest
 use Rattle.esm_model.specs.declared.verdict.Verdict.{Verdict}
@@ -17,8 +17,7 @@ use Rattle.esm_model.specs.Tries.{tries_for, tries_of, verdict_after}
 use Rattle.esm_model.specs.Windows.{has_windows}
 use Rattle.esm_model.specs.Calls.{window_of_call}
 use Rattle.esm_model.specs.FailureLine.{failure_line}
-use Rattle.esm_model.specs.Owed.{Debt, debts, debt_entry, end_debts, call_debts, verdict_debts, success_debts, give_up_debts, close_debts, rest_debts, new_state, state_in_reply, owed, Settled}
-use Rattle.esm_model.specs.Step.{Legal, IsLater}
+use Rattle.esm_model.specs.Owed.{debt_entry, call_debts, verdict_debts, success_debts, give_up_debts, close_debts, rest_debts, new_state, state_in_reply, owed, Settled}
 use Rattle.esm_model.proofs.Steps.{debts_ended}
 use Rattle.esm_model.proofs.Owing.{added, owed_legal, owed_goes_on, ended_settles}
 use Rattle.esm_model.proofs.Records.{same_records, verdict_same}

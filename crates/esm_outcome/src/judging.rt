@@ -9,7 +9,7 @@ ghost use Rattle.esm_model.specs.Owed.{state_in_reply};
 ghost use Rattle.esm_verdict.specs.Readings.{IsWithin, IsStateIn, reply_state};
 ghost use Rattle.esm_ledger.specs.Ledger.{past_of, setting_of, Keeps};
 ghost use Rattle.esm_outcome.specs.Ending.{SettledOver};
-ghost use Rattle.esm_outcome.specs.Parts.{IsRunningCall, sequence_in, text_in};
+ghost use Rattle.esm_outcome.specs.Parts.{IsRunningCall, AreOpen, sequence_in, text_in};
 
 use esm_ledger::Ledger;
 use esm_model::{Answer, LaneId, OutOfMemory, Record, Reply, Seq, StateRead, Verdict};
@@ -92,6 +92,7 @@ fn answer_of(
     reply: &Reply,
 ) -> Result<Answer, OutOfMemory>
     requires kept { Keeps ledger.now }
+    requires open { AreOpen (setting_of ledger.now) (past_of ledger.now) shard places.now }
     requires few { length places.now ≤ MAX_BATCH }
     ensures reading { IfOk result (λ a. a.reading ≡ reading ledger.now.config (sequences_at (setting_of ledger.now) shard places.now)
         (is_some closing) reply.now) }
@@ -114,6 +115,7 @@ fn batch_answer(
     reply: &Reply,
 ) -> Result<Answer, OutOfMemory>
     requires kept { Keeps ledger.now }
+    requires open { AreOpen (setting_of ledger.now) (past_of ledger.now) shard places.now }
     requires few { length places.now ≤ MAX_BATCH }
     ensures reading { IfOk result (λ a. a.reading ≡ reading ledger.now.config (sequences_at (setting_of ledger.now) shard places.now) false reply.now) }
     ensures within { IfOk result (λ a. IsWithin (length places.now) a.reading) }
@@ -141,6 +143,7 @@ fn sequences(
     places: &[u32],
 ) -> Result<Vec<Seq>, OutOfMemory>
     requires kept { Keeps ledger.now }
+    requires open { AreOpen (setting_of ledger.now) (past_of ledger.now) shard places.now }
     ensures sequences { IfOk result (λ v. v.items ≡ sequences_at (setting_of ledger.now) shard places.now) }
 {
     let mut batch = Vec::with_capacity(alloc, places.len())?;
@@ -159,7 +162,7 @@ fn push_sequence(
     ensures { OnOk result (batch.new.items ≡ batch.old.items ++ sequence_in (option_copied found.entry)) }
 {
     if let Some(record) = found {
-        batch.push(record.seq.copy(alloc)?)?;
+        batch.push(record.number(alloc)?)?;
     }
     Ok(())
 }

@@ -1,11 +1,12 @@
 //! The line that the failure destination gets for records that are given up.
-ghost use Rattle.std.specs.Prelude.{◌≡◌, ◌≤◌, ◌<◌, ◌∷◌, false, length, slice_index, IfOk};
+ghost use Rattle.std.specs.Prelude.{◌≡◌, ◌≤◌, ◌<◌, ◌∷◌, true, false, length, IfOk};
 ghost use Rattle.esm_model.specs.declared.moment.TheConstants.{MAX_MOMENT};
 ghost use Rattle.esm_model.specs.declared.limits.TheConstants.{MAX_SHARD};
 ghost use Rattle.esm_model.specs.declared.entry.Entry.{Entry};
 ghost use Rattle.esm_model.specs.declared.verdict.Rest.{Rest};
 ghost use Rattle.esm_model.specs.ValidCall.{IsValidFailure};
 ghost use Rattle.esm_model.specs.Entries.{came_count};
+ghost use Rattle.esm_model.specs.Fates.{lacks_fate};
 ghost use Rattle.esm_model.specs.FailureLine.{failure_line, failure_of, sequence_at, arrival_at, response_in};
 ghost use Rattle.esm_model.specs.FailureText as text;
 ghost use Rattle.esm_ledger.specs.Ledger.{past_of, setting_of, Keeps};
@@ -132,6 +133,7 @@ fn edge_of(alloc: Global, ledger: &Ledger, shard: u64, place: u32) -> Result<Edg
     requires kept { Keeps ledger.now }
     requires valid { AreValidRecords (setting_of ledger.now) }
     requires came { place < came_count (past_of ledger.now) shard }
+    requires open { lacks_fate (setting_of ledger.now) (past_of ledger.now) shard place ≡ true }
     ensures seq { IfOk result (λ e. e.seq ≡ sequence_at (setting_of ledger.now) shard place) }
     ensures arrival { IfOk result (λ e. e.arrival ≡ arrival_at (setting_of ledger.now) shard place) }
     ensures early { IfOk result (λ e. e.arrival ≤ MAX_MOMENT) }
@@ -140,8 +142,8 @@ fn edge_of(alloc: Global, ledger: &Ledger, shard: u64, place: u32) -> Result<Edg
     match ledger.record(shard, place) {
         None => unreachable!(),
         Some(record) => Ok(Edge {
-            seq: record.seq.copy(alloc)?,
-            arrival: record.arrival,
+            seq: record.number(alloc)?,
+            arrival: record.arrival(),
         }),
     }
 }

@@ -1,8 +1,8 @@
 -- Lines that are parsed block by block, and what a reader of lines has read after them.
-use Rattle.std.proofs.Common.{◌≡◌, ℕ, ◌+◌, ◌<◌, ◌≤◌, false, List, [], ◌∷◌, ◌++◌, length, take, drop, get_or, Option, Result, Ok, Err, refl, sym, ap, ◌∙◌, subst, append_assoc, lit≤, arith, length-drop}
+use Rattle.std.proofs.Common.{◌≡◌, ℕ, ◌+◌, ◌<◌, ◌≤◌, false, List, [], ◌∷◌, ◌++◌, length, take, drop, get_or, Option, Result, Ok, Err, refl, sym, ap, ◌∙◌, subst, append_assoc, lit≤, arith, length-drop, length-take}
 use Rattle.std.specs.Prelude.{fold, map, IsNone, OnOk}
 use Rattle.std.proofs.lemmas.Bool.{eqb-true}
-use Rattle.std.proofs.lemmas.List.{append-nil, map-append, get_or-drop, take_more}
+use Rattle.std.proofs.lemmas.List.{append-nil, map-append, get_or-drop, get_or-take, take_more}
 use Rattle.std.proofs.lemmas.List.Elements.{All-nil, All-from_get_or}
 use Rattle.std.proofs.lemmas.List.Splits.{slice_split_none, slice_split_at}
 use Rattle.std.proofs.lemmas.List.Sums.{fold-append}
@@ -56,6 +56,13 @@ feed_at_end bytes at below feed =
 
 pub whole_at : (bytes : List ℕ) (at : ℕ) → at < length bytes → Passes (is_byte 10) bytes at → begun (lines_of (take (at + 1) bytes)) ≡ []
 whole_at bytes at below passes = feed_at_end bytes at below (eqb-true (get_or bytes at 0) 10 passes)
+
+-- the same, where the line feed was looked for in the first n bytes
+pub whole_near : (bytes : List ℕ) (n at : ℕ) → at < length (take n bytes) → Passes (is_byte 10) (take n bytes) at → begun (lines_of (take (at + 1) bytes)) ≡ []
+whole_near bytes n at below passes =
+    let near : at < n = omega (arith, length-take n bytes) in
+    let within : at < length bytes = omega (arith, length-take n bytes) in
+    feed_at_end bytes at within (sym (get_or-take n bytes at 0 near) ∙ eqb-true (get_or (take n bytes) at 0) 10 passes)
 
 pub whole_beyond : (bytes : List ℕ) (place more : ℕ) → more < length (drop place bytes) → Passes (is_byte 10) (drop place bytes) more → begun (lines_of (take (place + more + 1) bytes)) ≡ []
 whole_beyond bytes place more below passes =
@@ -146,3 +153,10 @@ goes_rest piece rest lines tail items0 items items1 items2 self0 self self1 self
 pub both_ok : {T E P Q R : Type 0} (r : Result T E) → (P → Q → R) → OnOk r P → OnOk r Q → OnOk r R
 both_ok (Ok x) f p q = f p q
 both_ok (Err e) f p q = tt
+
+-- a chunk that was parsed, and what follows it
+pub chunk_parsed : (kind : LineKind) (done all said : List Said) (rest chunk after : List ℕ) → done ++ parsed_lines kind rest ≡ all → rest ≡ chunk ++ after → begun (lines_of chunk) ≡ [] → said ≡ parsed_lines kind chunk → (done ++ said) ++ parsed_lines kind after ≡ all
+chunk_parsed kind done all said rest chunk after so_far parts whole is =
+    append_assoc done said (parsed_lines kind after)
+    ∙ ap (λ (more : List Said). done ++ more) (ap (λ (s : List Said). s ++ parsed_lines kind after) is ∙ both_parsed kind rest chunk after parts whole)
+    ∙ so_far

@@ -1,11 +1,9 @@
 -- Decimal digits and the number that they write.
-use Rattle.std.proofs.Common.{◌≡◌, ℕ, zero, suc, ◌-◌, ◌^◌, ◌<◌, ◌≤◌, true, List, [], ◌∷◌, length, take, get_or, lit<, arith, length-take}
+use Rattle.std.proofs.Common.{◌≡◌, ℕ, zero, suc, ◌-◌, ◌<◌, ◌≤◌, true, List, [], ◌∷◌, length, take, get_or, arith}
 use Rattle.std.specs.List.{list_all}
 use Rattle.std.specs.Char.{is_ascii_digit, digit_value}
-use Rattle.std.specs.Str.Parse.{AllDigits, digits_value}
-use Rattle.std.proofs.lemmas.Int.Digits.{digits_value-lt}
+use Rattle.std.specs.Str.Parse.{AllDigits}
 use Rattle.std.proofs.lemmas.Bool.Decides.{nat_tests}
-use Rattle.std.proofs.Math.Nat.{pow-le-pow_right}
 
 pub a_digit : (d : ℕ) → is_ascii_digit d ≡ true → (48 ≤ d) × (d ≤ 57) × (digit_value d ≡ d - 48)
 a_digit d h = (grind (arith, nat_tests), grind (arith, nat_tests), grind (arith, nat_tests))
@@ -26,10 +24,3 @@ pub digit_at : (ds : List ℕ) (i : ℕ) → list_all is_ascii_digit ds ≡ true
 digit_at [] i h below = absurd (omega arith)
 digit_at (d ∷ ds) zero h below = (first_digit d ds h).0
 digit_at (d ∷ ds) (suc i) h below = digit_at ds i (first_digit d ds h).1 (omega arith)
-
--- the digits before one of twelve write less than 10 ^ 11
-pub few_digits : (ds : List ℕ) (i : ℕ) → list_all is_ascii_digit ds ≡ true → i ≤ 11 → digits_value 10 (take i ds) < 10 ^ 11
-few_digits ds i h few =
-    let short : length (take i ds) ≤ i = omega (arith, length-take i ds) in
-    let most : 10 ^ length (take i ds) ≤ 10 ^ 11 = pow-le-pow_right {n = 10} (lit< tt) {i = length (take i ds)} {j = 11} (omega arith) in
-    omega (arith, digits_value-lt 10 (take i ds) (all_digits ds i h), most)

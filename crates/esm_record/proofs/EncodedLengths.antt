@@ -20,7 +20,7 @@ use Rattle.base64.specs.Decode.{or_else, or_error, symbol_error, group_error, gr
 use Rattle.base64.specs.Engines.{standard}
 use Rattle.base64.specs.GeneralPurpose.{decode_of, decode_slice_of}
 use Rattle.base64.proofs.Decoding.{length-groups_bytes, slice_result_room}
-use Rattle.esm_record.specs.Encoded.{is_symbol}
+use Rattle.esm_record.specs.Base64Symbols.{is_symbol}
 
 -- ---- symbols
 

@@ -6,6 +6,7 @@ pub mod FirstLine
 pub mod Follows
 pub mod IdSets
 pub mod Inputs
+pub mod Packs
 pub mod Parses
 pub mod Blocks
 pub mod Wholes

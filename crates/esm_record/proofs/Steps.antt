@@ -219,3 +219,41 @@ pub goes_end : (piece rest : List ℕ) (items0 items : List Item) (self0 self se
 goes_end piece rest items0 items self0 self self1 goes more bytes before h =
     let P : List ℕ → Type 0 = λ b. HasRead b before items self1 in
     subst P (append_assoc bytes goes.done rest ∙ ap (λ (l : List ℕ). bytes ++ l) (sym goes.parts)) (more (bytes ++ goes.done) before items (goes.read bytes before h))
+
+-- ---- a piece, chunk by chunk
+
+-- the chunks of the piece before the rest are read, and no line has begun
+abbrev pub GoesFresh : (piece : List ℕ) (items0 : List Item) (self0 : Splitter) (rest : List ℕ) (items : List Item) (self : Splitter) → Type 0
+GoesFresh piece items0 self0 rest items self = Goes piece items0 self0 rest items self × (self.begun.items ≡ [])
+
+chunk_done : (piece rest chunk after : List ℕ) (items0 items items1 : List Item) (self0 self self1 : Splitter) (goes : Goes piece items0 self0 rest items self) → ((bytes : List ℕ) (before : List Item) → HasRead bytes before items self → HasRead (bytes ++ chunk) before items1 self1) → (bytes : List ℕ) (before : List Item) → HasRead bytes before items0 self0 → HasRead (bytes ++ (goes.done ++ chunk)) before items1 self1
+chunk_done piece rest chunk after items0 items items1 self0 self self1 goes read bytes before h =
+    let P : List ℕ → Type 0 = λ b. HasRead b before items1 self1 in
+    subst P (append_assoc bytes goes.done chunk) (read (bytes ++ goes.done) before (goes.read bytes before h))
+
+whole_chunks : (piece done rest chunk after : List ℕ) → piece ≡ done ++ rest → rest ≡ chunk ++ after → piece ≡ (done ++ chunk) ++ after
+whole_chunks piece done rest chunk after p q = p ∙ ap (λ (l : List ℕ). done ++ l) q ∙ sym (append_assoc done chunk after)
+
+pub goes_chunk : (piece rest chunk after : List ℕ) (items0 items items1 : List Item) (self0 self self1 : Splitter) → GoesFresh piece items0 self0 rest items self → rest ≡ chunk ++ after → ((bytes : List ℕ) (before : List Item) → HasRead bytes before items self → HasRead (bytes ++ chunk) before items1 self1) → self1.begun.items ≡ [] → self1.kind ≡ self.kind → IsNone self1.bad → GoesFresh piece items0 self0 after items1 self1
+goes_chunk piece rest chunk after items0 items items1 self0 self self1 (goes, fresh) parts read nothing kind none = (
+  record {
+    done = goes.done ++ chunk;
+    parts = whole_chunks piece goes.done rest chunk after goes.parts parts;
+    none = none;
+    short = rw nothing (lit≤ tt);
+    kind = kind ∙ goes.kind;
+    read = chunk_done piece rest chunk after items0 items items1 self0 self self1 goes read;
+  },
+  nothing,
+)
+
+pub chunk_bad : (piece rest chunk after : List ℕ) (items0 items items1 : List Item) (self0 self self1 : Splitter) → GoesFresh piece items0 self0 rest items self → rest ≡ chunk ++ after → ((bytes : List ℕ) (before : List Item) → HasRead bytes before items self → HasRead (bytes ++ chunk) before items1 self1) → is_some self1.bad ≡ true → (bytes : List ℕ) (before : List Item) → HasRead bytes before items0 self0 → HasRead (bytes ++ piece) before items1 self1
+chunk_bad piece rest chunk after items0 items items1 self0 self self1 (goes, fresh) parts read some bytes before h =
+    let done = chunk_done piece rest chunk after items0 items items1 self0 self self1 goes read bytes before h in
+    let P : List ℕ → Type 0 = λ b. HasRead b before items1 self1 in
+    subst P (append_assoc bytes (goes.done ++ chunk) after ∙ ap (λ (l : List ℕ). bytes ++ l) (sym (whole_chunks piece goes.done rest chunk after goes.parts parts))) (bad_more (bytes ++ (goes.done ++ chunk)) after before items1 self1 done some)
+
+pub goes_tail : (piece rest : List ℕ) (items0 items items1 : List Item) (self0 self self1 : Splitter) → Goes piece items0 self0 rest items self → ((bytes : List ℕ) (before : List Item) → HasRead bytes before items self → HasRead (bytes ++ rest) before items1 self1) → (bytes : List ℕ) (before : List Item) → HasRead bytes before items0 self0 → HasRead (bytes ++ piece) before items1 self1
+goes_tail piece rest items0 items items1 self0 self self1 goes more bytes before h =
+    let P : List ℕ → Type 0 = λ b. HasRead b before items1 self1 in
+    subst P (append_assoc bytes goes.done rest ∙ ap (λ (l : List ℕ). bytes ++ l) (sym goes.parts)) (more (bytes ++ goes.done) before (goes.read bytes before h))

@@ -20,7 +20,7 @@ use Rattle.esm_model.specs.declared.limits.TheConstants.{MAX_DATA}
 use Rattle.esm_model.specs.Valid.{IsValidRecord, is_between, char_count}
 use Rattle.esm_model.specs.ValidMessage.{is_message_id, is_message_body, is_message_group, is_group_of, IsValidMessage}
 use Rattle.esm_model.specs.declared.config.Kind.TheVariants.{Standard, Fifo}
-use Rattle.esm_model.specs.declared.item.Record.{Record}
+use Rattle.esm_model.specs.Records.{Record}
 use Rattle.esm_model.specs.declared.item.Message.{Message}
 use Rattle.esm_record.specs.declared.error.Field.{Field}
 use Rattle.esm_record.specs.declared.error.Field.TheVariants as field

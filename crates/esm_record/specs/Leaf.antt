@@ -8,7 +8,7 @@ use Rattle.json.specs.Json.{value, items, members}
 use Rattle.serde_json.specs.Data.{Data, object, Items, Members, no_members}
 use Rattle.serde_json.specs.Find.{get_member, as_str, as_number, as_u64}
 use Rattle.serde_json.specs.Read.{of_json, of_items, of_members, converted}
-use Rattle.esm_model.specs.declared.item.Record.{Record}
+use Rattle.esm_model.specs.Records.{Record}
 use Rattle.esm_model.specs.declared.item.Message.{Message}
 use Rattle.esm_record.specs.declared.error.Field.{Field}
 use Rattle.esm_record.specs.declared.error.Field.TheVariants as field

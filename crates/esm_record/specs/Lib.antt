@@ -10,4 +10,6 @@ pub mod Splitting
 pub mod Leaf
 pub mod Usual
 pub mod Fed
-pub mod Encoded
+pub mod Base64Symbols
+pub mod Fields
+pub mod Packing

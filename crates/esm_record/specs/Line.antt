@@ -19,7 +19,7 @@ use Rattle.esm_model.specs.declared.moment.TheConstants.{MAX_MOMENT}
 use Rattle.esm_model.specs.Sequence.{is_sequence}
 use Rattle.esm_model.specs.Valid.{is_between, char_count}
 use Rattle.esm_model.specs.ValidMessage.{is_message_id, is_message_body, is_message_group}
-use Rattle.esm_model.specs.declared.item.Record.{Record}
+use Rattle.esm_model.specs.Records.{Record}
 use Rattle.esm_model.specs.declared.item.Message.{Message}
 use Rattle.esm_record.specs.declared.error.Field.{Field}
 use Rattle.esm_record.specs.declared.error.Field.TheVariants as field

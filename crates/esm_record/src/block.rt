@@ -7,8 +7,9 @@ ghost use Rattle.esm_record.specs.Input.{lines_of, begun};
 ghost use Rattle.esm_record.specs.Parsing.{parsed_lines};
 ghost use Rattle.esm_record.specs.Splitting.{NoLineFeed, IsFirstLine};
 
-use crate::parse::{Parsed, parse_line};
-use esm_model::{LineKind, OutOfMemory};
+use crate::packed::Packed;
+use crate::parse::Parsed;
+use esm_model::{LineKind, MAX_LINE, OutOfMemory};
 use json::Scratch;
 use memchr::{memchr, memrchr};
 use std::alloc::Global;
@@ -16,6 +17,9 @@ use std::thread::{Threads, join};
 
 /// Bytes of the shortest block that is worth a thread of its own.
 pub const MIN_BLOCK: usize = 32_768;
+
+/// Bytes of lines whose records share one text; a longer line is a chunk of its own.
+const CHUNK: usize = 16_384;
 
 /// The line up to the first line feed, and what follows that.
 pub fn first_line(bytes: &[u8]) -> Option<(&[u8], &[u8])>
@@ -52,16 +56,56 @@ fn lines_up_to(bytes: &[u8], place: usize) -> (&[u8], &[u8])
     }
 }
 
-/// What each line of the block says whose line feed came.
+/// Whole lines from the front, up to the last line feed of the first `CHUNK` bytes, or up to the first one where none is
+/// among them; and what follows.
+pub fn next_chunk(bytes: &[u8]) -> Option<(&[u8], &[u8])>
+    ensures parts { IfSome result (λ p. bytes.now ≡ p.0.now ++ p.1.now) }
+    ensures whole { IfSome result (λ p. begun (lines_of p.0.now) ≡ []) }
+    ensures some { IfSome result (λ p. length p.1.now < length bytes.now) }
+    ensures none { IfNone result (NoLineFeed bytes.now) }
+{
+    let near = &bytes[..bytes.len().min(CHUNK)];
+    if let Some(at) = memrchr(b'\n', near) {
+        return Some(bytes.split_at(at + 1));
+    }
+    match memchr(b'\n', bytes) {
+        Some(at) => Some(bytes.split_at(at + 1)),
+        None => None,
+    }
+}
+
+/// What each line of the chunk says whose line feed came; the records share one text.
+pub fn parse_chunk(
+    alloc: Global,
+    kind: LineKind,
+    scratch: &mut Scratch,
+    chunk: &[u8],
+) -> Result<Vec<Parsed>, OutOfMemory>
+    ensures { IfOk result (λ v. v.items ≡ parsed_lines kind chunk.now) }
+{
+    let room = match kind {
+        LineKind::Stream if chunk.len() <= MAX_LINE => chunk.len(),
+        _ => 0,
+    };
+    let mut packed = Packed::new(alloc, room)?;
+    let mut rest = chunk;
+    while let Some((line, after)) = first_line(rest) {
+        packed = packed.with_line(alloc, kind, scratch, line)?;
+        rest = after;
+    }
+    packed.into_parsed(alloc)
+}
+
+/// What each line of the block says whose line feed came, chunk by chunk.
 fn parse_block(alloc: Global, kind: LineKind, block: &[u8]) -> Result<Vec<Parsed>, OutOfMemory>
     ensures { IfOk result (λ v. v.items ≡ parsed_lines kind block.now) }
 {
     let mut scratch = Scratch::new(alloc);
     let mut parsed = Vec::new(alloc);
     let mut rest = block;
-    while let Some((line, after)) = first_line(rest) {
-        let said = parse_line(alloc, kind, &mut scratch, line)?;
-        parsed.push(said)?;
+    while let Some((chunk, after)) = next_chunk(rest) {
+        let mut said = parse_chunk(alloc, kind, &mut scratch, chunk)?;
+        parsed.append(&mut said)?;
         rest = after;
     }
     Ok(parsed)

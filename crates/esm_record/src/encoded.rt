@@ -4,7 +4,7 @@ ghost use Rattle.std.specs.List.{list_all};
 ghost use Rattle.std.specs.Result.{result_ok};
 ghost use Rattle.base64.specs.Engines.{standard};
 ghost use Rattle.base64.specs.GeneralPurpose.{decode_of};
-ghost use Rattle.esm_record.specs.Encoded.{is_symbol};
+ghost use Rattle.esm_record.specs.Base64Symbols.{is_symbol};
 
 use base64::engine::general_purpose::STANDARD;
 

@@ -4,9 +4,11 @@
 #![tactic(auto)]
 
 mod block;
+mod decimal;
 mod encoded;
 mod error;
 mod fed_bytes;
+mod fields;
 mod item;
 pub mod laws;
 mod line;
@@ -15,6 +17,7 @@ mod number;
 mod numbers;
 mod object;
 mod order;
+mod packed;
 mod parse;
 mod plain;
 mod queue;

@@ -1,12 +1,24 @@
 //! The members of a line's object that its fields name, read from the tokens with no tree.
-ghost use Rattle.std.specs.Prelude.{◌≡◌, ◌<◌, ◌∷◌, false, length, Some, None, option_map, IfOk, OnOk, OnErr};
+ghost use Rattle.std.specs.Prelude.{◌≡◌, ◌<◌, ◌∷◌, false, length, Some, None, option_map, IfSome, IsUtf8, IfOk, OnOk, OnErr};
 ghost use Rattle.std.specs.Bool.{MatchBool};
 ghost use Rattle.json.specs.Json.{value, items, members};
 ghost use Rattle.json.specs.Token as token;
 ghost use Rattle.serde_json.specs.Data.{Data, Members, no_members, put};
 ghost use Rattle.serde_json.specs.Read.{of_json, of_items, of_members, converted, read};
 ghost use Rattle.esm_record.specs.Line.{name_of};
-ghost use Rattle.esm_record.specs.Leaf.{text_in, whole_in, IsLeafOf, ReadsLeaf, PassesItems, PassesMembers, ReadsMembers, opens_object, leaf_at, AreFound, IsObjectRead};
+ghost use Rattle.esm_record.specs.Leaf.{
+  text_in,
+  whole_in,
+  IsLeafOf,
+  ReadsLeaf,
+  PassesItems,
+  PassesMembers,
+  ReadsMembers,
+  opens_object,
+  leaf_at,
+  AreFound,
+  IsObjectRead,
+};
 
 use crate::error::Field;
 use crate::number::whole_number;
@@ -21,8 +33,9 @@ const MAX_DEPTH: usize = 126;
 /// What a field looks at in a value.
 #[derive(Clone, Copy, Drop)]
 pub enum Leaf<'a> {
+    /// A text that the reader of tokens gave.
     Text(&'a str),
-    /// A text too.
+    /// A text of a line in the usual form.
     Plain(Plain<'a>),
     /// A number with neither sign, fraction nor exponent, below 2^64.
     Whole(u64),
@@ -43,9 +56,10 @@ impl<'a> Leaf<'a> {
         }
     }
 
-    /// The bytes of its text, at which nothing looks.
+    /// The bytes of its text, which are not read to see that they are UTF-8.
     pub fn bytes(self) -> Option<&'a [u8]>
-        ensures { option_map (λ b. b.now) result ≡ text_in self.entry }
+        ensures value { option_map (λ b. b.now) result ≡ text_in self.entry }
+        ensures utf8 { IfSome result (λ b. IsUtf8 b.now) }
     {
         match self {
             Leaf::Text(text) => Some(text.as_bytes()),

@@ -1,6 +1,5 @@
 // Judging what a line says by the items before: its record is the next of its shard, or its message a new one of the queue.
 ghost use Rattle.std.specs.Prelude.{◌≡◌, ℕ, List, ◌++◌, option_to_list, Ok, IfOk, IfErr, OnOk};
-ghost use Rattle.esm_model.specs.Sequence.{sequence_order};
 ghost use Rattle.esm_record.specs.Gives.{Gives, Fails};
 ghost use Rattle.esm_record.specs.Input.{number_after, in_order};
 ghost use Rattle.esm_record.specs.Numbers.{number_in};
@@ -11,7 +10,7 @@ use crate::error::{LineError, Refusal};
 use crate::numbers::Numbers;
 use crate::parse::Parsed;
 use crate::seen::{Seen, as_new};
-use esm_model::{Item, Message, OutOfMemory, Record, Text};
+use esm_model::{Item, Message, OutOfMemory, Record, Text, number_order};
 use std::alloc::Global;
 use std::cmp::Ordering;
 
@@ -29,25 +28,16 @@ fn backwards(alloc: Global, kept: &str, given: &str) -> Result<LineError, OutOfM
     Ok(LineError::Backwards { kept, given })
 }
 
-/// The order of sequence numbers: by the number of digits, then digit by digit.
-fn number_order(kept: &str, given: &str) -> Ordering
-    ensures { result ≡ sequence_order kept.now given.now }
-{
-    let kept = kept.as_bytes();
-    let given = given.as_bytes();
-    kept.len().cmp(&given.len()).then(kept.cmp(given))
-}
-
 /// Whether the record's sequence number is greater than the shard's last one.
 fn check_order(alloc: Global, last: &Numbers, given: &Record) -> Result<(), Refusal>
     ensures ok { OnOk result (in_order (number_in last.now given.now.shard) given.now ≡ Ok given.now) }
     ensures bad { IfErr result (λ e. Fails e (in_order (number_in last.now given.now.shard) given.now)) }
 {
-    match last.last(given.shard) {
+    match last.last(given.shard()) {
         None => Ok(()),
-        Some(kept) => match number_order(kept, given.seq.text()) {
+        Some(kept) => match number_order(kept.as_bytes(), given.seq()) {
             Ordering::Less => Ok(()),
-            _ => Err(Refusal::Line(backwards(alloc, kept, given.seq.text())?)),
+            _ => Err(Refusal::Line(backwards(alloc, kept, given.seq_text())?)),
         },
     }
 }
@@ -59,7 +49,7 @@ fn next_record(alloc: Global, last: &mut Numbers, given: Record) -> Result<Recor
         ≡ number_after shard (number_in last.old shard) (Item.Stream r)) }
 {
     check_order(alloc, last, &given)?;
-    last.keep(alloc, given.shard, given.seq.text())?;
+    last.keep(alloc, given.shard(), given.seq_text())?;
     Ok(given)
 }
 

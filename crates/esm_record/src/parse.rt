@@ -21,7 +21,7 @@ fn is_blank_byte(byte: u8) -> bool
 }
 
 /// Whether the line is spaces, tabs and carriage returns alone.
-fn is_blank(line: &[u8]) -> bool
+pub fn is_blank(line: &[u8]) -> bool
     ensures { result ≡ is_blank line.now }
 {
     line.iter().all(|b| is_blank_byte(*b))
@@ -39,7 +39,7 @@ fn parse_record(alloc: Global, scratch: &mut Scratch, line: &[u8]) -> Result<Par
 }
 
 /// Of a queue's line, which is neither blank nor too long.
-fn parse_message(
+pub fn parse_message(
     alloc: Global,
     scratch: &mut Scratch,
     fifo: bool,

@@ -1,4 +1,4 @@
-//! A text that is known to be UTF-8, so that nothing looks for it again.
+//! Bytes that carry the proof that they are UTF-8, in place of a `str`, to make which they would be read once more.
 ghost use Rattle.std.specs.Prelude.{◌≡◌, true};
 ghost use Rattle.std.specs.Str.{is_utf8};
 

@@ -5,7 +5,7 @@ ghost use Rattle.esm_record.specs.Input.{Input, add_line, input_of, lines_of, be
 ghost use Rattle.esm_record.specs.Parsing.{parse_line, add_parsed};
 ghost use Rattle.esm_record.specs.Splitting.{Stands, HasRead, NoLineFeed};
 
-use crate::block::{MIN_BLOCK, ended_lines, first_line, parse_lines};
+use crate::block::{MIN_BLOCK, ended_lines, first_line, next_chunk, parse_chunk, parse_lines};
 use crate::error::{BadLine, LineError, Refusal};
 use crate::order::judge;
 use crate::parse::{Parsed, parse_line};
@@ -159,7 +159,50 @@ impl Splitter {
         Ok(())
     }
 
-    /// Reads the lines that this piece ends, up to the first bad one.
+    /// Reads a chunk of lines that line feeds end, where no line has begun.
+    fn read_chunk(
+        &mut self,
+        alloc: Global,
+        items: &mut Vec<Item>,
+        chunk: &[u8],
+    ) -> Result<(), OutOfMemory>
+        requires going { IsNone self.old.bad }
+        requires fresh { self.old.begun.items ≡ [] }
+        requires whole { begun (lines_of chunk.now) ≡ [] }
+        ensures read { OnOk result ((bytes : List ℕ) (before : List Item) → HasRead bytes before items.old.items self.old
+            → HasRead (bytes ++ chunk.now) before items.new.items self.new) }
+        ensures fresh { OnOk result (self.new.begun.items ≡ []) }
+        ensures kind { self.new.kind ≡ self.old.kind }
+    {
+        let parsed = parse_chunk(alloc, self.kind, &mut self.scratch, chunk)?;
+        self.take_lines(alloc, items, parsed)
+    }
+
+    /// Reads the lines that this piece ends, where no line has begun, chunk by chunk up to the first bad one.
+    fn read_chunks(
+        &mut self,
+        alloc: Global,
+        items: &mut Vec<Item>,
+        piece: &[u8],
+    ) -> Result<(), OutOfMemory>
+        requires going { IsNone self.old.bad }
+        requires fresh { self.old.begun.items ≡ [] }
+        ensures read { OnOk result ((bytes : List ℕ) (before : List Item) → HasRead bytes before items.old.items self.old
+            → HasRead (bytes ++ piece.now) before items.new.items self.new) }
+        ensures kind { self.new.kind ≡ self.old.kind }
+    {
+        let mut rest = piece;
+        while let Some((chunk, after)) = next_chunk(rest) {
+            self.read_chunk(alloc, items, chunk)?;
+            if self.bad.is_some() {
+                return Ok(());
+            }
+            rest = after;
+        }
+        self.begin_line(rest)
+    }
+
+    /// Reads the lines that this piece ends, up to the first bad one: the line that has begun, and then the others.
     fn read_piece(
         &mut self,
         alloc: Global,
@@ -172,15 +215,17 @@ impl Splitter {
             → HasRead (bytes ++ piece.now) before items.new.items self.new) }
         ensures kind { self.new.kind ≡ self.old.kind }
     {
-        let mut rest = piece;
-        while let Some((line, after)) = first_line(rest) {
-            self.end_line(alloc, items, line)?;
-            if self.bad.is_some() {
-                return Ok(());
-            }
-            rest = after;
+        if self.begun.is_empty() {
+            return self.read_chunks(alloc, items, piece);
         }
-        self.begin_line(rest)
+        let Some((line, after)) = first_line(piece) else {
+            return self.begin_line(piece);
+        };
+        self.end_line(alloc, items, line)?;
+        if self.bad.is_some() {
+            return Ok(());
+        }
+        self.read_chunks(alloc, items, after)
     }
 
     /// Reads lines that line feeds end, where no line has begun; up to so many threads parse them side by side.
@@ -204,6 +249,27 @@ impl Splitter {
         self.take_lines(alloc, items, parsed)
     }
 
+    /// Reads the lines that this piece ends, where no line has begun, up to the first bad one; up to so many threads parse
+    /// them side by side.
+    fn read_ended<R: Threads + Sync>(
+        &mut self,
+        rt: &R,
+        alloc: Global,
+        threads: usize,
+        items: &mut Vec<Item>,
+        piece: &[u8],
+    ) -> Result<(), OutOfMemory>
+        requires going { IsNone self.old.bad }
+        requires fresh { self.old.begun.items ≡ [] }
+        ensures read { OnOk result ((bytes : List ℕ) (before : List Item) → HasRead bytes before items.old.items self.old
+            → HasRead (bytes ++ piece.now) before items.new.items self.new) }
+        ensures kind { self.new.kind ≡ self.old.kind }
+    {
+        let (lines, rest) = ended_lines(piece);
+        self.read_lines(rt, alloc, threads, items, lines)?;
+        self.read_more(alloc, items, rest)
+    }
+
     /// Reads the lines that this piece ends, up to the first bad one: the line that has begun, and then the others, which
     /// up to so many threads parse side by side.
     fn read_blocks<R: Threads + Sync>(
@@ -220,6 +286,9 @@ impl Splitter {
             → HasRead (bytes ++ piece.now) before items.new.items self.new) }
         ensures kind { self.new.kind ≡ self.old.kind }
     {
+        if self.begun.is_empty() {
+            return self.read_ended(rt, alloc, threads, items, piece);
+        }
         let Some((line, after)) = first_line(piece) else {
             return self.begin_line(piece);
         };
@@ -227,9 +296,7 @@ impl Splitter {
         if self.bad.is_some() {
             return Ok(());
         }
-        let (lines, rest) = ended_lines(after);
-        self.read_lines(rt, alloc, threads, items, lines)?;
-        self.read_more(alloc, items, rest)
+        self.read_ended(rt, alloc, threads, items, after)
     }
 
     /// Nothing has been read.

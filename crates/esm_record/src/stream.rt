@@ -1,22 +1,25 @@
 //! The record that a line of a stream is.
-ghost use Rattle.std.specs.Prelude.{◌≡◌, ◌<◌, ◌≤◌, ◌^◌, ◌==◌, ◌&&◌, codes, nat_eq, true, length, filter, drop, IfOk};
-ghost use Rattle.std.specs.List.{list_all, starts_with};
-ghost use Rattle.std.specs.Option.{ok_or};
-ghost use Rattle.std.specs.Char.{is_ascii_digit};
-ghost use Rattle.std.specs.Str.Parse.{digits_value};
-ghost use Rattle.esm_model.specs.Valid.{begins_char, is_between, char_count};
-ghost use Rattle.esm_record.specs.Gives.{Gives};
+ghost use Rattle.std.specs.Prelude.{◌≡◌, codes, nat_eq, true, option_map, IfOk, IfSome, IsUtf8};
+ghost use Rattle.std.specs.List.{starts_with};
+ghost use Rattle.esm_model.specs.Records.{encoded_in};
+ghost use Rattle.esm_model.specs.Sequence.{is_sequence};
+ghost use Rattle.esm_model.specs.Valid.{is_between, char_count};
+ghost use Rattle.esm_record.specs.Fields.{record_at, Tells};
+ghost use Rattle.esm_record.specs.Gives.{Gives, Shows};
+ghost use Rattle.esm_record.specs.Leaf.{of_text_in, field_in, record_in, leaf_at};
 ghost use Rattle.esm_record.specs.Line as spec;
-ghost use Rattle.esm_record.specs.Leaf.{text_in, of_text_in, field_in, record_in, leaf_at};
 
+use crate::decimal::number_of;
 use crate::encoded::encoded_length;
 use crate::error::{Field, LineError, Refusal};
+use crate::fields::{Base64, Fields};
 use crate::line::{moment_of, read_line};
 use crate::object::{Found, Leaf};
-use esm_model::spelling::are_digits;
-use esm_model::{Encoded, MAX_DATA, OutOfMemory, Record, Seq, SeqError, Text};
+use esm_model::spelling::{are_digits, is_sequence};
+use esm_model::{MAX_DATA, OutOfMemory, Record};
 use json::Scratch;
 use std::alloc::Global;
+use std::str::from_utf8;
 
 fn begins_as_shard_id(text: &[u8]) -> bool
     ensures { result ≡ starts_with nat_eq text.now (codes "shardId-") }
@@ -31,19 +34,6 @@ fn is_shard_id(text: &[u8]) -> bool
         return false;
     }
     begins_as_shard_id(text) && are_digits(&text[8..])
-}
-
-/// The number that the decimal digits write.
-fn number_of(digits: &[u8]) -> u64
-    requires few { length digits.now ≤ 12 }
-    requires digits { list_all is_ascii_digit digits.now ≡ true }
-    ensures { result ≡ digits_value 10 digits.now }
-{
-    let mut number: u64 = 0;
-    for digit in digits {
-        number = number * 10 + (*digit - b'0') as u64;
-    }
-    number
 }
 
 /// The number of a shard, by its id: `shardId-` and twelve digits (Kinesis API Reference, `ShardId`); `None` for any other
@@ -74,58 +64,51 @@ fn is_partition_key(text: &[u8]) -> bool
 fn shard_in(leaf: Leaf<'_>) -> Option<u64>
     ensures { result ≡ of_text_in spec.shard_number leaf.entry }
 {
-    match leaf.text() {
-        Some(text) => shard_number(text.as_bytes()),
+    match leaf.bytes() {
+        Some(text) => shard_number(text),
         None => None,
     }
 }
 
-fn sequence_number_in(alloc: Global, leaf: Leaf<'_>) -> Result<Option<Seq>, OutOfMemory>
-    ensures { IfOk result (λ o. o ≡ of_text_in spec.sequence_number leaf.entry) }
-{
-    let Some(text) = leaf.text() else {
-        return Ok(None);
-    };
-    match Seq::read(alloc, text) {
-        Ok(seq) => Ok(Some(seq)),
-        Err(SeqError::BadSeq) => Ok(None),
-        Err(SeqError::OutOfMemory) => Err(OutOfMemory),
-    }
-}
-
-fn partition_key_in(alloc: Global, leaf: Leaf<'_>) -> Result<Option<Text>, OutOfMemory>
-    ensures { IfOk result (λ o. o ≡ of_text_in spec.partition_key leaf.entry) }
-{
-    let Some(text) = leaf.text() else {
-        return Ok(None);
-    };
-    if !is_partition_key(text.as_bytes()) {
-        return Ok(None);
-    }
-    Ok(Some(Text::from_vec(String::from_str(alloc, text)?)))
-}
-
-/// The data that the base64 text is, kept as that text.
-fn data_of(alloc: Global, text: &[u8]) -> Result<Option<Encoded>, OutOfMemory>
-    ensures { IfOk result (λ o. o ≡ spec.payload text.now) }
-{
-    let Some(len) = encoded_length(text) else {
-        return Ok(None);
-    };
-    if MAX_DATA < len {
-        return Ok(None);
-    }
-    let copied = Vec::from_slice(alloc, text)?;
-    Ok(Some(Encoded::from_text(copied, len)))
-}
-
-#[inline(never)]
-fn payload_in(alloc: Global, leaf: Leaf<'_>) -> Result<Option<Encoded>, OutOfMemory>
-    ensures { IfOk result (λ o. o ≡ of_text_in spec.payload leaf.entry) }
+fn sequence_number_in(leaf: Leaf<'_>) -> Option<&[u8]>
+    ensures value { option_map (λ b. b.now) result ≡ of_text_in spec.sequence_number leaf.entry }
+    ensures spelled { IfSome result (λ b. is_sequence b.now ≡ true) }
 {
     match leaf.bytes() {
-        Some(text) => data_of(alloc, text),
-        None => Ok(None),
+        Some(text) if is_sequence(text) => Some(text),
+        _ => None,
+    }
+}
+
+fn partition_key_in(leaf: Leaf<'_>) -> Option<&[u8]>
+    ensures value { option_map (λ b. b.now) result ≡ of_text_in spec.partition_key leaf.entry }
+    ensures utf8 { IfSome result (λ b. IsUtf8 b.now) }
+{
+    match leaf.bytes() {
+        Some(text) if is_partition_key(text) => Some(text),
+        _ => None,
+    }
+}
+
+/// The base64 of at most `MAX_DATA` bytes that the text is.
+fn base64_of(text: &[u8]) -> Option<Base64<'_>>
+    ensures { option_map (λ b. encoded_in b.text.now) result ≡ spec.payload text.now }
+{
+    match encoded_length(text) {
+        Some(len) if len <= MAX_DATA => Some(Base64 {
+            text,
+            len: len as u32,
+        }),
+        _ => None,
+    }
+}
+
+fn payload_in(leaf: Leaf<'_>) -> Option<Base64<'_>>
+    ensures { option_map (λ b. encoded_in b.text.now) result ≡ of_text_in spec.payload leaf.entry }
+{
+    match leaf.bytes() {
+        Some(text) => base64_of(text),
+        None => None,
     }
 }
 
@@ -138,52 +121,50 @@ fn shard_of(line: &Found<'_>) -> Result<u64, LineError>
     }
 }
 
-fn sequence_number_of(alloc: Global, line: &Found<'_>) -> Result<Seq, Refusal>
-    ensures { Gives result (field_in Field.SequenceNumber (of_text_in spec.sequence_number) (leaf_at Field.SequenceNumber line.now)) }
+fn sequence_number_of<'a>(line: &Found<'a>) -> Result<&'a [u8], LineError>
+    ensures value { Tells (λ b. b.now) result (field_in Field.SequenceNumber (of_text_in spec.sequence_number)
+        (leaf_at Field.SequenceNumber line.now)) }
+    ensures spelled { IfOk result (λ b. is_sequence b.now ≡ true) }
 {
-    match line.leaf(Field::SequenceNumber) {
-        Some(leaf) => match sequence_number_in(alloc, leaf)? {
-            Some(seq) => Ok(seq),
-            None => Err(Refusal::Line(LineError::BadField(Field::SequenceNumber))),
-        },
-        None => Err(Refusal::Line(LineError::Missing(Field::SequenceNumber))),
+    let name = Field::SequenceNumber;
+    match line.leaf(name) {
+        Some(leaf) => sequence_number_in(leaf).ok_or(LineError::BadField(name)),
+        None => Err(LineError::Missing(name)),
     }
 }
 
-fn partition_key_of(alloc: Global, line: &Found<'_>) -> Result<Text, Refusal>
-    ensures { Gives result (field_in Field.PartitionKey (of_text_in spec.partition_key) (leaf_at Field.PartitionKey line.now)) }
+fn partition_key_of<'a>(line: &Found<'a>) -> Result<&'a [u8], LineError>
+    ensures value { Tells (λ b. b.now) result (field_in Field.PartitionKey (of_text_in spec.partition_key)
+        (leaf_at Field.PartitionKey line.now)) }
+    ensures utf8 { IfOk result (λ b. IsUtf8 b.now) }
 {
-    match line.leaf(Field::PartitionKey) {
-        Some(leaf) => match partition_key_in(alloc, leaf)? {
-            Some(key) => Ok(key),
-            None => Err(Refusal::Line(LineError::BadField(Field::PartitionKey))),
-        },
-        None => Err(Refusal::Line(LineError::Missing(Field::PartitionKey))),
+    let name = Field::PartitionKey;
+    match line.leaf(name) {
+        Some(leaf) => partition_key_in(leaf).ok_or(LineError::BadField(name)),
+        None => Err(LineError::Missing(name)),
     }
 }
 
-fn payload_of(alloc: Global, line: &Found<'_>) -> Result<Encoded, Refusal>
-    ensures { Gives result (field_in Field.Data (of_text_in spec.payload) (leaf_at Field.Data line.now)) }
+fn payload_of<'a>(line: &Found<'a>) -> Result<Base64<'a>, LineError>
+    ensures { Tells (λ b. encoded_in b.text.now) result (field_in Field.Data (of_text_in spec.payload)
+        (leaf_at Field.Data line.now)) }
 {
     match line.leaf(Field::Data) {
-        Some(leaf) => match payload_in(alloc, leaf)? {
-            Some(payload) => Ok(payload),
-            None => Err(Refusal::Line(LineError::BadField(Field::Data))),
-        },
-        None => Err(Refusal::Line(LineError::Missing(Field::Data))),
+        Some(leaf) => payload_in(leaf).ok_or(LineError::BadField(Field::Data)),
+        None => Err(LineError::Missing(Field::Data)),
     }
 }
 
-/// The record that the members of the object are.
-fn record_of(alloc: Global, line: &Found<'_>) -> Result<Record, Refusal>
-    ensures { Gives result (record_in line.now) }
+/// The fields of a record among the members of the object.
+fn fields_of<'a>(line: &Found<'a>) -> Result<Fields<'a>, LineError>
+    ensures { Tells record_at result (record_in line.now) }
 {
     let shard = shard_of(line)?;
-    let seq = sequence_number_of(alloc, line)?;
-    let key = partition_key_of(alloc, line)?;
-    let payload = payload_of(alloc, line)?;
+    let seq = sequence_number_of(line)?;
+    let key = partition_key_of(line)?;
+    let payload = payload_of(line)?;
     let arrival = moment_of(line, Field::ApproximateArrivalTimestamp)?;
-    Ok(Record {
+    Ok(Fields {
         shard,
         seq,
         key,
@@ -192,13 +173,43 @@ fn record_of(alloc: Global, line: &Found<'_>) -> Result<Record, Refusal>
     })
 }
 
-/// The record of a stream's line, which is neither blank nor too long.
-pub fn read_record(alloc: Global, scratch: &mut Scratch, line: &[u8]) -> Result<Record, Refusal>
-    ensures { Gives result (spec.line_of spec.record_of line.now) }
+/// The fields of a stream's line, which is neither blank nor too long.
+pub fn read_fields<'a>(scratch: &'a mut Scratch, line: &'a [u8]) -> Result<Fields<'a>, Refusal>
+    ensures { Shows record_at result (spec.line_of spec.record_of line.now) }
 {
     let mut found = Found::nothing();
     match read_line(scratch, line, &mut found) {
-        Ok(()) => record_of(alloc, &found),
+        Ok(()) => match fields_of(&found) {
+            Ok(fields) => Ok(fields),
+            Err(why) => Err(Refusal::Line(why)),
+        },
+        Err(refusal) => Err(refusal),
+    }
+}
+
+/// The record of these fields, in a text of its own.
+fn record_of(alloc: Global, fields: &Fields<'_>) -> Result<Record, OutOfMemory>
+    ensures { IfOk result (λ r. r ≡ record_at fields.now) }
+{
+    let Fields {
+        shard,
+        seq,
+        key,
+        payload,
+        arrival,
+    } = *fields;
+    match from_utf8(key) {
+        Ok(key) => Record::of(alloc, shard, seq, key, payload.text, payload.len, arrival),
+        Err(_) => unreachable!(),
+    }
+}
+
+/// The record of a stream's line, which is neither blank nor too long, in a text of its own.
+pub fn read_record(alloc: Global, scratch: &mut Scratch, line: &[u8]) -> Result<Record, Refusal>
+    ensures { Gives result (spec.line_of spec.record_of line.now) }
+{
+    match read_fields(scratch, line) {
+        Ok(fields) => Ok(record_of(alloc, &fields)?),
         Err(refusal) => Err(refusal),
     }
 }

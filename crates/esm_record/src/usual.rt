@@ -1,17 +1,15 @@
 //! The line in the form in which programs write a stream's record: its five members in one order, with no white space and
 //! no escape. It is read with no index and no tokens.
-ghost use Rattle.std.specs.Prelude.{◌≡◌, ◌≤◌, ◌++◌, true, false, None, Ok, length, IfSome, IsTrue};
-ghost use Rattle.std.specs.Char.{is_ascii_digit};
+ghost use Rattle.std.specs.Prelude.{◌≡◌, ◌++◌, true, false, None, Ok, length, IfSome};
 ghost use Rattle.std.specs.List.{list_all};
-ghost use Rattle.std.specs.Str.Parse.{digits_value};
 ghost use Rattle.esm_record.specs.Leaf.{leaf_at, IsObjectOf};
 ghost use Rattle.esm_record.specs.declared.error.Field.{Field};
-ghost use Rattle.esm_record.specs.Usual.{is_plain, IsWhole, PassesMember, PassesMoment, IsUsual};
+ghost use Rattle.esm_record.specs.Usual.{is_plain, PassesMember, PassesMoment, IsUsual};
 
+use crate::decimal::{is_whole, number_of};
 use crate::error::Field;
 use crate::object::{Found, Leaf};
 use crate::plain::Plain;
-use esm_model::spelling::are_digits;
 use memchr::memchr;
 
 /// The texts and the moment of such a line.
@@ -20,7 +18,7 @@ pub struct UsualLine<'a> {
     shard: Plain<'a>,
     seq: Plain<'a>,
     key: Plain<'a>,
-    /// In base64, if it is a record's.
+    /// The text of the member `data`, which in a record's line is base64.
     payload: Plain<'a>,
     /// Milliseconds since 1970.
     arrival: u64,
@@ -70,32 +68,6 @@ fn split_member<'a>(text: &'a [u8], literal: &[u8]) -> Option<(Plain<'a>, &'a [u
     } else {
         None
     }
-}
-
-/// Whether these are the digits of a number below 10^19, with no zero before it.
-fn is_whole(digits: &[u8]) -> bool
-    ensures { IsTrue result → IsWhole digits.now }
-{
-    if digits.is_empty() || digits.len() > 19 {
-        return false;
-    }
-    if digits[0] == b'0' && digits.len() > 1 {
-        return false;
-    }
-    are_digits(digits)
-}
-
-/// The number that the decimal digits write.
-fn number_of(digits: &[u8]) -> u64
-    requires few { length digits.now ≤ 19 }
-    requires digits { list_all is_ascii_digit digits.now ≡ true }
-    ensures { result ≡ digits_value 10 digits.now }
-{
-    let mut number: u64 = 0;
-    for digit in digits {
-        number = number * 10 + (*digit - b'0') as u64;
-    }
-    number
 }
 
 /// The moment that ends the object, in milliseconds since 1970.

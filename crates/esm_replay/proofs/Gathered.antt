@@ -13,7 +13,7 @@ use Rattle.esm_model.specs.declared.config.Config.{Config}
 use Rattle.esm_model.specs.declared.config.Kind.{Kind}
 use Rattle.esm_model.specs.declared.config.Kind.TheVariants.{Stream, Standard, Fifo}
 use Rattle.esm_model.specs.Valid.{IsStreamConfig, IsValidRecord, is_batch_size}
-use Rattle.esm_model.specs.declared.item.Record.{Record}
+use Rattle.esm_model.specs.Records.{Record}
 use Rattle.esm_model.specs.Setting.{records_at}
 use Rattle.esm_model.specs.Batches.{longest}
 use Rattle.esm_model.specs.EventText.{event_text, record_text}

@@ -3,7 +3,7 @@ use Rattle.std.proofs.Common.{◌≡◌, ℕ, zero, suc, ◌<◌, Bool, List, []
 use Rattle.std.specs.Prelude.{option_map, unwrap_or, false, not, ◌&&◌}
 use Rattle.std.proofs.lemmas.List.{append-nil}
 use Rattle.esm_model.specs.declared.entry.Fate.{Fate}
-use Rattle.esm_model.specs.declared.item.Record.{Record}
+use Rattle.esm_model.specs.Records.{Record}
 use Rattle.esm_model.specs.declared.setup.FoundFate.{FoundFate}
 use Rattle.esm_journal_state.specs.Meaning.{is_failure}
 use Rattle.esm_journal_state.specs.SaidLists.{SaidLists, fate_told, is_replay_told}

@@ -2,7 +2,7 @@
 use Rattle.std.specs.Prelude.{◌≡◌, ℕ, suc, ◌+◌, ◌<◌, ◌≤◌, Bool, List, [], ◌∷◌, length, take, drop, filter_map, slice_get, Option, Some, None, option_and_then}
 use Rattle.std.specs.List.{All}
 use Rattle.esm_model.specs.declared.config.Config.{Config}
-use Rattle.esm_model.specs.declared.item.Record.{Record}
+use Rattle.esm_model.specs.Records.{Record}
 use Rattle.esm_model.specs.Setting.{records_at}
 use Rattle.esm_model.specs.Batches.{longest}
 use Rattle.esm_replay_model.specs.ReplaySetting.{ReplaySetting, config_of}

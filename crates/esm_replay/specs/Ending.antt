@@ -1,7 +1,7 @@
 -- What the end of a call leaves of the pieces, with where their records stand. This product's own.
 use Rattle.std.specs.Prelude.{◌≡◌, ℕ, List, [], ◌∷◌, take, drop}
 use Rattle.std.specs.List.{All}
-use Rattle.esm_model.specs.declared.item.Record.{Record}
+use Rattle.esm_model.specs.Records.{Record}
 use Rattle.esm_model.specs.declared.entry.Reply.{Reply}
 use Rattle.esm_model.specs.declared.verdict.Verdict.{Verdict}
 use Rattle.esm_model.specs.declared.verdict.Rest.{Rest}

@@ -1,7 +1,7 @@
 -- The named records of each shard, as they are gathered from the records that came. This product's own.
 use Rattle.std.specs.Prelude.{◌≡◌, ℕ, ◌+◌, ◌≤◌, Bool, true, false, List, [], ◌∷◌, ◌++◌, map, filter, length, take, slice_get, Option, Some, None}
 use Rattle.std.specs.List.{All}
-use Rattle.esm_model.specs.declared.item.Record.{Record}
+use Rattle.esm_model.specs.Records.{Record}
 use Rattle.esm_model.specs.Setting.{record_at}
 use Rattle.esm_model.specs.Fates.{below}
 use Rattle.esm_replay_model.specs.ReplaySetting.{ReplaySetting, is_named}

@@ -1,7 +1,7 @@
 -- The pieces that are still to be called, with where their records stand. This product's own.
 use Rattle.std.specs.Prelude.{ℕ, ◌≤◌, List, [], ◌∷◌, map, drop, length}
 use Rattle.std.specs.List.{All}
-use Rattle.esm_model.specs.declared.item.Record.{Record}
+use Rattle.esm_model.specs.Records.{Record}
 use Rattle.esm_replay_model.specs.ReplaySetting.{ReplaySetting}
 use Rattle.esm_replay_model.specs.Pieces.{ReplayPiece, piece}
 use Rattle.esm_replay.specs.declared.rows.Named.{Named}

@@ -1,11 +1,11 @@
 // The records of a call: where they stand among the records that came, or copies of them.
 ghost use Rattle.std.specs.Prelude.{◌≡◌, ◌+◌, ◌<◌, ◌≤◌, map, IfOk, IfSome, Some, length, option_copied};
-ghost use Rattle.esm_model.specs.declared.item.Record.{Record};
+ghost use Rattle.esm_model.specs.Records.{Record};
 ghost use Rattle.esm_replay.specs.Batch.{record_named, records_named, records_in, AreWithin, IsRowWithin, StandInRow};
 
 use crate::rows::Named;
 use esm_model::{OutOfMemory, Record, Seq};
-use std::alloc::{AllocError, Global};
+use std::alloc::Global;
 
 /// The records of a call, of records that came.
 #[derive(Drop, Debug)]
@@ -14,18 +14,6 @@ pub enum BatchRecords {
     InRow(u32),
     /// Copies of them.
     Copied(Vec<Record>),
-}
-
-fn record_copy(alloc: Global, item: &Record) -> Result<Record, OutOfMemory>
-    ensures { IfOk result (λ copy. copy ≡ item.now) }
-{
-    Ok(Record {
-        shard: item.shard,
-        seq: item.seq.copy(alloc)?,
-        key: item.key.copy(alloc)?,
-        payload: item.payload.copy(alloc)?,
-        arrival: item.arrival,
-    })
 }
 
 /// The record that the named one at the position is, among those that came.
@@ -69,7 +57,7 @@ fn copies(alloc: Global, records: &[Record], named: &[Named]) -> Result<Vec<Reco
 {
     let mut copies = Vec::with_capacity(alloc, named.len())?;
     for i in 0..named.len() {
-        let copy = record_copy(alloc, record_named(records, named, i))?;
+        let copy = record_named(records, named, i).copy()?;
         copies.push(copy)?;
     }
     Ok(copies)
@@ -100,17 +88,10 @@ fn names_of(alloc: Global, records: &[Record]) -> Result<Vec<Seq>, OutOfMemory>
 {
     let mut names = Vec::with_capacity(alloc, records.len())?;
     for item in records {
-        let name = item.seq.copy(alloc)?;
+        let name = item.number(alloc)?;
         names.push(name)?;
     }
     Ok(names)
-}
-
-/// The sequence numbers of the records.
-fn names_in(alloc: Global, records: Vec<Record>) -> Result<Vec<Seq>, AllocError>
-    ensures { IfOk result (λ names. names.items ≡ map (λ (r : Record). r.seq) records.items) }
-{
-    records.into_iter().map(|item| item.seq).collect(alloc)
 }
 
 fn row_of(records: &[Record], first: u32, count: usize) -> &[Record]
@@ -133,7 +114,7 @@ impl BatchRecords {
         }
     }
 
-    /// Their sequence numbers, those of copies without copying them.
+    /// Copies of their sequence numbers.
     pub fn into_names(
         self,
         alloc: Global,
@@ -145,7 +126,7 @@ impl BatchRecords {
     {
         match self {
             BatchRecords::InRow(first) => names_of(alloc, row_of(came, first, count)),
-            BatchRecords::Copied(copies) => Ok(names_in(alloc, copies)?),
+            BatchRecords::Copied(copies) => names_of(alloc, copies.as_slice()),
         }
     }
 }

@@ -6,7 +6,7 @@ ghost use Rattle.esm_journal_record.specs.EntryPayload.{AllMayBeSaid};
 ghost use Rattle.esm_record_bounds.specs.Bounds.{AreWithinBounds};
 ghost use Rattle.esm_replay_model.specs.ReplaySetting.{ReplaySetting};
 ghost use Rattle.esm_replay_model.specs.ReplayRun.{IsReplay};
-ghost use Rattle.esm_model.specs.declared.item.Record.{Record};
+ghost use Rattle.esm_model.specs.Records.{Record};
 ghost use Rattle.esm_journal_state.specs.SaidLists.{SaidLists};
 ghost use Rattle.esm_replay.specs.Coming.{first_change, NoneDiffers};
 ghost use Rattle.esm_replay.specs.Saying.{HaveFewRecords};

@@ -38,6 +38,6 @@ pub fn names_near(
     ensures { result ≡ names_by fate said.now ranges.now item.now place }
 {
     is_failure(fate)
-        && ranges.hold_near(near, item.shard, &item.seq)
-        && !said.replayed(item.shard, place)
+        && ranges.hold_near(near, item.shard(), item.seq())
+        && !said.replayed(item.shard(), place)
 }

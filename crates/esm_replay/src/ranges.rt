@@ -1,11 +1,11 @@
 // Ranges of sequence numbers, by which a record is found in the logarithm of their number.
-ghost use Rattle.std.specs.Prelude.{◌≡◌, ◌≤◌, ◌==◌, ◌&&◌, not, ℕ, List, None, IfOk, length, true, false, option_copied};
+ghost use Rattle.std.specs.Prelude.{◌≡◌, ◌≤◌, ◌==◌, ◌&&◌, not, List, None, IfOk, length, true, false, option_copied};
 ghost use Rattle.std.specs.List.Sorted.{IsPermutation, IsSortedBy, IsPartitionPoint};
 ghost use Rattle.esm_replay_model.specs.declared.range.Range.{Range};
 ghost use Rattle.esm_replay_model.specs.ReplaySetting.{is_up_to, is_in_range, is_in_ranges};
 ghost use Rattle.esm_replay.specs.Ranges.{start_of, start_cmp, starts_before, starts_by, reaching, all_reaching, last_range, AllLead};
 
-use esm_model::{OutOfMemory, Seq};
+use esm_model::{OutOfMemory, number_order};
 use esm_replay_model::Range;
 use std::alloc::Global;
 use std::cmp::Ordering;
@@ -34,17 +34,19 @@ impl Model for Ranges {
     ghost invariant = { λ r. AllLead r.ranges.items × HoldAlike r.ranges.items r.given.value.items };
 }
 
-fn order(a: &Range, shard: u64, number: &Seq) -> Ordering
+fn order(a: &Range, shard: u64, number: &[u8]) -> Ordering
     ensures { result ≡ start_cmp (start_of a.now) (shard, number.now) }
 {
-    a.shard.cmp(&shard).then(a.first.order(number))
+    a.shard
+        .cmp(&shard)
+        .then(number_order(a.first.digits(), number))
 }
 
 fn sort(ranges: &mut Vec<Range>)
     ensures permutation { IsPermutation ranges.old.items ranges.new.items }
     ensures sorted { IsSortedBy starts_before ranges.new.items }
 {
-    ranges.sort_unstable_by(|a, b| order(a, b.shard, &b.first));
+    ranges.sort_unstable_by(|a, b| order(a, b.shard, b.first.digits()));
 }
 
 /// Whether the range ends before the one before it in its shard does.
@@ -93,7 +95,7 @@ fn all_reaching(alloc: Global, ranges: Vec<Range>) -> Result<Vec<Range>, OutOfMe
 }
 
 /// The number of ranges that start at the number of the shard or before it, by binary search.
-fn started_by(ranges: &[Range], shard: u64, number: &Seq) -> usize
+fn started_by(ranges: &[Range], shard: u64, number: &[u8]) -> usize
     requires lead { AllLead ranges.now }
     ensures bound { result ≤ length ranges.now }
     ensures point { IsPartitionPoint (λ (r : Range). starts_by (shard, number.now) r ≡ true)
@@ -103,14 +105,16 @@ fn started_by(ranges: &[Range], shard: u64, number: &Seq) -> usize
 }
 
 /// Whether the range holds the number of the shard.
-fn holds(range: &Range, shard: u64, number: &Seq) -> bool
+fn holds(range: &Range, shard: u64, number: &[u8]) -> bool
     ensures { result ≡ is_in_range shard number.now range.now }
 {
-    range.shard == shard && (range.first.order(number).is_le() && number.order(&range.last).is_le())
+    range.shard == shard
+        && (number_order(range.first.digits(), number).is_le()
+            && number_order(number, range.last.digits()).is_le())
 }
 
 /// Whether there is a range at the place which holds the number of the shard.
-fn holds_at(ranges: &[Range], place: usize, shard: u64, number: &Seq) -> bool
+fn holds_at(ranges: &[Range], place: usize, shard: u64, number: &[u8]) -> bool
     ensures { result ≡ true → is_in_ranges ranges.now shard number.now ≡ true }
 {
     match ranges.get(place) {
@@ -120,10 +124,10 @@ fn holds_at(ranges: &[Range], place: usize, shard: u64, number: &Seq) -> bool
 }
 
 /// Whether the range is of the shard and does not end before the number.
-fn reaches(range: &Range, shard: u64, number: &Seq) -> bool
+fn reaches(range: &Range, shard: u64, number: &[u8]) -> bool
     ensures { result ≡ ((range.now.shard == shard) && is_up_to number.now range.now.last) }
 {
-    range.shard == shard && number.order(&range.last).is_le()
+    range.shard == shard && number_order(number, range.last.digits()).is_le()
 }
 
 impl Ranges {
@@ -142,7 +146,7 @@ impl Ranges {
     }
 
     /// Whether a range holds the sequence number of the shard, found in the logarithm of the ranges. Takes no memory.
-    pub fn hold(&self, shard: u64, number: &Seq) -> bool
+    pub fn hold(&self, shard: u64, number: &[u8]) -> bool
         ensures { result ≡ is_in_ranges self.now shard number.now }
     {
         let mut near = 0;
@@ -151,7 +155,7 @@ impl Ranges {
 
     /// The same, where a list of records is asked for in turn: the range at `near` is looked at first, and where that does
     /// not hold the number, `near` is the range at which the search ended. Any `near` will do. Takes no memory.
-    pub fn hold_near(&self, near: &mut usize, shard: u64, number: &Seq) -> bool
+    pub fn hold_near(&self, near: &mut usize, shard: u64, number: &[u8]) -> bool
         ensures { result ≡ is_in_ranges self.now shard number.now }
     {
         if holds_at(self.ranges.as_slice(), *near, shard, number) {

@@ -94,7 +94,7 @@ pub(crate) fn rows_of(
     let mut rows = BTreeMap::new(alloc);
     for (i, item) in records.iter().enumerate() {
         let is_named = named_at(named, i);
-        add(alloc, &mut rows, item.shard, is_named, i as u32)?;
+        add(alloc, &mut rows, item.shard(), is_named, i as u32)?;
     }
     Ok(rows)
 }

@@ -7,7 +7,7 @@ use Rattle.std.specs.Map.{count_at, lookup}
 use Rattle.std.specs.BTreeMap.{BTreeMap, get, is_at, IsUnchanged, Updates}
 use Rattle.std.proofs.lemmas.Bool.{cases_Bool, eqb-true}
 use Rattle.std.proofs.lemmas.List.Elements.{All-more, All-weaker}
-use Rattle.esm_model.specs.declared.item.Record.{Record}
+use Rattle.esm_model.specs.Records.{Record}
 use Rattle.esm_journal_state.proofs.Pairs.{is_eq-nat}
 use Rattle.esm_replay_core.specs.Counts.{HasCount, IsRecounted, HasOneMore}
 

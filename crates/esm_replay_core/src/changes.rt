@@ -5,7 +5,7 @@ ghost use Rattle.std.specs.Ordering.{nat_cmp};
 ghost use Rattle.std.specs.Map.{count_at};
 ghost use Rattle.std.specs.BTreeMap.{get};
 ghost use Rattle.std.specs.Str.{bytes_eq};
-ghost use Rattle.esm_model.specs.declared.item.Record.{Record};
+ghost use Rattle.esm_model.specs.Records.{Record};
 ghost use Rattle.esm_model.specs.declared.setup.FoundTries.{FoundTries};
 ghost use Rattle.esm_journal_state.specs.SaidLists.{tries_told};
 ghost use Rattle.esm_book.specs.Decided.{IsRefused};
@@ -16,7 +16,7 @@ ghost use Rattle.esm_replay_core.specs.Counts.{AreCounted};
 use crate::tally::{count_next, new_tally, take_in_hand};
 use esm_book::Refusal;
 use esm_journal_state::Says;
-use esm_model::{Change, OutOfMemory, Record, Seq, Text};
+use esm_model::{Change, OutOfMemory, Record, Text};
 use esm_replay::{Ranges, names_near};
 use std::alloc::Global;
 use std::collections::BTreeMap;
@@ -46,14 +46,14 @@ fn tries_text(said: &Says, shard: u64, place: u32) -> Option<&Text>
     }
 }
 
-fn same_text(kept: &Text, number: &Seq) -> bool
+fn same_text(kept: &Text, number: &[u8]) -> bool
     ensures { result ≡ bytes_eq kept.now number.now }
 {
-    kept.as_slice() == number.text().as_bytes()
+    kept.as_slice() == number
 }
 
 /// The text, where there is one and it is another than the sequence number.
-fn other_text<'a>(number: &Seq, kept: Option<&'a Text>) -> Option<&'a Text>
+fn other_text<'a>(number: &[u8], kept: Option<&'a Text>) -> Option<&'a Text>
     ensures { option_copied result ≡ other_text number.now (option_copied kept.entry) }
 {
     match kept {
@@ -78,9 +78,9 @@ fn kept_otherwise<'a>(
     ensures { option_copied result ≡ option_or (other_text item.now.seq (option_copied of_fate.entry))
         (other_text item.now.seq (option_map (λ (f : FoundTries). f.text) (tries_told said.entry.now item.now.shard place))) }
 {
-    match other_text(&item.seq, of_fate) {
+    match other_text(item.seq(), of_fate) {
         Some(kept) => Some(kept),
-        None => other_text(&item.seq, tries_text(said, item.shard, place)),
+        None => other_text(item.seq(), tries_text(said, item.shard(), place)),
     }
 }
 
@@ -96,9 +96,9 @@ fn change_from(
     match kept {
         None => Ok(None),
         Some(kept) => {
-            let given = String::from_str(alloc, item.seq.text())?;
+            let given = String::from_str(alloc, item.seq_text())?;
             Ok(Some(Change {
-                shard: item.shard,
+                shard: item.shard(),
                 place,
                 kept: kept.copy(alloc)?,
                 given: Text::from_vec(given),
@@ -119,7 +119,7 @@ fn look_up(
     ensures change { IfOk result (λ look. look.change ≡ option_map (change_of item.now place) (kept_otherwise said.now item.now.shard place item.now.seq)) }
     ensures named { IfOk result (λ look. look.is_named ≡ names said.now ranges.now item.now place) }
 {
-    match said.fate(item.shard, place) {
+    match said.fate(item.shard(), place) {
         None => {
             let kept = kept_otherwise(said, item, place, None);
             let change = change_from(alloc, item, place, kept)?;
@@ -155,7 +155,7 @@ pub(crate) fn first_change(
     let mut named = Vec::with_capacity(alloc, items.len())?;
     let mut near = 0;
     for item in items {
-        take_in_hand(&mut tally, counts, item.shard)?;
+        take_in_hand(&mut tally, counts, item.shard())?;
         let found = look_up(alloc, said, ranges, &mut near, item, tally.place)?;
         let Look { change, is_named } = found;
         if change.is_some() {

@@ -72,8 +72,9 @@ pub(crate) fn make_counts(
 {
     let mut last = None;
     for item in items {
-        make_next(counts, last, item.shard)?;
-        last = Some(item.shard);
+        let shard = item.shard();
+        make_next(counts, last, shard)?;
+        last = Some(shard);
     }
     Ok(())
 }

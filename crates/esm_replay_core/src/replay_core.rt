@@ -339,7 +339,7 @@ impl ReplayCore {
             Owed::Coming => {
                 let item = &self.records[self.came];
                 let is_named = self.are_named[self.came];
-                count_one(&mut self.counts, item.shard);
+                count_one(&mut self.counts, item.shard());
                 self.named += one_if(is_named);
                 self.came += 1;
                 put(&mut self.owed, still_coming(self.came, self.records.len()));

@@ -5,7 +5,7 @@ use Rattle.std.proofs.lemmas.Bool.{cases_Bool, eq-eqb, eqb-true}
 use Rattle.std.proofs.lemmas.List.{append-nil, reverse-append}
 use Rattle.std.proofs.Math.Seq.{drop-append_seam, take-length}
 use Rattle.esm_io.specs.Meanings.{DiskMeaning, DestMeaning}
-use Rattle.esm_model.specs.declared.item.Record.{Record}
+use Rattle.esm_model.specs.Records.{Record}
 use Rattle.esm_model.specs.declared.book.BookError.{BookError}
 use Rattle.esm_model.specs.declared.book.BookError.TheVariants as why
 use Rattle.esm_model.specs.declared.book.CameError.{CameError}

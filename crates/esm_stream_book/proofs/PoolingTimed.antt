@@ -14,7 +14,7 @@ use Rattle.esm_model.specs.declared.book.Trouble.TheVariants.{Disk, Dest}
 use Rattle.esm_model.specs.declared.config.Config.{Config}
 use Rattle.esm_model.specs.declared.entry.Entry.TheVariants.{Shut, Ended}
 use Rattle.esm_model.specs.declared.entry.Reply.{Reply}
-use Rattle.esm_model.specs.declared.item.Record.{Record}
+use Rattle.esm_model.specs.Records.{Record}
 use Rattle.esm_ingest.specs.Parts.{parts_of}
 use Rattle.esm_stream_core.specs.Calls.{moment_for, coming_lists, came_entries, ended_entries}
 use Rattle.esm_stream_core.specs.CoreView.{setting_with}

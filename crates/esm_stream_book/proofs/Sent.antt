@@ -15,21 +15,29 @@ use Rattle.esm_journal.proofs.pair.Pair.TheSendSync as pair
 use Rattle.esm_filter.proofs.pattern.Rule.TheLaws.TheKnot as rule
 use Rattle.esm_filter.proofs.pattern.Test.TheSendSync as test
 use Rattle.esm_filter.specs.contracts.criteria.Criteria as Criteria
-use Rattle.esm_ledger.proofs.coming.Coming.TheSendSync as coming
-use Rattle.esm_ledger.proofs.shard.ShardLedger.TheSendSync as shard
+use Rattle.esm_ledger.proofs.arriving.Arriving.TheSendSync as arriving
+use Rattle.esm_ledger.proofs.measure.Measure.TheSendSync as measure
 use Rattle.esm_ledger.specs.contracts.coming.Coming as Coming
 use Rattle.esm_ledger.specs.contracts.ledger.Ledger as Ledger
+use Rattle.esm_ledger.specs.contracts.records.Records as Records
+use Rattle.esm_ledger.specs.contracts.records.Records.TheInside as RecordsInside
 use Rattle.esm_ledger.specs.contracts.shard.ShardLedger as ShardLedger
 use Rattle.esm_model.proofs.config.Config.TheSendSync as config
 use Rattle.esm_model.proofs.entry.Fate.TheSendSync as fate
 use Rattle.esm_model.proofs.entry.WindowState.TheSendSync as state
 use Rattle.esm_model.proofs.lane.LaneId.TheSendSync as lane
+use Rattle.esm_model.proofs.record.Record.TheSendSync as item
 use Rattle.esm_model.proofs.text.Places.TheSendSync as places
 use Rattle.esm_model.proofs.text.Text.TheSendSync as text
 use Rattle.esm_model.specs.contracts.config.Config as Config
 use Rattle.esm_model.specs.contracts.entry.Entry as Entry
 use Rattle.esm_model.specs.contracts.entry.PastReply as PastReply
 use Rattle.esm_model.specs.contracts.entry.PastReply.TheInside as PastInside
+use Rattle.esm_shard_index.proofs.arrivals.Arrivals.TheSendSync as arrivals
+use Rattle.esm_shard_index.proofs.callings.Callings.TheSendSync as callings
+use Rattle.esm_shard_index.proofs.lane_table.LaneTable.TheSendSync as lane_table
+use Rattle.esm_shard_index.proofs.progress.Progress.TheSendSync as progress
+use Rattle.esm_shard_index.proofs.windows.Windows.TheSendSync as windows
 use Rattle.esm_stream_core.proofs.owed.Owed.TheSendSync as owed
 use Rattle.esm_stream_core.proofs.standing.Standing.TheSendSync as standing
 use Rattle.esm_stream_core.specs.contracts.owed.Owed as Owed
@@ -72,6 +80,19 @@ past = view_send PastInside.the_row _ _ _ _ past_fields
 entry : IsSend Entry.the_row
 entry = search (past, fate.the_send, state.the_send, lane.the_send, places.the_send, text.the_send, sendable, crosses) depth 60
 
+-- a shard's records, of which some are known to contracts alone
+records_fields : IsSend RecordsInside.the_row
+records_fields = search (item.the_send, sendable, crosses) depth 60
+
+records : IsSend Records.the_row
+records = view_send RecordsInside.the_row _ _ _ _ records_fields
+
+shard : IsSend ShardLedger.the_row
+shard = search (records, measure.the_send, progress.the_send, arrivals.the_send, callings.the_send, windows.the_send, lane_table.the_send, sendable, crosses) depth 60
+
+coming : IsSend Coming.the_row
+coming = search (shard, arriving.the_send, sendable, crosses) depth 60
+
 ledger : IsSend Ledger.the_row
 ledger = declared_send Ledger.the_type (
   as_row_send Config.the_field config.the_field_send,
@@ -89,7 +110,7 @@ ledger = declared_send Ledger.the_type (
               u64s,
               (
                 u32s,
-                (listed ShardLedger.the_row shard.the_send, tt),
+                (listed ShardLedger.the_row shard, tt),
               ),
             ),
           ),
@@ -105,7 +126,7 @@ core_fields = declared_send CoreInside.the_type (
   (
     criteria,
     (
-      listed Coming.the_row coming.the_send,
+      listed Coming.the_row coming,
       (
         listed Owed.the_row owed.the_send,
         (as_row_send Standing.the_field standing.the_field_send, tt),

@@ -1,7 +1,7 @@
 -- The items of a stream that came to its book, and the change that one of a list brings. This product's own.
 use Rattle.std.specs.Prelude.{◌≡◌, ℕ, List, [], ◌∷◌, map, Some}
 use Rattle.esm_model.specs.declared.book.Change.{Change}
-use Rattle.esm_model.specs.declared.item.Record.{Record}
+use Rattle.esm_model.specs.Records.{Record}
 use Rattle.esm_model.specs.declared.setup.Setup.{Setup}
 use Rattle.esm_model.specs.declared.setup.Told.{Told}
 use Rattle.esm_model.specs.Books.{entries_told, records_told, setting_told}

@@ -7,7 +7,7 @@ ghost use Rattle.esm_model.specs.declared.book.Trouble.{Trouble};
 ghost use Rattle.esm_model.specs.declared.config.Config.{Config};
 ghost use Rattle.esm_model.specs.declared.entry.Entry.{Entry};
 ghost use Rattle.esm_model.specs.declared.entry.Reply.{Reply};
-ghost use Rattle.esm_model.specs.declared.item.Record.{Record};
+ghost use Rattle.esm_model.specs.Records.{Record};
 ghost use Rattle.esm_model.specs.declared.lane.LaneId.{LaneId};
 ghost use Rattle.esm_model.specs.Entries.{moment_of};
 ghost use Rattle.esm_model.specs.Setting.{Setting};

@@ -1,14 +1,11 @@
 // What a journal's payloads say of a stream, and the filter of its mapping.
-ghost use Rattle.std.specs.Prelude.{◌≡◌, true, ℕ, is_ok, IfOk, IfErr, OnOk, reverse};
+ghost use Rattle.std.specs.Prelude.{◌≡◌, true, is_ok, IfOk, IfErr, OnOk, reverse};
 ghost use Rattle.esm_filter.specs.Criteria.{JudgesRecords};
-ghost use Rattle.esm_ledger.specs.Ledger.{opened_with};
 ghost use Rattle.esm_model.specs.Pattern.{read_patterns};
 ghost use Rattle.esm_model.specs.Valid.{IsStreamConfig, is_stream};
 ghost use Rattle.esm_journal_state.specs.Meaning.{history, are_good};
 ghost use Rattle.esm_journal_state.specs.SaidLists.{IsInOrder};
 ghost use Rattle.esm_journal_state.specs.Tells.{Tells};
-ghost use Rattle.esm_shard_index.specs.LaneHistory.{HasFoundTries};
-ghost use Rattle.esm_record_bounds.specs.Bounds.{AreStatesWithin};
 ghost use Rattle.esm_stream_book.specs.Opening.{IsNotOpened};
 
 use esm_filter::{Criteria, FilterError};

@@ -1,5 +1,5 @@
 // The book of a stream's mapping, over its journal and its failure destination.
-ghost use Rattle.std.specs.Prelude.{◌≡◌, ◌↔◌, ◌<◌, ◌≤◌, ℕ, List, [], ◌++◌, None, Some, true, false, is_ok, reverse, IfOk, IfErr, OnOk, OnErr, IsErrOf, IsSome};
+ghost use Rattle.std.specs.Prelude.{◌≡◌, ◌↔◌, ◌<◌, ◌≤◌, ℕ, List, [], None, Some, true, false, is_ok, reverse, IfOk, IfErr, OnOk, OnErr, IsErrOf, IsSome};
 ghost use Rattle.std.specs.Option.{option_copied};
 ghost use Rattle.esm_io.specs.Faults.{Rose};
 ghost use Rattle.esm_io.specs.Images.{Only};
@@ -19,7 +19,8 @@ ghost use Rattle.esm_model.specs.Valid.{IsStreamConfig, is_stream};
 ghost use Rattle.esm_record_bounds.specs.Bounds.{AreWithinBounds};
 ghost use Rattle.esm_stream_core.specs.Quiet.{IsQuiet, IsWanting};
 ghost use Rattle.esm_stream_core.specs.CoreView.{full_setting, setting_with};
-ghost use Rattle.esm_stream_core.specs.Calls.{moment_for, coming_lists, came_entries, Differs, IsResting, IsNextOver, IsRunningJob, ended_entries, given_by_end};
+ghost use Rattle.esm_stream_core.specs.Calls.{moment_for, coming_lists, came_entries, Differs, IsResting, IsNextOver, IsRunningJob};
+ghost use Rattle.esm_stream_core.specs.Calls.{ended_entries, given_by_end};
 ghost use Rattle.esm_stream_core.specs.Told.{opened, told_of, MayCome};
 ghost use Rattle.esm_book.specs.State.{in_hand};
 ghost use Rattle.esm_stream_book.specs.Books.{OpensToFirst, LeavesFirst, payloads_in};

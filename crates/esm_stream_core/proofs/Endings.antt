@@ -25,7 +25,7 @@ use Rattle.esm_stream_core.specs.declared.owed.Act.TheVariants as act
 use Rattle.esm_stream_core.specs.declared.owed.Owed.{Owed}
 use Rattle.esm_stream_core.specs.CoreView.{CoreView, lines_of, owing}
 use Rattle.esm_stream_core.specs.Kept.{MayAdd, Decides, IsSame, IsLedgerOf}
-use Rattle.esm_stream_core.specs.Acts.{act_entry, entries_of, AreWritten, IsWritable, AreWritable, AreNext, due_act, IsDue, AreDue}
+use Rattle.esm_stream_core.specs.Acts.{act_entry, entries_of, AreWritten, IsWritable, AreWritable, NamesOpen, AllNameOpen, AreNext, due_act, IsDue, AreDue}
 use Rattle.esm_stream_core.specs.Adding.{costs, cost_of, IsReadyAlone, ArePayable}
 use Rattle.esm_stream_core.proofs.Rooms.{own_legal}
 use Rattle.esm_stream_core.proofs.Settling.{may_add}
@@ -118,10 +118,21 @@ writable_in : (s : Setting) (lane : LaneId) (m : ℕ) (left : List Due) (d : Due
 writable_in s lane m [] d done w = w.0
 writable_in s lane m (x ∷ left) d done w = writable_in s lane m left d done w.1
 
+popped_from : (s : Setting) (lane : LaneId) (m : ℕ) (all rest left : List Due) (d : Due) (owed : List Owed) (t : IsTurned s lane m all rest owed) → rest ≡ left ++ d ∷ [] → all ≡ left ++ d ∷ t.done
+popped_from s lane m all rest left d owed t popped = t.split ∙ ap (λ (ds : List Due). ds ++ t.done) popped ∙ append_assoc left (d ∷ []) t.done
+
 pub popped_writable : (s : Setting) (lane : LaneId) (m : ℕ) (all rest left : List Due) (d : Due) (owed : List Owed) → IsTurned s lane m all rest owed → rest ≡ left ++ d ∷ [] → AreWritable s (map (due_entry lane m) all) → IsWritable s (due_entry lane m d)
 popped_writable s lane m all rest left d owed t popped w =
     writable_in s lane m left d t.done
-    (subst (λ (ds : List Due). AreWritable s (map (due_entry lane m) ds)) (t.split ∙ ap (λ (ds : List Due). ds ++ t.done) popped ∙ append_assoc left (d ∷ []) t.done) w)
+    (subst (λ (ds : List Due). AreWritable s (map (due_entry lane m) ds)) (popped_from s lane m all rest left d owed t popped) w)
+
+open_in : (s : Setting) (h : List Entry) (lane : LaneId) (m : ℕ) (left : List Due) (d : Due) (done : List Due) → AllNameOpen s h (map (due_entry lane m) (left ++ d ∷ done)) → NamesOpen s h (due_entry lane m d)
+open_in s h lane m [] d done w = w.0
+open_in s h lane m (x ∷ left) d done w = open_in s h lane m left d done w.1
+
+pub popped_open : (s : Setting) (h : List Entry) (lane : LaneId) (m : ℕ) (all rest left : List Due) (d : Due) (owed : List Owed) → IsTurned s lane m all rest owed → rest ≡ left ++ d ∷ [] → AllNameOpen s h (map (due_entry lane m) all) → NamesOpen s h (due_entry lane m d)
+popped_open s h lane m all rest left d owed t popped w =
+    open_in s h lane m left d t.done (subst (λ (ds : List Due). AllNameOpen s h (map (due_entry lane m) ds)) (popped_from s lane m all rest left d owed t popped) w)
 
 -- as they stand in what is decided
 

@@ -20,6 +20,7 @@ pub mod Calls
 pub mod Lengths
 pub mod LineBounds
 pub mod Fates
+pub mod OpenNames
 pub mod Openings
 pub mod Places
 pub mod Parts

@@ -1,6 +1,7 @@
 -- Entries that are owed, and what is written of them. Only this crate's proofs cite this.
-use Rattle.std.specs.Prelude.{◌≡◌, ℕ, ◌≤◌, List, [], ◌∷◌, length, map, Some, None, IfSome, ⊤}
-use Rattle.std.specs.List.{filter_map}
+use Rattle.std.specs.Prelude.{◌≡◌, ℕ, ◌≤◌, true, List, [], ◌∷◌, length, map, Vec, Some, None, IfSome, ⊤}
+use Rattle.std.specs.List.{All, filter_map}
+use Rattle.std.specs.declared.alloc.Global.{Global}
 use Rattle.esm_model.specs.declared.limits.TheConstants.{MAX_PAYLOAD}
 use Rattle.esm_model.specs.declared.moment.TheConstants.{MAX_MOMENT}
 use Rattle.esm_model.specs.declared.lane.LaneId.{LaneId}
@@ -9,6 +10,7 @@ use Rattle.esm_model.specs.declared.entry.Entry.{Entry}
 use Rattle.esm_model.specs.declared.entry.Entry.TheVariants as entry
 use Rattle.esm_model.specs.Setting.{Setting, Stream}
 use Rattle.esm_model.specs.Entries.{moment_of}
+use Rattle.esm_model.specs.Fates.{lacks_fate}
 use Rattle.esm_model.specs.Step.{Legal}
 use Rattle.esm_model.specs.Books.{entry_line}
 use Rattle.esm_journal_record.specs.declared.said.Said.{Said}
@@ -59,6 +61,10 @@ AreWritten s (o ∷ owed) = IsWritten s o × AreWritten s owed
 abbrev pub HasShortPayload : Owed → Type 0
 HasShortPayload o = IfSome o.payload (λ (bytes : List ℕ). length bytes ≤ MAX_PAYLOAD)
 
+-- the bytes say it
+abbrev pub IsPayloadOf : Said → Vec ℕ Global → Type 0
+IsPayloadOf said out = out.items ≡ payload_of said
+
 -- the payloads of those that have one
 abbrev pub payloads_in : List Owed → List (List ℕ)
 payloads_in owed = filter_map (λ (o : Owed). o.payload) owed
@@ -75,6 +81,23 @@ pub record IsWritable (s : Setting) (e : Entry) : Type 0 where
 abbrev pub AreWritable : Setting → List Entry → Type 0
 AreWritable s [] = ⊤
 AreWritable s (e ∷ es) = IsWritable s e × AreWritable s es
+
+-- the records that are named
+
+-- none of the shard's records at the places has a fate
+abbrev pub AreOpen : Setting → List Entry → ℕ → List ℕ → Type 0
+AreOpen s h n places = All (λ i. lacks_fate s h n i ≡ true) places
+
+-- nor has one that is named in what is written of the entry
+abbrev pub NamesOpen : Setting → List Entry → Entry → Type 0
+NamesOpen s h (entry.Gave by shard places fate line state moment) = AreOpen s h shard places
+NamesOpen s h (entry.Tried lane places closing tries moment) = AreOpen s h lane.shard places
+NamesOpen s h _ = ⊤
+
+-- nor in what is written of any of them
+abbrev pub AllNameOpen : Setting → List Entry → List Entry → Type 0
+AllNameOpen s h [] = ⊤
+AllNameOpen s h (e ∷ es) = NamesOpen s h e × AllNameOpen s h es
 
 -- the entry may follow the history, in which places have four bytes
 pub record IsNext (s : Setting) (h : List Entry) (e : Entry) : Type 0 where

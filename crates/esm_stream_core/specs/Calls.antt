@@ -2,7 +2,7 @@
 -- Lambda Developer Guide, event source mappings for Kinesis.
 use Rattle.std.specs.Prelude.{◌≡◌, ℕ, ◌+◌, max, true, false, List, [], ◌∷◌, length, map, Some, None}
 use Rattle.esm_model.specs.Moment.{capped_moment}
-use Rattle.esm_model.specs.declared.item.Record.{Record}
+use Rattle.esm_model.specs.Records.{Record}
 use Rattle.esm_model.specs.declared.lane.LaneId.{LaneId}
 use Rattle.esm_model.specs.declared.book.Job.{Job}
 use Rattle.esm_model.specs.declared.book.Next.{Next}

@@ -1,7 +1,7 @@
 // Records that come to the ledger: the arrivals that are owed, part by part, and what the filter refuses of them.
 ghost use Rattle.std.specs.Prelude.{◌≡◌, ℕ, ◌+◌, ◌<◌, ◌++◌, ◌∷◌, [], All, not, true, false, map, length, reverse, slice_index_or, IfOk, OnOk, OnErr};
 ghost use Rattle.esm_model.specs.Entries.{holds};
-ghost use Rattle.esm_journal_record.specs.Payload.{payload_of, IsSaid, names_bytes};
+ghost use Rattle.esm_journal_record.specs.Payload.{IsSaid, names_bytes};
 ghost use Rattle.esm_ledger.specs.Ledger.{past_of, setting_of, HasRoom, HasShardRoom, Keeps};
 ghost use Rattle.esm_ledger.specs.Prepared.{StaysElsewhere};
 ghost use Rattle.esm_ingest.specs.Parts.{part};
@@ -11,7 +11,7 @@ ghost use Rattle.esm_stream_core.specs.Calls.{streams_of};
 ghost use Rattle.esm_stream_core.specs.Standing.{is_whole};
 ghost use Rattle.esm_stream_core.specs.CoreView.{LegalAhead, SettledAhead, owing, forgotten};
 ghost use Rattle.esm_record_bounds.specs.Bounds.{AreWithinBounds};
-ghost use Rattle.esm_stream_core.specs.Acts.{entries_of, parts_of};
+ghost use Rattle.esm_stream_core.specs.Acts.{entries_of, parts_of, IsPayloadOf};
 ghost use Rattle.esm_stream_core.specs.Kept.{Decides, IsSame};
 
 use crate::owed::{Act, Owed};
@@ -54,7 +54,7 @@ fn push_names(
     ensures { OnOk result (out.new.items ≡ out.old.items ++ names_bytes places.now (names_in first records.now places.now)) }
 {
     for place in places {
-        push_sequence(out, *place, &records[(*place - first) as usize].seq)?;
+        push_sequence(out, *place, &records[(*place - first) as usize])?;
     }
     Ok(())
 }
@@ -70,7 +70,7 @@ fn filtered_payload(
 ) -> Result<Vec<u8>, OutOfMemory>
     requires within { All (IsFrom first (length records.now)) places.now }
     requires said { IsSaid (part_said moment (record { shard = shard; first = first; records = records.now; refused = places.now })) }
-    ensures { IfOk result (λ out. out.items ≡ payload_of (part_said moment (record { shard = shard; first = first; records = records.now; refused = places.now }))) }
+    ensures { IfOk result (IsPayloadOf (part_said moment (record { shard = shard; first = first; records = records.now; refused = places.now }))) }
 {
     let (fate, state) = (Fate::Filtered, None);
     let places = places.as_slice();

@@ -1,5 +1,4 @@
 // The calls, answers and entries of a stream's book, and its core as one that decides them.
-ghost use Rattle.std.specs.Prelude.{◌≡◌};
 ghost use Rattle.esm_stream_core.specs.CoreView.{forgotten as forgotten_view};
 ghost use Rattle.esm_stream_core.specs.Told.{history_of, owed_of, opened, IsPayable, MayAsk, Decides, Refuses, IsChange, Notes};
 

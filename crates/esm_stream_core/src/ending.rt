@@ -6,6 +6,7 @@ ghost use Rattle.esm_outcome.specs.Dues.{due_entry};
 ghost use Rattle.esm_outcome.specs.Ending.{MaySettle};
 ghost use Rattle.esm_ledger.specs.Ledger.{HasRoom, Keeps};
 ghost use Rattle.esm_outcome.specs.Preparing.{IsPrepared, PreparesEnd, AreOfWindow};
+ghost use Rattle.esm_stream_core.specs.Acts.{AllNameOpen};
 ghost use Rattle.esm_stream_core.specs.Kept.{IsSame};
 ghost use Rattle.esm_stream_core.specs.Standing.{is_whole};
 ghost use Rattle.esm_stream_core.specs.CoreView.{lines_of, LegalAhead, SettledAhead, owing, forgotten};
@@ -56,6 +57,7 @@ impl StreamCore {
         requires verdict { outcome.verdict ≡ verdict_after self.old.setting self.old.past lane reply }
         requires few { vec_len outcome.dues ≤ 2 }
         requires may { MaySettle self.old.setting self.old.past (Entry.Ended lane reply moment ∷ map (due_entry lane moment) outcome.dues.items) }
+        requires open { AllNameOpen self.old.setting self.old.past (map (due_entry lane moment) outcome.dues.items) }
         requires lines { length (lines_of (map (due_entry lane moment) outcome.dues.items)) ≤ 1 }
         requires prepared { PreparesEnd self.old.past lane outcome.window }
         requires states { AreOfWindow outcome.window outcome.dues.items }

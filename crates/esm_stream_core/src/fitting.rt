@@ -16,7 +16,7 @@ pub(crate) fn fit_places(ledger: &Ledger, items: &[Record]) -> bool
         return false;
     }
     for item in items {
-        if ledger.came_of(item.shard) as usize > most - items.len() {
+        if ledger.came_of(item.shard()) as usize > most - items.len() {
             return false;
         }
     }

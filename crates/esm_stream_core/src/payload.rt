@@ -1,18 +1,18 @@
 //! What is written of an owed entry.
-ghost use Rattle.std.specs.Prelude.{◌≡◌, ◌++◌, ℕ, List, Some, None, length, map, reverse, option_copied, IfOk, OnOk};
-ghost use Rattle.esm_model.specs.declared.item.Record.{Record};
+ghost use Rattle.std.specs.Prelude.{◌≡◌, ◌++◌, List, Some, None, length, map, reverse, option_copied, IfOk, OnOk};
+ghost use Rattle.esm_model.specs.Records.{Record};
 ghost use Rattle.esm_model.specs.declared.entry.Fate.{Fate};
 ghost use Rattle.esm_model.specs.declared.entry.Entry.{Entry};
 ghost use Rattle.esm_model.specs.Setting.{Setting, sequences_at};
 ghost use Rattle.esm_model.specs.Valid.{IsStreamConfig};
 ghost use Rattle.esm_journal_record.specs.declared.said.Said.{Said};
 ghost use Rattle.esm_journal_record.specs.EntryPayload.{entry_payload};
-ghost use Rattle.esm_journal_record.specs.Payload.{payload_of, IsSaid, name_bytes, names_bytes};
-ghost use Rattle.esm_ledger.specs.Ledger.{setting_of, Keeps};
+ghost use Rattle.esm_journal_record.specs.Payload.{IsSaid, name_bytes, names_bytes};
+ghost use Rattle.esm_ledger.specs.Ledger.{past_of, setting_of, Keeps};
 ghost use Rattle.esm_outcome.specs.Dues.{due_entry};
 ghost use Rattle.esm_record_bounds.specs.Bounds.{AreWithinBounds};
 ghost use Rattle.esm_stream_core.specs.declared.owed.Act.{Act};
-ghost use Rattle.esm_stream_core.specs.Acts.{IsWritten, IsWritable, AreWritable, AreNext, AreDue, due_act};
+ghost use Rattle.esm_stream_core.specs.Acts.{IsWritten, IsPayloadOf, IsWritable, AreWritable, AreOpen, NamesOpen, AllNameOpen, AreNext, AreDue, due_act};
 
 use crate::owed::{Act, Owed};
 use esm_journal_record::{Said, begin_fates, begin_tried, push_sequence, said_bytes};
@@ -37,7 +37,7 @@ fn push_name(out: &mut Vec<u8>, place: u32, found: Option<&Record>) -> Result<()
 {
     match found {
         None => Ok(()),
-        Some(record) => push_sequence(out, place, &record.seq),
+        Some(record) => push_sequence(out, place, record),
     }
 }
 
@@ -49,6 +49,7 @@ fn push_names(
     places: &[u32],
 ) -> Result<(), OutOfMemory>
     requires kept { Keeps ledger.now }
+    requires open { AreOpen (setting_of ledger.now) (past_of ledger.now) shard places.now }
     requires stand { length (sequences_at (setting_of ledger.now) shard places.now) ≡ length places.now }
     ensures { OnOk result (out.new.items ≡ out.old.items ++ names_bytes places.now (sequences_at (setting_of ledger.now) shard places.now)) }
 {
@@ -80,8 +81,9 @@ fn fates_payload(
     moment: u64,
 ) -> Result<Vec<u8>, OutOfMemory>
     requires kept { Keeps ledger.now }
+    requires open { AreOpen (setting_of ledger.now) (past_of ledger.now) shard places.now }
     requires said { IsSaid (Said.Fates shard fate moment state.now places.now (sequences_at (setting_of ledger.now) shard places.now)) }
-    ensures { IfOk result (λ out. out.items ≡ payload_of (Said.Fates shard fate moment state.now places.now (sequences_at (setting_of ledger.now) shard places.now))) }
+    ensures { IfOk result (IsPayloadOf (Said.Fates shard fate moment state.now places.now (sequences_at (setting_of ledger.now) shard places.now))) }
 {
     let places = places.as_slice();
     let mut out = begin_fates(alloc, shard, fate, moment, state, places.len() as u32)?;
@@ -99,6 +101,7 @@ pub(crate) fn expired(
     moment: u64,
 ) -> Result<Owed, OutOfMemory>
     requires kept { Keeps ledger.now }
+    requires open { AreOpen (setting_of ledger.now) (past_of ledger.now) lane.shard places }
     requires writable { IsWritable (setting_of ledger.now) (Entry.Gave (Some lane) lane.shard places Fate.Expired line None moment) }
     ensures act { IfOk result (λ owed. owed.act ≡ Act.Expired lane places line moment) }
     ensures written { IfOk result (IsWritten (setting_of ledger.now)) }
@@ -142,6 +145,7 @@ fn given(
     moment: u64,
 ) -> Result<Owed, OutOfMemory>
     requires kept { Keeps ledger.now }
+    requires open { AreOpen (setting_of ledger.now) (past_of ledger.now) lane.shard places }
     requires writable { IsWritable (setting_of ledger.now) (Entry.Gave (Some lane) lane.shard places fate line state moment) }
     ensures act { IfOk result (λ owed. owed.act ≡ Act.Gave (Some lane) lane.shard places fate line state state moment) }
     ensures written { IfOk result (IsWritten (setting_of ledger.now)) }
@@ -171,8 +175,9 @@ fn records_tried(
     moment: u64,
 ) -> Result<Vec<u8>, OutOfMemory>
     requires kept { Keeps ledger.now }
+    requires open { AreOpen (setting_of ledger.now) (past_of ledger.now) shard places.now }
     requires said { IsSaid (Said.Tried shard moment tries places.now (sequences_at (setting_of ledger.now) shard places.now)) }
-    ensures { IfOk result (λ out. out.items ≡ payload_of (Said.Tried shard moment tries places.now (sequences_at (setting_of ledger.now) shard places.now))) }
+    ensures { IfOk result (IsPayloadOf (Said.Tried shard moment tries places.now (sequences_at (setting_of ledger.now) shard places.now))) }
 {
     let places = places.as_slice();
     let mut out = begin_tried(alloc, shard, moment, tries, places.len() as u32)?;
@@ -191,6 +196,7 @@ fn tried_payload(
     moment: u64,
 ) -> Result<Vec<u8>, OutOfMemory>
     requires kept { Keeps ledger.now }
+    requires open { AreOpen (setting_of ledger.now) (past_of ledger.now) lane.shard places.now }
     requires writable { IsWritable (setting_of ledger.now) (Entry.Tried lane places.now closing tries moment) }
     ensures { IfOk result (λ out. entry_payload (setting_of ledger.now) (Entry.Tried lane places.now closing tries moment) ≡ Some out.items) }
 {
@@ -219,6 +225,7 @@ fn tried(
     moment: u64,
 ) -> Result<Owed, OutOfMemory>
     requires kept { Keeps ledger.now }
+    requires open { AreOpen (setting_of ledger.now) (past_of ledger.now) lane.shard places }
     requires writable { IsWritable (setting_of ledger.now) (Entry.Tried lane places closing tries moment) }
     ensures act { IfOk result (λ owed. owed.act ≡ Act.Tried lane places closing tries moment) }
     ensures written { IfOk result (IsWritten (setting_of ledger.now)) }
@@ -263,6 +270,7 @@ pub(crate) fn due_owed(
     moment: u64,
 ) -> Result<Owed, OutOfMemory>
     requires kept { Keeps ledger.now }
+    requires open { NamesOpen (setting_of ledger.now) (past_of ledger.now) (due_entry lane moment due) }
     requires writable { IsWritable (setting_of ledger.now) (due_entry lane moment due) }
     ensures act { IfOk result (λ owed. owed.act ≡ due_act lane moment due) }
     ensures written { IfOk result (IsWritten (setting_of ledger.now)) }
@@ -301,6 +309,7 @@ pub(crate) fn dues_owed(
     moment: u64,
 ) -> Result<Vec<Owed>, OutOfMemory>
     requires kept { Keeps ledger.now }
+    requires open { AllNameOpen (setting_of ledger.now) (past_of ledger.now) (map (due_entry lane moment) dues.items) }
     requires writable { AreWritable (setting_of ledger.now) (map (due_entry lane moment) dues.items) }
     ensures { IfOk result (λ owed. AreDue (setting_of ledger.now) lane moment dues.items (reverse owed.items)) }
 {

@@ -90,7 +90,8 @@ pub(crate) fn line_bound(owed: &[Owed]) -> Option<u64>
 
 /// The index of the shard among those that came, if it came.
 fn place_of(ledger: &Ledger, shard: u64) -> Option<usize>
-    ensures at { IfSome result (λ i. (i < length ledger.now.shards.items) × ((x : ShardLedger) → slice_get ledger.now.shards.items i ≡ Some x → x.shard ≡ shard)) }
+    ensures at { IfSome result (λ i. (i < length ledger.now.shards.items)
+        × ((x : ShardLedger) → slice_get ledger.now.shards.items i ≡ Some x → x.shard ≡ shard)) }
     ensures none { IfNone result ((x : ShardLedger) → IsAt ledger.now shard x → ⊥) }
 {
     ledger

@@ -1,5 +1,6 @@
 // The core of a stream's book: it decides on records that come, the input's end, batchers' asks and replies.
-ghost use Rattle.std.specs.Prelude.{◌≡◌, ℕ, ◌<◌, ◌≤◌, ◌^◌, ◌∷◌, [], Some, true, false, min, max, All, IfOk, IfErr, IfSome, IfNone, OnOk, OnErr, length, take, reverse};
+ghost use Rattle.std.specs.Prelude.{◌≡◌, ℕ, ◌<◌, ◌≤◌, ◌^◌, ◌∷◌, [], Some, true, false, min, max, All, IfOk, IfErr, IfSome, IfNone, OnOk};
+ghost use Rattle.std.specs.Prelude.{OnErr, length, take, reverse};
 ghost use Rattle.std.specs.List.{filter_map};
 ghost use Rattle.esm_model.specs.declared.limits.TheConstants.{MAX_BATCH, MAX_PAYLOAD};
 ghost use Rattle.esm_model.specs.declared.entry.Entry.{Entry};
@@ -16,8 +17,10 @@ ghost use Rattle.esm_record_bounds.specs.Bounds.{AreStatesWithin, AreWithinBound
 ghost use Rattle.esm_book.specs.Decided.{IsRefused, lengths_of, IsLineWithin};
 ghost use Rattle.esm_stream_core.specs.Quiet.{IsQuiet, IsWanting};
 ghost use Rattle.esm_stream_core.specs.Standing.{can_pay};
-ghost use Rattle.esm_stream_core.specs.CoreView.{new_view, full_setting, payloads_of, lines_of, LegalAhead, SettledAhead, HandFollows, owing, paid, forgotten, noted, noted_shut};
-ghost use Rattle.esm_stream_core.specs.Calls.{moment_for, coming_lists, came_entries, Differs, NoneDiffers, IsResting, IsNextOver, next_adds, IsRunningJob, ended_entries, given_by_end};
+ghost use Rattle.esm_stream_core.specs.CoreView.{new_view, full_setting, payloads_of, lines_of, LegalAhead, SettledAhead, HandFollows};
+ghost use Rattle.esm_stream_core.specs.CoreView.{owing, paid, forgotten, noted, noted_shut};
+ghost use Rattle.esm_stream_core.specs.Calls.{moment_for, coming_lists, came_entries, Differs, NoneDiffers, IsResting, IsNextOver};
+ghost use Rattle.esm_stream_core.specs.Calls.{next_adds, IsRunningJob, ended_entries, given_by_end};
 ghost use Rattle.esm_stream_core.specs.Told.{told_of};
 
 use crate::adding::{add_next, push, shut};
@@ -131,7 +134,8 @@ impl StreamCore {
         requires few { length items.items ≤ MAX_BATCH }
         requires valid { All IsValidRecord items.items }
         // what is owed
-        ensures owes { OnOk result (self.new ≡ owing self.old (coming_lists self.old items.items) (came_entries self.old items.items (moment_for self.old.past moment))) }
+        ensures owes { OnOk result (self.new ≡ owing self.old (coming_lists self.old items.items)
+            (came_entries self.old items.items (moment_for self.old.past moment))) }
         ensures same { OnOk result (NoneDiffers self.old items.items) }
         // what stands after a refusal
         ensures refused { IfErr result (IsRefused (Differs self.old items.items)) }

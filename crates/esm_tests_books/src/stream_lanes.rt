@@ -8,9 +8,9 @@ ghost use Rattle.esm_stream_core.specs.Calls.{IsResting};
 ghost use Rattle.esm_tests_books.specs.Streams.{lanes_mapping, IsOpen, Runs, KeepsOthers};
 
 use esm_book::Nowhere;
-use esm_fixtures::{fresh_pair, stream_mapping, text};
+use esm_fixtures::{fresh_pair, record_of, stream_mapping};
 use esm_io::MemDisk;
-use esm_model::{BookError, Bytes, Config, Encoded, Entry, Job, Next, Record, Reply, Seq};
+use esm_model::{BookError, Bytes, Config, Entry, Job, Next, Record, Reply};
 use esm_stream_book::Book;
 use std::alloc::{AllocError, Global};
 use std::test::Fail;
@@ -44,16 +44,7 @@ fn item(alloc: Global, seq: &str, key: &str) -> Result<Record, Fail>
     requires { is_between 1 MAX_KEY (char_count key.now) ≡ true }
     ensures { IfOk result IsValidRecord }
 {
-    let seq = Seq::read(alloc, seq)?;
-    let key = text(alloc, key)?;
-    let payload = Encoded::of(alloc, b"Hello")?;
-    Ok(Record {
-        shard: 0,
-        seq,
-        key,
-        payload,
-        arrival: 0,
-    })
+    Ok(record_of(alloc, seq, key, b"Hello")?)
 }
 
 /// The records 1 and 2, with the keys `1` and `2`.

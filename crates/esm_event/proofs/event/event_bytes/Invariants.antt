@@ -1,6 +1,6 @@
 use Rattle.std.proofs.Common.{◌≡◌, ◌+◌, ◌-◌, min, take, length, sum_by}
 use Rattle.esm_model.specs.EventText.{record_text}
-use Rattle.esm_model.specs.declared.item.Record.{Record}
+use Rattle.esm_model.specs.Records.{Record}
 use Rattle.esm_event.proofs.event.event_bytes.Given as goal
 
 abbrev pub invariant-loop-item : goal.invariant-loop-item

@@ -5,4 +5,4 @@ use Rattle.esm_event.proofs.length.escaped_bytes.Given as goal
 
 abbrev pub invariant-loop-byte : goal.invariant-loop-byte
 invariant-loop-byte l =
-    (l.total ≡ length (flat_map escaped_byte (take l.byte-index l.byte-items))) × (l.total ≤ 6 * l.byte-index)
+    (l.total ≡ length (flat_map escaped_byte (take l.byte-index l.text))) × (l.total ≤ 6 * l.byte-index)

@@ -1,6 +1,6 @@
 use Rattle.std.proofs.Common.{◌≡◌, ◌∙◌, ◌∷◌, [], List, suc, map, length, vec_len, rules, sym, ap, ap₂, arith}
 use Rattle.std.specs.Vec.Iter.{into_iter_items}
-use Rattle.esm_model.specs.declared.item.Record.{Record}
+use Rattle.esm_model.specs.Records.{Record}
 use Rattle.esm_model.specs.Setting.{Stream}
 use Rattle.esm_ingest.specs.declared.group.Group.{Group}
 use Rattle.esm_ingest.specs.Coming.{with_records}

@@ -1,5 +1,5 @@
 use Rattle.std.proofs.Common.{◌≡◌, ◌∙◌, List, length, refl, ap, arith}
-use Rattle.esm_model.specs.declared.item.Record.{Record}
+use Rattle.esm_model.specs.Records.{Record}
 use Rattle.esm_model.specs.Valid.{is_stream}
 use Rattle.esm_ledger.specs.Ledger.{past_of, setting_of}
 use Rattle.esm_ingest.specs.Judged.{IsJudgedBy}

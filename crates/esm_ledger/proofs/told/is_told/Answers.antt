@@ -1,7 +1,10 @@
 use Rattle.std.proofs.Common.{◌≡◌, ◌∙◌, false, sym}
 use Rattle.esm_journal_state.specs.SaidLists.{has_shard}
-use Rattle.esm_ledger.proofs.Untold.{not_listed, untold}
+use Rattle.esm_ledger.proofs.Untold.{found_listed, not_listed, untold}
 use Rattle.esm_ledger.proofs.told.is_told.Goals as goal
+
+pub returns-in-Ok-clause-told : goal.returns-in-Ok-clause-told
+returns-in-Ok-clause-told c = sym (found_listed c.shards.result.now c.args.shard _ c.in-Ok.ensures.position c.shards.ensures.rising) ∙ c.shards.ensures.all c.args.shard
 
 pub returns-in-Err : goal.returns-in-Err
 returns-in-Err c =
@@ -9,4 +12,4 @@ returns-in-Err c =
     let t = c.args.found.now in
     let none : has_shard t n ≡ false = sym (c.shards.ensures.all n) ∙ not_listed c.shards.result.now n _ c.in-Err.ensures.position c.shards.ensures.rising in
     let told = untold t n none in
-    record { fates = λ is. told.0; tries = λ is. told.1 }
+    record { told = sym none; fates = λ is. told.0; tries = λ is. told.1 }

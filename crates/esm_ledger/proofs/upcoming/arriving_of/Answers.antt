@@ -2,7 +2,7 @@ use Rattle.std.proofs.Common.{◌+◌, List, Option, length, ap, sym, ◌∙◌,
 use Rattle.std.specs.Prelude.{All}
 use Rattle.std.proofs.lemmas.Result.{IfOk-weaker}
 use Rattle.esm_model.specs.declared.config.Config.{Config}
-use Rattle.esm_model.specs.declared.item.Record.{Record}
+use Rattle.esm_model.specs.Records.{Record}
 use Rattle.esm_model.specs.declared.entry.Fate.{Fate}
 use Rattle.esm_shard_index.specs.Progress.{AreFound}
 use Rattle.esm_ledger.specs.declared.arriving.Landing.{Landing}

@@ -1,4 +1,4 @@
-use Rattle.std.proofs.Common.{◌≡◌, refl}
+use Rattle.std.proofs.Common.{refl}
 use Rattle.esm_model.proofs.laws.calls_for_three_records.Goals as goal
 
 pub returns : goal.returns

@@ -1,11 +1,13 @@
-use Rattle.std.proofs.Common.{◌≡◌, ◌≤◌, ◌∙◌, ℕ, false, take, sym, ap, subst, arith}
+use Rattle.std.proofs.Common.{◌≡◌, ◌≤◌, ◌∙◌, ℕ, true, false, take, sym, ap, subst, arith}
 use Rattle.std.specs.Prelude.{slice_index}
 use Rattle.std.specs.Option.{option_copied}
+use Rattle.std.proofs.lemmas.List.Elements.{All-take}
 use Rattle.esm_model.specs.declared.moment.TheConstants.{MAX_MOMENT}
+use Rattle.esm_model.specs.Fates.{lacks_fate}
 use Rattle.esm_ledger.specs.Ledger.{past_of, setting_of}
 use Rattle.esm_ledger.proofs.Ledgers.{own_legal}
 use Rattle.esm_next.proofs.Bounds.{window_in_low}
-use Rattle.esm_next.proofs.Lanes.{first_came, front_came}
+use Rattle.esm_next.proofs.Lanes.{first_came, front_came, first_open}
 use Rattle.esm_next.specs.Gathering.{call_in, window_in}
 use Rattle.esm_next.proofs.Batches.{IsFew, is_few, waits_here, goes_here}
 use Rattle.esm_next.proofs.batch.decide_batch.Goals as goal
@@ -26,6 +28,14 @@ window_call_of-requires-clause-moment c =
 pub cut_front-requires-clause-came : goal.cut_front-requires-clause-came
 cut_front-requires-clause-came c =
     front_came (setting_of c.args.ledger.now) (past_of c.args.ledger.now) c.args.lane c.args.now c.args.places.now c.args.fresh c.min-most.result c.requires.front
+
+pub cut_front-requires-clause-open : goal.cut_front-requires-clause-open
+cut_front-requires-clause-open c = first_open (setting_of c.args.ledger.now) (past_of c.args.ledger.now) c.args.lane c.args.now c.args.places.now c.args.fresh c.min-most.result c.requires.front
+
+pub job-requires-clause-open : goal.job-requires-clause-open
+job-requires-clause-open c =
+    All-take (λ i. lacks_fate (setting_of c.args.ledger.now) (past_of c.args.ledger.now) c.args.lane.shard i ≡ true) c.in_ok-cut.cut.count (take c.min-most.result c.args.places.now)
+    (first_open (setting_of c.args.ledger.now) (past_of c.args.ledger.now) c.args.lane c.args.now c.args.places.now c.args.fresh c.min-most.result c.requires.front)
 
 pub returns-in-Some-clause-answer : goal.returns-in-Some-clause-answer
 returns-in-Some-clause-answer c =

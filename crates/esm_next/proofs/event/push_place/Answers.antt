@@ -1,6 +1,6 @@
 use Rattle.std.proofs.Common.{[], ◌++◌, subst, Option}
 use Rattle.std.specs.List.{cons_option}
-use Rattle.esm_model.specs.declared.item.Record.{Record}
+use Rattle.esm_model.specs.Records.{Record}
 use Rattle.esm_event.specs.Building.{IsEventOf}
 use Rattle.esm_next.proofs.event.push_place.Goals as goal
 

@@ -1,4 +1,4 @@
-use Rattle.std.proofs.Common.{◌≡◌, ◌+◌, ◌≤◌, ◌∙◌, true, false, length, get_or, sym, arith}
+use Rattle.std.proofs.Common.{◌≡◌, ◌+◌, ◌≤◌, ◌∙◌, true, false, get_or, sym, arith}
 use Rattle.std.specs.List.{prefix_len}
 use Rattle.esm_model.specs.declared.limits.TheConstants.{MAX_EXPIRED}
 use Rattle.esm_model.specs.Batches.{is_expired}

@@ -1,4 +1,4 @@
-use Rattle.std.proofs.Common.{◌≡◌, sym, ℕ, [], Some}
+use Rattle.std.proofs.Common.{◌≡◌, ℕ, [], Some}
 use Rattle.std.proofs.lemmas.Result.{IfOk-weaker}
 use Rattle.esm_ledger.specs.Ledger.{past_of, setting_of}
 use Rattle.esm_model.specs.declared.book.Next.TheVariants as next

@@ -1,12 +1,18 @@
-use Rattle.std.proofs.Common.{◌≡◌, ◌<◌, ◌≤◌, ℕ, length, take, arith}
+use Rattle.std.proofs.Common.{◌≡◌, length, take, arith}
 use Rattle.std.proofs.lemmas.List.{length-take-le}
 use Rattle.esm_ledger.specs.Ledger.{past_of, setting_of}
 use Rattle.esm_model.specs.declared.book.Next.TheVariants as next
 use Rattle.esm_next.specs.Following.{next_allowed}
 use Rattle.esm_next.specs.Deciding.{answer_of, Gives, IsDecided}
-use Rattle.esm_next.proofs.Lanes.{front_expires, front_came, decided_expired, decided_open}
+use Rattle.esm_next.proofs.Lanes.{front_expires, front_came, front_open, first_open, decided_expired, decided_open}
 use Rattle.esm_next.proofs.Results.{both_ok}
 use Rattle.esm_next.proofs.lane.decide_front.Goals as goal
+
+pub expired_count-count-requires-clause-open : goal.expired_count-count-requires-clause-open
+expired_count-count-requires-clause-open c = front_open (setting_of c.args.ledger.now) (past_of c.args.ledger.now) c.args.lane c.args.now c.args.places.now c.args.fresh c.requires.front
+
+pub expire-requires-clause-open : goal.expire-requires-clause-open
+expire-requires-clause-open c = first_open (setting_of c.args.ledger.now) (past_of c.args.ledger.now) c.args.lane c.args.now c.args.places.now c.args.fresh c.expired_count-count.result c.requires.front
 
 pub expire-requires-clause-came : goal.expire-requires-clause-came
 expire-requires-clause-came c =

@@ -1,4 +1,3 @@
-use Rattle.std.proofs.Common.{◌≡◌, [], sym, ap, Some}
 use Rattle.esm_ledger.specs.Ledger.{past_of, setting_of}
 use Rattle.esm_next.proofs.Groups.{front_of}
 use Rattle.esm_next.proofs.lane.decide_lane.Goals as goal

@@ -7,9 +7,12 @@ use Rattle.esm_model.specs.Reading.{reading}
 use Rattle.esm_model.specs.Ruling.{ruling}
 use Rattle.esm_ledger.specs.Ledger.{setting_of}
 use Rattle.esm_outcome.specs.Parts.{text_in}
-use Rattle.esm_outcome.proofs.Called.{called_few, verdict_read}
+use Rattle.esm_outcome.proofs.Called.{called_few, called_open, verdict_read}
 use Rattle.esm_outcome.proofs.Verdicts.{state_told}
 use Rattle.esm_outcome.proofs.judging.judge_reply.Goals as goal
+
+pub answer_of-requires-clause-open : goal.answer_of-requires-clause-open
+answer_of-requires-clause-open c = called_open c.args.ledger.now c.args.lane c.args.places.now c.args.closing c.requires.kept c.requires.call
 
 pub answer_of-requires-clause-few : goal.answer_of-requires-clause-few
 answer_of-requires-clause-few c = called_few c.args.ledger.now c.args.lane c.args.places.now c.args.closing c.requires.kept c.requires.call

@@ -5,14 +5,12 @@ use Rattle.esm_ledger.proofs.Readings.{legal_of}
 use Rattle.esm_outcome.proofs.Lines.{came_there, shard_low}
 use Rattle.esm_outcome.proofs.line.edge_of.Goals as goal
 
--- src/line.rt:142:17
 pub unreachable-requires : goal.unreachable-requires
 unreachable-requires c =
     let l = c.args.ledger.now in
     came_there (setting_of l) (past_of l) c.args.shard c.args.place (legal_of l c.requires.kept.rests) c.requires.came (sym (ap option_copied c.in-None.is) ∙ c.record.ensures)
 
--- src/line.rt:144:18
-pub returns-in_err-copy-in-Some-clause-named : goal.returns-in_err-copy-in-Some-clause-named
-returns-in_err-copy-in-Some-clause-named c =
+pub returns-in_err-number-in-Some-clause-named : goal.returns-in_err-number-in-Some-clause-named
+returns-in_err-number-in-Some-clause-named c =
     let l = c.args.ledger.now in
     shard_low (setting_of l) (past_of l) c.args.shard c.args.place c.requires.valid (legal_of l c.requires.kept.rests) c.requires.came

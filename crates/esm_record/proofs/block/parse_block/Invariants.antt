@@ -2,8 +2,8 @@ use Rattle.std.proofs.Common.{◌≡◌, ◌++◌, length}
 use Rattle.esm_record.specs.Parsing.{parsed_lines}
 use Rattle.esm_record.proofs.block.parse_block.Given as goal
 
-abbrev pub invariant-loop-line : goal.invariant-loop-line
-invariant-loop-line l = l.parsed.items ++ parsed_lines l.kind l.rest ≡ parsed_lines l.kind l.fn.block
+abbrev pub invariant-loop-chunk : goal.invariant-loop-chunk
+invariant-loop-chunk l = l.parsed.items ++ parsed_lines l.kind l.rest ≡ parsed_lines l.kind l.fn.block
 
-abbrev pub decreases-loop-line : goal.decreases-loop-line
-decreases-loop-line l = length l.rest
+abbrev pub decreases-loop-chunk : goal.decreases-loop-chunk
+decreases-loop-chunk l = length l.rest

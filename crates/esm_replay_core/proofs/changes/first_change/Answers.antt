@@ -5,7 +5,7 @@ use Rattle.std.specs.Map.{count_at}
 use Rattle.std.specs.BTreeMap.{get}
 use Rattle.std.proofs.lemmas.List.{append-nil, take_all}
 use Rattle.esm_model.specs.declared.book.Change.{Change}
-use Rattle.esm_model.specs.declared.item.Record.{Record}
+use Rattle.esm_model.specs.Records.{Record}
 use Rattle.esm_replay.specs.Records.{are_named}
 use Rattle.esm_replay.specs.Coming.{first_change}
 use Rattle.esm_replay_core.proofs.Tallying.{tally_more, place_at_hand, still_tallied}
@@ -26,7 +26,7 @@ count_next-requires c =
     let few = c.requires x.shard in
     let front = few_front c.args.items.now i x.shard (omega (arith, c.loop-item-test.true)) in
     let tallied = still_tallied c.args.counts.now c.loop-item.tally c.take_in_hand.new.tally (take i c.args.items.now) c.in_ok-take_in_hand.ensures.same c.loop-item.invariant.tallied in
-    let place = place_at_hand c.args.counts.now c.take_in_hand.new.tally (take i c.args.items.now) x.shard c.in_ok-take_in_hand.ensures.here tallied in
+    let place = place_at_hand c.args.counts.now c.take_in_hand.new.tally (take i c.args.items.now) x.shard (c.in_ok-take_in_hand.ensures.here ∙ c.shard.ensures) tallied in
     omega (arith, few, front, place, c.loop-item-test.true)
 
 pub returns-then-is_some-clause-change : goal.returns-then-is_some-clause-change
@@ -34,7 +34,7 @@ returns-then-is_some-clause-change c = λ before are.
     let x = c.item-item.result in
     let i = c.loop-item.item-index in
     let tallied = still_tallied c.args.counts.now c.loop-item.tally c.take_in_hand.new.tally (take i c.args.items.now) c.in_ok-take_in_hand.ensures.same c.loop-item.invariant.tallied in
-    let place = place_at_hand c.args.counts.now c.take_in_hand.new.tally (take i c.args.items.now) x.shard c.in_ok-take_in_hand.ensures.here tallied in
+    let place = place_at_hand c.args.counts.now c.take_in_hand.new.tally (take i c.args.items.now) x.shard (c.in_ok-take_in_hand.ensures.here ∙ c.shard.ensures) tallied in
     sym (c.loop-item.invariant.rest before are
     ∙ looked c.args.said.now c.args.counts.now c.args.items.now i x c.take_in_hand.new.tally.place c.in_ok-found.found.change c.loop-item-test.true c.item-item.is place c.in_ok-found.ensures.change before are
     ∙ or_some c.in_ok-found.found.change (first_change c.args.said.now (before ++ take (i + 1) c.args.items.now) (drop (i + 1) c.args.items.now)) (sym c.is_some.ensures ∙ c.if-is_some.true))
@@ -50,9 +50,9 @@ loop-item-preserved c =
     let x = c.item-item.result in
     let i = c.loop-item.item-index in
     let tallied = still_tallied c.args.counts.now c.loop-item.tally c.take_in_hand.new.tally (take i c.args.items.now) c.in_ok-take_in_hand.ensures.same c.loop-item.invariant.tallied in
-    let place = place_at_hand c.args.counts.now c.take_in_hand.new.tally (take i c.args.items.now) x.shard c.in_ok-take_in_hand.ensures.here tallied in
+    let place = place_at_hand c.args.counts.now c.take_in_hand.new.tally (take i c.args.items.now) x.shard (c.in_ok-take_in_hand.ensures.here ∙ c.shard.ensures) tallied in
     record {
-      tallied = tally_more c.args.counts.now c.take_in_hand.new.tally c.count_next.new.tally c.args.items.now i x c.loop-item-test.true c.item-item.is c.in_ok-take_in_hand.ensures.here tallied c.count_next.ensures;
+      tallied = tally_more c.args.counts.now c.take_in_hand.new.tally c.count_next.new.tally c.args.items.now i x c.loop-item-test.true c.item-item.is (c.in_ok-take_in_hand.ensures.here ∙ c.shard.ensures) tallied c.count_next.ensures;
       named = λ before are. named_more c.args.said.now c.args.ranges.now c.args.counts.now before c.args.items.now i x c.take_in_hand.new.tally.place c.in_ok-found.found.is_named c.loop-item.named.items c.push.new.self.items
           c.loop-item-test.true c.item-item.is are place c.in_ok-found.ensures.named (c.loop-item.invariant.named before are) c.in_ok-push.ensures.items;
       rest = λ before are.

@@ -1,5 +1,5 @@
 use Rattle.std.proofs.Common.{◌≡◌, ◌++◌, List, take, drop}
-use Rattle.esm_model.specs.declared.item.Record.{Record}
+use Rattle.esm_model.specs.Records.{Record}
 use Rattle.esm_replay.specs.Records.{are_named}
 use Rattle.esm_replay.specs.Coming.{first_change}
 use Rattle.esm_replay_core.specs.Counts.{AreCounted, AreTallied}

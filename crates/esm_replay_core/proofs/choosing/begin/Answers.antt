@@ -1,5 +1,5 @@
 use Rattle.std.proofs.Common.{◌∙◌, ℕ, List, length, map, ap, refl, subst, sym}
-use Rattle.esm_model.specs.declared.item.Record.{Record}
+use Rattle.esm_model.specs.Records.{Record}
 use Rattle.esm_replay.specs.Batch.{IsRowWithin, records_in}
 use Rattle.esm_replay_core.proofs.Choices.{call_of}
 use Rattle.esm_replay_core.proofs.choosing.begin.Goals as goal

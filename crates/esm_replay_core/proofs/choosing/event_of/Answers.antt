@@ -1,7 +1,7 @@
 use Rattle.std.proofs.Common.{◌≡◌, ◌∙◌, ℕ, List, length, None, ap, subst, sym}
 use Rattle.std.specs.Prelude.{IfOk}
 use Rattle.std.specs.List.{All}
-use Rattle.esm_model.specs.declared.item.Record.{Record}
+use Rattle.esm_model.specs.Records.{Record}
 use Rattle.esm_model.specs.EventText.{event_text}
 use Rattle.esm_model.specs.Valid.{IsValidRecord}
 use Rattle.esm_replay.specs.Batch.{IsRowWithin, batch_records, records_in}

@@ -15,7 +15,7 @@ returns-in_err-make_next-clause-same c = then_recounted c.args.counts.now c.loop
 pub loop-item-preserved : goal.loop-item-preserved
 loop-item-preserved c = record {
   same = then_recounted c.args.counts.now c.loop-item.counts c.make_next.new.counts c.loop-item.invariant.same c.make_next.ensures.same;
-  there = counts_more c.loop-item.counts c.make_next.new.counts c.args.items.now c.loop-item.item-index c.item-item.result c.loop-item-test.true c.item-item.is c.make_next.ensures.same c.in_ok-make_next.ensures.there c.loop-item.invariant.there;
+  there = counts_more c.loop-item.counts c.make_next.new.counts c.args.items.now c.loop-item.item-index c.item-item.result c.loop-item-test.true c.item-item.is c.make_next.ensures.same (rw c.shard-shard.ensures at c.in_ok-make_next.ensures.there) c.loop-item.invariant.there;
   last = c.in_ok-make_next.ensures.there;
 }
 

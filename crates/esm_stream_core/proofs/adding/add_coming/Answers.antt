@@ -1,11 +1,11 @@
-use Rattle.std.proofs.Common.{◌∙◌, ◌∷◌, [], List, sym, ap, subst}
+use Rattle.std.proofs.Common.{◌∙◌, ◌∷◌, [], sym, ap, subst}
 use Rattle.esm_model.specs.declared.entry.Entry.{Entry}
 use Rattle.esm_ledger.specs.Ledger.{past_of, setting_of}
 use Rattle.esm_stream_core.specs.declared.owed.Act.{Act}
 use Rattle.esm_stream_core.specs.declared.owed.Act.TheVariants as act
 use Rattle.esm_stream_core.specs.CoreView.{setting_after}
-use Rattle.esm_stream_core.specs.Acts.{act_entry, parts_of}
-use Rattle.esm_stream_core.specs.Adding.{IsAdded, ComesBy, CanAdd}
+use Rattle.esm_stream_core.specs.Acts.{parts_of}
+use Rattle.esm_stream_core.specs.Adding.{IsAdded, CanAdd}
 use Rattle.esm_stream_core.proofs.Additions.{came_is, come_legal}
 use Rattle.esm_stream_core.proofs.adding.add_coming.Goals as goal
 

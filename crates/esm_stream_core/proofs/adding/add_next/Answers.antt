@@ -1,4 +1,4 @@
-use Rattle.std.proofs.Common.{List, ◌∷◌, reverse, subst}
+use Rattle.std.proofs.Common.{List, reverse, subst}
 use Rattle.esm_ledger.specs.declared.coming.Coming.{Coming}
 use Rattle.esm_stream_core.specs.Adding.{CanAdd}
 use Rattle.esm_stream_core.proofs.Additions.{can_add_next}

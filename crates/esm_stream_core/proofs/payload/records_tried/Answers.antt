@@ -3,6 +3,9 @@ use Rattle.esm_model.specs.Setting.{sequences_at}
 use Rattle.esm_ledger.specs.Ledger.{setting_of}
 use Rattle.esm_stream_core.proofs.payload.records_tried.Goals as goal
 
+pub push_names-requires-clause-open : goal.push_names-requires-clause-open
+push_names-requires-clause-open c = rw c.as_slice-places.ensures c.requires.open
+
 pub push_names-requires-clause-stand : goal.push_names-requires-clause-stand
 push_names-requires-clause-stand c = rw c.as_slice-places.ensures c.requires.said.3.same
 

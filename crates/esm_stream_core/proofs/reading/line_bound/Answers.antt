@@ -1,5 +1,5 @@
-use Rattle.std.proofs.Common.{◌∙◌, sym}
-use Rattle.esm_stream_core.proofs.LineBounds.{line_within, none_more}
+use Rattle.std.proofs.Common.{sym}
+use Rattle.esm_stream_core.proofs.LineBounds.{line_within}
 use Rattle.esm_stream_core.proofs.reading.line_bound.Goals as goal
 
 pub returns-in-Some-clause-within : goal.returns-in-Some-clause-within

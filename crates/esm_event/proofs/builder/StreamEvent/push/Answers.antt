@@ -12,7 +12,7 @@ returns c mapping rs h =
     let source = ap vec_items turned.source ∙ h.source in
     record {
       text = text_more mapping rs c.args.item.now c.opening-opening.result.now c.as_slice-identity.result.now c.as_slice.result.now c.turn_to.new.self.text.items c.push_element.new.out.items
-          text opening (c.as_slice-identity.ensures.value ∙ identity) (c.as_slice.ensures.value ∙ source) c.in_ok-push_element.ensures;
+          text opening (c.as_slice-identity.ensures.value ∙ rw c.shard.ensures at identity) (c.as_slice.ensures.value ∙ source) c.in_ok-push_element.ensures;
       bare = sym (not_none rs c.args.item.now);
       identity = rw turned.shard identity;
       source = source;

@@ -1,6 +1,6 @@
 use Rattle.std.proofs.Common.{◌≡◌, List, length, Option, ap, sym, ◌∙◌, arith}
 use Rattle.esm_model.specs.declared.config.Config.{Config}
-use Rattle.esm_model.specs.declared.item.Record.{Record}
+use Rattle.esm_model.specs.Records.{Record}
 use Rattle.esm_model.specs.declared.entry.Fate.{Fate}
 use Rattle.esm_ledger.specs.declared.measure.Measure.{Measure}
 use Rattle.esm_ledger.specs.Shard.{measure_at}

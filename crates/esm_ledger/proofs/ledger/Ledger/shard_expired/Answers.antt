@@ -6,7 +6,7 @@ use Rattle.esm_ledger.specs.declared.ledger.Ledger.{Ledger}
 use Rattle.esm_ledger.specs.Shard.{lane_id}
 use Rattle.esm_ledger.specs.Ledger.{past_of, setting_of}
 use Rattle.esm_ledger.specs.Adding.{KeepsSplits, KeepsStates}
-use Rattle.esm_ledger.proofs.ShardChanges.{found_at, set_at, changed_set, shards_set, shards_none, splits_stay, leaves_gave, relabel, changed_none}
+use Rattle.esm_ledger.proofs.ShardChanges.{found_at, set_items_at, changed_set, shards_set, shards_none, splits_stay, leaves_gave, relabel, changed_none}
 use Rattle.esm_ledger.proofs.Prepared.{others_set, others_none}
 use Rattle.esm_ledger.proofs.ledger.Ledger.shard_expired.Goals as goal
 
@@ -54,7 +54,7 @@ returns-in-Some-clause-changed c =
     let at = c.in-Some.at in
     let d : Ledger = record self { shards = with_item self.shards at y } in
     let here = found_at self c.args.lane.shard at x c.in-Some.ensures.at c.index_mut.ensures.value in
-    let is = set_at self.shards.items d.shards.items at x y c.in-Some.ensures.at.0 c.index_mut.ensures.value refl c.expired.ensures.shard c.expired.ensures.records in
+    let is = set_items_at self.shards.items d.shards.items at x y c.in-Some.ensures.at.0 c.index_mut.ensures.value refl c.expired.ensures.shard c.expired.ensures.records in
     changed_set self d c.args.lane.shard at x y KeepsSplits c.requires.kept.rests is here.2 c.expired.ensures.splits (splits_stay c.args.lane.shard)
 
 pub returns-in-Some-clause-goes_on : goal.returns-in-Some-clause-goes_on
@@ -65,7 +65,7 @@ returns-in-Some-clause-goes_on c = λ line m legal.
     let at = c.in-Some.at in
     let d : Ledger = record self { shards = with_item self.shards at y } in
     let here = found_at self c.args.lane.shard at x c.in-Some.ensures.at c.index_mut.ensures.value in
-    let is = set_at self.shards.items d.shards.items at x y c.in-Some.ensures.at.0 c.index_mut.ensures.value refl c.expired.ensures.shard c.expired.ensures.records in
+    let is = set_items_at self.shards.items d.shards.items at x y c.in-Some.ensures.at.0 c.index_mut.ensures.value refl c.expired.ensures.shard c.expired.ensures.records in
     let lane = c.args.lane in
     let places = c.args.places.now in
     let s = setting_of self in
@@ -84,7 +84,7 @@ returns-in-Some-clause-others c =
     let at = c.in-Some.at in
     let d : Ledger = record self { shards = with_item self.shards at y } in
     let here = found_at self c.args.lane.shard at x c.in-Some.ensures.at c.index_mut.ensures.value in
-    let is = set_at self.shards.items d.shards.items at x y c.in-Some.ensures.at.0 c.index_mut.ensures.value refl c.expired.ensures.shard c.expired.ensures.records in
+    let is = set_items_at self.shards.items d.shards.items at x y c.in-Some.ensures.at.0 c.index_mut.ensures.value refl c.expired.ensures.shard c.expired.ensures.records in
     others_set self d c.args.lane.shard at x y is here.2 refl refl
 
 pub returns-in-None-clause-states : goal.returns-in-None-clause-states
@@ -98,5 +98,5 @@ returns-in-Some-clause-states c =
     let at = c.in-Some.at in
     let d : Ledger = record self { shards = with_item self.shards at y } in
     let here = found_at self c.args.lane.shard at x c.in-Some.ensures.at c.index_mut.ensures.value in
-    let is = set_at self.shards.items d.shards.items at x y c.in-Some.ensures.at.0 c.index_mut.ensures.value refl c.expired.ensures.shard c.expired.ensures.records in
+    let is = set_items_at self.shards.items d.shards.items at x y c.in-Some.ensures.at.0 c.index_mut.ensures.value refl c.expired.ensures.shard c.expired.ensures.records in
     changed_set self d c.args.lane.shard at x y KeepsStates c.requires.kept.rests is here.2 (c.expired.ensures.states) (λ z off. refl)

@@ -6,7 +6,7 @@ use Rattle.esm_shard_index.specs.LaneView.{Table, lane_in}
 use Rattle.esm_ledger.specs.declared.ledger.Ledger.{Ledger}
 use Rattle.esm_ledger.specs.Ledger.{past_of, setting_of}
 use Rattle.esm_ledger.specs.Adding.{KeepsSplits, KeepsStates, KeepsClosings}
-use Rattle.esm_ledger.proofs.ShardChanges.{found_at, set_at, changed_set, shards_set, shards_none, splits_stay, leaves_gave, relabel, changed_none}
+use Rattle.esm_ledger.proofs.ShardChanges.{found_at, set_items_at, changed_set, shards_set, shards_none, splits_stay, leaves_gave, relabel, changed_none}
 use Rattle.esm_ledger.proofs.Prepared.{others_set, others_none, always_if_none, if_none}
 use Rattle.esm_ledger.proofs.ledger.Ledger.shard_gave.Goals as goal
 
@@ -41,7 +41,7 @@ returns-in-Some-clause-changed c =
     let at = c.in-Some.at in
     let d : Ledger = record self { shards = with_item self.shards at y } in
     let here = found_at self c.args.shard at x c.in-Some.ensures.at c.index_mut.ensures.value in
-    let is = set_at self.shards.items d.shards.items at x y c.in-Some.ensures.at.0 c.index_mut.ensures.value refl c.gave.ensures.shard c.gave.ensures.records in
+    let is = set_items_at self.shards.items d.shards.items at x y c.in-Some.ensures.at.0 c.index_mut.ensures.value refl c.gave.ensures.shard c.gave.ensures.records in
     changed_set self d c.args.shard at x y KeepsSplits c.requires.kept.rests is here.2 (λ k. ap (λ (t : Table). (lane_in t k).kept.splits) c.gave.ensures.lanes) (splits_stay c.args.shard)
 
 pub returns-in-Some-clause-goes_on : goal.returns-in-Some-clause-goes_on
@@ -52,7 +52,7 @@ returns-in-Some-clause-goes_on c = λ by line m legal.
     let at = c.in-Some.at in
     let d : Ledger = record self { shards = with_item self.shards at y } in
     let here = found_at self c.args.shard at x c.in-Some.ensures.at c.index_mut.ensures.value in
-    let is = set_at self.shards.items d.shards.items at x y c.in-Some.ensures.at.0 c.index_mut.ensures.value refl c.gave.ensures.shard c.gave.ensures.records in
+    let is = set_items_at self.shards.items d.shards.items at x y c.in-Some.ensures.at.0 c.index_mut.ensures.value refl c.gave.ensures.shard c.gave.ensures.records in
     let a = c.args in
     let s = setting_of self in
     let h = past_of self in
@@ -70,7 +70,7 @@ returns-in-Some-clause-others c =
     let at = c.in-Some.at in
     let d : Ledger = record self { shards = with_item self.shards at y } in
     let here = found_at self c.args.shard at x c.in-Some.ensures.at c.index_mut.ensures.value in
-    let is = set_at self.shards.items d.shards.items at x y c.in-Some.ensures.at.0 c.index_mut.ensures.value refl c.gave.ensures.shard c.gave.ensures.records in
+    let is = set_items_at self.shards.items d.shards.items at x y c.in-Some.ensures.at.0 c.index_mut.ensures.value refl c.gave.ensures.shard c.gave.ensures.records in
     others_set self d c.args.shard at x y is here.2 refl refl
 
 pub returns-in-None-clause-states : goal.returns-in-None-clause-states
@@ -84,7 +84,7 @@ returns-in-Some-clause-states c =
     let at = c.in-Some.at in
     let d : Ledger = record self { shards = with_item self.shards at y } in
     let here = found_at self c.args.shard at x c.in-Some.ensures.at c.index_mut.ensures.value in
-    let is = set_at self.shards.items d.shards.items at x y c.in-Some.ensures.at.0 c.index_mut.ensures.value refl c.gave.ensures.shard c.gave.ensures.records in
+    let is = set_items_at self.shards.items d.shards.items at x y c.in-Some.ensures.at.0 c.index_mut.ensures.value refl c.gave.ensures.shard c.gave.ensures.records in
     if_none c.args.state (λ same. changed_set self d c.args.shard at x y KeepsStates c.requires.kept.rests is here.2 same (λ z off. refl)) c.gave.ensures.states
 
 pub returns-in-None-clause-closings : goal.returns-in-None-clause-closings
@@ -98,5 +98,5 @@ returns-in-Some-clause-closings c =
     let at = c.in-Some.at in
     let d : Ledger = record self { shards = with_item self.shards at y } in
     let here = found_at self c.args.shard at x c.in-Some.ensures.at c.index_mut.ensures.value in
-    let is = set_at self.shards.items d.shards.items at x y c.in-Some.ensures.at.0 c.index_mut.ensures.value refl c.gave.ensures.shard c.gave.ensures.records in
+    let is = set_items_at self.shards.items d.shards.items at x y c.in-Some.ensures.at.0 c.index_mut.ensures.value refl c.gave.ensures.shard c.gave.ensures.records in
     changed_set self d c.args.shard at x y KeepsClosings c.requires.kept.rests is here.2 (record { lanes = c.gave.ensures.lanes; tries = c.gave.ensures.tries }) (λ z off. record { lanes = refl; tries = refl })

@@ -1,4 +1,4 @@
-use Rattle.std.proofs.Common.{◌≡◌, ℕ, ◌+◌, List, ◌++◌, map, filter, length, is_some, vec_len, Option, Bool, cond, ap, ◌∙◌, arith, rules}
+use Rattle.std.proofs.Common.{◌≡◌, ℕ, ◌+◌, List, ◌++◌, map, filter, length, is_some, is_none, vec_len, Option, Bool, cond, ap, ◌∙◌, arith, rules}
 use Rattle.esm_model.specs.declared.entry.Fate.{Fate}
 use Rattle.esm_model.specs.Fates.{is_fate}
 use Rattle.esm_shard_index.specs.FateCounts.{count_in}
@@ -24,9 +24,10 @@ returns-clause-kept c = λ s h.
     let a = c.args.arriving in
     let all : vec_len c.args.arriving.records ≡ length c.args.arriving.records.items = search rules in
     let count : c.len-count.result ≡ length c.args.arriving.records.items = cc in
-    shard_came s h self a c.args.moment c.append.new.self c.append-2.new.self c.came.new.self c.came-2.new.self c.came-3.new.self c.came-4.new.self c.land.new.lanes
-    (c.append.ensures.items ∙ ap (λ (b : Bool). cond b (self.records.items ++ a.records.items) self.records.items) (c.append.ensures.succeeds c.requires.room.records))
-    (c.append-2.ensures.items ∙ ap (λ (b : Bool). cond b (self.measures.items ++ a.measures.items) self.measures.items) (c.append-2.ensures.succeeds c.requires.room.measures))
+    shard_came s h self a c.args.moment c.came-5.new.self c.append.new.self c.came.new.self c.came-2.new.self c.came-3.new.self c.came-4.new.self c.land.new.lanes
+    c.came-5.ensures.items
+    (c.came-5.ensures.held ∙ ap (λ (fs : List (Option Fate)). self.records.held ++ map is_none fs) c.as_slice-4.ensures.value)
+    (c.append.ensures.items ∙ ap (λ (b : Bool). cond b (self.measures.items ++ a.measures.items) self.measures.items) (c.append.ensures.succeeds c.requires.room.measures))
     c.requires.even
     (record {
       fated = c.came.ensures.fated ∙ ap (λ (fs : List (Option Fate)). self.progress.fated ++ map is_some fs) c.as_slice.ensures.value;

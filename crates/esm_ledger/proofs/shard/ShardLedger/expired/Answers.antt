@@ -8,8 +8,11 @@ use Rattle.esm_ledger.proofs.shard.ShardLedger.expired.Goals as goal
 
 pub returns-clause-kept : goal.returns-clause-kept
 returns-clause-kept c = λ s h line m.
-    shard_expired s h c.args.self.now c.give.new.self c.leave_windows.new.windows c.expire.new.self c.args.lane c.args.places.now line m
+    shard_expired s h c.args.self.now c.let_go.new.self c.give.new.self c.leave_windows.new.windows c.expire.new.self c.args.lane c.args.places.now line m
     (record {
+      items = c.let_go.ensures.items;
+      slots = c.let_go.ensures.len;
+      held = c.let_go.ensures.held;
       len = c.give.ensures.len;
       fated = c.give.ensures.fated;
       others = c.give.ensures.others;

@@ -9,8 +9,11 @@ use Rattle.esm_ledger.proofs.shard.ShardLedger.gave.Goals as goal
 
 pub returns-clause-kept : goal.returns-clause-kept
 returns-clause-kept c = λ s h by line m.
-    shard_gave s h c.args.self.now c.give.new.self c.take_state.new.windows by c.args.places.now c.args.fate line c.args.state m c.requires.answered
+    shard_gave s h c.args.self.now c.let_go.new.self c.give.new.self c.take_state.new.windows by c.args.places.now c.args.fate line c.args.state m c.requires.answered
     (record {
+      items = c.let_go.ensures.items;
+      slots = c.let_go.ensures.len;
+      held = c.let_go.ensures.held;
       len = c.give.ensures.len;
       fated = c.give.ensures.fated;
       others = c.give.ensures.others;

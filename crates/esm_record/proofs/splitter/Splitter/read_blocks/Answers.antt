@@ -1,7 +1,6 @@
 use Rattle.std.proofs.Common.{◌≡◌, true, false}
 use Rattle.std.specs.Prelude.{is_some}
-use Rattle.esm_record.proofs.Steps.{on_ok, goes_start, goes_line, goes_bad}
-use Rattle.esm_record.proofs.Blocks.{goes_rest}
+use Rattle.esm_record.proofs.Steps.{on_ok, goes_start, goes_line, goes_bad, goes_tail}
 use Rattle.esm_record.proofs.splitter.Splitter.read_blocks.Goals as goal
 
 pub returns-then-is_some-clause-read : goal.returns-then-is_some-clause-read
@@ -15,8 +14,4 @@ returns-clause-read g c =
     let none : is_some c.end_line.new.self.bad ≡ false = cc in
     let start = goes_start c.args.piece.now c.args.items.now.items c.args.self.now c.requires.going c.requires.short in
     let line = goes_line c.args.piece.now c.args.piece.now c.in-Some.line.now c.in-Some.after.now c.args.items.now.items c.args.items.now.items c.end_line.new.items.items c.args.self.now c.args.self.now c.end_line.new.self start c.in-Some.ensures.some c.in_ok-end_line.ensures.stands c.in_ok-end_line.ensures.ended c.in_ok-end_line.ensures.kind none in
-    on_ok c.read_more.result (λ more.
-    goes_rest c.args.piece.now c.in-Some.after.now c.ended_lines.result.0.now c.ended_lines.result.1.now
-    c.args.items.now.items c.end_line.new.items.items c.read_lines.new.items.items c.read_more.new.items.items
-    c.args.self.now c.end_line.new.self c.read_lines.new.self c.read_more.new.self
-    line c.ended_lines.ensures.parts c.in_ok-read_lines.ensures.read more) c.read_more.ensures.read
+    on_ok c.read_ended-2.result (λ more bytes before h. goes_tail c.args.piece.now c.in-Some.after.now c.args.items.now.items c.end_line.new.items.items c.read_ended-2.new.items.items c.args.self.now c.end_line.new.self c.read_ended-2.new.self line more bytes before h) c.read_ended-2.ensures.read

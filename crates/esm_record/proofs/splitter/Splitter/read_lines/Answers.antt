@@ -1,7 +1,7 @@
-use Rattle.std.proofs.Common.{◌≡◌, List, ap, subst, sym, ◌∙◌}
+use Rattle.std.proofs.Common.{List, ap, subst, ◌∙◌}
 use Rattle.std.specs.Prelude.{fold}
-use Rattle.esm_record.specs.Input.{Input, input_so_far}
-use Rattle.esm_record.specs.Parsing.{parsed_lines, add_parsed}
+use Rattle.esm_record.specs.Input.{input_so_far}
+use Rattle.esm_record.specs.Parsing.{add_parsed}
 use Rattle.esm_record.specs.Splitting.{Stands}
 use Rattle.esm_record.proofs.Blocks.{Said, block_read, both_ok}
 use Rattle.esm_record.proofs.splitter.Splitter.read_lines.Goals as goal

@@ -3,7 +3,7 @@ use Rattle.std.specs.Ordering.{nat_cmp}
 use Rattle.std.specs.Map.{count_at}
 use Rattle.std.specs.BTreeMap.{get}
 use Rattle.esm_model.specs.declared.book.Change.{Change}
-use Rattle.esm_model.specs.declared.item.Record.{Record}
+use Rattle.esm_model.specs.Records.{Record}
 use Rattle.esm_replay_core.specs.View.{ReplayView}
 use Rattle.esm_replay.specs.Records.{are_named}
 use Rattle.esm_replay.specs.Coming.{first_change, IsKeptChange}

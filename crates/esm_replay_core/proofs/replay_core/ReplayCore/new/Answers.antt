@@ -1,5 +1,5 @@
 use Rattle.std.proofs.Common.{List, ap, refl, reverse, take, drop, rules}
-use Rattle.esm_model.specs.declared.item.Record.{Record}
+use Rattle.esm_model.specs.Records.{Record}
 use Rattle.esm_model.specs.declared.entry.Entry.{Entry}
 use Rattle.esm_replay_core.proofs.Deciding.{kept_new}
 use Rattle.esm_replay_core.proofs.replay_core.ReplayCore.new.Goals as goal

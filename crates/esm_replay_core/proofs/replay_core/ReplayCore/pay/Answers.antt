@@ -40,13 +40,13 @@ pub count_one-requires-clause-there : goal.count_one-requires-clause-there
 count_one-requires-clause-there c =
     let p = parts_of c.self.inside in
     let low = came_low p c.self.inside.came c.self.inside.records.items c.self.invariant.0 (sym c.in-Coming.ensures.value) in
-    came_counted p c.self.inside.came c.self.inside.records.items c.index-item.result.now c.self.invariant.0 low c.index-item.ensures
+    rw c.shard.ensures (came_counted p c.self.inside.came c.self.inside.records.items c.index-item.result.now c.self.invariant.0 low c.index-item.ensures)
 
 pub count_one-requires-clause-few : goal.count_one-requires-clause-few
 count_one-requires-clause-few c =
     let p = parts_of c.self.inside in
     let low = came_low p c.self.inside.came c.self.inside.records.items c.self.invariant.0 (sym c.in-Coming.ensures.value) in
-    came_few p c.self.inside.came c.self.inside.records.items c.index-item.result.now.shard c.self.invariant.0 low
+    rw c.shard.ensures (came_few p c.self.inside.came c.self.inside.records.items c.index-item.result.now.shard c.self.invariant.0 low)
 
 pub overflow_add-self : goal.overflow_add-self
 overflow_add-self c =
@@ -62,7 +62,7 @@ invariant_of-self c =
     let low = came_low p c.self.inside.came c.self.inside.records.items c.self.invariant.0 is in
     let long : c.len.result ≡ length c.self.inside.records.items = c.len.ensures ∙ search rules in
     let still : IsStill (drop (c.self.inside.came + 1) c.self.inside.records.items) c.put.new.place = subst (IsStill (drop (c.self.inside.came + 1) c.self.inside.records.items)) (ap (still_coming (c.self.inside.came + 1)) (sym long) ∙ sym c.still_coming.ensures ∙ sym c.put.ensures) (still_is c.self.inside.records.items (c.self.inside.came + 1)) in
-    let done = core_record p c.args.self.now c.self.inside.came c.self.inside.records.items c.index-item.result.now c.count_one.new.counts c.one_if.result c.put.new.place c.self.invariant.0 c.self.view_is is low c.index-item.ensures c.count_one.ensures (c.one_if.ensures ∙ ap one (came_named p c.self.inside.came c.self.inside.records.items c.self.inside.are_named.items c.index-item.result.now c.index-is_named.result.now c.self.invariant.0 low c.index-item.ensures c.self.invariant.2 c.index-is_named.ensures)) still in
+    let done = core_record p c.args.self.now c.self.inside.came c.self.inside.records.items c.index-item.result.now c.count_one.new.counts c.one_if.result c.put.new.place c.self.invariant.0 c.self.view_is is low c.index-item.ensures (rw c.shard.ensures at c.count_one.ensures) (c.one_if.ensures ∙ ap one (came_named p c.self.inside.came c.self.inside.records.items c.self.inside.are_named.items c.index-item.result.now c.index-is_named.result.now c.self.invariant.0 low c.index-item.ensures c.self.invariant.2 c.index-is_named.ensures)) still in
     (done.kept.0, done.kept.1, c.self.invariant.2)
 
 pub returns-in-Coming : goal.returns-in-Coming
@@ -72,7 +72,7 @@ returns-in-Coming c =
     let low = came_low p c.self.inside.came c.self.inside.records.items c.self.invariant.0 is in
     let long : c.len.result ≡ length c.self.inside.records.items = c.len.ensures ∙ search rules in
     let still : IsStill (drop (c.self.inside.came + 1) c.self.inside.records.items) c.put.new.place = subst (IsStill (drop (c.self.inside.came + 1) c.self.inside.records.items)) (ap (still_coming (c.self.inside.came + 1)) (sym long) ∙ sym c.still_coming.ensures ∙ sym c.put.ensures) (still_is c.self.inside.records.items (c.self.inside.came + 1)) in
-    (core_record p c.args.self.now c.self.inside.came c.self.inside.records.items c.index-item.result.now c.count_one.new.counts c.one_if.result c.put.new.place c.self.invariant.0 c.self.view_is is low c.index-item.ensures c.count_one.ensures (c.one_if.ensures ∙ ap one (came_named p c.self.inside.came c.self.inside.records.items c.self.inside.are_named.items c.index-item.result.now c.index-is_named.result.now c.self.invariant.0 low c.index-item.ensures c.self.invariant.2 c.index-is_named.ensures)) still).seen
+    (core_record p c.args.self.now c.self.inside.came c.self.inside.records.items c.index-item.result.now c.count_one.new.counts c.one_if.result c.put.new.place c.self.invariant.0 c.self.view_is is low c.index-item.ensures (rw c.shard.ensures at c.count_one.ensures) (c.one_if.ensures ∙ ap one (came_named p c.self.inside.came c.self.inside.records.items c.self.inside.are_named.items c.index-item.result.now c.index-is_named.result.now c.self.invariant.0 low c.index-item.ensures c.self.invariant.2 c.index-is_named.ensures)) still).seen
 
 -- a call begins
 

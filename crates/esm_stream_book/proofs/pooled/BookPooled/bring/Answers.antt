@@ -1,7 +1,7 @@
 use Rattle.std.proofs.Common.{◌≡◌, ◌≤◌, false, List, length, sym, subst, arith}
 use Rattle.std.specs.Prelude.{All, OnOk}
 use Rattle.esm_io.specs.Meanings.{disk, destination}
-use Rattle.esm_model.specs.declared.item.Record.{Record}
+use Rattle.esm_model.specs.Records.{Record}
 use Rattle.esm_model.specs.Valid.{IsValidRecord}
 use Rattle.esm_stream_book.specs.Items.{records_in_items}
 use Rattle.esm_stream_core.specs.Calls.{Differs}

@@ -1,4 +1,4 @@
-use Rattle.std.proofs.Common.{List, ◌∷◌, map, refl, sym, ap, ◌∙◌}
+use Rattle.std.proofs.Common.{List, ◌∷◌, map, refl, sym, ap, subst, ◌∙◌}
 use Rattle.esm_model.specs.declared.entry.Entry.{Entry}
 use Rattle.esm_model.specs.declared.entry.Entry.TheVariants.{Ended}
 use Rattle.esm_model.specs.Setting.{Setting}
@@ -7,8 +7,11 @@ use Rattle.esm_outcome.specs.Preparing.{PreparesEnd}
 use Rattle.esm_outcome.specs.Dues.{due_entry}
 use Rattle.esm_stream_core.specs.CoreView.{CoreView}
 use Rattle.esm_stream_core.specs.Calls.{moment_for}
+use Rattle.esm_stream_core.specs.Acts.{AllNameOpen}
 use Rattle.esm_stream_core.specs.Inside.{view_of}
 use Rattle.esm_stream_core.proofs.Deciding.{ledger_of}
+use Rattle.esm_stream_core.proofs.OpenNames.{end_open}
+use Rattle.esm_stream_core.proofs.Rooms.{own_legal}
 use Rattle.esm_stream_core.proofs.Ledgers.{told_by, moment_is, is_later, valid_records, settled_over}
 use Rattle.esm_stream_core.proofs.Endings.{verdict_is, may_settle, dues_are, few_lines, owes_end, given_is}
 use Rattle.esm_stream_core.proofs.stream_core.StreamCore.done.Goals as goal
@@ -41,6 +44,17 @@ owe_end-requires-clause-may c =
 pub owe_end-requires-clause-prepared : goal.owe_end-requires-clause-prepared
 owe_end-requires-clause-prepared c =
     told_by (λ (s : Setting) (h : List Entry). PreparesEnd h c.args.job.lane c.in_ok-outcome.outcome.window) c.args.self.now c.self.inside.ledger (ledger_of c.args.self.now c.self.inside c.self.view_is c.self.invariant (sym c.is_whole.ensures ∙ c.if-not-is_whole.false)) c.in_ok-outcome.ensures.prepared
+
+pub owe_end-requires-clause-open : goal.owe_end-requires-clause-open
+owe_end-requires-clause-open c =
+    let v = c.args.self.now in
+    let x = c.self.inside in
+    let m = c.raised_to-now.result in
+    let lane = c.args.job.lane in
+    let dues = c.in_ok-outcome.outcome.dues.items in
+    let is = ledger_of v x c.self.view_is c.self.invariant (sym c.is_whole.ensures ∙ c.if-not-is_whole.false) in
+    subst (λ (es : List Entry). AllNameOpen v.setting v.past es) (sym (dues_are v x.ledger lane c.args.reply m dues is c.in_ok-outcome.ensures.dues))
+    (end_open v.setting v.past lane c.args.reply m (own_legal v.setting v.past is.legal) c.requires.runs.runs)
 
 pub owe_end-requires-clause-lines : goal.owe_end-requires-clause-lines
 owe_end-requires-clause-lines c =

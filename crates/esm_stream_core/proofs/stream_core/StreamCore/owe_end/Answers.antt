@@ -9,8 +9,8 @@ use Rattle.esm_outcome.specs.Dues.{due_entry}
 use Rattle.esm_outcome.specs.Ending.{MaySettle}
 use Rattle.esm_outcome.specs.Preparing.{PreparesEnd}
 use Rattle.esm_stream_core.specs.declared.owed.Owed.{Owed}
-use Rattle.esm_stream_core.specs.Acts.{AreWritable}
-use Rattle.esm_stream_core.proofs.Deciding.{Begins, begun, begun_sound, begun_as, Decided, undecided}
+use Rattle.esm_stream_core.specs.Acts.{AreWritable, AllNameOpen}
+use Rattle.esm_stream_core.proofs.Deciding.{Begins, begun, begun_sound, begun_as, Decided, undecided, moved}
 use Rattle.esm_stream_core.proofs.Endings.{end_act, end_next, end_decided}
 use Rattle.esm_stream_core.proofs.stream_core.StreamCore.owe_end.Goals as goal
 use Rattle.esm_stream_core.proofs.stream_core.StreamCore.owe_end.Goals.{After-prepare_end, After-drop-replace}
@@ -35,6 +35,15 @@ dues_owed-requires-clause-writable c =
     subst (λ (s : Setting). AreWritable s (map (due_entry a.lane a.moment) a.outcome.dues.items)) (sym c.prepare_end.ensures.same.setting)
     (c.next_may_be_written.ensures (setting_of x.ledger) (Ended a.lane a.reply a.moment ∷ past_of x.ledger) (map (due_entry a.lane a.moment) a.outcome.dues.items) sound.bounds sound.keeps.config
     (end_next x.ledger a.lane a.reply a.moment a.outcome.dues.items sound (may at)))
+
+pub dues_owed-requires-clause-open : goal.dues_owed-requires-clause-open
+dues_owed-requires-clause-open c =
+    let x = c.self.inside in
+    let a = c.args in
+    let at = (goal.at.dues_owed-requires-clause-open c).After-prepare_end in
+    let es = map (due_entry a.lane a.moment) a.outcome.dues.items in
+    moved x.ledger c.prepare_end.new.ledger (λ (s : Setting) (h : List Entry). AllNameOpen s h es) c.prepare_end.ensures.same
+    (begun_as a.self.now x (λ (s : Setting) (h : List Entry). AllNameOpen s h es) (begins at) c.requires.open)
 
 pub invariant_of-self : goal.invariant_of-self
 invariant_of-self c =

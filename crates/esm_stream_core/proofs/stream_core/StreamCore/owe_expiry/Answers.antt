@@ -1,9 +1,11 @@
-use Rattle.std.proofs.Common.{[], ◌∷◌, refl, sym, subst}
+use Rattle.std.proofs.Common.{[], ◌∷◌, List, refl, sym, subst}
+use Rattle.esm_model.specs.declared.entry.Entry.{Entry}
 use Rattle.esm_model.specs.Setting.{Setting}
 use Rattle.esm_ledger.specs.Ledger.{past_of, setting_of}
 use Rattle.esm_stream_core.specs.Kept.{IsSame}
-use Rattle.esm_stream_core.specs.Acts.{IsWritable}
-use Rattle.esm_stream_core.proofs.Deciding.{Begins, begun, begun_sound, Decided, undecided}
+use Rattle.esm_stream_core.specs.Acts.{IsWritable, AreOpen}
+use Rattle.esm_stream_core.proofs.Deciding.{Begins, begun, begun_sound, begun_as, Decided, undecided, moved}
+use Rattle.esm_stream_core.proofs.OpenNames.{expiry_open}
 use Rattle.esm_stream_core.proofs.Calls.{expiry_of, expiry_next, expiry_decided}
 use Rattle.esm_stream_core.proofs.stream_core.StreamCore.owe_expiry.Goals as goal
 use Rattle.esm_stream_core.proofs.stream_core.StreamCore.owe_expiry.Goals.{After-prepare_entries, In_ok-push}
@@ -23,6 +25,15 @@ expired-requires-clause-writable c =
     let e = expiry_of a.lane a.places a.line a.moment in
     subst (λ (s : Setting). IsWritable s e) (sym c.prepare_entries.ensures.setting)
     (c.next_may_be_written.ensures (setting_of x.ledger) (past_of x.ledger) (e ∷ []) sound.bounds sound.keeps.config (expiry_next a.self.now x a.lane a.places a.line a.moment b c.requires.may)).0
+
+pub expired-requires-clause-open : goal.expired-requires-clause-open
+expired-requires-clause-open c =
+    let x = c.self.inside in
+    let a = c.args in
+    let at = (goal.at.expired-requires-clause-open c).After-prepare_entries in
+    moved x.ledger c.prepare_entries.new.self (λ (s : Setting) (h : List Entry). AreOpen s h a.lane.shard a.places) (same at)
+    (begun_as a.self.now x (λ (s : Setting) (h : List Entry). AreOpen s h a.lane.shard a.places) (begins at)
+    (expiry_open a.self.now.setting a.self.now.past a.lane a.places a.line a.moment c.requires.may))
 
 pub invariant_of-self : goal.invariant_of-self
 invariant_of-self c =

@@ -1,0 +1,26 @@
+use Rattle.std.proofs.Common.{◌≡◌, ◌<◌, ◌∙◌, ◌∷◌, ◌++◌, [], None, length, ap, rules}
+use Rattle.std.specs.declared.snapshot.Snapshot.{Snapshot}
+use Rattle.std.proofs.lemmas.List.{map_push}
+use Rattle.esm_model.specs.Records.{Record}
+use Rattle.esm_ledger.specs.Slots.{told_in}
+use Rattle.esm_ledger.proofs.HeldRecords.{slots_more, slots_passed, front_more}
+use Rattle.esm_ledger.proofs.records.Records.pass.Goals as goal
+
+pub invariant_of-self : goal.invariant_of-self
+invariant_of-self c =
+    let was = c.self.inside in
+    let item : Record = c.args.item in
+    let told : told_in c.push_reserved.new.self.items ≡ told_in was.told.items ++ item ∷ [] =
+    ap told_in c.push_reserved.ensures.items ∙ map_push (λ (x : Snapshot Record). x.value) was.told.items c.of.result ∙ ap (λ (r : Record). told_in was.told.items ++ r ∷ []) c.of.ensures in
+    let none : length was.slots.items ≡ 0 = search rules in
+    (rw told (slots_passed (told_in was.told.items) was.base was.slots.items item none c.self.invariant.0), c.self.invariant.1)
+
+pub invariant_of-self-else-is_empty : goal.invariant_of-self-else-is_empty
+invariant_of-self-else-is_empty c =
+    let was = c.self.inside in
+    let item : Record = c.args.item in
+    let told : told_in c.push_reserved.new.self.items ≡ told_in was.told.items ++ item ∷ [] =
+    ap told_in c.push_reserved.ensures.items ∙ map_push (λ (x : Snapshot Record). x.value) was.told.items c.of.result ∙ ap (λ (r : Record). told_in was.told.items ++ r ∷ []) c.of.ensures in
+    let slots : c.push_back_reserved.new.self.items ≡ was.slots.items ++ None ∷ [] = c.push_back_reserved.ensures.items in
+    let some : 0 < length was.slots.items = search rules in
+    (rw (told, slots) (slots_more (told_in was.told.items) was.base was.slots.items None item (λ q e. absurd cc) c.self.invariant.0), rw slots (front_more was.slots.items None some c.self.invariant.1))

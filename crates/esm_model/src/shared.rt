@@ -1,0 +1,48 @@
+// Bytes that several values hold together.
+ghost use Rattle.std.specs.Prelude.{◌≡◌, IfOk};
+
+use crate::memory::OutOfMemory;
+use std::alloc::Global;
+use std::marker::Model;
+use std::ops::Deref;
+use std::sync::Arc;
+
+/// Bytes that are written once and then shared, seen as a list; they go when their last holder does.
+#[derive(Drop, Debug)]
+pub struct SharedBytes {
+    bytes: Arc<Vec<u8>>,
+}
+
+impl Model for SharedBytes {
+    ghost use Rattle.std.specs.Prelude.{ℕ, List};
+
+    ghost Value = { List ℕ };
+
+    ghost view = { λ t. t.bytes.value.items };
+}
+
+impl SharedBytes {
+    /// The bytes of a `Vec`, with one holder.
+    pub fn from_vec(alloc: Global, bytes: Vec<u8>) -> Result<SharedBytes, OutOfMemory>
+        ensures { IfOk result (λ t. t ≡ bytes.items) }
+    {
+        Ok(SharedBytes {
+            bytes: Arc::new(alloc, bytes)?,
+        })
+    }
+
+    /// One more holder of the same bytes; `OutOfMemory` where there are more than can be counted.
+    pub fn share(&self) -> Result<SharedBytes, OutOfMemory>
+        ensures { IfOk result (λ t. t ≡ self.now) }
+    {
+        Ok(SharedBytes {
+            bytes: Arc::try_clone(&self.bytes)?,
+        })
+    }
+
+    pub fn as_slice(&self) -> &[u8]
+        ensures { result.now ≡ self.now }
+    {
+        self.bytes.deref().as_slice()
+    }
+}
