@@ -1,5 +1,5 @@
 // The bytes of an answer.
-ghost use Rattle.std.specs.Prelude.{◌≡◌, ◌++◌, IfOk, OnOk, Some, length, option_copied};
+ghost use Rattle.std.specs.Prelude.{◌≡◌, ◌++◌, IfOk, OnOk, Some};
 ghost use Rattle.esm_api.specs.Answer.{answer_text, refusal_text, status_lines, error_line, last_lines, refusal_body, phrase_of};
 
 use esm_model::OutOfMemory;

@@ -1,6 +1,5 @@
 // The head of a request.
-ghost use Rattle.std.specs.Prelude.{◌≡◌, ◌<◌, ◌≤◌, ◌+◌, ℕ, length, take, nat_le, count_by, ◌==◌, IfOk};
-ghost use Rattle.httparse.specs.Ascii.{line_feed};
+ghost use Rattle.std.specs.Prelude.{◌≡◌, ◌<◌, ◌≤◌, ◌+◌, length, take, nat_le, ◌==◌, IfOk};
 ghost use Rattle.httparse.specs.Spans.{IsRequestWithin, IsRequestOf};
 ghost use Rattle.esm_api.specs.Head.{from_request_line, line_count};
 ghost use Rattle.esm_api.specs.HeadRead.{EndsLine, HasNoneYet, FindsHead, LooksForHead, SaysAt};

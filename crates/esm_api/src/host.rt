@@ -1,5 +1,5 @@
 // Whether a request comes from elsewhere, as the fields of its head tell.
-ghost use Rattle.std.specs.Prelude.{◌≡◌, length, map, All, codes};
+ghost use Rattle.std.specs.Prelude.{◌≡◌, length, map, All};
 ghost use Rattle.httparse.specs.Spans.{IsHeaderWithin, header_bytes};
 ghost use Rattle.esm_api.specs.Host.{is_port, is_port_part, is_host, names_here, is_foreign_field, is_foreign};
 

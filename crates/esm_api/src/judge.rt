@@ -1,5 +1,5 @@
 // What a request asks for.
-ghost use Rattle.std.specs.Prelude.{◌≡◌, ◌≤◌, length, take, option_map, IfOk};
+ghost use Rattle.std.specs.Prelude.{◌≡◌, ◌≤◌, length, option_map, IfOk};
 ghost use Rattle.serde_json.specs.View.{view};
 ghost use Rattle.esm_api.specs.Plan.{body_bytes};
 ghost use Rattle.esm_api.specs.Request.{judged, changing};

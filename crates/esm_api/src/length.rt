@@ -1,6 +1,6 @@
 // The length of a body, as the fields of its head state it.
-ghost use Rattle.std.specs.Prelude.{◌≡◌, ◌+◌, ◌≤◌, List, ℕ, [], ◌∷◌, ◌++◌, length, map, All, codes, if◌then◌else◌};
-ghost use Rattle.httparse.specs.Spans.{IsHeaderWithin, header_bytes, span_bytes};
+ghost use Rattle.std.specs.Prelude.{◌≡◌, ◌+◌, List, ℕ, [], ◌∷◌, ◌++◌, length, map, All, if◌then◌else◌};
+ghost use Rattle.httparse.specs.Spans.{IsHeaderWithin, header_bytes};
 ghost use Rattle.http1.specs.Fields.{is_named, values_named};
 ghost use Rattle.esm_api.specs.Plan.{body_length, length_by_values, length_of};
 ghost use Rattle.esm_api.specs.HeadRead.{IsNamed, IsNamedWithin};

@@ -1,8 +1,9 @@
 // What a head alone decides.
-ghost use Rattle.std.specs.Prelude.{◌≡◌, length, map, All, IfOk, Some, nat_eq, bytes_eq, is_some, IsUtf8};
+ghost use Rattle.std.specs.Prelude.{◌≡◌, length, map, All, IfOk, Some, bytes_eq, IsUtf8};
 ghost use Rattle.httparse.specs.Spans.{IsHeaderWithin, header_bytes};
 ghost use Rattle.uuid.specs.Text.{parsed_hyphenated};
-ghost use Rattle.esm_api.specs.Plan.{plan_with, plan_by, plan_for_mappings, plan_for_mapping, reading, getting, deleting, is_mapping_path, id_in, has_query, body_bytes, route_of};
+ghost use Rattle.esm_api.specs.Plan.{plan_with, plan_by, plan_for_mappings, plan_for_mapping, reading, getting, deleting, id_in, has_query};
+ghost use Rattle.esm_api.specs.Plan.{body_bytes, route_of};
 
 use crate::host::is_foreign;
 use crate::length::{BodyLength, body_length};

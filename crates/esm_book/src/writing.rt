@@ -79,7 +79,8 @@ fn write_first<C: Decisions, D: Disk, T: Dest>(
         (C.history core.old) (C.owed core.old) core.new pair.old pair.new dest.old dest.new (take 1 (C.owed core.old)) [] []) }
     ensures ready { OnOk result (IsReady (decisions C.Decisions) (destination T.Dest) T.has_room core.new pair.new dest.new) }
     ensures stopped { IfErr result (λ fault. Writes (decisions C.Decisions) (disk D.Disk) (destination T.Dest)
-        (C.history core.old) (C.owed core.old) core.new pair.old pair.new dest.old dest.new [] (hand_of fault (C.owed core.new)) (tried_of fault (C.owed core.new))) }
+        (C.history core.old) (C.owed core.old) core.new pair.old pair.new dest.old dest.new [] (hand_of fault (C.owed core.new))
+        (tried_of fault (C.owed core.new))) }
     ensures failed { IfErr result (λ fault. HasFailed fault pair.new.down (T.failed dest.new)) }
     ensures payable { OnOk result (C.payable core.new) }
     ensures left { OnErr result (0 < length (C.owed core.new)) }

@@ -3,7 +3,7 @@ use Rattle.std.proofs.Common.{◌≡◌, ◌∙◌, ◌&&◌, ◌||◌, ◌+◌,
 use Rattle.std.proofs.Math.Path.{fun_ext}
 use Rattle.std.proofs.lemmas.List.{map-append, take_more}
 use Rattle.std.specs.List.{list_all}
-use Rattle.std.specs.Prelude.{Option, Some, option_and_then}
+use Rattle.std.specs.Prelude.{Some, option_and_then}
 use Rattle.std.specs.Str.{bytes_eq}
 use Rattle.clap.specs.Walk.{Row, Text, first_of, one_of, row_text}
 use Rattle.clap.specs.Words.{App, found_of, first_value, one_text, rows_of, with_rule, Rule}

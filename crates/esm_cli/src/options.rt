@@ -2,7 +2,7 @@
 ghost use Rattle.std.specs.Prelude.{◌≡◌, ◌≢◌, List, ℕ, map, drop, true, false, IfOk, IsErr, option_map};
 ghost use Rattle.std.specs.String.{string_bytes};
 ghost use Rattle.std.specs.List.{list_any};
-ghost use Rattle.clap.specs.Words.{app_of, first_value, found_of, kind_of, one_text, rule_of};
+ghost use Rattle.clap.specs.Words.{app_of, found_of, kind_of, one_text, rule_of};
 ghost use Rattle.uuid.specs.Text.{parsed_hyphenated};
 ghost use Rattle.esm_cli.specs.Spelling.{Given, AreOptions, is_stray_dash};
 ghost use Rattle.esm_cli.specs.Tables.{has_value, listing, option_name, options_of};

@@ -1,6 +1,6 @@
 //! The fields of every mapping.
-ghost use Rattle.std.specs.Prelude.{◌≡◌, ◌≤◌, IsTrue, IfSome};
-ghost use Rattle.serde_json.specs.View.{items_view, view};
+ghost use Rattle.std.specs.Prelude.{◌≡◌, ◌≤◌, IsTrue};
+ghost use Rattle.serde_json.specs.View.{items_view};
 ghost use Rattle.esm_model.specs.declared.limits.TheConstants.{MAX_BATCH};
 ghost use Rattle.esm_model.specs.Valid.{is_batch_size};
 ghost use Rattle.esm_config.specs.Fields.{batch_size_in, enabled_in, is_window_for, item_failures_in, reports_of, usual_batch_size, window_in};

@@ -3,7 +3,8 @@ ghost use Rattle.std.specs.Prelude.{◌≡◌, codes, IfOk, option_and_then, opt
 ghost use Rattle.serde_json.specs.Find.{as_array};
 ghost use Rattle.serde_json.specs.View.{items_view, view};
 ghost use Rattle.esm_config.specs.Arn.{kept};
-ghost use Rattle.esm_config.specs.Fields.{are_criteria, criteria_of, data_pattern, data_pattern_of, data_patterns, filters_in, is_object_text, only_member, pattern_text, pattern_texts, patterns_among};
+ghost use Rattle.esm_config.specs.Fields.{are_criteria, criteria_of, data_pattern, data_pattern_of, data_patterns, filters_in};
+ghost use Rattle.esm_config.specs.Fields.{is_object_text, only_member, pattern_text, pattern_texts, patterns_among};
 ghost use Rattle.esm_config.specs.View.{data_of};
 
 use crate::sources::Sources;

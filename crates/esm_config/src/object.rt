@@ -40,7 +40,8 @@ fn push_member(
     member: &Member,
 ) -> Result<(), AllocError>
     requires { has_float (view member.now.value) ≡ false }
-    ensures { OnOk result (string_bytes out.new ≡ string_bytes out.old ++ (comma_if later ++ (quoted member.now.name.now ++ (58 ∷ compact_text (view member.now.value))))) }
+    ensures { OnOk result (string_bytes out.new ≡ string_bytes out.old
+        ++ (comma_if later ++ (quoted member.now.name.now ++ (58 ∷ compact_text (view member.now.value))))) }
 {
     push_comma(out, later)?;
     push_name(alloc, out, member.name)?;

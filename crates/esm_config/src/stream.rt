@@ -2,7 +2,10 @@
 ghost use Rattle.std.specs.Prelude.{◌≡◌, codes, option_and_then, option_map};
 ghost use Rattle.serde_json.specs.Find.{as_str};
 ghost use Rattle.serde_json.specs.View.{view};
-ghost use Rattle.esm_config.specs.Fields.{age_in, age_within, attempts_within, bisect_in, concurrency_in, concurrency_of, destination_in, destination_of, factor_in, first_position, is_tumbling_for, limit_in, milliseconds, only_member, or_missing, position_among, position_in, position_of, retries_in, start_in, start_of, tumbling_in, whole_in};
+ghost use Rattle.esm_config.specs.Fields.{age_in, age_within, attempts_within, bisect_in, concurrency_in, concurrency_of, destination_in};
+ghost use Rattle.esm_config.specs.Fields.{destination_of, factor_in, first_position, is_tumbling_for, limit_in, milliseconds, only_member};
+ghost use Rattle.esm_config.specs.Fields.{or_missing, position_among, position_in, position_of, retries_in, start_in, start_of};
+ghost use Rattle.esm_config.specs.Fields.{tumbling_in, whole_in};
 ghost use Rattle.esm_model.specs.Valid.{is_destination};
 ghost use Rattle.esm_config.specs.Arn.{kept};
 ghost use Rattle.esm_config.specs.View.{data_of};

@@ -4,7 +4,6 @@ ghost use Rattle.std.specs.String.{string_bytes};
 ghost use Rattle.serde_json.specs.Data.{no_members};
 ghost use Rattle.serde_json.specs.View.{view};
 ghost use Rattle.serde_json.specs.Written.{members_have_float};
-ghost use Rattle.esm_model.specs.Valid.{is_stream};
 ghost use Rattle.esm_config.specs.Member.{and_members, members_of};
 ghost use Rattle.esm_config.specs.Text.{config_members, config_text, kind_settings, queue_settings, settings_of, stream_settings, with, with_some};
 

@@ -2,7 +2,8 @@
 ghost use Rattle.std.specs.Prelude.{◌≡◌, codes, IfOk, option_map};
 ghost use Rattle.serde_json.specs.Data.{string};
 ghost use Rattle.serde_json.specs.View.{items_view, view};
-ghost use Rattle.esm_config.specs.Text.{criteria, on_failure, one_member, pattern_items, position, response_types, scaling, seconds, seconds_or_none, timestamp, whole_or_none};
+ghost use Rattle.esm_config.specs.Text.{criteria, on_failure, one_member, pattern_items, position, response_types, scaling, seconds};
+ghost use Rattle.esm_config.specs.Text.{seconds_or_none, timestamp, whole_or_none};
 
 use esm_model::OutOfMemory;
 use esm_model::config::Start;

@@ -14,7 +14,7 @@ use Rattle.esm_model.specs.declared.called.Called.{Called}
 use Rattle.esm_model.specs.declared.entry.Entry.{Entry}
 use Rattle.esm_model.specs.declared.entry.Reply.{Reply}
 use Rattle.esm_model.specs.declared.entry.Entry.TheVariants.{Came, Began, Ended, Gave, Tried, Closed, Replayed, Shut}
-use Rattle.esm_model.specs.declared.item.Record.{Record}
+use Rattle.esm_model.specs.Records.{Record}
 use Rattle.esm_ddb.specs.BatchEvents.{AreRecordsOfChanges, HaveTheirElements, HaveTheirElementsRunning, element_calls, last_elements}
 use Rattle.esm_ddb.specs.Event.{ddb_event}
 use Rattle.esm_ddb.specs.LineByLine.{IsOfChange}

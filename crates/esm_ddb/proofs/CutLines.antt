@@ -15,7 +15,7 @@ use Rattle.serde_json.specs.Data.{Data, null, boolean, number, string, array, ob
 use Rattle.serde_json.specs.Data as data_of
 use Rattle.serde_json.specs.Read.{max_depth, read}
 use Rattle.esm_model.specs.EventText.{base64_text, shard_id}
-use Rattle.esm_model.specs.declared.item.Record.{Record}
+use Rattle.esm_model.specs.Records.{Record}
 use Rattle.esm_record.specs.Line.{line_of, object_of, record_of}
 use Rattle.esm_record.specs.declared.error.LineError.TheVariants.{NotJson}
 use Rattle.esm_window.specs.Layout.{begin, byte_of, next, put, token_byte}

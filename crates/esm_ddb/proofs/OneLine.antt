@@ -13,7 +13,7 @@ use Rattle.esm_event.proofs.LengthLemmas.{base64_length}
 use Rattle.esm_model.specs.EventText.{base64_text, shard_id}
 use Rattle.esm_model.specs.Numbers.{last_digits}
 use Rattle.esm_model.specs.Sequence.{is_sequence}
-use Rattle.esm_model.specs.declared.item.Record.{Record}
+use Rattle.esm_model.specs.Records.{Record}
 use Rattle.esm_model.proofs.NumberLemmas.{length-last_digits}
 use Rattle.esm_record.specs.Input.{is_blank, is_line_feed}
 use Rattle.esm_ddb.specs.OwnForm.{is_plain}

@@ -32,7 +32,7 @@ use Rattle.esm_model.specs.Numbers.{last_digits}
 use Rattle.esm_model.specs.QueueEvent.{hexadecimal}
 use Rattle.esm_model.specs.Sequence.{is_sequence}
 use Rattle.esm_model.specs.Valid.{begins_char, is_between}
-use Rattle.esm_model.specs.declared.item.Record.{Record}
+use Rattle.esm_model.specs.Records.{Record}
 use Rattle.esm_model.proofs.NumberLemmas.{length-last_digits}
 use Rattle.esm_record.proofs.Digits.{a_digit}
 use Rattle.esm_record.specs.Line.{object_of, record_of, line_of, field_of, judged, of_text, shard_number, sequence_number, partition_key, payload, moment, only_if}

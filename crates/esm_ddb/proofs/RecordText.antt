@@ -17,7 +17,7 @@ use Rattle.esm_model.specs.EventText.{base64_text, record_text, seconds_text, sh
 use Rattle.esm_model.specs.JsonText.{escape_letter, escaped_byte, escaped_with, quoted}
 use Rattle.esm_model.specs.State.{size}
 use Rattle.esm_model.specs.declared.config.Config.{Config}
-use Rattle.esm_model.specs.declared.item.Record.{Record}
+use Rattle.esm_model.specs.Records.{Record}
 use Rattle.esm_window.specs.Layout.{next, mode_at}
 use Rattle.esm_ddb.specs.Event.{payload_of}
 use Rattle.esm_ddb.specs.Lexemes.{places_from}

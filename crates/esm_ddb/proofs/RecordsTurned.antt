@@ -12,7 +12,7 @@ use Rattle.esm_model.specs.Sequence.{sequence_order}
 use Rattle.esm_model.specs.declared.item.Item.{Item}
 use Rattle.esm_model.specs.declared.item.Item.TheVariants.{Stream}
 use Rattle.esm_model.specs.declared.item.LineKind.TheVariants as kinds
-use Rattle.esm_model.specs.declared.item.Record.{Record}
+use Rattle.esm_model.specs.Records.{Record}
 use Rattle.esm_record.specs.Input.{Input, add_line, after_line, begun, ended, in_order, input_of, input_so_far, is_blank, last_number, lines_of, next_record, nothing_read, read_after, read_lines, some_item, too_long}
 use Rattle.esm_record.specs.Line.{line_of, record_of}
 use Rattle.esm_record.specs.declared.error.LineError.{LineError}

@@ -26,7 +26,7 @@ use Rattle.esm_model.specs.declared.event.WindowCall.{WindowCall}
 use Rattle.esm_model.specs.Valid.{IsKinesisSource, IsSource, IsStreamConfig, IsTableSource, is_label_byte, is_region_byte, is_stream_byte, is_word}
 use Rattle.esm_model.specs.declared.config.Config.{Config}
 use Rattle.esm_model.specs.declared.config.Kind.{Kind}
-use Rattle.esm_model.specs.declared.item.Record.{Record}
+use Rattle.esm_model.specs.Records.{Record}
 use Rattle.esm_ddb.specs.ItemText.{value_text}
 use Rattle.esm_ddb.specs.Event.{ddb_event}
 use Rattle.esm_ddb.specs.OwnForm.{AreUnescaped, IsOwn, Own, head_text, is_unescaped, other_payloads, other_texts}

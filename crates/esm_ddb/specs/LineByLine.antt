@@ -5,7 +5,7 @@ use Rattle.std.specs.List.{All, AllZip}
 use Rattle.esm_model.specs.declared.item.Item.{Item}
 use Rattle.esm_model.specs.declared.item.Item.TheVariants.{Stream}
 use Rattle.esm_model.specs.declared.item.LineKind.TheVariants as kinds
-use Rattle.esm_model.specs.declared.item.Record.{Record}
+use Rattle.esm_model.specs.Records.{Record}
 use Rattle.esm_record.specs.Input.{input_of, input_so_far, is_blank, lines_of}
 use Rattle.esm_ddb.specs.Change.{Change}
 use Rattle.esm_ddb.specs.ReadsBack.{IsOfBytes, change_in}

@@ -10,7 +10,7 @@ use Rattle.esm_model.specs.State.{answered_state}
 use Rattle.esm_model.specs.Valid.{IsStreamConfig}
 use Rattle.esm_model.specs.declared.config.Config.{Config}
 use Rattle.esm_model.specs.declared.event.WindowCall.{WindowCall}
-use Rattle.esm_model.specs.declared.item.Record.{Record}
+use Rattle.esm_model.specs.Records.{Record}
 use Rattle.esm_ddb.specs.Event.{ddb_event}
 use Rattle.esm_ddb.specs.LineByLine.{IsOfChange}
 use Rattle.esm_ddb.specs.ReadsBack.{IsOfBytes}

@@ -4,7 +4,7 @@ use Rattle.std.specs.Prelude.{ℕ, nat_lt, List, [], ◌++◌, codes, length, Op
 use Rattle.std.specs.Option.{ok_or}
 use Rattle.serde_json.specs.Data.{Data}
 use Rattle.md5.specs.Md5.{md5}
-use Rattle.esm_model.specs.declared.item.Record.{Record}
+use Rattle.esm_model.specs.Records.{Record}
 use Rattle.esm_model.specs.declared.limits.TheConstants.{MAX_DATA, MAX_LINE}
 use Rattle.esm_model.specs.EventText.{base64_text, shard_id}
 use Rattle.esm_model.specs.Json.{read_json}

@@ -2,7 +2,8 @@
 ghost use Rattle.std.specs.Prelude.{◌≡◌};
 ghost use Rattle.serde_json.specs.Data.{array};
 ghost use Rattle.json.specs.Value.{items_view, members_view, value_view};
-ghost use Rattle.esm_ddb.specs.Attribute.{are_attributes, are_key_values, are_keys, are_texts, is_attribute, is_item, is_key_typed, is_key_value, is_of_type, is_set_type, is_text_type, is_typed};
+ghost use Rattle.esm_ddb.specs.Attribute.{are_attributes, are_key_values, are_keys, are_texts, is_attribute, is_item, is_key_typed};
+ghost use Rattle.esm_ddb.specs.Attribute.{is_key_value, is_of_type, is_set_type, is_text_type, is_typed};
 ghost use Rattle.esm_ddb.specs.Tree.{data_in, items_in, members_in};
 
 use crate::tree::{members_of, text_in};

@@ -1,5 +1,5 @@
 //! The change of an item that a line of a DynamoDB stream tells.
-ghost use Rattle.std.specs.Prelude.{◌≡◌, option_and_then, option_map, true, IfSome};
+ghost use Rattle.std.specs.Prelude.{◌≡◌, option_and_then, option_map, true};
 ghost use Rattle.std.specs.List.{list_all};
 ghost use Rattle.std.specs.Result.{result_map_both};
 ghost use Rattle.json.specs.Value.{value_view};

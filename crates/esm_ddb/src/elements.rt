@@ -1,9 +1,9 @@
 //! The elements of an event's `Records`, and where they stand.
-ghost use Rattle.std.specs.Prelude.{◌≡◌, ◌+◌, ◌-◌, ◌++◌, get_or, codes, if◌then◌else◌, IfOk, OnOk, Some, None, option_map, option_and_then, slice_range};
+ghost use Rattle.std.specs.Prelude.{◌≡◌, ◌+◌, ◌-◌, get_or, codes, if◌then◌else◌, IfOk, Some, None, option_map};
 ghost use Rattle.std.specs.Option.{option_or};
-ghost use Rattle.json.specs.Find.{as_array, get};
+ghost use Rattle.json.specs.Find.{get};
 ghost use Rattle.json.specs.Value.{items_view, members_view, value_view};
-ghost use Rattle.esm_ddb.specs.Event.{data_of, element_at, elements_at, list_elements, object_elements, payload_of, value_at};
+ghost use Rattle.esm_ddb.specs.Event.{data_of, element_at, elements_at, object_elements, payload_of, value_at};
 
 use crate::size::{passed, size};
 use base64::DecodeAllocError;

@@ -2,7 +2,8 @@
 ghost use Rattle.std.specs.Prelude.{◌≡◌, ◌++◌, IfOk, IfSome, IsTrue};
 ghost use Rattle.std.specs.Char.{is_ascii_digit};
 ghost use Rattle.std.specs.List.{list_all};
-ghost use Rattle.esm_ddb.specs.OwnForm.{AreParts, IsDecoded, IsMoment, Passes, PassesData, PassesFront, PassesId, PassesMoment, PassesNumber, PassesTail, is_unescaped};
+ghost use Rattle.esm_ddb.specs.OwnForm.{AreParts, IsDecoded, IsMoment, Passes, PassesData, PassesFront, PassesId, PassesMoment};
+ghost use Rattle.esm_ddb.specs.OwnForm.{PassesNumber, PassesTail, is_unescaped};
 
 use base64::DecodeAllocError;
 use base64::engine::general_purpose::STANDARD;

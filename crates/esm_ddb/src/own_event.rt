@@ -1,5 +1,5 @@
 //! An event in the form in which a stream's events are written.
-ghost use Rattle.std.specs.Prelude.{◌≡◌, ℕ, List, [], codes, IfOk, IfSome, IsTrue, OnOk};
+ghost use Rattle.std.specs.Prelude.{◌≡◌, ℕ, List, [], codes, IfOk, IfSome, IsTrue};
 ghost use Rattle.esm_ddb.specs.Event.{ddb_event};
 ghost use Rattle.esm_ddb.specs.OwnForm.{Becomes, IsTail, PassesOwn};
 

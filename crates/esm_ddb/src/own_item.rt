@@ -1,5 +1,5 @@
 //! Keys and images of a line, where they stand there as they are written.
-ghost use Rattle.std.specs.Prelude.{◌≡◌, ◌++◌, IfSome};
+ghost use Rattle.std.specs.Prelude.{◌≡◌, IfSome};
 ghost use Rattle.esm_ddb.specs.Attribute.{is_text_type};
 ghost use Rattle.esm_ddb.specs.OwnLine.{PassesAttribute, PassesAttributes, PassesImage, PassesItem, PassesText};
 ghost use Rattle.esm_ddb.specs.Tree.{is_before};

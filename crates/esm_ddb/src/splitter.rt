@@ -1,10 +1,10 @@
 // Splitting the input into lines piece by piece, and turning each up to the first bad one.
-ghost use Rattle.std.specs.Prelude.{◌≡◌, ◌+◌, Some, ℕ, List, ◌++◌, ◌∷◌, [], OnOk, IfSome, IfNone, IsNone};
+ghost use Rattle.std.specs.Prelude.{◌≡◌, ◌+◌, Some, ℕ, List, ◌++◌, [], OnOk, IfSome, IfNone, IsNone};
 ghost use Rattle.esm_record.specs.Splitting.{NoLineFeed, IsFirstLine};
 ghost use Rattle.esm_ddb.specs.Gives.{Gives};
 ghost use Rattle.esm_ddb.specs.States.{state_of};
 ghost use Rattle.esm_ddb.specs.Translating.{HasRead, Stands};
-ghost use Rattle.esm_ddb.specs.Translation.{Translation, add_line, line_feed, translation_of};
+ghost use Rattle.esm_ddb.specs.Translation.{Translation, add_line, translation_of};
 ghost use Rattle.esm_ddb.specs.Turned.{turned};
 
 use crate::error::{DdbError, DdbLine, Refusal};

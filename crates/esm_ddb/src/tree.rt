@@ -3,7 +3,8 @@ ghost use Rattle.std.specs.Prelude.{◌≡◌, is_some, option_and_then, option_
 ghost use Rattle.json.specs.Value.{items_view, members_view, value_view};
 ghost use Rattle.serde_json.specs.Find.{as_number, as_object, as_str, as_u64, get};
 ghost use Rattle.esm_ddb.specs.Gives.{Gives};
-ghost use Rattle.esm_ddb.specs.Tree.{are_ordered, are_ranged, data_in, follows, is_before, is_in_order, is_ordered, is_ranged, members_in, members_ranged, tree_of};
+ghost use Rattle.esm_ddb.specs.Tree.{are_ordered, are_ranged, data_in, follows, is_before, is_in_order, is_ordered, is_ranged, members_in};
+ghost use Rattle.esm_ddb.specs.Tree.{members_ranged, tree_of};
 
 use crate::error::{DdbError, Refusal};
 use crate::number::{is_in_range, whole_number};

@@ -10,7 +10,7 @@ use Rattle.esm_journal.specs.declared.error.OpenError.{OpenError}
 use Rattle.esm_journal.specs.declared.error.OpenError.TheVariants as open_error
 use Rattle.esm_folder.specs.declared.ending.JournalFile.TheVariants as file
 use Rattle.esm_folder.specs.Opened.{end_of_file, IsJudged, IsJudgedMigration, IsListed}
-use Rattle.esm_folder.specs.Upkeep.{AreFound, AreHonest, AreOnlyRead, HasFound, HasMigrated, IsCompactEnd, IsFailuresEnd, IsMigrateEnd, IsShowEnd, OneRose, found, found_of_any_version}
+use Rattle.esm_folder.specs.Upkeep.{AreFound, AreHonest, AreOnlyRead, HasFound, HasMigrated, IsCompactEnd, IsFailuresEnd, IsMigrateEnd, IsShowEnd, found, found_of_any_version}
 use Rattle.esm_folder.specs.declared.ending.UpkeepEnd.{UpkeepEnd}
 use Rattle.esm_folder.specs.declared.ending.UpkeepEnd.TheVariants as end
 

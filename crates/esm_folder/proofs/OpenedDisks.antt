@@ -1,16 +1,15 @@
 -- What is left of the two disks of a pair, in the order in which they were handed in.
-use Rattle.std.proofs.Common.{◌≡◌, ◌∙◌, ◌⊎◌, ◌≤◌, ◌+◌, ℕ, Bool, true, false, List, length, ap, arith, inl, inr, refl, subst, sym}
+use Rattle.std.proofs.Common.{◌≡◌, ◌∙◌, ◌≤◌, ◌+◌, ℕ, Bool, true, false, List, length, ap, arith, inl, inr, refl, subst, sym}
 use Rattle.std.specs.Prelude.{not, if◌then◌else◌}
 use Rattle.esm_io.specs.Faults.{Rose}
 use Rattle.esm_io.specs.Images.{LeavesOnly, Only}
 use Rattle.esm_io.specs.Meanings.{DiskMeaning}
 use Rattle.esm_journal.specs.Bytes.{rewritten}
 use Rattle.esm_journal.specs.File.{header_of, IsFile}
-use Rattle.esm_journal.specs.Pair.{PairKeeps, PairState, first_disk, second_disk}
+use Rattle.esm_journal.specs.Pair.{PairKeeps}
 use Rattle.esm_journal.specs.Reads.{IsOnlyRead}
 use Rattle.esm_journal.specs.Replace.{IsSpareOrNew, PairOpensToOldOrNew}
-use Rattle.esm_folder.specs.Opened.{IsOpenedPair, IsOverwritten}
-use Rattle.esm_folder.specs.Upkeep.{AreCompacted, AreHonest, AreKept, AreOnlyRead, AreSettled, IsCompacting, IsKept, IsWritten, OneRose, OpenToOldOrCompacted, PairHolds, found}
+use Rattle.esm_folder.specs.Upkeep.{AreCompacted, AreHonest, AreKept, AreOnlyRead, AreSettled, IsCompacting, IsKept, IsWritten, OneRose, OpenToOldOrCompacted, PairHolds}
 
 -- what stands
 

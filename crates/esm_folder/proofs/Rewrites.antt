@@ -1,11 +1,11 @@
 -- What is left of a pair whose list was rewritten, in whole or in part.
-use Rattle.std.proofs.Common.{◌≡◌, ◌∙◌, ◌+◌, ℕ, Bool, true, false, List, length, map, reverse, Result, Ok, Err, ap, arith, refl, subst, sym}
+use Rattle.std.proofs.Common.{◌≡◌, ◌∙◌, ◌+◌, ℕ, true, false, List, length, map, reverse, Result, Ok, Err, ap, arith, refl, subst, sym}
 use Rattle.std.specs.Prelude.{◌≢◌, ◌==◌, not, if◌then◌else◌, IfOk, OnErr}
 use Rattle.std.proofs.lemmas.Bool.Decides.{nat_tests}
 use Rattle.esm_io.specs.Faults.{Rose}
 use Rattle.esm_io.specs.Meanings.{DiskMeaning}
 use Rattle.esm_journal.specs.Bytes.{rewritten}
-use Rattle.esm_journal.specs.File.{header_of, Opening, Holding, Damaged}
+use Rattle.esm_journal.specs.File.{header_of, Holding, Damaged}
 use Rattle.esm_journal.specs.Migrate.{with_next_epoch}
 use Rattle.esm_journal.specs.Pair.{PairKeepsWhileUp, PairState, first_disk, second_disk}
 use Rattle.esm_journal.specs.Reads.{IsOnlyRead}
@@ -21,7 +21,7 @@ use Rattle.esm_folder.specs.declared.ending.JournalFile.TheVariants as file
 use Rattle.esm_folder.specs.declared.ending.UpkeepEnd.{UpkeepEnd}
 use Rattle.esm_folder.specs.declared.ending.UpkeepEnd.TheVariants as end
 use Rattle.esm_folder.specs.Opened.{end_of_payloads, IsOpenedPair, IsOverwritten}
-use Rattle.esm_folder.specs.Upkeep.{AreCompacted, AreHonest, AreKept, AreOnlyRead, HasCompacted, IsCompactEnd, IsCompacting, IsWritten, OneRose, OpenToOldOrCompacted, PairHolds, found, found_to_write}
+use Rattle.esm_folder.specs.Upkeep.{AreCompacted, AreHonest, AreKept, AreOnlyRead, HasCompacted, IsCompactEnd, IsCompacting, IsWritten, OneRose, OpenToOldOrCompacted, PairHolds}
 use Rattle.esm_folder.proofs.OpenedDisks.{FileBesideNew, are_honest, are_kept, first_after, images_written, is_written, one_rose, pair_holds}
 
 -- a pair that took over the disk that was written

@@ -5,7 +5,7 @@ use Rattle.esm_io.specs.Meanings.{DiskMeaning}
 use Rattle.esm_journal.specs.declared.error.InitError.{InitError}
 use Rattle.esm_journal.specs.declared.error.InitError.TheVariants as why
 use Rattle.esm_model.specs.declared.memory.OutOfMemory.{OutOfMemory}
-use Rattle.esm_folder.specs.Init.{Makes, disk_of, fresh_bytes, size_in}
+use Rattle.esm_folder.specs.Init.{Makes, disk_of, fresh_bytes}
 use Rattle.esm_folder.specs.declared.disks.Disks.{Disks}
 use Rattle.esm_model.specs.declared.names.FileName.{FileName}
 use Rattle.esm_folder.specs.declared.files.InitEnd.{InitEnd}

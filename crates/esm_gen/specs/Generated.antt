@@ -5,7 +5,7 @@ use Rattle.std.specs.List.{flat_map}
 use Rattle.esm_model.specs.declared.config.Config.{Config}
 use Rattle.esm_model.specs.declared.config.Kind.TheVariants.{Stream}
 use Rattle.esm_model.specs.declared.config.Start.TheVariants.{TrimHorizon}
-use Rattle.esm_model.specs.declared.item.Record.{Record}
+use Rattle.esm_model.specs.Records.{Record}
 use Rattle.esm_model.specs.EventText.{shard_id, base64_text}
 use Rattle.esm_model.specs.Fates.{below}
 use Rattle.esm_model.specs.Numbers.{decimal}

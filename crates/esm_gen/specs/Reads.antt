@@ -1,6 +1,6 @@
 -- What an input of a stream is read as.
 use Rattle.std.specs.Prelude.{◌≡◌, ℕ, List, map, None}
-use Rattle.esm_model.specs.declared.item.Record.{Record}
+use Rattle.esm_model.specs.Records.{Record}
 use Rattle.esm_record.specs.Input.{input_of}
 use Rattle.esm_model.specs.declared.item.Item.TheVariants.{Stream}
 use Rattle.esm_model.specs.declared.item.LineKind.TheVariants as kinds

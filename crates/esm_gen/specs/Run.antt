@@ -5,7 +5,7 @@ use Rattle.esm_gen.specs.Generated.{generated_lines, generated_mapping, generate
 use Rattle.esm_input.specs.Reading.{items_read}
 use Rattle.esm_ledger.specs.Ledger.{LegalOver}
 use Rattle.esm_model.specs.declared.entry.Entry.{Entry}
-use Rattle.esm_model.specs.declared.item.Record.{Record}
+use Rattle.esm_model.specs.Records.{Record}
 use Rattle.esm_model.specs.declared.limits.TheConstants.{MAX_LANES}
 use Rattle.esm_model.specs.Calls.{calls}
 use Rattle.esm_model.specs.Entries.{came_count, is_shut}

@@ -1,8 +1,7 @@
 // The function of a generated stream, as a caller of it.
-ghost use Rattle.std.specs.Prelude.{◌≡◌, Some, [], ◌∷◌, length, map, IfOk, OnErr};
+ghost use Rattle.std.specs.Prelude.{◌≡◌, Some, [], ◌∷◌, length, IfOk, OnErr};
 ghost use Rattle.std.specs.List.{All};
 ghost use Rattle.esm_model.specs.declared.limits.TheConstants.{MAX_LANES};
-ghost use Rattle.esm_model.specs.declared.called.Called.{Called};
 ghost use Rattle.esm_io.specs.Faults.{IsCount, Rose};
 ghost use Rattle.esm_io.specs.Told.{Grows};
 ghost use Rattle.esm_io.specs.Caller.{CallerState};

@@ -1,5 +1,5 @@
 // The mapping of a generated stream, and the key whose records its function fails.
-ghost use Rattle.std.specs.Prelude.{◌≡◌, ◌∷◌, [], codes, true, is_ok, IfOk};
+ghost use Rattle.std.specs.Prelude.{◌≡◌, true, is_ok, IfOk};
 ghost use Rattle.esm_gen.specs.Generated as spec;
 ghost use Rattle.esm_model.specs.Pattern.{read_patterns};
 ghost use Rattle.esm_model.specs.Valid.{IsStreamConfig, is_stream};

@@ -1,6 +1,5 @@
 // The run of a generated stream.
-ghost use Rattle.std.specs.Prelude.{◌≡◌, ℕ, [], length, reverse, Ok, IfOk};
-ghost use Rattle.std.specs.List.{All};
+ghost use Rattle.std.specs.Prelude.{◌≡◌, ℕ, reverse, Ok, IfOk};
 ghost use Rattle.esm_gen.specs.Nothing.{SaysNothing};
 ghost use Rattle.esm_gen.specs.Prepared.{IsPrepared, MayRun};
 ghost use Rattle.esm_gen.specs.Report as spec;

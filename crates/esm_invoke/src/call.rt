@@ -1,7 +1,7 @@
 // A call over a link.
-ghost use Rattle.std.specs.Prelude.{◌≡◌, ◌≢◌, ◌⊎◌, ◌+◌, ◌<◌, ◌≤◌, ℕ, true, [], length, take, drop, vec_len, IfOk, OnOk, OnErr};
+ghost use Rattle.std.specs.Prelude.{◌≡◌, ◌≢◌, ◌⊎◌, ◌+◌, ◌<◌, ◌≤◌, true, [], length, take, drop, vec_len, IfOk, OnOk, OnErr};
 ghost use Rattle.esm_io.specs.Faults.{MAX_FAULTS, IsCount, Rose};
-ghost use Rattle.esm_io.specs.Talks.{Reads, Writes, IsReadOut};
+ghost use Rattle.esm_io.specs.Talks.{Writes, IsReadOut};
 ghost use Rattle.esm_invoke.specs.Request.{request_text};
 ghost use Rattle.esm_invoke.specs.Exchange.{SendsPart, Answers, AnswersEarly, Loses, GrowsFor};
 ghost use Rattle.esm_invoke.specs.Receiving.{ReadsMore, ReadsInto, WritesPart, Replies, HasNone, AnswersWhole, Misses, ReceivesHead, Settles};

@@ -1,10 +1,9 @@
 // The head of a response.
-ghost use Rattle.std.specs.Prelude.{◌≡◌, ◌<◌, ◌≤◌, ℕ, List, ◌++◌, length, map, take, drop, min, false, All, codes};
-ghost use Rattle.httparse.specs.Grammar.{ResponseHead};
-ghost use Rattle.httparse.specs.Spans.{IsHeaderWithin, IsSectionWithin, IsResponseAt, header_bytes};
-ghost use Rattle.http1.specs.Fields.{is_named, known_fields};
+ghost use Rattle.std.specs.Prelude.{◌≡◌, ◌<◌, ◌≤◌, ℕ, length, map, min, false, All, codes};
+ghost use Rattle.httparse.specs.Spans.{IsHeaderWithin, IsSectionWithin, header_bytes};
+ghost use Rattle.http1.specs.Fields.{is_named};
 ghost use Rattle.esm_invoke.specs.Response.{framing_of, framing_by_coding, has_function_error};
-ghost use Rattle.esm_invoke.specs.ResponseRead.{ends_empty_line, HasNoHead, NeverBegins, FindsHead, ParsesHead, SaysAt};
+ghost use Rattle.esm_invoke.specs.ResponseRead.{ends_empty_line, HasNoHead, FindsHead, ParsesHead, SaysAt};
 
 use esm_model::{MAX_HEAD, MAX_HEADER_LINES};
 use http::StatusCode;

@@ -1,5 +1,5 @@
 // The lanes of a shard or of a queue, each a row of pieces whose front piece is the next to call.
-ghost use Rattle.std.specs.Prelude.{◌≡◌, ℕ, ◌+◌, ◌<◌, ◌≤◌, ◌↔◌, [], ◌∷◌, ◌++◌, length, drop, slice_set, All, replicate, OnOk, OnErr, IsOk, IfOk, IsNone, IfSome};
+ghost use Rattle.std.specs.Prelude.{◌≡◌, ◌+◌, ◌<◌, ◌≤◌, ◌↔◌, [], ◌∷◌, ◌++◌, length, drop, slice_set, All, replicate, OnOk, OnErr, IsOk, IfOk, IsNone, IfSome};
 ghost use Rattle.esm_model.specs.declared.limits.TheConstants.{MAX_LANES, MAX_TRIES};
 ghost use Rattle.esm_lanes.specs.declared.standing.Standing.TheVariants.{Fresh, Tried};
 ghost use Rattle.esm_lanes.specs.Piece.{empty_lane, lane_at, open_at, after_add, after_split, after_shorten, after_reserve, front_length, IsFront, HasPlaces};

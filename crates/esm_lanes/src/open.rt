@@ -1,5 +1,5 @@
 // The open places of a lane, one list with a moving start whose memory is used again.
-ghost use Rattle.std.specs.Prelude.{◌≡◌, ℕ, ◌+◌, ◌-◌, ◌<◌, ◌≤◌, [], ◌∷◌, ◌++◌, length, drop, OnOk, OnErr, IsOk};
+ghost use Rattle.std.specs.Prelude.{◌≡◌, ◌+◌, ◌-◌, ◌<◌, ◌≤◌, [], ◌∷◌, ◌++◌, length, drop, OnOk, IsOk};
 
 use std::alloc::{AllocError, Global};
 use std::marker::Model;
@@ -13,7 +13,7 @@ pub struct OpenPlaces {
 }
 
 impl Model for OpenPlaces {
-    ghost use Rattle.std.specs.Prelude.{ℕ, ◌-◌, ◌≤◌, drop, vec_len, vec_capacity};
+    ghost use Rattle.std.specs.Prelude.{◌-◌, ◌≤◌, drop, vec_len, vec_capacity};
     ghost use Rattle.esm_lanes.specs.Open.{Open};
 
     ghost Value = { Open };

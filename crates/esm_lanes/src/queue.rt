@@ -1,5 +1,5 @@
 // The pieces of one lane in order: adding a place, and splitting, shortening and telling the front.
-ghost use Rattle.std.specs.Prelude.{◌≡◌, ℕ, ◌+◌, ◌<◌, ◌≤◌, ◌↔◌, [], length, All, OnOk, OnErr, IsOk, IsNone, IfSome};
+ghost use Rattle.std.specs.Prelude.{◌≡◌, ◌+◌, ◌<◌, ◌≤◌, ◌↔◌, [], length, All, OnOk, OnErr, IsOk, IsNone, IfSome};
 ghost use Rattle.esm_lanes.specs.Piece.{empty_lane, after_add, after_split, after_shorten, after_reserve, open_places, front_length, IsFront, HasPlaces};
 
 use crate::open::OpenPlaces;

@@ -5,7 +5,9 @@ ghost use Rattle.esm_journal_state.specs.Meaning.{are_good};
 ghost use Rattle.esm_model.specs.Valid.{HasStreamFields};
 ghost use Rattle.esm_folder.specs.Upkeep.{AreCompacted};
 ghost use Rattle.esm_history.specs.Content.{GoesOnFrom};
-ghost use Rattle.esm_life.specs.Life.{AreBetween, Run, Stage, Ran, content, IsLife, SaysTheSame, FateStays, EachIsEarned, NoneIsCalledAgain, KeysInOrder, CheckpointStays, CheckpointIsRuns, EachFateOnce, EachReplayedOnce, NoneIsReplayedAgain, Replay, ReplaysStay};
+ghost use Rattle.esm_life.specs.Life.{AreBetween, Run, Stage, Ran, content, IsLife, SaysTheSame, FateStays, EachIsEarned};
+ghost use Rattle.esm_life.specs.Life.{NoneIsCalledAgain, KeysInOrder, CheckpointStays, CheckpointIsRuns, EachFateOnce, EachReplayedOnce};
+ghost use Rattle.esm_life.specs.Life.{NoneIsReplayedAgain, Replay, ReplaysStay};
 ghost use Rattle.esm_life.specs.Tries.{TriesGoOn};
 ghost use Rattle.esm_replay_life.specs.ReplayLife.{EachIsAnswered, ReplayRun};
 

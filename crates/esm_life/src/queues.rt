@@ -11,7 +11,8 @@ ghost use Rattle.esm_queue_life.specs.Life.{Stage};
 ghost use Rattle.esm_runner.specs.Files.{FilesState};
 ghost use Rattle.esm_runner.specs.Headline.{Devices};
 ghost use Rattle.esm_workers.specs.Working.{Outside};
-ghost use Rattle.esm_life.specs.Queues.{IsLeftByStage, IsWholeStage, GoesOnWithStage, KeepsLawsInLife, IsFoundAgain, IsLifeBegun, IsCompactedLife, IsMigratedLife, IsMigratingLife, IsSameLife};
+ghost use Rattle.esm_life.specs.Queues.{IsLeftByStage, IsWholeStage, GoesOnWithStage, KeepsLawsInLife, IsFoundAgain, IsLifeBegun};
+ghost use Rattle.esm_life.specs.Queues.{IsCompactedLife, IsMigratedLife, IsMigratingLife, IsSameLife};
 
 use crate::laws::queue_laws_hold;
 use esm_io::{Caller, Disk};

@@ -4,7 +4,7 @@ ghost use Rattle.esm_io.specs.Meanings.{disk as meaning};
 ghost use Rattle.esm_model.specs.declared.book.Trouble.{Trouble};
 ghost use Rattle.esm_model.specs.declared.config.Config.{Config};
 ghost use Rattle.esm_model.specs.declared.entry.Entry.{Entry};
-ghost use Rattle.esm_model.specs.declared.item.Record.{Record};
+ghost use Rattle.esm_model.specs.Records.{Record};
 ghost use Rattle.esm_model.specs.Setting.{Setting};
 ghost use Rattle.esm_model.specs.Step.{Legal};
 ghost use Rattle.esm_folder.specs.Upkeep.{AreCompacted};

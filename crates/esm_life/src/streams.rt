@@ -5,7 +5,7 @@ ghost use Rattle.esm_folder.specs.declared.disks.Disks.{Disks};
 ghost use Rattle.esm_model.specs.declared.book.Trouble.{Trouble};
 ghost use Rattle.esm_model.specs.declared.config.Config.{Config};
 ghost use Rattle.esm_model.specs.declared.entry.Entry.{Entry};
-ghost use Rattle.esm_model.specs.declared.item.Record.{Record};
+ghost use Rattle.esm_model.specs.Records.{Record};
 ghost use Rattle.esm_model.specs.Setting.{Setting};
 ghost use Rattle.esm_replay_model.specs.ReplaySetting.{ReplaySetting};
 ghost use Rattle.esm_replay_run.specs.Headline.{Disks as ReplayDisks};
@@ -13,7 +13,8 @@ ghost use Rattle.esm_runner.specs.Files.{FilesState};
 ghost use Rattle.esm_runner.specs.Headline.{Devices};
 ghost use Rattle.esm_workers.specs.Working.{Outside};
 ghost use Rattle.esm_life.specs.Life.{Stage};
-ghost use Rattle.esm_life.specs.Streams.{IsLeftByStage, IsWholeStage, GoesOnWithStage, KeepsLawsInLife, IsFoundAgain, IsNewLife, IsCompactedLife, IsMigratedLife, IsMigratingLife, IsReplayedLife, IsSameLife};
+ghost use Rattle.esm_life.specs.Streams.{IsLeftByStage, IsWholeStage, GoesOnWithStage, KeepsLawsInLife, IsFoundAgain, IsNewLife};
+ghost use Rattle.esm_life.specs.Streams.{IsCompactedLife, IsMigratedLife, IsMigratingLife, IsReplayedLife, IsSameLife};
 
 use crate::life::{
     each_fate_once, each_is_earned, each_run_finds_tries, each_run_goes_on, fate_stays,

@@ -1,5 +1,5 @@
 // The mapping that a JSON text is, of the kind that a command expects.
-ghost use Rattle.std.specs.Prelude.{◌≡◌, true, Some, IfOk, IfErr};
+ghost use Rattle.std.specs.Prelude.{◌≡◌, Some, IfOk, IfErr};
 ghost use Rattle.serde_json.specs.Read.{read as read_json};
 ghost use Rattle.serde_json.specs.View.{view};
 ghost use Rattle.esm_config.specs.Answer.{IfBad};

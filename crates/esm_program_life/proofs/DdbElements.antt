@@ -32,7 +32,7 @@ use Rattle.esm_model.specs.declared.config.Config.{Config}
 use Rattle.esm_model.specs.declared.entry.Entry.{Entry}
 use Rattle.esm_model.specs.declared.item.Item.{Item}
 use Rattle.esm_model.specs.declared.item.LineKind.TheVariants as kinds
-use Rattle.esm_model.specs.declared.item.Record.{Record}
+use Rattle.esm_model.specs.Records.{Record}
 use Rattle.esm_model.specs.declared.setup.FoundState.{FoundState}
 use Rattle.esm_program_life.specs.DdbElements.{HasSentElements, RunSendsElements, SaysStates, SendsElements, SentElements, StageSendsElements}
 use Rattle.esm_program_life.specs.Reads.{HasRead, NothingHappened}

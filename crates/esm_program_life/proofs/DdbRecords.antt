@@ -21,7 +21,7 @@ use Rattle.esm_model.specs.declared.config.Start.TheVariants.{At, Latest, TrimHo
 use Rattle.esm_model.specs.declared.item.Item.{Item}
 use Rattle.esm_model.specs.declared.item.Item.TheVariants.{Queue, Stream}
 use Rattle.esm_model.specs.declared.item.LineKind.TheVariants as kinds
-use Rattle.esm_model.specs.declared.item.Record.{Record}
+use Rattle.esm_model.specs.Records.{Record}
 use Rattle.esm_model.specs.declared.names.LimitName.{LimitName}
 use Rattle.esm_program_life.specs.Reads.{HasRead}
 use Rattle.esm_record.specs.Input.{input_of, input_so_far, lines_of}

@@ -18,7 +18,7 @@ use Rattle.esm_model.specs.declared.book.Trouble.{Trouble}
 use Rattle.esm_model.specs.declared.book.Trouble.TheVariants.{Disk}
 use Rattle.esm_model.specs.declared.config.Config.{Config}
 use Rattle.esm_model.specs.declared.entry.Entry.{Entry}
-use Rattle.esm_model.specs.declared.item.Record.{Record}
+use Rattle.esm_model.specs.Records.{Record}
 use Rattle.esm_model.specs.Setting.{Setting}
 use Rattle.esm_program_life.specs.Streams.{AddsRewritten, HasLife}
 use Rattle.esm_program_life.specs.Written.{HasWritten}

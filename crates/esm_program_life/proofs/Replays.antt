@@ -17,7 +17,7 @@ use Rattle.esm_model.specs.declared.book.Trouble.TheVariants as trouble
 use Rattle.esm_model.specs.declared.entry.Entry.{Entry}
 use Rattle.esm_model.specs.declared.item.Item.{Item}
 use Rattle.esm_model.specs.declared.item.LineKind.TheVariants as kinds
-use Rattle.esm_model.specs.declared.item.Record.{Record}
+use Rattle.esm_model.specs.Records.{Record}
 use Rattle.esm_program_life.specs.Ran.{HasReplayed}
 use Rattle.esm_program_life.specs.Reads.{HasRead}
 use Rattle.esm_program_life.specs.Streams.{HasLife, IsReplayOf}

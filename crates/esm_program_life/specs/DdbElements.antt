@@ -20,7 +20,7 @@ use Rattle.esm_model.specs.Step.{Legal}
 use Rattle.esm_model.specs.Windows.{has_windows}
 use Rattle.esm_model.specs.declared.entry.Entry.{Entry}
 use Rattle.esm_model.specs.declared.item.Item.{Item}
-use Rattle.esm_model.specs.declared.item.Record.{Record}
+use Rattle.esm_model.specs.Records.{Record}
 use Rattle.esm_model.specs.declared.lane.LaneId.{LaneId}
 use Rattle.esm_program_life.specs.Reads.{NothingHappened}
 use Rattle.esm_program_life.specs.Streams.{MayAdd, reads_turned}

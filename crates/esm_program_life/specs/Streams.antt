@@ -18,7 +18,7 @@ use Rattle.esm_mapping.specs.declared.named.NamedMapping.{NamedMapping}
 use Rattle.esm_model.specs.declared.entry.Entry.{Entry}
 use Rattle.esm_model.specs.declared.item.Item.{Item}
 use Rattle.esm_model.specs.declared.item.LineKind.TheVariants as kinds
-use Rattle.esm_model.specs.declared.item.Record.{Record}
+use Rattle.esm_model.specs.Records.{Record}
 use Rattle.esm_model.specs.Setting.{records_of}
 use Rattle.esm_model.specs.Valid.{is_stream}
 use Rattle.esm_program_life.specs.Ran.{HasRanOver, HasReplayed, HidesNoFault, Shows, TellsNoTrouble}

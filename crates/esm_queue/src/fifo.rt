@@ -87,7 +87,8 @@ pub fn first_places(
     requires headed { IsHeadedBy (leaves visibility_ms messages.now) groups.now }
     requires few { length messages.now ≤ u32.MAX }
     requires early { now ≤ MAX_MOMENT }
-    ensures { IfOk result (λ places. places.items ≡ spec.receivable (record { fifo = groups.now.fifo; visibility = visibility_ms; messages = messages.now }) now max) }
+    ensures { IfOk result (λ places. places.items
+        ≡ spec.receivable (record { fifo = groups.now.fifo; visibility = visibility_ms; messages = messages.now }) now max) }
 {
     let mut places = Vec::new(alloc);
     let mut waiting = BTreeSet::new(alloc);

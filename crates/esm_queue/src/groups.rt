@@ -1,5 +1,6 @@
 // The messages of a queue by their groups, with the head of each group and the moment at which it shows.
-ghost use Rattle.std.specs.Prelude.{◌≡◌, ℕ, ◌+◌, ◌≤◌, ◌<◌, ◌==◌, ◌&&◌, true, false, List, length, ◌++◌, ◌∷◌, [], slice_get, slice_index, slice_set, Some, IfOk, OnOk, IsOk, if◌then◌else◌};
+ghost use Rattle.std.specs.Prelude.{◌≡◌, ℕ, ◌+◌, ◌≤◌, ◌<◌, ◌==◌, ◌&&◌, true, false, List, length, ◌++◌, ◌∷◌, [], slice_get, slice_index};
+ghost use Rattle.std.specs.Prelude.{slice_set, Some, IfOk, OnOk, IsOk, if◌then◌else◌};
 ghost use Rattle.esm_queue_model.specs.declared.stored.Stored.{Stored};
 ghost use Rattle.esm_queue_model.specs.Queue.{is_group, deleted_once};
 ghost use Rattle.esm_queue.specs.Moments.{leaves};
@@ -49,7 +50,8 @@ fn shortened(link: &Link) -> u32
 /// The next message is the head of its group, where the one that goes was.
 fn pass_head(heads: &mut MomentTree, messages: &[Stored], link: &Link, visibility_ms: u64)
     requires { length heads.old.moments ≡ length messages.now }
-    ensures moments { heads.new.moments ≡ slice_set heads.old.moments link.now.next (head_moment link.now.prev (slice_index (leaves visibility_ms messages.now) link.now.next)) }
+    ensures moments { heads.new.moments ≡ slice_set heads.old.moments link.now.next
+        (head_moment link.now.prev (slice_index (leaves visibility_ms messages.now) link.now.next)) }
     ensures spare { heads.new.spare ≡ heads.old.spare }
 {
     if (link.next as usize) < messages.len() {

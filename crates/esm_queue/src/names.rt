@@ -47,7 +47,8 @@ pub fn founder_of(links: &[Link], buckets: &[u32], messages: &[Stored], group: &
     requires founded { IsFounded true messages.now links.now }
     requires chained { IsChained (length buckets.now) messages.now links.now buckets.now }
     requires few { length messages.now ≤ NONE }
-    ensures found { (result ≡ NONE → ⊥) → (result < length messages.now) × (founder_at links.now result ≡ result) × (is_group (group_at messages.now result) group.now ≡ true) }
+    ensures found { (result ≡ NONE → ⊥) → (result < length messages.now) × (founder_at links.now result ≡ result)
+        × (is_group (group_at messages.now result) group.now ≡ true) }
     ensures none { result ≡ NONE → (i : ℕ) → i < length messages.now → is_group (group_at messages.now i) group.now ≡ false }
 {
     let mut at = buckets[bucket_of(group, buckets.len())];

@@ -5,7 +5,8 @@ ghost use Rattle.esm_model.specs.Moment.{capped_moment};
 ghost use Rattle.esm_model.specs.Moment as moments;
 ghost use Rattle.esm_model.specs.declared.moment.TheConstants.{MAX_MOMENT};
 ghost use Rattle.esm_queue_model.specs.declared.stored.Stored.{Stored};
-ghost use Rattle.esm_queue_model.specs.Queue.{empty_queue, after_arrival, after_receipt, after_deletion, receivable, seen, stored_at, is_deleted_at, count_at, first_at, next_show};
+ghost use Rattle.esm_queue_model.specs.Queue.{empty_queue, after_arrival, after_receipt, after_deletion, receivable, seen, stored_at};
+ghost use Rattle.esm_queue_model.specs.Queue.{is_deleted_at, count_at, first_at, next_show};
 
 use crate::copying::copy_all;
 use crate::fifo::first_places;
@@ -38,7 +39,12 @@ impl Model for Queue {
 
     ghost Value = { Held };
 
-    ghost view = { λ q. record { state = record { fifo = q.groups.fifo; visibility = q.visibility_ms; messages = q.messages.items }; spare = min (min (vec_capacity q.messages - vec_len q.messages) q.shows.spare) (room q.groups); ready = q.shows.ready } };
+    ghost view = { λ q. record {
+      state = record { fifo = q.groups.fifo; visibility = q.visibility_ms; messages = q.messages.items };
+      spare = min
+          (min (vec_capacity q.messages - vec_len q.messages) q.shows.spare) (room q.groups);
+      ready = q.shows.ready;
+    } };
 
     ghost invariant = { λ q. IsKept q };
 }

@@ -1,5 +1,6 @@
 // The moments at which places of a queue show, counted in order, for finding the next one after a moment.
-ghost use Rattle.std.specs.Prelude.{◌≡◌, ℕ, ◌+◌, ◌-◌, ◌<◌, ◌≤◌, ◌==◌, ◌&&◌, length, slice_index, slice_set, ◌++◌, ◌∷◌, [], if◌then◌else◌, filter, Some, None, IfSome, IfNone, IsSome, OnOk, OnErr, IsOk, IsTrue, ◌↔◌, true, false};
+ghost use Rattle.std.specs.Prelude.{◌≡◌, ℕ, ◌+◌, ◌-◌, ◌<◌, ◌≤◌, ◌==◌, ◌&&◌, length, slice_index, slice_set, ◌++◌, ◌∷◌, [], if◌then◌else◌};
+ghost use Rattle.std.specs.Prelude.{filter, Some, None, IfSome, IfNone, IsSome, OnOk, OnErr, IsOk, IsTrue, ◌↔◌, true, false};
 ghost use Rattle.std.specs.Vec.{vec_len, vec_capacity};
 ghost use Rattle.std.specs.Ordering.{nat_cmp};
 ghost use Rattle.std.specs.BTreeMap.{get};

@@ -1,5 +1,5 @@
 // The book of a queue's mapping: messages that come, calls of batchers, and deletions kept in a journal.
-ghost use Rattle.std.specs.Prelude.{◌≡◌, ◌==◌, ◌↔◌, ℕ, List, [], ◌++◌, None, Some, true, false, is_ok, length, reverse, IfOk, IfErr, OnOk, OnErr, IsErrOf, IsSome};
+ghost use Rattle.std.specs.Prelude.{◌≡◌, ◌==◌, ◌↔◌, ℕ, List, ◌++◌, None, Some, true, false, is_ok, length, reverse, IfOk, IfErr, OnOk, OnErr, IsErrOf, IsSome};
 ghost use Rattle.std.specs.Option.{option_copied};
 ghost use Rattle.esm_io.specs.Faults.{Rose};
 ghost use Rattle.esm_io.specs.Images.{Only};

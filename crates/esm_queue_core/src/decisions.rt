@@ -1,5 +1,4 @@
 // The calls and answers of a queue's book, and how its core decides on them.
-ghost use Rattle.std.specs.Prelude.{◌≡◌};
 ghost use Rattle.esm_queue_core.specs.CoreView.{forgotten as forgotten_view};
 ghost use Rattle.esm_queue_core.specs.Told.{history_of, owed_of, no_line, opened, MayAsk, Decides, Refuses, IsChange, Notes};
 

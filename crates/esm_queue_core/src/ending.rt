@@ -1,5 +1,5 @@
 // What an answer to a call makes deleted.
-ghost use Rattle.std.specs.Prelude.{◌≡◌, ◌+◌, ◌<◌, not, All, IfOk, filter, length};
+ghost use Rattle.std.specs.Prelude.{◌≡◌, ◌+◌, ◌<◌, not, IfOk, filter};
 ghost use Rattle.esm_model.specs.declared.verdict.QueueReading.{QueueReading};
 ghost use Rattle.esm_queue_model.specs.Queue.{is_deleted_at};
 ghost use Rattle.esm_queue_model.specs.QueueStep.{not_failed, succeeded_by};

@@ -1,5 +1,5 @@
 // A deletion that is owed.
-ghost use Rattle.std.specs.Prelude.{◌≡◌, ◌+◌, ◌<◌, ◌≤◌, ◌++◌, [], Some, All, IfOk, length, slice_get};
+ghost use Rattle.std.specs.Prelude.{◌≡◌, ◌+◌, ◌<◌, ◌++◌, Some, All, IfOk, length, slice_get};
 ghost use Rattle.esm_journal_record.specs.EntryPayload.{ids_at};
 ghost use Rattle.esm_queue_core.specs.Kept.{messages_stored, IsGift, MayBeGiven, gift_entries};
 ghost use Rattle.esm_queue_core.specs.Coming.{gave_entries};

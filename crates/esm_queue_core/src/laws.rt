@@ -1,6 +1,6 @@
 //! What decisions leave of a legal history, each as the contract of a function that does nothing. A history is written
 //! newest entry first; it is settled where it calls for nothing more.
-ghost use Rattle.std.specs.Prelude.{ℕ, List};
+ghost use Rattle.std.specs.Prelude.{List};
 ghost use Rattle.esm_model.specs.declared.item.Message.{Message};
 ghost use Rattle.esm_model.specs.declared.entry.Entry.{Entry};
 ghost use Rattle.esm_queue_model.specs.QueueSetting.{QueueSetting, ExtendsMessages, over_messages};

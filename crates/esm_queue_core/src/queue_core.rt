@@ -1,5 +1,6 @@
 // The core of a queue's book: its history, the calls and deletions that it decides on, and the entries it owes.
-ghost use Rattle.std.specs.Prelude.{◌≡◌, ℕ, ◌+◌, ◌<◌, ◌≤◌, ◌==◌, ◌^◌, ◌∷◌, [], min, max, IfOk, IfErr, IfSome, IfNone, OnOk, OnErr, All, length, take, reverse, false, true};
+ghost use Rattle.std.specs.Prelude.{◌≡◌, ◌+◌, ◌<◌, ◌≤◌, ◌==◌, ◌^◌, ◌∷◌, [], min, max, IfOk, IfErr, IfSome, IfNone, OnOk, OnErr, All};
+ghost use Rattle.std.specs.Prelude.{length, take, reverse, false, true};
 ghost use Rattle.std.specs.Vec.{vec_capacity};
 ghost use Rattle.esm_model.specs.declared.limits.TheConstants.{MAX_BATCH, MAX_PAYLOAD};
 ghost use Rattle.esm_model.specs.declared.moment.TheConstants.{MAX_MOMENT};
@@ -16,7 +17,8 @@ ghost use Rattle.esm_queue_model.specs.QueueEntries.{queue_lane};
 ghost use Rattle.esm_queue_model.specs.QueueStep.{LegalQueue};
 ghost use Rattle.esm_queue_model.specs.QueueBooks.{messages_told};
 ghost use Rattle.esm_queue_core.specs.declared.standing.Standing.TheVariants.{Whole};
-ghost use Rattle.esm_queue_core.specs.CoreView.{new_setting, new_view, moment_for, all_messages, LegalAhead, SettledAhead, IsRunningJob, owing, paid, forgotten, noted};
+ghost use Rattle.esm_queue_core.specs.CoreView.{new_setting, new_view, moment_for, all_messages, LegalAhead, SettledAhead, IsRunningJob};
+ghost use Rattle.esm_queue_core.specs.CoreView.{owing, paid, forgotten, noted};
 ghost use Rattle.esm_queue_core.specs.Coming.{came_entries, IsFirstChange};
 ghost use Rattle.esm_queue_core.specs.Ending.{ended_places, ended_entries};
 ghost use Rattle.esm_queue_core.specs.Next.{is_all_deleted, next_for, next_entries};

@@ -4,7 +4,9 @@ ghost use Rattle.std.specs.Prelude.{◌≡◌, ◌∷◌, ◌++◌, Bool, true, 
 ghost use Rattle.esm_journal_state.specs.Meaning.{are_good};
 ghost use Rattle.esm_redrive_life.specs.Content.{DeletionsAreRecorded};
 ghost use Rattle.esm_redrive_life.specs.Life.{Redrive};
-ghost use Rattle.esm_queue_life.specs.Life.{Run, Stage, Ran, Redriven, content, run_of, IsLife, AreRewritten, DeletionStays, EachDeletedOnce, EachIsEarned, EachRedriveIsEarned, IdsAreKept, NoneIsCalledAgain, GroupsInOrder, GoesOnFrom};
+ghost use Rattle.esm_queue_life.specs.Life.{Run, Stage, Ran, Redriven, content, run_of, IsLife, AreRewritten, DeletionStays};
+ghost use Rattle.esm_queue_life.specs.Life.{EachDeletedOnce, EachIsEarned, EachRedriveIsEarned, IdsAreKept, NoneIsCalledAgain};
+ghost use Rattle.esm_queue_life.specs.Life.{GroupsInOrder, GoesOnFrom};
 ghost use Rattle.esm_queue_life.specs.UnderRedrives.{IsUnderRedrives, KeepsDeadLetters};
 
 use esm_journal_record::laws::read_again;

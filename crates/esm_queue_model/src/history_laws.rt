@@ -24,7 +24,8 @@ pub fn every_message_counted()
 
 /// What is legal over a list of messages is legal over each list that goes on from it.
 pub fn legal_over_more()
-    ensures { (s : QueueSetting) (h : List Entry) (after : List Message) → ExtendsMessages s.messages after → LegalQueue s h → LegalQueue (over_messages s after) h }
+    ensures { (s : QueueSetting) (h : List Entry) (after : List Message) → ExtendsMessages s.messages after → LegalQueue s h →
+        LegalQueue (over_messages s after) h }
 {}
 
 /// What follows a history adds to the calls of a batcher those that end in it, and changes none before.
@@ -34,5 +35,6 @@ pub fn queue_calls_kept()
 
 /// The calls of a legal history are those over each list of messages that goes on from the setting's.
 pub fn queue_calls_kept_over()
-    ensures { (s : QueueSetting) (sends : List ℕ → List ℕ) (h : List Entry) (k : ℕ) (after : List Message) → ExtendsMessages s.messages after → LegalQueue s h → QueueCallsKeptOver s sends h k after }
+    ensures { (s : QueueSetting) (sends : List ℕ → List ℕ) (h : List Entry) (k : ℕ) (after : List Message) → ExtendsMessages s.messages after →
+        LegalQueue s h → QueueCallsKeptOver s sends h k after }
 {}

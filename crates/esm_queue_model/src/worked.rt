@@ -5,7 +5,8 @@ ghost use Rattle.esm_queue_model.specs.QueueSetting.{QueueSetting};
 ghost use Rattle.esm_queue_model.specs.QueueStep.{LegalQueue};
 ghost use Rattle.esm_queue_model.specs.QueueTests.{is_legal_queue};
 ghost use Rattle.esm_queue_model.specs.WorkedQueue.{FifoReceive, QueuePeek};
-ghost use Rattle.esm_queue_model.specs.WorkedHistories.{QueueItemFailures, HiddenCallIsNotLegal, TwoGroups, FilteredMessage, FoundDeleted, ChangedMessageIsNotLegal};
+ghost use Rattle.esm_queue_model.specs.WorkedHistories.{QueueItemFailures, HiddenCallIsNotLegal, TwoGroups, FilteredMessage, FoundDeleted};
+ghost use Rattle.esm_queue_model.specs.WorkedHistories.{ChangedMessageIsNotLegal};
 
 /// Three messages of the groups A, B and A: one in flight holds the later one of its group back, until it shows again or
 /// is deleted.

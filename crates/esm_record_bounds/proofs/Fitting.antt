@@ -7,7 +7,7 @@ use Rattle.std.proofs.lemmas.Option.{slice_get_cases}
 use Rattle.esm_model.specs.declared.limits.TheConstants.{MAX_DATA, MAX_TRIES}
 use Rattle.esm_model.specs.Lane.{same_lane}
 use Rattle.esm_model.specs.declared.config.Config.{Config}
-use Rattle.esm_model.specs.declared.item.Record.{Record}
+use Rattle.esm_model.specs.Records.{Record}
 use Rattle.esm_model.specs.declared.lane.LaneId.{LaneId}
 use Rattle.esm_model.specs.declared.entry.Fate.{Fate}
 use Rattle.esm_model.specs.declared.entry.Fate.TheVariants.{Succeeded, Filtered, Expired, Exhausted}

@@ -9,7 +9,7 @@ use Rattle.esm_model.specs.declared.limits.TheConstants.{MAX_PAYLOAD}
 use Rattle.esm_model.specs.declared.config.Kind.{Kind}
 use Rattle.esm_model.specs.declared.config.Kind.TheVariants.{Stream, Standard, Fifo}
 use Rattle.esm_model.specs.declared.config.Config.{Config}
-use Rattle.esm_model.specs.declared.item.Record.{Record}
+use Rattle.esm_model.specs.Records.{Record}
 use Rattle.esm_model.specs.declared.lane.LaneId.{LaneId}
 use Rattle.esm_model.specs.declared.event.Failure.{Failure}
 use Rattle.esm_model.specs.declared.event.Response.{Response}

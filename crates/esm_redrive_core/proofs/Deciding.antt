@@ -26,7 +26,7 @@ use Rattle.esm_journal_record.specs.EntryPayload.{ids_at}
 use Rattle.esm_queue_model.specs.declared.stored.Stored.{Stored}
 use Rattle.esm_queue_model.specs.Queue.{QueueState, receivable, is_deleted_at}
 use Rattle.esm_queue_model.specs.QueueSetting as settings
-use Rattle.esm_queue_model.specs.QueueSetting.{QueueSetting, message_at, is_fifo, over_messages}
+use Rattle.esm_queue_model.specs.QueueSetting.{QueueSetting}
 use Rattle.esm_queue_model.specs.QueueEntries.{queue_lane, queue_of, is_deleted}
 use Rattle.esm_queue_model.specs.QueueBatch.{queue_event, queue_fits, queue_batch, eligible_after}
 use Rattle.esm_queue_model.specs.QueueStep.{succeeded_by}

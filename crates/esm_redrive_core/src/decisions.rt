@@ -1,5 +1,4 @@
 // The calls and answers of a redrive's book, and how its core decides on them.
-ghost use Rattle.std.specs.Prelude.{◌≡◌};
 ghost use Rattle.esm_redrive_core.specs.RedriveView.{forgotten as forgotten_view};
 ghost use Rattle.esm_redrive_core.specs.Told.{history_of, owed_of, opened, MayAsk, Decides, Refuses, IsChange, Notes};
 

@@ -1,5 +1,6 @@
 //! Worked examples, each computed from the definitions.
-ghost use Rattle.esm_redrive_model.specs.WorkedRedrives.{RedriveOne, RedriveSpent, NearRedriveOne, RedriveFound, NearRedriveFound, RedriveFifo, NearRedriveFifo};
+ghost use Rattle.esm_redrive_model.specs.WorkedRedrives.{RedriveOne, RedriveSpent, NearRedriveOne, RedriveFound, NearRedriveFound};
+ghost use Rattle.esm_redrive_model.specs.WorkedRedrives.{RedriveFifo, NearRedriveFifo};
 
 /// A message that always fails is moved when it shows after its last receive; one whose line was found is recorded
 /// without a second line; and a FIFO queue's next message is called once the first of its group was moved.

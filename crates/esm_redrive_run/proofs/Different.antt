@@ -12,7 +12,7 @@ use Rattle.esm_model.specs.declared.item.Item.TheVariants.{Stream, Queue}
 use Rattle.esm_model.specs.declared.item.LineKind.{LineKind}
 use Rattle.esm_model.specs.declared.item.LineKind.TheVariants as kinds
 use Rattle.esm_model.specs.declared.item.Message.{Message}
-use Rattle.esm_model.specs.declared.item.Record.{Record}
+use Rattle.esm_model.specs.Records.{Record}
 use Rattle.esm_model.specs.declared.names.LimitName.{LimitName}
 use Rattle.esm_record.specs.declared.error.LineError.{LineError}
 use Rattle.esm_record.specs.declared.error.LineError.TheVariants.{LineTooLong}

@@ -17,7 +17,7 @@ use Rattle.esm_queue_model.specs.QueueSetting.{is_fifo}
 use Rattle.esm_book.specs.Decided.{written_of}
 use Rattle.esm_book.specs.Growth.{IsHeld, OpensToFront, ReadsFront}
 use Rattle.esm_book.specs.State.{in_delivery, in_hand, is_dest, is_disk}
-use Rattle.esm_folder.specs.Upkeep.{AreHonest, AreSettled, OneRose, PairHolds}
+use Rattle.esm_folder.specs.Upkeep.{AreHonest, OneRose, PairHolds}
 use Rattle.esm_folder.proofs.OpenedDisks.{are_honest, pair_holds}
 use Rattle.esm_journal_record.specs.EntryPayload.{queue_payload}
 use Rattle.esm_queue_book.specs.Books.{payloads_in}
@@ -36,7 +36,7 @@ use Rattle.esm_runner.specs.Headline.{PairStopped}
 use Rattle.esm_runner.proofs.Headlines.{hand_has, in_hand_few, is_in_hand, not_disk}
 use Rattle.esm_runner.proofs.Stopped.{HasGoneDown, filter_map_few, in_order, pair_stopped}
 use Rattle.esm_redrive_run.specs.Book.{Book}
-use Rattle.esm_redrive_run.specs.Headline.{CrashKept, CrashKeptSinceOpening, DeadLettersKept, Disks, Headline, IsTried, JournalKept, JournalStopped, LettersCrashKept, LettersCrashKeptSinceOpening, LinesKept, LinesStandFirst, LinesStandFirstSinceOpening, LinesStopped, OpensToFrontOf, OpensToLettersOf, OpensWithLetters, dead_letters}
+use Rattle.esm_redrive_run.specs.Headline.{CrashKept, CrashKeptSinceOpening, DeadLettersKept, Disks, Headline, IsTried, JournalKept, JournalStopped, LettersCrashKept, LettersCrashKeptSinceOpening, LinesKept, LinesStandFirst, LinesStandFirstSinceOpening, OpensToFrontOf, OpensToLettersOf, OpensWithLetters, dead_letters}
 use Rattle.esm_redrive_run.specs.Laws.{AreLaws}
 use Rattle.esm_redrive_run.specs.Runs.{IsLeft, dead_file}
 use Rattle.esm_redrive_run.proofs.AllEarned.{all_earned}

@@ -6,7 +6,8 @@ ghost use Rattle.esm_model.specs.Setting.{Setting};
 ghost use Rattle.esm_model.specs.Step.{Legal};
 ghost use Rattle.esm_journal_record.specs.EntryPayload.{history_payloads, AllMayBeSaid};
 ghost use Rattle.esm_journal_state.specs.Meaning.{history, are_good};
-ghost use Rattle.esm_replay_life.specs.ReplayLife.{ReplayRun, Stage, Replay, content, IsLife, NoneReplays, AreReplays, EachReplayedOnce, ReplaysStay, NoneIsCalledAgain, EachIsAnswered, FatesAndTriesStay};
+ghost use Rattle.esm_replay_life.specs.ReplayLife.{ReplayRun, Stage, Replay, content, IsLife, NoneReplays, AreReplays, EachReplayedOnce};
+ghost use Rattle.esm_replay_life.specs.ReplayLife.{ReplaysStay, NoneIsCalledAgain, EachIsAnswered, FatesAndTriesStay};
 
 /// Each record is named by at most one payload of kind 7.
 pub fn each_replayed_once()

@@ -4,7 +4,7 @@ use Rattle.std.specs.Prelude.{◌==◌, nat_lt, not, filter, option_map, unwrap_
 use Rattle.std.proofs.Math.Seq.{drop-append_seam}
 use Rattle.std.proofs.lemmas.Bool.{cases_Bool, cases_lt, and_parts, eqb-true, or_left, or_right}
 use Rattle.std.proofs.lemmas.Option.{slice_get_cases}
-use Rattle.esm_model.specs.declared.item.Record.{Record}
+use Rattle.esm_model.specs.Records.{Record}
 use Rattle.esm_model.specs.declared.lane.LaneId.{LaneId}
 use Rattle.esm_model.specs.declared.verdict.Rest.{Rest}
 use Rattle.esm_model.specs.declared.verdict.Rest.TheVariants.{Nothing, Again, Counted, Split, Exhausted}

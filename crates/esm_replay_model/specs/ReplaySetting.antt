@@ -5,7 +5,7 @@ use Rattle.std.specs.List.{list_any}
 use Rattle.std.specs.Ordering.{is_le}
 use Rattle.esm_model.specs.Sequence.{sequence_order}
 use Rattle.esm_model.specs.declared.config.Config.{Config}
-use Rattle.esm_model.specs.declared.item.Record.{Record}
+use Rattle.esm_model.specs.Records.{Record}
 use Rattle.esm_model.specs.declared.setup.FoundFate.{FoundFate}
 use Rattle.esm_model.specs.Setting.{Setting, records_of, record_at, found_fate}
 use Rattle.esm_model.specs.Fates.{below}

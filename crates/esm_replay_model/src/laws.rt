@@ -5,7 +5,8 @@ ghost use Rattle.esm_model.specs.declared.entry.Entry.{Entry};
 ghost use Rattle.esm_journal_record.specs.EntryPayload.{AllMayBeSaid};
 ghost use Rattle.esm_replay_model.specs.ReplaySetting.{ReplaySetting};
 ghost use Rattle.esm_replay_model.specs.ReplayRun.{IsReplay};
-ghost use Rattle.esm_replay_model.specs.ReplayLaws.{ReplayedOnce, CallsNamed, ReplayedAsAnswered, CallsWithin, ReplayedOrLeft, SucceededAreReplayed, CountsAddUp, CallsLogged, SaysAfter};
+ghost use Rattle.esm_replay_model.specs.ReplayLaws.{ReplayedOnce, CallsNamed, ReplayedAsAnswered, CallsWithin, ReplayedOrLeft};
+ghost use Rattle.esm_replay_model.specs.ReplayLaws.{SucceededAreReplayed, CountsAddUp, CallsLogged, SaysAfter};
 
 /// In a run each record is named by at most one `Replayed`, and only where it is named by a failure line, was given up and
 /// was not replayed before.

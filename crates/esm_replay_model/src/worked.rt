@@ -4,7 +4,9 @@ ghost use Rattle.esm_model.specs.declared.entry.Entry.{Entry};
 ghost use Rattle.esm_replay_model.specs.ReplaySetting.{ReplaySetting};
 ghost use Rattle.esm_replay_model.specs.ReplayRun.{IsReplay};
 ghost use Rattle.esm_replay_model.specs.ReplayTests.{is_replay};
-ghost use Rattle.esm_replay_model.specs.WorkedReplays.{FailureRanges, ReplayEight, ShortCallIsNoReplay, FailedIsNotReplayed, SecondCallIsNoReplay, NoCallsAllowed, ReplayEdges, UnnamedIsNotCalled, UnlistedIsNotNamed, HalvedReplay, LaterHalfIsNoReplay, ReportedReplay};
+ghost use Rattle.esm_replay_model.specs.WorkedReplays.{FailureRanges, ReplayEight, ShortCallIsNoReplay, FailedIsNotReplayed};
+ghost use Rattle.esm_replay_model.specs.WorkedReplays.{SecondCallIsNoReplay, NoCallsAllowed, ReplayEdges, UnnamedIsNotCalled};
+ghost use Rattle.esm_replay_model.specs.WorkedReplays.{UnlistedIsNotNamed, HalvedReplay, LaterHalfIsNoReplay, ReportedReplay};
 
 /// A history that passes the tests is a run of the replay.
 pub fn replay_by_tests()

@@ -10,7 +10,7 @@ use Rattle.esm_model.specs.declared.called.Called.{Called}
 use Rattle.esm_model.specs.declared.config.Config.{Config}
 use Rattle.esm_model.specs.declared.entry.Entry.{Entry}
 use Rattle.esm_model.specs.declared.entry.Reply.{Reply}
-use Rattle.esm_model.specs.declared.item.Record.{Record}
+use Rattle.esm_model.specs.Records.{Record}
 use Rattle.esm_model.specs.declared.item.LineKind.TheVariants as kinds
 use Rattle.esm_model.specs.declared.limits.TheConstants.{MAX_BATCH}
 use Rattle.esm_model.specs.Entries.{calls_begun}

@@ -5,7 +5,8 @@ ghost use Rattle.esm_model.specs.Setting.{Setting};
 ghost use Rattle.esm_model.specs.Entries.{calls_begun};
 ghost use Rattle.esm_model.specs.Numbers.{decimal};
 ghost use Rattle.esm_model.specs.Names.{file_name, limit_name};
-ghost use Rattle.esm_report.specs.Report.{report_text, shard_lines, calls_text, line, place_part, texts_part, change_text, last_line, ending_text, stands_alone};
+ghost use Rattle.esm_report.specs.Report.{report_text, shard_lines, calls_text, line, place_part, texts_part, change_text, last_line};
+ghost use Rattle.esm_report.specs.Report.{ending_text, stands_alone};
 ghost use Rattle.esm_report.specs.Totals.{place_fate, numbers_part, count_part, counts_part, count_text, total_line, total_lines};
 
 use crate::ending::Ending;

@@ -15,7 +15,7 @@ use Rattle.esm_journal_state.specs.Tells.{Tells, fate_of_found, tries_of_found}
 use Rattle.esm_ledger.specs.Ledger.{opened_with}
 use Rattle.esm_model.specs.declared.book.Change.{Change}
 use Rattle.esm_model.specs.declared.config.Config.{Config}
-use Rattle.esm_model.specs.declared.item.Record.{Record}
+use Rattle.esm_model.specs.Records.{Record}
 use Rattle.esm_model.specs.declared.setup.FoundFate.{FoundFate}
 use Rattle.esm_model.specs.declared.setup.FoundTries.{FoundTries}
 use Rattle.esm_model.specs.Setting.{Setting, found_fate, found_try, over}

@@ -22,7 +22,7 @@ use Rattle.esm_runner.specs.Files.{FilesState}
 use Rattle.esm_runner.specs.Headline.{Devices, Telling}
 use Rattle.esm_runner.specs.QueueComing.{messages_in_items}
 use Rattle.esm_runner.specs.QueueEnded as queue
-use Rattle.esm_runner.specs.QueueEnded.{IsInputOf, line_kind}
+use Rattle.esm_runner.specs.QueueEnded.{IsInputOf}
 use Rattle.esm_runner.specs.declared.run.MappingEnd.{MappingEnd}
 use Rattle.esm_runner.specs.declared.run.MappingEnd.TheVariants as end
 use Rattle.esm_run.specs.Answers.{AreSoundDevices}

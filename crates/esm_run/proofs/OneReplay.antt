@@ -13,7 +13,7 @@ use Rattle.esm_model.specs.declared.book.Change.{Change}
 use Rattle.esm_model.specs.declared.config.Config.{Config}
 use Rattle.esm_model.specs.declared.entry.Entry.{Entry}
 use Rattle.esm_model.specs.declared.item.LineKind.TheVariants as kinds
-use Rattle.esm_model.specs.declared.item.Record.{Record}
+use Rattle.esm_model.specs.Records.{Record}
 use Rattle.esm_replay_book.proofs.Deciding.{change-append}
 use Rattle.esm_replay.specs.Records.{of_shard}
 use Rattle.esm_replay_book.specs.Opening.{IsFirstBadLine}

@@ -10,7 +10,7 @@ use Rattle.esm_model.specs.declared.book.Change.{Change}
 use Rattle.esm_model.specs.declared.config.Config.{Config}
 use Rattle.esm_model.specs.declared.config.Start.{Start}
 use Rattle.esm_model.specs.declared.entry.Entry.{Entry}
-use Rattle.esm_model.specs.declared.item.Record.{Record}
+use Rattle.esm_model.specs.Records.{Record}
 use Rattle.esm_model.specs.Setting.{Setting, over}
 use Rattle.esm_runner.specs.Coming.{records_in_items}
 use Rattle.esm_model.specs.declared.item.LineKind.TheVariants as kinds

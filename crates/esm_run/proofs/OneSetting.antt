@@ -5,7 +5,7 @@ use Rattle.esm_journal.specs.File.{Holding, Opening}
 use Rattle.esm_ledger.specs.Ledger.{opened_with}
 use Rattle.esm_model.specs.declared.config.Config.{Config}
 use Rattle.esm_model.specs.declared.entry.Entry.{Entry}
-use Rattle.esm_model.specs.declared.item.Record.{Record}
+use Rattle.esm_model.specs.Records.{Record}
 use Rattle.esm_model.specs.Fates.{fate}
 use Rattle.esm_model.specs.Setting.{Setting, over}
 use Rattle.esm_model.specs.Windows.{is_outstanding}

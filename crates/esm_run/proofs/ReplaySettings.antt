@@ -8,7 +8,7 @@ use Rattle.esm_model.specs.Setting.{Stream, over}
 use Rattle.esm_model.specs.declared.config.Config.{Config}
 use Rattle.esm_model.specs.declared.item.Item.{Item}
 use Rattle.esm_model.specs.declared.item.Item.TheVariants as items
-use Rattle.esm_model.specs.declared.item.Record.{Record}
+use Rattle.esm_model.specs.Records.{Record}
 use Rattle.esm_replay.proofs.FirstPieces.{rising_records}
 use Rattle.esm_replay.proofs.Gathering.{held_inserted, none_of_shard}
 use Rattle.esm_replay.specs.Records.{of_shard, setting_with, shards_of, stream_of, streams_of}

@@ -19,7 +19,7 @@ use Rattle.esm_model.specs.Valid.{is_stream}
 use Rattle.esm_model.specs.declared.config.Config.{Config}
 use Rattle.esm_model.specs.declared.entry.Entry.{Entry}
 use Rattle.esm_model.specs.declared.item.LineKind.TheVariants as kinds
-use Rattle.esm_model.specs.declared.item.Record.{Record}
+use Rattle.esm_model.specs.Records.{Record}
 use Rattle.esm_runner.specs.Coming.{records_in_items}
 use Rattle.esm_runner.specs.QueueEnded.{line_kind}
 use Rattle.esm_run.specs.Answers.{AreGoodFiles}

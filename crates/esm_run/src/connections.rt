@@ -1,5 +1,5 @@
 // Serving the connections of the mappings' API, one after the other, and why no more are accepted.
-ghost use Rattle.std.specs.Prelude.{◌≡◌, ◌≤◌, false, Some, IfOk, OnOk, OnErr};
+ghost use Rattle.std.specs.Prelude.{◌≡◌, false, Some, IfOk, OnOk, OnErr};
 ghost use Rattle.esm_io.specs.Talks.{Closes, IsFresh};
 ghost use Rattle.esm_run.specs.Serving.{Connection, HaveServed, HaveServedUpTo, IsCutAt, IsServed, StopsFor};
 ghost use Rattle.esm_run.specs.World.{door_of, serve_tells};

@@ -2,7 +2,6 @@
 ghost use Rattle.std.specs.Prelude.{◌≡◌, ◌≤◌, Ok, true, [], length, reverse, vec_capacity, IfErr, IfOk, OnErr};
 ghost use Rattle.esm_ddb.specs.Translating.{source_of};
 ghost use Rattle.esm_ddb.specs.TurnedInput.{IsTurnedInput};
-ghost use Rattle.esm_io.specs.Meanings.{disk as meaning};
 ghost use Rattle.esm_mapping.specs.Named.{IsExpected, MayRun};
 ghost use Rattle.esm_mapping.specs.declared.expected.Expected.TheVariants.{DynamoDb};
 ghost use Rattle.esm_model.specs.Valid.{is_stream};

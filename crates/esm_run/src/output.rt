@@ -1,6 +1,5 @@
 // Writing the text of a command to its output, with the exit status that tells of the ending.
-ghost use Rattle.std.specs.Prelude.{◌≡◌, ◌≤◌, List, Option, OnOk, OnErr};
-ghost use Rattle.esm_io.specs.Faults.{IsCount};
+ghost use Rattle.std.specs.Prelude.{◌≡◌, ◌≤◌, OnOk, OnErr};
 ghost use Rattle.esm_io.specs.Told.{Grows};
 ghost use Rattle.esm_report.specs.declared.ending.Ending.TheVariants.{BadWords};
 ghost use Rattle.esm_run.specs.Endings.{status_of, failed_status_of, IsCutShort, IsTold};

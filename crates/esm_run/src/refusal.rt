@@ -4,7 +4,8 @@ ghost use Rattle.esm_config.specs.Names.{name_of};
 ghost use Rattle.esm_input.specs.declared.ending.InputEnd.{InputEnd};
 ghost use Rattle.esm_record.specs.declared.error.LineError.TheVariants.{Backwards};
 ghost use Rattle.esm_report.specs.declared.ending.Ending.TheVariants.{BadParameter};
-ghost use Rattle.esm_run.specs.Endings.{why_text, ddb_why_text, ending_of, ending_of_ddb, ending_of_reading, ending_of_redrive, ending_of_replay, ending_of_turned, ending_of_files, ending_of_mapping, file_of};
+ghost use Rattle.esm_run.specs.Endings.{why_text, ddb_why_text, ending_of, ending_of_ddb, ending_of_reading, ending_of_redrive};
+ghost use Rattle.esm_run.specs.Endings.{ending_of_replay, ending_of_turned, ending_of_files, ending_of_mapping, file_of};
 
 use esm_config::Param;
 use esm_ddb::{DdbError, InputTurned};

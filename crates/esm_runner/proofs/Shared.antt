@@ -8,7 +8,7 @@ use Rattle.esm_model.specs.declared.book.Change.{Change}
 use Rattle.esm_model.specs.declared.book.Trouble.{Trouble}
 use Rattle.esm_model.specs.declared.book.Trouble.TheVariants.{Disk, Dest, Changed}
 use Rattle.esm_model.specs.declared.config.Config.{Config}
-use Rattle.esm_model.specs.declared.item.Record.{Record}
+use Rattle.esm_model.specs.Records.{Record}
 use Rattle.esm_model.specs.declared.memory.OutOfMemory.{OutOfMemory}
 use Rattle.esm_model.specs.declared.entry.Entry.{Entry}
 use Rattle.esm_model.specs.declared.setup.Setup.{Setup}

@@ -1,6 +1,6 @@
 -- Records that came to a book from its input. This product's own.
 use Rattle.std.specs.Prelude.{◌≡◌, ◌++◌, ℕ, true, List}
-use Rattle.esm_model.specs.declared.item.Record.{Record}
+use Rattle.esm_model.specs.Records.{Record}
 use Rattle.esm_model.specs.Setting.{records_in}
 use Rattle.esm_model.specs.Entries.{is_shut}
 use Rattle.esm_ingest.specs.Coming.{of_shard}

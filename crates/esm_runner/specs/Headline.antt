@@ -7,7 +7,7 @@ use Rattle.esm_journal.specs.File.{header_of}
 use Rattle.esm_journal.specs.Pair.{PairOpensTo, first_disk, second_disk}
 use Rattle.esm_journal.specs.State.{Keeps, OpensTo, StillOpens}
 use Rattle.esm_model.specs.declared.config.Config.{Config}
-use Rattle.esm_model.specs.declared.item.Record.{Record}
+use Rattle.esm_model.specs.Records.{Record}
 use Rattle.esm_model.specs.declared.lane.LaneId.{LaneId}
 use Rattle.esm_model.specs.declared.entry.Entry.{Entry}
 use Rattle.esm_model.specs.declared.called.Called.{Called}

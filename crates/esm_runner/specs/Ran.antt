@@ -1,7 +1,7 @@
 -- What a run of a stream's reader and batchers leaves. This product's own.
 use Rattle.std.specs.Prelude.{◌≡◌, ◌<◌, ◌⊎◌, ◌++◌, ℕ, Bool, true, false, List, [], length, slice_get, slice_index_or, Option, Some, None, IsSome}
 use Rattle.esm_io.specs.Told.{Grows, TakesFront}
-use Rattle.esm_model.specs.declared.item.Record.{Record}
+use Rattle.esm_model.specs.Records.{Record}
 use Rattle.esm_model.specs.declared.book.Change.{Change}
 use Rattle.esm_model.specs.declared.book.Trouble.{Trouble}
 use Rattle.esm_model.specs.declared.book.Trouble.TheVariants.{Changed}

@@ -1,5 +1,5 @@
 // The files of a run: the journal with its spare, and the failure file.
-ghost use Rattle.std.specs.Prelude.{◌≡◌, ℕ, IfOk, IfErr};
+ghost use Rattle.std.specs.Prelude.{◌≡◌, IfOk, IfErr};
 ghost use Rattle.esm_io.specs.Meanings.{disk as meaning};
 ghost use Rattle.esm_runner.specs.Files.{FilesState, IsOpenedFiles, AreRefused, AreClosed};
 ghost use Rattle.esm_runner.specs.Openings.{refusal_of, IsPairOpened, IsPairRefused};

@@ -11,7 +11,7 @@ ghost use Rattle.esm_journal_state.specs.Tells.{Tells};
 ghost use Rattle.esm_stream_book.specs.Opening.{IsOpened};
 ghost use Rattle.esm_workers.specs.Working.{outside};
 ghost use Rattle.esm_runner.specs.Files.{IsOpenedFiles};
-ghost use Rattle.esm_runner.specs.Headline.{telling, Devices};
+ghost use Rattle.esm_runner.specs.Headline.{telling};
 ghost use Rattle.esm_runner.specs.Ended.{HasEnded, HasStoppedRun};
 ghost use Rattle.esm_runner.specs.Runs.{IsBegun, files_of, over_file};
 

@@ -1,8 +1,8 @@
 // The reading of a book's input, whole, before its first call.
-ghost use Rattle.std.specs.Prelude.{◌≡◌, ◌≤◌, ℕ, None, false, length, All, IfErr, OnOk, IsErrOf, IsSome};
+ghost use Rattle.std.specs.Prelude.{◌≡◌, ◌≤◌, None, false, length, All, IfErr, OnOk, IsErrOf, IsSome};
 ghost use Rattle.esm_model.specs.declared.limits.TheConstants.{MAX_BATCH};
 ghost use Rattle.esm_model.specs.Items.{IsValidItem};
-ghost use Rattle.esm_model.specs.Coming.{Come, SomeCome, FitBehind, AreCome, AreSomeCome};
+ghost use Rattle.esm_model.specs.Coming.{Come, SomeCome, FitBehind, AreCome};
 ghost use Rattle.esm_input.specs.Reading.{IsInput, handed};
 ghost use Rattle.esm_serial.specs.Ran.{IsSameInput};
 ghost use Rattle.esm_serial.specs.Readings.{Brings, IsStopFor, IsStopOf, stop_of};

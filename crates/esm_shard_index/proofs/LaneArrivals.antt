@@ -19,7 +19,7 @@ use Rattle.esm_model.specs.Step.{Legal}
 use Rattle.esm_model.proofs.Lists.{In, In-none, In-one, In-append_cases, In-filter, In-here, In-there, filter_both}
 use Rattle.esm_model.proofs.Records.{filter_same}
 use Rattle.esm_lanes.specs.declared.standing.Standing.{Standing}
-use Rattle.esm_lanes.specs.Piece.{Piece, takes, opened, joined, added_behind, added, front_length}
+use Rattle.esm_lanes.specs.Piece.{Piece, takes, opened, added_behind, added, front_length}
 use Rattle.esm_lanes.specs.Piece as piece
 use Rattle.esm_lanes.proofs.Pieces.{open_places-added}
 use Rattle.esm_shard_index.specs.declared.lane_state.Running.{Running}

@@ -17,7 +17,7 @@ use Rattle.esm_model.specs.Ruling.{capped_tries, is_counted}
 use Rattle.esm_model.specs.Tries.{tries_sum, tries_for, counts, counts_in_call, call_verdict, verdict_on, verdict_after, mark, marked_by}
 use Rattle.esm_model.specs.Owed.{Debt, success_debts, give_up_debts, close_debts, rest_debts, call_debts, end_debts, new_state}
 use Rattle.esm_model.proofs.Lists.{Distinct}
-use Rattle.esm_lanes.specs.Piece.{Piece, Lane, rest_of, shortened, split, front_length, after_shorten}
+use Rattle.esm_lanes.specs.Piece.{Piece, Lane, shortened, front_length}
 use Rattle.esm_lanes.specs.Piece as piece
 use Rattle.esm_lanes.proofs.Pieces.{open_places-shortened, open_places-split}
 use Rattle.esm_shard_index.specs.LaneView.{front_tries, set_apart, after_rest}

@@ -16,7 +16,7 @@ use Rattle.esm_model.proofs.Lists.{In, In-none, In-here, In-there, filter-In, be
 use Rattle.esm_model.proofs.Sound.{open_In}
 use Rattle.esm_lanes.specs.declared.standing.Standing.{Standing}
 use Rattle.esm_lanes.specs.declared.standing.Standing.TheVariants.{Fresh, Tried, Split}
-use Rattle.esm_lanes.specs.Piece.{Piece, front_length, shortened}
+use Rattle.esm_lanes.specs.Piece.{Piece}
 use Rattle.esm_lanes.specs.Piece as piece
 use Rattle.esm_shard_index.specs.LaneView.{LaneView, front_places}
 use Rattle.esm_shard_index.specs.LaneHistory.{Tags, tags, same_tag, HasStanding, IsPiece, IsApart, ArePieces, owed_places, is_passing, sorted_places, IsLane}

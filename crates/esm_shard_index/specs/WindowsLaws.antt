@@ -1,6 +1,6 @@
 -- What each entry does to the windows of a shard as they are kept, and what is read off them.
 use Rattle.std.specs.Prelude.{ℕ, ◌≡◌, ◌+◌, ◌-◌, ◌<◌, ◌≤◌, ◌==◌, max, true, ◌&&◌, List, [], ◌∷◌, map, filter, Option, Some, None, is_some, is_none, if◌then◌else◌}
-use Rattle.esm_model.specs.declared.item.Record.{Record}
+use Rattle.esm_model.specs.Records.{Record}
 use Rattle.esm_model.specs.declared.lane.LaneId.{LaneId}
 use Rattle.esm_model.specs.declared.entry.Fate.{Fate}
 use Rattle.esm_model.specs.declared.entry.Reply.{Reply}

@@ -1,5 +1,5 @@
 // The moments at which the records of a shard came, as a run of places for each arrival.
-ghost use Rattle.std.specs.Prelude.{◌≡◌, ℕ, ◌+◌, ◌<◌, ◌≤◌, nat_le, true, false, [], ◌∷◌, ◌++◌, length, OnOk, IsOk};
+ghost use Rattle.std.specs.Prelude.{◌≡◌, ◌+◌, ◌<◌, ◌≤◌, nat_le, true, false, [], ◌∷◌, ◌++◌, length, OnOk, IsOk};
 ghost use Rattle.std.specs.List.Sorted.{IsNonDecreasingBy, IsPartitionPoint};
 ghost use Rattle.esm_shard_index.specs.declared.arrivals.Arrival.{Arrival};
 ghost use Rattle.esm_shard_index.specs.Arrivals.{arrival, moment_in};

@@ -1,5 +1,5 @@
 // The lanes of a stream's book by number, each with its pieces of open places and its running call.
-ghost use Rattle.std.specs.Prelude.{◌≡◌, ◌≢◌, ℕ, ◌+◌, ◌<◌, ◌≤◌, ◌↔◌, [], length, take, OnOk, OnErr, IsOk, IfOk, IsNone, IfSome};
+ghost use Rattle.std.specs.Prelude.{◌≡◌, ◌≢◌, ℕ, ◌<◌, ◌≤◌, ◌↔◌, [], length, take, OnOk, OnErr, IsOk, IfOk, IsNone, IfSome};
 ghost use Rattle.esm_model.specs.declared.limits.TheConstants.{MAX_LANES, MAX_TRIES};
 ghost use Rattle.esm_lanes.specs.Piece.{IsFront, open_places, front_length};
 ghost use Rattle.esm_shard_index.specs.LaneView as spec;

@@ -1,5 +1,6 @@
 // Which records of a shard have which fate, how many have each, and the shard's checkpoint.
-ghost use Rattle.std.specs.Prelude.{◌≡◌, ℕ, ◌+◌, ◌<◌, ◌≤◌, ◌==◌, ◌||◌, Bool, true, false, [], ◌∷◌, ◌++◌, length, map, filter, is_some, slice_index_or, OnOk, IsOk, Option};
+ghost use Rattle.std.specs.Prelude.{◌≡◌, ℕ, ◌+◌, ◌<◌, ◌≤◌, ◌==◌, ◌||◌, true, false, [], ◌∷◌, ◌++◌, length, map, filter, is_some};
+ghost use Rattle.std.specs.Prelude.{slice_index_or, OnOk, IsOk, Option};
 ghost use Rattle.esm_model.specs.declared.entry.Fate.{Fate};
 ghost use Rattle.esm_model.specs.Entries.{holds};
 ghost use Rattle.esm_model.specs.Fates.{same_fate, is_fate};

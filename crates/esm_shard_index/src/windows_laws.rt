@@ -7,7 +7,8 @@ ghost use Rattle.esm_model.specs.Setting.{Setting};
 ghost use Rattle.esm_model.specs.Entries.{came_count};
 ghost use Rattle.esm_model.specs.Windows.{has_windows};
 ghost use Rattle.esm_shard_index.specs.Windows.{WindowTable, IsWindows};
-ghost use Rattle.esm_shard_index.specs.WindowsLaws.{WindowsBegin, WindowsCome, WindowsGive, WindowsEnd, WindowsClose, WindowsStay, WindowsTell, WindowsRise, WindowFollows};
+ghost use Rattle.esm_shard_index.specs.WindowsLaws.{WindowsBegin, WindowsCome, WindowsGive, WindowsEnd, WindowsClose, WindowsStay};
+ghost use Rattle.esm_shard_index.specs.WindowsLaws.{WindowsTell, WindowsRise, WindowFollows};
 
 /// Before anything came there is what the journal told.
 pub fn windows_begin()

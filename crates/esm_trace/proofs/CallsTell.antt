@@ -1,16 +1,13 @@
 -- The replies in the log of a batcher's caller.
-use Rattle.std.proofs.Common.{◌≡◌, ◌∙◌, ℕ, refl, ap, inl, inr, List, [], ◌∷◌, ◌++◌, map}
+use Rattle.std.proofs.Common.{◌≡◌, ◌∙◌, refl, ap, inl, inr, List, [], ◌∷◌, ◌++◌, map}
 use Rattle.std.specs.Prelude.{◌==◌}
 use Rattle.std.proofs.lemmas.Bool.{cases_Bool}
 use Rattle.std.proofs.lemmas.List.{map-append}
 use Rattle.esm_model.specs.declared.called.Called.{Called}
-use Rattle.esm_model.specs.declared.entry.Entry.{Entry}
 use Rattle.esm_model.specs.declared.entry.Entry.TheVariants.{Came, Began, Ended, Gave, Tried, Closed, Replayed, Shut}
 use Rattle.esm_model.specs.declared.entry.Reply.{Reply}
-use Rattle.esm_model.specs.Setting.{Setting}
 use Rattle.esm_model.specs.Entries.{batcher}
 use Rattle.esm_model.specs.Calls.{calls, last_event}
-use Rattle.esm_queue_model.specs.QueueSetting.{QueueSetting}
 use Rattle.esm_queue_model.specs.QueueBatch.{last_queue_event, queue_calls}
 use Rattle.esm_trace.specs.Laws.{QueueCallsTell, StreamCallsTell}
 

@@ -1,6 +1,6 @@
 -- The replies of a history from one of its entries on, taken from the lists of its batchers.
-use Rattle.std.proofs.Common.{◌≡◌, ◌∙◌, ℕ, zero, suc, ◌+◌, ◌<◌, Bool, true, false, refl, sym, ap, subst, inl, inr, List, [], ◌∷◌, ◌++◌, append_assoc, append-nil, length, map, drop, take, get_or, reverse, Option, Some, None, add-one, arith}
-use Rattle.std.specs.Prelude.{◌==◌, slice_index_or, slice_set, IfSome, if◌then◌else◌}
+use Rattle.std.proofs.Common.{◌≡◌, ◌∙◌, ℕ, zero, suc, ◌+◌, ◌<◌, Bool, true, false, refl, sym, ap, subst, inl, inr, List, [], ◌∷◌, ◌++◌, append_assoc, append-nil, length, map, drop, get_or, reverse, Option, Some, None, add-one, arith}
+use Rattle.std.specs.Prelude.{◌==◌, slice_index_or, slice_set, IfSome}
 use Rattle.std.specs.List.{filter_map, cons_option, position_or_len}
 use Rattle.std.specs.Option.{option_to_list}
 use Rattle.std.proofs.Math.Seq.{drop-cons}

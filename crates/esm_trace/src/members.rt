@@ -3,7 +3,8 @@ ghost use Rattle.std.specs.Prelude.{◌≡◌, ◌++◌, codes, OnOk};
 ghost use Rattle.std.specs.List.{flat_map};
 ghost use Rattle.esm_model.specs.Numbers.{decimal};
 ghost use Rattle.esm_model.specs.EventText.{base64_text};
-ghost use Rattle.esm_trace.specs.Trace.{head_part, shard_name, shard_part, lane_part, numbers_text, places_part, closing_part, answer_part, reply_part, by_part, fate_word, fate_part, line_part, state_part};
+ghost use Rattle.esm_trace.specs.Trace.{head_part, shard_name, shard_part, lane_part, numbers_text, places_part, closing_part, answer_part};
+ghost use Rattle.esm_trace.specs.Trace.{reply_part, by_part, fate_word, fate_part, line_part, state_part};
 ghost use Rattle.esm_trace.specs.Following.{following_place};
 
 use esm_event::bytes::push_bytes;

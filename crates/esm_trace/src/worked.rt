@@ -1,5 +1,7 @@
 //! Worked lines, one for each entry and each form of it, computed from the definitions.
-ghost use Rattle.esm_trace.specs.Worked.{CameLine, BeganLine, FinalCall, EndedLine, GarbledReply, LostReply, GaveLine, FateAtArrival, FailureTold, StateTold, TriedLine, TriedFinalCall, ClosedLine, QueueLine, ReplayedLine, ShutLine, TwoLines};
+ghost use Rattle.esm_trace.specs.Worked.{CameLine, BeganLine, FinalCall, EndedLine, GarbledReply, LostReply, GaveLine, FateAtArrival};
+ghost use Rattle.esm_trace.specs.Worked.{FailureTold, StateTold, TriedLine, TriedFinalCall, ClosedLine, QueueLine, ReplayedLine, ShutLine};
+ghost use Rattle.esm_trace.specs.Worked.{TwoLines};
 
 /// The lines of the table of the trace, and a text of two.
 pub fn lines()

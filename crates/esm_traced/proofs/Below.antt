@@ -1,11 +1,10 @@
 -- What the run of a stream over recorders says of the callers below them.
-use Rattle.std.proofs.Common.{◌≡◌, ◌∙◌, ◌<◌, ℕ, Bool, List, length, map, refl, sym, ap, subst, inl, inr, Option, Some, None}
+use Rattle.std.proofs.Common.{◌≡◌, ◌<◌, ℕ, Bool, List, length, map, sym, subst, inl, inr, Option, Some, None}
 use Rattle.std.specs.Prelude.{slice_index_or}
 use Rattle.std.specs.List.{All}
 use Rattle.std.proofs.lemmas.List.{length-map}
 use Rattle.esm_input.specs.Reading.{handed}
 use Rattle.esm_input.specs.declared.ending.InputEnd.{InputEnd}
-use Rattle.esm_io.specs.Told.{Grows}
 use Rattle.esm_model.specs.Calls.{calls}
 use Rattle.esm_model.specs.Setting.{Setting}
 use Rattle.esm_model.specs.declared.book.Trouble.{Trouble}
@@ -13,7 +12,7 @@ use Rattle.esm_model.specs.declared.book.Trouble.TheVariants as trouble
 use Rattle.esm_model.specs.declared.config.Config.{Config}
 use Rattle.esm_model.specs.declared.config.Start.{Start}
 use Rattle.esm_model.specs.declared.entry.Entry.{Entry}
-use Rattle.esm_model.specs.declared.item.Record.{Record}
+use Rattle.esm_model.specs.Records.{Record}
 use Rattle.esm_recorder.specs.Laws.{LogsTell}
 use Rattle.esm_recorder.specs.Recorder.{IsRecorder, RecorderState, log_of, new_recorder}
 use Rattle.esm_runner.specs.Coming.{records_in_items}

@@ -1,6 +1,6 @@
 -- The replies that recorders kept are those of the history of the run.
 use Rattle.std.proofs.Common.{◌≡◌, ◌∙◌, ◌<◌, ℕ, suc, Bool, true, false, List, [], ◌∷◌, length, map, refl, sym, ap, subst, Option, Some, None, Result, Ok, Err, arith, cond}
-use Rattle.std.specs.Prelude.{IfOk, IfSome, is_ok, option_map, slice_index_or}
+use Rattle.std.specs.Prelude.{IfOk, IfSome, is_ok, option_map}
 use Rattle.std.specs.List.{All}
 use Rattle.esm_input.specs.declared.ending.InputEnd.{InputEnd}
 use Rattle.esm_model.specs.Calls.{calls}
@@ -31,7 +31,6 @@ use Rattle.esm_runner.specs.declared.run.MappingEnd.{MappingEnd}
 use Rattle.esm_trace.specs.InOrder.{AreOfBatchers, replies_by}
 use Rattle.esm_trace.specs.Laws.{QueueCallsTell, StreamCallsTell}
 use Rattle.esm_trace.specs.Trace.{replies_of}
-use Rattle.esm_trace.specs.declared.batchers.Batchers.{Batchers}
 use Rattle.esm_trace.specs.declared.batchers.Batchers.TheVariants.{OfQueue, OfStream}
 use Rattle.esm_traced.proofs.Below.{tells_recorded, within_recorders}
 use Rattle.esm_traced.proofs.RedriveBelow.{redrive_recorded}

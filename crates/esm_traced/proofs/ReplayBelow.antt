@@ -1,5 +1,5 @@
 -- What the run of a replay over a recorder says of the caller below it.
-use Rattle.std.proofs.Common.{◌≡◌, ℕ, Bool, List, refl, sym, ap, subst, inl, inr, Option}
+use Rattle.std.proofs.Common.{◌≡◌, ℕ, Bool, List, ap, subst, inl, inr, Option}
 use Rattle.esm_input.specs.declared.ending.InputEnd.{InputEnd}
 use Rattle.esm_model.specs.declared.config.Config.{Config}
 use Rattle.esm_model.specs.declared.entry.Entry.{Entry}

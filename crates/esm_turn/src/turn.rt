@@ -73,10 +73,15 @@ type Place<T> = atomic_table::Seat<Option<T>, LinkedList<Part>>;
 // Deals a part to each of the seats; the one that had all parts has none in the end.
 fn seat_all<T: Kept>(shared: &Board<T>, mut first: Place<T>, all: &mut Vec<Seat<T>>, seats: u32)
     requires at { (first.table_id ≡ shared.now.table_id) × (shared.now.table_id.words ≡ 1) }
-    requires first { first.me ≡ (begun_parts T.author (T.setup shared.now.key.made.value) (T.history shared.now.key.made.value) (T.change shared.now.key.made.value) 0 seats, []) }
+    requires first { first.me ≡ (
+      begun_parts T.author (T.setup shared.now.key.made.value) (T.history shared.now.key.made.value)
+          (T.change shared.now.key.made.value) 0 seats,
+      [],
+    ) }
     requires key { shared.now.key.seats ≡ seats }
     requires room { (vec_len all.old ≡ 0) × (seats ≤ vec_capacity all.old) }
-    ensures { AreBegun T.author (T.history shared.now.key.made.value) (T.change shared.now.key.made.value) (turn_view shared.now.table_id (T.setup shared.now.key.made.value) seats) all.new.items }
+    ensures { AreBegun T.author (T.history shared.now.key.made.value) (T.change shared.now.key.made.value)
+        (turn_view shared.now.table_id (T.setup shared.now.key.made.value) seats) all.new.items }
 {
     for _i in 0..seats {
         let inner = shared.split_seat::<Deals>(&mut first);
@@ -173,7 +178,8 @@ impl<T: Kept> Turn<T> {
         requires at { seat.old.at ≡ self.now.at }
         requires free { seat.old.holds ≡ false }
         ensures taken { IfSome result (λ h. IsTaken (meaning T.Kept) (part_of seat.old) h.value) }
-        ensures seat { IfSome result (λ h. seat.new ≡ record seat.old { seen = T.history h.value; mark = T.mark h.value; change = T.change h.value; holds = true }) }
+        ensures seat { IfSome result (λ h. seat.new
+            ≡ record seat.old { seen = T.history h.value; mark = T.mark h.value; change = T.change h.value; holds = true }) }
         ensures none { IfNone result (seat.new ≡ seat.old) }
     {
         let shared = &self.table.shared;
@@ -239,7 +245,14 @@ impl<T: Kept> Turn<T> {
         requires own { AllBy (T.author seat.old.setup) seat.old.number seat.old.seen (added seat.old.seen (T.history held.value)) }
         requires marked { seat.old.mark ≡ true → T.mark held.value ≡ true }
         requires unchanged { (seat.old.number ≡ 0 → ⊥) → T.change held.value ≡ seat.old.change }
-        ensures { seat.new ≡ record seat.old { seen = T.history held.value; mine = seat.old.mine ++ added seat.old.seen (T.history held.value); mark = T.mark held.value; change = T.change held.value; holds = false } }
+        ensures { seat.new ≡ record seat.old {
+          seen = T.history held.value;
+          mine = seat.old.mine
+              ++ added seat.old.seen (T.history held.value);
+          mark = T.mark held.value;
+          change = T.change held.value;
+          holds = false;
+        } }
     {
         let Held { value } = held;
         let word = word_at_home(&value);

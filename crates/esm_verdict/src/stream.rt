@@ -1,7 +1,7 @@
 // What a reply says of a stream's batch, and of the state of its tumbling window.
 ghost use Rattle.std.specs.Prelude.{◌≡◌, ◌≤◌, length, Some, IfOk};
 ghost use Rattle.serde_json.specs.View.{view};
-ghost use Rattle.esm_model.specs.Reading.{reading, run_reading, item_reading, body_reading, is_bad};
+ghost use Rattle.esm_model.specs.Reading.{reading, item_reading, body_reading, is_bad};
 ghost use Rattle.esm_verdict.specs.Readings.{IsWithin, IsStateIn, is_closing, reply_state};
 
 use crate::index::Index;

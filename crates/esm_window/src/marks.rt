@@ -1,5 +1,5 @@
 //! A scan of an answer for the last member of its outermost object whose key reads as `state`.
-ghost use Rattle.std.specs.Prelude.{◌≡◌, ℕ, ◌<◌, ◌≤◌, ◌+◌, List, ◌∷◌, [], length, IfOk};
+ghost use Rattle.std.specs.Prelude.{◌≡◌, ℕ, ◌<◌, ◌+◌, List, ◌∷◌, length, IfOk};
 ghost use Rattle.std.specs.Option.{IfSome};
 ghost use Rattle.esm_window.specs.Scan.{marks, last_state, outside};
 ghost use Rattle.esm_window.specs.Marks.{finds, IsBefore};

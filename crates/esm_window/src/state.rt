@@ -1,6 +1,6 @@
 // The window's state in a function's answer, as a span of its bytes.
 ghost use Rattle.std.specs.Prelude.{◌≡◌, ◌<◌, ◌≤◌, ◌+◌, length, drop, reverse, take, IfOk, option_map, option_copied, Some};
-ghost use Rattle.std.specs.List.{prefix_len, suffix_len};
+ghost use Rattle.std.specs.List.{prefix_len};
 ghost use Rattle.serde_json.specs.View.{view};
 ghost use Rattle.esm_model.specs.State.{state_read, IsSpanIn};
 ghost use Rattle.esm_window.specs.Scan.{is_space, span_between, member_state, body_state};

@@ -1,7 +1,10 @@
 //! Worked histories that the rules decide entry by entry, most beside near ones that they do not decide. A history is
 //! decided where each call that begins and all records that expire are what a batcher is told then, where right after each
 //! end of a call stands all that it calls for, in its order, and after records that come those that are filtered.
-ghost use Rattle.esm_worked.specs.WorkedHistories.{BisectEight, ExhaustEight, BisectItemFailures, BudgetAndRestart, RetryDelays, ThrottledCall, DelayLadder, TriesOutlast, RecordAge, AgeEdge, TwoLanes, OneRecord, BatchingWindow, FilteredData, PartialFailure, ItemFailuresCounted, AnswerBodies, HostileBodies, TumblingWindows, WindowRestart};
+ghost use Rattle.esm_worked.specs.WorkedHistories.{BisectEight, ExhaustEight, BisectItemFailures, BudgetAndRestart, RetryDelays};
+ghost use Rattle.esm_worked.specs.WorkedHistories.{ThrottledCall, DelayLadder, TriesOutlast, RecordAge, AgeEdge, TwoLanes, OneRecord};
+ghost use Rattle.esm_worked.specs.WorkedHistories.{BatchingWindow, FilteredData, PartialFailure, ItemFailuresCounted, AnswerBodies};
+ghost use Rattle.esm_worked.specs.WorkedHistories.{HostileBodies, TumblingWindows, WindowRestart};
 
 /// Eight records of which the fifth fails are halved down to it in seven calls, or given up as a whole with their
 /// failure line; item failures halve a batch too. A run that may make three calls makes the first three, and a second

@@ -1,4 +1,4 @@
-use Rattle.std.proofs.Common.{◌≡◌, ◌∙◌, ◌++◌, ◌==◌, sym, ap, subst}
+use Rattle.std.proofs.Common.{◌≡◌, ◌==◌, sym, subst}
 use Rattle.esm_ddb.specs.TurnedSoFar.{StandsSo, end_by}
 use Rattle.esm_ddb.proofs.TurnedPieces.{more_read}
 use Rattle.esm_ddb.proofs.input.turn_more.Goals as goal

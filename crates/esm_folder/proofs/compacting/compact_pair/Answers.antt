@@ -1,4 +1,4 @@
-use Rattle.std.proofs.Common.{◌≡◌, ◌∙◌, arith, subst, sym}
+use Rattle.std.proofs.Common.{◌∙◌, arith, subst, sym}
 use Rattle.std.specs.Prelude.{◌≢◌, IfOk}
 use Rattle.esm_io.specs.Meanings.{disk as meaning}
 use Rattle.esm_journal_state.specs.Bad.{IsFirstBad}

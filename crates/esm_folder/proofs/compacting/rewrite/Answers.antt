@@ -1,4 +1,4 @@
-use Rattle.std.proofs.Common.{◌≡◌, ◌∙◌, Err, ap, arith, rules}
+use Rattle.std.proofs.Common.{◌∙◌, Err, ap, arith, rules}
 use Rattle.std.specs.Prelude.{◌≢◌}
 use Rattle.esm_io.specs.Meanings.{disk as meaning}
 use Rattle.esm_journal.specs.Pair.{first_disk, second_disk}

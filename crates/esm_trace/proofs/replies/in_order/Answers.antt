@@ -1,4 +1,4 @@
-use Rattle.std.proofs.Common.{◌≡◌, ◌∙◌, sym, ap, subst, ◌++◌, map, drop}
+use Rattle.std.proofs.Common.{◌∙◌, sym, ap, subst, ◌++◌, map}
 use Rattle.std.specs.List.{filter_map}
 use Rattle.esm_trace.specs.Onward.{AreLeft, HasReply, IsMoved}
 use Rattle.esm_trace.specs.Trace.{reply_in}

@@ -1,4 +1,4 @@
-use Rattle.std.proofs.Common.{◌≡◌, ◌∙◌, ap, ◌++◌, drop}
+use Rattle.std.proofs.Common.{◌∙◌, ap, ◌++◌, drop}
 use Rattle.std.specs.List.{concat}
 use Rattle.esm_ddb.proofs.Pieces.{pushed}
 use Rattle.esm_ddb.proofs.text_pieces.TextPieces.push.Goals as goal

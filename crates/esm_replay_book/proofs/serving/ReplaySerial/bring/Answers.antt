@@ -3,7 +3,7 @@ use Rattle.std.specs.Prelude.{All, Result}
 use Rattle.esm_io.specs.Meanings.{disk}
 use Rattle.esm_model.specs.declared.book.CameError.{CameError}
 use Rattle.esm_model.specs.declared.item.Item.{Item}
-use Rattle.esm_model.specs.declared.item.Record.{Record}
+use Rattle.esm_model.specs.Records.{Record}
 use Rattle.esm_model.specs.Valid.{IsValidRecord}
 use Rattle.esm_replay_book.specs.Books.{BookState}
 use Rattle.esm_replay_book.specs.Serving.{records_in_items}
