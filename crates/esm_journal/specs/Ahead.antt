@@ -4,9 +4,9 @@ use Rattle.esm_io.specs.Meanings.{DiskMeaning}
 use Rattle.esm_journal.specs.declared.ahead.Ahead.{Ahead}
 
 -- this file has these bytes from their place on
-abbrev pub IsPart : List ℕ → Ahead → Type 0
-IsPart content ahead = ahead.bytes ≡ take (length ahead.bytes) (drop ahead.start content)
+abbrev pub IsReadFrom : List ℕ → Ahead → Type 0
+IsReadFrom content ahead = ahead.bytes ≡ take (length ahead.bytes) (drop ahead.start content)
 
 -- what an honest disk holds has them
 abbrev pub IsAhead : {D : Type 0} → DiskMeaning D → D → Ahead → Type 0
-IsAhead m disk ahead = m.honest disk ≡ true → IsPart (m.content disk) ahead
+IsAhead m disk ahead = m.honest disk ≡ true → IsReadFrom (m.content disk) ahead

@@ -5,12 +5,14 @@ pub mod Reads
 pub mod Ahead
 pub mod Head
 pub mod Room
-pub mod Log
 pub mod State
+pub mod Log
 pub mod Pair
+pub mod Append
 pub mod Worked
 pub mod Taken
 pub mod Replace
+pub mod Rewrite
 pub mod Stopped
 pub mod IsPair
 pub mod Migrate

@@ -4,8 +4,13 @@ use Rattle.esm_io.specs.Meanings.{DiskMeaning}
 use Rattle.esm_io.specs.Images.{Only}
 use Rattle.esm_io.specs.Faults.{MAX_FAULTS}
 use Rattle.esm_journal.specs.File.{end_of, IsFile}
-use Rattle.esm_journal.specs.Room.{total_room, AreSpares}
+use Rattle.esm_journal.specs.Room.{room_of, total_room, AreSpares}
+use Rattle.esm_journal.specs.State.{JournalState}
 use Rattle.esm_journal.specs.declared.log.Log.{Log}
+
+-- what a contract sees of it
+abbrev pub state_of : {D : Type 0} → Log D → JournalState D
+state_of log = record { payloads = log.payloads.items; down = log.down; room = room_of log.spares.items; disk = log.disk }
 
 -- the file holds these payloads or those
 abbrev pub IsEither : List ℕ → ℕ → List (List ℕ) → List (List ℕ) → List ℕ → Type 0

@@ -1,9 +1,15 @@
 -- Bringing a pair of version 1, whose files begin with "ESMJ0001", to version 2, whose files begin with "ESMJ0002".
-use Rattle.std.specs.Prelude.{◌≡◌, ◌⊎◌, ◌+◌, ◌==◌, ◌||◌, ℕ, Bool, false, List, if◌then◌else◌}
+use Rattle.std.specs.Prelude.{◌≡◌, ◌⊎◌, ◌+◌, ◌≤◌, ◌==◌, ◌||◌, ℕ, Bool, true, false, List, [], if◌then◌else◌}
+use Rattle.esm_io.specs.Faults.{IsCount, Rose}
+use Rattle.esm_io.specs.Images.{Only, LeavesOnly}
 use Rattle.esm_io.specs.Meanings.{DiskMeaning}
 use Rattle.esm_journal.specs.File.{header_of, Opening, Holding, Foreign, Damaged}
 use Rattle.esm_journal.specs.Bytes.{rewritten}
-use Rattle.esm_journal.specs.Pair.{PairState, is_sealed, pair_opened}
+use Rattle.esm_journal.specs.Pair.{PairState, PairKeeps, PairRefusedFor, IsSpare, is_sealed, pair_opened, first_disk, second_disk}
+use Rattle.esm_journal.specs.Reads.{IsOnlyRead}
+use Rattle.esm_journal.specs.Replace.{IsSpareOrNew}
+use Rattle.esm_journal.specs.declared.error.OpenError.{OpenError}
+use Rattle.esm_journal.specs.declared.error.OpenError.TheVariants.{DiskFault}
 
 -- one of two files is sealed with the header of version 2
 abbrev pub is_version_2 : List ℕ → List ℕ → Bool
@@ -38,3 +44,115 @@ IsMoving m one_was other_was first second first' second' =
 pub record IsWrittenAnew {D : Type 0} (content : D → List ℕ) (first second : D) (pair : PairState D) : Type 0 where
   pub written : content pair.used ≡ rewritten (header_of 2) pair.epoch pair.payloads (content (if pair.swapped then second else first))
   pub kept : content pair.spare ≡ content (if pair.swapped then first else second)
+
+-- and so it is of disks of version 1 that each had one image
+abbrev pub MovesIfOld : {D : Type 0} → DiskMeaning D → D → D → D → D → Type 0
+MovesIfOld m first second first' second' =
+    m.honest first ≡ true → m.honest second ≡ true → is_version_2 (m.content first) (m.content second) ≡ false →
+    Only (m.content first) (m.image first) → Only (m.content second) (m.image second) →
+    IsMoving m (m.content first) (m.content second) first second first' second'
+
+-- what a call leaves of the disk that it writes such a list over, whether or not it comes to an end
+pub record IsOverwrittenAnew {D : Type 0} (m : DiskMeaning D) (epoch : ℕ) (payloads : List (List ℕ)) (old new : D) : Type 0 where
+  -- each image since then hinders a file in use no more than the disk did, or is the new file
+  pub any_moment : m.honest old ≡ true → (kept : List ℕ) (lower : ℕ) → IsSpare kept lower (m.content old) →
+      LeavesOnly m.moment m.since old new (IsSpareOrNew kept lower (header_of 2) (epoch + 1) payloads)
+  -- it is as honest as it was
+  pub honesty : m.honest new ≡ m.honest old
+  -- and its count of faults does not fall
+  pub count : IsCount (m.faults old) (m.faults new)
+
+-- the list of a file of this epoch was written over the other disk, which is now in use
+pub record IsMadeAnew {D : Type 0} (m : DiskMeaning D) (epoch : ℕ) (payloads : List (List ℕ)) (used other : D) (swapped : Bool) (pair : PairState D) : Type 0 where
+  -- the payloads are the list
+  pub payloads_are : pair.payloads ≡ payloads
+  -- in a file of the next epoch
+  pub next_epoch : pair.epoch ≡ epoch + 1
+  -- and these are its bytes
+  pub bytes : m.honest other ≡ true → m.content pair.used ≡ rewritten (header_of 2) (epoch + 1) payloads (m.content other)
+  -- payloads may be added, and no room is made for them
+  pub up : pair.down ≡ false
+  pub room : pair.room ≡ []
+  -- the disk that was in use is the spare one
+  pub spare : pair.spare ≡ used
+  -- this is the order in which the disks were handed in
+  pub order : pair.swapped ≡ swapped
+  -- what a crash leaves
+  pub kept : m.honest pair.used ≡ true → m.honest pair.spare ≡ true → PairKeeps m (header_of 2) pair.epoch pair.payloads pair.used pair.spare
+  pub over : IsOverwrittenAnew m epoch payloads other pair.used
+
+-- a disk failed before it was
+pub record IsNotMadeAnew {D : Type 0} (m : DiskMeaning D) (epoch : ℕ) (payloads : List (List ℕ)) (used other used' other' : D) : Type 0 where
+  -- the disk in use is as it was
+  pub kept : used' ≡ used
+  -- the other may be written
+  pub over : IsOverwrittenAnew m epoch payloads other other'
+  -- and its count of faults rose
+  pub cause : Rose (m.faults other) (m.faults other')
+
+-- a pair of version 1 was opened and written anew
+pub record IsOpenedAnew {D : Type 0} (m : DiskMeaning D) (journal spare : D) (pair : PairState D) : Type 0 where
+  -- the payloads are those that version 1 has, under the next epoch
+  pub found : m.honest journal ≡ true → m.honest spare ≡ true →
+      (epoch : ℕ) × (with_next_epoch (pair_opened (header_of 1) (m.content journal) (m.content spare)) ≡ Holding epoch pair.payloads) × (pair.epoch ≡ epoch + 1)
+  -- and these are the bytes of both disks
+  pub bytes : m.honest journal ≡ true → m.honest spare ≡ true → IsWrittenAnew m.content journal spare pair
+  -- payloads may be added, and no room is made for them
+  pub up : pair.down ≡ false
+  pub room : pair.room ≡ []
+  -- what a crash leaves once it is, and what one left since disks that were only read before
+  pub kept : m.honest journal ≡ true → m.honest spare ≡ true → PairKeeps m (header_of 2) pair.epoch pair.payloads pair.used pair.spare
+  pub images : (first second : D) → IsOnlyRead m first journal → IsOnlyRead m second spare → MovesIfOld m first second (first_disk pair) (second_disk pair)
+  -- each disk is as honest as it was, and its count of faults does not fall
+  pub honesty : (m.honest (first_disk pair) ≡ m.honest journal) × (m.honest (second_disk pair) ≡ m.honest spare)
+  pub faults : (m.faults journal ≤ m.faults (first_disk pair)) × (m.faults spare ≤ m.faults (second_disk pair))
+
+-- it was refused, and the disks handed back
+pub record IsNotOpenedAnew {D : Type 0} (m : DiskMeaning D) (journal spare : D) (why : OpenError) (journal' spare' : D) : Type 0 where
+  -- for what version 1 has there, or for a fault
+  pub refused : PairRefusedFor m (λ one other. with_next_epoch (pair_opened (header_of 1) one other)) journal spare journal' spare' why
+  -- only after `DiskFault` may a disk be written
+  pub first_back : (why ≡ DiskFault → ⊥) → IsOnlyRead m journal journal'
+  pub second_back : (why ≡ DiskFault → ⊥) → IsOnlyRead m spare spare'
+  -- what a crash left since disks that were only read before
+  pub images : (first second : D) → IsOnlyRead m first journal → IsOnlyRead m second spare → MovesIfOld m first second journal' spare'
+  -- each disk is as honest as it was, and its count of faults does not fall
+  pub honesty : (m.honest journal' ≡ m.honest journal) × (m.honest spare' ≡ m.honest spare)
+  pub faults : (m.faults journal ≤ m.faults journal') × (m.faults spare ≤ m.faults spare')
+
+-- a pair was brought to version 2, which it had when it was found, or had not
+pub record IsMigratedPair {D : Type 0} (m : DiskMeaning D) (journal spare : D) (pair : PairState D) (was : ℕ) : Type 0 where
+  -- this is the version in which it was found
+  pub version : m.honest journal ≡ true → m.honest spare ≡ true → was ≡ (if is_version_2 (m.content journal) (m.content spare) then 2 else 1)
+  -- the payloads are those that it had, under the epoch that it had or the next
+  pub found : m.honest journal ≡ true → m.honest spare ≡ true →
+      (epoch : ℕ) × (migration (m.content journal) (m.content spare) ≡ Holding epoch pair.payloads) × (pair.epoch ≡ (if was == 1 then epoch + 1 else epoch))
+  -- a pair of version 1 was written anew
+  pub bytes : m.honest journal ≡ true → m.honest spare ≡ true → was ≡ 1 → IsWrittenAnew m.content journal spare pair
+  -- a pair of version 2 was only read
+  pub first_read : was ≡ 2 → IsOnlyRead m journal (first_disk pair)
+  pub second_read : was ≡ 2 → IsOnlyRead m spare (second_disk pair)
+  -- payloads may be added, and no room is made for them
+  pub up : pair.down ≡ false
+  pub room : pair.room ≡ []
+  -- what a crash leaves once it is, and of a pair of version 1 since the call began
+  pub kept : m.honest journal ≡ true → m.honest spare ≡ true → PairKeeps m (header_of 2) pair.epoch pair.payloads pair.used pair.spare
+  pub images : MovesIfOld m journal spare (first_disk pair) (second_disk pair)
+  -- each disk is as honest as it was, and its count of faults does not fall
+  pub honesty : (m.honest (first_disk pair) ≡ m.honest journal) × (m.honest (second_disk pair) ≡ m.honest spare)
+  pub faults : (m.faults journal ≤ m.faults (first_disk pair)) × (m.faults spare ≤ m.faults (second_disk pair))
+
+-- it was refused, and the disks handed back
+pub record IsRefusedMigration {D : Type 0} (m : DiskMeaning D) (journal spare : D) (why : OpenError) (journal' spare' : D) : Type 0 where
+  -- for what it has in its version, or for a fault
+  pub refused : PairRefusedFor m migration journal spare journal' spare' why
+  -- only after `DiskFault` may a disk be written
+  pub first_back : (why ≡ DiskFault → ⊥) → IsOnlyRead m journal journal'
+  pub second_back : (why ≡ DiskFault → ⊥) → IsOnlyRead m spare spare'
+  -- and none of a pair of version 2
+  pub unwritten : m.honest journal ≡ true → m.honest spare ≡ true → is_version_2 (m.content journal) (m.content spare) ≡ true → IsOnlyRead m journal journal' × IsOnlyRead m spare spare'
+  -- what a crash left of a pair of version 1 since the call began
+  pub images : MovesIfOld m journal spare journal' spare'
+  -- each disk is as honest as it was, and its count of faults does not fall
+  pub honesty : (m.honest journal' ≡ m.honest journal) × (m.honest spare' ≡ m.honest spare)
+  pub faults : (m.faults journal ≤ m.faults journal') × (m.faults spare ≤ m.faults spare')

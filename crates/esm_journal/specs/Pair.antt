@@ -4,7 +4,10 @@ use Rattle.std.specs.Cmp.Lexicographic.{pointwise}
 use Rattle.std.specs.Coded.{Coded, code_by, coded×, coded_ℕ, coded_bool, coded_list}
 use Rattle.esm_io.specs.Meanings.{DiskMeaning}
 use Rattle.esm_io.specs.Images.{Only}
+use Rattle.esm_io.specs.Faults.{Rose}
 use Rattle.esm_journal.specs.File.{header_of, Opening, Holding, Foreign, Damaged, IsFile, eight_at, epoch_in, opened_rest}
+use Rattle.esm_journal.specs.Reads.{RefusedFor}
+use Rattle.esm_journal.specs.declared.error.OpenError.{OpenError}
 
 -- it begins with the header and its seal is open
 abbrev pub is_sealed : List ℕ → List ℕ → Bool
@@ -26,6 +29,15 @@ pair_opened header first second =
     if is_taken header first second then beside (opened_rest first) (length second)
     else if is_taken header second first then beside (opened_rest second) (length first)
     else Foreign
+
+-- Why a pair was refused of whose bytes this is the opening: neither file is taken, and these are the first eight bytes of the
+-- first; the one that is taken is damaged at a place; or a disk's faults rose.
+abbrev pub PairRefusedFor : {D : Type 0} → DiskMeaning D → (List ℕ → List ℕ → Opening) → D → D → D → D → OpenError → Type 0
+PairRefusedFor m opening first second first' second' why =
+    RefusedFor
+    (λ eight. m.honest first ≡ true → m.honest second ≡ true → (opening (m.content first) (m.content second) ≡ Foreign) × (eight ≡ eight_at (m.content first) 0))
+    (λ place. m.honest first ≡ true → m.honest second ≡ true → opening (m.content first) (m.content second) ≡ Damaged place)
+    (Rose (m.faults first) (m.faults first') ⊎ Rose (m.faults second) (m.faults second')) why
 
 -- beside a file of this epoch in use this one is not taken, nor does it hinder the other
 pub record IsSpare (header : List ℕ) (epoch : ℕ) (bytes : List ℕ) : Type 0 where

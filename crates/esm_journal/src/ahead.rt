@@ -1,8 +1,8 @@
 // The bytes of a file that were read ahead of their use, so that one read of the disk serves many entries.
-ghost use Rattle.std.specs.Prelude.{◌≡◌, ◌+◌, ◌-◌, ◌≤◌, ◌↔◌, IsTrue, true, ℕ, List, [], length, take, drop, IfOk, IfErr, OnOk};
+ghost use Rattle.std.specs.Prelude.{◌≡◌, ◌+◌, ◌-◌, ◌≤◌, ◌↔◌, IsTrue, true, ℕ, List, [], length, take, drop, IfOk, IfErr, OnOk, OnErr};
 ghost use Rattle.esm_io.specs.Faults.{Rose};
 ghost use Rattle.esm_io.specs.Meanings.{disk as meaning};
-ghost use Rattle.esm_journal.specs.Ahead.{IsPart, IsAhead};
+ghost use Rattle.esm_journal.specs.Ahead.{IsReadFrom, IsAhead};
 ghost use Rattle.esm_journal.specs.Reads.{IsOnlyRead, RefusedFor};
 
 use crate::error::OpenError;
@@ -82,6 +82,7 @@ impl Ahead {
         ensures from { OnOk result (self.new.start ≤ place) }
         ensures to { OnOk result (place + count ≤ self.new.start + length self.new.bytes) }
         ensures ahead { IsAhead (meaning D.Disk) disk.new self.new }
+        ensures kept { OnErr result (self.new ≡ self.old) }
         ensures only_read { IsOnlyRead (meaning D.Disk) disk.old disk.new }
         ensures refused { IfErr result (λ e.
             RefusedFor (λ first. ⊥) (λ place. ⊥) (Rose (D.faults disk.old) (D.faults disk.new)) e) }
@@ -100,7 +101,7 @@ impl Ahead {
     pub(crate) fn part(&self, place: u64, count: usize) -> &[u8]
         requires from { self.now.start ≤ place }
         requires to { place + count ≤ self.now.start + length self.now.bytes }
-        ensures part { (content : List ℕ) → IsPart content self.now → result.now ≡ take count (drop place content) }
+        ensures part { (content : List ℕ) → IsReadFrom content self.now → result.now ≡ take count (drop place content) }
         ensures size { length result.now ≡ count }
     {
         let passed = (place - self.start) as usize;

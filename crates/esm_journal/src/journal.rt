@@ -1,13 +1,12 @@
 // The journal in one file: making it, opening it, reading its payloads and adding to them.
-ghost use Rattle.std.specs.Prelude.{◌≡◌, ◌≢◌, ◌+◌, ◌<◌, ℕ, [], ◌∷◌, ◌++◌, true, false, length, IfOk, IfErr, OnOk, OnErr, IsErrOf};
+ghost use Rattle.std.specs.Prelude.{◌≡◌, ◌≢◌, ◌<◌, [], true, false, length, IfOk, IfErr, OnOk, OnErr};
 ghost use Rattle.esm_io.specs.Faults.{IsCount, Rose};
 ghost use Rattle.esm_io.specs.Images.{LeavesOnly, Only};
 ghost use Rattle.esm_io.specs.Meanings.{disk as meaning};
 ghost use Rattle.esm_journal.specs.File.{header_of, Foreign, Damaged, eight_at, opened, fresh_file, blank_file};
-ghost use Rattle.esm_journal.specs.Bytes.{with_payload};
+ghost use Rattle.esm_journal.specs.Append.{IsAppended};
 ghost use Rattle.esm_journal.specs.Fresh.{WasOrHoldsNone};
 ghost use Rattle.esm_journal.specs.Reads.{IsOnlyRead, RefusedFor, NotMadeFor};
-ghost use Rattle.esm_journal.specs.Room.{HasRoom, room_after};
 ghost use Rattle.esm_journal.specs.State.{OpensTo, OpensToEither, Keeps, KeepsWhileUp, KeepsWhileDown};
 
 use crate::error::{AppendError, InitError, OpenError};
@@ -16,7 +15,7 @@ use crate::found::read_file;
 use crate::fresh::{write_blank, write_fresh};
 use crate::log::Log;
 use esm_io::Disk;
-use esm_model::{Bytes, MAX_PAYLOAD, OutOfMemory, Refused};
+use esm_model::{Bytes, OutOfMemory, Refused};
 use std::alloc::Global;
 use std::collections::VecDeque;
 use std::marker::Model;
@@ -178,32 +177,12 @@ impl<D: Disk> Journal<D> {
     /// before the call, with the new one or without; after Ok every crash leaves the new one. After `DiskFault` the
     /// journal is down until it is opened again; after the other errors nothing has changed.
     pub fn append(&mut self, alloc: Global, payload: &[u8]) -> Result<(), AppendError>
-        // What Ok leaves.
-        ensures added { OnOk result (self.new.payloads ≡ self.old.payloads ++ payload.now ∷ []) }
-        ensures bytes { D.honest self.old.disk ≡ true →
-            OnOk result (D.content self.new.disk ≡ with_payload self.old.payloads payload.now (D.content self.old.disk)) }
-        ensures room { OnOk result (self.new.room ≡ room_after self.old.room (length payload.now)) }
-        ensures up { OnOk result (self.new.down ≡ false) }
-        // What an error leaves: after `DiskFault` the journal is down; after the others nothing has changed.
-        ensures not_added { OnErr result (self.new.payloads ≡ self.old.payloads) }
-        ensures fault { IsErrOf result AppendError.DiskFault → self.new.down ≡ true }
-        ensures cause { IsErrOf result AppendError.DiskFault → Rose (D.faults self.old.disk) (D.faults self.new.disk) }
-        ensures no_memory { IsErrOf result AppendError.OutOfMemory → self.new ≡ self.old }
-        // When each error comes.
-        ensures has_room { HasRoom self.old.room (length payload.now) → IsErrOf result AppendError.OutOfMemory → ⊥ }
-        ensures down { IsErrOf result AppendError.Down → (self.new ≡ self.old) × (self.old.down ≡ true) }
-        ensures is_down { self.old.down ≡ true → IsErrOf result AppendError.Down }
-        ensures too_long { (n : ℕ) → IsErrOf result (AppendError.TooLong n) →
-            (self.new ≡ self.old) × (self.old.down ≡ false) × (n ≡ length payload.now) × (MAX_PAYLOAD < length payload.now) }
-        ensures is_too_long { self.old.down ≡ false → MAX_PAYLOAD < length payload.now → IsErrOf result (AppendError.TooLong (length payload.now)) }
+        ensures told { IsAppended (meaning D.Disk) payload.now self.old self.new result }
         // What a crash leaves: since the call began, and once it has returned.
         ensures any_moment { D.honest self.old.disk ≡ true → self.old.down ≡ false →
             LeavesOnly D.moment D.image_since self.old.disk self.new.disk (OpensToEither (header_of 1) self.old.payloads payload.now) }
         ensures kept { KeepsWhileUp (meaning D.Disk) self.new }
         ensures stopped { KeepsWhileDown (meaning D.Disk) self.new }
-        // The disk is as honest as it was, and its count of faults never falls.
-        ensures honesty { D.honest self.new.disk ≡ D.honest self.old.disk }
-        ensures count { IsCount (D.faults self.old.disk) (D.faults self.new.disk) }
     {
         self.log.append(alloc, payload)
     }

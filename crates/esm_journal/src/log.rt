@@ -1,11 +1,10 @@
 // A file that is open: what is kept of it in memory, and its disk.
-ghost use Rattle.std.specs.Prelude.{◌≡◌, ◌+◌, ◌<◌, ◌≤◌, ◌^◌, ◌⊎◌, ℕ, [], ◌∷◌, ◌++◌, true, false, length, vec_len, vec_capacity, OnOk, OnErr, IsErrOf};
+ghost use Rattle.std.specs.Prelude.{◌≡◌, ◌+◌, ◌<◌, ◌≤◌, ◌^◌, ◌⊎◌, [], ◌∷◌, ◌++◌, true, false, length, vec_len, vec_capacity, OnOk, OnErr};
 ghost use Rattle.esm_io.specs.Faults.{IsCount, Rose, MAX_FAULTS};
 ghost use Rattle.esm_io.specs.Images.{overwritten, Torn, Only, LeavesOnly};
 ghost use Rattle.esm_io.specs.Meanings.{disk as meaning};
 ghost use Rattle.esm_journal.specs.File.{end_of, IsFile};
-ghost use Rattle.esm_journal.specs.Bytes.{with_payload};
-ghost use Rattle.esm_journal.specs.Room.{HasRoom, room_after, room_of, total_room};
+ghost use Rattle.esm_journal.specs.Room.{room_of, total_room};
 
 use crate::error::AppendError;
 use crate::room::{framed, make_spares, payload_of};
@@ -50,7 +49,8 @@ fn add_entry<D: Disk>(disk: &mut D, gate: u64, frame: &[u8]) -> Result<(), Faile
 }
 
 impl<D: Disk> Log<D> {
-    ghost use Rattle.esm_journal.specs.Log.{IsLog, IsUnchanged, IsEither};
+    ghost use Rattle.esm_journal.specs.Append.{IsAppended};
+    ghost use Rattle.esm_journal.specs.Log.{IsLog, IsUnchanged, IsEither, state_of};
 
     /// Makes room for the next payloads of these lengths.
     pub(crate) fn reserve(&mut self, alloc: Global, lengths: &[u32]) -> Result<(), OutOfMemory>
@@ -76,25 +76,9 @@ impl<D: Disk> Log<D> {
         ensures log { IsLog (meaning D.Disk) self.new }
         ensures header { self.new.header ≡ self.old.header }
         ensures epoch { self.new.epoch ≡ self.old.epoch }
-        ensures added { OnOk result (self.new.payloads.items ≡ self.old.payloads.items ++ payload.now ∷ []) }
-        ensures bytes { D.honest self.old.disk ≡ true →
-            OnOk result (D.content self.new.disk ≡ with_payload self.old.payloads.items payload.now (D.content self.old.disk)) }
-        ensures not_added { OnErr result (self.new.payloads.items ≡ self.old.payloads.items) }
-        ensures up { OnOk result (self.new.down ≡ false) }
-        ensures was_up { OnOk result (self.old.down ≡ false) }
-        ensures room_used { OnOk result (room_of self.new.spares.items ≡ room_after (room_of self.old.spares.items) (length payload.now)) }
-        ensures down { IsErrOf result AppendError.Down → IsUnchanged self.old self.new × (self.old.down ≡ true) }
-        ensures is_down { self.old.down ≡ true → IsErrOf result AppendError.Down }
-        ensures too_long { (n : ℕ) → IsErrOf result (AppendError.TooLong n) →
-            IsUnchanged self.old self.new × (self.old.down ≡ false) × (n ≡ length payload.now) × (MAX_PAYLOAD < length payload.now) }
-        ensures is_too_long { self.old.down ≡ false → MAX_PAYLOAD < length payload.now → IsErrOf result (AppendError.TooLong (length payload.now)) }
-        ensures no_memory { IsErrOf result AppendError.OutOfMemory →
-            IsUnchanged self.old self.new × (HasRoom (room_of self.old.spares.items) (length payload.now) → ⊥) }
-        ensures fault { IsErrOf result AppendError.DiskFault → (self.new.down ≡ true) × Rose (D.faults self.old.disk) (D.faults self.new.disk) }
+        ensures told { IsAppended (meaning D.Disk) payload.now (state_of self.old) (state_of self.new) result }
         ensures any_moment { D.honest self.old.disk ≡ true → self.old.down ≡ false → LeavesOnly D.moment D.image_since self.old.disk self.new.disk
             (IsEither self.old.header self.old.epoch self.old.payloads.items (self.old.payloads.items ++ payload.now ∷ [])) }
-        ensures honesty { D.honest self.new.disk ≡ D.honest self.old.disk }
-        ensures count { IsCount (D.faults self.old.disk) (D.faults self.new.disk) }
     {
         if self.down {
             return Err(AppendError::Down);

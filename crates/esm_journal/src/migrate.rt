@@ -1,14 +1,11 @@
 // From a pair of version 1 to one of version 2.
-ghost use Rattle.std.specs.Prelude.{◌≡◌, ◌⊎◌, ◌==◌, if◌then◌else◌, ◌+◌, ◌<◌, ◌≤◌, ℕ, List, [], ◌∷◌, ◌++◌, true, false, min, length, IfOk, IfErr};
-ghost use Rattle.esm_io.specs.Faults.{IsCount, Rose, MAX_FAULTS};
-ghost use Rattle.esm_io.specs.Images.{Only, LeavesOnly};
+ghost use Rattle.std.specs.Prelude.{◌≡◌, ◌+◌, ◌<◌, ◌≤◌, [], ◌∷◌, ◌++◌, true, false, min, length, IfOk, IfErr};
+ghost use Rattle.esm_io.specs.Faults.{MAX_FAULTS};
+ghost use Rattle.esm_io.specs.Images.{Only};
 ghost use Rattle.esm_io.specs.Meanings.{disk as meaning};
-ghost use Rattle.esm_journal.specs.File.{entries, end_of, header_of, eight_at, AreShort, IsFile, Holding, Foreign, Damaged};
-ghost use Rattle.esm_journal.specs.Bytes.{rewritten};
-ghost use Rattle.esm_journal.specs.Migrate.{is_version_2, with_next_epoch, migration, IsMoving, IsWrittenAnew};
-ghost use Rattle.esm_journal.specs.Reads.{IsOnlyRead, RefusedFor};
-ghost use Rattle.esm_journal.specs.Pair.{IsSpare, IsOther, PairKeeps, pair_opened, first_disk, second_disk};
-ghost use Rattle.esm_journal.specs.Replace.{IsSpareOrNew};
+ghost use Rattle.esm_journal.specs.File.{entries, end_of, header_of, AreShort, IsFile};
+ghost use Rattle.esm_journal.specs.Migrate.{IsMadeAnew, IsNotMadeAnew, IsOpenedAnew, IsNotOpenedAnew, IsMigratedPair, IsRefusedMigration};
+ghost use Rattle.esm_journal.specs.Pair.{IsOther};
 
 use crate::error::OpenError;
 use crate::format::PAIR;
@@ -66,27 +63,8 @@ impl<D: Disk> Pair<D> {
         requires end { found.end ≡ end_of found.payloads.items }
         requires short { AreShort found.payloads.items }
         requires bytes { bytes.items ≡ entries found.payloads.items ++ 0 ∷ [] }
-        ensures payloads { IfOk result (λ pair. pair.payloads ≡ found.payloads.items) }
-        ensures epoch { IfOk result (λ pair. pair.epoch ≡ found.epoch + 1) }
-        ensures bytes { D.honest other ≡ true →
-            IfOk result (λ pair. D.content pair.used ≡ rewritten (header_of 2) (found.epoch + 1) found.payloads.items (D.content other)) }
-        ensures fresh { IfOk result (λ pair. (pair.down ≡ false) × (pair.room ≡ [])) }
-        ensures spare { IfOk result (λ pair. pair.spare ≡ used) }
-        ensures swapped { IfOk result (λ pair. pair.swapped ≡ swapped) }
-        ensures kept { IfOk result (λ pair. D.honest pair.used ≡ true → D.honest pair.spare ≡ true →
-            PairKeeps (meaning D.Disk) (header_of 2) pair.epoch pair.payloads pair.used pair.spare) }
-        ensures any_moment { D.honest other ≡ true → (kept : List ℕ) (lower : ℕ) → IsSpare kept lower (D.content other) →
-            IfOk result (λ pair. LeavesOnly D.moment D.image_since other pair.used
-            (IsSpareOrNew kept lower (header_of 2) (found.epoch + 1) found.payloads.items)) }
-        ensures honesty { IfOk result (λ pair. D.honest pair.used ≡ D.honest other) }
-        ensures count { IfOk result (λ pair. IsCount (D.faults other) (D.faults pair.used)) }
-        ensures back { IfErr result (λ back. back.0 ≡ used) }
-        ensures any_moment_err { D.honest other ≡ true → (kept : List ℕ) (lower : ℕ) → IsSpare kept lower (D.content other) →
-            IfErr result (λ back. LeavesOnly D.moment D.image_since other back.1
-            (IsSpareOrNew kept lower (header_of 2) (found.epoch + 1) found.payloads.items)) }
-        ensures honesty_err { IfErr result (λ back. D.honest back.1 ≡ D.honest other) }
-        ensures count_err { IfErr result (λ back. IsCount (D.faults other) (D.faults back.1)) }
-        ensures cause { IfErr result (λ back. Rose (D.faults other) (D.faults back.1)) }
+        ensures made { IfOk result (IsMadeAnew (meaning D.Disk) found.epoch found.payloads.items used other swapped) }
+        ensures back { IfErr result (λ back. IsNotMadeAnew (meaning D.Disk) found.epoch found.payloads.items used other back.0 back.1) }
     {
         let mut other = other;
         let epoch = found.epoch + 1;
@@ -111,33 +89,8 @@ impl<D: Disk> Pair<D> {
 
     /// Opens a pair of version 1 and writes its list anew.
     fn open_old(alloc: Global, journal: D, spare: D) -> Result<Pair<D>, Refused<OpenError, (D, D)>>
-        ensures found { D.honest journal ≡ true → D.honest spare ≡ true →
-            IfOk result (λ pair. (epoch : ℕ) ×
-            (with_next_epoch (pair_opened (header_of 1) (D.content journal) (D.content spare)) ≡ Holding epoch pair.payloads) × (pair.epoch ≡ epoch + 1)) }
-        ensures kept { D.honest journal ≡ true → D.honest spare ≡ true →
-            IfOk result (λ pair. PairKeeps (meaning D.Disk) (header_of 2) pair.epoch pair.payloads pair.used pair.spare) }
-        ensures bytes { D.honest journal ≡ true → D.honest spare ≡ true → IfOk result (IsWrittenAnew D.content journal spare) }
-        ensures fresh { IfOk result (λ pair. (pair.down ≡ false) × (pair.room ≡ [])) }
-        ensures images { (first second : D) → IsOnlyRead (meaning D.Disk) first journal → IsOnlyRead (meaning D.Disk) second spare →
-            D.honest first ≡ true → D.honest second ≡ true → is_version_2 (D.content first) (D.content second) ≡ false →
-            Only (D.content first) (D.image first) → Only (D.content second) (D.image second) →
-            IfOk result (λ pair. IsMoving (meaning D.Disk) (D.content first) (D.content second) first second (first_disk pair) (second_disk pair)) }
-        ensures honesty { IfOk result (λ pair. (D.honest (first_disk pair) ≡ D.honest journal) × (D.honest (second_disk pair) ≡ D.honest spare)) }
-        ensures count { IfOk result (λ pair. (D.faults journal ≤ D.faults (first_disk pair)) × (D.faults spare ≤ D.faults (second_disk pair))) }
-        ensures refused { IfErr result (λ refused. RefusedFor
-            (λ first. D.honest journal ≡ true → D.honest spare ≡ true →
-            (with_next_epoch (pair_opened (header_of 1) (D.content journal) (D.content spare)) ≡ Foreign) × (first ≡ eight_at (D.content journal) 0))
-            (λ place. D.honest journal ≡ true → D.honest spare ≡ true →
-            with_next_epoch (pair_opened (header_of 1) (D.content journal) (D.content spare)) ≡ Damaged place)
-            (Rose (D.faults journal) (D.faults refused.back.0) ⊎ Rose (D.faults spare) (D.faults refused.back.1)) refused.why) }
-        ensures first_back { IfErr result (λ refused. (refused.why ≡ OpenError.DiskFault → ⊥) → IsOnlyRead (meaning D.Disk) journal refused.back.0) }
-        ensures second_back { IfErr result (λ refused. (refused.why ≡ OpenError.DiskFault → ⊥) → IsOnlyRead (meaning D.Disk) spare refused.back.1) }
-        ensures images_back { (first second : D) → IsOnlyRead (meaning D.Disk) first journal → IsOnlyRead (meaning D.Disk) second spare →
-            D.honest first ≡ true → D.honest second ≡ true → is_version_2 (D.content first) (D.content second) ≡ false →
-            Only (D.content first) (D.image first) → Only (D.content second) (D.image second) →
-            IfErr result (λ refused. IsMoving (meaning D.Disk) (D.content first) (D.content second) first second refused.back.0 refused.back.1) }
-        ensures honesty_back { IfErr result (λ refused. (D.honest refused.back.0 ≡ D.honest journal) × (D.honest refused.back.1 ≡ D.honest spare)) }
-        ensures count_back { IfErr result (λ refused. (D.faults journal ≤ D.faults refused.back.0) × (D.faults spare ≤ D.faults refused.back.1)) }
+        ensures opened { IfOk result (IsOpenedAnew (meaning D.Disk) journal spare) }
+        ensures refused { IfErr result (λ refused. IsNotOpenedAnew (meaning D.Disk) journal spare refused.why refused.back.0 refused.back.1) }
     {
         let mut first = journal;
         let mut second = spare;
@@ -189,42 +142,9 @@ impl<D: Disk> Pair<D> {
         journal: D,
         spare: D,
     ) -> Result<Migrated<D>, Refused<OpenError, (D, D)>>
-        // What Ok leaves. A pair of version 2 was only read.
-        ensures version { D.honest journal ≡ true → D.honest spare ≡ true →
-            IfOk result (λ done. done.was ≡ (if is_version_2 (D.content journal) (D.content spare) then 2 else 1)) }
-        ensures found { D.honest journal ≡ true → D.honest spare ≡ true →
-            IfOk result (λ done. (epoch : ℕ) × (migration (D.content journal) (D.content spare) ≡ Holding epoch done.pair.payloads)
-            × (done.pair.epoch ≡ (if done.was == 1 then epoch + 1 else epoch))) }
-        ensures bytes { D.honest journal ≡ true → D.honest spare ≡ true → IfOk result (λ done. done.was ≡ 1 → IsWrittenAnew D.content journal spare done.pair) }
-        ensures fresh { IfOk result (λ done. (done.pair.down ≡ false) × (done.pair.room ≡ [])) }
+        ensures migrated { IfOk result (λ done. IsMigratedPair (meaning D.Disk) journal spare done.pair done.was) }
         ensures count { IfOk result (λ done. done.count ≡ min (length done.pair.payloads) 4294967295) }
-        ensures first_read { IfOk result (λ done. done.was ≡ 2 → IsOnlyRead (meaning D.Disk) journal (first_disk done.pair)) }
-        ensures second_read { IfOk result (λ done. done.was ≡ 2 → IsOnlyRead (meaning D.Disk) spare (second_disk done.pair)) }
-        // When each error comes. After one that is not `DiskFault` nothing was written.
-        ensures refused { IfErr result (λ refused. RefusedFor
-            (λ first. D.honest journal ≡ true → D.honest spare ≡ true →
-            (migration (D.content journal) (D.content spare) ≡ Foreign) × (first ≡ eight_at (D.content journal) 0))
-            (λ place. D.honest journal ≡ true → D.honest spare ≡ true → migration (D.content journal) (D.content spare) ≡ Damaged place)
-            (Rose (D.faults journal) (D.faults refused.back.0) ⊎ Rose (D.faults spare) (D.faults refused.back.1)) refused.why) }
-        ensures first_back { IfErr result (λ refused. (refused.why ≡ OpenError.DiskFault → ⊥) → IsOnlyRead (meaning D.Disk) journal refused.back.0) }
-        ensures second_back { IfErr result (λ refused. (refused.why ≡ OpenError.DiskFault → ⊥) → IsOnlyRead (meaning D.Disk) spare refused.back.1) }
-        ensures unwritten_back { D.honest journal ≡ true → D.honest spare ≡ true → is_version_2 (D.content journal) (D.content spare) ≡ true →
-            IfErr result (λ refused.
-            IsOnlyRead (meaning D.Disk) journal refused.back.0 × IsOnlyRead (meaning D.Disk) spare refused.back.1) }
-        // What a crash leaves: of a pair of version 1 since the call began, and once it has returned.
-        ensures images { D.honest journal ≡ true → D.honest spare ≡ true → is_version_2 (D.content journal) (D.content spare) ≡ false →
-            Only (D.content journal) (D.image journal) → Only (D.content spare) (D.image spare) →
-            IfOk result (λ done. IsMoving (meaning D.Disk) (D.content journal) (D.content spare) journal spare (first_disk done.pair) (second_disk done.pair)) }
-        ensures images_back { D.honest journal ≡ true → D.honest spare ≡ true → is_version_2 (D.content journal) (D.content spare) ≡ false →
-            Only (D.content journal) (D.image journal) → Only (D.content spare) (D.image spare) →
-            IfErr result (λ refused. IsMoving (meaning D.Disk) (D.content journal) (D.content spare) journal spare refused.back.0 refused.back.1) }
-        ensures kept { D.honest journal ≡ true → D.honest spare ≡ true →
-            IfOk result (λ done. PairKeeps (meaning D.Disk) (header_of 2) done.pair.epoch done.pair.payloads done.pair.used done.pair.spare) }
-        // The disk is as honest as it was, and its count of faults never falls.
-        ensures honesty { IfOk result (λ done. (D.honest (first_disk done.pair) ≡ D.honest journal) × (D.honest (second_disk done.pair) ≡ D.honest spare)) }
-        ensures faults { IfOk result (λ done. (D.faults journal ≤ D.faults (first_disk done.pair)) × (D.faults spare ≤ D.faults (second_disk done.pair))) }
-        ensures honesty_back { IfErr result (λ refused. (D.honest refused.back.0 ≡ D.honest journal) × (D.honest refused.back.1 ≡ D.honest spare)) }
-        ensures faults_back { IfErr result (λ refused. (D.faults journal ≤ D.faults refused.back.0) × (D.faults spare ≤ D.faults refused.back.1)) }
+        ensures refused { IfErr result (λ refused. IsRefusedMigration (meaning D.Disk) journal spare refused.why refused.back.0 refused.back.1) }
     {
         let mut first = journal;
         let mut second = spare;

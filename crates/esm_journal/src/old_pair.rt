@@ -2,9 +2,9 @@
 ghost use Rattle.std.specs.Prelude.{◌≡◌, ◌⊎◌, ◌+◌, ◌<◌, ◌==◌, [], ◌∷◌, ◌++◌, true, IfOk, IfErr, OnErr};
 ghost use Rattle.esm_io.specs.Faults.{Rose};
 ghost use Rattle.esm_io.specs.Meanings.{disk as meaning};
-ghost use Rattle.esm_journal.specs.File.{entries, header_of, eight_at, Foreign, Damaged};
-ghost use Rattle.esm_journal.specs.Pair.{pair_opened};
-ghost use Rattle.esm_journal.specs.Reads.{IsOnlyRead, RefusedFor};
+ghost use Rattle.esm_journal.specs.File.{entries, header_of, Damaged};
+ghost use Rattle.esm_journal.specs.Pair.{pair_opened, PairRefusedFor};
+ghost use Rattle.esm_journal.specs.Reads.{IsOnlyRead};
 ghost use Rattle.esm_journal.specs.Migrate.{is_version_2, with_next_epoch};
 ghost use Rattle.esm_journal.specs.Taken.{IsReadPair};
 
@@ -47,12 +47,8 @@ pub(crate) fn read_old_pair<D: Disk>(
     ensures below_greatest { IfOk result (λ old. old.taken.found.epoch < 18446744073709551615) }
     ensures first_read { IsOnlyRead (meaning D.Disk) first.old first.new }
     ensures second_read { IsOnlyRead (meaning D.Disk) second.old second.new }
-    ensures refused { IfErr result (λ e. RefusedFor
-        (λ eight. D.honest first.old ≡ true → D.honest second.old ≡ true →
-        (with_next_epoch (pair_opened (header_of 1) (D.content first.old) (D.content second.old)) ≡ Foreign) × (eight ≡ eight_at (D.content first.old) 0))
-        (λ damage. D.honest first.old ≡ true → D.honest second.old ≡ true →
-        with_next_epoch (pair_opened (header_of 1) (D.content first.old) (D.content second.old)) ≡ Damaged damage)
-        (Rose (D.faults first.old) (D.faults first.new) ⊎ Rose (D.faults second.old) (D.faults second.new)) e) }
+    ensures refused { IfErr result (PairRefusedFor (meaning D.Disk) (λ one other. with_next_epoch (pair_opened (header_of 1) one other))
+        first.old second.old first.new second.new) }
 {
     let taken = read_pair(alloc, first, second, SINGLE)?;
     if taken.found.epoch == u64::MAX {

@@ -1,16 +1,16 @@
 // The journal in two files, one in use and one spare, told apart by their seals and epochs.
-ghost use Rattle.std.specs.Prelude.{◌≡◌, ◌≢◌, ◌⊎◌, ◌+◌, ◌<◌, ℕ, List, [], ◌∷◌, ◌++◌, true, false, not, Some, length, IfOk, IfErr, OnOk, OnErr, IsErrOf};
+ghost use Rattle.std.specs.Prelude.{◌≡◌, ◌≢◌, ◌+◌, ◌<◌, ℕ, List, [], ◌∷◌, ◌++◌, true, false, not, Some, length, IfOk, IfErr, OnOk, OnErr};
 ghost use Rattle.esm_io.specs.Faults.{IsCount, Rose};
 ghost use Rattle.esm_io.specs.Images.{LeavesOnly, Only};
 ghost use Rattle.esm_io.specs.Meanings.{disk as meaning};
-ghost use Rattle.esm_journal.specs.File.{AreShort, header_of, Foreign, Damaged, Holding, eight_at, fresh_file, blank_file};
-ghost use Rattle.esm_journal.specs.Bytes.{with_payload, rewritten};
+ghost use Rattle.esm_journal.specs.File.{header_of, Damaged, Holding, fresh_file, blank_file};
+ghost use Rattle.esm_journal.specs.Append.{IsAppended, file_in_use};
 ghost use Rattle.esm_journal.specs.Fresh.{WasOrHoldsNone};
-ghost use Rattle.esm_journal.specs.Reads.{IsOnlyRead, RefusedFor, NotMadeFor};
-ghost use Rattle.esm_journal.specs.Room.{HasRoom, room_after};
+ghost use Rattle.esm_journal.specs.Reads.{IsOnlyRead, NotMadeFor};
 ghost use Rattle.esm_journal.specs.Log.{IsEither};
-ghost use Rattle.esm_journal.specs.Pair.{pair_opened, first_disk, second_disk, PairKeeps, PairKeepsWhileUp, PairOpensTo, PairOpensToEither};
-ghost use Rattle.esm_journal.specs.Replace.{first_too_long, IsSpareOrNew, PairOpensToOldOrNew};
+ghost use Rattle.esm_journal.specs.Pair.{pair_opened, PairRefusedFor, first_disk, second_disk, PairKeeps, PairKeepsWhileUp, PairOpensTo, PairOpensToEither};
+ghost use Rattle.esm_journal.specs.Replace.{IsSpareOrNew, PairOpensToOldOrNew};
+ghost use Rattle.esm_journal.specs.Rewrite.{IsRewritten, disk_written};
 ghost use Rattle.esm_journal.specs.Stopped.{PairKeepsWhileDown};
 
 use crate::error::{AppendError, InitError, OpenError};
@@ -22,7 +22,7 @@ use crate::log::Log;
 use crate::pair_reading::{Taken, read_pair};
 use crate::replace::replace_file;
 use esm_io::Disk;
-use esm_model::{Bytes, MAX_PAYLOAD, OutOfMemory, Refused};
+use esm_model::{Bytes, OutOfMemory, Refused};
 use std::alloc::Global;
 use std::collections::VecDeque;
 use std::marker::Model;
@@ -81,11 +81,8 @@ impl<D: Disk> Pair<D> {
         ensures kept { D.honest journal ≡ true → D.honest spare ≡ true →
             IfOk result (λ pair. PairKeeps (meaning D.Disk) (header_of 2) pair.epoch pair.payloads pair.used pair.spare) }
         // When each error comes, and that nothing was written.
-        ensures refused { IfErr result (λ refused. RefusedFor
-            (λ first. D.honest journal ≡ true → D.honest spare ≡ true →
-            (pair_opened (header_of 2) (D.content journal) (D.content spare) ≡ Foreign) × (first ≡ eight_at (D.content journal) 0))
-            (λ place. D.honest journal ≡ true → D.honest spare ≡ true → pair_opened (header_of 2) (D.content journal) (D.content spare) ≡ Damaged place)
-            (Rose (D.faults journal) (D.faults refused.back.0) ⊎ Rose (D.faults spare) (D.faults refused.back.1)) refused.why) }
+        ensures refused { IfErr result (λ refused.
+            PairRefusedFor (meaning D.Disk) (pair_opened (header_of 2)) journal spare refused.back.0 refused.back.1 refused.why) }
         ensures first_back { IfErr result (λ refused. IsOnlyRead (meaning D.Disk) journal refused.back.0) }
         ensures second_back { IfErr result (λ refused. IsOnlyRead (meaning D.Disk) spare refused.back.1) }
     {
@@ -204,28 +201,11 @@ impl<D: Disk> Pair<D> {
     /// the payloads from before the call, with the new one or without; after Ok every crash leaves the new one. After
     /// `DiskFault` the pair is down until it is opened again; after the other errors nothing has changed.
     pub fn append(&mut self, alloc: Global, payload: &[u8]) -> Result<(), AppendError>
-        // Whatever the answer.
+        // Of the file in use, and of the rest, whatever the answer.
+        ensures told { IsAppended (meaning D.Disk) payload.now (file_in_use self.old) (file_in_use self.new) result }
         ensures spare { self.new.spare ≡ self.old.spare }
         ensures epoch { self.new.epoch ≡ self.old.epoch }
         ensures swapped { self.new.swapped ≡ self.old.swapped }
-        // What Ok leaves.
-        ensures added { OnOk result (self.new.payloads ≡ self.old.payloads ++ payload.now ∷ []) }
-        ensures bytes { D.honest self.old.used ≡ true →
-            OnOk result (D.content self.new.used ≡ with_payload self.old.payloads payload.now (D.content self.old.used)) }
-        ensures room { OnOk result (self.new.room ≡ room_after self.old.room (length payload.now)) }
-        ensures up { OnOk result (self.new.down ≡ false) }
-        // What an error leaves: after `DiskFault` the pair is down; after the others nothing has changed.
-        ensures not_added { OnErr result (self.new.payloads ≡ self.old.payloads) }
-        ensures fault { IsErrOf result AppendError.DiskFault → self.new.down ≡ true }
-        ensures cause { IsErrOf result AppendError.DiskFault → Rose (D.faults self.old.used) (D.faults self.new.used) }
-        ensures no_memory { IsErrOf result AppendError.OutOfMemory → self.new ≡ self.old }
-        // When each error comes.
-        ensures has_room { HasRoom self.old.room (length payload.now) → IsErrOf result AppendError.OutOfMemory → ⊥ }
-        ensures down { IsErrOf result AppendError.Down → (self.new ≡ self.old) × (self.old.down ≡ true) }
-        ensures is_down { self.old.down ≡ true → IsErrOf result AppendError.Down }
-        ensures too_long { (n : ℕ) → IsErrOf result (AppendError.TooLong n) →
-            (self.new ≡ self.old) × (self.old.down ≡ false) × (n ≡ length payload.now) × (MAX_PAYLOAD < length payload.now) }
-        ensures is_too_long { self.old.down ≡ false → MAX_PAYLOAD < length payload.now → IsErrOf result (AppendError.TooLong (length payload.now)) }
         // What a crash leaves: of the disk in use and of both disks since the call began, and once it has returned.
         ensures any_moment { D.honest self.old.used ≡ true → self.old.down ≡ false →
             LeavesOnly D.moment D.image_since self.old.used self.new.used
@@ -234,9 +214,6 @@ impl<D: Disk> Pair<D> {
             D.image_since self.new.used (D.moment self.old.used) one → D.image_since self.new.spare (D.moment self.old.spare) other →
             PairOpensToEither (header_of 2) self.old.epoch self.old.payloads payload.now one other }
         ensures kept { PairKeepsWhileUp (meaning D.Disk) self.new }
-        // The disk is as honest as it was, and its count of faults never falls.
-        ensures honesty { D.honest self.new.used ≡ D.honest self.old.used }
-        ensures count { IsCount (D.faults self.old.used) (D.faults self.new.used) }
     {
         self.log.append(alloc, payload)
     }
@@ -246,44 +223,16 @@ impl<D: Disk> Pair<D> {
     /// `DiskFault` the pair is down until it is opened again; after the other errors nothing has changed.
     pub fn rewrite(&mut self, alloc: Global, payloads: &[Bytes]) -> Result<(), AppendError>
         requires { self.old.epoch < 18446744073709551615 }
-        // What Ok leaves: the disk that was the spare one is in use, and the one that was in use is the spare one.
-        ensures written { OnOk result (self.new.payloads ≡ payloads.now) }
-        ensures next_epoch { OnOk result (self.new.epoch ≡ self.old.epoch + 1) }
-        ensures bytes { D.honest self.old.spare ≡ true →
-            OnOk result (D.content self.new.used ≡ rewritten (header_of 2) (self.old.epoch + 1) payloads.now (D.content self.old.spare)) }
-        ensures room { OnOk result (self.new.room ≡ self.old.room) }
-        ensures up { OnOk result (self.new.down ≡ false) }
-        ensures replaced { OnOk result (self.new.spare ≡ self.old.used) }
-        ensures changed_over { OnOk result (self.new.swapped ≡ not self.old.swapped) }
-        // What an error leaves: after `DiskFault` the pair is down; after the others nothing has changed.
-        ensures not_written { OnErr result (self.new ≡ record self.old { down = self.new.down; spare = self.new.spare }) }
-        ensures fault { IsErrOf result AppendError.DiskFault → self.new.down ≡ true }
-        ensures cause { IsErrOf result AppendError.DiskFault → Rose (D.faults self.old.spare) (D.faults self.new.spare) }
-        ensures no_memory { IsErrOf result AppendError.OutOfMemory → self.new ≡ self.old }
-        // When each error comes.
-        ensures down { IsErrOf result AppendError.Down → (self.new ≡ self.old) × (self.old.down ≡ true) }
-        ensures is_down { self.old.down ≡ true → IsErrOf result AppendError.Down }
-        ensures too_long { (n : ℕ) → IsErrOf result (AppendError.TooLong n) →
-            (self.new ≡ self.old) × (self.old.down ≡ false) × (first_too_long payloads.now ≡ Some n) }
-        ensures is_too_long { self.old.down ≡ false → (n : ℕ) → first_too_long payloads.now ≡ Some n → IsErrOf result (AppendError.TooLong n) }
-        ensures short_enough { AreShort payloads.now → (n : ℕ) → IsErrOf result (AppendError.TooLong n) → ⊥ }
+        ensures told { IsRewritten (meaning D.Disk) payloads.now self.old self.new result }
         // What a crash leaves: of the disk that is written and of both disks since the call began, and once it has returned.
         ensures any_moment { D.honest self.old.used ≡ true → D.honest self.old.spare ≡ true → self.old.down ≡ false →
-            OnOk result (LeavesOnly D.moment D.image_since self.old.spare self.new.used
-            (IsSpareOrNew (header_of 2) self.old.epoch (header_of 2) (self.old.epoch + 1) payloads.now)) }
-        ensures any_moment_err { D.honest self.old.used ≡ true → D.honest self.old.spare ≡ true → self.old.down ≡ false →
-            OnErr result (LeavesOnly D.moment D.image_since self.old.spare self.new.spare
-            (IsSpareOrNew (header_of 2) self.old.epoch (header_of 2) (self.old.epoch + 1) payloads.now)) }
+            LeavesOnly D.moment D.image_since self.old.spare (disk_written result self.new)
+            (IsSpareOrNew (header_of 2) self.old.epoch (header_of 2) (self.old.epoch + 1) payloads.now) }
         ensures pair_images { D.honest self.old.used ≡ true → D.honest self.old.spare ≡ true → self.old.down ≡ false → (one other : List ℕ) →
             D.image_since (first_disk self.new) (D.moment (first_disk self.old)) one →
             D.image_since (second_disk self.new) (D.moment (second_disk self.old)) other →
             PairOpensToOldOrNew (header_of 2) self.old.epoch self.old.payloads payloads.now one other }
         ensures kept { PairKeepsWhileUp (meaning D.Disk) self.new }
-        // The disk is as honest as it was, and its count of faults never falls.
-        ensures honesty { OnOk result (D.honest self.new.used ≡ D.honest self.old.spare) }
-        ensures honesty_err { OnErr result (D.honest self.new.spare ≡ D.honest self.old.spare) }
-        ensures count { OnOk result (IsCount (D.faults self.old.spare) (D.faults self.new.used)) }
-        ensures count_err { OnErr result (IsCount (D.faults self.old.spare) (D.faults self.new.spare)) }
     {
         if self.log.down {
             return Err(AppendError::Down);

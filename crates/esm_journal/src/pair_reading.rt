@@ -1,12 +1,12 @@
 // Which of two files is in use, and what it holds.
-ghost use Rattle.std.specs.Prelude.{◌≡◌, ◌⊎◌, ◌≤◌, ◌==◌, ◌&&◌, true, false, ℕ, List, length, nat_eq, IfOk, IfErr, OnOk};
+ghost use Rattle.std.specs.Prelude.{◌≡◌, ◌≤◌, ◌==◌, ◌&&◌, true, false, ℕ, List, length, nat_eq, IfOk, IfErr, OnOk};
 ghost use Rattle.std.specs.Cmp.Lexicographic.{pointwise};
 ghost use Rattle.esm_io.specs.Faults.{Rose, MAX_FAULTS};
 ghost use Rattle.esm_io.specs.Images.{Only};
 ghost use Rattle.esm_io.specs.Meanings.{disk as meaning};
-ghost use Rattle.esm_journal.specs.File.{end_of, AreShort, IsFile, Foreign, Damaged, eight_at, opened_rest};
+ghost use Rattle.esm_journal.specs.File.{end_of, AreShort, IsFile, Damaged, opened_rest};
 ghost use Rattle.esm_journal.specs.Head.{IsHead};
-ghost use Rattle.esm_journal.specs.Pair.{is_taken, beside, pair_opened, IsOther};
+ghost use Rattle.esm_journal.specs.Pair.{is_taken, beside, pair_opened, PairRefusedFor, IsOther};
 ghost use Rattle.esm_journal.specs.Reads.{IsOnlyRead, RefusedFor};
 ghost use Rattle.esm_journal.specs.Taken.{IsTaken};
 
@@ -97,11 +97,7 @@ pub(crate) fn read_pair<D: Disk>(
     ensures second_read { IsOnlyRead (meaning D.Disk) second.old second.new }
     ensures faults { OnOk result (D.faults first.new ≤ MAX_FAULTS) }
     ensures spare_faults { OnOk result (D.faults second.new ≤ MAX_FAULTS) }
-    ensures refused { IfErr result (λ e. RefusedFor
-        (λ eight. D.honest first.old ≡ true → D.honest second.old ≡ true →
-        (pair_opened header (D.content first.old) (D.content second.old) ≡ Foreign) × (eight ≡ eight_at (D.content first.old) 0))
-        (λ damage. D.honest first.old ≡ true → D.honest second.old ≡ true → pair_opened header (D.content first.old) (D.content second.old) ≡ Damaged damage)
-        (Rose (D.faults first.old) (D.faults first.new) ⊎ Rose (D.faults second.old) (D.faults second.new)) e) }
+    ensures refused { IfErr result (PairRefusedFor (meaning D.Disk) (pair_opened header) first.old second.old first.new second.new) }
 {
     settle(first)?;
     settle(second)?;

@@ -5,6 +5,7 @@ pub mod Lists
 pub mod Payload
 pub mod Machine
 pub mod State
+pub mod Applied
 pub mod Index
 pub mod Pairs
 pub mod Given

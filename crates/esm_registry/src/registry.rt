@@ -1,13 +1,11 @@
 // The registry of event source mappings, kept in a journal: opening it, and applying commands to it.
-ghost use Rattle.std.specs.Prelude.{◌≡◌, ◌≤◌, ◌++◌, ℕ, true, false, IfOk, IfErr, OnOk, OnErr, IsErrOf};
-ghost use Rattle.std.specs.Option.{option_copied, option_to_list};
-ghost use Rattle.esm_io.specs.Faults.{Rose};
-ghost use Rattle.esm_io.specs.Images.{LeavesOnly};
+ghost use Rattle.std.specs.Prelude.{◌≡◌, ℕ, true, false, IfOk, IfErr};
+ghost use Rattle.std.specs.Option.{option_copied};
 ghost use Rattle.esm_io.specs.Meanings.{disk as meaning};
-ghost use Rattle.esm_journal.specs.State.{KeepsWhileUp, KeepsWhileDown};
+ghost use Rattle.esm_registry.specs.Applied.{HasApplied};
 ghost use Rattle.esm_registry.specs.Lists.{mapping_at};
 ghost use Rattle.esm_registry.specs.Machine.{asked, step};
-ghost use Rattle.esm_registry.specs.State.{IsFirstBad, IsRegistry, OpensToStep};
+ghost use Rattle.esm_registry.specs.State.{IsFirstBad, IsRegistry};
 
 use crate::command::{Applied, Command, RegistryError, RegistryOpen};
 use crate::mapping::Mapping;
@@ -78,31 +76,7 @@ impl<D: Disk> Registry<D> {
         command: Command,
         moment: u64,
     ) -> Result<Applied, RegistryError>
-        // What is answered, and what the command changes: the list, and one payload at most.
-        ensures answer { IfOk result (λ answer. answer ≡ (step self.old.mappings (asked command) moment).answer) }
-        ensures mappings { OnOk result (self.new.mappings ≡ (step self.old.mappings (asked command) moment).after) }
-        ensures payloads { OnOk result (self.new.journal.payloads
-            ≡ self.old.journal.payloads ++ option_to_list (step self.old.mappings (asked command) moment).payload) }
-        ensures up { OnOk result (self.new.journal.down ≡ false) }
-        // What an error leaves: the mappings and the payloads, and after want of memory all.
-        ensures same_mappings { OnErr result (self.new.mappings ≡ self.old.mappings) }
-        ensures same_payloads { OnErr result (self.new.journal.payloads ≡ self.old.journal.payloads) }
-        ensures no_memory { IsErrOf result RegistryError.OutOfMemory → self.new ≡ self.old }
-        // When each error comes.
-        ensures fault { IsErrOf result RegistryError.DiskFault → self.new.journal.down ≡ true }
-        ensures cause { IsErrOf result RegistryError.DiskFault → Rose (D.faults self.old.journal.disk) (D.faults self.new.journal.disk) }
-        ensures down { IsErrOf result RegistryError.Down → (self.new ≡ self.old) × (self.old.journal.down ≡ true) }
-        ensures is_down { self.old.journal.down ≡ true → IsErrOf result RegistryError.Down }
-        // What a crash leaves: since the call began, and once it has returned.
-        ensures any_moment { D.honest self.old.journal.disk ≡ true → self.old.journal.down ≡ false →
-            LeavesOnly D.moment D.image_since self.old.journal.disk self.new.journal.disk
-            (OpensToStep self.old.journal.payloads (step self.old.mappings (asked command) moment).payload) }
-        ensures kept { KeepsWhileUp (meaning D.Disk) self.new.journal }
-        ensures stopped { KeepsWhileDown (meaning D.Disk) self.new.journal }
-        // What the type keeps; the disk is as honest as it was, and its count of faults never falls.
-        ensures registry { IsRegistry self.new }
-        ensures honesty { D.honest self.new.journal.disk ≡ D.honest self.old.journal.disk }
-        ensures never_falls { D.faults self.old.journal.disk ≤ D.faults self.new.journal.disk }
+        ensures { HasApplied (meaning D.Disk) (step self.old.mappings (asked command) moment) self.old self.new result }
     {
         let _ = self.journal.payloads();
         let _ = self.table.created();

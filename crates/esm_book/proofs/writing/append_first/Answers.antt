@@ -18,7 +18,7 @@ returns-in-Ok-clause-appended g c =
     let m = disk g.D.Disk in
     let a = c.append.ensures in
     appended_one k m c.args.pair.now c.append.new.self (take 1 (g.C.Decisions.owed c.args.core.now)) c.in-Some.payload.now c.in-Some.ensures.payload c.requires.up
-    a.spare a.epoch a.swapped a.any_moment a.honesty a.count a.kept c.in-Ok.ensures.added c.in-Ok.ensures.up
+    a.spare a.epoch a.swapped a.any_moment a.told.honesty a.told.count a.kept c.in-Ok.ensures.told.added c.in-Ok.ensures.told.up
 
 pub returns-in-Err-DiskFault-clause-not_appended :
     goal.returns-in-Err-DiskFault-clause-not_appended
@@ -27,4 +27,4 @@ returns-in-Err-DiskFault-clause-not_appended g c =
     let m = disk g.D.Disk in
     let a = c.append.ensures in
     not_appended k m c.args.pair.now c.append.new.self (take 1 (g.C.Decisions.owed c.args.core.now)) c.in-Some.payload.now c.in-Some.ensures.payload c.requires.up
-    a.spare a.epoch a.swapped a.any_moment a.honesty a.count a.kept c.in-Err-DiskFault.ensures.not_added (a.cause (search rules))
+    a.spare a.epoch a.swapped a.any_moment a.told.honesty a.told.count a.kept c.in-Err-DiskFault.ensures.told.not_added (a.told.cause (search rules))

@@ -13,20 +13,20 @@ returns-in-Ok g c =
     let p = c.args.pair in
     let q = c.rewrite.new.self in
     let list = c.args.list.now in
-    let order = taken_over p q c.in-Ok.ensures.changed_over c.in-Ok.ensures.replaced in
+    let order = taken_over p q c.in-Ok.ensures.told.changed_over c.in-Ok.ensures.told.replaced in
     let over : IsOverwritten m p list q.used c.ended.result.journal c.ended.result.spare = record {
       journal_is = c.ended.ensures.journal ∙ order.0;
       spare_is = c.ended.ensures.spare ∙ order.1;
-      honesty = c.in-Ok.ensures.honesty;
-      never_falls = c.in-Ok.ensures.count.never_falls;
+      honesty = c.in-Ok.ensures.told.honesty;
+      never_falls = c.in-Ok.ensures.told.count.never_falls;
       any_moment = λ used spare. c.in-Ok.ensures.any_moment used spare c.requires.up;
     } in
     let t : IsTakenOver m p q list c.ended.result.journal c.ended.result.spare = record {
-      payloads = c.in-Ok.ensures.written;
-      epoch = c.in-Ok.ensures.next_epoch;
-      bytes = c.in-Ok.ensures.bytes;
-      up = c.in-Ok.ensures.up;
-      spare_is = c.in-Ok.ensures.replaced;
+      payloads = c.in-Ok.ensures.told.written;
+      epoch = c.in-Ok.ensures.told.next_epoch;
+      bytes = c.in-Ok.ensures.told.bytes;
+      up = c.in-Ok.ensures.told.up;
+      spare_is = c.in-Ok.ensures.told.replaced;
       keeps = c.in-Ok.ensures.kept;
       first = c.ended.ensures.journal;
       second = c.ended.ensures.spare;
@@ -47,15 +47,15 @@ returns-in-Err-DiskFault g c =
     let q = c.rewrite.new.self in
     let list = c.args.list.now in
     let over : IsOverwritten m p list q.spare c.ended-in-Err-DiskFault.result.journal c.ended-in-Err-DiskFault.result.spare = record {
-      journal_is = c.ended-in-Err-DiskFault.ensures.journal ∙ ap first_disk c.in-Err-DiskFault.ensures.not_written;
-      spare_is = c.ended-in-Err-DiskFault.ensures.spare ∙ ap second_disk c.in-Err-DiskFault.ensures.not_written;
-      honesty = c.in-Err-DiskFault.ensures.honesty_err;
-      never_falls = c.in-Err-DiskFault.ensures.count_err.never_falls;
-      any_moment = λ used spare. c.in-Err-DiskFault.ensures.any_moment_err used spare c.requires.up;
+      journal_is = c.ended-in-Err-DiskFault.ensures.journal ∙ ap first_disk c.in-Err-DiskFault.ensures.told.not_written;
+      spare_is = c.ended-in-Err-DiskFault.ensures.spare ∙ ap second_disk c.in-Err-DiskFault.ensures.told.not_written;
+      honesty = c.in-Err-DiskFault.ensures.told.honesty;
+      never_falls = c.in-Err-DiskFault.ensures.told.count.never_falls;
+      any_moment = λ used spare. c.in-Err-DiskFault.ensures.any_moment used spare c.requires.up;
     } in
     record {
       end = λ journal spare o. fault_end m journal spare c.ended-in-Err-DiskFault.result.journal c.ended-in-Err-DiskFault.result.spare c.ended-in-Err-DiskFault.result.end c.ended-in-Err-DiskFault.ensures.end
-          (rose_over m journal spare c.ended-in-Err-DiskFault.result.journal c.ended-in-Err-DiskFault.result.spare q.spare p list o over (c.in-Err-DiskFault.ensures.cause (ap Err c.in-Err-DiskFault.field-0-is)));
+          (rose_over m journal spare c.ended-in-Err-DiskFault.result.journal c.ended-in-Err-DiskFault.result.spare q.spare p list o over (c.in-Err-DiskFault.ensures.told.cause (ap Err c.in-Err-DiskFault.field-0-is)));
       images = λ journal spare o. compacting_over m journal spare c.ended-in-Err-DiskFault.result.journal c.ended-in-Err-DiskFault.result.spare q.spare p list c.file_beside_new.ensures.opens c.requires.compacted o over;
       unwritten = λ journal spare o. ok_has_no_error _ _ c.ended-in-Err-DiskFault.result.end c.ended-in-Err-DiskFault.ensures.end;
       kept = λ journal spare o. kept_over m journal spare c.ended-in-Err-DiskFault.result.journal c.ended-in-Err-DiskFault.result.spare q.spare p list o over;
@@ -66,7 +66,7 @@ returns-in-Err-OutOfMemory g c =
     let m = meaning g.D.Disk in
     let p = c.args.pair in
     let q = c.rewrite.new.self in
-    let same = c.in-Err-OutOfMemory.ensures.no_memory (ap Err c.in-Err-OutOfMemory.field-0-is) in
+    let same = c.in-Err-OutOfMemory.ensures.told.no_memory (ap Err c.in-Err-OutOfMemory.field-0-is) in
     let read = read_of_opened m c.ended-in-Err-OutOfMemory.result.journal c.ended-in-Err-OutOfMemory.result.spare p (c.ended-in-Err-OutOfMemory.ensures.journal ∙ ap first_disk same) (c.ended-in-Err-OutOfMemory.ensures.spare ∙ ap second_disk same) in
     record {
       end = λ journal spare o. error_is_not_ok _ _ c.ended-in-Err-OutOfMemory.result.end c.ended-in-Err-OutOfMemory.ensures.end;

@@ -16,9 +16,9 @@ returns-clause-durable g c =
     elim c.match-append.branch [
       | in-Ok w ↦
           on_ok c.match-append.result
-          (line_kept (disk g.D.Disk) c.self.inside.journal c.append.new.self held c.args.line.now is w.in-Ok.ensures.added
-          (w.in-Ok.ensures.kept (w.in-Ok.ensures.honesty ∙ honest) w.in-Ok.ensures.up)
-          (λ left now. g.met.D.Disk.only_now c.append.new.self.disk left (w.in-Ok.ensures.honesty ∙ honest) now))
+          (line_kept (disk g.D.Disk) c.self.inside.journal c.append.new.self held c.args.line.now is w.in-Ok.ensures.told.added
+          (w.in-Ok.ensures.kept (w.in-Ok.ensures.told.honesty ∙ honest) w.in-Ok.ensures.told.up)
+          (λ left now. g.met.D.Disk.only_now c.append.new.self.disk left (w.in-Ok.ensures.told.honesty ∙ honest) now))
       | in-Err-OutOfMemory w ↦ on_err c.match-append.result _ w.result-is
       | in-Err-DiskFault w ↦ on_err c.match-append.result _ w.result-is
     ])

@@ -6,6 +6,9 @@ use Rattle.esm_io.proofs.Leaving.{weaker}
 use Rattle.esm_journal.proofs.States.{keeps, opens_to_either, still_opens}
 use Rattle.esm_journal.proofs.journal.Journal.append.Goals as goal
 
+pub returns-clause-told : goal.returns-clause-told
+returns-clause-told g c = rw (← c.self.view_is) c.append.ensures.told
+
 pub returns-clause-kept : goal.returns-clause-kept
 returns-clause-kept g c =
     keeps (disk g.D.Disk) (header_of 1) c.append.new.self (c.append.ensures.header ∙ c.self.invariant.1) c.append.ensures.log

@@ -82,9 +82,32 @@ returns-then-is_err-2-clause-log g c =
     clash : true ≡ false → ⊥
     clash e = cc
 
-pub returns-clause-bytes : goal.returns-clause-bytes
-returns-clause-bytes g c = λ h.
+pub returns-clause-told : goal.returns-clause-told
+returns-clause-told g c =
     let log = c.args.self.now in
-    bytes_of_added log.header log.epoch log.payloads.items c.requires.header (g.D.Disk.content log.disk) (c.requires.file h c.if-self.false) log.end c.requires.end c.args.payload.now c.deref.result.now
-    (c.deref.ensures.value ∙ c.in-Ok.ensures.framed) (omega arith) (g.D.Disk.content c.add_entry.new.disk)
-    (on_ok_told c.add_entry.result (sym c.is_err-2.ensures.value ∙ c.if-is_err-2.false) (c.add_entry.ensures.written h))
+    let payload = c.args.payload.now in
+    let frame = c.in-Ok.frame in
+    let went_well = sym c.is_err-2.ensures.value ∙ c.if-is_err-2.false in
+    let taken : c.from_vec.result ≡ payload = c.from_vec.ensures ∙ c.payload_of.ensures ∙ payload_in payload frame.items (vec_len frame) (search rules) c.in-Ok.ensures.framed in
+    record {
+      added =
+          c.push_reserved.ensures.items ∙ ap (λ (l : List (List ℕ)). l ++ c.from_vec.result ∷ []) c.reserve.ensures.items
+          ∙ ap (λ (p : List ℕ). log.payloads.items ++ p ∷ []) taken;
+      bytes = λ h.
+          bytes_of_added log.header log.epoch log.payloads.items c.requires.header (g.D.Disk.content log.disk) (c.requires.file h c.if-self.false) log.end c.requires.end payload c.deref.result.now
+          (c.deref.ensures.value ∙ c.in-Ok.ensures.framed) (omega arith) (g.D.Disk.content c.add_entry.new.disk)
+          (on_ok_told c.add_entry.result went_well (c.add_entry.ensures.written h));
+      room = search rules;
+      up = c.if-self.false;
+      not_added = tt;
+      fault = λ e. cc;
+      cause = λ e. cc;
+      no_memory = λ e. cc;
+      has_room = λ room e. cc;
+      down = λ e. search rules;
+      is_down = λ was. search rules;
+      too_long = λ n e. search rules;
+      is_too_long = λ up long. absurd (omega (arith, long));
+      honesty = c.add_entry.ensures.honesty;
+      count = c.add_entry.ensures.count;
+    }

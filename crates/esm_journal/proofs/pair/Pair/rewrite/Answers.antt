@@ -1,4 +1,4 @@
-use Rattle.std.proofs.Common.{true, ◌+◌, ◌∙◌, sym, subst}
+use Rattle.std.proofs.Common.{true, ◌+◌, ◌∙◌, refl, rules, sym, subst}
 use Rattle.esm_io.specs.Meanings.{disk}
 use Rattle.esm_journal.specs.File.{header_of, IsFile}
 use Rattle.esm_journal.proofs.Adds.{on_ok_told}
@@ -7,8 +7,8 @@ use Rattle.esm_journal.proofs.Rewrites.{resting, images_before, images_after, is
 use Rattle.esm_journal.proofs.Stops.{is_log_stopped, is_pair_stopped}
 use Rattle.esm_journal.proofs.pair.Pair.rewrite.Goals as goal
 
-pub returns-in-Some-clause-any_moment_err : goal.returns-in-Some-clause-any_moment_err
-returns-in-Some-clause-any_moment_err g c =
+pub returns-in-Some-clause-any_moment : goal.returns-in-Some-clause-any_moment
+returns-in-Some-clause-any_moment g c =
     rw (← c.self.view_is) (λ h1 h2 up. resting (disk g.D.Disk) g.met.D.Disk.only_now
     c.self.inside.log c.self.inside.spare c.self.inside.spare_sealed c.self.invariant.0 c.self.invariant.1 h1 h2 up c.args.payloads.now)
 
@@ -22,8 +22,8 @@ returns-in-Some-clause-pair_images g c =
 pub prepare-requires-clause-short : goal.prepare-requires-clause-short
 prepare-requires-clause-short g c = all_short c.args.payloads.now (sym c.first_too_long.ensures ∙ c.in_default.is)
 
-pub returns-in_default-prepare-clause-any_moment_err : goal.returns-in_default-prepare-clause-any_moment_err
-returns-in_default-prepare-clause-any_moment_err g c =
+pub returns-in_default-prepare-clause-any_moment : goal.returns-in_default-prepare-clause-any_moment
+returns-in_default-prepare-clause-any_moment g c =
     rw (← c.self.view_is) (λ h1 h2 up. resting (disk g.D.Disk) g.met.D.Disk.only_now
     c.self.inside.log c.self.inside.spare c.self.inside.spare_sealed c.self.invariant.0 c.self.invariant.1 h1 h2 up c.args.payloads.now)
 
@@ -34,8 +34,8 @@ returns-in_default-prepare-clause-pair_images g c =
     (resting (disk g.D.Disk) g.met.D.Disk.only_now
     c.self.inside.log c.self.inside.spare c.self.inside.spare_sealed c.self.invariant.0 c.self.invariant.1 h1 h2 up c.args.payloads.now))
 
-pub returns-then-is_err-clause-any_moment_err : goal.returns-then-is_err-clause-any_moment_err
-returns-then-is_err-clause-any_moment_err g c =
+pub returns-then-is_err-clause-any_moment : goal.returns-then-is_err-clause-any_moment
+returns-then-is_err-clause-any_moment g c =
     rw (← c.self.view_is) (λ h1 h2 up. c.replace_file.ensures.any_moment h2 c.args.payloads.now (all_short c.args.payloads.now (sym c.first_too_long.ensures ∙ c.in_default.is))
     (c.deref.ensures.value ∙ c.in-Ok.ensures.bytes) (header_of 2) c.self.inside.log.epoch (c.self.invariant.1.beside h1 h2 up))
 
@@ -101,10 +101,24 @@ invariant_of-self g c = (
       (λ h. c.replace_file.ensures.any_moment h c.args.payloads.now (all_short c.args.payloads.now (sym c.first_too_long.ensures ∙ c.in_default.is)) (c.deref.ensures.value ∙ c.in-Ok.ensures.bytes)),
 )
 
-pub returns-clause-bytes : goal.returns-clause-bytes
-returns-clause-bytes g c =
-    rw (← c.self.view_is, c.move_over.ensures.disk) (λ h.
-    on_ok_told c.replace_file.result (sym c.is_err.ensures.value ∙ c.if-is_err.false) (c.replace_file.ensures.bytes h c.args.payloads.now (c.deref.ensures.value ∙ c.in-Ok.ensures.bytes)))
-
-pub returns-in-Some-clause-short_enough : goal.returns-in-Some-clause-short_enough
-returns-in-Some-clause-short_enough g c = λ short n _. none_too_long c.args.payloads.now c.in-Some.size short (sym c.first_too_long.ensures ∙ c.in-Some.is)
+pub returns-in-Some-clause-told : goal.returns-in-Some-clause-told
+returns-in-Some-clause-told g c = record {
+  written = tt;
+  next_epoch = tt;
+  bytes = λ h. tt;
+  room = tt;
+  up = tt;
+  replaced = tt;
+  changed_over = tt;
+  not_written = refl;
+  fault = λ e. cc;
+  cause = λ e. cc;
+  no_memory = λ e. refl;
+  down = λ e. search rules;
+  is_down = search rules;
+  too_long = search rules;
+  is_too_long = search rules;
+  short_enough = λ short n e. none_too_long c.args.payloads.now c.in-Some.size short (sym c.first_too_long.ensures ∙ c.in-Some.is);
+  honesty = refl;
+  count = search rules;
+}

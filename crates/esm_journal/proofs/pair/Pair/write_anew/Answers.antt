@@ -10,13 +10,16 @@ use Rattle.esm_journal.proofs.pair.Pair.write_anew.Goals as goal
 clash : false ≡ true → ⊥
 clash e = cc
 
-pub returns-then-is_err-clause-any_moment_err : goal.returns-then-is_err-clause-any_moment_err
-returns-then-is_err-clause-any_moment_err g c = λ h kept lower harmless.
-    c.replace_file.ensures.any_moment h c.args.found.payloads.items c.requires.short (c.deref.ensures.value ∙ c.requires.bytes) kept lower harmless
-
-pub returns-clause-any_moment : goal.returns-clause-any_moment
-returns-clause-any_moment g c = λ h kept lower harmless.
-    c.replace_file.ensures.any_moment h c.args.found.payloads.items c.requires.short (c.deref.ensures.value ∙ c.requires.bytes) kept lower harmless
+pub returns-then-is_err-clause-back : goal.returns-then-is_err-clause-back
+returns-then-is_err-clause-back g c = record {
+  kept = refl;
+  over = record {
+    any_moment = λ h kept lower harmless. c.replace_file.ensures.any_moment h c.args.found.payloads.items c.requires.short (c.deref.ensures.value ∙ c.requires.bytes) kept lower harmless;
+    honesty = c.replace_file.ensures.honesty;
+    count = c.replace_file.ensures.count;
+  };
+  cause = search rules;
+}
 
 pub invariant_of-result : goal.invariant_of-result
 invariant_of-result g c =
@@ -43,15 +46,26 @@ invariant_of-result g c =
       },
     )
 
-pub returns-clause-kept : goal.returns-clause-kept
-returns-clause-kept g c = λ h1 h2.
+pub returns-clause-made : goal.returns-clause-made
+returns-clause-made g c =
     let payloads = c.args.found.payloads.items in
     let went_well = sym c.is_err.ensures.value ∙ c.if-is_err.false in
-    keeps_pair (disk g.D.Disk) (header_of 2) (c.args.found.epoch + 1) payloads c.replace_file.new.disk c.args.used refl
-    (on_ok_told c.replace_file.result went_well (c.replace_file.ensures.file (sym c.replace_file.ensures.honesty ∙ h1) payloads c.requires.short (c.deref.ensures.value ∙ c.requires.bytes)))
-    (on_ok_told c.replace_file.result went_well (c.replace_file.ensures.durable (sym c.replace_file.ensures.honesty ∙ h1)))
-    (old_beside c.args.found.epoch (c.args.found.epoch + 1) payloads (g.D.Disk.content c.args.used) (c.requires.file h2)) (c.requires.durable h2)
-
-pub returns-clause-bytes : goal.returns-clause-bytes
-returns-clause-bytes g c = λ h.
-    on_ok_told c.replace_file.result (sym c.is_err.ensures.value ∙ c.if-is_err.false) (c.replace_file.ensures.bytes h c.args.found.payloads.items (c.deref.ensures.value ∙ c.requires.bytes))
+    record {
+      payloads_are = refl;
+      next_epoch = refl;
+      bytes = λ h. on_ok_told c.replace_file.result went_well (c.replace_file.ensures.bytes h payloads (c.deref.ensures.value ∙ c.requires.bytes));
+      up = refl;
+      room = search rules;
+      spare = refl;
+      order = refl;
+      kept = λ h1 h2.
+          keeps_pair (disk g.D.Disk) (header_of 2) (c.args.found.epoch + 1) payloads c.replace_file.new.disk c.args.used refl
+          (on_ok_told c.replace_file.result went_well (c.replace_file.ensures.file (sym c.replace_file.ensures.honesty ∙ h1) payloads c.requires.short (c.deref.ensures.value ∙ c.requires.bytes)))
+          (on_ok_told c.replace_file.result went_well (c.replace_file.ensures.durable (sym c.replace_file.ensures.honesty ∙ h1)))
+          (old_beside c.args.found.epoch (c.args.found.epoch + 1) payloads (g.D.Disk.content c.args.used) (c.requires.file h2)) (c.requires.durable h2);
+      over = record {
+        any_moment = λ h kept lower harmless. c.replace_file.ensures.any_moment h payloads c.requires.short (c.deref.ensures.value ∙ c.requires.bytes) kept lower harmless;
+        honesty = c.replace_file.ensures.honesty;
+        count = c.replace_file.ensures.count;
+      };
+    }
