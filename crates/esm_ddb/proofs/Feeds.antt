@@ -1,13 +1,8 @@
 -- What a translator was fed, seen from the call that goes on with it.
-use Rattle.std.proofs.Common.{ℕ, List, [], None, refl, sym, lit≤}
+use Rattle.std.proofs.Common.{ℕ, List, [], refl, sym}
 use Rattle.std.proofs.lemmas.List.{append-nil}
 use Rattle.esm_ddb.specs.Translating.{State, HasRead, IsFed}
 use Rattle.esm_ddb.specs.Translation.{translation_so_far}
-use Rattle.esm_ddb.specs.declared.source.Source.{Source}
-
-pub fed_nothing : (s : Source) → IsFed [] (record { source = s; good = 0; begun = []; bad = None })
-unfolding translation_so_far
-fed_nothing s = record { stands = record { text = refl; bad = refl; lines = λ _. refl }; line = λ _. refl; short = λ _. lit≤ tt }
 
 pub fed_from : (bytes : List ℕ) (r : State) → IsFed bytes r → HasRead bytes (translation_so_far r.source bytes).text [] r
 fed_from bytes r fed = record {

@@ -1,5 +1,6 @@
 pub mod AnsweredStates
 pub mod BatchEvents
+pub mod Blocks
 pub mod CutLines
 pub mod Digest
 pub mod ElementBytes

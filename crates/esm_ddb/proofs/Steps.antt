@@ -24,7 +24,7 @@ not_none o b e none = absurd (cc (none_is o none))
 
 -- ---- one line more
 
-add_is : (s : Source) (end : List ℕ) (t : Translation) (line : List ℕ) (said : Result (List ℕ) DdbError) → t.bad ≡ None → turned s line ≡ said → add_line s end t line ≡ after_line end t said
+pub add_is : (s : Source) (end : List ℕ) (t : Translation) (line : List ℕ) (said : Result (List ℕ) DdbError) → t.bad ≡ None → turned s line ≡ said → add_line s end t line ≡ after_line end t said
 add_is s end t line said none e =
     ap (λ (b : Option DdbLine). cond (is_some b) t (after_line end t (turned s line))) none ∙ ap (after_line end t) e
 

@@ -1,5 +1,6 @@
 pub mod Attribute
 pub mod BatchEvents
+pub mod Blocks
 pub mod Change
 pub mod Element
 pub mod Event

@@ -1,5 +1,6 @@
 // The input of a DynamoDB stream, read to its end and turned into the input of a stream.
-ghost use Rattle.std.specs.Prelude.{◌≡◌, ◌<◌, ℕ, List, [], vec_len, false, IfOk, IfErr};
+ghost use Rattle.std.specs.Prelude.{◌≡◌, ◌<◌, ◌++◌, ℕ, List, [], vec_len, false, IfOk, IfErr, OnOk};
+ghost use Rattle.std.specs.List.{concat};
 ghost use Rattle.esm_ddb.specs.Translating.{source_of};
 ghost use Rattle.esm_ddb.specs.TurnedInput.{IsTaken, IsTurnedInput};
 ghost use Rattle.esm_ddb.specs.TurnedSoFar.{IsRead, IsTurnedSoFar, StandsSo, end_by};
@@ -8,13 +9,26 @@ ghost use Rattle.esm_ddb.specs.declared.source.Source.{Source as Stream};
 use crate::error::DdbLine;
 use crate::piece::{read_bytes, turn_piece};
 use crate::text_pieces::TextPieces;
-use crate::translator::{Translator, Turned};
+use crate::translator::{Translator, TurnedInPieces};
 use esm_io::Source;
-use esm_model::{Config, OutOfMemory, Refused};
+use esm_model::{Bytes, Config, OutOfMemory, Refused};
 use std::alloc::Global;
+use std::thread;
+use std::thread::Threads;
 
 /// How many bytes one read of the source asks for.
-const PIECE: usize = 65536;
+const PIECE: usize = 1_048_576;
+
+/// The most threads that turn lines.
+const MOST_THREADS: usize = 4;
+
+/// How many threads are to turn lines: one for each processor, four at most.
+fn threads_for<R: Threads>(rt: &R) -> usize {
+    match thread::available_parallelism(rt) {
+        Ok(processors) => processors.get().min(MOST_THREADS),
+        Err(_) => 1,
+    }
+}
 
 /// Why the reading of an input ended.
 #[derive(Clone, Copy, Debug, PartialEq, Eq)]
@@ -44,8 +58,29 @@ fn end_of(whole: bool, bad: Option<DdbLine>) -> Option<InputTurned>
     }
 }
 
-/// Reads one piece of the source and turns it. Answers why the reading ends by it, if it does.
-fn turn_more<S: Source>(
+/// Room for one piece.
+fn room(alloc: Global) -> Result<Vec<u8>, OutOfMemory>
+    ensures { IfOk result (λ buffer. 0 < vec_len buffer) }
+{
+    let buffer = vec![in alloc; 0u8; PIECE]?;
+    Ok(buffer)
+}
+
+/// Appends the pieces in their order.
+fn push_all(text: &mut TextPieces, pieces: Vec<Bytes>) -> Result<(), OutOfMemory>
+    ensures { OnOk result (text.new ≡ text.old ++ concat pieces.items) }
+{
+    for piece in pieces {
+        text.push(piece)?;
+    }
+    Ok(())
+}
+
+/// Reads one piece of the source and turns it, on up to so many threads. Answers why the reading ends by it, if it does.
+fn turn_more<R: Threads + Sync, S: Source>(
+    rt: &R,
+    alloc: Global,
+    threads: usize,
     source: &mut S,
     translator: &mut Translator,
     buffer: &mut Vec<u8>,
@@ -62,14 +97,15 @@ fn turn_more<S: Source>(
     let Ok(count) = read_bytes(source, buffer) else {
         return Ok(Some(InputTurned::Failed));
     };
-    let turned = turn_piece(translator, &buffer[..count])?;
-    let Turned { bytes, bad } = turned;
-    text.push(bytes)?;
+    let turned = turn_piece(rt, alloc, threads, translator, &buffer[..count])?;
+    let TurnedInPieces { pieces, bad } = turned;
+    push_all(text, pieces)?;
     Ok(end_of(count == 0, bad))
 }
 
 /// Reads the source and appends what its lines become, up to the first bad line.
-fn turn_all<S: Source>(
+fn turn_all<R: Threads + Sync, S: Source>(
+    rt: &R,
     alloc: Global,
     config: &Config,
     source: &mut S,
@@ -79,10 +115,20 @@ fn turn_all<S: Source>(
     ensures turned { IfOk result (λ end. IsTurnedInput S.faults S.left (source_of config.now) source.old source.new text.new end) }
     ensures taken { (more : List ℕ) × IsTaken S.faults S.left source.old source.new more }
 {
+    let threads = threads_for(rt);
     let mut translator = Translator::new(alloc, config)?;
-    let mut buffer = vec![in alloc; 0u8; PIECE]?;
+    let mut buffer = room(alloc)?;
     for _ in 0..u64::MAX {
-        if let Some(end) = turn_more(source, &mut translator, &mut buffer, text)? {
+        let turned = turn_more(
+            rt,
+            alloc,
+            threads,
+            source,
+            &mut translator,
+            &mut buffer,
+            text,
+        )?;
+        if let Some(end) = turned {
             return Ok(end);
         }
     }
@@ -90,8 +136,10 @@ fn turn_all<S: Source>(
 }
 
 /// Reads the input of the mapping's stream, and gives what its lines become as a `Translator` gives it: to its end, to the first
-/// bad line, or to a read that fails. Where memory is wanting the source comes back, of which bytes may have been read.
-pub fn turn_input<S: Source>(
+/// bad line, or to a read that fails. Lines are turned on several threads side by side, on one where no other can be made.
+/// Where memory is wanting the source comes back, of which bytes may have been read.
+pub fn turn_input<R: Threads + Sync, S: Source>(
+    rt: &R,
     alloc: Global,
     config: &Config,
     source: S,
@@ -101,7 +149,7 @@ pub fn turn_input<S: Source>(
 {
     let mut source = source;
     let mut text = TextPieces::new(alloc);
-    match turn_all(alloc, config, &mut source, &mut text) {
+    match turn_all(rt, alloc, config, &mut source, &mut text) {
         Ok(end) => Ok(TurnedInput { source, text, end }),
         Err(_) => Err(Refused {
             why: OutOfMemory,

@@ -1,13 +1,16 @@
 //! DynamoDB streams as the streams that the engine runs: a line becomes the line of a record, whose data is the element of an
 //! event; an event gets these elements; a failure line gets the table's name; and the mapping of such a stream.
-//! Pure values, a caller and a destination over another, and the reading of a source; no device, clock or thread of its own.
+//! Pure values, a caller and a destination over another, and the reading of a source; no device and no clock of its own.
+//! Threads only turn lines side by side, and what they become is the same without them.
 #![tactic(auto)]
 
 mod attribute;
+mod block;
 mod caller;
 mod change;
 mod config;
 pub mod crossing;
+mod cut;
 mod dest;
 mod element;
 mod elements;
@@ -24,6 +27,7 @@ mod own_event;
 mod own_item;
 mod own_line;
 mod own_turned;
+mod parallel;
 mod piece;
 mod quoted;
 mod size;
@@ -45,4 +49,4 @@ pub use failure_line::ddb_line;
 pub use input::{InputTurned, TurnedInput, turn_input};
 pub use source::Source;
 pub use text_pieces::TextPieces;
-pub use translator::{Translator, Turned};
+pub use translator::{Translator, Turned, TurnedInPieces};

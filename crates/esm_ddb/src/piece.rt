@@ -1,14 +1,17 @@
 // One piece of a source: reading it and turning it.
 ghost use Rattle.std.specs.Prelude.{◌≡◌, ◌<◌, ◌≤◌, ◌==◌, ◌++◌, ℕ, List, length, take, vec_len, false, IfOk, OnOk, OnErr};
+ghost use Rattle.std.specs.List.{concat};
 ghost use Rattle.esm_io.specs.Faults.{IsCount, Rose};
 ghost use Rattle.esm_io.specs.Told.{TakesFront, IsAtEnd};
 ghost use Rattle.esm_ddb.specs.Translating.{IsFed};
 ghost use Rattle.esm_ddb.specs.Translation.{translation_so_far};
 ghost use Rattle.esm_ddb.specs.TurnedSoFar.{translation_read};
 
-use crate::translator::{Translator, Turned};
+use crate::translator::{Translator, TurnedInPieces, in_pieces};
 use esm_io::{Failed, Source};
 use esm_model::OutOfMemory;
+use std::alloc::Global;
+use std::thread::Threads;
 
 /// Reads bytes into the front of the buffer, and answers how many; 0 is the end of the source.
 pub fn read_bytes<S: Source>(source: &mut S, buffer: &mut Vec<u8>) -> Result<usize, Failed>
@@ -24,11 +27,17 @@ pub fn read_bytes<S: Source>(source: &mut S, buffer: &mut Vec<u8>) -> Result<usi
     source.read(buffer)
 }
 
-/// Turns the lines that a piece completes; an empty piece is the end of the input.
-pub fn turn_piece(translator: &mut Translator, piece: &[u8]) -> Result<Turned, OutOfMemory>
+/// Turns the lines that a piece completes, on up to so many threads side by side; an empty piece is the end of the input.
+pub fn turn_piece<R: Threads + Sync>(
+    rt: &R,
+    alloc: Global,
+    threads: usize,
+    translator: &mut Translator,
+    piece: &[u8],
+) -> Result<TurnedInPieces, OutOfMemory>
     requires going { translator.old.finished ≡ false }
     ensures text { IfOk result (λ turned. (bytes : List ℕ) → IsFed bytes translator.old.state
-        → (translation_so_far translator.old.state.source bytes).text ++ turned.bytes
+        → (translation_so_far translator.old.state.source bytes).text ++ concat turned.pieces.items
         ≡ (translation_read translator.old.state.source (length piece.now == 0) (bytes ++ piece.now)).text) }
     ensures bad { IfOk result (λ turned. (bytes : List ℕ) → IsFed bytes translator.old.state
         → turned.bad ≡ (translation_read translator.old.state.source (length piece.now == 0) (bytes ++ piece.now)).bad) }
@@ -38,8 +47,8 @@ pub fn turn_piece(translator: &mut Translator, piece: &[u8]) -> Result<Turned, O
     ensures source { translator.new.state.source ≡ translator.old.state.source }
 {
     if piece.is_empty() {
-        translator.finish()
+        in_pieces(alloc, translator.finish()?)
     } else {
-        translator.feed(piece)
+        translator.feed_parallel(rt, threads, piece)
     }
 }

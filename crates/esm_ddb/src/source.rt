@@ -21,4 +21,14 @@ impl Source {
             arn: config.source_arn.copy(alloc)?,
         })
     }
+
+    /// A copy of the source.
+    pub fn copy(&self, alloc: Global) -> Result<Source, OutOfMemory>
+        ensures { IfOk result (λ copy. copy ≡ self.now) }
+    {
+        Ok(Source {
+            region: self.region.copy(alloc)?,
+            arn: self.arn.copy(alloc)?,
+        })
+    }
 }

@@ -1,20 +1,23 @@
 // Splitting the input into lines piece by piece, and turning each up to the first bad one.
-ghost use Rattle.std.specs.Prelude.{◌≡◌, ◌+◌, Some, ℕ, List, ◌++◌, [], OnOk, IfSome, IfNone, IsNone};
-ghost use Rattle.esm_record.specs.Splitting.{NoLineFeed, IsFirstLine};
+ghost use Rattle.std.specs.Prelude.{◌≡◌, ◌+◌, Some, ℕ, List, ◌++◌, [], OnOk, IsNone};
+ghost use Rattle.esm_record.specs.Splitting.{NoLineFeed};
 ghost use Rattle.esm_ddb.specs.Gives.{Gives};
 ghost use Rattle.esm_ddb.specs.States.{state_of};
 ghost use Rattle.esm_ddb.specs.Translating.{HasRead, Stands};
 ghost use Rattle.esm_ddb.specs.Translation.{Translation, add_line, translation_of};
 ghost use Rattle.esm_ddb.specs.Turned.{turned};
 
+use crate::cut::first_line;
 use crate::error::{DdbError, DdbLine, Refusal};
 use crate::source::Source;
 use crate::turned::turned;
 use esm_event::bytes::push_bytes;
 use esm_model::{MAX_LINE, OutOfMemory};
 use json::Scratch;
-use memchr::memchr;
 use std::alloc::Global;
+
+/// Most lines become lines of fewer bytes than so many times their own.
+pub const GROWTH: usize = 3;
 
 /// What has been turned of an input: where it comes from, the good lines, the line that has begun, and the first bad line.
 #[derive(Drop)]
@@ -23,17 +26,6 @@ pub struct Splitter {
     pub good: u64,
     pub begun: Vec<u8>,
     pub bad: Option<DdbLine>,
-}
-
-/// The line up to the first line feed, and what follows that.
-fn first_line(bytes: &[u8]) -> Option<(&[u8], &[u8])>
-    ensures some { IfSome result (λ p. IsFirstLine bytes.now p.0.now p.1.now) }
-    ensures none { IfNone result (NoLineFeed bytes.now) }
-{
-    match memchr(b'\n', bytes) {
-        Some(at) => Some((&bytes[..at], &bytes[at + 1..])),
-        None => None,
-    }
 }
 
 /// What the line becomes that has begun so and ends with this rest. No line has begun then.
@@ -60,8 +52,22 @@ fn turned_whole(
 }
 
 impl Splitter {
+    /// Nothing has been read.
+    #[tactic(auto, unfolding(crate::specs::Translation::translation_so_far))]
+    pub fn new(alloc: Global, source: Source) -> Splitter
+        ensures read { HasRead [] [] [] (state_of result) }
+        ensures source { result.source ≡ source }
+    {
+        Splitter {
+            source,
+            good: 0,
+            begun: Vec::new(alloc),
+            bad: None,
+        }
+    }
+
     /// Ends the line that has begun: this is its rest, and this stands behind it.
-    fn end_line(
+    pub fn end_line(
         &mut self,
         alloc: Global,
         scratch: &mut Scratch,
@@ -94,7 +100,7 @@ impl Splitter {
     }
 
     /// Goes on with the line that has begun, whose line feed is still to come.
-    fn begin_line(&mut self, more: &[u8]) -> Result<(), OutOfMemory>
+    pub fn begin_line(&mut self, more: &[u8]) -> Result<(), OutOfMemory>
         requires going { IsNone self.old.bad }
         requires in_line { NoLineFeed more.now }
         ensures read { OnOk result ((bytes before given : List ℕ) → HasRead bytes before given (state_of self.old)

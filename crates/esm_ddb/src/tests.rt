@@ -1,5 +1,7 @@
 // Tests: rows of the table of fields, a change that becomes the line of its record, an input in pieces and a whole one, events,
 // and a failure line.
+ghost use Rattle.std.specs.Prelude.{◌<◌};
+
 use crate::config::read_config;
 use crate::dest::DdbDest;
 use crate::error::{DdbError, DdbField, DdbLine, Refusal};
@@ -14,6 +16,7 @@ use esm_model::{Bytes, Config, Text, parse_json};
 use json::Scratch;
 use std::alloc::Global;
 use std::test::Fail;
+use std::thread::Threads;
 
 /// A line up to the end of `dynamodb`, without its closing brace.
 const LINE: &str =
@@ -134,18 +137,6 @@ fn fields(rt: HostRuntime) -> Result<(), Fail> {
     Ok(())
 }
 
-#[test]
-fn change_of_an_item(rt: HostRuntime) -> Result<(), Fail> {
-    let alloc = rt.alloc();
-    let line = format!(in alloc; "{LINE}}}}}")?;
-    let source = source(alloc)?;
-    match turned(alloc, &mut Scratch::new(alloc), &source, line.as_bytes()) {
-        Ok(text) => assert_eq!(rt; text.as_slice(), TURNED.as_bytes()),
-        Err(_) => return Err(Fail::from("refused")),
-    }
-    Ok(())
-}
-
 /// The space keeps the line from being recognised, so that it is parsed.
 #[test]
 fn change_of_a_parsed_item(rt: HostRuntime) -> Result<(), Fail> {
@@ -199,16 +190,24 @@ fn all_of(alloc: Global, mut pieces: TextPieces) -> Result<Vec<u8>, Fail> {
     Ok(all)
 }
 
-/// What is left of an input that was read a byte a time, whose read of this number fails: what it became, and why it ended.
-fn input_of(alloc: Global, text: &str, fail: u64) -> Result<(Vec<u8>, InputTurned), Fail> {
+/// What an input becomes that is read so many bytes a time, whose read of this number fails, and why its reading ends.
+fn input_of<R: Threads + Sync>(
+    rt: &R,
+    alloc: Global,
+    text: &str,
+    step: usize,
+    fail: u64,
+) -> Result<(TextPieces, InputTurned), Fail>
+    requires { 0 < step }
+{
     let config = mapping(alloc)?;
     let bytes = Vec::from_slice(alloc, text.as_bytes())?;
     let fails = vec![in alloc; fail]?;
-    match turn_input(alloc, &config, MemSource::new(bytes, 1, fails)) {
+    match turn_input(rt, alloc, &config, MemSource::new(bytes, step, fails)) {
         Ok(input) => {
             let TurnedInput { source, text, end } = input;
             drop(source);
-            Ok((all_of(alloc, text)?, end))
+            Ok((text, end))
         }
         Err(_) => Err(Fail::from("no memory")),
     }
@@ -223,12 +222,32 @@ fn whole_input(rt: HostRuntime) -> Result<(), Fail> {
         line: 3,
         why: DdbError::NotJson,
     };
-    let (became, end) = input_of(alloc, text.as_str(), 1_000_000)?;
-    assert_eq!(rt; became.as_slice(), expected.as_bytes());
+    let (became, end) = input_of(&rt, alloc, text.as_str(), 1, 1_000_000)?;
+    assert_eq!(rt; all_of(alloc, became)?.as_slice(), expected.as_bytes());
     assert_eq!(rt; end, InputTurned::BadLine(bad));
-    let (became, end) = input_of(alloc, text.as_str(), LINE.len() as u64 + 5)?;
-    assert_eq!(rt; became.as_slice(), expected.as_bytes());
+    let (became, end) = input_of(&rt, alloc, text.as_str(), 1, LINE.len() as u64 + 5)?;
+    assert_eq!(rt; all_of(alloc, became)?.as_slice(), expected.as_bytes());
     assert_eq!(rt; end, InputTurned::Failed);
+    Ok(())
+}
+
+/// Of a long piece, whose lines several threads turn, the last block has the bad line.
+#[test]
+fn last_block(rt: HostRuntime) -> Result<(), Fail> {
+    let alloc = rt.alloc();
+    let line = format!(in alloc; "{LINE}}}}}\n")?;
+    let mut text = String::new(alloc);
+    for _ in 0..1000 {
+        text.push_str(line.as_str())?;
+    }
+    text.push_str("x\n")?;
+    let (became, end) = input_of(&rt, alloc, text.as_str(), 1_000_000, 1_000_000)?;
+    drop(became);
+    let bad = DdbLine {
+        line: 1001,
+        why: DdbError::NotJson,
+    };
+    assert_eq!(rt; end, InputTurned::BadLine(bad));
     Ok(())
 }
 

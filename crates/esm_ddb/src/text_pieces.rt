@@ -28,6 +28,17 @@ impl Model for TextPieces {
     ghost invariant = { λ t. t.at ≤ length t.first };
 }
 
+/// Appends a piece, which it copies nothing of. An empty one takes no room.
+pub fn push_piece(pieces: &mut Vec<Bytes>, piece: Bytes) -> Result<(), OutOfMemory>
+    ensures { OnOk result (concat pieces.new.items ≡ concat pieces.old.items ++ piece) }
+{
+    if piece.as_slice().is_empty() {
+        return Ok(());
+    }
+    pieces.push(piece)?;
+    Ok(())
+}
+
 /// Goes on to the next piece, as long as the first one has no bytes left.
 fn go_on(first: &mut Bytes, at: &mut usize, others: &mut VecDeque<Bytes>)
     requires { at.old ≤ length first.old }

@@ -1,18 +1,19 @@
 // The translator of an input's lines, which takes the input in pieces of any size.
-ghost use Rattle.std.specs.Prelude.{◌≡◌, ℕ, List, ◌++◌, [], true, false, None, IsErr, OnOk, IfOk, OnErr};
+ghost use Rattle.std.specs.Prelude.{◌≡◌, ℕ, List, ◌++◌, [], true, false, IsErr, OnOk, IfOk, OnErr};
+ghost use Rattle.std.specs.List.{concat};
 ghost use Rattle.esm_ddb.specs.States.{state_of};
 ghost use Rattle.esm_ddb.specs.Translating.{HasRead, IsFed, Stands, source_of};
 ghost use Rattle.esm_ddb.specs.Translation.{translation_of, translation_so_far};
 
 use crate::error::DdbLine;
+use crate::parallel::read_parallel;
 use crate::source::Source;
-use crate::splitter::Splitter;
+use crate::splitter::{GROWTH, Splitter};
+use crate::text_pieces::push_piece;
 use esm_model::{Bytes, Config, OutOfMemory};
 use std::alloc::Global;
 use std::marker::Model;
-
-/// Most lines become lines of fewer bytes than so many times their own.
-const GROWTH: usize = 3;
+use std::thread::Threads;
 
 /// What a call of `Translator` gives: what the lines that it completes became, in their order, and the first bad line of all
 /// the input so far, if there is one.
@@ -20,6 +21,24 @@ const GROWTH: usize = 3;
 pub struct Turned {
     pub bytes: Bytes,
     pub bad: Option<DdbLine>,
+}
+
+/// What a call of `Translator` gives, its text in pieces.
+#[derive(Drop, Debug)]
+pub struct TurnedInPieces {
+    pub pieces: Vec<Bytes>,
+    pub bad: Option<DdbLine>,
+}
+
+/// The same, with its text in one piece at most.
+pub fn in_pieces(alloc: Global, turned: Turned) -> Result<TurnedInPieces, OutOfMemory>
+    ensures text { IfOk result (λ same. concat same.pieces.items ≡ turned.bytes) }
+    ensures bad { IfOk result (λ same. same.bad ≡ turned.bad) }
+{
+    let Turned { bytes, bad } = turned;
+    let mut pieces = Vec::new(alloc);
+    push_piece(&mut pieces, bytes)?;
+    Ok(TurnedInPieces { pieces, bad })
 }
 
 /// A translator of lines of a DynamoDB stream into lines of a stream's input, in any pieces of bytes.
@@ -55,6 +74,26 @@ fn feed_piece(alloc: Global, reading: &mut Splitter, piece: &[u8]) -> Result<Tur
     })
 }
 
+fn feed_piece_parallel<R: Threads + Sync>(
+    rt: &R,
+    alloc: Global,
+    threads: usize,
+    reading: &mut Splitter,
+    piece: &[u8],
+) -> Result<TurnedInPieces, OutOfMemory>
+    ensures read { IfOk result (λ turned. (bytes before : List ℕ) → HasRead bytes before [] (state_of reading.old)
+        → HasRead (bytes ++ piece.now) before (concat turned.pieces.items) (state_of reading.new)) }
+    ensures bad { IfOk result (λ turned. turned.bad ≡ reading.new.bad) }
+    ensures source { reading.new.source ≡ reading.old.source }
+{
+    let mut pieces = Vec::new(alloc);
+    read_parallel(rt, alloc, threads, reading, &mut pieces, piece)?;
+    Ok(TurnedInPieces {
+        pieces,
+        bad: reading.bad,
+    })
+}
+
 fn read_end(alloc: Global, reading: &mut Splitter) -> Result<Turned, OutOfMemory>
     ensures read { IfOk result (λ turned. (bytes before : List ℕ) → HasRead bytes before [] (state_of reading.old)
         → Stands (translation_of reading.old.source bytes) before turned.bytes (state_of reading.new)) }
@@ -71,7 +110,7 @@ fn read_end(alloc: Global, reading: &mut Splitter) -> Result<Turned, OutOfMemory
 
 impl Translator {
     /// A translator for the mapping's stream that was fed nothing. It copies the stream's region and ARN.
-    #[tactic(auto, using(crate::proofs::Feeds::fed_nothing))]
+    #[tactic(auto, unfolding(crate::specs::Translation::translation_so_far))]
     pub fn new(alloc: Global, config: &Config) -> Result<Translator, OutOfMemory>
         ensures fed { IfOk result (λ t. IsFed [] t.state) }
         ensures source { IfOk result (λ t. t.state.source ≡ source_of config.now) }
@@ -81,12 +120,7 @@ impl Translator {
         let source = Source::of(alloc, config)?;
         Ok(Translator {
             alloc,
-            reading: Splitter {
-                source,
-                good: 0,
-                begun: Vec::new(alloc),
-                bad: None,
-            },
+            reading: Splitter::new(alloc, source),
             failed: false,
             finished: false,
         })
@@ -114,6 +148,36 @@ impl Translator {
         }
         self.failed = true;
         let turned = feed_piece(self.alloc, &mut self.reading, piece)?;
+        self.failed = false;
+        Ok(turned)
+    }
+
+    /// Takes the next piece of the input as `feed` does, its lines turned on up to `threads` threads side by side and put
+    /// together in order. Where no thread can be made they are turned one after the other.
+    pub fn feed_parallel<R: Threads + Sync>(
+        &mut self,
+        rt: &R,
+        threads: usize,
+        piece: &[u8],
+    ) -> Result<TurnedInPieces, OutOfMemory>
+        requires { self.old.finished ≡ false }
+        ensures text { IfOk result (λ turned. (bytes : List ℕ) → IsFed bytes self.old.state
+            → (translation_so_far self.old.state.source bytes).text ++ concat turned.pieces.items
+            ≡ (translation_so_far self.old.state.source (bytes ++ piece.now)).text) }
+        ensures bad { IfOk result (λ turned. (bytes : List ℕ) → IsFed bytes self.old.state
+            → turned.bad ≡ (translation_so_far self.old.state.source (bytes ++ piece.now)).bad) }
+        ensures fed { OnOk result ((bytes : List ℕ) → IsFed bytes self.old.state → IsFed (bytes ++ piece.now) self.new.state) }
+        ensures good { OnOk result (self.new.failed ≡ false) }
+        ensures memory { OnErr result (self.new.failed ≡ true) }
+        ensures for_ever { self.old.failed ≡ true → IsErr result }
+        ensures source { self.new.state.source ≡ self.old.state.source }
+        ensures going { self.new.finished ≡ false }
+    {
+        if self.failed {
+            return Err(OutOfMemory);
+        }
+        self.failed = true;
+        let turned = feed_piece_parallel(rt, self.alloc, threads, &mut self.reading, piece)?;
         self.failed = false;
         Ok(turned)
     }

@@ -61,7 +61,8 @@ fn caller_room<F: Caller>(alloc: Global, trace: bool) -> Result<CallerRoom<F>, O
 }
 
 /// Reads and turns the input of the mapping, reserves the room for callers, and hands the input back as it was left.
-fn prepare<S: Source, F: Caller>(
+fn prepare<R: Threads + Sync, S: Source, F: Caller>(
+    rt: &R,
     alloc: Global,
     config: &Config,
     trace: bool,
@@ -73,7 +74,7 @@ fn prepare<S: Source, F: Caller>(
     ensures asked { IfOk result (λ p. p.0.room.trace ≡ trace) }
     ensures back { IfErr result (λ refused. IsRead S.faults S.left input refused.back) }
 {
-    let TurnedInput { source, text, end } = match turn_input(alloc, config, input) {
+    let TurnedInput { source, text, end } = match turn_input(rt, alloc, config, input) {
         Ok(turned) => turned,
         Err(refused) => return Err(refused),
     };
@@ -250,7 +251,7 @@ fn run_mapping<
         registry,
         callers,
     } = opened;
-    match prepare(alloc, &mapping.config, trace, input) {
+    match prepare(rt, alloc, &mapping.config, trace, input) {
         Ok((prepared, input)) => {
             let opened = Opened {
                 input,

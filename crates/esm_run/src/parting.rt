@@ -27,7 +27,14 @@ pub struct Rest<K, C, L> {
 pub fn parted<S, K, D, C, F, L>(
     world: World<S, K, D, C, F, L>,
 ) -> (RunDevices<S, D, F>, Rest<K, C, L>)
-    ensures devices { result.0 ≡ record { input = world.input; journal = world.journal; spare = world.spare; failures = world.failures; registry = world.registry; callers = world.callers } }
+    ensures devices { result.0 ≡ record {
+      input = world.input;
+      journal = world.journal;
+      spare = world.spare;
+      failures = world.failures;
+      registry = world.registry;
+      callers = world.callers;
+    } }
     ensures rest { result.1 ≡ record { out = world.out; clock = world.clock; door = world.door } }
 {
     let World {

@@ -36,7 +36,8 @@ fn redrive_ran<S, D, F>(
     ensures ended { IfOk result.end (λ e. IsRedriveEndingOf run.end e × (front ≡ Ok result.front)) }
     ensures began { result.began ≡ began.Redrive run.said }
     ensures trace { result.trace ≡ run.trace }
-    ensures devices { result.devices ≡ record { input = run.input; journal = run.journal; spare = run.spare; failures = run.dead; registry = registry; callers = callers } }
+    ensures devices { result.devices
+        ≡ record { input = run.input; journal = run.journal; spare = run.spare; failures = run.dead; registry = registry; callers = callers } }
 {
     let RedriveRun {
         end,

@@ -34,7 +34,8 @@ fn replay_ran<S, D, F>(
     ensures ended { IfOk result.end (λ e. IsReplayEndingOf run.end e × (front ≡ Ok result.front)) }
     ensures began { result.began ≡ began.Replay run.counts }
     ensures trace { result.trace ≡ run.trace }
-    ensures devices { result.devices ≡ record { input = run.input; journal = run.journal; spare = run.spare; failures = run.failures; registry = registry; callers = callers } }
+    ensures devices { result.devices
+        ≡ record { input = run.input; journal = run.journal; spare = run.spare; failures = run.failures; registry = registry; callers = callers } }
 {
     let ReplayRun {
         end,
