@@ -5,6 +5,6 @@ pub mod PlainMapping
 pub mod QueueLengths
 pub mod QueueExample
 pub mod EventBytes
-pub mod Building
+pub mod Elements
 pub mod WrittenDigits
 mod FailureLines

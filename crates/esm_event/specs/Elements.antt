@@ -1,20 +1,15 @@
 -- The elements of an event in the pieces that they are written by.
-use Rattle.std.specs.Prelude.{ℕ, List, ◌++◌, codes, Bool, true, false}
+use Rattle.std.specs.Prelude.{ℕ, List, ◌++◌, codes}
 use Rattle.std.specs.List.{flat_map}
 use Rattle.esm_model.specs.Numbers.{padded_decimal}
 use Rattle.esm_model.specs.JsonText.{escaped_byte}
-use Rattle.esm_model.specs.EventText.{base64_text, seconds_text}
+use Rattle.esm_model.specs.EventText.{base64_text, seconds_text, kinesis_part, identity_part}
 use Rattle.esm_model.specs.QueueEvent.{queue_record_text}
 use Rattle.esm_model.specs.declared.config.Config.{Config}
 use Rattle.esm_model.specs.Records.{Record}
 use Rattle.esm_model.specs.declared.received.Received.{Received}
 
--- a record's element up to its key: one that is not the first stands after a comma
-abbrev pub opening_text : Bool → List ℕ
-opening_text true = codes "{\"kinesis\":{\"kinesisSchemaVersion\":\"1.0\",\"partitionKey\":\""
-opening_text false = codes ",{\"kinesis\":{\"kinesisSchemaVersion\":\"1.0\",\"partitionKey\":\""
-
--- its key, sequence number, data and arrival
+-- a record's key, sequence number, data and arrival
 unfoldable pub content_text : Record → List ℕ
 content_text r =
     flat_map escaped_byte r.key ++ codes "\",\"sequenceNumber\":\"" ++ r.seq
@@ -30,6 +25,14 @@ identity_text shard =
 -- the element with this opening, identity and source
 unfoldable pub element_text : List ℕ → List ℕ → List ℕ → Record → List ℕ
 element_text opening identity source r = opening ++ content_text r ++ identity ++ r.seq ++ source
+
+-- a record's element, which ends with `source`
+unfoldable pub ending_in : List ℕ → Record → List ℕ
+ending_in source r = kinesis_part r ++ identity_part r ++ source
+
+-- one that is not the first stands after a comma
+unfoldable pub following_record : List ℕ → Record → List ℕ
+following_record source r = codes "," ++ ending_in source r
 
 -- a message's element that is not the first stands after a comma
 unfoldable pub following_message : Config → Received → List ℕ

@@ -1,17 +1,36 @@
 // The event of a call for a stream's batch.
-ghost use Rattle.std.specs.Prelude.{◌≡◌, ◌+◌, ◌-◌, ◌++◌, [], List, All, length, min, sum_by, OnOk, IfOk};
+ghost use Rattle.std.specs.Prelude.{◌≡◌, ◌+◌, ◌-◌, [], All, length, min, sum_by, IfOk};
 ghost use Rattle.std.specs.Option.{option_copied, ForSome};
 ghost use Rattle.esm_model.specs.Valid.{IsValidRecord, IsStreamConfig};
 ghost use Rattle.esm_model.specs.ValidCall.{IsValidWindowCall};
 ghost use Rattle.esm_model.specs.EventText.{record_text, event_text};
-ghost use Rattle.esm_model.specs.declared.config.Config.{Config};
-ghost use Rattle.esm_model.specs.Records.{Record};
-ghost use Rattle.esm_event.specs.Building.{IsEventOf};
 
-use crate::builder::StreamEvent;
+use crate::bytes::push_bytes;
 use crate::length::{frame_bytes, stream_bytes};
-use esm_model::{Config, OutOfMemory, Record, WindowCall};
+use crate::record::source_text;
+use crate::window::push_end;
+use crate::writing::push_records;
+use esm_model::{Config, Event, OutOfMemory, Record, WindowCall};
 use std::alloc::Global;
+
+/// The event of a call for these records of the stream, with the window's part where the call is one of a tumbling window
+/// (Lambda Developer Guide, "Using Lambda with Kinesis"). Only its beginning, its end and what each element says of its
+/// source are written: `write_event` writes the whole.
+pub fn event_of(
+    alloc: Global,
+    config: &Config,
+    records: Vec<Record>,
+    window: Option<&WindowCall>,
+) -> Result<Event, OutOfMemory>
+    requires { ForSome (option_copied window) IsValidWindowCall }
+    ensures { IfOk result (λ event. event ≡ event_text config.now records.items (option_copied window.entry)) }
+{
+    let head = Vec::from_slice(alloc, b"{\"Records\":[")?;
+    let source = source_text(alloc, config)?;
+    let mut tail = Vec::new(alloc);
+    push_end(&mut tail, config, window)?;
+    Ok(Event::of_records(head, records, source, tail))
+}
 
 /// The event's text for a batch of the stream, with the window's part where the call is one of a tumbling window
 /// (Lambda Developer Guide, "Using Lambda with Kinesis"). Its length is known before it is written, and it is written
@@ -31,22 +50,12 @@ pub fn stream_event(
         ≡ length (event_text config.now [] (option_copied window.entry))
         + sum_by (λ r. length (record_text config.now r)) batch.now + (length batch.now - 1)) }
 {
-    let room = event_bytes(config, batch, window);
-    let mut event = StreamEvent::begin(alloc, config, room)?;
-    push_all(&mut event, batch)?;
-    let text = event.finish(config, window)?;
+    let mut text = Vec::with_capacity(alloc, event_bytes(config, batch, window))?;
+    let source = source_text(alloc, config)?;
+    push_bytes(&mut text, b"{\"Records\":[")?;
+    push_records(alloc, &mut text, batch, source.as_slice())?;
+    push_end(&mut text, config, window)?;
     Ok(text)
-}
-
-/// Appends the elements of the records. After an `Err` a part of them may stand there.
-fn push_all(event: &mut StreamEvent, batch: &[Record]) -> Result<(), OutOfMemory>
-    ensures { OnOk result ((c : Config) (rs : List Record)
-        → IsEventOf c rs event.old → IsEventOf c (rs ++ batch.now) event.new) }
-{
-    for item in batch {
-        event.push(item)?;
-    }
-    Ok(())
 }
 
 /// The bytes of the event, or the greatest `usize` where they are more.

@@ -3,7 +3,6 @@
 //! Pure: values in, bytes out. No device, clock or thread.
 #![tactic(auto)]
 
-mod builder;
 pub mod bytes;
 mod dates;
 pub mod digits;
@@ -16,11 +15,12 @@ mod queue;
 mod queue_length;
 pub mod record;
 mod window;
+mod writing;
 
-pub use builder::StreamEvent;
 pub use esm_model::{Failure, Received, Response, WindowCall};
-pub use event::stream_event;
+pub use event::{event_of, stream_event};
 pub use failure::failure_text;
 pub use length::{frame_bytes, stream_bytes};
 pub use queue::queue_event;
 pub use queue_length::queue_bytes;
+pub use writing::write_event;

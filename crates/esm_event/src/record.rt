@@ -11,11 +11,16 @@ use base64::engine::general_purpose::STANDARD;
 use esm_model::{Config, OutOfMemory, Record};
 use std::alloc::Global;
 
+/// The bytes that room is made for at first, of what an element says of its source and of its shard.
+const SOURCE_BYTES: usize = 256;
+
+const IDENTITY_BYTES: usize = 83;
+
 /// What every element of the mapping's events ends with.
 pub(crate) fn source_text(alloc: Global, config: &Config) -> Result<Vec<u8>, OutOfMemory>
     ensures { IfOk result (λ text. text.items ≡ source_part config.now) }
 {
-    let mut out = Vec::new(alloc);
+    let mut out = Vec::with_capacity(alloc, SOURCE_BYTES)?;
     push_source(&mut out, config)?;
     Ok(out)
 }
@@ -40,7 +45,7 @@ fn push_source(out: &mut Vec<u8>, config: &Config) -> Result<(), OutOfMemory>
 pub(crate) fn identity_text(alloc: Global, shard: u64) -> Result<Vec<u8>, OutOfMemory>
     ensures { IfOk result (λ text. text.items ≡ identity_text shard) }
 {
-    let mut out = Vec::new(alloc);
+    let mut out = Vec::with_capacity(alloc, IDENTITY_BYTES)?;
     push_identity(&mut out, shard)?;
     Ok(out)
 }

@@ -1,13 +1,11 @@
 -- Patterns one after another.
-use Rattle.std.proofs.Common.{◌≡◌, ℕ, suc, ◌+◌, ◌<◌, List, [], ◌∷◌, ◌++◌, length, ◌==◌, drop, get_or, Bool, true, false, if◌then◌else◌, Option, Some, None, option_map, Result, Ok, Err, IfOk, Vec, Global, IsUtf8, arith, refl, ap, sym, subst, ◌∙◌, append_assoc, add-one, zero-add, add-zero, drop-cons, length-append}
+use Rattle.std.proofs.Common.{◌≡◌, ℕ, suc, ◌+◌, ◌<◌, List, [], ◌∷◌, ◌++◌, length, ◌==◌, drop, get_or, Bool, true, false, if◌then◌else◌, Option, None, option_map, Result, Ok, Err, IfOk, Vec, Global, IsUtf8, arith, refl, ap, sym, subst, ◌∙◌, append_assoc, add-one, zero-add, add-zero, drop-cons, length-append}
 use Rattle.std.specs.List.{list_any}
 use Rattle.std.specs.Str.{is_utf8}
 use Rattle.std.specs.Result.{result_map_both}
 use Rattle.std.proofs.lemmas.Str.{IsUtf8-from_is_utf8, is_utf8-from_IsUtf8}
 use Rattle.serde_json.specs.Data.{Data}
 use Rattle.serde_json.specs.Read.{read}
-use Rattle.serde_json.specs.View.{view}
-use Rattle.serde_json.specs.declared.value.Value.{Value}
 use Rattle.esm_model.specs.Json.{read_json}
 use Rattle.esm_model.specs.Filter.{Seen, fields_pass, in_message, in_record, patterns_pass}
 use Rattle.esm_model.specs.Pattern.{Fields, Refusal, Reads, read_pattern, read_patterns, with_first}
@@ -15,6 +13,8 @@ use Rattle.esm_model.specs.Records.{Record}
 use Rattle.esm_model.specs.declared.memory.OutOfMemory.{OutOfMemory}
 use Rattle.esm_model.specs.declared.item.Message.{Message}
 use Rattle.esm_filter.specs.Criteria.{patterns_view}
+use Rattle.esm_filter.specs.Found.{found_view}
+use Rattle.esm_filter.specs.declared.found.Found.{Found}
 use Rattle.esm_filter.specs.Named.{is_named, Like}
 use Rattle.esm_filter.specs.View.{fields_view}
 use Rattle.esm_filter.proofs.KeepLemmas.{like_none}
@@ -71,6 +71,9 @@ refused_pattern s ps ts i n t why within is count e =
 
 -- ---- what a document is judged by
 
+pub of_own_fields : (ps qs : List Tree) (found : List ℕ → Seen) (b : Bool) → qs ≡ ps → b ≡ patterns_pass (patterns_view qs) found → b ≡ patterns_pass (patterns_view ps) found
+of_own_fields ps qs found b same h = h ∙ ap (λ (us : List Tree). patterns_pass (patterns_view us) found) same
+
 pub judged_record : (ps qs : List Tree) (r : Record) (bytes : List ℕ) (o : Option Data) (b : Bool) → qs ≡ ps → bytes ≡ r.payload → Like (is_named (patterns_view qs)) (read_json bytes) o
     → b ≡ patterns_pass (patterns_view qs) (in_record r o) → b ≡ patterns_pass (patterns_view ps) (in_record r (read_json r.payload))
 judged_record ps qs r bytes o b same text like h =
@@ -98,6 +101,6 @@ no_text_at bytes false e not' = ap (λ (b : Bool). if b then read bytes else Non
 pub no_text : (names : List ℕ → Bool) (bytes : List ℕ) → ¬ IsUtf8 bytes → Like names (read_json bytes) None
 no_text names bytes not' = like_none names (read_json bytes) (no_text_at bytes (is_utf8 bytes) refl not')
 
-pub text_read : (names : List ℕ → Bool) (bytes text : List ℕ) (r : Result (Option Value) OutOfMemory) → IsUtf8 bytes → text ≡ bytes → IfOk r (λ o. Like names (read text) (option_map view o)) → IfOk r (λ o. Like names (read_json bytes) (option_map view o))
-text_read names bytes text (Ok o) utf8 same like = document_of_text names bytes text (option_map view o) utf8 same like
+pub text_read : (names : List ℕ → Bool) (bytes text : List ℕ) (r : Result (Option Found) OutOfMemory) → IsUtf8 bytes → text ≡ bytes → IfOk r (λ o. Like names (read text) (option_map found_view o)) → IfOk r (λ o. Like names (read_json bytes) (option_map found_view o))
+text_read names bytes text (Ok o) utf8 same like = document_of_text names bytes text (option_map found_view o) utf8 same like
 text_read names bytes text (Err e) utf8 same like = like

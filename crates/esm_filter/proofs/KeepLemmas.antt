@@ -1,12 +1,12 @@
 -- What is kept of a document's values: scalars, the leaves of lists, and the whole.
-use Rattle.std.proofs.Common.{◌≡◌, ℕ, List, [], ◌∷◌, ◌++◌, filter, length, Bool, true, Option, Some, None, append_assoc, refl, sym, ap, subst, ◌∙◌}
+use Rattle.std.proofs.Common.{◌≡◌, ℕ, List, [], ◌∷◌, ◌++◌, filter, Bool, true, Option, Some, None, append_assoc, refl, sym, ap, subst, ◌∙◌}
 use Rattle.json.specs.Token.{Token}
 use Rattle.json.specs.Json.{value}
 use Rattle.serde_json.specs.Data.{Data, null, boolean, number, string, array, object, Items, item}
 use Rattle.serde_json.specs.Read.{of_json, converted}
-use Rattle.serde_json.specs.View.{view, items_view}
-use Rattle.serde_json.specs.declared.value.Value.{Value}
-use Rattle.esm_model.specs.Leaves.{is_leaf, items_list, leaves}
+use Rattle.esm_model.specs.Leaves.{is_leaf, items_list}
+use Rattle.esm_filter.specs.Found.{found_view, items_view}
+use Rattle.esm_filter.specs.declared.found.Found.{Found}
 use Rattle.esm_filter.specs.Named.{KeepsValue, Like}
 use Rattle.esm_filter.proofs.LikeLemmas.{itself}
 
@@ -35,27 +35,27 @@ split_leaf (string s) ds = refl
 split_leaf (array es) ds = refl
 split_leaf (object ms) ds = refl
 
-one_more : (vs : List Value) (v : Value) → leaves_in (items_view (vs ++ v ∷ [])) ≡ leaves_in (items_view vs) ++ filter is_leaf (view v ∷ [])
+one_more : (vs : List Found) (v : Found) → leaves_in (items_view (vs ++ v ∷ [])) ≡ leaves_in (items_view vs) ++ filter is_leaf (found_view v ∷ [])
 one_more [] v = refl
 one_more (w ∷ vs) v =
-    let first : List Data = filter is_leaf (view w ∷ []) in
-    split_leaf (view w) (items_list (items_view (vs ++ v ∷ [])))
+    let first : List Data = filter is_leaf (found_view w ∷ []) in
+    split_leaf (found_view w) (items_list (items_view (vs ++ v ∷ [])))
     ∙ ap (λ (xs : List Data). first ++ xs) (one_more vs v)
-    ∙ sym (append_assoc first (leaves_in (items_view vs)) (filter is_leaf (view v ∷ [])))
-    ∙ ap (λ (xs : List Data). xs ++ filter is_leaf (view v ∷ [])) (sym (split_leaf (view w) (items_list (items_view vs))))
+    ∙ sym (append_assoc first (leaves_in (items_view vs)) (filter is_leaf (found_view v ∷ [])))
+    ∙ ap (λ (xs : List Data). xs ++ filter is_leaf (found_view v ∷ [])) (sym (split_leaf (found_view w) (items_list (items_view vs))))
 
 pub no_more : (xs : List Data) → xs ++ [] ≡ xs
 no_more [] = refl
 no_more (x ∷ xs) = ap (λ (ys : List Data). x ∷ ys) (no_more xs)
 
-abbrev pub Leaves : (Items → Items) → List Value → Type 0
+abbrev pub Leaves : (Items → Items) → List Found → Type 0
 Leaves before vs = (rest : Items) → leaves_in (before rest) ≡ leaves_in (items_view vs) ++ leaves_in rest
 
-pub next_leaf : (before : Items → Items) (vs ws : List Value) (v : Value) (d : Data) → filter is_leaf (d ∷ []) ≡ filter is_leaf (view v ∷ []) → ws ≡ vs ++ v ∷ [] → Leaves before vs → Leaves (λ ds. before (item d ds)) ws
+pub next_leaf : (before : Items → Items) (vs ws : List Found) (v : Found) (d : Data) → filter is_leaf (d ∷ []) ≡ filter is_leaf (found_view v ∷ []) → ws ≡ vs ++ v ∷ [] → Leaves before vs → Leaves (λ ds. before (item d ds)) ws
 next_leaf before vs ws v d same pushed were rest =
-    let last : List Data = filter is_leaf (view v ∷ []) in
+    let last : List Data = filter is_leaf (found_view v ∷ []) in
     were (item d rest)
     ∙ ap (λ (xs : List Data). leaves_in (items_view vs) ++ xs) (split_leaf d (items_list rest) ∙ ap (λ (xs : List Data). xs ++ leaves_in rest) same)
     ∙ sym (append_assoc (leaves_in (items_view vs)) last (leaves_in rest))
     ∙ ap (λ (xs : List Data). xs ++ leaves_in rest) (sym (one_more vs v))
-    ∙ ap (λ (us : List Value). leaves_in (items_view us) ++ leaves_in rest) (sym pushed)
+    ∙ ap (λ (us : List Found). leaves_in (items_view us) ++ leaves_in rest) (sym pushed)

@@ -3,10 +3,10 @@ use Rattle.std.proofs.Common.{◌≡◌, List, [], ◌∷◌, map, filter, lengt
 use Rattle.std.specs.List.{list_any}
 use Rattle.serde_json.specs.Data.{Data, null, boolean, number, string, array, object, Items}
 use Rattle.serde_json.specs.Find.{as_array}
-use Rattle.serde_json.specs.View.{view, items_view}
-use Rattle.serde_json.specs.declared.value.Value.{Value}
 use Rattle.esm_model.specs.Leaves.{is_leaf, leaves, items_list, leaf_passes, is_absence, test_passes, tests_pass}
 use Rattle.esm_model.specs.Pattern as spec
+use Rattle.esm_filter.specs.Found.{found_view, items_view}
+use Rattle.esm_filter.specs.declared.found.Found.{Found}
 use Rattle.esm_filter.specs.View.{test_view}
 use Rattle.esm_filter.specs.declared.pattern.Test.{Test}
 use Rattle.esm_filter.proofs.ViewLemmas.{any_view}
@@ -28,9 +28,9 @@ kept : (p : Data → Bool) (b : Bool) (d : Data) (ds : List Data) → ((b && p d
 kept p true d ds = refl
 kept p false d ds = refl
 
-any_leaf : (p : Data → Bool) (vs : List Value) → list_any (λ v. is_leaf (view v) && p (view v)) vs ≡ list_any p (filter is_leaf (items_list (items_view vs)))
+any_leaf : (p : Data → Bool) (vs : List Found) → list_any (λ v. is_leaf (found_view v) && p (found_view v)) vs ≡ list_any p (filter is_leaf (items_list (items_view vs)))
 any_leaf p [] = refl
-any_leaf p (v ∷ vs) = ap (λ b. (is_leaf (view v) && p (view v)) || b) (any_leaf p vs) ∙ kept p (is_leaf (view v)) (view v) (filter is_leaf (items_list (items_view vs)))
+any_leaf p (v ∷ vs) = ap (λ b. (is_leaf (found_view v) && p (found_view v)) || b) (any_leaf p vs) ∙ kept p (is_leaf (found_view v)) (found_view v) (filter is_leaf (items_list (items_view vs)))
 
 listed : (p : Data → Bool) (ds : Items) (d : Data) → Some ds ≡ as_array d → list_any p (filter is_leaf (items_list ds)) ≡ list_any p (leaves (Some d))
 listed p ds null h = absurd (cc)
@@ -40,9 +40,8 @@ listed p ds (string s) h = absurd (cc)
 listed p ds (array es) h = let same : ds ≡ es = cc in ap (λ xs. list_any p (filter is_leaf (items_list xs))) same
 listed p ds (object ms) h = absurd (cc)
 
-pub among : (p : Data → Bool) (d : Data) (vs ws : List Value) (r : Bool) → Some (items_view vs) ≡ as_array d → ws ≡ vs → r ≡ list_any (λ v. is_leaf (view v) && p (view v)) ws
-    → r ≡ list_any p (leaves (Some d))
-among p d vs ws r h same e = e ∙ ap (list_any (λ v. is_leaf (view v) && p (view v))) same ∙ any_leaf p vs ∙ listed p (items_view vs) d h
+pub among : (p : Data → Bool) (d : Data) (vs : List Found) (r : Bool) → Some (items_view vs) ≡ as_array d → r ≡ list_any (λ v. is_leaf (found_view v) && p (found_view v)) vs → r ≡ list_any p (leaves (Some d))
+among p d vs r h e = e ∙ any_leaf p vs ∙ listed p (items_view vs) d h
 
 -- no leaf
 pub absent : (ds : List Data) → not (list_any (λ d. true) ds) ≡ (length ds == 0)

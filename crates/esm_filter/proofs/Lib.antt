@@ -6,3 +6,5 @@ pub mod TextLemmas
 pub mod LikeLemmas
 pub mod Tokens
 pub mod KeepLemmas
+pub mod FoundLemmas
+pub mod OwnLemmas

@@ -1,13 +1,12 @@
 -- What no pattern tells apart: where a name of the patterns sees the same, they pass alike.
-use Rattle.std.proofs.Common.{◌≡◌, ℕ, List, [], ◌∷◌, ◌++◌, filter, cond, if◌then◌else◌, Bool, true, false, true≢false, ◌&&◌, ◌||◌, Option, Some, None, codes, string_bytes, bytes_eq, refl, sym, ap, ap₂, ◌∙◌}
-use Rattle.std.specs.Prelude.{is_some}
+use Rattle.std.proofs.Common.{◌≡◌, ℕ, List, [], ◌∷◌, filter, if◌then◌else◌, Bool, true, false, true≢false, ◌&&◌, ◌||◌, Option, Some, None, codes, bytes_eq, refl, sym, ap, ap₂, ◌∙◌}
 use Rattle.std.specs.List.{list_any}
 use Rattle.std.proofs.lemmas.Slice.Eq.{bytes_eq-Decides}
-use Rattle.serde_json.specs.Data.{Data, null, boolean, number, string, array, object, Items, item, Members, no_members, put}
+use Rattle.serde_json.specs.Data.{Data, null, boolean, number, string, array, object, Items, Members, put}
 use Rattle.serde_json.specs.Find.{get_member}
 use Rattle.serde_json.proofs.Views.{get_member-put, get_member-put_other}
-use Rattle.esm_model.specs.Filter.{Seen, plain, members_in, in_object, json_members, record_field, in_record, is_text_body, message_text, in_message, rule_passes, fields_pass, one_passes, patterns_pass}
-use Rattle.esm_model.specs.Leaves.{is_leaf, items_list, leaves, some_passes, tests_pass}
+use Rattle.esm_model.specs.Filter.{Seen, plain, in_object, json_members, record_field, in_record, is_text_body, message_text, in_message, rule_passes, fields_pass, one_passes, patterns_pass}
+use Rattle.esm_model.specs.Leaves.{is_leaf, leaves, some_passes, tests_pass}
 use Rattle.esm_model.specs.Pattern.{Rule, tests, nested, one_of, Fields, no_fields, field, Choices, no_choices, choice}
 use Rattle.esm_model.specs.Records.{Record}
 use Rattle.esm_model.specs.declared.item.Message.{Message}

@@ -2,14 +2,10 @@
 use Rattle.std.specs.Prelude.{ℕ, List, Option, option_map}
 use Rattle.std.specs.Borrow.{Bor}
 use Rattle.serde_json.specs.Data.{Data, string}
-use Rattle.serde_json.specs.View.{view}
-use Rattle.serde_json.specs.declared.value.Value.{Value}
 use Rattle.esm_model.specs.Filter.{Seen, members_in, in_object, in_record, in_message}
+use Rattle.esm_filter.specs.Found.{value_of}
 use Rattle.esm_filter.specs.declared.judge.Judged.{Judged}
 use Rattle.esm_filter.specs.declared.judge.Judged.TheVariants.{Within, OfRecord, OfMessage}
-
-abbrev pub value_of : Option (Bor Value) → Option Data
-value_of v = option_map (λ x. view x.now) v
 
 abbrev pub text_of : Option (Bor (List ℕ)) → Option Data
 text_of t = option_map (λ s. string s.now) t

@@ -1,23 +1,26 @@
 // The filter criteria of a mapping, and which records and messages pass them.
-ghost use Rattle.std.specs.Prelude.{◌≡◌, ◌==◌, ◌<◌, ◌^◌, length, option_map, IfOk};
+ghost use Rattle.std.specs.Prelude.{◌≡◌, ◌==◌, ◌<◌, ◌^◌, length, option_map, IfOk, IfSome, Option};
 ghost use Rattle.std.specs.List.{list_any};
+ghost use Rattle.serde_json.specs.Data.{Data};
 ghost use Rattle.serde_json.specs.Read.{read as read_text};
-ghost use Rattle.serde_json.specs.View.{view};
 ghost use Rattle.esm_model.specs.Json.{read_json};
 ghost use Rattle.esm_model.specs.Valid.{is_stream};
 ghost use Rattle.esm_model.specs.Filter.{fields_pass, in_message, in_record, patterns_pass};
 ghost use Rattle.esm_model.specs.Pattern.{read_pattern, read_patterns};
 ghost use Rattle.esm_filter.specs.Criteria.{IsOneRead, IsRead, JudgesMessages, JudgesRecords, patterns_of, patterns_view};
-ghost use Rattle.esm_filter.specs.Judged.{judged_view, value_of};
+ghost use Rattle.esm_filter.specs.Found.{found_view, value_of};
+ghost use Rattle.esm_filter.specs.Judged.{judged_view};
 ghost use Rattle.esm_filter.specs.View.{fields_view};
 
-use crate::document::{read_data, read_document};
+use crate::document::{read_bytes, read_document};
 use crate::error::{FilterError, ReadError};
+use crate::found::Found;
 use crate::judge::{Judged, fields_pass};
+use crate::own::one_pattern_may_pass;
 use crate::pattern::Rule;
 use crate::read::read_pattern;
+use crate::work::Work;
 use esm_model::{Kind, Message, OutOfMemory, Record, Text};
-use serde_json::Value;
 use std::alloc::Global;
 
 /// The filter criteria of a mapping: what passes one of the patterns passes, and everything where there are none.
@@ -66,8 +69,8 @@ fn read_all(alloc: Global, for_stream: bool, texts: &[Text]) -> Result<Criteria,
     Ok(Criteria { patterns })
 }
 
-fn lent(json: &Option<Value>) -> Option<&Value>
-    ensures { value_of result ≡ option_map view json.now }
+fn lent<'v, 'd>(json: &'v Option<Found<'d>>) -> Option<&'v Found<'d>>
+    ensures { value_of result ≡ option_map found_view json.now }
 {
     match json {
         Some(value) => Some(value),
@@ -75,13 +78,13 @@ fn lent(json: &Option<Value>) -> Option<&Value>
     }
 }
 
-fn one_passes(patterns: &[Vec<(String, Rule)>], found: Judged<'_>) -> bool
+fn one_passes(patterns: &[Vec<(String, Rule)>], found: Judged<'_, '_>) -> bool
     ensures { result ≡ list_any (λ p. fields_pass (fields_view p.items) (judged_view found.entry)) patterns.now }
 {
     patterns.iter().any(|p| fields_pass(p, found))
 }
 
-fn patterns_pass(patterns: &[Vec<(String, Rule)>], found: Judged<'_>) -> bool
+fn patterns_pass(patterns: &[Vec<(String, Rule)>], found: Judged<'_, '_>) -> bool
     ensures { result ≡ patterns_pass (patterns_view patterns.now) (judged_view found.entry) }
 {
     let none = patterns.is_empty();
@@ -91,28 +94,41 @@ fn patterns_pass(patterns: &[Vec<(String, Rule)>], found: Judged<'_>) -> bool
     one_passes(patterns, found)
 }
 
-fn record_passes<'a>(
+fn record_passes<'a, 'd>(
     patterns: &[Vec<(String, Rule)>],
     item: &'a Record,
-    json: &'a Option<Value>,
+    json: &'a Option<Found<'d>>,
 ) -> bool
-    ensures { result ≡ patterns_pass (patterns_view patterns.now) (in_record item.now (option_map view json.now)) }
+    ensures { result ≡ patterns_pass (patterns_view patterns.now) (in_record item.now (option_map found_view json.now)) }
 {
     let data = lent(json);
     let found = Judged::OfRecord(item, data);
     patterns_pass(patterns, found)
 }
 
-fn message_passes<'a>(
+fn message_passes<'a, 'd>(
     patterns: &[Vec<(String, Rule)>],
     item: &'a Message,
-    json: &'a Option<Value>,
+    json: &'a Option<Found<'d>>,
 ) -> bool
-    ensures { result ≡ patterns_pass (patterns_view patterns.now) (in_message item.now (option_map view json.now)) }
+    ensures { result ≡ patterns_pass (patterns_view patterns.now) (in_message item.now (option_map found_view json.now)) }
 {
     let body = lent(json);
     let found = Judged::OfMessage(item, body);
     patterns_pass(patterns, found)
+}
+
+/// Whether the record passes, where its own fields decide that.
+fn passes_without_data(patterns: &[Vec<(String, Rule)>], item: &Record) -> Option<bool>
+    ensures { IfSome result (λ b. (json : Option Data) → b ≡ patterns_pass (patterns_view patterns.now) (in_record item.now json)) }
+{
+    let found = Judged::OfRecord(item, None);
+    let passes = patterns_pass(patterns, found);
+    if passes {
+        return Some(true);
+    }
+    let may_pass = one_pattern_may_pass(patterns, found);
+    if may_pass { None } else { Some(false) }
 }
 
 impl Criteria {
@@ -134,21 +150,31 @@ impl Criteria {
     }
 
     /// Whether a stream's record passes; its data is decoded and read once at most, and not at all where there are no
-    /// patterns.
-    pub fn passes_record(&self, alloc: Global, item: &Record) -> Result<bool, OutOfMemory>
+    /// patterns or its own fields decide.
+    pub fn passes_record(
+        &self,
+        alloc: Global,
+        work: &mut Work,
+        item: &Record,
+    ) -> Result<bool, OutOfMemory>
         ensures { IfOk result (λ b. b ≡ patterns_pass (patterns_of self.now) (in_record item.now (read_json item.now.payload))) }
     {
-        let none = self.has_no_patterns();
-        if none {
-            return Ok(true);
-        }
         let patterns = self.patterns.as_slice();
-        let json = read_data(alloc, patterns, item)?;
+        if let Some(passes) = passes_without_data(patterns, item) {
+            return Ok(passes);
+        }
+        let decoded = item.decoded(alloc)?;
+        let json = read_bytes(alloc, patterns, work, decoded.as_slice())?;
         Ok(record_passes(patterns, item, &json))
     }
 
     /// Whether a queue's message passes; its body is read once at most, and not at all where there are no patterns.
-    pub fn passes_message(&self, alloc: Global, item: &Message) -> Result<bool, OutOfMemory>
+    pub fn passes_message(
+        &self,
+        alloc: Global,
+        work: &mut Work,
+        item: &Message,
+    ) -> Result<bool, OutOfMemory>
         ensures { IfOk result (λ b. b ≡ patterns_pass (patterns_of self.now) (in_message item.now (read_text item.now.body))) }
     {
         let none = self.has_no_patterns();
@@ -156,7 +182,7 @@ impl Criteria {
             return Ok(true);
         }
         let patterns = self.patterns.as_slice();
-        let json = read_document(alloc, patterns, item.body.as_str())?;
+        let json = read_document(alloc, patterns, work, item.body.as_str())?;
         Ok(message_passes(patterns, item, &json))
     }
 }

@@ -3,45 +3,45 @@ ghost use Rattle.std.specs.Prelude.{◌≡◌, if◌then◌else◌, ◌&&◌, �
 ghost use Rattle.std.specs.List.{list_any};
 ghost use Rattle.serde_json.specs.Data as json_data;
 ghost use Rattle.serde_json.specs.Find.{get_member};
-ghost use Rattle.serde_json.specs.View.{view};
 ghost use Rattle.esm_model.specs.Filter.{members_in, json_members, is_text_body, record_field, message_text, rule_passes, fields_pass, one_passes};
 ghost use Rattle.esm_model.specs.Leaves.{is_leaf, leaf_passes, leaves, some_passes, test_passes, tests_pass};
-ghost use Rattle.esm_filter.specs.Judged.{judged_view, value_of, text_of};
+ghost use Rattle.esm_filter.specs.Found.{found_view, value_of};
+ghost use Rattle.esm_filter.specs.Judged.{judged_view, text_of};
 ghost use Rattle.esm_filter.specs.View.{test_view, rule_view, fields_in, fields_view, choices_view};
 
+use crate::found::Found;
 use crate::leaf::{is_absence, is_passing_leaf, text_passes};
 use crate::pattern::{Rule, Test};
 use esm_model::{Message, Record};
-use serde_json::Value;
 
 /// The object that a pattern is judged over.
 #[derive(Clone, Copy, Drop)]
-pub(crate) enum Judged<'a> {
+pub(crate) enum Judged<'a, 'd> {
     /// The members of a JSON object; a value that is none, or is absent, has no members.
-    Within(Option<&'a Value>),
+    Within(Option<&'a Found<'d>>),
     /// A stream's record, and its data where that is JSON.
-    OfRecord(&'a Record, Option<&'a Value>),
+    OfRecord(&'a Record, Option<&'a Found<'d>>),
     /// A queue's message, and its body where that is JSON.
-    OfMessage(&'a Message, Option<&'a Value>),
+    OfMessage(&'a Message, Option<&'a Found<'d>>),
 }
 
 /// Whether one leaf of the value passes.
-fn leaves_pass(value: &Value, test: &Test) -> bool
-    ensures { result ≡ list_any (leaf_passes (test_view test.now)) (leaves (Some (view value.now))) }
+fn leaves_pass(value: &Found<'_>, test: &Test) -> bool
+    ensures { result ≡ list_any (leaf_passes (test_view test.now)) (leaves (Some (found_view value.now))) }
 {
-    match value.as_array() {
-        Some(items) => items_pass(items.as_slice(), test),
+    match value.items() {
+        Some(items) => items_pass(items, test),
         None => is_passing_leaf(value, test),
     }
 }
 
-fn items_pass(items: &[Value], test: &Test) -> bool
-    ensures { result ≡ list_any (λ v. is_leaf (view v) && leaf_passes (test_view test.now) (view v)) items.now }
+fn items_pass(items: &[Found<'_>], test: &Test) -> bool
+    ensures { result ≡ list_any (λ v. is_leaf (found_view v) && leaf_passes (test_view test.now) (found_view v)) items.now }
 {
     items.iter().any(|item| is_passing_leaf(item, test))
 }
 
-fn value_leaves_pass(value: Option<&Value>, test: &Test) -> bool
+fn value_leaves_pass(value: Option<&Found<'_>>, test: &Test) -> bool
     ensures { result ≡ list_any (leaf_passes (test_view test.now)) (leaves (value_of value.entry)) }
 {
     match value {
@@ -50,7 +50,7 @@ fn value_leaves_pass(value: Option<&Value>, test: &Test) -> bool
     }
 }
 
-fn value_passes(value: Option<&Value>, test: &Test) -> bool
+fn value_passes(value: Option<&Found<'_>>, test: &Test) -> bool
     ensures { result ≡ test_passes (leaves (value_of value.entry)) (test_view test.now) }
 {
     let absence = is_absence(test);
@@ -61,14 +61,14 @@ fn value_passes(value: Option<&Value>, test: &Test) -> bool
     }
 }
 
-fn value_passes_any(value: Option<&Value>, tests: &[Test]) -> bool
+fn value_passes_any(value: Option<&Found<'_>>, tests: &[Test]) -> bool
     ensures { result ≡ list_any (λ t. test_passes (leaves (value_of value.entry)) (test_view t)) tests.now }
 {
     tests.iter().any(|test| value_passes(value, test))
 }
 
 /// Whether one of the tests passes for the leaves of a field with this value.
-fn value_tests_pass(value: Option<&Value>, tests: &[Test]) -> bool
+fn value_tests_pass(value: Option<&Found<'_>>, tests: &[Test]) -> bool
     ensures { result ≡ tests_pass (map test_view tests.now) (leaves (value_of value.entry)) }
 {
     value_passes_any(value, tests)
@@ -132,17 +132,17 @@ fn message_text<'m>(message: &'m Message, key: &str) -> Option<&'m str>
     }
 }
 
-fn is_text_body(json: Option<&Value>) -> bool
+fn is_text_body(json: Option<&Found<'_>>) -> bool
     ensures { result ≡ is_text_body (value_of json.entry) }
 {
     match json {
-        Some(value) => !value.is_array() && !value.is_object(),
+        Some(value) => value.is_leaf(),
         None => true,
     }
 }
 
 /// The member of a value that is an object.
-fn member<'v>(value: Option<&'v Value>, key: &str) -> Option<&'v Value>
+fn member<'v, 'd>(value: Option<&'v Found<'d>>, key: &str) -> Option<&'v Found<'d>>
     ensures { value_of result ≡ get_member key.now (members_in (value_of value.entry)) }
 {
     match value {
@@ -151,7 +151,7 @@ fn member<'v>(value: Option<&'v Value>, key: &str) -> Option<&'v Value>
     }
 }
 
-fn body_tests_pass(message: &Message, json: Option<&Value>, tests: &[Test]) -> bool
+fn body_tests_pass(message: &Message, json: Option<&Found<'_>>, tests: &[Test]) -> bool
     ensures { result ≡ some_passes (tests_pass (map test_view tests.now))
         (if is_text_body (value_of json.entry) then Some (json_data.string message.now.body ∷ []) else None) }
 {
@@ -163,7 +163,7 @@ fn body_tests_pass(message: &Message, json: Option<&Value>, tests: &[Test]) -> b
     }
 }
 
-impl<'a> Judged<'a> {
+impl<'a, 'd> Judged<'a, 'd> {
     /// Whether one of the tests passes for the field's leaves.
     fn tests_pass(self, key: &str, tests: &[Test]) -> bool
         ensures { result ≡ some_passes (tests_pass (map test_view tests.now)) (judged_view self.entry key.now).leaves }
@@ -188,7 +188,7 @@ impl<'a> Judged<'a> {
     }
 
     /// The value of the field for an object pattern; `None` where that fails.
-    fn inner(self, key: &str) -> Option<Option<&'a Value>>
+    fn inner(self, key: &str) -> Option<Option<&'a Found<'d>>>
         ensures { option_map (λ v. members_in (value_of v)) result ≡ (judged_view self.entry key.now).members }
     {
         match self {
@@ -211,7 +211,7 @@ impl<'a> Judged<'a> {
     }
 }
 
-fn some_json(json: Option<&Value>) -> Option<Option<&Value>>
+fn some_json<'v, 'd>(json: Option<&'v Found<'d>>) -> Option<Option<&'v Found<'d>>>
     ensures { option_map (λ v. members_in (value_of v)) result ≡ json_members (value_of json.entry) }
 {
     match json {
@@ -220,8 +220,9 @@ fn some_json(json: Option<&Value>) -> Option<Option<&Value>>
     }
 }
 
+/// Whether the field with this key of the object meets the rule.
 #[cycle(judge)]
-fn rule_passes(rule: &Rule, key: &str, found: Judged<'_>) -> bool
+pub(crate) fn rule_passes(rule: &Rule, key: &str, found: Judged<'_, '_>) -> bool
     ensures { result ≡ rule_passes (rule_view rule.now) key.now (judged_view found.entry) }
 {
     match rule {
@@ -236,7 +237,7 @@ fn rule_passes(rule: &Rule, key: &str, found: Judged<'_>) -> bool
 
 /// Whether the object passes the object pattern with these members.
 #[cycle(judge)]
-pub(crate) fn fields_pass(fields: &Vec<(String, Rule)>, found: Judged<'_>) -> bool
+pub(crate) fn fields_pass(fields: &Vec<(String, Rule)>, found: Judged<'_, '_>) -> bool
     ensures { result ≡ fields_pass (fields_view fields.now.items) (judged_view found.entry) }
 {
     for member in fields {
@@ -248,7 +249,7 @@ pub(crate) fn fields_pass(fields: &Vec<(String, Rule)>, found: Judged<'_>) -> bo
 }
 
 #[cycle(judge)]
-fn one_passes(choices: &Vec<Rule>, found: Judged<'_>) -> bool
+fn one_passes(choices: &Vec<Rule>, found: Judged<'_, '_>) -> bool
     ensures { result ≡ one_passes (choices_view choices.now.items) (judged_view found.entry) }
 {
     for choice in choices {
@@ -260,7 +261,7 @@ fn one_passes(choices: &Vec<Rule>, found: Judged<'_>) -> bool
 }
 
 #[cycle(judge)]
-fn choice_passes(choice: &Rule, found: Judged<'_>) -> bool
+fn choice_passes(choice: &Rule, found: Judged<'_, '_>) -> bool
     ensures { result ≡ fields_pass (fields_in (rule_view choice.now)) (judged_view found.entry) }
 {
     match choice {

@@ -3,12 +3,14 @@ ghost use Rattle.std.specs.Prelude.{◌≡◌, ◌&&◌};
 ghost use Rattle.std.specs.List.{list_any, list_all};
 ghost use Rattle.serde_json.specs.Data as json;
 ghost use Rattle.serde_json.specs.Find.{as_i64};
-ghost use Rattle.serde_json.specs.View.{view, number_view};
+ghost use Rattle.serde_json.specs.View.{number_view};
 ghost use Rattle.esm_model.specs.Leaves.{leaf_passes, is_leaf, is_absence, is_scalar, meets, some_passes};
+ghost use Rattle.esm_filter.specs.Found.{found_view};
 ghost use Rattle.esm_filter.specs.View.{bound_view, scalar_view, test_view};
 
+use crate::found::Found;
 use crate::pattern::{Bound, Comparison, Scalar, Test};
-use serde_json::{Number, Value};
+use serde_json::Number;
 
 /// Whether the number keeps to the bound.
 fn meets(number: i64, bound: &Bound) -> bool
@@ -120,15 +122,15 @@ fn null_passes(test: &Test) -> bool
 }
 
 /// A leaf that passes: false for a list and for an object.
-pub(crate) fn is_passing_leaf(value: &Value, test: &Test) -> bool
-    ensures { result ≡ (is_leaf (view value.now) && leaf_passes (test_view test.now) (view value.now)) }
+pub(crate) fn is_passing_leaf(value: &Found<'_>, test: &Test) -> bool
+    ensures { result ≡ (is_leaf (found_view value.now) && leaf_passes (test_view test.now) (found_view value.now)) }
 {
     match value {
-        Value::Null => null_passes(test),
-        Value::Bool(truth) => truth_passes(*truth, test),
-        Value::Number(number) => number_passes(number, test),
-        Value::String(text) => text_passes(text.as_str(), test),
-        Value::Array(_) | Value::Object(_) => false,
+        Found::Null => null_passes(test),
+        Found::Bool(truth) => truth_passes(*truth, test),
+        Found::Number(number) => number_passes(number, test),
+        Found::Text(text) => text_passes(text, test),
+        Found::Array(_) | Found::Object(_) => false,
     }
 }
 

@@ -7,15 +7,19 @@
 mod criteria;
 mod document;
 mod error;
+mod found;
 mod judge;
 mod leaf;
 mod names;
 mod number;
 mod operator;
+mod own;
 mod pattern;
 mod read;
 mod rules;
 mod scalar;
+mod work;
 
 pub use criteria::Criteria;
 pub use error::{FilterError, PatternError};
+pub use work::Work;

@@ -10,14 +10,14 @@ ghost use Rattle.esm_ledger.specs.Ledger.{past_of, setting_of, Keeps};
 ghost use Rattle.esm_ingest.specs.Coming.{FitPlaces};
 ghost use Rattle.esm_ingest.specs.Changes.{change_at, change_of, first_change, kept_otherwise, other_text};
 
-use esm_journal_state::Says;
+use esm_journal_state::{KeptText, Says};
 use esm_ledger::{Ledger, is_any_told};
 use esm_model::{Change, OutOfMemory, Record, Text};
 use std::alloc::Global;
 use std::collections::BTreeMap;
 
 /// The text that was kept with the fate of the shard's record at the place, if it has one.
-fn fate_text(said: &Says, shard: u64, place: u32) -> Option<&Text>
+fn fate_text(said: &Says, shard: u64, place: u32) -> Option<&KeptText>
     ensures { option_copied result ≡ option_map (λ (f : FoundFate). f.text) (fate_told said.now shard place) }
 {
     match said.fate(shard, place) {
@@ -27,7 +27,7 @@ fn fate_text(said: &Says, shard: u64, place: u32) -> Option<&Text>
 }
 
 /// The text that was kept with the tries of the shard's record at the place, if it has any.
-fn tries_text(said: &Says, shard: u64, place: u32) -> Option<&Text>
+fn tries_text(said: &Says, shard: u64, place: u32) -> Option<&KeptText>
     ensures { option_copied result ≡ option_map (λ (f : FoundTries). f.text) (tries_told said.now shard place) }
 {
     match said.tries(shard, place) {
@@ -37,7 +37,7 @@ fn tries_text(said: &Says, shard: u64, place: u32) -> Option<&Text>
 }
 
 /// The text, where there is one and it is another than the sequence number.
-fn other_text<'a>(seq: &[u8], kept: Option<&'a Text>) -> Option<&'a Text>
+fn other_text<'a>(seq: &[u8], kept: Option<&'a KeptText>) -> Option<&'a KeptText>
     ensures { option_copied result ≡ other_text seq.now (option_copied kept.entry) }
 {
     match kept {
@@ -53,7 +53,7 @@ fn other_text<'a>(seq: &[u8], kept: Option<&'a Text>) -> Option<&'a Text>
 }
 
 /// What was kept of the record at the place with its fate, else with its tries, where that is another text.
-fn kept_otherwise<'a>(ledger: &'a Ledger, item: &Record, place: u32) -> Option<&'a Text>
+fn kept_otherwise<'a>(ledger: &'a Ledger, item: &Record, place: u32) -> Option<&'a KeptText>
     ensures { option_copied result ≡ kept_otherwise (setting_of ledger.now) item.now.shard place item.now.seq }
 {
     match other_text(item.seq(), fate_text(&ledger.found, item.shard(), place)) {
@@ -67,7 +67,7 @@ fn change_from(
     alloc: Global,
     item: &Record,
     place: u32,
-    kept: Option<&Text>,
+    kept: Option<&KeptText>,
 ) -> Result<Option<Change>, OutOfMemory>
     ensures { IfOk result (λ change. change ≡ option_map (change_of item.now place) (option_copied kept.entry)) }
 {

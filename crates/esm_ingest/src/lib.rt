@@ -3,6 +3,7 @@
 //! Pure: values in, values out. No device, clock or thread.
 #![tactic(auto)]
 
+mod apart;
 mod change;
 mod group;
 pub mod laws;

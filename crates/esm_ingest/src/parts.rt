@@ -6,9 +6,10 @@ ghost use Rattle.esm_ledger.specs.Ledger.{past_of, setting_of, Keeps};
 ghost use Rattle.esm_ingest.specs.Coming.{FitPlaces, with_records};
 ghost use Rattle.esm_ingest.specs.Parts.{CanCome, grown_by, next_part, part, parts_of};
 
+use crate::apart::kept_apart;
 use crate::group::{Group, grouped};
 use crate::refusing::refused;
-use esm_filter::Criteria;
+use esm_filter::{Criteria, Work};
 use esm_ledger::Ledger;
 use esm_model::{OutOfMemory, Places, Record};
 use std::alloc::Global;
@@ -29,6 +30,7 @@ fn part_of(
     alloc: Global,
     ledger: &Ledger,
     criteria: &Criteria,
+    work: &mut Work,
     group: Group,
 ) -> Result<ShardRecords, OutOfMemory>
     requires kept { Keeps ledger.now }
@@ -42,10 +44,12 @@ fn part_of(
         alloc,
         &ledger.found,
         criteria,
+        work,
         shard,
         first,
         records.as_slice(),
     )?;
+    let records = kept_apart(alloc, records, first, places.as_slice())?;
     Ok(ShardRecords {
         shard,
         first,
@@ -74,8 +78,9 @@ pub fn by_shard(
 {
     let groups = grouped(alloc, items)?;
     let mut parts = Vec::new(alloc);
+    let mut work = Work::new();
     for group in groups {
-        let made = part_of(alloc, ledger, criteria, group)?;
+        let made = part_of(alloc, ledger, criteria, &mut work, group)?;
         parts.push(made)?;
     }
     Ok(parts)

@@ -4,7 +4,7 @@ ghost use Rattle.esm_model.specs.Setting.{Setting};
 ghost use Rattle.esm_ingest.specs.Parts.{is_refused_at, refused_from};
 ghost use Rattle.esm_ingest.specs.Judged.{IsJudgedBy};
 
-use esm_filter::Criteria;
+use esm_filter::{Criteria, Work};
 use esm_journal_state::Says;
 use esm_model::{OutOfMemory, Record};
 use std::alloc::Global;
@@ -14,6 +14,7 @@ fn is_refused(
     alloc: Global,
     said: &Says,
     criteria: &Criteria,
+    work: &mut Work,
     shard: u64,
     place: u32,
     item: &Record,
@@ -23,7 +24,7 @@ fn is_refused(
     match said.fate(shard, place) {
         Some(_) => Ok(false),
         None => {
-            let passes = criteria.passes_record(alloc, item)?;
+            let passes = criteria.passes_record(alloc, work, item)?;
             Ok(!passes)
         }
     }
@@ -34,6 +35,7 @@ pub fn refused(
     alloc: Global,
     said: &Says,
     criteria: &Criteria,
+    work: &mut Work,
     shard: u64,
     from: u32,
     items: &[Record],
@@ -44,7 +46,7 @@ pub fn refused(
     let mut places = Vec::new(alloc);
     for (i, item) in items.iter().enumerate() {
         let place = from + i as u32;
-        if is_refused(alloc, said, criteria, shard, place, item)? {
+        if is_refused(alloc, said, criteria, work, shard, place, item)? {
             places.push(place)?;
         }
     }

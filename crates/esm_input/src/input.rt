@@ -71,10 +71,30 @@ impl<S: Source> Model for Input<S> {
 
     ghost Value = { InputState S };
 
-    ghost view = { λ i. record { kind = i.lines.kind; factor = i.factor; start = i.start; found = i.found.value; source = i.source; bytes = i.lines.bytes; whole = i.whole; end = i.end; failed = i.failed } };
+    ghost view = { λ i. record {
+      kind = i.lines.kind;
+      factor = i.factor;
+      start = i.start;
+      found = i.found.value;
+      source = i.source;
+      bytes = i.lines.bytes;
+      whole = i.whole;
+      end = i.end;
+      failed = i.failed;
+    } };
 
     ghost invariant = { λ i. i.failed ≡ false
-        → IsReading S.faults S.left (record { kind = i.lines.kind; factor = i.factor; start = i.start; found = i.found.value; source = i.source; bytes = i.lines.bytes; whole = i.whole; end = i.end; failed = i.failed })
+        → IsReading S.faults S.left (record {
+          kind = i.lines.kind;
+          factor = i.factor;
+          start = i.start;
+          found = i.found.value;
+          source = i.source;
+          bytes = i.lines.bytes;
+          whole = i.whole;
+          end = i.end;
+          failed = i.failed;
+        })
         i.lines.finished i.counted i.positions.begun.items (vec_len i.buffer) };
 }
 
@@ -89,11 +109,12 @@ impl<S: Source> Input<S> {
         start: Start,
     ) -> Result<Input<S>, Refused<OutOfMemory, S>>
         requires factor { factor ≤ 10 }
-        ensures made { IfOk result (λ input. input ≡ record { kind = kind; factor = factor; start = start; found = source; source = source; bytes = []; whole = false; end = None; failed = false }) }
+        ensures made { IfOk result (λ input. input
+            ≡ record { kind = kind; factor = factor; start = start; found = source; source = source; bytes = []; whole = false; end = None; failed = false }) }
         ensures nothing { IfOk result (λ input. handed input ≡ []) }
         ensures back { IfErr result (λ refused. refused.back ≡ source) }
     {
-        let Ok(lines) = Lines::new(alloc, kind) else {
+        let Ok(lines) = Lines::for_lanes(alloc, kind, factor) else {
             return Err(Refused {
                 why: OutOfMemory,
                 back: source,
@@ -133,7 +154,8 @@ impl<S: Source> Input<S> {
         requires good { self.old.failed ≡ false }
         ensures handed { IfOk result (λ items. handed self.new ≡ handed self.old ++ items.items) }
         ensures valid { IfOk result (λ items. All (IsValidItem self.old.kind) items.items) }
-        ensures rest { OnOk result (self.new ≡ record self.old { source = self.new.source; bytes = self.new.bytes; whole = self.new.whole; end = self.new.end }) }
+        ensures rest { OnOk result (self.new
+            ≡ record self.old { source = self.new.source; bytes = self.new.bytes; whole = self.new.whole; end = self.new.end }) }
         ensures goes_on { IfOk result (λ _. self.new.end ≡ None → length self.old.bytes < length self.new.bytes) }
         ensures failed { OnErr result (self.new.failed ≡ true) }
         ensures found { self.new.found ≡ self.old.found }

@@ -110,7 +110,8 @@ pub(crate) fn take(
     requires within { IsWithin counted.old }
     requires few { factor ≤ 10 }
     ensures within { OnOk result (IsWithin counted.new) }
-    ensures taken { IfOk result (λ taken. IsTaken factor start whole counted.old counted.new positions.old.begun.items positions.new.begun.items fed.items.items fed.bad taken.items.items taken.end) }
+    ensures taken { IfOk result (λ taken. IsTaken factor start whole counted.old counted.new
+        positions.old.begun.items positions.new.begun.items fed.items.items fed.bad taken.items.items taken.end) }
 {
     let mut items = fed.items;
     let front = counted.count_front(factor, &items)?;

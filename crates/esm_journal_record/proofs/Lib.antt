@@ -2,6 +2,7 @@ pub mod Fronts
 pub mod WordLemmas
 pub mod Places
 pub mod Parts
+pub mod Gathers
 pub mod Fields
 pub mod Values
 pub mod Payloads

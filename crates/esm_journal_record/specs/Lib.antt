@@ -2,5 +2,6 @@ pub mod Payload
 pub mod Fronts
 pub mod Parsing
 pub mod Words
+pub mod Gathered
 pub mod EntryPayload
 pub mod WorkedPayloads

@@ -4,7 +4,9 @@ ghost use Rattle.std.specs.Int.{w32, w64};
 ghost use Rattle.esm_journal_record.specs.declared.field.ReadError.TheVariants.{Memory};
 ghost use Rattle.esm_journal_record.specs.Parsing.{Gives, number_at, byte_at, shard_at, moment_at, tries_at, fate_at, taken, text_at, flagged_at, fate_of};
 
-use esm_model::{Bytes, Fate, MAX_DATA, MAX_MOMENT, MAX_SHARD, MAX_TRIES, WindowState};
+use esm_model::{
+    Bytes, Fate, MAX_DATA, MAX_MOMENT, MAX_SHARD, MAX_TRIES, OutOfMemory, WindowState,
+};
 use std::alloc::{AllocError, AllocFailed, Global};
 
 /// Why a field could not be read.
@@ -26,6 +28,14 @@ impl<T: Drop> From<AllocFailed<T>> for ReadError {
     ghost from_gives = { λ _ e. e ≡ Memory };
 
     fn from(_: AllocFailed<T>) -> ReadError {
+        ReadError::Memory
+    }
+}
+
+impl From<OutOfMemory> for ReadError {
+    ghost from_gives = { λ _ e. e ≡ Memory };
+
+    fn from(_: OutOfMemory) -> ReadError {
         ReadError::Memory
     }
 }

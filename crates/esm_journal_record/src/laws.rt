@@ -57,7 +57,8 @@ pub fn payload_stays()
 
 /// The payloads of a legal history stay when the lists of records go on.
 pub fn history_payloads_stay()
-    ensures { (s : Setting) (after : List Stream) (h : List Entry) → Extends s.streams after → Legal s h → history_payloads (over s after) h ≡ history_payloads s h }
+    ensures { (s : Setting) (after : List Stream) (h : List Entry) → Extends s.streams after → Legal s h
+        → history_payloads (over s after) h ≡ history_payloads s h }
 {}
 
 /// What a history of threads tells of the journal is what its entries do.

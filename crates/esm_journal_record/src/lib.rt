@@ -3,6 +3,8 @@
 #![tactic(auto)]
 
 mod field;
+mod gathered;
+mod kept_text;
 pub mod laws;
 mod names;
 mod naming;
@@ -11,7 +13,9 @@ pub mod said;
 mod word;
 mod writing;
 
-pub use naming::{begin_fates, begin_tried, push_sequence};
+pub use gathered::GatheredTexts;
+pub use kept_text::{KeptText, KeptTexts};
+pub use naming::{begin_fates, begin_tried, push_sequence, replayed_bytes};
 pub use parsing::read_said;
 pub use said::Said;
 pub use writing::{fate_byte, said_bytes};

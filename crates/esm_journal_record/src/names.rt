@@ -1,39 +1,31 @@
 // Places with the texts that a payload keeps of them.
-ghost use Rattle.std.specs.Prelude.{◌≡◌, IfOk, IfErr};
-ghost use Rattle.std.specs.Str.{IsUtf8};
-ghost use Rattle.esm_journal_record.specs.declared.field.ReadError.TheVariants.{Memory};
+ghost use Rattle.std.specs.Prelude.{◌≡◌, IfOk, IsUtf8};
 ghost use Rattle.esm_journal_record.specs.Payload.{rises};
 ghost use Rattle.esm_journal_record.specs.Words.{test_of};
 ghost use Rattle.esm_journal_record.specs.Parsing.{Gives, name_at, names_at, named_at};
 
 use crate::field::{ReadError, read_byte, read_u32, take};
+use crate::gathered::GatheredTexts;
+use crate::kept_text::KeptTexts;
 use crate::word::{Word, is_word};
-use esm_model::{Places, Text, Texts};
+use esm_model::Places;
 use std::alloc::Global;
-use std::str;
+
+/// The bytes that a place and the length of its text take.
+const FRONT_BYTES: usize = 5;
 
 /// Places and, in the same order, the text of each.
 #[derive(Drop)]
 pub(crate) struct Named {
     pub places: Places,
-    pub texts: Texts,
+    pub texts: KeptTexts,
 }
 
-/// A copy of the text that the bytes are.
-fn copied(alloc: Global, bytes: &[u8]) -> Result<Text, ReadError>
-    requires { IsUtf8 bytes.now }
-    ensures ok { IfOk result (λ text. text ≡ bytes.now) }
-    ensures err { IfErr result (λ e. e ≡ Memory) }
-{
-    match str::from_utf8(bytes) {
-        Err(_) => Err(ReadError::NoPayload),
-        Ok(text) => Ok(Text::from_vec(String::from_str(alloc, text)?)),
-    }
-}
-
+/// A place, its text and the bytes behind them.
 #[tactic(auto, unfolding(crate::specs::Parsing::name_at))]
-fn read_name(alloc: Global, word: Word, bytes: &[u8]) -> Result<((u32, Text), &[u8]), ReadError>
-    ensures { Gives (λ x. ((x.0.0, x.0.1), x.1.now)) result (name_at (test_of word) bytes.now) }
+fn read_name(word: Word, bytes: &[u8]) -> Result<((u32, &[u8]), &[u8]), ReadError>
+    ensures read { Gives (λ x. ((x.0.0, x.0.1.now), x.1.now)) result (name_at (test_of word) bytes.now) }
+    ensures utf8 { IfOk result (λ x. IsUtf8 x.0.1.now) }
 {
     let (place, rest) = read_u32(bytes)?;
     let (count, rest) = read_byte(rest)?;
@@ -41,10 +33,10 @@ fn read_name(alloc: Global, word: Word, bytes: &[u8]) -> Result<((u32, Text), &[
     if !is_word(word, text) {
         return Err(ReadError::NoPayload);
     }
-    let text = copied(alloc, text)?;
     Ok(((place, text), rest))
 }
 
+/// So many places, each with its text. There is room for no more than the bytes can have.
 fn read_names(
     alloc: Global,
     word: Word,
@@ -53,20 +45,19 @@ fn read_names(
 ) -> Result<(Named, &[u8]), ReadError>
     ensures { Gives (λ x. (x.0, x.1.now)) result (names_at (test_of word) count bytes.now) }
 {
-    let mut places = Vec::new(alloc);
-    let mut texts = Vec::new(alloc);
+    let room = (count as usize).min(bytes.len() / FRONT_BYTES);
+    let mut places = Vec::with_capacity(alloc, room)?;
+    let mut texts = GatheredTexts::new(alloc, room, bytes.len())?;
     let mut rest = bytes;
     for _ in 0..count {
-        let ((place, text), after) = read_name(alloc, word, rest)?;
+        let ((place, text), after) = read_name(word, rest)?;
         places.push(place)?;
-        texts.push(text)?;
+        texts = texts.with(text)?;
         rest = after;
     }
-    let named = Named {
-        places: Places::from_vec(places),
-        texts: Texts::from_vec(texts),
-    };
-    Ok((named, rest))
+    let texts = texts.into_texts(alloc)?;
+    let places = Places::from_vec(places);
+    Ok((Named { places, texts }, rest))
 }
 
 fn rises(places: &[u32]) -> bool

@@ -1,9 +1,10 @@
 // A payload of records, written name by name: what stands in front of the names, and then each of them.
 ghost use Rattle.std.specs.Prelude.{◌≡◌, ◌++◌, ℕ, List, length, IfOk, IfSome, OnOk};
 ghost use Rattle.esm_journal_record.specs.declared.said.Said.TheVariants as said;
-ghost use Rattle.esm_journal_record.specs.Payload.{payload_of, IsState, name_bytes, names_bytes};
+ghost use Rattle.esm_journal_record.specs.Payload.{payload_of, IsSaid, IsState, name_bytes, names_bytes};
 
-use crate::writing::{push_fates_front, push_name, push_tried_front};
+use crate::kept_text::KeptText;
+use crate::writing::{push_fates_front, push_name, push_replays, push_tried_front};
 use esm_model::{Fate, OutOfMemory, Record, WindowState};
 use std::alloc::Global;
 
@@ -46,6 +47,23 @@ pub fn begin_tried(
     let room = FRONT_ROOM + NAME_ROOM * count as usize;
     let mut out = Vec::with_capacity(alloc, room)?;
     push_tried_front(&mut out, shard, moment, tries, count)?;
+    Ok(out)
+}
+
+/// The payload that says of the records at the places, with these sequence numbers, that they are replayed.
+pub fn replayed_bytes(
+    alloc: Global,
+    shard: u64,
+    moment: u64,
+    places: &[u32],
+    numbers: &[KeptText],
+) -> Result<Vec<u8>, OutOfMemory>
+    requires { IsSaid (said.Replayed shard moment places.now numbers.now) }
+    ensures { IfOk result (λ bytes. bytes.items ≡ payload_of (said.Replayed shard moment places.now numbers.now)) }
+{
+    let room = FRONT_ROOM + NAME_ROOM * (places.len() as u32) as usize;
+    let mut out = Vec::with_capacity(alloc, room)?;
+    push_replays(&mut out, shard, moment, places, numbers)?;
     Ok(out)
 }
 

@@ -1,5 +1,6 @@
 // What one payload of a mapping's journal says: fates, deletions, window states, failed tries and replays.
-use esm_model::{Fate, Places, Texts, WindowState};
+use crate::kept_text::KeptTexts;
+use esm_model::{Fate, Places, WindowState};
 
 /// What one payload of a mapping's journal says. Moments and the starts of windows are in milliseconds since 1970;
 /// places count a shard's records, or a queue's messages, from 0, and rise strictly. Of each record its sequence
@@ -13,7 +14,7 @@ pub enum Said {
         moment: u64,
         state: Option<WindowState>,
         places: Places,
-        texts: Texts,
+        texts: KeptTexts,
     },
     /// A tumbling window was closed.
     Closed {
@@ -26,7 +27,7 @@ pub enum Said {
         fate: Fate,
         moment: u64,
         places: Places,
-        texts: Texts,
+        texts: KeptTexts,
     },
     /// A tumbling window has this state.
     State {
@@ -40,7 +41,7 @@ pub enum Said {
         moment: u64,
         tries: u32,
         places: Places,
-        texts: Texts,
+        texts: KeptTexts,
     },
     /// The final call of a tumbling window has failed so often.
     WindowTried {
@@ -54,6 +55,6 @@ pub enum Said {
         shard: u64,
         moment: u64,
         places: Places,
-        texts: Texts,
+        texts: KeptTexts,
     },
 }

@@ -5,8 +5,9 @@ ghost use Rattle.esm_journal_record.specs.declared.said.Said.TheVariants as said
 ghost use Rattle.esm_journal_record.specs.Payload.{payload_of, IsSaid, eight, four, fate_byte, text_bytes, flagged_bytes, name_bytes, named_bytes, names_bytes, is_short};
 ghost use Rattle.esm_journal_record.specs.Fronts.{fates_front, tried_front};
 
+use crate::kept_text::{KeptText, KeptTexts};
 use crate::said::Said;
-use esm_model::{Bytes, Fate, OutOfMemory, Places, Text, Texts, WindowState};
+use esm_model::{Bytes, Fate, OutOfMemory, Places, WindowState};
 use std::alloc::Global;
 
 /// The payload that says so. Linear in its length.
@@ -101,7 +102,7 @@ pub(crate) fn push_name(out: &mut Vec<u8>, place: u32, text: &[u8]) -> Result<()
     Ok(())
 }
 
-fn push_names(out: &mut Vec<u8>, places: &[u32], texts: &[Text]) -> Result<(), OutOfMemory>
+fn push_names(out: &mut Vec<u8>, places: &[u32], texts: &[KeptText]) -> Result<(), OutOfMemory>
     requires same { length texts.now ≡ length places.now }
     requires short { list_all is_short texts.now ≡ true }
     ensures { OnOk result (out.new.items ≡ out.old.items ++ names_bytes places.now texts.now) }
@@ -113,7 +114,7 @@ fn push_names(out: &mut Vec<u8>, places: &[u32], texts: &[Text]) -> Result<(), O
 }
 
 #[tactic(auto, unfolding(crate::specs::Payload::named_bytes))]
-fn push_named(out: &mut Vec<u8>, places: &Places, texts: &Texts) -> Result<(), OutOfMemory>
+fn push_named(out: &mut Vec<u8>, places: &Places, texts: &KeptTexts) -> Result<(), OutOfMemory>
     requires few { length places.now < 2 ^ 32 }
     requires same { length texts.now ≡ length places.now }
     requires short { list_all is_short texts.now ≡ true }
@@ -159,7 +160,7 @@ fn push_fates(
     moment: u64,
     state: &Option<WindowState>,
     places: &Places,
-    texts: &Texts,
+    texts: &KeptTexts,
 ) -> Result<(), OutOfMemory>
     requires { IsSaid (said.Fates shard fate moment state.now places.now texts.now) }
     ensures { OnOk result (out.new.items ≡ out.old.items ++ payload_of (said.Fates shard fate moment state.now places.now texts.now)) }
@@ -184,7 +185,7 @@ fn push_deleted(
     fate: Fate,
     moment: u64,
     places: &Places,
-    texts: &Texts,
+    texts: &KeptTexts,
 ) -> Result<(), OutOfMemory>
     requires { IsSaid (said.Deleted fate moment places.now texts.now) }
     ensures { OnOk result (out.new.items ≡ out.old.items ++ payload_of (said.Deleted fate moment places.now texts.now)) }
@@ -235,7 +236,7 @@ fn push_tried(
     moment: u64,
     tries: u32,
     places: &Places,
-    texts: &Texts,
+    texts: &KeptTexts,
 ) -> Result<(), OutOfMemory>
     requires { IsSaid (said.Tried shard moment tries places.now texts.now) }
     ensures { OnOk result (out.new.items ≡ out.old.items ++ payload_of (said.Tried shard moment tries places.now texts.now)) }
@@ -267,14 +268,30 @@ fn push_replayed(
     shard: u64,
     moment: u64,
     places: &Places,
-    texts: &Texts,
+    texts: &KeptTexts,
+) -> Result<(), OutOfMemory>
+    requires { IsSaid (said.Replayed shard moment places.now texts.now) }
+    ensures { OnOk result (out.new.items ≡ out.old.items ++ payload_of (said.Replayed shard moment places.now texts.now)) }
+{
+    push_replays(out, shard, moment, places.as_slice(), texts.as_slice())
+}
+
+/// A payload of replays: the places and, in the same order, the sequence number of each.
+#[tactic(auto, unfolding(crate::specs::Payload::named_bytes))]
+pub(crate) fn push_replays(
+    out: &mut Vec<u8>,
+    shard: u64,
+    moment: u64,
+    places: &[u32],
+    texts: &[KeptText],
 ) -> Result<(), OutOfMemory>
     requires { IsSaid (said.Replayed shard moment places.now texts.now) }
     ensures { OnOk result (out.new.items ≡ out.old.items ++ payload_of (said.Replayed shard moment places.now texts.now)) }
 {
     push_kind(out, 7, shard)?;
     push_u64(out, moment)?;
-    push_named(out, places, texts)?;
+    push_u32(out, places.len() as u32)?;
+    push_names(out, places, texts)?;
     Ok(())
 }
 

@@ -24,7 +24,7 @@ use Rattle.esm_journal_state.specs.SaidLists.{SaidLists, FoundReplay, pair_cmp, 
 use Rattle.esm_journal_state.specs.Tells.{Tells, fate_of_found, tries_of_found, deletion_of_found}
 use Rattle.esm_journal_state.proofs.Finding.{at_pair, at_number, keys-made}
 
-pairs_total : IsTotalOrder pair_cmp
+pub pairs_total : IsTotalOrder pair_cmp
 pairs_total = then_total (on_total (λ (p : ℕ × ℕ). p.0) nat_cmp_total) (on_total (λ (p : ℕ × ℕ). p.1) nat_cmp_total)
 
 -- entries in order with the same look-ups are the same

@@ -13,7 +13,7 @@ use Rattle.esm_journal_state.specs.Meaning.{Known, any_named, is_spent, differs,
 
 -- order of places of one shard
 
-same_number : (n : ℕ) → nat_cmp n n ≡ Equal
+pub same_number : (n : ℕ) → nat_cmp n n ≡ Equal
 same_number n = rw (le-ltb n n (omega arith), eq-eqb n n refl) refl
 
 not_above : (i j : ℕ) → i ≤ j → is_gt (nat_cmp i j) ≡ false

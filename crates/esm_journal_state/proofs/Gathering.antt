@@ -11,6 +11,7 @@ use Rattle.esm_model.specs.declared.setup.FoundTries.{FoundTries}
 use Rattle.esm_model.specs.declared.setup.FoundState.{FoundState}
 use Rattle.esm_model.specs.declared.setup.FoundWindowTries.{FoundWindowTries}
 use Rattle.esm_journal_record.specs.declared.said.Said.{Said}
+use Rattle.esm_journal_state.specs.declared.kept.KeptFate.{KeptFate}
 use Rattle.esm_journal_state.specs.declared.table.Table.{Table}
 use Rattle.esm_journal_state.specs.declared.lookup.SaidState.{SaidState}
 use Rattle.esm_journal_state.specs.Table.{IsTable, HasOrder}
@@ -30,6 +31,14 @@ told_by t states = record {
   replays = map found_replay t.replays.keys;
   deletions = map found_deletion t.deletions.entries;
 }
+
+-- with the fates in a row
+abbrev pub told_with : Table → List ((ℕ × ℕ) × KeptFate) → List SaidState → SaidLists
+told_with t row states = record (told_by t states) { fates = map found_fate row }
+
+-- what is told by the maps is told by a row of the same fates
+pub with_row : (P : SaidLists → Type 0) (t : Table) (row : List ((ℕ × ℕ) × KeptFate)) (states : List SaidState) → row ≡ t.fates.entries → P (told_by t states) → P (told_with t row states)
+with_row P t row states same told = subst (λ (es : List ((ℕ × ℕ) × KeptFate)). P (told_with t es states)) (sym same) told
 
 replay_keys : (ks : List (ℕ × ℕ)) → map (λ (f : FoundReplay). (f.shard, f.place)) (map found_replay ks) ≡ ks
 replay_keys [] = refl

@@ -3,6 +3,7 @@ pub mod Recent
 pub mod Finding
 pub mod Frontiers
 pub mod Fresh
+pub mod FateRows
 pub mod Gathering
 pub mod Regrouping
 pub mod Joining

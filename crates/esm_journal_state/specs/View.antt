@@ -42,7 +42,7 @@ found_deletion e = record { place = e.0; fate = e.1.fate; text = e.1.text }
 
 abbrev pub told_of : Inside → SaidLists
 told_of a = record {
-  fates = map found_fate a.fates.entries;
+  fates = map found_fate a.fates.items;
   tries = map found_tries a.tries.entries;
   states = map found_state a.states.items;
   window_tries = map found_window_tries a.window_tries.entries;

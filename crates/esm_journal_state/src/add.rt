@@ -11,8 +11,8 @@ use crate::growing::{Growing, push_fates, raise};
 use crate::table::{
     drop_tries, keep_deletions, keep_replays, keep_some_state, keep_state, keep_tries,
 };
-use esm_journal_record::Said;
-use esm_model::{Fate, OutOfMemory, Places, Texts, WindowState};
+use esm_journal_record::{KeptTexts, Said};
+use esm_model::{Fate, OutOfMemory, Places, WindowState};
 
 /// Adds what one more payload says, whose texts it keeps. After an `Err` a part of it may stand there.
 pub(crate) fn add(growing: &mut Growing, said: Said) -> Result<(), OutOfMemory>
@@ -62,7 +62,7 @@ fn add_fates(
     fate: Fate,
     state: Option<WindowState>,
     places: &Places,
-    texts: Texts,
+    texts: KeptTexts,
 ) -> Result<(), OutOfMemory>
     requires { AreNamed is_sequence places.now texts }
     ensures { OnOk result ((h : List Said) (moment : ℕ) → IsGrown growing.old h
@@ -87,7 +87,7 @@ fn add_deleted(
     growing: &mut Growing,
     fate: Fate,
     places: &Places,
-    texts: Texts,
+    texts: KeptTexts,
 ) -> Result<(), OutOfMemory>
     requires { length texts ≡ length places.now }
     ensures { OnOk result ((h : List Said) (moment : ℕ) → IsGrown growing.old h
@@ -113,7 +113,7 @@ fn add_tried(
     shard: u64,
     tries: u32,
     places: &Places,
-    texts: Texts,
+    texts: KeptTexts,
 ) -> Result<(), OutOfMemory>
     requires { length texts ≡ length places.now }
     ensures { OnOk result ((h : List Said) (moment : ℕ) → IsGrown growing.old h

@@ -14,6 +14,7 @@ ghost use Rattle.esm_journal_state.specs.Tells.{Tells};
 ghost use Rattle.esm_journal_state.specs.SaidLists.{IsInOrder};
 ghost use Rattle.esm_journal_state.specs.View.{stated, number_with};
 
+use crate::fate_row::{row_of, starts_of};
 use crate::kept::{KeptFate, KeptTries};
 use crate::lookup::{SaidState, Says};
 use crate::table::{Place, Table, Window};
@@ -39,11 +40,13 @@ pub(crate) fn gathered(alloc: Global, table: Table) -> Result<Says, OutOfMemory>
         return Err(OutOfMemory);
     }
     let counts = counts_of(alloc, &fates)?;
+    let starts = starts_of(alloc, &counts)?;
     let frontiers = frontiers_of(alloc, &fates)?;
     let shards = shards_of(alloc, &fates, &tries, &states, &window_tries)?;
     let states = states_of(alloc, states)?;
+    let row = row_of(alloc, fates)?;
     Ok(Says {
-        fates,
+        fates: row,
         tries,
         states,
         window_tries,
@@ -51,6 +54,7 @@ pub(crate) fn gathered(alloc: Global, table: Table) -> Result<Says, OutOfMemory>
         deletions,
         shards,
         counts,
+        starts,
         frontiers,
     })
 }

@@ -12,8 +12,8 @@ ghost use Rattle.esm_journal_state.specs.Table.{IsTable, known_in, pair_cmp};
 
 use crate::kept::KeptFate;
 use crate::table::{Place, Table, empty_table};
-use esm_journal_record::Said;
-use esm_model::{Fate, OutOfMemory, Text};
+use esm_journal_record::{KeptText, Said};
+use esm_model::{Fate, OutOfMemory};
 use std::alloc::{AllocError, Global};
 use std::collections::BTreeMap;
 use std::mem;
@@ -24,7 +24,7 @@ pub(crate) struct Growing {
     pub table: Table,
     // in the order in which they came
     pub recent: Vec<(Place, KeptFate)>,
-    // for each shard the greatest place that has a fate
+    // for each shard with a fate a place, above which none of the shard has one
     pub tops: BTreeMap<u64, u32>,
 }
 
@@ -45,7 +45,7 @@ pub(crate) fn push_fates(
     shard: u64,
     fate: Fate,
     places: &[u32],
-    texts: Vec<Text>,
+    texts: Vec<KeptText>,
 ) -> Result<(), OutOfMemory>
     requires { length texts.items ≡ length places.now }
     ensures { OnOk result (recent.new.items ≡ recent.old.items ++ fates_named shard fate places.now texts.items) }
@@ -58,7 +58,7 @@ pub(crate) fn push_fates(
     Ok(())
 }
 
-/// Whether the place is above all of the shard that have a fate.
+/// Whether the place is above the shard's top, so that it has no fate.
 fn is_above(tops: &BTreeMap<u64, u32>, shard: u64, place: u32) -> bool
     ensures { result ≡ is_above (map.get nat_cmp tops.now shard) place }
 {
@@ -127,7 +127,7 @@ fn put_all(
     Ok(())
 }
 
-/// Puts the recent fates into the table's map.
+/// Puts the recent fates into the table's map. After an `Err` a part of them is lost.
 pub(crate) fn settle(alloc: Global, growing: &mut Growing) -> Result<(), OutOfMemory>
     ensures grown { OnOk result ((h : List Said) → IsGrown growing.old h → IsGrown growing.new h) }
     ensures table { OnOk result ((h : List Said) → IsGrown growing.old h → IsTable growing.new.table h) }

@@ -8,8 +8,8 @@ ghost use Rattle.esm_journal_state.specs.Table.{known_in, pair_cmp};
 
 use crate::kept::KeptFate;
 use crate::table::{Place, Table};
-use esm_journal_record::Said;
-use esm_model::{Fate, Text};
+use esm_journal_record::{KeptText, Said};
+use esm_model::Fate;
 use std::collections::BTreeMap;
 use std::ops::Bound;
 
@@ -46,7 +46,7 @@ pub(crate) fn is_bad(table: &Table, said: &Said) -> bool
     }
 }
 
-fn differs(kept: Option<&Text>, text: &Text) -> bool
+fn differs(kept: Option<&KeptText>, text: &KeptText) -> bool
     ensures { result ≡ differs (option_copied kept.entry) text.now }
 {
     match kept {
@@ -55,7 +55,7 @@ fn differs(kept: Option<&Text>, text: &Text) -> bool
     }
 }
 
-fn tried_text<'a>(table: &'a Table, shard: u64, place: u32) -> Option<&'a Text>
+fn tried_text<'a>(table: &'a Table, shard: u64, place: u32) -> Option<&'a KeptText>
     ensures { option_copied result ≡ tries_text ((known_in table.now).tries shard place) }
 {
     match table.tries.get(&(shard, place)) {
@@ -73,7 +73,7 @@ fn is_failure(fate: Fate) -> bool
     }
 }
 
-fn is_spent(table: &Table, shard: u64, place: u32, text: &Text) -> bool
+fn is_spent(table: &Table, shard: u64, place: u32, text: &KeptText) -> bool
     ensures { result ≡ is_spent (known_in table.now) shard place text.now }
 {
     table.fates.contains_key(&(shard, place)) || differs(tried_text(table, shard, place), text)
@@ -105,7 +105,7 @@ fn are_new(table: &Table, shard: u64, places: &[u32]) -> bool
     none_between(&table.fates, shard, places[0], places[places.len() - 1])
 }
 
-fn any_spent(table: &Table, shard: u64, places: &[u32], texts: &[Text]) -> bool
+fn any_spent(table: &Table, shard: u64, places: &[u32], texts: &[KeptText]) -> bool
     requires same { length texts.now ≡ length places.now }
     requires rising { rises places.now ≡ true }
     ensures { result ≡ any_named (is_spent (known_in table.now) shard) places.now texts.now }
@@ -121,7 +121,7 @@ fn any_spent(table: &Table, shard: u64, places: &[u32], texts: &[Text]) -> bool
     false
 }
 
-fn is_no_replay(table: &Table, shard: u64, place: u32, text: &Text) -> bool
+fn is_no_replay(table: &Table, shard: u64, place: u32, text: &KeptText) -> bool
     ensures { result ≡ is_no_replay (known_in table.now) shard place text.now }
 {
     match table.fates.get(&(shard, place)) {
@@ -134,7 +134,7 @@ fn is_no_replay(table: &Table, shard: u64, place: u32, text: &Text) -> bool
     }
 }
 
-fn any_no_replay(table: &Table, shard: u64, places: &[u32], texts: &[Text]) -> bool
+fn any_no_replay(table: &Table, shard: u64, places: &[u32], texts: &[KeptText]) -> bool
     requires { length texts.now ≡ length places.now }
     ensures { result ≡ any_named (is_no_replay (known_in table.now) shard) places.now texts.now }
 {
@@ -146,7 +146,7 @@ fn any_no_replay(table: &Table, shard: u64, places: &[u32], texts: &[Text]) -> b
     false
 }
 
-fn any_deleted(table: &Table, places: &[u32], texts: &[Text]) -> bool
+fn any_deleted(table: &Table, places: &[u32], texts: &[KeptText]) -> bool
     requires { length texts.now ≡ length places.now }
     ensures { result ≡ any_named (is_deleted (known_in table.now)) places.now texts.now }
 {

@@ -6,6 +6,7 @@
 mod add;
 mod compact;
 mod error;
+mod fate_row;
 mod gather;
 mod growing;
 mod history;
@@ -19,5 +20,6 @@ mod table;
 
 pub use compact::compacted;
 pub use error::SaysError;
+pub use esm_journal_record::KeptText;
 pub use history::says;
 pub use lookup::{Found, FoundTries, SaidState, SaidWindowTries, Says};

@@ -8,10 +8,12 @@ ghost use Rattle.esm_journal_state.specs.SaidLists.{fate_told, tries_told, windo
 ghost use Rattle.esm_journal_state.specs.Tells.{fate_of_found, tries_of_found, deletion_of_found};
 ghost use Rattle.esm_journal_state.specs.View.{found_state, found_window_tries, of_window};
 
+use crate::fate_row::fate_in;
 use crate::gather::number_at;
 use crate::kept::{KeptFate, KeptTries};
 use crate::table::{Place, Window};
-use esm_model::{Fate, OutOfMemory, Text, WindowState};
+use esm_journal_record::KeptText;
+use esm_model::{Fate, OutOfMemory, WindowState};
 use std::alloc::Global;
 use std::collections::{BTreeMap, BTreeSet};
 use std::marker::Model;
@@ -19,7 +21,8 @@ use std::marker::Model;
 /// What a list of payloads says of a shard's records and windows and of a queue's messages.
 #[derive(Drop)]
 pub struct Says {
-    pub(crate) fates: BTreeMap<Place, KeptFate>,
+    // in the order of shards and places
+    pub(crate) fates: Vec<(Place, KeptFate)>,
     pub(crate) tries: BTreeMap<Place, KeptTries>,
     pub(crate) states: Vec<SaidState>,
     pub(crate) window_tries: BTreeMap<Window, u32>,
@@ -28,6 +31,8 @@ pub struct Says {
     // the shards in rising order, how many places of each have a fate, and how many places from 0 have one in a row
     pub(crate) shards: Vec<u64>,
     pub(crate) counts: BTreeMap<u64, u32>,
+    // about where each shard's fates begin
+    pub(crate) starts: BTreeMap<u64, u32>,
     pub(crate) frontiers: BTreeMap<u64, u32>,
 }
 
@@ -61,22 +66,24 @@ pub struct SaidWindowTries {
 #[derive(Clone, Copy, Debug)]
 pub struct Found<'a> {
     pub fate: Fate,
-    pub text: &'a Text,
+    pub text: &'a KeptText,
 }
 
 /// The failed tries of a record, with the sequence number that is kept of it.
 #[derive(Clone, Copy, Debug)]
 pub struct FoundTries<'a> {
     pub tries: u32,
-    pub text: &'a Text,
+    pub text: &'a KeptText,
 }
 
 impl Says {
-    /// The fate of the shard's record at the place; `None` exactly where no payload gave it one.
+    /// The fate of the shard's record at the place; `None` exactly where no payload gave it one. Where all places of the
+    /// shard up to this one have a fate, it costs a look-up of the shard alone, and else a binary search.
     pub fn fate(&self, shard: u64, place: u32) -> Option<Found<'_>>
         ensures { option_map (λ f. fate_kept f.fate f.text.now) result ≡ option_map fate_of_found (fate_told self.now shard place) }
     {
-        match self.fates.get(&(shard, place)) {
+        let start = number_at(&self.starts, shard);
+        match fate_in(self.fates.as_slice(), start, shard, place) {
             None => None,
             Some(kept) => Some(Found {
                 fate: kept.fate,

@@ -2,7 +2,8 @@
 ghost use Rattle.std.specs.Prelude.{◌≡◌, ◌<◌, ◌∷◌, reverse, IfOk, OnOk};
 ghost use Rattle.esm_journal_state.specs.Pieces.{piece_of, has_room, grown, piece_after, pieces};
 
-use esm_model::{MAX_BATCH, OutOfMemory, Places, Text, Texts};
+use esm_journal_record::{KeptText, KeptTexts};
+use esm_model::{MAX_BATCH, OutOfMemory, Places};
 use std::alloc::Global;
 use std::collections::BTreeMap;
 use std::marker::Model;
@@ -15,7 +16,7 @@ pub(crate) type Group = (u64, u32);
 pub(crate) struct Piece {
     group: Group,
     places: Vec<u32>,
-    texts: Vec<Text>,
+    texts: Vec<KeptText>,
 }
 
 impl Model for Piece {
@@ -27,7 +28,7 @@ impl Model for Piece {
 }
 
 impl Piece {
-    fn new(alloc: Global, group: Group, place: u32, text: Text) -> Result<Self, OutOfMemory>
+    fn new(alloc: Global, group: Group, place: u32, text: KeptText) -> Result<Self, OutOfMemory>
         ensures { IfOk result (λ p. p ≡ piece_of ((group, place), text)) }
     {
         let mut places = Vec::new(alloc);
@@ -47,7 +48,7 @@ impl Piece {
         self.group.0 == group.0 && self.group.1 == group.1 && self.places.len() < MAX_BATCH
     }
 
-    fn grow(&mut self, place: u32, text: Text) -> Result<(), OutOfMemory>
+    fn grow(&mut self, place: u32, text: KeptText) -> Result<(), OutOfMemory>
         ensures { OnOk result (self.new ≡ grown self.old ((self.old.group, place), text)) }
     {
         self.places.push(place)?;
@@ -62,11 +63,14 @@ impl Piece {
     }
 
     /// The places and their texts.
-    pub(crate) fn into_named(self) -> (Places, Texts)
+    pub(crate) fn into_named(self) -> (Places, KeptTexts)
         ensures places { result.0 ≡ self.places }
         ensures texts { result.1 ≡ self.texts }
     {
-        (Places::from_vec(self.places), Texts::from_vec(self.texts))
+        (
+            Places::from_vec(self.places),
+            KeptTexts::from_vec(self.texts),
+        )
     }
 }
 
@@ -76,7 +80,7 @@ fn add_place(
     pieces: &mut Vec<Piece>,
     group: Group,
     place: u32,
-    text: Text,
+    text: KeptText,
 ) -> Result<(), OutOfMemory>
     ensures { OnOk result (reverse pieces.new.items ≡ piece_after (reverse pieces.old.items) ((group, place), text)) }
 {
@@ -91,7 +95,7 @@ fn start(
     pieces: &mut Vec<Piece>,
     group: Group,
     place: u32,
-    text: Text,
+    text: KeptText,
 ) -> Result<(), OutOfMemory>
     ensures { OnOk result (reverse pieces.new.items ≡ piece_of ((group, place), text) ∷ reverse pieces.old.items) }
 {
@@ -105,7 +109,7 @@ fn go_on(
     mut last: Piece,
     group: Group,
     place: u32,
-    text: Text,
+    text: KeptText,
 ) -> Result<(), OutOfMemory>
     ensures { OnOk result (reverse pieces.new.items ≡ piece_after (last ∷ reverse pieces.old.items) ((group, place), text)) }
 {
@@ -121,7 +125,7 @@ fn go_on(
 /// The places in pieces of at most 10,000 of one group.
 pub(crate) fn pieces_of(
     alloc: Global,
-    named: BTreeMap<(Group, u32), Text>,
+    named: BTreeMap<(Group, u32), KeptText>,
 ) -> Result<Vec<Piece>, OutOfMemory>
     ensures { IfOk result (λ v. v.items ≡ pieces named.entries) }
 {

@@ -11,33 +11,26 @@ ghost use Rattle.esm_journal_state.specs.Table.{pair_cmp};
 use crate::kept::{KeptFate, KeptTries};
 use crate::piece::Group;
 use crate::table::Place;
-use esm_journal_record::fate_byte;
-use esm_model::{OutOfMemory, Text};
+use esm_journal_record::{KeptText, fate_byte};
+use esm_model::OutOfMemory;
 use std::alloc::Global;
 use std::collections::{BTreeMap, BTreeSet};
 
 /// Texts by group and place.
-pub(crate) type Named = BTreeMap<(Group, u32), Text>;
+pub(crate) type Named = BTreeMap<(Group, u32), KeptText>;
 
-/// Puts a copy of the text.
-fn put(
-    alloc: Global,
-    named: &mut Named,
-    group: Group,
-    place: u32,
-    text: &Text,
-) -> Result<(), OutOfMemory>
+/// Puts the text, which shares its bytes.
+fn put(named: &mut Named, group: Group, place: u32, text: &KeptText) -> Result<(), OutOfMemory>
     ensures { OnOk result ((q : Key) → map.get key_cmp named.new q
         ≡ (if is_eq (key_cmp (group, place) q) then Some text.now else map.get key_cmp named.old q)) }
 {
-    let text = text.copy(alloc)?;
+    let text = text.share()?;
     named.insert((group, place), text)?;
     Ok(())
 }
 
 /// Puts the text of a place that was replayed.
 fn put_replay(
-    alloc: Global,
     named: &mut Named,
     replays: &BTreeSet<Place>,
     place: Place,
@@ -49,7 +42,7 @@ fn put_replay(
     if !replays.contains(&place) {
         return Ok(());
     }
-    put(alloc, named, (place.0, 0), place.1, &kept.text)
+    put(named, (place.0, 0), place.1, &kept.text)
 }
 
 /// The fates by shard, fate and place.
@@ -64,7 +57,7 @@ pub(crate) fn by_fate(
     let _ = fates.len();
     for (place, kept) in fates {
         let group = (place.0, fate_byte(kept.fate) as u32);
-        put(alloc, &mut named, group, place.1, &kept.text)?;
+        put(&mut named, group, place.1, &kept.text)?;
     }
     let _ = named.len();
     Ok(named)
@@ -81,13 +74,7 @@ pub(crate) fn by_tries(
     let mut named = BTreeMap::new(alloc);
     let _ = tries.len();
     for (place, kept) in tries {
-        put(
-            alloc,
-            &mut named,
-            (place.0, kept.tries),
-            place.1,
-            &kept.text,
-        )?;
+        put(&mut named, (place.0, kept.tries), place.1, &kept.text)?;
     }
     let _ = named.len();
     Ok(named)
@@ -106,7 +93,7 @@ pub(crate) fn by_replay(
     let mut named = BTreeMap::new(alloc);
     let _ = fates.len();
     for (place, kept) in fates {
-        put_replay(alloc, &mut named, replays, *place, kept)?;
+        put_replay(&mut named, replays, *place, kept)?;
     }
     let _ = named.len();
     Ok(named)
@@ -125,7 +112,7 @@ pub(crate) fn by_deletion(
     let _ = deletions.len();
     for (place, kept) in deletions {
         let group = (0, fate_byte(kept.fate) as u32);
-        put(alloc, &mut named, group, *place, &kept.text)?;
+        put(&mut named, group, *place, &kept.text)?;
     }
     let _ = named.len();
     Ok(named)

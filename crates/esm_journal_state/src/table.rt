@@ -9,8 +9,8 @@ ghost use Rattle.esm_journal_state.specs.Meaning.{text_named, only_at, fate_kept
 ghost use Rattle.esm_journal_state.specs.Table.{pair_cmp, IsTable};
 
 use crate::kept::{KeptFate, KeptTries};
-use esm_journal_record::Said;
-use esm_model::{Bytes, Fate, OutOfMemory, Text, WindowState};
+use esm_journal_record::KeptText;
+use esm_model::{Bytes, Fate, OutOfMemory, WindowState};
 use std::alloc::Global;
 use std::collections::{BTreeMap, BTreeSet};
 
@@ -49,7 +49,7 @@ pub(crate) fn keep_tries(
     shard: u64,
     tries: u32,
     places: &[u32],
-    mut texts: Vec<Text>,
+    mut texts: Vec<KeptText>,
 ) -> Result<(), OutOfMemory>
     requires { length texts.items ≡ length places.now }
     ensures { OnOk result ((n i : ℕ) → map.get pair_cmp kept.new (n, i)
@@ -66,7 +66,7 @@ pub(crate) fn keep_deletions(
     deletions: &mut BTreeMap<u32, KeptFate>,
     fate: Fate,
     places: &[u32],
-    mut texts: Vec<Text>,
+    mut texts: Vec<KeptText>,
 ) -> Result<(), OutOfMemory>
     requires { length texts.items ≡ length places.now }
     ensures { OnOk result ((i : ℕ) → map.get nat_cmp deletions.new i

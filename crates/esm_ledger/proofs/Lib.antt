@@ -1,3 +1,4 @@
+pub mod ChunkSlots
 pub mod HeldRecords
 pub mod Holding
 pub mod Shards

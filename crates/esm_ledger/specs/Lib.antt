@@ -1,4 +1,5 @@
 pub mod Held
+pub mod Chunks
 pub mod Slots
 pub mod Shard
 pub mod Arriving

@@ -9,35 +9,58 @@ ghost use Rattle.esm_ledger.specs.Found.{HasFoundWindows};
 use crate::arriving::Landing;
 use crate::told::is_told;
 use esm_journal_state::{SaidState, SaidWindowTries, Says};
-use esm_model::{Fate, MAX_TRIES, OutOfMemory, Record, lane_of};
+use esm_model::{Fate, MAX_TRIES, OutOfMemory, Record};
 use esm_shard_index::Windows;
 use std::alloc::Global;
 
-/// The fate that was found of the record at the place; `told` says whether anything was found of its shard.
-fn fate_of(found: &Says, told: bool, shard: u64, place: u32) -> Option<Fate>
-    requires { told ≡ false → fate_told found.now shard place ≡ None }
-    ensures { result ≡ fate_for found.now shard place }
-{
-    if !told {
-        return None;
-    }
-    match found.fate(shard, place) {
-        None => None,
-        Some(told) => Some(told.fate),
-    }
+/// What the journal told at opening of a shard's records. Where it told nothing of the shard, none of them is looked up.
+#[derive(Drop)]
+pub struct ShardFound<'a> {
+    said: &'a Says,
+    shard: u64,
+    /// Whether it told anything of the shard.
+    any: bool,
+    ghost fates: { any ≡ false → (i : ℕ) → fate_told said.now shard i ≡ None },
+    ghost tries: { any ≡ false → (i : ℕ) → tries_told said.now shard i ≡ None },
 }
 
-/// The tries that were found of it, 10,001 at most.
-fn tries_of(found: &Says, told: bool, shard: u64, place: u32) -> Option<u32>
-    requires { told ≡ false → tries_told found.now shard place ≡ None }
-    ensures { result ≡ tries_for found.now shard place }
-{
-    if !told {
-        return None;
+impl<'a> ShardFound<'a> {
+    /// Of the shard, by what the journal told of all. Logarithmic in the number of shards that it told of.
+    pub fn of(said: &'a Says, shard: u64) -> ShardFound<'a>
+        ensures said { result.said.now ≡ said.now }
+        ensures shard { result.shard ≡ shard }
+    {
+        ShardFound {
+            said,
+            shard,
+            any: is_told(said, shard),
+        }
     }
-    match found.tries(shard, place) {
-        None => None,
-        Some(told) => Some(capped(told.tries)),
+
+    /// The fate that was found of the record at the place.
+    fn fate(&self, place: u32) -> Option<Fate>
+        ensures { result ≡ fate_for self.now.said.now self.now.shard place }
+    {
+        if !self.any {
+            return None;
+        }
+        match self.said.fate(self.shard, place) {
+            None => None,
+            Some(found) => Some(found.fate),
+        }
+    }
+
+    /// The tries that were found of it, 10,001 at most.
+    fn tries(&self, place: u32) -> Option<u32>
+        ensures { result ≡ tries_for self.now.said.now self.now.shard place }
+    {
+        if !self.any {
+            return None;
+        }
+        match self.said.tries(self.shard, place) {
+            None => None,
+            Some(found) => Some(capped(found.tries)),
+        }
     }
 }
 
@@ -49,10 +72,8 @@ fn capped(tries: u32) -> u32
 
 /// Where the record at the place, with this found fate, comes to, if it has none and passes the filter.
 fn landing_of(
-    found: &Says,
-    told: bool,
+    found: &ShardFound,
     factor: u32,
-    shard: u64,
     place: u32,
     fate: Option<Fate>,
     item: &Record,
@@ -60,14 +81,13 @@ fn landing_of(
 ) -> Option<Landing>
     requires some { 1 ≤ factor }
     requires most { factor ≤ 10 }
-    requires fate { fate ≡ fate_for found.now shard place }
-    requires tries { told ≡ false → tries_told found.now shard place ≡ None }
-    ensures { result ≡ landing_for factor found.now shard place item.now passes }
+    requires fate { fate ≡ fate_for found.now.said.now found.now.shard place }
+    ensures { result ≡ landing_for factor found.now.said.now found.now.shard place item.now passes }
 {
     if passes && fate.is_none() {
         Some(Landing {
-            lane: lane_of(item.key(), factor),
-            tries: tries_of(found, told, shard, place),
+            lane: item.lane(factor),
+            tries: found.tries(place),
         })
     } else {
         None
@@ -82,12 +102,11 @@ pub struct Fated {
 }
 
 /// Of these records of the shard, from the place `first` on. Each is looked up once for its fate, and where it comes to a
-/// lane once for its tries; none is where nothing was found of the shard.
+/// lane once for its tries.
 pub fn found_records(
     alloc: Global,
-    found: &Says,
+    found: &ShardFound,
     factor: u32,
-    shard: u64,
     first: u32,
     records: &[Record],
     passing: &[bool],
@@ -96,17 +115,16 @@ pub fn found_records(
     requires most { factor ≤ 10 }
     requires few { first + length records.now ≤ u32.MAX }
     requires all { length passing.now ≡ length records.now }
-    ensures fates { IfOk result (λ f. f.fates.items ≡ fates_from found.now shard first records.now) }
-    ensures landings { IfOk result (λ f. f.landings.items ≡ landings_from factor found.now shard first records.now passing.now) }
+    ensures fates { IfOk result (λ f. f.fates.items ≡ fates_from found.now.said.now found.now.shard first records.now) }
+    ensures landings { IfOk result (λ f.
+        f.landings.items ≡ landings_from factor found.now.said.now found.now.shard first records.now passing.now) }
 {
-    let told = is_told(found, shard);
     let mut fates = Vec::with_capacity(alloc, records.len())?;
     let mut landings = Vec::with_capacity(alloc, records.len())?;
     for i in 0..records.len() {
         let place = first + i as u32;
-        let item = &records[i];
-        let fate = fate_of(found, told, shard, place);
-        let landing = landing_of(found, told, factor, shard, place, fate, item, passing[i]);
+        let fate = found.fate(place);
+        let landing = landing_of(found, factor, place, fate, &records[i], passing[i]);
         fates.push(fate)?;
         landings.push(landing)?;
     }
@@ -171,8 +189,8 @@ fn load_tries(windows: &mut Windows, tries: &[SaidWindowTries]) -> Result<(), Ou
     let mut index = tries.len();
     while index > 0 {
         index -= 1;
-        let told = tries[index];
-        windows.found_tries(told.window, capped(told.tries))?;
+        let found = tries[index];
+        windows.found_tries(found.window, capped(found.tries))?;
     }
     Ok(())
 }

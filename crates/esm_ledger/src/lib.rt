@@ -6,6 +6,8 @@
 mod adding;
 mod arriving;
 mod changing;
+mod chunk;
+mod chunks;
 mod coming;
 mod found;
 mod ledger;
@@ -18,6 +20,7 @@ mod records;
 mod shard;
 pub mod shard_laws;
 mod shard_steps;
+mod slots;
 mod told;
 mod upcoming;
 

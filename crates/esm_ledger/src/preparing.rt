@@ -13,7 +13,7 @@ use esm_model::OutOfMemory;
 use esm_shard_index::{Arrivals, Callings, LaneTable, Progress, Windows};
 use std::alloc::Global;
 
-/// Memory for the records and what stands beside them. After `OutOfMemory` they are as before.
+/// Memory for the records and what stands beside them. After `OutOfMemory` nothing has changed that contracts see.
 pub fn reserve_records(
     records: &mut Records,
     measures: &mut Vec<Measure>,
@@ -31,7 +31,7 @@ pub fn reserve_records(
     Ok(())
 }
 
-/// Memory for the records in the tables. After `OutOfMemory` what is told has not changed.
+/// Memory for the records in the tables. After `OutOfMemory` nothing has changed that contracts see.
 pub fn reserve_tables(
     progress: &mut Progress,
     arrivals: &mut Arrivals,
@@ -101,7 +101,7 @@ fn count_landings(
     Ok(counts)
 }
 
-/// Memory for the records in each of the lanes. After `OutOfMemory` what is told of the lanes has not changed.
+/// Memory for the records in each of the lanes. After `OutOfMemory` nothing has changed that contracts see.
 pub fn reserve_lanes(
     lanes: &mut LaneTable,
     alloc: Global,

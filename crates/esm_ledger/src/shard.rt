@@ -85,8 +85,8 @@ impl ShardLedger {
         self.lanes.reserve(alloc, lane, 0, 2)
     }
 
-    /// Memory for a state of the window and for a failed try of its final call. After `OutOfMemory` what is told of
-    /// windows has not changed.
+    /// Memory for a state of the window and for a failed try of its final call. After `OutOfMemory`
+    /// nothing has changed that contracts see.
     pub fn prepare_window(&mut self, window: u64) -> Result<(), OutOfMemory>
         ensures shard { self.new.shard ≡ self.old.shard }
         ensures records { self.new.records ≡ self.old.records }
@@ -98,8 +98,8 @@ impl ShardLedger {
         self.windows.prepare_window(window)
     }
 
-    /// Memory for records that are about to come; there are so many lanes. After `OutOfMemory` what is told of the shard
-    /// has not changed.
+    /// Memory for records that are about to come; there are so many lanes. After `OutOfMemory` nothing has
+    /// changed that contracts see.
     pub fn prepare_records(
         &mut self,
         alloc: Global,

@@ -18,7 +18,7 @@ ghost use Rattle.esm_ledger.specs.Measuring.{last_window};
 
 use crate::arriving::Arriving;
 use crate::coming::Coming;
-use crate::found::{Fated, found_records, found_windows};
+use crate::found::{Fated, ShardFound, found_records, found_windows};
 use crate::ledger::Ledger;
 use crate::measure::Measure;
 use crate::shard::ShardLedger;
@@ -49,16 +49,16 @@ fn arriving_of(
         ((k : ℕ) (r : Record) → slice_get records.items k ≡ Some r → record_at s shard (first + k) ≡ Some r) →
         TellsPassing s shard first records.items passing.now → AreArriving s shard first a) }
 {
-    let told = found_records(
+    let here = ShardFound::of(found, shard);
+    let fated = found_records(
         alloc,
-        found,
+        &here,
         config.factor,
-        shard,
         first,
         records.as_slice(),
         passing,
     )?;
-    let Fated { fates, landings } = told;
+    let Fated { fates, landings } = fated;
     Arriving::new(alloc, config, before, records, fates, landings)
 }
 

@@ -1,11 +1,14 @@
 -- Worked examples of the texts, computed.
-use Rattle.std.proofs.Common.{◌≡◌, ℕ, List, [], ◌∷◌, ◌++◌, length, codes, Some, None, true, refl}
+use Rattle.std.proofs.Common.{◌≡◌, ℕ, List, [], ◌∷◌, ◌++◌, length, codes, Option, Some, None, true, refl, ap, ◌∙◌}
 use Rattle.std.specs.Fmt.{digits}
+use Rattle.std.specs.List.{join_by}
+use Rattle.std.proofs.Math.Path.{fun_ext}
+use Rattle.std.proofs.lemmas.List.{append-nil, append_assoc}
 use Rattle.base64.specs.Rfc4648.{encode_symbols}
 use Rattle.esm_model.specs.Numbers.{last_digits}
 use Rattle.esm_model.specs.JsonText.{escaped_byte, quoted}
 use Rattle.esm_model.specs.Dates.{new_year, days_of_months, year_of, month_of, day_text, date_text, second_text}
-use Rattle.esm_model.specs.EventText.{base64_text, record_text, event_text}
+use Rattle.esm_model.specs.EventText.{base64_text, record_text, kinesis_part, identity_part, source_part, window_part, end_part, event_text, event_in}
 use Rattle.esm_model.specs.FailureText.{failure_text}
 use Rattle.esm_model.specs.declared.config.Config.{Config}
 use Rattle.esm_model.specs.Records.{Record}
@@ -23,6 +26,26 @@ date_text-leap_day = refl
 pub date_text-last : date_text 253402300799999 ≡ codes "9999-12-31T23:59:59.999Z"
 unfolding date_text day_text year_of month_of new_year days_of_months last_digits
 date_text-last = refl
+
+-- an event without elements is its beginning
+pub bare_event : (text : List ℕ) → event_in text [] [] [] ≡ text
+unfolding event_in
+bare_event text = append-nil (text ++ []) ∙ append-nil text
+
+-- each element ends with what it says of its source
+elements : (c : Config) → record_text c ≡ (λ r. kinesis_part r ++ identity_part r ++ source_part c)
+unfolding record_text
+elements c = fun_ext (λ r. refl)
+
+regrouped : (a b w z : List ℕ) → a ++ b ++ w ++ z ≡ a ++ (b ++ w ++ z)
+regrouped a b w z = ap (λ l. l ++ z) (append_assoc a b w) ∙ append_assoc a (b ++ w) z
+
+-- an event of a stream is made of its parts
+pub event_parts : (c : Config) (rs : List Record) (w : Option WindowCall) → event_text c rs w ≡ event_in (codes "{\"Records\":[") rs (source_part c) (end_part c w)
+unfolding event_text event_in
+event_parts c rs w =
+    ap (λ f. codes "{\"Records\":[" ++ join_by f (codes ",") rs ++ codes "]" ++ window_part c w ++ codes "}") (elements c)
+    ∙ regrouped (codes "{\"Records\":[" ++ join_by (λ r. kinesis_part r ++ identity_part r ++ source_part c) (codes ",") rs) (codes "]") (window_part c w) (codes "}")
 
 -- a mapping over the stream of the examples
 abbrev pub example_config : Config → Config

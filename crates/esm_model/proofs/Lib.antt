@@ -1,3 +1,4 @@
+pub mod LaneFacts
 pub mod EventFacts
 pub mod EventLength
 pub mod EncodedFacts

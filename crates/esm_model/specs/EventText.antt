@@ -75,6 +75,14 @@ abbrev pub window_part : Config → Option WindowCall → List ℕ
 window_part c None = []
 window_part c (Some w) = span_part c w ++ final_part c w
 
+-- what stands behind the elements of the records
+abbrev pub end_part : Config → Option WindowCall → List ℕ
+end_part c w = codes "]" ++ window_part c w ++ codes "}"
+
+-- an event that begins with `head`, has an element for each record, which ends with `source`, and ends with `tail`
+unfoldable pub event_in : List ℕ → List Record → List ℕ → List ℕ → List ℕ
+event_in head rs source tail = head ++ join_by (λ r. kinesis_part r ++ identity_part r ++ source) (codes ",") rs ++ tail
+
 -- the whole event
 unfoldable pub event_text : Config → List Record → Option WindowCall → List ℕ
 event_text c rs w =

@@ -33,6 +33,17 @@ pub record IsPart (text : List ℕ) (p : Part) (bytes : List ℕ) : Type 0 where
 abbrev pub encoded_in : List ℕ → List ℕ
 encoded_in text = unwrap_or (result_ok (decode_of standard text)) []
 
+-- the record whose number, key and data's base64 are these parts of the text
+abbrev pub record_in : List ℕ → ℕ → Part → Part → Part → ℕ → Record
+record_in text shard seq key payload arrival =
+    record {
+      shard = shard;
+      seq = part_of text seq;
+      key = part_of text key;
+      payload = encoded_in (part_of text payload);
+      arrival = arrival;
+    }
+
 -- the text is the base64 of so many bytes
 abbrev pub IsBase64Of : ℕ → List ℕ → Type 0
 IsBase64Of n text = (decode_of standard text ≡ Ok (encoded_in text)) × (text ≡ encode_of standard (encoded_in text)) × (length (encoded_in text) ≡ n)

@@ -1,7 +1,8 @@
 // What a book answers: jobs and pauses for the batchers, refusals, and the trouble that took it down.
+use crate::call_event::Event;
 use crate::lane::LaneId;
 use crate::memory::OutOfMemory;
-use crate::text::{Bytes, Places, Text};
+use crate::text::{Places, Text};
 
 /// A refusal of a call that took devices: why, and what it took.
 #[derive(Drop, Debug)]
@@ -38,13 +39,13 @@ pub enum Trouble {
     Changed(Change),
 }
 
-/// A call to make: the event's text is for the function, the rest names the batch.
+/// A call to make: the event is for the function, the rest names the batch.
 #[derive(Drop, Debug)]
 pub struct Job {
     pub lane: LaneId,
     pub places: Places,
     pub closing: Option<u64>,
-    pub event: Bytes,
+    pub event: Event,
 }
 
 /// What a batcher is to do.

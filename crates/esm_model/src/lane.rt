@@ -1,8 +1,11 @@
 // The lane of a shard, and the choice of a record's lane by its partition key.
-ghost use Rattle.std.specs.Prelude.{◌≡◌, ◌≤◌, ◌<◌};
+ghost use Rattle.std.specs.Prelude.{◌≡◌, ◌≤◌, ◌<◌, ℕ, List};
 ghost use Rattle.esm_model.specs.Lane as spec;
 
 use md5::{Digest, Md5};
+
+/// The least number that each number of lanes divides: a key's MD5 modulo it tells the lane for each of them.
+pub(crate) const LANES_MULTIPLE: u128 = 2_520;
 
 /// A lane of a shard: one of `ParallelizationFactor` many, each of which runs one batch at a time.
 #[derive(Clone, Copy, Debug, PartialEq, Eq)]
@@ -23,4 +26,22 @@ pub fn lane_of(key: &[u8], factor: u32) -> u32
     }
     let digest = Md5::digest(key);
     (u128::from_be_bytes(digest) % factor as u128) as u32
+}
+
+/// The MD5 of the key as a number, modulo `LANES_MULTIPLE`.
+pub(crate) fn mixed(key: &[u8]) -> u16
+    ensures { result ≡ spec.lane_of key.now 2520 }
+{
+    (u128::from_be_bytes(Md5::digest(key)) % LANES_MULTIPLE) as u16
+}
+
+/// The lane by that number, below the factor.
+#[tactic(auto, using(crate::proofs::LaneFacts::lane_mixed))]
+pub(crate) fn lane_by(mixed: u16, factor: u32) -> u32
+    requires some { 1 ≤ factor }
+    requires most { factor ≤ 10 }
+    ensures value { (key : List ℕ) → mixed ≡ spec.lane_of key 2520 → result ≡ spec.lane_of key factor }
+    ensures below { result < factor }
+{
+    mixed as u32 % factor
 }

@@ -5,6 +5,7 @@
 
 pub mod book;
 pub mod book_laws;
+pub mod call_event;
 pub mod called;
 pub mod config;
 pub mod device;
@@ -33,6 +34,7 @@ pub mod verdict;
 pub mod worked;
 
 pub use book::{BookError, BookOpen, CameError, Change, Job, Next, Refused, Trouble};
+pub use call_event::{Event, EventParts};
 pub use called::Called;
 pub use config::{Config, Kind, Start};
 pub use device::DeviceFound;

@@ -1,12 +1,14 @@
 // A record of a stream, whose texts are parts of one text that it may share with other records.
-ghost use Rattle.std.specs.Prelude.{◌≡◌, true, IsUtf8, Some, Ok, length, option_map, IfOk};
+ghost use Rattle.std.specs.Prelude.{◌≡◌, ◌≤◌, ◌<◌, true, IsUtf8, Some, Ok, length, option_map, IfOk};
 ghost use Rattle.std.specs.Result.{result_ok};
 ghost use Rattle.base64.specs.Engines.{standard};
 ghost use Rattle.base64.specs.GeneralPurpose.{IsBytes, decode_of};
 ghost use Rattle.esm_model.specs.EventText.{base64_text};
-ghost use Rattle.esm_model.specs.Records.{part_of, encoded_in, IsWithin, IsPart};
+ghost use Rattle.esm_model.specs.Lane.{lane_of};
+ghost use Rattle.esm_model.specs.Records.{part_of, record_in, encoded_in, IsWithin, IsPart};
 ghost use Rattle.esm_model.specs.Sequence.{is_sequence};
 
+use crate::lane::{lane_by, lane_of, mixed};
 use crate::memory::OutOfMemory;
 use crate::part::Part;
 use crate::sequence::Seq;
@@ -29,23 +31,21 @@ pub struct Record {
     payload: Part,
     /// Bytes of the data.
     len: u32,
+    /// By what its lane is chosen, where that was computed.
+    mixed: Option<u16>,
 }
 
 impl Model for Record {
-    ghost use Rattle.esm_model.specs.Records.{Record, ArePartsOf, part_of, encoded_in};
+    ghost use Rattle.std.specs.Prelude.{◌≡◌, IfSome};
+    ghost use Rattle.esm_model.specs.Lane.{lane_of};
+    ghost use Rattle.esm_model.specs.Records.{Record, ArePartsOf, part_of, record_in};
 
     ghost Value = { Record };
 
-    ghost view = { λ r. record {
-      shard = r.shard;
-      seq = part_of r.text r.seq;
-      key = part_of r.text r.key;
-      payload = encoded_in
-          (part_of r.text r.payload);
-      arrival = r.arrival;
-    } };
+    ghost view = { λ r. record_in r.text r.shard r.seq r.key r.payload r.arrival };
 
-    ghost invariant = { λ r. ArePartsOf r.text r.seq r.key r.payload r.len };
+    ghost invariant = { λ r. ArePartsOf r.text r.seq r.key r.payload r.len
+        × IfSome r.mixed (λ m. m ≡ lane_of (part_of r.text r.key) 2520) };
 }
 
 /// The texts of a record in a row, and which part is which.
@@ -102,14 +102,7 @@ impl Record {
         requires number { is_sequence (part_of text seq) ≡ true }
         requires utf8 { IsUtf8 (part_of text key) }
         requires encoded { option_map length (result_ok (decode_of standard (part_of text payload))) ≡ Some len }
-        ensures { result ≡ record {
-          shard = shard;
-          seq = part_of text seq;
-          key = part_of text key;
-          payload = encoded_in
-              (part_of text payload);
-          arrival = arrival;
-        } }
+        ensures { result ≡ record_in text shard seq key payload arrival }
     {
         are_bytes(payload.of(text.as_slice()));
         Record {
@@ -120,6 +113,7 @@ impl Record {
             key,
             payload,
             len,
+            mixed: None,
         }
     }
 
@@ -159,7 +153,44 @@ impl Record {
             key: self.key,
             payload: self.payload,
             len: self.len,
+            mixed: self.mixed,
         })
+    }
+
+    /// Computes by what its lane is chosen, so that `lane` computes no MD5 of the key. Contracts see no change.
+    pub fn mix(&mut self)
+        ensures { self.new ≡ self.old }
+    {
+        self.mixed = Some(mixed(self.key.of(self.text.as_slice())));
+    }
+
+    /// The number of its lane, below the factor.
+    pub fn lane(&self, factor: u32) -> u32
+        requires some { 1 ≤ factor }
+        requires most { factor ≤ 10 }
+        ensures value { result ≡ lane_of self.now.key factor }
+        ensures below { result < factor }
+    {
+        match self.mixed {
+            Some(mixed) => lane_by(mixed, factor),
+            None => lane_of(self.key(), factor),
+        }
+    }
+
+    /// A copy in a text of its own, which is let go when this copy is.
+    pub fn apart(&self, alloc: Global) -> Result<Record, OutOfMemory>
+        ensures { IfOk result (λ copy. copy ≡ self.now) }
+    {
+        let payload = self.payload.of(self.text.as_slice());
+        Record::of(
+            alloc,
+            self.shard,
+            self.seq(),
+            self.key_text(),
+            payload,
+            self.len,
+            self.arrival,
+        )
     }
 
     /// The number of its shard.
@@ -196,7 +227,7 @@ impl Record {
     }
 
     /// A copy of its sequence number.
-    pub fn number(&self, alloc: Global) -> Result<Seq, OutOfMemory>
+    pub fn sequence_copy(&self, alloc: Global) -> Result<Seq, OutOfMemory>
         ensures { IfOk result (λ s. s ≡ self.now.seq) }
     {
         Seq::of_digits(alloc, self.seq())

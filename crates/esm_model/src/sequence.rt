@@ -86,6 +86,7 @@ impl Seq {
         })
     }
 
+    /// The digits, as a text.
     pub fn text(&self) -> &str
         ensures value { result.now ≡ self.now }
         ensures spelled { is_sequence self.now ≡ true }
@@ -93,6 +94,7 @@ impl Seq {
         self.digits.as_str()
     }
 
+    /// The digits.
     pub fn digits(&self) -> &[u8]
         ensures value { result.now ≡ self.now }
         ensures spelled { is_sequence self.now ≡ true }

@@ -18,12 +18,12 @@ use Rattle.esm_model.specs.Step.{is_front_expired}
 use Rattle.esm_model.proofs.Lists.{In, In-here, In-there, In-take}
 use Rattle.esm_model.proofs.Sound.{open_In}
 use Rattle.esm_model.proofs.Records.{group_In}
-use Rattle.esm_ledger.specs.Reading.{IsLeastDueWindow}
+use Rattle.esm_ledger.specs.Reading.{IsLeastDueWindow, AreOpen}
 use Rattle.esm_next.specs.declared.decision.Decision.{Decision}
 use Rattle.esm_next.specs.declared.decision.Decision.TheVariants as decision
 use Rattle.esm_next.specs.Following.{outstanding, due_windows, least, is_nothing, pause, next_call, next_allowed, next_quiet, next_of}
 use Rattle.esm_next.specs.Deciding.{answer_of, Gives, IsDecided}
-use Rattle.esm_next.specs.Gathering.{AreOpen, IsFrontOf}
+use Rattle.esm_next.specs.Gathering.{IsFrontOf}
 use Rattle.esm_next.proofs.Told.{none_due, some_due, none_outstanding, some_outstanding}
 use Rattle.esm_next.proofs.Fronts.{ExpiresSo, expires_so, covered_group}
 

@@ -1,6 +1,5 @@
 -- What the cut of a batch looks at. Only this crate's proofs cite this.
 use Rattle.std.specs.Prelude.{◌≡◌, ℕ, ◌-◌, ◌≤◌, Bool, true, List, [], length, Option, Some, None, option_map, unwrap_or, slice_index, if◌then◌else◌}
-use Rattle.std.specs.List.{All}
 use Rattle.esm_model.specs.declared.limits.TheConstants.{MAX_EVENT}
 use Rattle.esm_model.specs.Records.{Record}
 use Rattle.esm_model.specs.declared.lane.LaneId.{LaneId}
@@ -8,7 +7,6 @@ use Rattle.esm_model.specs.declared.entry.Entry.{Entry}
 use Rattle.esm_model.specs.declared.event.WindowCall.{WindowCall}
 use Rattle.esm_model.specs.Setting.{Setting, record_at}
 use Rattle.esm_model.specs.Entries.{came_moment, is_shut}
-use Rattle.esm_model.specs.Fates.{lacks_fate}
 use Rattle.esm_model.specs.Tries.{is_fresh}
 use Rattle.esm_model.specs.Windows.{has_windows, window_of, window_state}
 use Rattle.esm_model.specs.EventText.{record_text, event_text}
@@ -50,10 +48,6 @@ pub record IsFrontOf (s : Setting) (h : List Entry) (lane : LaneId) (places : Li
   pub group_is : group s h lane ≡ places
   pub fresh_is : is_fresh s h lane.shard (slice_index places 0) ≡ fresh
   pub some : 1 ≤ length places
-
--- none of the shard's records at the places has a fate
-abbrev pub AreOpen : Setting → List Entry → ℕ → List ℕ → Type 0
-AreOpen s h n places = All (λ i. lacks_fate s h n i ≡ true) places
 
 -- until when a batch waits: one that is fresh and whose window is not over
 abbrev pub wait_of : Bool → Why → Option ℕ

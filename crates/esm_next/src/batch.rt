@@ -9,10 +9,11 @@ ghost use Rattle.esm_model.specs.Fates.{lacks_fate};
 ghost use Rattle.esm_model.specs.Batches.{is_expired};
 ghost use Rattle.esm_next.specs.Cuts.{IsLongestPrefix, why_of};
 ghost use Rattle.esm_ledger.specs.Ledger.{past_of, setting_of, Keeps};
+ghost use Rattle.esm_ledger.specs.Reading.{AreOpen};
 ghost use Rattle.esm_next.specs.Following.{next_batch};
 ghost use Rattle.esm_next.specs.Deciding.{IsWithinBounds, answer_of, Gives};
 ghost use Rattle.esm_next.specs.Gathering as spec;
-ghost use Rattle.esm_next.specs.Gathering.{piece_of, limits_of, frame_of, element_bytes, AreOpen, IsFrontOf, wait_of};
+ghost use Rattle.esm_next.specs.Gathering.{piece_of, limits_of, frame_of, element_bytes, IsFrontOf, wait_of};
 
 use crate::decision::Decision;
 use crate::event::{job, window_call_of};

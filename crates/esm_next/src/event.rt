@@ -1,23 +1,21 @@
-// The call of a lane, with the text of its event.
-ghost use Rattle.std.specs.Prelude.{◌≡◌, ◌≤◌, ◌++◌, ◌∷◌, [], List, Some, None, true, IfOk, OnOk, unwrap_or, codes};
+// The call of a lane, with its event.
+ghost use Rattle.std.specs.Prelude.{◌≡◌, ◌≤◌, ◌++◌, ◌∷◌, [], true, IfOk, OnOk, unwrap_or, codes};
 ghost use Rattle.std.specs.Option.{option_copied, ForSome};
 ghost use Rattle.esm_model.specs.declared.moment.TheConstants.{MAX_MOMENT};
-ghost use Rattle.esm_model.specs.Records.{Record};
 ghost use Rattle.esm_model.specs.ValidCall.{IsValidWindowCall};
 ghost use Rattle.esm_model.specs.Setting.{records_at};
 ghost use Rattle.esm_model.specs.Entries.{came_count};
 ghost use Rattle.esm_model.specs.Fates.{lacks_fate};
-ghost use Rattle.esm_model.specs.EventText.{event_text};
 ghost use Rattle.esm_model.specs.Calls.{window_call};
-ghost use Rattle.esm_event.specs.Building.{IsEventOf};
 ghost use Rattle.esm_ledger.specs.Ledger.{past_of, setting_of, Keeps};
+ghost use Rattle.esm_ledger.specs.Reading.{AreOpen};
 ghost use Rattle.esm_next.specs.Following.{job_of};
 ghost use Rattle.esm_next.specs.Deciding.{IsWithinBounds};
-ghost use Rattle.esm_next.specs.Gathering.{AreOpen, call_in};
+ghost use Rattle.esm_next.specs.Gathering.{call_in};
 
-use esm_event::{StreamEvent, frame_bytes};
+use esm_event::event_of;
 use esm_ledger::Ledger;
-use esm_model::{Bytes, Job, LaneId, OutOfMemory, Places, WindowCall, WindowState};
+use esm_model::{Bytes, Job, LaneId, OutOfMemory, Places, Record, WindowCall, WindowState};
 use std::alloc::Global;
 
 /// The call of the lane with these places, or the one that closes the window.
@@ -36,7 +34,8 @@ pub(crate) fn job(
     requires window { option_copied window ≡ window_call (setting_of ledger.now) (past_of ledger.now) lane.shard places.now closing }
     ensures { IfOk result (λ job. job ≡ job_of (setting_of ledger.now) (past_of ledger.now) lane places.now closing) }
 {
-    let event = event(alloc, ledger, lane.shard, places, window)?;
+    let records = records_of(alloc, ledger, lane.shard, places)?;
+    let event = event_of(alloc, &ledger.config, records, window)?;
     Ok(Job {
         lane,
         places: copied(alloc, places)?,
@@ -45,71 +44,39 @@ pub(crate) fn job(
     })
 }
 
-/// The text of an event with the records at the places.
-fn event(
+/// The records at the places, in order, each of which shares its texts with the ledger's.
+fn records_of(
     alloc: Global,
     ledger: &Ledger,
     shard: u64,
     places: &[u32],
-    window: Option<&WindowCall>,
-) -> Result<Bytes, OutOfMemory>
+) -> Result<Vec<Record>, OutOfMemory>
     requires kept { Keeps ledger.now }
     requires open { AreOpen (setting_of ledger.now) (past_of ledger.now) shard places.now }
-    requires valid { ForSome (option_copied window) IsValidWindowCall }
-    ensures { IfOk result (λ text. text ≡ event_text ledger.now.config (records_at (setting_of ledger.now) shard places.now) (option_copied window.entry)) }
+    ensures { IfOk result (λ records. records.items ≡ records_at (setting_of ledger.now) shard places.now) }
 {
-    let room = event_bytes(ledger, shard, places, window);
-    let mut event = StreamEvent::begin(alloc, &ledger.config, room)?;
-    push_places(&mut event, ledger, shard, places)?;
-    let text = event.finish(&ledger.config, window)?;
-    Ok(Bytes::from_vec(text))
-}
-
-/// As many bytes as the event takes, or the greatest `usize` where they are more: only room is made by it.
-fn event_bytes(ledger: &Ledger, shard: u64, places: &[u32], window: Option<&WindowCall>) -> usize
-    requires kept { Keeps ledger.now }
-    requires valid { ForSome (option_copied window) IsValidWindowCall }
-{
-    let mut total = frame_bytes(&ledger.config, window) as usize;
+    let mut records = Vec::with_capacity(alloc, places.len())?;
     for place in places {
-        total = total.saturating_add(ledger.element_length(shard, *place) as usize + 1);
+        push_place(&mut records, ledger, shard, *place)?;
     }
-    total
-}
-
-/// Appends the elements of the records at the places, in order, to an event with none yet.
-fn push_places(
-    event: &mut StreamEvent,
-    ledger: &Ledger,
-    shard: u64,
-    places: &[u32],
-) -> Result<(), OutOfMemory>
-    requires kept { Keeps ledger.now }
-    requires open { AreOpen (setting_of ledger.now) (past_of ledger.now) shard places.now }
-    requires begun { IsEventOf ledger.now.config [] event.old }
-    ensures { OnOk result (IsEventOf ledger.now.config (records_at (setting_of ledger.now) shard places.now) event.new) }
-{
-    for place in places {
-        push_place(event, ledger, shard, *place)?;
-    }
-    Ok(())
+    Ok(records)
 }
 
 fn push_place(
-    event: &mut StreamEvent,
+    records: &mut Vec<Record>,
     ledger: &Ledger,
     shard: u64,
     place: u32,
 ) -> Result<(), OutOfMemory>
     requires kept { Keeps ledger.now }
     requires open { lacks_fate (setting_of ledger.now) (past_of ledger.now) shard place ≡ true }
-    ensures { OnOk result ((rs : List Record) → IsEventOf ledger.now.config rs event.old
-        → IsEventOf ledger.now.config (rs ++ records_at (setting_of ledger.now) shard (place ∷ [])) event.new) }
+    ensures { OnOk result (records.new.items ≡ records.old.items ++ records_at (setting_of ledger.now) shard (place ∷ [])) }
 {
     match ledger.record(shard, place) {
         None => Ok(()),
         Some(record) => {
-            event.push(record)?;
+            let copy = record.copy()?;
+            records.push(copy)?;
             Ok(())
         }
     }

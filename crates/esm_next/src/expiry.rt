@@ -11,9 +11,9 @@ ghost use Rattle.esm_model.specs.Batches as spec;
 ghost use Rattle.esm_model.specs.FailureLine.{failure_line, failure_of, sequence_at, arrival_at};
 ghost use Rattle.esm_model.specs.FailureText as text;
 ghost use Rattle.esm_ledger.specs.Ledger.{past_of, setting_of, Keeps};
+ghost use Rattle.esm_ledger.specs.Reading.{AreOpen};
 ghost use Rattle.esm_next.specs.Following.{expiring};
 ghost use Rattle.esm_next.specs.Deciding.{IsWithinBounds, answer_of, Gives};
-ghost use Rattle.esm_next.specs.Gathering.{AreOpen};
 
 use crate::decision::Decision;
 use crate::event::copied;
@@ -190,7 +190,7 @@ fn edge_of(alloc: Global, ledger: &Ledger, shard: u64, place: u32) -> Result<Edg
     match ledger.record(shard, place) {
         None => unreachable!(),
         Some(record) => Ok(Edge {
-            seq: record.number(alloc)?,
+            seq: record.sequence_copy(alloc)?,
             arrival: record.arrival(),
         }),
     }

@@ -21,10 +21,10 @@ use Rattle.esm_shard_index.specs.LaneSteps.{IsGroupOf}
 use Rattle.esm_shard_index.specs.WindowsLaws.{closing_of}
 use Rattle.esm_ledger.specs.declared.ledger.Ledger.{Ledger}
 use Rattle.esm_ledger.specs.Ledger.{past_of, setting_of, Keeps}
-use Rattle.esm_ledger.specs.Reading.{IsLaneSettled}
+use Rattle.esm_ledger.specs.Reading.{IsLaneSettled, AreOpen}
 use Rattle.esm_ledger.proofs.Readings.{legal_of}
 use Rattle.esm_outcome.specs.Ending.{SettledOver}
-use Rattle.esm_outcome.specs.Parts.{IsRunningCall, AreOpen}
+use Rattle.esm_outcome.specs.Parts.{IsRunningCall}
 use Rattle.esm_outcome.proofs.Calls.{Runs, runs, within_batch, get_In, running_first}
 use Rattle.esm_outcome.proofs.Verdicts.{verdict_told}
 

@@ -1,19 +1,16 @@
 -- The parts of what the end of a call calls for, as they are found one by one. Only this crate's proofs cite this.
 use Rattle.std.specs.Prelude.{◌≡◌, ℕ, ◌+◌, true, List, [], ◌∷◌, ◌++◌, drop, codes, Option, Some, None, if◌then◌else◌}
-use Rattle.std.specs.List.{All}
 use Rattle.esm_model.specs.Records.{Record}
 use Rattle.esm_model.specs.declared.lane.LaneId.{LaneId}
 use Rattle.esm_model.specs.declared.entry.Fate.TheVariants.{Succeeded, Exhausted}
 use Rattle.esm_model.specs.declared.entry.Reply.{Reply}
 use Rattle.esm_model.specs.declared.entry.Reply.TheVariants.{Answered}
 use Rattle.esm_model.specs.declared.entry.WindowState.{WindowState}
-use Rattle.esm_model.specs.declared.entry.Entry.{Entry}
 use Rattle.esm_model.specs.declared.verdict.Rest.{Rest}
 use Rattle.esm_model.specs.declared.verdict.Rest.TheVariants as rest
 use Rattle.esm_model.specs.declared.verdict.StateRead.{StateRead}
 use Rattle.esm_model.specs.Setting.{Setting}
 use Rattle.esm_model.specs.Entries.{last_call, batch_of, is_running}
-use Rattle.esm_model.specs.Fates.{lacks_fate}
 use Rattle.esm_model.specs.State.{span_bytes}
 use Rattle.esm_model.specs.Ruling.{capped_tries}
 use Rattle.esm_model.specs.Windows.{has_windows}
@@ -29,10 +26,6 @@ pub record IsRunningCall (c : Ledger) (lane : LaneId) (places : List ℕ) (closi
   pub runs : is_running (past_of c) lane ≡ true
   pub places_are : places ≡ batch_of (last_call (past_of c) lane)
   pub closing_is : closing ≡ closing_of (last_call (past_of c) lane)
-
--- none of the shard's records at the places has a fate
-abbrev pub AreOpen : Setting → List Entry → ℕ → List ℕ → Type 0
-AreOpen s h n places = All (λ i. lacks_fate s h n i ≡ true) places
 
 -- a record's sequence number, if there is one
 abbrev pub sequence_in : Option Record → List (List ℕ)

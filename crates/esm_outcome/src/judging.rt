@@ -8,8 +8,9 @@ ghost use Rattle.esm_model.specs.Windows.{has_windows};
 ghost use Rattle.esm_model.specs.Owed.{state_in_reply};
 ghost use Rattle.esm_verdict.specs.Readings.{IsWithin, IsStateIn, reply_state};
 ghost use Rattle.esm_ledger.specs.Ledger.{past_of, setting_of, Keeps};
+ghost use Rattle.esm_ledger.specs.Reading.{AreOpen};
 ghost use Rattle.esm_outcome.specs.Ending.{SettledOver};
-ghost use Rattle.esm_outcome.specs.Parts.{IsRunningCall, AreOpen, sequence_in, text_in};
+ghost use Rattle.esm_outcome.specs.Parts.{IsRunningCall, sequence_in, text_in};
 
 use esm_ledger::Ledger;
 use esm_model::{Answer, LaneId, OutOfMemory, Record, Reply, Seq, StateRead, Verdict};
@@ -162,7 +163,7 @@ fn push_sequence(
     ensures { OnOk result (batch.new.items ≡ batch.old.items ++ sequence_in (option_copied found.entry)) }
 {
     if let Some(record) = found {
-        batch.push(record.number(alloc)?)?;
+        batch.push(record.sequence_copy(alloc)?)?;
     }
     Ok(())
 }

@@ -142,7 +142,7 @@ fn edge_of(alloc: Global, ledger: &Ledger, shard: u64, place: u32) -> Result<Edg
     match ledger.record(shard, place) {
         None => unreachable!(),
         Some(record) => Ok(Edge {
-            seq: record.number(alloc)?,
+            seq: record.sequence_copy(alloc)?,
             arrival: record.arrival(),
         }),
     }

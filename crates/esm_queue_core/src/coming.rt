@@ -4,7 +4,7 @@ ghost use Rattle.esm_queue_model.specs.QueueSetting.{QueueSetting};
 ghost use Rattle.esm_queue_core.specs.Coming.{is_refused_at, refused_from, has_changed, HasChangedFirst, NoneHasChanged, IsChangeOf};
 ghost use Rattle.esm_queue_core.specs.Judged.{IsJudgedBy};
 
-use esm_filter::Criteria;
+use esm_filter::{Criteria, Work};
 use esm_journal_state::Says;
 use esm_model::{Change, Message, OutOfMemory};
 use std::alloc::Global;
@@ -14,6 +14,7 @@ fn is_refused(
     alloc: Global,
     said: &Says,
     criteria: &Criteria,
+    work: &mut Work,
     item: &Message,
     place: u32,
 ) -> Result<bool, OutOfMemory>
@@ -22,7 +23,7 @@ fn is_refused(
     match said.deleted(place) {
         Some(_) => Ok(false),
         None => {
-            let passes = criteria.passes_message(alloc, item)?;
+            let passes = criteria.passes_message(alloc, work, item)?;
             Ok(!passes)
         }
     }
@@ -40,9 +41,10 @@ pub(crate) fn refused(
     ensures { IfOk result (λ places. (s : QueueSetting) → IsJudgedBy s said.now criteria.now → places.items ≡ refused_from s from items.now) }
 {
     let mut places = Vec::new(alloc);
+    let mut work = Work::new();
     for (i, item) in items.iter().enumerate() {
         let place = from + i as u32;
-        if is_refused(alloc, said, criteria, item, place)? {
+        if is_refused(alloc, said, criteria, &mut work, item, place)? {
             places.push(place)?;
         }
     }

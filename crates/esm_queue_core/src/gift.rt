@@ -5,8 +5,8 @@ ghost use Rattle.esm_queue_core.specs.Kept.{messages_stored, IsGift, MayBeGiven,
 ghost use Rattle.esm_queue_core.specs.Coming.{gave_entries};
 
 use crate::owed::Gift;
-use esm_journal_record::{Said, said_bytes};
-use esm_model::{Fate, LaneId, Message, OutOfMemory, Places, Text, Texts};
+use esm_journal_record::{GatheredTexts, KeptTexts, Said, said_bytes};
+use esm_model::{Fate, LaneId, Message, OutOfMemory, Places, Text};
 use esm_queue::Queue;
 use std::alloc::Global;
 
@@ -39,6 +39,28 @@ pub fn ids_at(
     Ok(ids)
 }
 
+/// The bytes of an id for which room is made.
+const ID_ROOM: usize = 40;
+
+/// The ids of the messages at the places, in order, as parts of one text.
+pub fn texts_at(
+    alloc: Global,
+    queue: &Queue,
+    coming: &[Message],
+    places: &[u32],
+) -> Result<KeptTexts, OutOfMemory>
+    requires { All (λ i. i < length queue.now.state.messages + length coming.now) places.now }
+    ensures { IfOk result (λ ids. ids ≡ ids_at (messages_stored queue.now.state ++ coming.now) places.now) }
+{
+    let room = places.len().saturating_mul(ID_ROOM);
+    let mut ids = GatheredTexts::new(alloc, places.len(), room)?;
+    for place in places {
+        let id = message_for(queue, coming, *place).id.as_str();
+        ids = ids.with(id.as_bytes())?;
+    }
+    ids.into_texts(alloc)
+}
+
 /// The deletion of the places, where there are any.
 pub(crate) fn gift_of(
     alloc: Global,
@@ -56,13 +78,13 @@ pub(crate) fn gift_of(
     if places.is_empty() {
         return Ok(None);
     }
-    let ids = ids_at(alloc, queue, coming, places.as_slice())?;
+    let ids = texts_at(alloc, queue, coming, places.as_slice())?;
     let copy = Vec::from_slice(alloc, places.as_slice())?;
     let said = Said::Deleted {
         fate,
         moment,
         places: Places::from_vec(copy),
-        texts: Texts::from_vec(ids),
+        texts: ids,
     };
     let payload = said_bytes(alloc, &said)?;
     Ok(Some(Gift {

@@ -15,7 +15,7 @@ ghost use Rattle.esm_queue_core.specs.Choosing.{received, fits_in, batch_in, win
 use crate::gather::gather;
 use crate::owed::First;
 use esm_event::queue_event;
-use esm_model::{Bytes, Config, Job, LaneId, MAX_MOMENT, Next, OutOfMemory, Places, Received};
+use esm_model::{Config, Event, Job, LaneId, MAX_MOMENT, Next, OutOfMemory, Places, Received};
 use esm_queue::Queue;
 use std::alloc::Global;
 
@@ -141,7 +141,8 @@ fn job_for(
 ) -> Result<Job, OutOfMemory>
     requires config { IsQueueConfig config.now }
     requires batch { All (IsValidReceived config.now.kind) batch.now }
-    ensures { IfOk result (λ job. job ≡ record { lane = queue_lane batcher; places = places.now; closing = None; event = queue_event_text config.now batch.now }) }
+    ensures { IfOk result (λ job. job
+        ≡ record { lane = queue_lane batcher; places = places.now; closing = None; event = queue_event_text config.now batch.now }) }
 {
     let event = queue_event(alloc, config, batch)?;
     let copy = Vec::from_slice(alloc, places)?;
@@ -152,7 +153,7 @@ fn job_for(
         },
         places: Places::from_vec(copy),
         closing: None,
-        event: Bytes::from_vec(event),
+        event: Event::of_text(alloc, event),
     })
 }
 

@@ -4,7 +4,7 @@ use Rattle.std.specs.List.{AllByRecursion}
 use Rattle.std.specs.Result.{result_ok}
 use Rattle.base64.specs.Engines.{standard}
 use Rattle.base64.specs.GeneralPurpose.{decode_of}
-use Rattle.esm_model.specs.Records.{Record, IsWithin, part_of, encoded_in}
+use Rattle.esm_model.specs.Records.{Record, IsWithin, part_of, record_in}
 use Rattle.esm_model.specs.Sequence.{is_sequence}
 use Rattle.esm_model.specs.declared.item.Item.{Item}
 use Rattle.esm_model.specs.declared.item.Item.TheVariants.{Stream}
@@ -15,7 +15,7 @@ use Rattle.esm_record.specs.declared.packed.Row.TheVariants as row
 
 -- the record whose texts are these parts of the text
 abbrev pub placed_record : List ℕ → Placed → Record
-placed_record text p = record { shard = p.shard; seq = part_of text p.seq; key = part_of text p.key; payload = encoded_in (part_of text p.payload); arrival = p.arrival }
+placed_record text p = record_in text p.shard p.seq p.key p.payload p.arrival
 
 -- the parts are those of a record
 pub record ArePlaced (text : List ℕ) (p : Placed) : Type 0 where

@@ -74,10 +74,12 @@ pub fn next_chunk(bytes: &[u8]) -> Option<(&[u8], &[u8])>
     }
 }
 
-/// What each line of the chunk says whose line feed came; the records share one text.
+/// What each line of the chunk says whose line feed came; the records share one text. Where they go to several `lanes`, what
+/// chooses each one's is computed.
 pub fn parse_chunk(
     alloc: Global,
     kind: LineKind,
+    lanes: bool,
     scratch: &mut Scratch,
     chunk: &[u8],
 ) -> Result<Vec<Parsed>, OutOfMemory>
@@ -93,18 +95,23 @@ pub fn parse_chunk(
         packed = packed.with_line(alloc, kind, scratch, line)?;
         rest = after;
     }
-    packed.into_parsed(alloc)
+    packed.into_parsed(alloc, lanes)
 }
 
 /// What each line of the block says whose line feed came, chunk by chunk.
-fn parse_block(alloc: Global, kind: LineKind, block: &[u8]) -> Result<Vec<Parsed>, OutOfMemory>
+fn parse_block(
+    alloc: Global,
+    kind: LineKind,
+    lanes: bool,
+    block: &[u8],
+) -> Result<Vec<Parsed>, OutOfMemory>
     ensures { IfOk result (λ v. v.items ≡ parsed_lines kind block.now) }
 {
     let mut scratch = Scratch::new(alloc);
     let mut parsed = Vec::new(alloc);
     let mut rest = block;
     while let Some((chunk, after)) = next_chunk(rest) {
-        let mut said = parse_chunk(alloc, kind, &mut scratch, chunk)?;
+        let mut said = parse_chunk(alloc, kind, lanes, &mut scratch, chunk)?;
         parsed.append(&mut said)?;
         rest = after;
     }
@@ -140,13 +147,14 @@ fn parse_blocks<R: Threads + Sync>(
     rt: &R,
     alloc: Global,
     kind: LineKind,
+    lanes: bool,
     threads: usize,
     block: &[u8],
 ) -> Result<Vec<Parsed>, OutOfMemory>
     ensures { IfOk result (λ v. v.items ≡ parsed_lines kind block.now) }
 {
     if threads < 2 {
-        return parse_block(alloc, kind, block);
+        return parse_block(alloc, kind, lanes, block);
     }
     let few = threads / 2;
     let others = threads - few;
@@ -154,11 +162,11 @@ fn parse_blocks<R: Threads + Sync>(
     let first = move || -> Result<Vec<Parsed>, OutOfMemory>
         requires { IsSync R.row }
         ensures { IfOk result (λ v. v.items ≡ parsed_lines kind front.entry.now) }
-    { parse_blocks(rt, alloc, kind, few, front) };
+    { parse_blocks(rt, alloc, kind, lanes, few, front) };
     let second = move || -> Result<Vec<Parsed>, OutOfMemory>
         requires { IsSync R.row }
         ensures { IfOk result (λ v. v.items ≡ parsed_lines kind back.entry.now) }
-    { parse_blocks(rt, alloc, kind, others, back) };
+    { parse_blocks(rt, alloc, kind, lanes, others, back) };
     let (ahead, behind) = join(rt, first, second);
     both(ahead, behind)
 }
@@ -168,11 +176,12 @@ pub fn parse_lines<R: Threads + Sync>(
     rt: &R,
     alloc: Global,
     kind: LineKind,
+    lanes: bool,
     threads: usize,
     block: &[u8],
 ) -> Result<Vec<Parsed>, OutOfMemory>
     ensures { IfOk result (λ v. v.items ≡ parsed_lines kind block.now) }
 {
     let threads = threads.min(block.len() / MIN_BLOCK);
-    parse_blocks(rt, alloc, kind, threads, block)
+    parse_blocks(rt, alloc, kind, lanes, threads, block)
 }

@@ -84,14 +84,22 @@ fn read_end(alloc: Global, reading: &mut Splitter) -> Result<Fed, OutOfMemory>
 
 impl Lines {
     /// A reader that was fed nothing. It takes no memory yet.
-    #[tactic(auto, unfolding(crate::specs::Input::input_so_far))]
     pub fn new(alloc: Global, kind: LineKind) -> Result<Lines, OutOfMemory>
+        ensures { result ≡ Ok (record { kind = kind; bytes = []; failed = false; finished = false }) }
+    {
+        Lines::for_lanes(alloc, kind, 1)
+    }
+
+    /// The same where the records go to so many lanes of their shard: with more than one, what chooses a record's lane is
+    /// computed where its line is parsed, so by several threads where these parse.
+    #[tactic(auto, unfolding(crate::specs::Input::input_so_far))]
+    pub fn for_lanes(alloc: Global, kind: LineKind, lanes: u32) -> Result<Lines, OutOfMemory>
         ensures { result ≡ Ok (record { kind = kind; bytes = []; failed = false; finished = false }) }
     {
         Ok(Lines {
             alloc,
             fed: FedBytes::new(alloc),
-            reading: Splitter::new(alloc, kind),
+            reading: Splitter::new(alloc, kind, lanes > 1),
             failed: false,
             finished: false,
         })

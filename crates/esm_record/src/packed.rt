@@ -78,8 +78,8 @@ fn place(text: &mut Vec<u8>, fields: &Fields<'_>) -> Result<Placed, OutOfMemory>
     })
 }
 
-/// What the line says; its record shares the text.
-fn said_of(text: &SharedBytes, row: Row) -> Result<Parsed, OutOfMemory>
+/// What the line says; its record shares the text. Where it is to go to one of several lanes, what chooses that is computed.
+fn said_of(text: &SharedBytes, row: Row, lanes: bool) -> Result<Parsed, OutOfMemory>
     requires { IsRowOf text.now row }
     ensures { IfOk result (λ said. said ≡ said_over text.now row) }
 {
@@ -95,7 +95,10 @@ fn said_of(text: &SharedBytes, row: Row) -> Result<Parsed, OutOfMemory>
             },
         ) => {
             let text = text.share()?;
-            let record = Record::within(text, shard, seq, key, payload, len, arrival);
+            let mut record = Record::within(text, shard, seq, key, payload, len, arrival);
+            if lanes {
+                record.mix();
+            }
             Ok(Ok(Some(Item::Stream(record))))
         }
         Row::Said(said) => Ok(said),
@@ -103,13 +106,18 @@ fn said_of(text: &SharedBytes, row: Row) -> Result<Parsed, OutOfMemory>
 }
 
 /// What the lines say; their records share the text.
-fn all_said(alloc: Global, text: &SharedBytes, rows: Vec<Row>) -> Result<Vec<Parsed>, OutOfMemory>
+fn all_said(
+    alloc: Global,
+    text: &SharedBytes,
+    rows: Vec<Row>,
+    lanes: bool,
+) -> Result<Vec<Parsed>, OutOfMemory>
     requires { AreRowsOf text.now rows.items }
     ensures { IfOk result (λ v. v.items ≡ all_said text.now rows.items) }
 {
     let mut parsed = Vec::with_capacity(alloc, rows.len())?;
     for row in rows {
-        let said = said_of(text, row)?;
+        let said = said_of(text, row, lanes)?;
         parsed.push(said)?;
     }
     Ok(parsed)
@@ -181,13 +189,13 @@ impl Packed {
         }
     }
 
-    /// What the lines say; their records share the text.
-    pub fn into_parsed(self, alloc: Global) -> Result<Vec<Parsed>, OutOfMemory>
+    /// What the lines say; their records share the text. Where they go to several lanes, what chooses each one's is computed.
+    pub fn into_parsed(self, alloc: Global, lanes: bool) -> Result<Vec<Parsed>, OutOfMemory>
         ensures { IfOk result (λ v. v.items ≡ self) }
     {
         let Packed { mut text, rows } = self;
         text.shrink_to_fit();
         let text = SharedBytes::from_vec(alloc, text)?;
-        all_said(alloc, &text, rows)
+        all_said(alloc, &text, rows, lanes)
     }
 }

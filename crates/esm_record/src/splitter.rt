@@ -21,6 +21,8 @@ use std::thread::Threads;
 #[derive(Drop)]
 pub struct Splitter {
     pub kind: LineKind,
+    /// Whether the records go to several lanes of their shard.
+    pub lanes: bool,
     pub good: u64,
     pub seen: Seen,
     pub scratch: Scratch,
@@ -174,7 +176,7 @@ impl Splitter {
         ensures fresh { OnOk result (self.new.begun.items ≡ []) }
         ensures kind { self.new.kind ≡ self.old.kind }
     {
-        let parsed = parse_chunk(alloc, self.kind, &mut self.scratch, chunk)?;
+        let parsed = parse_chunk(alloc, self.kind, self.lanes, &mut self.scratch, chunk)?;
         self.take_lines(alloc, items, parsed)
     }
 
@@ -245,7 +247,7 @@ impl Splitter {
         ensures fresh { OnOk result (self.new.begun.items ≡ []) }
         ensures kind { self.new.kind ≡ self.old.kind }
     {
-        let parsed = parse_lines(rt, alloc, self.kind, threads, lines)?;
+        let parsed = parse_lines(rt, alloc, self.kind, self.lanes, threads, lines)?;
         self.take_lines(alloc, items, parsed)
     }
 
@@ -301,12 +303,13 @@ impl Splitter {
 
     /// Nothing has been read.
     #[tactic(auto, unfolding(crate::specs::Input::input_so_far))]
-    pub fn new(alloc: Global, kind: LineKind) -> Splitter
+    pub fn new(alloc: Global, kind: LineKind, lanes: bool) -> Splitter
         ensures read { HasRead [] [] [] result }
         ensures kind { result.kind ≡ kind }
     {
         Splitter {
             kind,
+            lanes,
             good: 0,
             seen: Seen::new(alloc),
             scratch: Scratch::new(alloc),

@@ -17,7 +17,7 @@ ghost use Rattle.esm_redrive_core.specs.Judged.{IsJudgedBy};
 
 use crate::giving::owe_first;
 use crate::owed::Gift;
-use esm_filter::Criteria;
+use esm_filter::{Criteria, Work};
 use esm_journal_state::Says;
 use esm_model::{Config, Fate, Message, OutOfMemory};
 use esm_queue::Queue;
@@ -40,6 +40,7 @@ fn is_dropped(
     said: &Says,
     dead: &DeadIds,
     criteria: &Criteria,
+    work: &mut Work,
     item: &Message,
     place: u32,
 ) -> Result<bool, OutOfMemory>
@@ -49,7 +50,7 @@ fn is_dropped(
         Some(_) => Ok(false),
         None if dead.contains(&item.id) => Ok(false),
         None => {
-            let passes = criteria.passes_message(alloc, item)?;
+            let passes = criteria.passes_message(alloc, work, item)?;
             Ok(!passes)
         }
     }
@@ -99,9 +100,10 @@ pub(crate) fn dropped(
     ensures { IfOk result (λ places. (s : RedriveSetting) → IsJudgedBy s said.now dead.now criteria.now → places.items ≡ dropped_from s from items.now) }
 {
     let mut places = Vec::new(alloc);
+    let mut work = Work::new();
     for (i, item) in items.iter().enumerate() {
         let place = from + i as u32;
-        if is_dropped(alloc, said, dead, criteria, item, place)? {
+        if is_dropped(alloc, said, dead, criteria, &mut work, item, place)? {
             places.push(place)?;
         }
     }

@@ -14,9 +14,9 @@ ghost use Rattle.esm_redrive_core.specs.Kept.{gift_line, gift_entry, gift_entrie
 
 use crate::owed::Gift;
 use esm_journal_record::{Said, said_bytes};
-use esm_model::{Fate, LaneId, Message, OutOfMemory, Places, Text, Texts};
+use esm_model::{Fate, LaneId, Message, OutOfMemory, Places, Text};
 use esm_queue::Queue;
-use esm_queue_core::gift::ids_at;
+use esm_queue_core::gift::texts_at;
 use esm_redrive::dead_line;
 use std::alloc::Global;
 
@@ -37,13 +37,13 @@ fn gift_of(
     ensures written { IfOk result (IsGiftOf (messages_stored queue.now.state ++ coming.now)) }
     ensures line { IfOk result (λ gift. gift_line gift ≡ line) }
 {
-    let ids = ids_at(alloc, queue, coming, places.as_slice())?;
+    let ids = texts_at(alloc, queue, coming, places.as_slice())?;
     let copy = Vec::from_slice(alloc, places.as_slice())?;
     let said = Said::Deleted {
         fate,
         moment,
         places: Places::from_vec(copy),
-        texts: Texts::from_vec(ids),
+        texts: ids,
     };
     let payload = said_bytes(alloc, &said)?;
     Ok(Gift {

@@ -4,7 +4,8 @@ ghost use Rattle.esm_model.specs.Records.{Record};
 ghost use Rattle.esm_replay.specs.Batch.{record_named, records_named, records_in, AreWithin, IsRowWithin, StandInRow};
 
 use crate::rows::Named;
-use esm_model::{OutOfMemory, Record, Seq};
+use esm_journal_record::{GatheredTexts, KeptTexts};
+use esm_model::{OutOfMemory, Record};
 use std::alloc::Global;
 
 /// The records of a call, of records that came.
@@ -82,16 +83,31 @@ pub(crate) fn gather(
     }
 }
 
-/// Copies of the sequence numbers of the records.
-fn names_of(alloc: Global, records: &[Record]) -> Result<Vec<Seq>, OutOfMemory>
-    ensures { IfOk result (λ names. names.items ≡ map (λ (r : Record). r.seq) records.now) }
+/// The bytes of a sequence number for which room is made: those of Kinesis have 56.
+const NUMBER_ROOM: usize = 56;
+
+/// Copies of the sequence numbers of the records, in one text.
+pub fn names_of(alloc: Global, records: &[Record]) -> Result<KeptTexts, OutOfMemory>
+    ensures { IfOk result (λ names. names ≡ map (λ (r : Record). r.seq) records.now) }
 {
-    let mut names = Vec::with_capacity(alloc, records.len())?;
+    let room = records.len().saturating_mul(NUMBER_ROOM);
+    let mut names = GatheredTexts::new(alloc, records.len(), room)?;
     for item in records {
-        let name = item.number(alloc)?;
-        names.push(name)?;
+        names = names.with_sequence(item)?;
     }
-    Ok(names)
+    names.into_texts(alloc)
+}
+
+/// Copies of the records, which share their texts.
+fn shares_of(alloc: Global, records: &[Record]) -> Result<Vec<Record>, OutOfMemory>
+    ensures { IfOk result (λ shares. shares.items ≡ records.now) }
+{
+    let mut shares = Vec::with_capacity(alloc, records.len())?;
+    for item in records {
+        let share = item.copy()?;
+        shares.push(share)?;
+    }
+    Ok(shares)
 }
 
 fn row_of(records: &[Record], first: u32, count: usize) -> &[Record]
@@ -103,30 +119,19 @@ fn row_of(records: &[Record], first: u32, count: usize) -> &[Record]
 }
 
 impl BatchRecords {
-    /// The records, so many, where these are the records that came.
-    pub fn records<'a>(&'a self, came: &'a [Record], count: usize) -> &'a [Record]
-        requires { IsRowWithin (length came.now) count self.now }
-        ensures { result.now ≡ records_in came.entry.now count self.entry.now }
-    {
-        match self {
-            BatchRecords::InRow(first) => row_of(came, *first, count),
-            BatchRecords::Copied(copies) => copies.as_slice(),
-        }
-    }
-
-    /// Copies of their sequence numbers.
-    pub fn into_names(
+    /// The records, so many, of those that came, as copies that share their texts.
+    pub fn into_records(
         self,
         alloc: Global,
         came: &[Record],
         count: usize,
-    ) -> Result<Vec<Seq>, OutOfMemory>
+    ) -> Result<Vec<Record>, OutOfMemory>
         requires { IsRowWithin (length came.now) count self }
-        ensures { IfOk result (λ names. names.items ≡ map (λ (r : Record). r.seq) (records_in came.now count self)) }
+        ensures { IfOk result (λ records. records.items ≡ records_in came.now count self) }
     {
         match self {
-            BatchRecords::InRow(first) => names_of(alloc, row_of(came, first, count)),
-            BatchRecords::Copied(copies) => names_of(alloc, copies.as_slice()),
+            BatchRecords::InRow(first) => shares_of(alloc, row_of(came, first, count)),
+            BatchRecords::Copied(copies) => Ok(copies),
         }
     }
 }

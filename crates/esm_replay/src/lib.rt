@@ -16,7 +16,7 @@ mod rows;
 mod waiting;
 
 pub use batch::Batch;
-pub use batch_records::BatchRecords;
+pub use batch_records::{BatchRecords, names_of};
 pub use failure::read_failure;
 pub use first::first_waiting;
 pub use named::{names, names_near};

@@ -1,7 +1,7 @@
 -- What is kept of a core stays true where it decides on the end of a call.
 use Rattle.std.proofs.Common.{◌≡◌, ℕ, ◌+◌, ◌<◌, ◌≤◌, ◌^◌, List, [], ◌∷◌, ◌++◌, length, take, reverse, refl, sym, ap, ap₂, ◌∙◌, subst, arith, Option, Some, None}
 use Rattle.std.specs.Prelude.{max, min}
-use Rattle.std.specs.List.{All}
+use Rattle.std.specs.List.{All, list_all}
 use Rattle.std.proofs.lemmas.List.{length-take-le}
 use Rattle.esm_model.specs.declared.limits.TheConstants.{MAX_BATCH}
 use Rattle.esm_model.specs.declared.moment.TheConstants.{MAX_MOMENT}
@@ -13,6 +13,7 @@ use Rattle.esm_model.specs.declared.entry.Reply.{Reply}
 use Rattle.esm_model.specs.declared.entry.Entry.{Entry}
 use Rattle.esm_model.specs.declared.entry.Entry.TheVariants as entry
 use Rattle.esm_model.specs.declared.verdict.Verdict.{Verdict}
+use Rattle.esm_model.specs.Sequence.{is_sequence}
 use Rattle.esm_model.specs.Setting.{sequences_at}
 use Rattle.esm_model.specs.Step.{IsLater}
 use Rattle.esm_journal_record.specs.EntryPayload.{entry_payload}
@@ -34,7 +35,8 @@ use Rattle.esm_replay_core.specs.Choosing.{IsWaitingFor}
 use Rattle.esm_replay_core.specs.Owing.{replay_entries, replay_entry}
 use Rattle.esm_replay_core.specs.Kept.{Parts, IsKept, AreWritten, own, seen_of}
 use Rattle.esm_replay_core.proofs.Fronts.{IsFront, front_out, names_long, few_in_batch}
-use Rattle.esm_replay_core.proofs.Saying.{verdict_is, verdict_within, ended_run, replayed_run, said_first}
+use Rattle.esm_replay_core.proofs.Saying.{verdict_is, verdict_within, ended_run, replayed_run, said_first, all_spelled}
+use Rattle.esm_replay_core.proofs.Standing.{within_bounds}
 use Rattle.esm_replay_core.proofs.Keeping.{IsDecided, deciding, kept_deciding, later_of}
 
 replayed_some : (n m : ℕ) (places : List ℕ) → 1 ≤ length places → replayed_entries n places m ≡ entry.Replayed n places m ∷ []
@@ -110,6 +112,7 @@ module _ (p : Parts) (w : Waiting) (reply : Reply) (m : ℕ) (k : IsKept p) (e :
     few = few_out;
     some = e.some;
     same = e.long;
+    spelled = ap (list_all is_sequence) e.names_are ∙ all_spelled (own p).base (within_bounds p.opened p.known k.valid).valid (call_out p.past).shard (call_out p.past).places;
     within = e.front.within;
     said = subst (λ (v : Verdict). 1 ≤ v.succeeded → IsSaid (said.Replayed (call_out p.past).shard m (take v.succeeded (call_out p.past).places) (take v.succeeded p.names))) (sym e.ruled) (λ any. (any_said any).0);
   }

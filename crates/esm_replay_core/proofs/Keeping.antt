@@ -232,7 +232,7 @@ module _ (p : Parts) (w : Option Waiting) (capacity : ℕ) (k : IsKept p) (none 
   next_decided there (next.Call job) (Began lane places names m) now moment rests room now_is owes =
       subst (λ (l : LaneId). IsDecided (deciding p w capacity (Began lane places names m)) (seen_of p) (entry.Began l job.places None now ∷ [])) owes.0
       (subst (λ (xs : List ℕ). IsDecided (deciding p w capacity (Began lane places names m)) (seen_of p) (entry.Began lane xs None now ∷ [])) owes.1
-      (owes_call there lane places (Began lane places names m) names.items m now moment rests room now_is owes.2 refl (λ may. may)))
+      (owes_call there lane places (Began lane places names m) names m now moment rests room now_is owes.2 refl (λ may. may)))
   next_decided there (next.Call job) Nothing now moment rests room now_is owes = absurd owes
   next_decided there (next.Call job) Coming now moment rests room now_is owes = absurd owes
   next_decided there (next.Call job) (Ended lane reply m count parts replay) now moment rests room now_is owes = absurd owes

@@ -1,8 +1,8 @@
 -- What succeeded of a call may be said by a payload, which is not too long.
-use Rattle.std.proofs.Common.{◌≡◌, ℕ, ◌*◌, ◌<◌, ◌≤◌, ◌^◌, Bool, true, false, not, cond, ◌&&◌, ◌||◌, List, [], ◌∷◌, ◌++◌, length, take, refl, sym, ap, ap₂, ◌∙◌, subst, inl, inr, arith, Some, None}
-use Rattle.std.specs.Prelude.{◌==◌, nat_lt}
-use Rattle.std.specs.List.{All, list_all}
-use Rattle.std.proofs.lemmas.Bool.{cases_Bool, and_parts}
+use Rattle.std.proofs.Common.{◌≡◌, ℕ, ◌*◌, ◌<◌, ◌≤◌, ◌^◌, Bool, true, false, not, cond, ◌&&◌, ◌||◌, List, [], ◌∷◌, ◌++◌, length, take, refl, sym, ap, ap₂, ◌∙◌, subst, inl, inr, arith, Option, Some, None}
+use Rattle.std.specs.Prelude.{◌==◌, nat_lt, map}
+use Rattle.std.specs.List.{All, list_all, cons_option}
+use Rattle.std.proofs.lemmas.Bool.{cases_Bool, and_parts, and_from}
 use Rattle.std.proofs.lemmas.List.{length-append, length-take-le}
 use Rattle.esm_model.specs.declared.limits.TheConstants.{MAX_BATCH, MAX_PAYLOAD}
 use Rattle.esm_model.specs.declared.config.Config.{Config}
@@ -14,7 +14,7 @@ use Rattle.esm_model.specs.declared.entry.Reply.TheVariants.{Answered, Garbled, 
 use Rattle.esm_model.specs.declared.verdict.Reading.{Reading}
 use Rattle.esm_model.specs.declared.verdict.Reading.TheVariants.{Whole, NotRun, Failed, UpTo}
 use Rattle.esm_model.specs.Sequence.{is_sequence}
-use Rattle.esm_model.specs.Setting.{sequences_at}
+use Rattle.esm_model.specs.Setting.{Setting, record_at, records_at, sequences_at}
 use Rattle.esm_model.specs.Step.{IsLater}
 use Rattle.esm_model.specs.Valid.{IsValidRecord}
 use Rattle.esm_model.specs.Reading.{item_reading, has_bad_state, run_reading, reading}
@@ -121,6 +121,17 @@ all_said o rs (entry.Gave by shard places f line state m ∷ h) valid few run = 
 all_said o rs (entry.Tried lane places closing tries m ∷ h) valid few run = absurd run.1.1
 all_said o rs (entry.Closed lane window m ∷ h) valid few run = absurd run.1.1
 all_said o rs (entry.Shut m ∷ h) valid few run = absurd run.1.1
+
+-- sequence numbers of records that are valid
+
+spelled_with : (s : Setting) (n i : ℕ) (places : List ℕ) → ((r : Record) → record_at s n i ≡ Some r → IsValidRecord r) → list_all is_sequence (sequences_at s n places) ≡ true
+    → (o : Option Record) → record_at s n i ≡ o → list_all is_sequence (map (λ (r : Record). r.seq) (cons_option o (records_at s n places))) ≡ true
+spelled_with s n i places valid others None at = others
+spelled_with s n i places valid others (Some r) at = and_from (is_sequence r.seq) (list_all is_sequence (sequences_at s n places)) (valid r at).seq others
+
+pub all_spelled : (s : Setting) → ((n i : ℕ) (r : Record) → record_at s n i ≡ Some r → IsValidRecord r) → (n : ℕ) (places : List ℕ) → list_all is_sequence (sequences_at s n places) ≡ true
+all_spelled s valid n [] = refl
+all_spelled s valid n (i ∷ places) = spelled_with s n i places (valid n i) (all_spelled s valid n places) (record_at s n i) refl
 
 -- with the first of the sequence numbers of a call
 pub said_first : (o : Opened) (rs : List Record) (h : List Entry) (n k : ℕ) (places : List ℕ) (names : List (List ℕ)) (m : ℕ) → All IsValidRecord rs → length rs < 2 ^ 32 → k ≤ length places → names ≡ sequences_at (setting_for o rs).base n places

@@ -44,7 +44,7 @@ pub record BeginsCall (s : ReplaySetting) (h : List Entry) (m : ℕ) (lane : Lan
 
 -- the answer owes this
 abbrev pub OwesNext : ReplaySetting → List Entry → ℕ → ReplayNext → Owed → Type 0
-OwesNext s h m (next.Call job) (Began lane places names moment) = (lane ≡ job.lane) × (places ≡ job.places) × BeginsCall s h m lane places names.items moment
+OwesNext s h m (next.Call job) (Began lane places names moment) = (lane ≡ job.lane) × (places ≡ job.places) × BeginsCall s h m lane places names moment
 OwesNext s h m (next.Call job) _ = ⊥
 OwesNext s h m next.Spent owed = owed ≡ Nothing
 OwesNext s h m next.Finished owed = owed ≡ Nothing
@@ -57,7 +57,7 @@ pub record IsChosen (s : ReplaySetting) (h : List Entry) (m : ℕ) (chosen : Cho
 abbrev pub BeginsBatch : Config → ℕ → List ℕ → List Record → ℕ → ReplayNext → Owed → Type 0
 BeginsBatch c n places rs m (next.Call job) (Began lane places' names moment) =
     (job ≡ record { lane = replay_lane n; places = places; closing = None; event = event_text c rs None })
-    × (lane ≡ replay_lane n) × (places' ≡ places) × (names.items ≡ map (λ (r : Record). r.seq) rs) × (moment ≡ m)
+    × (lane ≡ replay_lane n) × (places' ≡ places) × (names ≡ map (λ (r : Record). r.seq) rs) × (moment ≡ m)
 BeginsBatch c n places rs m _ _ = ⊥
 
 abbrev pub IsBegunOf : Config → ℕ → List ℕ → List Record → ℕ → Chosen → Type 0

@@ -1,6 +1,8 @@
 -- What the end of a call comes to. Only this crate's proofs cite this.
-use Rattle.std.specs.Prelude.{◌≡◌, ℕ, ◌≤◌, false, List, [], take, length, Option, Some, None}
+use Rattle.std.specs.Prelude.{◌≡◌, ℕ, ◌≤◌, false, true, List, [], take, length, Option, Some, None}
+use Rattle.std.specs.List.{list_all}
 use Rattle.esm_model.specs.declared.limits.TheConstants.{MAX_BATCH, MAX_PAYLOAD}
+use Rattle.esm_model.specs.Sequence.{is_sequence}
 use Rattle.esm_model.specs.declared.config.Config.{Config}
 use Rattle.esm_model.specs.declared.entry.Reply.{Reply}
 use Rattle.esm_model.specs.declared.verdict.Verdict.{Verdict}
@@ -28,6 +30,7 @@ pub record MayEnd (c : Config) (w : Waiting) (names : List (List ℕ)) (n : ℕ)
   pub few : length places ≤ MAX_BATCH
   pub some : 1 ≤ length places
   pub same : length names ≡ length places
+  pub spelled : list_all is_sequence names ≡ true
   pub within : length places ≤ length (front_of w.pieces)
   pub said : 1 ≤ (verdict_by c names reply).succeeded → IsSaid (Replayed n m (take (verdict_by c names reply).succeeded places) (take (verdict_by c names reply).succeeded names))
 

@@ -103,7 +103,7 @@ pub record OwesReplay (p : Parts) (r : Replay) : Type 0 where
 abbrev pub MayOwe : Parts → Owed → Type 0
 MayOwe p Nothing = (p.coming ≡ []) × ((owed_replay (own p) p.past).places ≡ [])
 MayOwe p Coming = (1 ≤ length p.coming) × (p.past ≡ []) × (p.waiting ≡ None)
-MayOwe p (Began lane places names moment) = OwesCall p lane places names.items moment
+MayOwe p (Began lane places names moment) = OwesCall p lane places names moment
 MayOwe p (Ended lane reply moment count parts replay) = OwesEnd p lane reply moment count parts replay
 MayOwe p (Replayed r) = OwesReplay p r
 MayOwe p Left = p.coming ≡ []
@@ -140,7 +140,7 @@ parts_of c = record {
   counts = c.counts;
   named = c.named;
   waiting = c.waiting;
-  names = c.names.items;
+  names = c.names;
   past = reverse c.history.items;
   capacity = vec_capacity c.history;
   last = c.last;

@@ -15,7 +15,7 @@ ghost use Rattle.esm_replay_core.specs.Counts.{AreCounted};
 
 use crate::tally::{count_next, new_tally, take_in_hand};
 use esm_book::Refusal;
-use esm_journal_state::Says;
+use esm_journal_state::{KeptText, Says};
 use esm_model::{Change, OutOfMemory, Record, Text};
 use esm_replay::{Ranges, names_near};
 use std::alloc::Global;
@@ -37,7 +37,7 @@ pub(crate) struct Looked {
 }
 
 /// The text that was kept with the tries of the shard's record at the place, if it has any.
-fn tries_text(said: &Says, shard: u64, place: u32) -> Option<&Text>
+fn tries_text(said: &Says, shard: u64, place: u32) -> Option<&KeptText>
     ensures { option_copied result ≡ option_map (λ (f : FoundTries). f.text) (tries_told said.entry.now shard place) }
 {
     match said.tries(shard, place) {
@@ -46,14 +46,14 @@ fn tries_text(said: &Says, shard: u64, place: u32) -> Option<&Text>
     }
 }
 
-fn same_text(kept: &Text, number: &[u8]) -> bool
+fn same_text(kept: &KeptText, number: &[u8]) -> bool
     ensures { result ≡ bytes_eq kept.now number.now }
 {
     kept.as_slice() == number
 }
 
 /// The text, where there is one and it is another than the sequence number.
-fn other_text<'a>(number: &[u8], kept: Option<&'a Text>) -> Option<&'a Text>
+fn other_text<'a>(number: &[u8], kept: Option<&'a KeptText>) -> Option<&'a KeptText>
     ensures { option_copied result ≡ other_text number.now (option_copied kept.entry) }
 {
     match kept {
@@ -73,8 +73,8 @@ fn kept_otherwise<'a>(
     said: &'a Says,
     item: &Record,
     place: u32,
-    of_fate: Option<&'a Text>,
-) -> Option<&'a Text>
+    of_fate: Option<&'a KeptText>,
+) -> Option<&'a KeptText>
     ensures { option_copied result ≡ option_or (other_text item.now.seq (option_copied of_fate.entry))
         (other_text item.now.seq (option_map (λ (f : FoundTries). f.text) (tries_told said.entry.now item.now.shard place))) }
 {
@@ -89,7 +89,7 @@ fn change_from(
     alloc: Global,
     item: &Record,
     place: u32,
-    kept: Option<&Text>,
+    kept: Option<&KeptText>,
 ) -> Result<Option<Change>, OutOfMemory>
     ensures { IfOk result (λ change. change ≡ option_map (change_of item.now place) (option_copied kept.entry)) }
 {

@@ -1,7 +1,6 @@
 // The call that a replay begins next, or why none begins.
-ghost use Rattle.std.specs.Prelude.{◌≡◌, IfOk, All, None, List, length};
+ghost use Rattle.std.specs.Prelude.{◌≡◌, IfOk, All, List, length};
 ghost use Rattle.esm_model.specs.declared.entry.Entry.{Entry};
-ghost use Rattle.esm_model.specs.EventText.{event_text};
 ghost use Rattle.esm_model.specs.Valid.{IsValidRecord, IsStreamConfig};
 ghost use Rattle.esm_replay_model.specs.ReplaySetting.{ReplaySetting};
 ghost use Rattle.esm_replay.specs.Batch.{IsAmong, batch_records};
@@ -9,9 +8,9 @@ ghost use Rattle.esm_replay_core.specs.Choosing.{IsReady, IsChosen, IsBegunOf};
 
 use crate::decisions::ReplayNext;
 use crate::owed::Owed;
-use esm_event::stream_event;
-use esm_model::{Bytes, Config, Job, LaneId, OutOfMemory, Record};
-use esm_replay::{Batch, Waiting};
+use esm_event::event_of;
+use esm_model::{Config, Job, LaneId, OutOfMemory, Record};
+use esm_replay::{Batch, Waiting, names_of};
 use std::alloc::Global;
 
 /// What comes next, and what it owes.
@@ -19,22 +18,6 @@ use std::alloc::Global;
 pub(crate) struct Chosen {
     pub next: ReplayNext,
     pub owed: Owed,
-}
-
-/// The event of a call of the batch.
-fn event_of(
-    alloc: Global,
-    config: &Config,
-    records: &[Record],
-    batch: &Batch,
-) -> Result<Vec<u8>, OutOfMemory>
-    requires config { IsStreamConfig config.now }
-    requires among { IsAmong (length records.now) batch.now }
-    requires valid { All IsValidRecord (batch_records records.now batch.now) }
-    ensures { IfOk result (λ event. event.items ≡ event_text config.now (batch_records records.now batch.now) None) }
-{
-    let count = batch.places.as_slice().len();
-    stream_event(alloc, config, batch.records.records(records, count), None)
 }
 
 /// The call of the batch, of these records, begins at the moment.
@@ -50,13 +33,14 @@ fn begin(
     requires valid { All IsValidRecord (batch_records records.now batch) }
     ensures { IfOk result (IsBegunOf config.now batch.shard batch.places (batch_records records.now batch) moment) }
 {
-    let event = event_of(alloc, config, records, &batch)?;
     let Batch {
         shard,
         places,
         records: gathered,
     } = batch;
-    let names = gathered.into_names(alloc, records, places.as_slice().len())?;
+    let called = gathered.into_records(alloc, records, places.as_slice().len())?;
+    let names = names_of(alloc, called.as_slice())?;
+    let event = event_of(alloc, config, called, None)?;
     let copy = places.copy(alloc)?;
     let lane = LaneId { shard, lane: 0 };
     let owed = Owed::Began {
@@ -69,7 +53,7 @@ fn begin(
         lane,
         places,
         closing: None,
-        event: Bytes::from_vec(event),
+        event,
     };
     Ok(Chosen {
         next: ReplayNext::Call(job),

@@ -1,17 +1,20 @@
 // What the end of a call of a replay is ruled to be, and what is written of the records that are replayed.
-ghost use Rattle.std.specs.Prelude.{◌≡◌, ◌≤◌, false, take, IfOk, length};
+ghost use Rattle.std.specs.Prelude.{◌≡◌, ◌≤◌, false, true, take, IfOk, length};
+ghost use Rattle.std.specs.List.{list_all};
 ghost use Rattle.esm_model.specs.declared.limits.TheConstants.{MAX_BATCH};
 ghost use Rattle.esm_model.specs.Reading.{reading};
 ghost use Rattle.esm_model.specs.Ruling.{ruling};
+ghost use Rattle.esm_model.specs.Sequence.{is_sequence};
+ghost use Rattle.esm_verdict.specs.Readings.{IsWithin};
 ghost use Rattle.esm_journal_record.specs.declared.said.Said.TheVariants as said;
 ghost use Rattle.esm_journal_record.specs.Payload.{payload_of, IsSaid};
 ghost use Rattle.esm_replay_core.specs.Ending.{IsReplayOf, MayEnd, IsEnding};
 
 use crate::owed::Replay;
-use crate::payload::replayed_bytes;
+use esm_journal_record::{KeptText, replayed_bytes};
 use esm_model::{Config, Job, OutOfMemory, Places, Reply, Seq, Verdict};
 use esm_replay::{Parts, Waiting};
-use esm_verdict::{Call, judge, read_stream};
+use esm_verdict::{Answer, Call, judge, read_stream};
 use std::alloc::Global;
 
 /// What the end of a call comes to: so many of its records succeeded, these parts of the others are called again, and what
@@ -23,18 +26,52 @@ pub(crate) struct Ending {
     pub replay: Option<Replay>,
 }
 
+/// Copies of the sequence numbers.
+fn numbers_of(alloc: Global, names: &[KeptText]) -> Result<Vec<Seq>, OutOfMemory>
+    requires { list_all is_sequence names.now ≡ true }
+    ensures { IfOk result (λ numbers. numbers.items ≡ names.now) }
+{
+    let mut numbers = Vec::with_capacity(alloc, names.len())?;
+    for name in names {
+        let number = Seq::of_digits(alloc, name.as_slice())?;
+        numbers.push(number)?;
+    }
+    Ok(numbers)
+}
+
+/// How the reply to a call of the records with these sequence numbers is read: they are looked at only where single records
+/// may be reported.
+fn answer_of(
+    alloc: Global,
+    config: &Config,
+    names: &[KeptText],
+    reply: &Reply,
+) -> Result<Answer, OutOfMemory>
+    requires few { length names.now ≤ MAX_BATCH }
+    requires spelled { list_all is_sequence names.now ≡ true }
+    ensures reading { IfOk result (λ a. a.reading ≡ reading config.now names.now false reply.now) }
+    ensures within { IfOk result (λ a. IsWithin (length names.now) a.reading) }
+{
+    if !config.item_failures {
+        return read_stream(alloc, config, &[], Call::OfBatch, reply);
+    }
+    let numbers = numbers_of(alloc, names)?;
+    read_stream(alloc, config, numbers.as_slice(), Call::OfBatch, reply)
+}
+
 /// The ruling on a call of the records with these sequence numbers by its reply, where none of them was tried before.
 fn verdict_of(
     alloc: Global,
     config: &Config,
-    names: &[Seq],
+    names: &[KeptText],
     reply: &Reply,
 ) -> Result<Verdict, OutOfMemory>
-    requires { length names.now ≤ MAX_BATCH }
+    requires few { length names.now ≤ MAX_BATCH }
+    requires spelled { list_all is_sequence names.now ≡ true }
     ensures ruled { IfOk result (λ v. v ≡ ruling config.now (length names.now) 0 (reading config.now names.now false reply.now)) }
     ensures within { IfOk result (λ v. v.succeeded ≤ length names.now) }
 {
-    let answer = read_stream(alloc, config, names, Call::OfBatch, reply)?;
+    let answer = answer_of(alloc, config, names, reply)?;
     Ok(judge(config, names.len() as u32, 0, answer.reading))
 }
 
@@ -44,7 +81,7 @@ fn replay_payload(
     shard: u64,
     moment: u64,
     places: &[u32],
-    names: &[Seq],
+    names: &[KeptText],
     count: usize,
 ) -> Result<Vec<u8>, OutOfMemory>
     requires places { count ≤ length places.now }
@@ -61,7 +98,7 @@ fn replay_of(
     shard: u64,
     moment: u64,
     places: &[u32],
-    names: &[Seq],
+    names: &[KeptText],
     count: usize,
 ) -> Result<Option<Replay>, OutOfMemory>
     requires few { length places.now ≤ MAX_BATCH }
@@ -88,7 +125,7 @@ pub(crate) fn end_of(
     alloc: Global,
     config: &Config,
     waiting: &Waiting,
-    names: &[Seq],
+    names: &[KeptText],
     job: &Job,
     reply: &Reply,
     moment: u64,

@@ -10,7 +10,6 @@ mod counts;
 mod decisions;
 mod ending;
 mod owed;
-mod payload;
 mod pieces;
 mod replay_core;
 mod tally;

@@ -2,7 +2,8 @@
 ghost use Rattle.std.specs.Prelude.{◌≡◌, ◌≤◌, length, option_copied};
 ghost use Rattle.esm_replay_core.specs.Owing.{replay_entries, owed_entries, owed_replay_of, first_replay_of, is_left, given_up, owing_replay, still_coming};
 
-use esm_model::{LaneId, PastReply, Places, Seq};
+use esm_journal_record::KeptTexts;
+use esm_model::{LaneId, PastReply, Places};
 use esm_replay::Parts;
 
 /// Records that are replayed, with the payload that says so.
@@ -24,7 +25,7 @@ pub(crate) enum Owed {
     Began {
         lane: LaneId,
         places: Places,
-        names: Vec<Seq>,
+        names: KeptTexts,
         moment: u64,
     },
     /// It ends: so many records leave the first piece, and these parts of them are called again.

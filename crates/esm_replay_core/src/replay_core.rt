@@ -25,10 +25,9 @@ use crate::owed::{
 };
 use crate::pieces::{clear, end_call, make_first, make_room};
 use esm_book::Refusal;
+use esm_journal_record::KeptTexts;
 use esm_journal_state::Says;
-use esm_model::{
-    Config, Entry, Job, MAX_MOMENT, OutOfMemory, PastReply, Record, Refused, Reply, Seq,
-};
+use esm_model::{Config, Entry, Job, MAX_MOMENT, OutOfMemory, PastReply, Record, Refused, Reply};
 use esm_replay::{Ranges, Waiting};
 use std::alloc::Global;
 use std::collections::BTreeMap;
@@ -60,7 +59,7 @@ pub struct ReplayCore {
     /// What waits, once a call was asked for.
     waiting: Option<Waiting>,
     /// The sequence numbers of the call that is out.
-    names: Vec<Seq>,
+    names: KeptTexts,
     history: Vec<Entry>,
     /// The moment of the last entry.
     last: u64,
@@ -136,7 +135,7 @@ fn one_if(passes: bool) -> u32
 }
 
 /// These are the sequence numbers of the call that is out.
-fn put_names(place: &mut Vec<Seq>, names: Vec<Seq>)
+fn put_names(place: &mut KeptTexts, names: KeptTexts)
     ensures { place.new ≡ names }
 {
     *place = names;
@@ -172,7 +171,7 @@ impl ReplayCore {
             counts: BTreeMap::new(alloc),
             named: 0,
             waiting: None,
-            names: Vec::new(alloc),
+            names: KeptTexts::from_vec(Vec::new(alloc)),
             history,
             last: 0,
             begun: 0,

@@ -1,12 +1,14 @@
 // The calls of a book, one after the other.
-ghost use Rattle.std.specs.Prelude.{◌≡◌, IfOk, IfSome, OnOk, OnErr};
+ghost use Rattle.std.specs.Prelude.{◌≡◌, ◌∷◌, [], IfOk, IfSome, OnOk, OnErr};
+ghost use Rattle.esm_io.specs.Told.{Grows};
 ghost use Rattle.esm_serial.specs.Ran.{EndsSo};
 ghost use Rattle.esm_serial.specs.Steps.{LeadsOn, LeadsPerhapsOn, IsAsItWas};
 
 use crate::running::RunEnd;
 use crate::serial::Serial;
+use esm_event::write_event;
 use esm_io::{Caller, Clock};
-use esm_model::{BookError, Job, Next, OutOfMemory};
+use esm_model::{BookError, Event, Job, Next, OutOfMemory, Reply};
 use std::alloc::Global;
 use std::sync::Wait;
 
@@ -19,7 +21,23 @@ fn pause<C: Clock>(clock: &C, until: u64) {
     clock.pause(until.min(latest));
 }
 
-// Makes the call that began and tells its end; answers how the run ends, where the book is down.
+// Calls the function with the event, whose text is written into `text`, in the memory of the one before.
+fn call_written<F: Caller>(
+    alloc: Global,
+    caller: &mut F,
+    name: &str,
+    event: &Event,
+    text: &mut Vec<u8>,
+) -> Result<Reply, OutOfMemory>
+    ensures logged { IfOk result (λ reply. Grows (F.log caller.old) (F.log caller.new)
+        (record { name = name.now; event = F.sends event.now; reply = reply } ∷ [])) }
+    ensures unlogged { OnErr result (F.log caller.new ≡ F.log caller.old) }
+{
+    write_event(alloc, text, event)?;
+    caller.call(alloc, name, text.as_slice())
+}
+
+// Makes the call that began, and tells its end; answers how the run ends, where the book is down.
 fn make_call<B: Serial, C: Clock, F: Caller>(
     alloc: Global,
     book: &mut B,
@@ -27,6 +45,7 @@ fn make_call<B: Serial, C: Clock, F: Caller>(
     caller: &mut F,
     clock: &C,
     job: Job,
+    text: &mut Vec<u8>,
 ) -> Result<Option<RunEnd>, OutOfMemory>
     requires name { name.now ≡ B.function book.old }
     requires runs { B.runs book.old job }
@@ -36,7 +55,7 @@ fn make_call<B: Serial, C: Clock, F: Caller>(
     ensures ended { IfOk result (λ end. IfSome end (EndsSo B.Serial book.new)) }
     ensures stopped { OnErr result (LeadsPerhapsOn B.Serial C.gave F.sends book.old book.new (F.log caller.old) (F.log caller.new)) }
 {
-    let reply = caller.call(alloc, name, job.event.as_slice())?;
+    let reply = call_written(alloc, caller, name, &job.event, text)?;
     let moment = clock.now();
     match book.end_call(alloc, job, reply, moment) {
         Ok(_) => Ok(None),
@@ -52,6 +71,7 @@ fn step<B: Serial, C: Clock, F: Caller>(
     name: &str,
     caller: &mut F,
     clock: &C,
+    text: &mut Vec<u8>,
 ) -> Result<Option<RunEnd>, OutOfMemory>
     requires name { name.now ≡ B.function book.old }
     requires rests { B.rests book.old }
@@ -63,7 +83,7 @@ fn step<B: Serial, C: Clock, F: Caller>(
 {
     let moment = clock.now();
     match book.ask(alloc, moment) {
-        Ok(Next::Call(job)) => make_call(alloc, book, name, caller, clock, job),
+        Ok(Next::Call(job)) => make_call(alloc, book, name, caller, clock, job, text),
         Ok(Next::Gave(_)) => Ok(None),
         Ok(Next::Idle { until }) => {
             pause(clock, until);
@@ -77,7 +97,8 @@ fn step<B: Serial, C: Clock, F: Caller>(
 }
 
 /// Asks, calls the function `name` and pauses, for `MAX_PAUSE` at most, until it is answered that nothing is left or that all calls
-/// allowed were made, or the book is down. Want of memory ends it at any point.
+/// allowed were made, or the book is down. Want of memory ends it at any point. The text of each event takes the memory of the one
+/// before.
 pub(crate) fn call_all<R: Wait, B: Serial, C: Clock, F: Caller>(
     rt: &R,
     alloc: Global,
@@ -94,8 +115,9 @@ pub(crate) fn call_all<R: Wait, B: Serial, C: Clock, F: Caller>(
     ensures ended { IfOk result (EndsSo B.Serial book.new) }
     ensures stopped { OnErr result (LeadsPerhapsOn B.Serial C.gave F.sends book.old book.new (F.log caller.old) (F.log caller.new)) }
 {
+    let mut text = Vec::new(alloc);
     for _ in rt.forever() {
-        if let Some(end) = step(alloc, book, name, caller, clock)? {
+        if let Some(end) = step(alloc, book, name, caller, clock, &mut text)? {
             return Ok(end);
         }
     }

@@ -4,7 +4,7 @@ use crate::serial::Serial;
 use esm_input::Input;
 use esm_io::{Clock, MemSource, Script, ScriptCaller, StepClock};
 use esm_model::{
-    BookError, Bytes, CameError, Item, Job, LaneId, LineKind, Next, OutOfMemory, Places, Reply,
+    BookError, CameError, Event, Item, Job, LaneId, LineKind, Next, OutOfMemory, Places, Reply,
     Start,
 };
 use std::alloc::Global;
@@ -37,7 +37,7 @@ fn call(alloc: Global) -> Result<Next, OutOfMemory> {
         lane: LaneId { shard: 0, lane: 0 },
         places: Places::from_vec(vec![in alloc; 0u32]?),
         closing: None,
-        event: Bytes::from_vec(vec![in alloc; b'{', b'}']?),
+        event: Event::of_text(alloc, vec![in alloc; b'{', b'}']?),
     }))
 }
 

@@ -17,6 +17,7 @@ use Rattle.esm_filter.proofs.pattern.Test.TheSendSync as test
 use Rattle.esm_filter.specs.contracts.criteria.Criteria as Criteria
 use Rattle.esm_ledger.proofs.arriving.Arriving.TheSendSync as arriving
 use Rattle.esm_ledger.proofs.measure.Measure.TheSendSync as measure
+use Rattle.esm_ledger.proofs.slots.Slots.TheSendSync as slots
 use Rattle.esm_ledger.specs.contracts.coming.Coming as Coming
 use Rattle.esm_ledger.specs.contracts.ledger.Ledger as Ledger
 use Rattle.esm_ledger.specs.contracts.records.Records as Records
@@ -82,7 +83,7 @@ entry = search (past, fate.the_send, state.the_send, lane.the_send, places.the_s
 
 -- a shard's records, of which some are known to contracts alone
 records_fields : IsSend RecordsInside.the_row
-records_fields = search (item.the_send, sendable, crosses) depth 60
+records_fields = search (slots.the_send, item.the_send, sendable, crosses) depth 60
 
 records : IsSend Records.the_row
 records = view_send RecordsInside.the_row _ _ _ _ records_fields

@@ -20,8 +20,9 @@ use Rattle.esm_model.proofs.Lists.{In, In-here, In-there, In-none, In-take, In-d
 use Rattle.esm_model.proofs.Steps.{same_lane-refl}
 use Rattle.esm_model.proofs.Sound.{open_In}
 use Rattle.esm_model.proofs.Paid.{running_In, gave_open}
+use Rattle.esm_ledger.specs.Reading.{AreOpen}
 use Rattle.esm_outcome.specs.Ending.{MaySettle}
-use Rattle.esm_stream_core.specs.Acts.{AreOpen, NamesOpen, AllNameOpen}
+use Rattle.esm_stream_core.specs.Acts.{NamesOpen, AllNameOpen}
 use Rattle.esm_stream_core.proofs.Rooms.{own_legal}
 
 all_open : (s : Setting) (h : List Entry) (n : ℕ) (xs : List ℕ) → ((i : ℕ) → In xs i → lacks_fate s h n i ≡ true) → AreOpen s h n xs

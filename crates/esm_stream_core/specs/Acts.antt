@@ -1,6 +1,6 @@
 -- Entries that are owed, and what is written of them. Only this crate's proofs cite this.
-use Rattle.std.specs.Prelude.{◌≡◌, ℕ, ◌≤◌, true, List, [], ◌∷◌, length, map, Vec, Some, None, IfSome, ⊤}
-use Rattle.std.specs.List.{All, filter_map}
+use Rattle.std.specs.Prelude.{◌≡◌, ℕ, ◌≤◌, List, [], ◌∷◌, length, map, Vec, Some, None, IfSome, ⊤}
+use Rattle.std.specs.List.{filter_map}
 use Rattle.std.specs.declared.alloc.Global.{Global}
 use Rattle.esm_model.specs.declared.limits.TheConstants.{MAX_PAYLOAD}
 use Rattle.esm_model.specs.declared.moment.TheConstants.{MAX_MOMENT}
@@ -10,13 +10,13 @@ use Rattle.esm_model.specs.declared.entry.Entry.{Entry}
 use Rattle.esm_model.specs.declared.entry.Entry.TheVariants as entry
 use Rattle.esm_model.specs.Setting.{Setting, Stream}
 use Rattle.esm_model.specs.Entries.{moment_of}
-use Rattle.esm_model.specs.Fates.{lacks_fate}
 use Rattle.esm_model.specs.Step.{Legal}
 use Rattle.esm_model.specs.Books.{entry_line}
 use Rattle.esm_journal_record.specs.declared.said.Said.{Said}
 use Rattle.esm_journal_record.specs.Payload.{payload_of, IsSaid}
 use Rattle.esm_journal_record.specs.EntryPayload.{entry_said, entry_payload}
 use Rattle.esm_ledger.specs.declared.coming.Coming.{Coming}
+use Rattle.esm_ledger.specs.Reading.{AreOpen}
 use Rattle.esm_outcome.specs.declared.outcome.Due.{Due}
 use Rattle.esm_outcome.specs.declared.outcome.Due.TheVariants as due
 use Rattle.esm_record_bounds.specs.Bounds.{AreCountedInFourBytes, FiltersFew}
@@ -84,11 +84,7 @@ AreWritable s (e ∷ es) = IsWritable s e × AreWritable s es
 
 -- the records that are named
 
--- none of the shard's records at the places has a fate
-abbrev pub AreOpen : Setting → List Entry → ℕ → List ℕ → Type 0
-AreOpen s h n places = All (λ i. lacks_fate s h n i ≡ true) places
-
--- nor has one that is named in what is written of the entry
+-- none that is named in what is written of the entry has a fate
 abbrev pub NamesOpen : Setting → List Entry → Entry → Type 0
 NamesOpen s h (entry.Gave by shard places fate line state moment) = AreOpen s h shard places
 NamesOpen s h (entry.Tried lane places closing tries moment) = AreOpen s h lane.shard places

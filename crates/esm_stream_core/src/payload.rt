@@ -9,10 +9,11 @@ ghost use Rattle.esm_journal_record.specs.declared.said.Said.{Said};
 ghost use Rattle.esm_journal_record.specs.EntryPayload.{entry_payload};
 ghost use Rattle.esm_journal_record.specs.Payload.{IsSaid, name_bytes, names_bytes};
 ghost use Rattle.esm_ledger.specs.Ledger.{past_of, setting_of, Keeps};
+ghost use Rattle.esm_ledger.specs.Reading.{AreOpen};
 ghost use Rattle.esm_outcome.specs.Dues.{due_entry};
 ghost use Rattle.esm_record_bounds.specs.Bounds.{AreWithinBounds};
 ghost use Rattle.esm_stream_core.specs.declared.owed.Act.{Act};
-ghost use Rattle.esm_stream_core.specs.Acts.{IsWritten, IsPayloadOf, IsWritable, AreWritable, AreOpen, NamesOpen, AllNameOpen, AreNext, AreDue, due_act};
+ghost use Rattle.esm_stream_core.specs.Acts.{IsWritten, IsPayloadOf, IsWritable, AreWritable, NamesOpen, AllNameOpen, AreNext, AreDue, due_act};
 
 use crate::owed::{Act, Owed};
 use esm_journal_record::{Said, begin_fates, begin_tried, push_sequence, said_bytes};

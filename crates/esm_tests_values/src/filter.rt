@@ -1,5 +1,5 @@
 // The worked examples of filter patterns, and rows for each operator.
-use esm_filter::{Criteria, FilterError, PatternError};
+use esm_filter::{Criteria, FilterError, PatternError, Work};
 use esm_fixtures::{message_of, record_of, text};
 use esm_model::Kind;
 use std::alloc::Global;
@@ -159,12 +159,12 @@ fn criteria(alloc: Global, kind: Kind, pattern: &str) -> Result<Criteria, Fail> 
 
 fn passes_record(alloc: Global, criteria: &Criteria, data: &str) -> Result<bool, Fail> {
     let item = record_of(alloc, "1", "1", data.as_bytes())?;
-    Ok(criteria.passes_record(alloc, &item)?)
+    Ok(criteria.passes_record(alloc, &mut Work::new(), &item)?)
 }
 
 fn passes_message(alloc: Global, criteria: &Criteria, body: &str) -> Result<bool, Fail> {
     let item = message_of(alloc, "m-1", body)?;
-    Ok(criteria.passes_message(alloc, &item)?)
+    Ok(criteria.passes_message(alloc, &mut Work::new(), &item)?)
 }
 
 fn record_passes(alloc: Global, pattern: &str, data: &str) -> Result<bool, Fail> {

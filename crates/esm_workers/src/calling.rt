@@ -14,6 +14,7 @@ ghost use Rattle.esm_workers.specs.Seated.{IsSeated};
 ghost use Rattle.esm_workers.specs.Working.{HasLogged, HasEnded};
 
 use crate::watching::{show, watched};
+use esm_event::write_event;
 use esm_io::{Caller, Clock};
 use esm_model::{BookError, Job, Next, OutOfMemory, Pooled, Reply};
 use esm_turn::{Held, Seat, Turn};
@@ -22,6 +23,17 @@ use std::sync::Wait;
 
 /// The longest pause of a batcher, in milliseconds; then it asks again. This product's own.
 pub const MAX_PAUSE: u64 = 1_000;
+
+/// Its longest pause after a call, in milliseconds. Each pause in a row may be twice as long. This product's own.
+const FIRST_PAUSE: u64 = 1;
+
+// What a batcher takes from one round to the next: the text of the event written last, whose memory the next one takes, and
+// for how many milliseconds it pauses at most.
+#[derive(Drop)]
+struct Carried {
+    text: Vec<u8>,
+    patience: u64,
+}
 
 // What the batcher does next. The moment is read before the turn is taken.
 fn ask<R: Wait, T: Pooled, C: Clock>(
@@ -116,7 +128,8 @@ fn tell<R: Wait, T: Pooled, C: Clock>(
     next
 }
 
-// Makes the call that began, tells its end, and answers what the batcher does next.
+// Makes the call that began, with its event's text, which is written into `text`; tells its end, and answers what the batcher
+// does next.
 fn make_call<R: Wait, T: Pooled, C: Clock, F: Caller>(
     rt: &R,
     alloc: Global,
@@ -127,6 +140,7 @@ fn make_call<R: Wait, T: Pooled, C: Clock, F: Caller>(
     name: &str,
     batcher: u32,
     job: Job,
+    text: &mut Vec<u8>,
 ) -> Result<Result<Next, BookError>, OutOfMemory>
     requires number { batcher < MAX_LANES }
     requires name { name.now ≡ turn.now.setup.config.function }
@@ -142,14 +156,17 @@ fn make_call<R: Wait, T: Pooled, C: Clock, F: Caller>(
         (λ first. HasLogged (T.runs turn.now.setup seat.new.seen batcher) turn.now.setup F.sends
         (T.calls turn.now.setup F.sends seat.new.seen batcher) first (F.log caller.new))) }
 {
-    let reply = caller.call(alloc, name, job.event.as_slice())?;
+    write_event(alloc, text, &job.event)?;
+    let reply = caller.call(alloc, name, text.as_slice())?;
     tell(rt, alloc, turn, seat, clock, batcher, job, reply)
 }
 
-// Pauses until the moment, in milliseconds, but for `MAX_PAUSE` at most.
-fn pause<C: Clock>(clock: &C, until: u64) {
-    let latest = clock.now().saturating_add(MAX_PAUSE);
+// Pauses until the moment, in milliseconds, but for as many at most as the batcher has patience, which is twice as long then,
+// up to `MAX_PAUSE`.
+fn pause<C: Clock>(clock: &C, until: u64, patience: &mut u64) {
+    let latest = clock.now().saturating_add(*patience);
     clock.pause(until.min(latest));
+    *patience = patience.saturating_mul(2).min(MAX_PAUSE);
 }
 
 // What is left for a batcher to do. An answer that ends its work leaves none of these.
@@ -189,6 +206,7 @@ fn round<R: Wait, T: Pooled, C: Clock, F: Caller>(
     name: &str,
     batcher: u32,
     left: Left,
+    carried: &mut Carried,
 ) -> Result<Result<Next, BookError>, OutOfMemory>
     requires number { batcher < MAX_LANES }
     requires name { name.now ≡ turn.now.setup.config.function }
@@ -205,10 +223,19 @@ fn round<R: Wait, T: Pooled, C: Clock, F: Caller>(
         (T.calls turn.now.setup F.sends seat.new.seen batcher) first (F.log caller.new))) }
 {
     match left {
-        Left::Call(job) => make_call(rt, alloc, turn, seat, caller, clock, name, batcher, job),
-        Left::Gave(_) => Ok(ask(rt, alloc, turn, seat, clock, batcher)),
+        Left::Call(job) => {
+            carried.patience = FIRST_PAUSE;
+            let text = &mut carried.text;
+            make_call(
+                rt, alloc, turn, seat, caller, clock, name, batcher, job, text,
+            )
+        }
+        Left::Gave(_) => {
+            carried.patience = FIRST_PAUSE;
+            Ok(ask(rt, alloc, turn, seat, clock, batcher))
+        }
         Left::Idle { until } => {
-            pause(clock, until);
+            pause(clock, until, &mut carried.patience);
             let answer = ask(rt, alloc, turn, seat, clock, batcher);
             Ok(answer)
         }
@@ -226,8 +253,10 @@ fn begin<T: Pooled, C: Clock>(turn: &Turn<T>, seat: &Seat<T>, clock: &C, batcher
     T::stays();
 }
 
-/// Asks for the batcher, calls the function `name` and pauses, for `MAX_PAUSE` at most, until it is answered that nothing is
-/// left or that all calls allowed were made, or the book is down. Want of memory ends it at any point.
+/// Asks for the batcher, calls the function `name` and pauses, shortly at first, then twice as long each time, for `MAX_PAUSE`
+/// at most, until it is answered that nothing is left or that all calls allowed were made, or the book is down. Want of memory
+/// ends it at any point. The text of each event takes the memory of the one before, so the batcher holds as much as its longest
+/// event takes.
 pub fn call_all<R: Wait, T: Pooled, C: Clock, F: Caller>(
     rt: &R,
     alloc: Global,
@@ -253,12 +282,27 @@ pub fn call_all<R: Wait, T: Pooled, C: Clock, F: Caller>(
         (T.calls turn.now.setup F.sends seat.new.seen batcher) (F.log caller.old) (F.log caller.new)) }
 {
     begin(turn, seat, clock, batcher);
+    let mut carried = Carried {
+        text: Vec::new(alloc),
+        patience: FIRST_PAUSE,
+    };
     let mut answer = ask(rt, alloc, turn, seat, clock, batcher);
     for _ in rt.forever() {
         let Some(left) = left_after(answer)? else {
             return Ok(());
         };
-        answer = round(rt, alloc, turn, seat, caller, clock, name, batcher, left)?;
+        answer = round(
+            rt,
+            alloc,
+            turn,
+            seat,
+            caller,
+            clock,
+            name,
+            batcher,
+            left,
+            &mut carried,
+        )?;
     }
     unreachable!()
 }

@@ -191,13 +191,31 @@ fn ends_where_nothing_is_left(rt: HostRuntime) -> Result<(), Fail> {
 }
 
 #[test]
-fn pauses_for_a_second_at_most(rt: HostRuntime) -> Result<(), Fail> {
-    let answers = vec![in rt.alloc(); Answer::Spent, Answer::Idle(1_300), Answer::Idle(1_300)]?;
+fn pauses_until_the_moment_at_most(rt: HostRuntime) -> Result<(), Fail> {
+    let answers = vec![in rt.alloc(); Answer::Spent, Answer::Idle(2), Answer::Idle(2)]?;
     let ended = batcher_over(&rt, rt.alloc(), answers).ok_or("no memory")?;
-    assert_eq!(rt; ended, (true, 0, 1_300));
-    let answers = vec![in rt.alloc(); Answer::Spent, Answer::Idle(u64::MAX)]?;
+    assert_eq!(rt; ended, (true, 0, 2));
+    Ok(())
+}
+
+// Ten pauses of 1, 2, 4 .. 512 milliseconds, and then two of a second.
+#[test]
+fn pauses_twice_as_long_each_time_for_a_second_at_most(rt: HostRuntime) -> Result<(), Fail> {
+    let mut answers = vec![in rt.alloc(); Answer::Spent]?;
+    for _ in 0..12 {
+        answers.push(Answer::Idle(u64::MAX))?;
+    }
     let ended = batcher_over(&rt, rt.alloc(), answers).ok_or("no memory")?;
-    assert_eq!(rt; ended, (true, 0, 1_000));
+    assert_eq!(rt; ended, (true, 0, 1_023 + 2_000));
+    Ok(())
+}
+
+#[test]
+fn pauses_shortly_after_records_got_their_fate(rt: HostRuntime) -> Result<(), Fail> {
+    let idle = Answer::Idle(u64::MAX);
+    let answers = vec![in rt.alloc(); Answer::Spent, idle, Answer::Gave, idle, idle]?;
+    let ended = batcher_over(&rt, rt.alloc(), answers).ok_or("no memory")?;
+    assert_eq!(rt; ended, (true, 0, 4));
     Ok(())
 }
 
@@ -216,6 +234,6 @@ fn ends_where_the_book_is_down_or_memory_is_wanting(rt: HostRuntime) -> Result<(
 fn a_book_on_time_does_as_the_book(rt: HostRuntime) -> Result<(), Fail> {
     let answers = vec![in rt.alloc(); Answer::Gave, Answer::Down, Answer::Idle(1_300)]?;
     let ended = batcher_on_time(&rt, rt.alloc(), answers).ok_or("no memory")?;
-    assert_eq!(rt; ended, (true, 1, 1_000));
+    assert_eq!(rt; ended, (true, 1, 1));
     Ok(())
 }

@@ -6,11 +6,12 @@ use Rattle.json.proofs.Grammar.{value_is, value-begin_array, value-begin_object,
 use Rattle.serde_json.specs.Data.{null, boolean, number, string, array, object, item, no_items, no_members, put}
 use Rattle.serde_json.specs.Find.{get_member}
 use Rattle.serde_json.specs.Read.{of_json, converted}
-use Rattle.serde_json.specs.View.{view, number_view, items_view, members_view}
-use Rattle.serde_json.specs.declared.value.Value.{Number, Bool, Null, the_lemmas}
-use Rattle.serde_json.proofs.Views.{view-Array, view-Object}
+use Rattle.serde_json.specs.View.{number_view}
 use Rattle.esm_filter.specs.Criteria.{patterns_view}
+use Rattle.esm_filter.specs.Found.{found_view, items_view, members_view}
+use Rattle.esm_filter.specs.declared.found.Found.{Number, Bool, Null, Text, the_lemmas}
 use Rattle.esm_filter.specs.Named.{is_named, Like}
+use Rattle.esm_filter.proofs.FoundLemmas.{view-Array, view-Object}
 use Rattle.esm_filter.proofs.KeepLemmas.{keeps_as, leaves_in, next_leaf, no_more}
 use Rattle.esm_filter.proofs.LikeLemmas.{itself, like_arrays, like_objects, next_member, same_leaf}
 use Rattle.esm_filter.proofs.Tokens.{in_array, in_object, items_after, members_after, item_turn, member_turn, nothing_before}
@@ -47,20 +48,21 @@ read-returns-in_err-read_members-in-BeginObject-clause-err t c refused =
     let opened = ap (converted of_json) (ap (value c.args.depth) (first ∙ ap (λ k. token_of k ∷ c.next.new.self) c.in-BeginObject.is) ∙ value-begin_object c.args.depth c.next.new.self (omega arith)) ∙ in_object (members (value (c.args.depth - 1)) (length c.next.new.self) c.next.new.self) in
     opened ∙ ap (parse_map object) (c.read_members.ensures.err (grind arith))
 
-pub read-returns-in_ok-text_value-in-String-clause-ok : goal.read-returns-in_ok-text_value-in-String-clause-ok
-read-returns-in_ok-text_value-in-String-clause-ok t c =
+pub read-returns-in-String-clause-ok : goal.read-returns-in-String-clause-ok
+read-returns-in-String-clause-ok t c =
     let first : c.args.reader.now ≡ token_of c.in_ok-token.token ∷ c.next.new.self = grind arith in
     let is : c.args.reader.now ≡ Token.string c.in-String.text.now ∷ c.next.new.self = grind (arith, first) in
-    keeps_as (is_named (patterns_view c.args.patterns.now)) c.args.kept c.args.depth c.args.reader.now c.next.new.self (string c.in-String.text.now) (view c.in_ok-text_value-in-String.field-0)
+    let seen : found_view (Text c.in-String.text) ≡ string c.in-String.text.now = search (rules, the_lemmas) in
+    keeps_as (is_named (patterns_view c.args.patterns.now)) c.args.kept c.args.depth c.args.reader.now c.next.new.self (string c.in-String.text.now) (found_view (Text c.in-String.text))
     (ap (converted of_json) (ap (value c.args.depth) is ∙ value_is c.args.depth (Token.string c.in-String.text.now ∷ c.next.new.self)))
-    c.in_ok-text_value-in-String.ensures.ok
+    (λ kept. seen)
 
 pub read-returns-in-Bool-clause-ok : goal.read-returns-in-Bool-clause-ok
 read-returns-in-Bool-clause-ok t c =
     let first : c.args.reader.now ≡ token_of c.in_ok-token.token ∷ c.next.new.self = grind arith in
     let is : c.args.reader.now ≡ Token.boolean c.in-Bool.b ∷ c.next.new.self = grind (arith, first) in
-    let seen : view (Bool c.in-Bool.b) ≡ boolean c.in-Bool.b = search (rules, the_lemmas) in
-    keeps_as (is_named (patterns_view c.args.patterns.now)) c.args.kept c.args.depth c.args.reader.now c.next.new.self (boolean c.in-Bool.b) (view (Bool c.in-Bool.b))
+    let seen : found_view (Bool c.in-Bool.b) ≡ boolean c.in-Bool.b = search (rules, the_lemmas) in
+    keeps_as (is_named (patterns_view c.args.patterns.now)) c.args.kept c.args.depth c.args.reader.now c.next.new.self (boolean c.in-Bool.b) (found_view (Bool c.in-Bool.b))
     (ap (converted of_json) (ap (value c.args.depth) is ∙ value_is c.args.depth (Token.boolean c.in-Bool.b ∷ c.next.new.self)))
     (λ kept. seen)
 
@@ -68,8 +70,8 @@ pub read-returns-in-Null-clause-ok : goal.read-returns-in-Null-clause-ok
 read-returns-in-Null-clause-ok t c =
     let first : c.args.reader.now ≡ token_of c.in_ok-token.token ∷ c.next.new.self = grind arith in
     let is : c.args.reader.now ≡ Token.null ∷ c.next.new.self = grind (arith, first) in
-    let seen : view Null ≡ null = search (rules, the_lemmas) in
-    keeps_as (is_named (patterns_view c.args.patterns.now)) c.args.kept c.args.depth c.args.reader.now c.next.new.self null (view Null)
+    let seen : found_view Null ≡ null = search (rules, the_lemmas) in
+    keeps_as (is_named (patterns_view c.args.patterns.now)) c.args.kept c.args.depth c.args.reader.now c.next.new.self null (found_view Null)
     (ap (converted of_json) (ap (value c.args.depth) is ∙ value_is c.args.depth (Token.null ∷ c.next.new.self)))
     (λ kept. seen)
 
@@ -77,8 +79,8 @@ pub read-returns-in-Some-clause-ok : goal.read-returns-in-Some-clause-ok
 read-returns-in-Some-clause-ok t c =
     let first : c.args.reader.now ≡ token_of c.in_ok-token.token ∷ c.next.new.self = grind arith in
     let is : c.args.reader.now ≡ Token.number c.in-Number.text.now ∷ c.next.new.self = grind (arith, first) in
-    let seen : view (Number c.in-Some.number) ≡ number (number_view c.in-Some.number) = search (rules, the_lemmas) in
-    keeps_as (is_named (patterns_view c.args.patterns.now)) c.args.kept c.args.depth c.args.reader.now c.next.new.self (number (number_view c.in-Some.number)) (view (Number c.in-Some.number))
+    let seen : found_view (Number c.in-Some.number) ≡ number (number_view c.in-Some.number) = search (rules, the_lemmas) in
+    keeps_as (is_named (patterns_view c.args.patterns.now)) c.args.kept c.args.depth c.args.reader.now c.next.new.self (number (number_view c.in-Some.number)) (found_view (Number c.in-Some.number))
     (ap (converted of_json) (ap (value c.args.depth) is ∙ value_is c.args.depth (Token.number c.in-Number.text.now ∷ c.next.new.self)) ∙ rw (← c.in-Some.ensures))
     (λ kept. seen)
 
@@ -117,7 +119,7 @@ read-returns-in_ok-read_members-in-BeginObject-clause-ok t c =
     record {
       found = object found.ensures.ok.found;
       reads = opened ∙ ap (parse_map object) found.ensures.ok.reads;
-      like = λ kept. subst (λ d. Like names (Some (object found.ensures.ok.found)) (Some d)) (sym seen) (like_objects names found.ensures.ok.found (members_view found.field-0.entries) (found.ensures.ok.like kept));
+      like = λ kept. subst (λ d. Like names (Some (object found.ensures.ok.found)) (Some d)) (sym seen) (like_objects names found.ensures.ok.found (members_view found.field-0.items) (found.ensures.ok.like kept));
     }
 
 pub read_items-items-init : goal.read_items-items-init
@@ -149,7 +151,7 @@ read_items-items-preserved t c =
       omega (arith, l.invariant.2),
       l.invariant.3 ∙ item_turn p before n l.reader (Some (d, r)) going.0 (rw (← going.1) done.ok.reads),
       omega (arith, l.invariant.4),
-      λ kept. next_leaf before l.found.items c.keep_item.new.found.items v d (same_leaf names d (view v) (done.ok.like kept)) (c.in_ok-keep_item.ensures.ok kept) (l.invariant.5 kept),
+      λ kept. next_leaf before l.found.items c.keep_item.new.found.items v d (same_leaf names d (found_view v) (done.ok.like kept)) (c.in_ok-keep_item.ensures.ok kept) (l.invariant.5 kept),
     )
 
 pub read_items-returns-clause-ok : goal.read_items-returns-clause-ok
@@ -164,7 +166,7 @@ read_items-returns-clause-ok t c =
 pub read_members-members-init : goal.read_members-members-init
 read_members-members-init t c =
     let names = is_named (patterns_view c.args.patterns.now) in
-    (length c.args.reader.now, no_members, omega arith, refl, omega arith, λ kept k named. subst (λ es. Like names None (get_member k (members_view es))) (sym c.new-found.ensures.empty) (itself names None))
+    (length c.args.reader.now, no_members, omega arith, refl, omega arith, λ kept k named. subst (λ es. Like names None (get_member k (members_view es))) (sym c.new-found.ensures.items) (itself names None))
 
 pub read_members-returns-in_err-name-clause-err : goal.read_members-returns-in_err-name-clause-err
 read_members-returns-in_err-name-clause-err t c refused =
@@ -200,7 +202,7 @@ read_members-members-preserved t c =
       omega (arith, l.invariant.2),
       l.invariant.3 ∙ member_turn p old n k l.reader s (Some (d, r)) named done.ok.reads,
       omega (arith, l.invariant.4),
-      next_member names c.args.kept k d (view v) old (members_view l.found.entries) (members_view c.keep_member.new.found.entries) l.invariant.5 c.is_wanted-wanted.result c.is_wanted-wanted.ensures done.ok.like c.in_ok-keep_member.ensures.ok (λ off. ap members_view (c.keep_member.ensures.passed off)),
+      next_member names c.args.kept k d (found_view v) old (members_view l.found.items) (members_view c.keep_member.new.found.items) l.invariant.5 c.is_wanted-wanted.result c.is_wanted-wanted.ensures done.ok.like c.in_ok-keep_member.ensures.ok (λ off. ap members_view (c.keep_member.ensures.passed off)),
     )
 
 pub read_members-returns-clause-ok : goal.read_members-returns-clause-ok

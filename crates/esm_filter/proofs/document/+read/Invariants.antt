@@ -2,9 +2,9 @@ use Rattle.std.proofs.Common.{◌≡◌, ℕ, ◌+◌, ◌*◌, ◌≤◌, ◌++
 use Rattle.json.specs.Json.{items, members, value}
 use Rattle.serde_json.specs.Data.{Items, Members, no_members}
 use Rattle.serde_json.specs.Read.{of_items, of_members, converted}
-use Rattle.serde_json.specs.View.{items_view, members_view}
 use Rattle.esm_model.specs.Leaves.{is_leaf, items_list}
 use Rattle.esm_filter.specs.Criteria.{patterns_view}
+use Rattle.esm_filter.specs.Found.{items_view, members_view}
 use Rattle.esm_filter.specs.Named.{is_named}
 use Rattle.esm_filter.proofs.LikeLemmas.{members_like}
 use Rattle.esm_filter.proofs.Tokens.{items_after, members_after}
@@ -34,7 +34,7 @@ invariant-read_members-members l =
     (n : ℕ) × (read : Members) × (length l.reader ≤ n)
     × (converted (λ ms. of_members ms no_members) (members (value l.depth) (length l.initial.reader) l.initial.reader) ≡ converted (members_after read) (members (value l.depth) n l.reader))
     × (length l.reader ≤ length l.initial.reader)
-    × members_like (is_named (patterns_view l.patterns)) l.kept read (members_view l.found.entries)
+    × members_like (is_named (patterns_view l.patterns)) l.kept read (members_view l.found.items)
 
 abbrev pub decreases-read_members-members : goal.decreases-read_members-members
 decreases-read_members-members l = length l.reader

@@ -1,11 +1,7 @@
-use Rattle.std.proofs.Common.{◌≡◌, string_bytes, ap, ◌∙◌, rules}
-use Rattle.serde_json.specs.Data.{put}
-use Rattle.serde_json.specs.View.{view, members_view}
-use Rattle.serde_json.proofs.Views.{members_view-insert_entry}
+use Rattle.std.proofs.Common.{ap, ◌∙◌}
+use Rattle.esm_filter.specs.Found.{members_view}
+use Rattle.esm_filter.proofs.FoundLemmas.{members_view-push}
 use Rattle.esm_filter.proofs.document.keep_member.Goals as goal
 
-pub returns-in_ok-insert-clause-ok : goal.returns-in_ok-insert-clause-ok
-returns-in_ok-insert-clause-ok c kept =
-    let copied : string_bytes c.in_ok-key.key ≡ c.args.name.now = search rules in
-    ap members_view c.in_ok-insert.ensures.entries ∙ members_view-insert_entry c.args.found.now.entries c.in_ok-key.key c.args.member
-    ∙ ap (λ name. put name (view c.args.member) (members_view c.args.found.now.entries)) copied
+pub returns-in_ok-push-clause-ok : goal.returns-in_ok-push-clause-ok
+returns-in_ok-push-clause-ok c kept = ap members_view c.in_ok-push.ensures.items ∙ members_view-push c.args.found.now.items (c.args.name, c.args.member)

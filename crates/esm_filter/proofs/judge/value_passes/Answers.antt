@@ -1,5 +1,5 @@
 use Rattle.esm_model.specs.Leaves.{leaves}
-use Rattle.esm_filter.specs.Judged.{value_of}
+use Rattle.esm_filter.specs.Found.{value_of}
 use Rattle.esm_filter.specs.View.{test_view}
 use Rattle.esm_filter.proofs.LeafLemmas.{absence, presence}
 use Rattle.esm_filter.proofs.judge.value_passes.Goals as goal

@@ -7,15 +7,15 @@ use Rattle.esm_journal_record.proofs.names.read_names.Goals as goal
 
 pub returns-in_err-place : goal.returns-in_err-place
 returns-in_err-place c =
-    let p = err_from_is_err_and c.from_residual.result c.from_residual.ensures.1 in
-    rw (p.1, p.2) (ends c.in_err-place.field-0.0 (test_of c.args.word) c.loop.places.items c.loop.texts.items c.args.count c.loop.counter c.loop.rest.now (names_at (test_of c.args.word) c.args.count c.args.bytes.now) c.loop-test.true c.in_err-place.ensures c.loop.invariant)
+    let p = err_from_is_err_and c.from_residual-in_err-place.result c.from_residual-in_err-place.ensures.1 in
+    rw (p.1, p.2) (ends c.in_err-place.field-0.0 (test_of c.args.word) c.loop.places.items c.loop.texts c.args.count c.loop.counter c.loop.rest.now (names_at (test_of c.args.word) c.args.count c.args.bytes.now) c.loop-test.true c.in_err-place.ensures.read c.loop.invariant)
 
 pub loop-preserved : goal.loop-preserved
 loop-preserved c =
     let more : c.push.new.self.items ≡ c.loop.places.items ++ c.in_ok-place.place ∷ [] = c.in_ok-push.ensures.items in
-    let said : c.push-in-loop.new.self.items ≡ c.loop.texts.items ++ c.in_ok-place.text ∷ [] = c.in_ok-push-2.ensures.items in
-    rw (more, said) (goes_on (test_of c.args.word) c.loop.places.items c.loop.texts.items c.args.count c.loop.counter c.loop.rest.now c.in_ok-place.place c.in_ok-place.text c.in_ok-place.after.now (names_at (test_of c.args.word) c.args.count c.args.bytes.now) c.loop-test.true c.in_ok-place.ensures c.loop.invariant)
+    let said = c.in_ok-texts-2.ensures in
+    rw (more, said) (goes_on (test_of c.args.word) c.loop.places.items c.loop.texts c.args.count c.loop.counter c.loop.rest.now c.in_ok-place.place c.in_ok-place.text.now c.in_ok-place.after.now (names_at (test_of c.args.word) c.args.count c.args.bytes.now) c.loop-test.true c.in_ok-place.ensures.read c.loop.invariant)
 
 pub returns : goal.returns
 returns c =
-    rw (c.from_vec.ensures, c.from_vec-2.ensures) (is_done (test_of c.args.word) c.loop.places.items c.loop.texts.items c.args.count c.loop.counter c.loop.rest.now (names_at (test_of c.args.word) c.args.count c.args.bytes.now) c.loop-test.false c.loop.invariant)
+    rw (c.from_vec-places.ensures, c.in_ok-texts-3.ensures) (is_done (test_of c.args.word) c.loop.places.items c.loop.texts c.args.count c.loop.counter c.loop.rest.now (names_at (test_of c.args.word) c.args.count c.args.bytes.now) c.loop-test.false c.loop.invariant)

@@ -10,7 +10,7 @@ unreachable-requires c =
     let l = c.args.ledger.now in
     came_there (setting_of l) (past_of l) c.args.shard c.args.place (legal_of l c.requires.kept.rests) c.requires.came (sym (ap option_copied c.in-None.is) ∙ c.record.ensures)
 
-pub returns-in_err-number-in-Some-clause-named : goal.returns-in_err-number-in-Some-clause-named
-returns-in_err-number-in-Some-clause-named c =
+pub returns-in_err-sequence_copy-in-Some-clause-named : goal.returns-in_err-sequence_copy-in-Some-clause-named
+returns-in_err-sequence_copy-in-Some-clause-named c =
     let l = c.args.ledger.now in
     shard_low (setting_of l) (past_of l) c.args.shard c.args.place c.requires.valid (legal_of l c.requires.kept.rests) c.requires.came

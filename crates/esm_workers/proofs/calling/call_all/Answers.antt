@@ -2,6 +2,16 @@ use Rattle.std.proofs.Common.{◌+◌, sym, ◌∙◌}
 use Rattle.esm_workers.proofs.Later.{begins_then, follow_from}
 use Rattle.esm_workers.proofs.calling.call_all.Goals as goal
 
+pub loop-preserved : goal.loop-preserved
+loop-preserved g c = (
+  tt,
+  tt,
+  c.in_ok-answer.ensures.seated,
+  c.in_ok-answer.ensures.answer,
+  c.in_ok-answer.ensures.called (g.F.Caller.log c.args.caller.now) c.loop.invariant.4,
+  begins_then c.args.seat.now.seen c.loop.seat.seen c.round.new.seat.seen c.loop.invariant.5 c.in_ok-answer.ensures.grows,
+)
+
 pub returns-in_err-left-clause-later : goal.returns-in_err-left-clause-later
 returns-in_err-left-clause-later g c = λ shut.
     let s = c.args.seat.now in

@@ -1,7 +1,7 @@
 use Rattle.std.proofs.Common.{option_map}
 use Rattle.serde_json.specs.Read.{read}
-use Rattle.serde_json.specs.View.{view}
 use Rattle.esm_model.specs.Filter.{in_message}
+use Rattle.esm_filter.specs.Found.{found_view}
 use Rattle.esm_filter.proofs.CriteriaLemmas.{judged_message, no_patterns}
 use Rattle.esm_filter.proofs.criteria.Criteria.passes_message.Goals as goal
 
@@ -11,5 +11,5 @@ returns-then-none c =
 
 pub returns : goal.returns
 returns c =
-    judged_message c.args.self.now.patterns.items c.as_slice-patterns.result.now c.args.item.now c.as_str.result.now (option_map view c.in_ok-json.json) c.message_passes.result
+    judged_message c.args.self.now.patterns.items c.as_slice-patterns.result.now c.args.item.now c.as_str.result.now (option_map found_view c.in_ok-json.json) c.message_passes.result
     c.as_slice-patterns.ensures.value c.as_str.ensures c.in_ok-json.ensures c.message_passes.ensures

@@ -90,7 +90,7 @@ overflow_add-self-in-Began c =
     let p = parts_of c.self.inside in
     let x = c.in-Began in
     let is : p.owed ≡ Began x.lane x.places x.names x.moment = sym x.ensures.value in
-    let few = begun_few p x.lane x.places x.names.items x.moment c.self.invariant.0 (subst (MayOwe p) is c.self.invariant.0.owed) in
+    let few = begun_few p x.lane x.places x.names x.moment c.self.invariant.0 (subst (MayOwe p) is c.self.invariant.0.owed) in
     omega (arith, few)
 
 pub invariant_of-self-in-Began : goal.invariant_of-self-in-Began
@@ -98,10 +98,10 @@ invariant_of-self-in-Began c =
     let p = parts_of c.self.inside in
     let x = c.in-Began in
     let is : p.owed ≡ Began x.lane x.places x.names x.moment = sym x.ensures.value in
-    let began = pay_began p x.lane x.places x.names.items x.moment c.self.invariant.0 (subst (MayOwe p) is c.self.invariant.0.owed) (ap owed_entries is) in
-    let paid : IsPaid (with_entry p (entry.Began x.lane x.places None x.moment) p.waiting c.put_names.new.place.items x.moment (p.begun + 1) Nothing) p = subst (λ (names : List (List ℕ)). IsPaid (with_entry p (entry.Began x.lane x.places None x.moment) p.waiting names x.moment (p.begun + 1) Nothing) p) (sym (ap (λ v. v.items) c.put_names.ensures)) began in
+    let began = pay_began p x.lane x.places x.names x.moment c.self.invariant.0 (subst (MayOwe p) is c.self.invariant.0.owed) (ap owed_entries is) in
+    let paid : IsPaid (with_entry p (entry.Began x.lane x.places None x.moment) p.waiting c.put_names.new.place x.moment (p.begun + 1) Nothing) p = subst (λ (names : List (List ℕ)). IsPaid (with_entry p (entry.Began x.lane x.places None x.moment) p.waiting names x.moment (p.begun + 1) Nothing) p) (sym c.put_names.ensures) began in
     let push = c.push_reserved in (
-      (core_pushed p c.args.self.now (entry.Began x.lane x.places None x.moment) p.waiting c.put_names.new.place.items x.moment (p.begun + 1) Nothing c.replace.new.dest c.self.inside.history.items push.new.self.items (vec_capacity push.new.self)
+      (core_pushed p c.args.self.now (entry.Began x.lane x.places None x.moment) p.waiting c.put_names.new.place x.moment (p.begun + 1) Nothing c.replace.new.dest c.self.inside.history.items push.new.self.items (vec_capacity push.new.self)
           paid c.self.view_is refl push.ensures.items push.ensures.capacity c.replace.ensures.after).kept,
       c.self.invariant.1,
       c.self.invariant.2,
@@ -112,10 +112,10 @@ returns-in-Began c =
     let p = parts_of c.self.inside in
     let x = c.in-Began in
     let is : p.owed ≡ Began x.lane x.places x.names x.moment = sym x.ensures.value in
-    let began = pay_began p x.lane x.places x.names.items x.moment c.self.invariant.0 (subst (MayOwe p) is c.self.invariant.0.owed) (ap owed_entries is) in
-    let paid : IsPaid (with_entry p (entry.Began x.lane x.places None x.moment) p.waiting c.put_names.new.place.items x.moment (p.begun + 1) Nothing) p = subst (λ (names : List (List ℕ)). IsPaid (with_entry p (entry.Began x.lane x.places None x.moment) p.waiting names x.moment (p.begun + 1) Nothing) p) (sym (ap (λ v. v.items) c.put_names.ensures)) began in
+    let began = pay_began p x.lane x.places x.names x.moment c.self.invariant.0 (subst (MayOwe p) is c.self.invariant.0.owed) (ap owed_entries is) in
+    let paid : IsPaid (with_entry p (entry.Began x.lane x.places None x.moment) p.waiting c.put_names.new.place x.moment (p.begun + 1) Nothing) p = subst (λ (names : List (List ℕ)). IsPaid (with_entry p (entry.Began x.lane x.places None x.moment) p.waiting names x.moment (p.begun + 1) Nothing) p) (sym c.put_names.ensures) began in
     let push = c.push_reserved in
-    (core_pushed p c.args.self.now (entry.Began x.lane x.places None x.moment) p.waiting c.put_names.new.place.items x.moment (p.begun + 1) Nothing c.replace.new.dest c.self.inside.history.items push.new.self.items (vec_capacity push.new.self)
+    (core_pushed p c.args.self.now (entry.Began x.lane x.places None x.moment) p.waiting c.put_names.new.place x.moment (p.begun + 1) Nothing c.replace.new.dest c.self.inside.history.items push.new.self.items (vec_capacity push.new.self)
     paid c.self.view_is refl push.ensures.items push.ensures.capacity c.replace.ensures.after).seen
 
 -- a call ends

@@ -9,14 +9,14 @@ use Rattle.esm_stream_core.proofs.Keeping.{IsCoreOf}
 use Rattle.esm_stream_core.proofs.Ledgers.{moment_is}
 use Rattle.esm_stream_core.proofs.Shutting.{ends_quietly, room_for, core_noted}
 use Rattle.esm_stream_core.proofs.stream_core.StreamCore.note_ended.Goals as goal
-use Rattle.esm_stream_core.proofs.stream_core.StreamCore.note_ended.Goals.{After-drop-job-2}
+use Rattle.esm_stream_core.proofs.stream_core.StreamCore.note_ended.Goals.{After-drop-job-5}
 
 pub push-requires-clause-room : goal.push-requires-clause-room
 push-requires-clause-room c =
     let m = c.raised_to-now.result in
     room_for c.self.inside (Ended c.args.job.lane c.args.reply m) c.self.invariant (ends_quietly c.args.self.now c.self.inside c.args.job.lane c.args.reply m c.self.view_is c.requires.runs.runs c.raised_to-now.ensures.in_time)
 
-all_noted : (c : After-drop-job-2) → IsCoreOf (noted (view_of c.self.inside) (Ended c.args.job.lane c.args.reply c.raised_to-now.result)) (record c.self.inside { ledger = c.push.new.ledger; standing = Left })
+all_noted : (c : After-drop-job-5) → IsCoreOf (noted (view_of c.self.inside) (Ended c.args.job.lane c.args.reply c.raised_to-now.result)) (record c.self.inside { ledger = c.push.new.ledger; standing = Left })
 all_noted c =
     let m = c.raised_to-now.result in
     core_noted c.progress_stays.ensures c.self.inside c.push.new.ledger (Ended c.args.job.lane c.args.reply m) c.self.invariant

@@ -2,8 +2,9 @@ use Rattle.std.proofs.Common.{[], ◌∷◌, List, refl, sym, subst}
 use Rattle.esm_model.specs.declared.entry.Entry.{Entry}
 use Rattle.esm_model.specs.Setting.{Setting}
 use Rattle.esm_ledger.specs.Ledger.{past_of, setting_of}
+use Rattle.esm_ledger.specs.Reading.{AreOpen}
 use Rattle.esm_stream_core.specs.Kept.{IsSame}
-use Rattle.esm_stream_core.specs.Acts.{IsWritable, AreOpen}
+use Rattle.esm_stream_core.specs.Acts.{IsWritable}
 use Rattle.esm_stream_core.proofs.Deciding.{Begins, begun, begun_sound, begun_as, Decided, undecided, moved}
 use Rattle.esm_stream_core.proofs.OpenNames.{expiry_open}
 use Rattle.esm_stream_core.proofs.Calls.{expiry_of, expiry_next, expiry_decided}

@@ -1,0 +1,14 @@
+use Rattle.std.proofs.Common.{◌≡◌, ◌∙◌, List, Option, sym, ap, subst, is_some}
+use Rattle.std.specs.List.{count_by}
+use Rattle.esm_model.specs.Records.{Record}
+use Rattle.esm_ledger.specs.Chunks.{IsChunk, chunk_of}
+use Rattle.esm_ledger.proofs.ChunkSlots.{chunk_none, none_came}
+use Rattle.esm_ledger.proofs.chunk.Chunk.of.Goals as goal
+
+pub invariant_of-t-8 : goal.invariant_of-t-8
+invariant_of-t-8 c = subst (λ (xs : List (Option Record)). IsChunk xs c.held_count-held.result) (sym c.new-slots.ensures.items) (chunk_none c.held_count-held.result c.if-held-eq0.true)
+
+pub returns-then-held-eq0 : goal.returns-then-held-eq0
+returns-then-held-eq0 c =
+    let none : count_by is_some c.args.slots.items ≡ 0 = ap (λ (xs : List (Option Record)). count_by is_some xs) (sym c.as_slice.ensures.value) ∙ sym c.held_count-held.ensures ∙ c.if-held-eq0.true in
+    ap chunk_of c.new-slots.ensures.items ∙ none_came c.args.slots.items c.requires none

@@ -1,0 +1,75 @@
+// The event of a call to make: what its text is written of.
+ghost use Rattle.std.specs.Prelude.{◌≡◌};
+ghost use Rattle.esm_model.specs.EventText.{event_in};
+
+use crate::record::Record;
+use std::alloc::Global;
+use std::marker::Model;
+
+/// The event of a call to make, seen as its text. The text is not written yet: it is what it begins with, an element for
+/// each of some records, which the event shares, and what it ends with.
+#[derive(Drop, Debug)]
+pub struct Event {
+    head: Vec<u8>,
+    records: Vec<Record>,
+    source: Vec<u8>,
+    tail: Vec<u8>,
+}
+
+/// What the text of an event is written of: its beginning, the records of its elements, what each element says of its source,
+/// and its end.
+#[derive(Clone, Copy)]
+pub struct EventParts<'a> {
+    pub head: &'a [u8],
+    pub records: &'a [Record],
+    pub source: &'a [u8],
+    pub tail: &'a [u8],
+}
+
+impl Model for Event {
+    ghost use Rattle.std.specs.Prelude.{ℕ, List};
+    ghost use Rattle.esm_model.specs.EventText.{event_in};
+
+    ghost Value = { List ℕ };
+
+    ghost view = { λ e. event_in e.head.items e.records.items e.source.items e.tail.items };
+}
+
+impl Event {
+    /// The event with this text, which has no elements of records; takes no memory.
+    pub fn of_text(alloc: Global, text: Vec<u8>) -> Event
+        ensures { result ≡ text.items }
+    {
+        Event {
+            head: text,
+            records: Vec::new(alloc),
+            source: Vec::new(alloc),
+            tail: Vec::new(alloc),
+        }
+    }
+
+    /// The event that begins with `head`, has an element for each of the records, separated by commas, which ends with
+    /// `source`, and ends with `tail`; takes no memory.
+    pub fn of_records(head: Vec<u8>, records: Vec<Record>, source: Vec<u8>, tail: Vec<u8>) -> Event
+        ensures { result ≡ event_in head.items records.items source.items tail.items }
+    {
+        Event {
+            head,
+            records,
+            source,
+            tail,
+        }
+    }
+
+    /// What its text is written of.
+    pub fn parts(&self) -> EventParts<'_>
+        ensures { self.now ≡ event_in result.head.now result.records.now result.source.now result.tail.now }
+    {
+        EventParts {
+            head: self.head.as_slice(),
+            records: self.records.as_slice(),
+            source: self.source.as_slice(),
+            tail: self.tail.as_slice(),
+        }
+    }
+}
