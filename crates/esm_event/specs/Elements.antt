@@ -1,4 +1,4 @@
--- The elements of an event in the pieces that they are written by.
+-- The elements of an event, cut into the parts in which they are written.
 use Rattle.std.specs.Prelude.{ℕ, List, ◌++◌, codes}
 use Rattle.std.specs.List.{flat_map}
 use Rattle.esm_model.specs.Numbers.{padded_decimal}
@@ -9,14 +9,14 @@ use Rattle.esm_model.specs.declared.config.Config.{Config}
 use Rattle.esm_model.specs.Records.{Record}
 use Rattle.esm_model.specs.declared.received.Received.{Received}
 
--- a record's key, sequence number, data and arrival
+-- the part of a record's element with its key, sequence number, data and arrival
 unfoldable pub content_text : Record → List ℕ
 content_text r =
     flat_map escaped_byte r.key ++ codes "\",\"sequenceNumber\":\"" ++ r.seq
     ++ codes "\",\"data\":\"" ++ base64_text r.payload
     ++ codes "\",\"approximateArrivalTimestamp\":" ++ seconds_text r.arrival
 
--- what follows them up to the sequence number again, the same for all records of the shard
+-- what follows up to the second occurrence of the sequence number; it is the same for all records of a shard
 unfoldable pub identity_text : ℕ → List ℕ
 identity_text shard =
     codes "},\"eventSource\":\"aws:kinesis\",\"eventVersion\":\"1.0\",\"eventID\":\"shardId-"
@@ -26,14 +26,14 @@ identity_text shard =
 unfoldable pub element_text : List ℕ → List ℕ → List ℕ → Record → List ℕ
 element_text opening identity source r = opening ++ content_text r ++ identity ++ r.seq ++ source
 
--- a record's element, which ends with `source`
+-- the element of a record, with `source` at its end
 unfoldable pub ending_in : List ℕ → Record → List ℕ
 ending_in source r = kinesis_part r ++ identity_part r ++ source
 
--- one that is not the first stands after a comma
+-- the element of a record that is not the first, after a comma
 unfoldable pub following_record : List ℕ → Record → List ℕ
 following_record source r = codes "," ++ ending_in source r
 
--- a message's element that is not the first stands after a comma
+-- the element of a message that is not the first, after a comma
 unfoldable pub following_message : Config → Received → List ℕ
 following_message c r = codes "," ++ queue_record_text c r

@@ -1,4 +1,4 @@
--- A queue `q` read by the function `f`, and its first message: an example for this crate's tests alone.
+-- A queue `q` that the function `f` reads, and its first message: an example for this crate's tests alone.
 use Rattle.std.specs.Prelude.{codes, None}
 use Rattle.esm_model.specs.Worked.{plain_mapping}
 use Rattle.esm_model.specs.declared.config.Kind.TheVariants.{Standard}

@@ -1,4 +1,4 @@
-// Dates and times of moments.
+// Writing moments as dates and times.
 ghost use Rattle.std.specs.Prelude.{◌≡◌, ◌+◌, ◌-◌, ◌≤◌, ◌++◌, pos, OnOk};
 ghost use Rattle.esm_model.specs.declared.moment.TheConstants.{MAX_MOMENT};
 ghost use Rattle.esm_model.specs.Dates.{new_year, days_of_months, year_of, month_of, day_text, clock_text, second_of_day_text, date_text, second_text};
@@ -7,11 +7,11 @@ use crate::digits::push_padded;
 use esm_model::OutOfMemory;
 use jiff_core::civil::Date;
 
-/// The day of 1970-01-01, counted from the calendar's first date.
+/// The day 1970-01-01, counted from the calendar's first date.
 const DAY_OF_1970: u32 = 4_371_587;
 
-/// Appends `1970-01-01T00:00:00.000Z`: the moment of so many milliseconds since then.
-/// After an `Err` a part of it may stand there.
+/// Appends `1970-01-01T00:00:00.000Z`, for a moment in milliseconds since then. After an error a part of it may have been
+/// appended.
 #[tactic(auto, unfolding(esm_model::specs::Dates::date_text))]
 pub fn push_date(out: &mut Vec<u8>, moment: u64) -> Result<(), OutOfMemory>
     requires { moment ≤ MAX_MOMENT }
@@ -24,8 +24,8 @@ pub fn push_date(out: &mut Vec<u8>, moment: u64) -> Result<(), OutOfMemory>
     Ok(())
 }
 
-/// Appends `1970-01-01T00:00:00Z`: the moment of so many milliseconds since then, in whole seconds.
-/// After an `Err` a part of it may stand there.
+/// Appends `1970-01-01T00:00:00Z`, for a moment in milliseconds since then, cut off to whole seconds. After an error a part
+/// of it may have been appended.
 #[tactic(auto, unfolding(esm_model::specs::Dates::second_text))]
 pub fn push_second(out: &mut Vec<u8>, moment: u64) -> Result<(), OutOfMemory>
     requires { moment ≤ MAX_MOMENT }

@@ -1,4 +1,4 @@
-// Numbers as texts.
+// Writing numbers as digits.
 ghost use Rattle.std.specs.Prelude.{◌≡◌, ◌<◌, ◌≤◌, ◌++◌, false, OnOk};
 ghost use Rattle.std.specs.Fmt.{digit_glyph};
 ghost use Rattle.esm_model.specs.Numbers.{decimal, padded_decimal, padded_hexadecimal, last_digits};
@@ -6,10 +6,10 @@ ghost use Rattle.esm_model.specs.Numbers.{decimal, padded_decimal, padded_hexade
 use esm_model::OutOfMemory;
 use itoa::Buffer;
 
-/// The most digits that are written at once.
+/// The number of digits that are written in one step, at most.
 const MAX_WIDTH: u32 = 20;
 
-/// Appends the number's decimal digits. After an `Err` a part of them may stand there.
+/// Appends the number's decimal digits. After an error a part of them may have been appended.
 pub fn push_decimal(out: &mut Vec<u8>, number: u64) -> Result<(), OutOfMemory>
     ensures { OnOk result (out.new.items ≡ out.old.items ++ decimal number) }
 {
@@ -18,16 +18,16 @@ pub fn push_decimal(out: &mut Vec<u8>, number: u64) -> Result<(), OutOfMemory>
     Ok(())
 }
 
-/// Appends the last `width` decimal digits of the number, zeros in front of a shorter one.
-/// After an `Err` a part of them may stand there.
+/// Appends the last `width` decimal digits of the number, with zeros before a shorter one. After an error a part of them may
+/// have been appended.
 pub fn push_padded(out: &mut Vec<u8>, width: u32, number: u64) -> Result<(), OutOfMemory>
     ensures { OnOk result (out.new.items ≡ out.old.items ++ padded_decimal width number) }
 {
     push_digits(out, 10, width, number)
 }
 
-/// Appends the last `width` hexadecimal digits of the number, in lower case, zeros in front of a shorter one.
-/// After an `Err` a part of them may stand there.
+/// Appends the last `width` hexadecimal digits of the number, in lower case, with zeros before a shorter one. After an error
+/// a part of them may have been appended.
 pub fn push_hexadecimal(out: &mut Vec<u8>, width: u32, number: u64) -> Result<(), OutOfMemory>
     ensures { OnOk result (out.new.items ≡ out.old.items ++ padded_hexadecimal width number) }
 {
@@ -47,7 +47,7 @@ fn push_digits(out: &mut Vec<u8>, base: u64, width: u32, number: u64) -> Result<
     Ok(())
 }
 
-/// Writes the digits from the last one, and appends them at once.
+/// Writes the digits from the last one on, and appends them in one step.
 fn push_few_digits(out: &mut Vec<u8>, base: u64, width: u32, number: u64) -> Result<(), OutOfMemory>
     requires low { 0 < base }
     requires high { base ≤ 16 }

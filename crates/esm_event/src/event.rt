@@ -13,9 +13,9 @@ use crate::writing::push_records;
 use esm_model::{Config, Event, OutOfMemory, Record, WindowCall};
 use std::alloc::Global;
 
-/// The event of a call for these records of the stream, with the window's part where the call is one of a tumbling window
-/// (Lambda Developer Guide, "Using Lambda with Kinesis"). Only its beginning, its end and what each element says of its
-/// source are written: `write_event` writes the whole.
+/// The event of a call for these records of the stream, with the window's part if the call is one of a tumbling window
+/// (Lambda Developer Guide, "Using Lambda with Kinesis"). It writes only the beginning, the end, and the source with which
+/// each element ends; `write_event` writes the whole text.
 pub fn event_of(
     alloc: Global,
     config: &Config,
@@ -32,9 +32,8 @@ pub fn event_of(
     Ok(Event::of_records(head, records, source, tail))
 }
 
-/// The event's text for a batch of the stream, with the window's part where the call is one of a tumbling window
-/// (Lambda Developer Guide, "Using Lambda with Kinesis"). Its length is known before it is written, and it is written
-/// once.
+/// The event's text for a batch of the stream, with the window's part if the call is one of a tumbling window (Lambda
+/// Developer Guide, "Using Lambda with Kinesis"). Its length is computed first, so it is written once.
 pub fn stream_event(
     alloc: Global,
     config: &Config,
@@ -58,7 +57,7 @@ pub fn stream_event(
     Ok(text)
 }
 
-/// The bytes of the event, or the greatest `usize` where they are more.
+/// The number of bytes of the event, capped at the greatest `usize`.
 #[tactic(auto, using(crate::proofs::EventBytes::frame_some))]
 fn event_bytes(config: &Config, batch: &[Record], window: Option<&WindowCall>) -> usize
     requires config { IsStreamConfig config.now }

@@ -1,4 +1,4 @@
-// The line that the failure destination gets.
+// Writing the line that the failure destination gets.
 ghost use Rattle.std.specs.Prelude.{◌≡◌, ◌++◌, OnOk, IfOk};
 ghost use Rattle.esm_model.specs.Valid.{IsStreamConfig};
 ghost use Rattle.esm_model.specs.ValidCall.{IsValidFailure};
@@ -11,8 +11,8 @@ use crate::record::push_shard_id;
 use esm_model::{Config, Failure, OutOfMemory, Response, Text};
 use std::alloc::Global;
 
-/// The failure line of records that were given up, without a line feed
-/// (Lambda Developer Guide, "Retaining discarded batch records").
+/// The failure line of records that were given up, without a line feed (Lambda Developer Guide, "Retaining discarded batch
+/// records").
 pub fn failure_text(alloc: Global, config: &Config, failure: &Failure) -> Result<Text, OutOfMemory>
     requires config { IsStreamConfig config.now }
     requires failure { IsValidFailure failure.now }

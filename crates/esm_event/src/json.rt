@@ -1,4 +1,4 @@
-// JSON texts.
+// Writing JSON texts.
 ghost use Rattle.std.specs.Prelude.{◌≡◌, ◌++◌, ◌∷◌, [], true, OnOk};
 ghost use Rattle.std.specs.List.{flat_map};
 ghost use Rattle.esm_model.specs.JsonText.{escape_letter, escaped_byte, quoted, truth_text};
@@ -7,8 +7,8 @@ use crate::bytes::push_bytes;
 use crate::digits::push_hexadecimal;
 use esm_model::OutOfMemory;
 
-/// Appends the UTF-8 text between quotation marks, with the escapes of RFC 8259.
-/// After an `Err` a part of it may stand there.
+/// Appends the UTF-8 text between quotation marks, with the escapes of RFC 8259. After an error a part of it may have been
+/// appended.
 pub fn push_quoted(out: &mut Vec<u8>, text: &[u8]) -> Result<(), OutOfMemory>
     ensures { OnOk result (out.new.items ≡ out.old.items ++ quoted text.now) }
 {
@@ -18,8 +18,8 @@ pub fn push_quoted(out: &mut Vec<u8>, text: &[u8]) -> Result<(), OutOfMemory>
     Ok(())
 }
 
-/// Appends the UTF-8 text with the escapes of RFC 8259; one that needs none at once.
-/// After an `Err` a part of it may stand there.
+/// Appends the UTF-8 text with the escapes of RFC 8259; a text that needs none in one step. After an error a part of it may
+/// have been appended.
 pub(crate) fn push_escaped(out: &mut Vec<u8>, text: &[u8]) -> Result<(), OutOfMemory>
     ensures { OnOk result (out.new.items ≡ out.old.items ++ flat_map escaped_byte text.now) }
 {
@@ -31,7 +31,7 @@ pub(crate) fn push_escaped(out: &mut Vec<u8>, text: &[u8]) -> Result<(), OutOfMe
     Ok(())
 }
 
-/// No byte of the text needs an escape.
+/// Whether no byte of the text needs an escape.
 pub(crate) fn is_plain(text: &[u8]) -> bool
     ensures { result ≡ true → flat_map escaped_byte text.now ≡ text.now }
 {
@@ -91,7 +91,7 @@ fn escape_letter(byte: u8) -> Option<u8>
     }
 }
 
-/// Appends `true` or `false`. After an `Err` a part of it may stand there.
+/// Appends `true` or `false`. After an error a part of it may have been appended.
 pub fn push_truth(out: &mut Vec<u8>, truth: bool) -> Result<(), OutOfMemory>
     ensures { OnOk result (out.new.items ≡ out.old.items ++ truth_text truth) }
 {

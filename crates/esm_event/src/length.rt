@@ -1,5 +1,5 @@
-// How long the texts are, without writing them.
-ghost use Rattle.std.specs.Prelude.{◌≡◌, ◌≤◌, ◌+◌, ◌*◌, [], Some, length, flat_map};
+// The lengths of an event's texts, computed without writing them.
+ghost use Rattle.std.specs.Prelude.{◌≡◌, ◌≤◌, ◌+◌, ◌*◌, [], Some, length, flat_map, min};
 ghost use Rattle.std.specs.Option.{option_copied, ForSome};
 ghost use Rattle.esm_model.specs.declared.limits.TheConstants.{MAX_DATA};
 ghost use Rattle.esm_model.specs.ValidCall.{IsValidWindowCall};
@@ -11,8 +11,8 @@ ghost use Rattle.esm_model.specs.EventText.{base64_text, record_text, event_text
 use esm_model::{Config, Record, WindowCall};
 use itoa::Buffer;
 
-/// The bytes of an element apart from its key, sequence number, data, seconds and the mapping's account, region
-/// and source: `{"kinesis":{"kinesisSchemaVersion":"1.0",..` and so on, the shard's twelve digits, and the three
+/// The bytes of an element apart from its key, its two sequence numbers, its data, its seconds, and the mapping's account,
+/// region and source: `{"kinesis":{"kinesisSchemaVersion":"1.0",..` and so on, the twelve digits of the shard, and the three
 /// digits of the milliseconds.
 const FIXED_BYTES: usize = 321;
 
@@ -22,7 +22,7 @@ pub(crate) const RECORDS_BYTES: u32 = 14;
 /// The bytes of a window's part apart from its state, the truth of `isFinalInvokeForWindow` and the source.
 const WINDOW_BYTES: usize = 191;
 
-/// The bytes of the record's element in an event's `Records`. Takes no memory.
+/// The number of bytes of the record's element in an event's `Records`. Takes no memory.
 pub fn stream_bytes(config: &Config, item: &Record) -> u32
     requires config { IsStreamConfig config.now }
     requires item { IsValidRecord item.now }
@@ -54,15 +54,23 @@ fn data_bytes(item: &Record) -> usize
     item.base64().len()
 }
 
-/// The bytes of a JSON text between its quotation marks.
+/// The number of bytes of a JSON text between its quotation marks.
 pub(crate) fn escaped_bytes(text: &[u8]) -> usize
     requires { length text.now ≤ MAX_DATA }
     ensures value { result ≡ length (flat_map escaped_byte text.now) }
     ensures bound { result ≤ 6 * length text.now }
 {
-    let mut total = 0;
+    escaped_room(text)
+}
+
+/// The same of a text of any length, or the greatest `usize` where they are more.
+pub(crate) fn escaped_room(text: &[u8]) -> usize
+    ensures value { result ≡ min (length (flat_map escaped_byte text.now)) usize.MAX }
+    ensures bound { result ≤ 6 * length text.now }
+{
+    let mut total: usize = 0;
     for byte in text {
-        total += escaped_length(*byte);
+        total = total.saturating_add(escaped_length(*byte));
     }
     total
 }
@@ -96,8 +104,8 @@ fn source_bytes(config: &Config) -> usize
     config.account.as_slice().len() + config.region.as_slice().len() + arn_bytes(config)
 }
 
-/// The bytes of an event around the elements of `Records` and their commas, with the window's part where there is
-/// one: the payload limit less these is what the elements may have. Takes no memory.
+/// The number of bytes of an event around the elements of `Records` and their commas, with the window's part if there is
+/// one. The payload limit minus this is left for the elements. Takes no memory.
 #[tactic(auto, using(crate::proofs::LengthLemmas::frame_length))]
 pub fn frame_bytes(config: &Config, window: Option<&WindowCall>) -> u32
     requires config { IsStreamConfig config.now }

@@ -1,6 +1,6 @@
-//! The texts that leave the engine: the event of a function's call for a stream or a queue, and the failure line of a
-//! stream's records that were given up; and how their parts are written: JSON texts, numbers and dates.
-//! Pure: values in, bytes out. No device, clock or thread.
+//! The texts that leave the engine: the event of a function call for a stream or a queue, and the failure line of a stream's
+//! records that were given up; and how their parts are written: JSON texts, numbers and dates. Pure: values in, bytes out.
+//! No device, clock or thread.
 #![tactic(auto)]
 
 pub mod bytes;

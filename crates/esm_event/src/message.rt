@@ -1,4 +1,4 @@
-// One message of a queue as an element of an event's `Records`.
+// Writing one message of a queue as an element of an event's `Records`.
 ghost use Rattle.std.specs.Prelude.{◌≡◌, ◌++◌, OnOk};
 ghost use Rattle.md5.specs.Md5.{md5};
 ghost use Rattle.esm_model.specs.QueueEvent.{hexadecimal, receipt_handle, message_part, group_part, attributes_part, digest_part, queue_part, queue_record_text};
@@ -9,7 +9,7 @@ use crate::json::push_quoted;
 use esm_model::{Config, OutOfMemory, Received};
 use md5::{Digest, Md5};
 
-/// Appends the message's element. After an `Err` a part of it may stand there.
+/// Appends the message's element. After an error a part of it may have been appended.
 pub(crate) fn push_message(
     out: &mut Vec<u8>,
     config: &Config,
@@ -85,7 +85,7 @@ fn push_digest(out: &mut Vec<u8>, item: &Received) -> Result<(), OutOfMemory>
     Ok(())
 }
 
-/// Appends each byte by two lower-case hexadecimal digits. After an `Err` a part of them may stand there.
+/// Appends each byte as two lower-case hexadecimal digits. After an error a part of them may have been appended.
 #[tactic(auto, unfolding(esm_model::specs::QueueEvent::hexadecimal))]
 fn push_hexadecimal_bytes(out: &mut Vec<u8>, bytes: &[u8]) -> Result<(), OutOfMemory>
     ensures { OnOk result (out.new.items ≡ out.old.items ++ hexadecimal bytes.now) }

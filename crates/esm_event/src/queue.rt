@@ -12,7 +12,7 @@ use esm_model::{Config, OutOfMemory, Received};
 use std::alloc::Global;
 
 /// The event's text for a batch of the queue (Lambda Developer Guide, "Using Lambda with Amazon SQS"). Its length is
-/// known before it is written, and it is written once.
+/// computed first, so it is written once.
 #[tactic(auto, unfolding(esm_model::specs::QueueEvent::queue_event_text))]
 pub fn queue_event(
     alloc: Global,
@@ -32,7 +32,7 @@ pub fn queue_event(
     Ok(out)
 }
 
-/// The bytes of the event, or the greatest `usize` where they are more.
+/// The number of bytes of the event, capped at the greatest `usize`.
 #[tactic(auto, using(crate::proofs::QueueLengths::event_length, crate::proofs::QueueLengths::empty_length))]
 fn event_bytes(config: &Config, batch: &[Received]) -> usize
     requires config { IsQueueConfig config.now }

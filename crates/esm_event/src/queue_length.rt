@@ -1,4 +1,4 @@
-// How long the texts of a queue's event are, without writing them.
+// The lengths of a queue event's texts, computed without writing them.
 ghost use Rattle.std.specs.Prelude.{◌≡◌, ◌≤◌, ◌+◌, ◌*◌, length};
 ghost use Rattle.std.specs.Option.{ForSome};
 ghost use Rattle.esm_model.specs.Numbers.{decimal};
@@ -7,14 +7,14 @@ ghost use Rattle.esm_model.specs.QueueEvent.{IsQueueConfig, IsValidReceived, gro
 use crate::length::{decimal_bytes, escaped_bytes};
 use esm_model::{Config, Received};
 
-/// The bytes of an element apart from its id, numbers, body and group and the mapping's source and region: the names of
-/// its members, `RH-` and the digest's digits.
+/// The bytes of an element apart from its id, numbers, body and group, and the mapping's source and region: the names of its
+/// members, `RH-`, and the digits of the body's MD5.
 const FIXED_BYTES: usize = 279;
 
 /// The bytes of `,"MessageGroupId":""`.
 const GROUP_BYTES: usize = 20;
 
-/// The bytes of the message's element in an event's `Records`. Takes no memory.
+/// The number of bytes of the message's element in an event's `Records`. Takes no memory.
 #[tactic(auto, using(crate::proofs::QueueLengths::record_length))]
 pub fn queue_bytes(config: &Config, item: &Received) -> u32
     requires config { IsQueueConfig config.now }
@@ -29,7 +29,7 @@ pub fn queue_bytes(config: &Config, item: &Received) -> u32
     (FIXED_BYTES + id + numbers + body + group + queue) as u32
 }
 
-/// The bytes of the receipt handle's numbers and of the attributes.
+/// The number of bytes of the numbers in the receipt handle and in the attributes.
 fn numbers_bytes(item: &Received) -> usize
     ensures value { result ≡ length (decimal item.now.place) + 2 * length (decimal item.now.count)
         + length (decimal item.now.message.sent) + length (decimal item.now.first) }

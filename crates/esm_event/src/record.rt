@@ -1,4 +1,4 @@
-// One record of a stream as an element of an event's `Records`.
+// Writing one record of a stream as an element of an event's `Records`.
 ghost use Rattle.std.specs.Prelude.{◌≡◌, ◌++◌, OnOk, IfOk};
 ghost use Rattle.esm_event.specs.Elements.{element_text, content_text, identity_text};
 ghost use Rattle.esm_model.specs.EventText.{base64_text, shard_id, seconds_text, source_part};
@@ -11,12 +11,12 @@ use base64::engine::general_purpose::STANDARD;
 use esm_model::{Config, OutOfMemory, Record};
 use std::alloc::Global;
 
-/// The bytes that room is made for at first, of what an element says of its source and of its shard.
+/// The bytes that are reserved at first for what an element says of its source and of its shard.
 const SOURCE_BYTES: usize = 256;
 
 const IDENTITY_BYTES: usize = 83;
 
-/// What every element of the mapping's events ends with.
+/// The text with which every element of the mapping's events ends.
 pub(crate) fn source_text(alloc: Global, config: &Config) -> Result<Vec<u8>, OutOfMemory>
     ensures { IfOk result (λ text. text.items ≡ source_part config.now) }
 {
@@ -41,7 +41,7 @@ fn push_source(out: &mut Vec<u8>, config: &Config) -> Result<(), OutOfMemory>
     Ok(())
 }
 
-/// What stands in each element of the shard between the record's arrival and its sequence number.
+/// The text that each element of the shard has between the record's arrival and its second sequence number.
 pub(crate) fn identity_text(alloc: Global, shard: u64) -> Result<Vec<u8>, OutOfMemory>
     ensures { IfOk result (λ text. text.items ≡ identity_text shard) }
 {
@@ -50,7 +50,7 @@ pub(crate) fn identity_text(alloc: Global, shard: u64) -> Result<Vec<u8>, OutOfM
     Ok(out)
 }
 
-/// Appends that text. After an `Err` a part of it may stand there.
+/// Appends the text of `identity_text`. After an error a part of it may have been appended.
 pub(crate) fn push_identity(out: &mut Vec<u8>, shard: u64) -> Result<(), OutOfMemory>
     ensures { OnOk result (out.new.items ≡ out.old.items ++ identity_text shard) }
 {
@@ -63,7 +63,7 @@ pub(crate) fn push_identity(out: &mut Vec<u8>, shard: u64) -> Result<(), OutOfMe
     Ok(())
 }
 
-/// Appends the element with this opening, identity and source. After an `Err` a part of it may stand there.
+/// Appends the element with this opening, identity and source. After an error a part of it may have been appended.
 pub(crate) fn push_element(
     out: &mut Vec<u8>,
     opening: &[u8],
@@ -95,8 +95,7 @@ fn push_content(out: &mut Vec<u8>, item: &Record) -> Result<(), OutOfMemory>
     Ok(())
 }
 
-/// Appends `shardId-` and the twelve digits of the shard's number.
-/// After an `Err` a part of it may stand there.
+/// Appends `shardId-` and the twelve digits of the shard's number. After an error a part of it may have been appended.
 pub fn push_shard_id(out: &mut Vec<u8>, shard: u64) -> Result<(), OutOfMemory>
     ensures { OnOk result (out.new.items ≡ out.old.items ++ shard_id shard) }
 {
@@ -105,7 +104,7 @@ pub fn push_shard_id(out: &mut Vec<u8>, shard: u64) -> Result<(), OutOfMemory>
     Ok(())
 }
 
-/// Appends milliseconds as seconds, a point and three digits. After an `Err` a part of it may stand there.
+/// Appends milliseconds as seconds, a point and three digits. After an error a part of it may have been appended.
 pub fn push_seconds(out: &mut Vec<u8>, milliseconds: u64) -> Result<(), OutOfMemory>
     ensures { OnOk result (out.new.items ≡ out.old.items ++ seconds_text milliseconds) }
 {
@@ -115,7 +114,7 @@ pub fn push_seconds(out: &mut Vec<u8>, milliseconds: u64) -> Result<(), OutOfMem
     Ok(())
 }
 
-/// Appends the standard padded base64 of the bytes (RFC 4648). After an `Err` a part of it may stand there.
+/// Appends the standard padded base64 of the bytes (RFC 4648). After an error a part of it may have been appended.
 #[tactic(auto, unfolding(esm_model::specs::EventText::base64_text))]
 pub fn push_base64(out: &mut Vec<u8>, bytes: &[u8]) -> Result<(), OutOfMemory>
     ensures { OnOk result (out.new.items ≡ out.old.items ++ base64_text bytes.now) }

@@ -1,4 +1,4 @@
-// The end of a stream's event, with what a call of a tumbling window says of its window.
+// Writing the end of a stream's event, with the part of a call's tumbling window.
 ghost use Rattle.std.specs.Prelude.{◌≡◌, ◌≤◌, ◌++◌, codes, OnOk};
 ghost use Rattle.std.specs.Option.{option_copied, ForSome};
 ghost use Rattle.esm_model.specs.Moment.{moment_after};
@@ -11,7 +11,7 @@ use crate::json::push_truth;
 use crate::record::push_shard_id;
 use esm_model::{Config, MAX_MOMENT, OutOfMemory, WindowCall};
 
-/// Appends what stands after the last element.
+/// Appends what comes after the last element.
 pub(crate) fn push_end(
     out: &mut Vec<u8>,
     config: &Config,

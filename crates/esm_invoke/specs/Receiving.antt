@@ -10,19 +10,19 @@ use Rattle.esm_invoke.specs.Exchange.{GrowsFor, IsAnswer, StopsEarly}
 use Rattle.esm_invoke.specs.Response.{BeginsWith, IsReplyTo, HoldsNone, StopsAt}
 use Rattle.esm_invoke.specs.ResponseRead.{Awaits, IsUnfinished}
 
--- the bytes were read behind those that were there
+-- more bytes were read, and appended to those that were there
 pub record ReadsMore (old new : Option Talk) (before after : List ℕ) : Type 0 where
   pub piece : List ℕ
   pub grown : after ≡ before ++ piece
   pub reads : Reads old new piece
 
--- some bytes were read behind so many, into a buffer that grew for them all
+-- bytes were read after the first `filled` ones, into a buffer that grew for all of them
 pub record ReadsInto (old new : Option Talk) (filled before after : ℕ) : Type 0 where
   pub read : List ℕ
   pub reads : Reads old new read
   pub grows : GrowsFor before after (filled + length read)
 
--- only a part of the bytes was written, from their front on
+-- only a part of the bytes was written, from their front
 pub record WritesPart (old new : Option Talk) (bytes : List ℕ) : Type 0 where
   pub sent : List ℕ
   pub unsent : List ℕ
@@ -30,7 +30,7 @@ pub record WritesPart (old new : Option Talk) (bytes : List ℕ) : Type 0 where
   pub cut : unsent ≢ []
   pub writes : Writes old new sent
 
--- bytes were read, and the reply is that to all the bytes so far
+-- bytes were read, and this is the reply to all bytes so far
 pub record Replies (old new : Option Talk) (before : List ℕ) (reply : Reply) : Type 0 where
   pub read : List ℕ
   pub ended : Bool
@@ -51,7 +51,7 @@ pub record HasNone (old new : Option Talk) (before : List ℕ) : Type 0 where
   pub reads : Reads old new read
   pub none : HoldsNone false (before ++ read)
 
--- bytes were read, and all the bytes so far hold the answer, which is whole by itself
+-- bytes were read, and all bytes so far hold the answer, which is whole by itself
 pub record AnswersWhole (old new : Option Talk) (before : List ℕ) (reply : Reply) : Type 0 where
   pub read : List ℕ
   pub reads : Reads old new read
@@ -65,12 +65,12 @@ pub record Misses (old new : Option Talk) (bytes : List ℕ) (before after : ℕ
   pub none : HoldsNone false (bytes ++ read)
   pub cause : Rose before after ⊎ StopsEarly new (bytes ++ read)
 
--- what a reader of a body made of the bytes: a reply, or the body goes on
+-- what a reader of a body found in the bytes: a reply, or that the body continues
 abbrev pub Settles : List ℕ → BodyReader → Option Reply → Type 0
 Settles bytes r (Some reply) = IsReplyTo false bytes reply
 Settles bytes r None = Awaits bytes r × IsUnfinished bytes r
 
--- what came of reading up to the end of the head, into this buffer, which had so many bytes
+-- what reading up to the end of the head gave, in this buffer, which had `before` bytes
 abbrev pub ReceivesHead : Option Talk → Option Talk → ℕ → List ℕ → HeadReceived → Type 0
 ReceivesHead old new before buffer (Received.Head head filled) =
     (filled ≤ length buffer) × Reads old new (take filled buffer) × BeginsWith (take filled buffer) head (drop head.len (take filled buffer))

@@ -7,7 +7,7 @@ use Rattle.esm_model.specs.Numbers.{decimal}
 unfoldable pub request_line : List ℕ → List ℕ
 request_line name = codes "POST /2015-03-31/functions/" ++ name ++ codes "/invocations HTTP/1.1" ++ crlf_bytes
 
--- the header lines of a request with an event of so many bytes, and the empty line after them
+-- the header lines of a request with an event of `len` bytes, and the empty line after them
 unfoldable pub header_lines : ℕ → List ℕ
 header_lines len =
     codes "Host: 127.0.0.1" ++ crlf_bytes

@@ -20,15 +20,15 @@ use Rattle.esm_model.specs.declared.entry.Reply.TheVariants.{Answered, Garbled, 
 use Rattle.esm_model.specs.declared.limits.TheConstants.{MAX_HEAD, MAX_HEADER_LINES, MAX_BODY, MAX_RESPONSE}
 use Rattle.esm_invoke.specs.declared.head.Head.{Head}
 
--- the limits of the grammar of bodies: a trailer section has those of a head, chunk extensions none of their own
+-- the limits of the grammar of bodies: a trailer section has that of a head, and chunk extensions have none of their own
 abbrev pub limits : Limits
 limits = record { max_head_len = MAX_HEAD; max_extensions_len = MAX_RESPONSE; max_trailers_len = MAX_HEAD }
 
--- a function's error is told by a header (Lambda API Reference, `Invoke`)
+-- a header reports a function's error (Lambda API Reference, `Invoke`)
 abbrev pub has_function_error : List Header → Bool
 has_function_error headers = list_any (is_named (codes "X-Amz-Function-Error")) headers
 
--- chunked where that is the one transfer coding, and else delimited in the other way
+-- chunked if that is the only transfer coding, and `otherwise` if there is none
 abbrev pub framing_by_coding : Framing → TransferEncoding → Bool → Option Framing
 framing_by_coding otherwise Coding.Absent other = Some otherwise
 framing_by_coding otherwise Coding.Chunked other = if other then None else Some Chunked
@@ -36,24 +36,24 @@ framing_by_coding otherwise Coding.Other other = None
 framing_by_coding otherwise Coding.Blank other = None
 framing_by_coding otherwise Coding.Invalid other = None
 
--- by the stated length or up to the link's end, where it is not chunked; none where a length is no number or two differ
+-- by the stated length or up to the link's end, unless it is chunked; none if a length is no number or two lengths differ
 abbrev pub framing_by_fields : TransferEncoding → Bool → ContentLength → Option Framing
 framing_by_fields coding other Stated.Absent = framing_by_coding UntilClose coding other
 framing_by_fields coding other (Stated.Value n) = framing_by_coding (Length n) coding other
 framing_by_fields coding other Stated.Invalid = None
 
--- how the body is delimited, where the fields of the head say it (RFC 9112, section 6.3)
+-- how the body is delimited, if the fields of the head say it (RFC 9112, section 6.3)
 abbrev pub framing_of : KnownFields → Option Framing
 framing_of k = framing_by_fields k.transfer_encoding k.other_coding k.content_length
 
--- what a head says: its length, its status, whether it tells a function's error, and how its body is delimited
+-- what a head says: its length, its status, whether it reports a function's error, and how its body is delimited
 pub record Says (tree : ResponseHead) (head : Head) : Type 0 where
   pub len : head.len ≡ length (print_response tree)
   pub status : head.status ≡ status_code tree
   pub error : head.error ≡ has_function_error (map name_and_value tree.fields)
   pub framing : framing_of (known_fields (map name_and_value tree.fields)) ≡ Some head.framing
 
--- the bytes begin with a head that says this, within the limits, and `after` follows it
+-- the bytes begin with a head that says this, within the limits, and `after` follows the head
 pub record BeginsWith (bytes : List ℕ) (head : Head) (after : List ℕ) : Type 0 where
   pub tree : ResponseHead
   pub reads : ReadsResponse bytes tree after
@@ -62,7 +62,7 @@ pub record BeginsWith (bytes : List ℕ) (head : Head) (after : List ℕ) : Type
   pub short : head.len ≤ MAX_HEAD
   pub few : length tree.fields ≤ MAX_HEADER_LINES
 
--- the body is within the limits; one up to the link's end is whole only there
+-- the body is within the limits; one that extends up to the link's end is whole only there
 pub record IsBodyWithin (ended : Bool) (bytes : List ℕ) (framing : Framing) (body : Body) (rest : List ℕ) : Type 0 where
   pub content : length body.bytes ≤ MAX_BODY
   pub few : length body.trailers ≤ MAX_HEADER_LINES
@@ -87,15 +87,15 @@ HoldsNone ended bytes = (head : Head) (content : List ℕ) → ¬ (HoldsResponse
 abbrev pub NeverHolds : List ℕ → Type 0
 NeverHolds bytes = (ended : Bool) (more : List ℕ) → HoldsNone ended (bytes ++ more)
 
--- no continuation of the bytes is a response whose end they tell by themselves
+-- no continuation of the bytes is a response whose end the bytes show by themselves
 abbrev pub NeverWhole : List ℕ → Type 0
 NeverWhole bytes = (more : List ℕ) → HoldsNone false (bytes ++ more)
 
--- why reading stops without a response: at the link's end, past the limit, or where none can come
+-- why reading stops without a response: at the link's end, past the limit, or because none can follow
 abbrev pub StopsAt : Bool → List ℕ → Type 0
 StopsAt ended bytes = (ended ≡ true) ⊎ ((MAX_RESPONSE < length bytes) ⊎ NeverHolds bytes)
 
--- what a call answers that read these bytes, at the link's end or before
+-- the reply of a call that read these bytes, at the link's end or before it
 abbrev pub IsReplyTo : Bool → List ℕ → Reply → Type 0
 IsReplyTo ended bytes (Answered status error body) =
     (head : Head) × HoldsResponse ended bytes head body × (status ≡ head.status) × (error ≡ head.error)

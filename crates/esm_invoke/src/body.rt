@@ -11,23 +11,23 @@ use http1::decode::{Decoded, Decoder};
 use httparse::spans::{EMPTY_HEADER_SPAN, Span};
 use std::alloc::Global;
 
-/// Reads a body as its bytes come: chunked, of a stated length, or up to the link's end.
+/// Reads a body as its bytes arrive: chunked, of a stated length, or up to the link's end.
 #[derive(Drop)]
 pub struct BodyReader {
     pub head: Head,
     pub decoder: Decoder,
-    /// How many bytes of the response were read.
+    /// How many bytes of the response were decoded.
     pub at: usize,
-    /// What the body's bytes gave so far.
+    /// The content that the body's bytes gave so far.
     pub content: Vec<u8>,
 }
 
-/// What one call of the decoder came to.
+/// What one call of the decoder found.
 #[derive(Clone, Copy)]
 pub enum Step {
     /// A piece of the content.
     Data,
-    /// The bytes are used up, and the body goes on.
+    /// The bytes are used up, and the body continues.
     More,
     /// The body is whole.
     Whole,
@@ -35,10 +35,10 @@ pub enum Step {
     Never,
 }
 
-/// What the bytes so far come to.
+/// What the bytes so far hold.
 #[derive(Clone, Copy)]
 pub enum Progress {
-    /// The body goes on.
+    /// The body continues.
     More,
     /// The body is whole.
     Whole,
@@ -47,7 +47,7 @@ pub enum Progress {
 }
 
 impl BodyReader {
-    /// A reader of the body that follows the head.
+    /// Makes a reader of the body that follows the head.
     pub fn new(alloc: Global, head: Head) -> Self
         ensures head { result.head ≡ head }
         ensures decoder { result.decoder ≡ decoder_for limits head.framing }
@@ -67,7 +67,7 @@ impl BodyReader {
         }
     }
 
-    /// Reads on in the bytes of the response, which go on from those of the call before.
+    /// Continues in the bytes of the response, which extend those of the call before. `OutOfMemory` if an allocation failed.
     pub fn advance(&mut self, bytes: &[u8]) -> Result<Progress, OutOfMemory>
         requires { Awaits bytes.now self.old }
         ensures head { self.new.head ≡ self.old.head }

@@ -18,28 +18,28 @@ use http1::framing::Framing;
 use std::alloc::Global;
 use std::mem;
 
-/// The length of a work area when it first grows, in bytes.
+/// The size of a work area when it first grows, in bytes.
 const FIRST_ROOM: usize = 4_096;
 
-/// What came of reading up to the end of the head.
+/// What reading up to the end of the head gave.
 #[derive(Clone, Copy)]
 pub enum HeadReceived {
     /// The head, with the number of bytes read.
     Head(Head, usize),
-    /// So many bytes were read, and they hold no response.
+    /// This many bytes were read, and they hold no response.
     Garbled(usize),
     Lost,
 }
 
-/// Calls the function `name` with the event over a link: writes the whole request, then reads until a prefix of the
-/// bytes read is a whole response, until no continuation of them is one, until they are more than `MAX_RESPONSE`, or up
-/// to the link's end. `Garbled` gives the bytes read, which hold no response. Where a write fails, what came of a
-/// response is read: a function that answers before it took the whole event has answered, where the answer's own length
-/// shows that it is whole. A body that goes up to the link's end is never so: the link may have been cut. `Lost` only
-/// where the link's count of faults rose: where a read failed, or where no such answer came behind a write that failed.
-/// `buffer` is a work area that grows with what is read and keeps its room for the next call; what it holds has no
-/// effect, and means nothing afterwards. After `OutOfMemory` a part of the request may have been sent, or all of it,
-/// and bytes read (Lambda API Reference of 2015-03-31, `Invoke`; RFC 9112, for answers that come early section 9.5).
+/// Calls the function `name` with the event over a link: writes the whole request, then reads until a prefix of the bytes
+/// read is a whole response, until no continuation of them is one, until they are more than `MAX_RESPONSE`, or up to the
+/// link's end. `Garbled` has the bytes read, which hold no response. If a write fails, it still reads a response: a function
+/// that answers before it took the whole event has answered, if the answer's own length shows that it is whole. A body that
+/// extends up to the link's end never shows that, since the link may have been cut. `Lost` is returned only if the link's
+/// count of faults rose: if a read failed, or if no such answer followed a write that failed. `buffer` is a work area that
+/// grows with what is read and keeps its capacity for the next call; its content before and after a call has no meaning.
+/// After `OutOfMemory`, a part of the request or all of it may have been sent, and bytes read (Lambda API Reference of
+/// 2015-03-31, `Invoke`; RFC 9112, section 9.5 for early answers).
 pub fn invoke<L: Link>(
     alloc: Global,
     link: &mut L,
@@ -65,7 +65,7 @@ pub fn invoke<L: Link>(
     }
 }
 
-/// Calls over a link as `invoke` does, and counts in `faults`, the caller's own count, a call that is lost.
+/// Calls over a link like `invoke`, and counts a call that is lost in `faults`, the caller's own count.
 pub fn call_over<L: Link>(
     alloc: Global,
     link: &mut L,
@@ -99,7 +99,7 @@ pub fn call_over<L: Link>(
     Ok(reply)
 }
 
-/// Sends the bytes. `Failed` only where the link's count of faults rose; a part, but not all, may have been sent then.
+/// Sends the bytes. `Failed` only if the link's count of faults rose; then a part of them, but not all, may have been sent.
 fn send<L: Link>(link: &mut L, bytes: &[u8]) -> Result<(), Failed>
     requires some { 0 < length bytes.now }
     ensures sent { OnOk result (Writes (L.told link.old) (L.told link.new) bytes.now) }
@@ -115,7 +115,7 @@ fn send<L: Link>(link: &mut L, bytes: &[u8]) -> Result<(), Failed>
     Ok(())
 }
 
-/// Makes room behind the first `filled` bytes of the buffer where there is none: its length doubles.
+/// Makes room after the first `filled` bytes of the buffer if there is none: its length doubles.
 fn make_room(buffer: &mut Vec<u8>, filled: usize) -> Result<(), OutOfMemory>
     requires short { filled ≤ MAX_RESPONSE }
     requires within { filled ≤ vec_len buffer.old }
@@ -135,7 +135,7 @@ fn make_room(buffer: &mut Vec<u8>, filled: usize) -> Result<(), OutOfMemory>
     Ok(())
 }
 
-/// Reads behind the first `filled` bytes of the buffer, and answers how many; 0 is the link's end.
+/// Reads to after the first `filled` bytes of the buffer, and returns how many bytes it read; 0 is the link's end.
 fn read_more<L: Link>(link: &mut L, buffer: &mut Vec<u8>, filled: usize) -> Result<usize, Failed>
     requires { filled < vec_len buffer.old }
     ensures within { IfOk result (λ n. filled + n ≤ vec_len buffer.new) }
@@ -163,7 +163,7 @@ fn read_behind<L: Link>(link: &mut L, bytes: &mut [u8], filled: usize) -> Result
     link.read(rest)
 }
 
-/// Reads behind a request that was not sent whole: an answer that is whole by its own length, and else `Lost`.
+/// Reads after a request that was not sent whole: returns an answer that is whole by its own length, and `Lost` otherwise.
 fn receive_early<L: Link>(
     alloc: Global,
     link: &mut L,
@@ -184,8 +184,8 @@ fn receive_early<L: Link>(
     }
 }
 
-/// Reads on behind a request that was not sent whole. After a write that failed a link may end in the midst of an
-/// answer, so a body that goes up to its end is not read.
+/// Reads the body after a request that was not sent whole. After a write that failed a link may end in the middle of an
+/// answer, so a body that extends up to its end is not read.
 fn receive_early_body<L: Link>(
     alloc: Global,
     link: &mut L,
@@ -214,7 +214,7 @@ fn receive_early_body<L: Link>(
     }
 }
 
-/// Reads until the reply is known. `Lost` only where the link's count of faults rose.
+/// Reads until the reply is known. `Lost` only if the link's count of faults rose.
 fn receive<L: Link>(alloc: Global, link: &mut L, buffer: &mut Vec<u8>) -> Result<Reply, OutOfMemory>
     requires room { vec_len buffer.old ≤ MAX_RESPONSE + 1 }
     requires counted { L.faults link.old ≤ MAX_FAULTS }
@@ -235,7 +235,7 @@ fn receive<L: Link>(alloc: Global, link: &mut L, buffer: &mut Vec<u8>) -> Result
     }
 }
 
-/// Reads up to the end of the head. `Lost` only where the link's count of faults rose.
+/// Reads up to the end of the head. `Lost` only if the link's count of faults rose.
 fn receive_head<L: Link>(link: &mut L, buffer: &mut Vec<u8>) -> Result<HeadReceived, OutOfMemory>
     requires room { vec_len buffer.old ≤ MAX_RESPONSE + 1 }
     requires counted { L.faults link.old ≤ MAX_FAULTS }
@@ -265,7 +265,7 @@ fn receive_head<L: Link>(link: &mut L, buffer: &mut Vec<u8>) -> Result<HeadRecei
     Ok(HeadReceived::Garbled(filled))
 }
 
-/// Reads on until the body is whole or can't become so. `Lost` only where the link's count of faults rose.
+/// Reads until the body is whole or cannot become whole. `Lost` only if the link's count of faults rose.
 fn receive_body<L: Link>(
     alloc: Global,
     link: &mut L,
@@ -307,7 +307,7 @@ fn receive_body<L: Link>(
     }
 }
 
-/// The reply where the bytes so far make one: an answer, or garbled bytes where no continuation is a response.
+/// Returns the reply if the bytes so far decide it: an answer, or garbled bytes if no continuation is a response.
 fn settle(alloc: Global, body: &mut BodyReader, bytes: &[u8]) -> Result<Option<Reply>, OutOfMemory>
     requires begins { BeginsWith bytes.now body.old.head (drop body.old.head.len bytes.now) }
     requires awaits { Awaits bytes.now body.old }
@@ -321,7 +321,7 @@ fn settle(alloc: Global, body: &mut BodyReader, bytes: &[u8]) -> Result<Option<R
     }
 }
 
-/// The reply where the link has ended after these bytes.
+/// Returns the reply if the link has ended after these bytes.
 fn close(alloc: Global, body: &mut BodyReader, bytes: &[u8]) -> Result<Reply, OutOfMemory>
     requires begins { BeginsWith bytes.now body.old.head (drop body.old.head.len bytes.now) }
     requires awaits { Awaits bytes.now body.old }
@@ -334,7 +334,7 @@ fn close(alloc: Global, body: &mut BodyReader, bytes: &[u8]) -> Result<Reply, Ou
     }
 }
 
-/// The answer that the reader has; takes the content out of it.
+/// Returns the answer that the reader has, and takes the content out of it.
 fn answered(alloc: Global, body: &mut BodyReader) -> Reply
     ensures answer { result ≡ Reply.Answered body.old.head.status body.old.head.error body.old.content.items }
     ensures head { body.new.head ≡ body.old.head }
@@ -347,7 +347,7 @@ fn answered(alloc: Global, body: &mut BodyReader) -> Reply
     }
 }
 
-/// The bytes are no response.
+/// Makes the reply for bytes that are no response.
 fn garbled(alloc: Global, bytes: &[u8]) -> Result<Reply, OutOfMemory>
     ensures { IfOk result (λ reply. reply ≡ Reply.Garbled bytes.now) }
 {

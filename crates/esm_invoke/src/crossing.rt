@@ -1,4 +1,4 @@
-// That the callers move between threads where the runtime does.
+// Shows that the callers can move to another thread if the runtime can.
 
 use crate::{HttpCaller, ProgramCaller};
 use std::net::Net;

@@ -19,7 +19,7 @@ pub struct Head {
     /// Its length in bytes, where the body begins.
     pub len: usize,
     pub status: u16,
-    /// It has the header `X-Amz-Function-Error`.
+    /// Whether it has the header `X-Amz-Function-Error`.
     pub error: bool,
     /// How the body is delimited.
     pub framing: Framing,
@@ -29,14 +29,14 @@ pub struct Head {
 #[derive(Clone, Copy)]
 pub enum HeadSearch {
     Found(Head),
-    /// The head has not come whole.
+    /// The head has not arrived whole.
     More,
     /// No continuation is a head within the limits.
     Never,
 }
 
-/// Looks for a head at the front of the bytes, of which the first `looked` hold none. The head is parsed only where an
-/// empty line has come behind these, so once where no empty lines stand before it.
+/// Searches for a head at the front of the bytes, the first `looked` of which hold none. The head is parsed only if an empty
+/// line has ended after these, so once if no empty line precedes it.
 pub fn find_head(bytes: &[u8], looked: usize) -> HeadSearch
     requires within { looked ≤ length bytes.now }
     requires looked { HasNoHead looked bytes.now }
@@ -48,7 +48,7 @@ pub fn find_head(bytes: &[u8], looked: usize) -> HeadSearch
     }
 }
 
-/// The same, but `More` also where the bytes are too many for a head.
+/// The same, but `More` also if there are too many bytes for a head.
 fn look(bytes: &[u8], looked: usize) -> HeadSearch
     requires within { looked ≤ length bytes.now }
     requires looked { HasNoHead looked bytes.now }
@@ -74,7 +74,7 @@ fn has_empty_line(bytes: &[u8], from: usize) -> bool
     false
 }
 
-/// An empty line ends at this place.
+/// Whether an empty line ends at this place.
 fn ends_empty_line(bytes: &[u8], at: usize) -> bool
     requires { at < length bytes.now }
     ensures { result ≡ ends_empty_line bytes.now at }
@@ -84,7 +84,7 @@ fn ends_empty_line(bytes: &[u8], at: usize) -> bool
             || (at >= 2 && bytes[at - 1] == b'\r' && bytes[at - 2] == b'\n'))
 }
 
-/// Parses the head at the front of the bytes, which are no more than a head may have.
+/// Parses the head at the front of the bytes, which are at most as many as a head may have.
 fn parse(bytes: &[u8]) -> HeadSearch
     requires { length bytes.now ≤ MAX_HEAD }
     ensures { ParsesHead bytes.now (length bytes.now) result }
@@ -100,7 +100,8 @@ fn parse(bytes: &[u8]) -> HeadSearch
     }
 }
 
-/// What a head says that `httparse` found; none where its status is no status code or its fields give its body no end.
+/// Returns what a head says that `httparse` found; none if its status is no status code or its fields do not delimit its
+/// body.
 fn said(bytes: &[u8], lines: &[HeaderSpan], spans: &ResponseSpans) -> Option<Head>
     requires within { IsSectionWithin bytes.now lines.now spans.now.len spans.now.headers }
     ensures { SaysAt bytes.now lines.now spans.now result }
@@ -116,7 +117,7 @@ fn said(bytes: &[u8], lines: &[HeaderSpan], spans: &ResponseSpans) -> Option<Hea
     })
 }
 
-/// One of the headers is `X-Amz-Function-Error`, in any case of letters (Lambda API Reference, `Invoke`).
+/// Whether one of the headers is `X-Amz-Function-Error`, in any case of letters (Lambda API Reference, `Invoke`).
 fn has_function_error(bytes: &[u8], fields: &[HeaderSpan]) -> bool
     requires { All (IsHeaderWithin (length bytes.now)) fields.now }
     ensures { result ≡ has_function_error (map (header_bytes bytes.now) fields.now) }
@@ -129,7 +130,7 @@ fn has_function_error(bytes: &[u8], fields: &[HeaderSpan]) -> bool
     false
 }
 
-/// The header has that name.
+/// Whether the header has that name.
 fn is_error_header(bytes: &[u8], field: &HeaderSpan) -> bool
     requires { IsHeaderWithin (length bytes.now) field.now }
     ensures { result ≡ is_named (codes "X-Amz-Function-Error") (header_bytes bytes.now field.now) }
@@ -137,7 +138,8 @@ fn is_error_header(bytes: &[u8], field: &HeaderSpan) -> bool
     eq_ignore_case(field.name.of(bytes), b"X-Amz-Function-Error")
 }
 
-/// How the body is delimited, by the fields of its head (RFC 9112, section 6.3). `chunked` is the one coding.
+/// Returns how the body is delimited, by the fields of its head (RFC 9112, section 6.3). `chunked` is the only coding
+/// allowed.
 fn framing(fields: &KnownFields) -> Option<Framing>
     ensures { result ≡ framing_of fields.now }
 {
@@ -148,7 +150,7 @@ fn framing(fields: &KnownFields) -> Option<Framing>
     }
 }
 
-/// How the body is delimited, where it is by `otherwise` if no transfer coding stands.
+/// Returns how the body is delimited; by `otherwise` if no transfer coding is given.
 fn framing_without_length(fields: &KnownFields, otherwise: Framing) -> Option<Framing>
     ensures { result ≡ framing_by_coding otherwise fields.now.transfer_encoding fields.now.other_coding }
 {

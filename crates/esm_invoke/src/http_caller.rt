@@ -1,4 +1,4 @@
-// Calls of functions that a server on this machine runs.
+// Calls functions that a server on this machine runs.
 ghost use Rattle.std.specs.Prelude.{◌≡◌, true, None, IsSome, IfOk, IfErr, OnOk, OnErr};
 ghost use Rattle.std.specs.Duration.{as_nanos};
 ghost use Rattle.esm_io.specs.Faults.{IsCount, Rose};
@@ -14,25 +14,25 @@ use std::net::Net;
 use std::rt::Clock;
 use std::time::Duration;
 
-/// How long a caller tries to connect where a port, a descriptor or a buffer is wanting, in milliseconds.
+/// How long a caller tries to connect while no port, descriptor or buffer is free, in milliseconds.
 const PATIENCE: u64 = 60_000;
 
-/// Its first pause before it tries again, in milliseconds. Each further one is twice as long.
+/// The first pause before it tries again, in milliseconds. Each further pause is twice as long.
 const FIRST_PAUSE: u64 = 10;
 
-/// Its longest pause, in milliseconds.
+/// The longest pause, in milliseconds.
 const LONGEST_PAUSE: u64 = 1_000;
 
-/// How many pauses it makes at most: as many as `PATIENCE` has room for.
+/// The greatest number of pauses: as many as fit into `PATIENCE`.
 const PAUSES: u32 = 65;
 
-/// Calls functions over HTTP on a port of 127.0.0.1, with a connection for each call. It tells no calls: over a real
+/// Calls functions over HTTP on a port of 127.0.0.1, with a connection for each call. It shows contracts no log: over a real
 /// connection nothing can be known of what the peer took.
 #[derive(Drop)]
 pub struct HttpCaller<R: Net + Clock + Clone> {
     rt: R,
     port: u16,
-    /// From the start of a call's connection to the last byte of its answer.
+    /// The time from the start of a call's connection to the last byte of its answer.
     limit: Duration,
     /// The work area of the calls.
     buffer: Vec<u8>,
@@ -53,8 +53,8 @@ impl<R: Net + Clock + Clone> Model for HttpCaller<R> {
 }
 
 impl<R: Net + Clock + Clone> HttpCaller<R> {
-    /// A caller on this port, each of whose calls has this limit of time. It opens nothing, and its work area takes no
-    /// memory before the first call. `OutOfMemory` where the runtime's handle cannot be copied.
+    /// Makes a caller on this port, each of whose calls has this limit of time. It opens nothing yet, and its work area
+    /// takes no memory before the first call. `OutOfMemory` if the runtime's handle cannot be copied.
     pub fn new(rt: &R, alloc: Global, port: u16, limit: Duration) -> Result<Self, OutOfMemory>
         ensures port { IfOk result (λ caller. caller.port ≡ port) }
         ensures limit { IfOk result (λ caller. caller.limit ≡ as_nanos limit) }
@@ -90,9 +90,9 @@ impl<R: Net + Clock + Clone> HttpCaller<R> {
     }
 }
 
-/// Connects the link. For want of a local port, a descriptor or a buffer nothing was asked of the function: it pauses
-/// and tries again, once at least, and for `PATIENCE` in all. `Err` only where the link's count of faults rose; a want is
-/// told only where two tries failed.
+/// Connects the link. If no local port, descriptor or buffer is free, nothing was asked of the function: it pauses and tries
+/// again, at least once, and for `PATIENCE` in all. `Err` only if the link's count of faults rose; `Wanting` is returned
+/// only if two tries failed.
 fn connect<R: Net + Clock + Clone>(rt: &R, link: &mut TcpLink<R>) -> Result<(), NoConnection>
     ensures connected { OnOk result (link.new.connected ≡ true) }
     ensures running { OnOk result (IsSome link.new.begun) }
@@ -114,8 +114,8 @@ fn connect<R: Net + Clock + Clone>(rt: &R, link: &mut TcpLink<R>) -> Result<(), 
     link.connect()
 }
 
-/// Whether a pause of so many milliseconds that begins now ends within `PATIENCE` of the start, by the steady clock.
-/// Where that clock cannot be read, only the number of pauses bounds them.
+/// Whether a pause of `pause` milliseconds that begins now ends within `PATIENCE` of the start, by the steady clock. If that
+/// clock cannot be read, only the number of pauses is limited.
 fn has_time<R: Clock>(rt: &R, start: Option<Duration>, pause: u64) -> bool {
     match (start, rt.monotonic().ok()) {
         (Some(start), Some(now)) => {
@@ -133,8 +133,8 @@ impl<R: Net + Clock + Clone> Caller for HttpCaller<R> {
 
     ghost log = { λ s. None };
 
-    /// `Lost` where the connection cannot be made, where no answer came within the limit of time, where a read fails
-    /// before a whole answer came, and where a write fails and no answer came whose own length shows that it is whole.
+    /// `Lost` if the connection cannot be made, if no answer arrived within the limit of time, if a read fails before a
+    /// whole answer arrived, or if a write fails and no answer arrived whose own length shows that it is whole.
     fn call(&mut self, alloc: Global, name: &str, event: &[u8]) -> Result<Reply, OutOfMemory>
         ensures port { self.new.port ≡ self.old.port }
         ensures limit { self.new.limit ≡ self.old.limit }

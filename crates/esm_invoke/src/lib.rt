@@ -1,6 +1,6 @@
-//! Calls of functions over HTTP on loopback: the request's exact bytes, and the reply that the bytes read make, over
-//! any link. A head is looked for as its bytes come and parsed by `httparse` where an empty line has ended; a body goes
-//! through the decoder of `http1` as it comes.
+//! Calls of functions over HTTP on loopback: the request's exact bytes, and the reply that the bytes read give, over any
+//! link. The head is searched for as its bytes arrive, and parsed by `httparse` once an empty line has ended; the body is
+//! decoded by `http1` as it arrives.
 #![tactic(auto)]
 
 mod body;

@@ -1,4 +1,4 @@
-// The caller that the words of the program choose, scripted in memory or over HTTP.
+// The caller that the words of the program choose: scripted in memory, or over HTTP.
 ghost use Rattle.std.specs.Prelude.{Some, None};
 
 use crate::http_caller::HttpCaller;

@@ -7,18 +7,25 @@ use http::Method;
 use itoa::Buffer;
 use std::alloc::Global;
 
-/// The request that calls the function `name` with the event (Lambda API Reference of 2015-03-31, `Invoke`).
+/// Room for the head of a request without the function's name, in bytes: it takes at most 158, with a length of 20 digits.
+const HEAD_ROOM: usize = 158;
+
+/// Writes the request that calls the function `name` with the event (Lambda API Reference of 2015-03-31, `Invoke`).
+/// `OutOfMemory` if an allocation failed.
 pub fn request(alloc: Global, name: &str, event: &[u8]) -> Result<Vec<u8>, OutOfMemory>
     ensures { IfOk result (λ text. text.items ≡ request_text name.now event.now) }
 {
-    let mut text = Vec::new(alloc);
+    let length = HEAD_ROOM
+        .saturating_add(name.len())
+        .saturating_add(event.len());
+    let mut text = Vec::with_capacity(alloc, length)?;
     push_line(&mut text, name)?;
     push_headers(&mut text, event.len())?;
     text.extend_from_slice(event)?;
     Ok(text)
 }
 
-/// Appends the request's first line. After an `Err` a part of it may stand there.
+/// Appends the request's first line. After an `Err`, a part of it may be there.
 #[tactic(auto, unfolding(crate::specs::Request::request_line))]
 fn push_line(text: &mut Vec<u8>, name: &str) -> Result<(), OutOfMemory>
     ensures { OnOk result (text.new.items ≡ text.old.items ++ request_line name.now) }
@@ -30,7 +37,7 @@ fn push_line(text: &mut Vec<u8>, name: &str) -> Result<(), OutOfMemory>
     Ok(())
 }
 
-/// Appends the header lines and the empty line. After an `Err` a part of them may stand there.
+/// Appends the header lines and the empty line. After an `Err`, a part of them may be there.
 #[tactic(auto, unfolding(crate::specs::Request::header_lines))]
 fn push_headers(text: &mut Vec<u8>, len: usize) -> Result<(), OutOfMemory>
     ensures { OnOk result (text.new.items ≡ text.old.items ++ header_lines len) }

@@ -21,7 +21,7 @@ use Rattle.esm_model.specs.Calls.{event_of}
 
 -- groups
 
--- the two records have one mark and the same tries
+-- the two records have the same mark and the same number of tries
 abbrev pub same_piece : Setting → List Entry → ℕ → ℕ → ℕ → Bool
 same_piece s h n i j = same_mark (mark s h n i) (mark s h n j) && (tries s h n i == tries s h n j)
 
@@ -29,7 +29,7 @@ same_piece s h n i j = same_mark (mark s h n i) (mark s h n j) && (tries s h n i
 abbrev pub group_of : Setting → List Entry → ℕ → List ℕ → List ℕ
 group_of s h n places = take_while (same_piece s h n (slice_index places 0)) places
 
--- of the lane's open records
+-- the group of the lane: the first of its open records that have one mark and one number of tries
 abbrev pub group : Setting → List Entry → LaneId → List ℕ
 group s h lane = group_of s h lane.shard (open_places s h lane)
 
@@ -46,12 +46,12 @@ is_expired s n m i = unwrap_or (option_map (λ (r : Record). is_older s.config.a
 
 -- batches
 
--- the longest prefix of xs that continues seen, each prefix of which passes
+-- `seen`, continued by the longest prefix of xs along which every prefix passes
 abbrev pub longest : (List ℕ → Bool) → List ℕ → List ℕ → List ℕ
 longest p seen [] = seen
 longest p seen (x ∷ xs) = if p (seen ++ x ∷ []) then longest p (seen ++ x ∷ []) xs else seen
 
--- all of one tumbling window, where windows are configured
+-- the records are all in one tumbling window, where windows are configured
 abbrev pub is_one_window : Setting → ℕ → List ℕ → Bool
 is_one_window s n places = not (has_windows s.config) || list_all (λ i. window_of s n i == window_of s n (slice_index places 0)) places
 
@@ -69,7 +69,7 @@ batch s h lane m = longest (fits s h lane.shard m) [] (group s h lane)
 
 -- the delay
 
--- one more failure, or the end of a row of them
+-- the number of failures in a row: one more, or 0 after an end that is none
 abbrev pub failures_by : Rest → ℕ → ℕ
 failures_by r before = if is_failure r then suc before else 0
 
@@ -91,7 +91,8 @@ abbrev pub last_end : List Entry → LaneId → ℕ
 last_end [] lane = 0
 last_end (e ∷ h) lane = end_after lane (last_end h lane) e
 
--- in milliseconds: a quarter of a second after one failure, twice as long after each further one, a minute at most
+-- the end of the delay after the last end, in milliseconds: 250 after one failure, twice as long after each further one, at
+-- most a minute
 abbrev pub delay_from : ℕ → ℕ → ℕ
 delay_from zero m = 0
 delay_from (suc n) m = moment_after m (min (250 * 2 ^ n) 60000)
@@ -102,7 +103,7 @@ delay_end s h lane = delay_from (failures s h lane) (last_end h lane)
 
 -- ready
 
--- the group isn't fresh, or the batch is full or cut, or the book is shut, or the batching window is over
+-- the group is not fresh, or the batch is full or shorter than the group, or the input ended, or the batching window is over
 abbrev pub is_group_ready : Setting → List Entry → LaneId → ℕ → List ℕ → List ℕ → Bool
 is_group_ready s h lane m group batch =
     not (is_fresh s h lane.shard (slice_index group 0))

@@ -1,6 +1,5 @@
--- The history of a stream's book, as threads hand it on: what it is as a setting and as entries, whose each entry is,
--- and which entry may come next. This product's own. A list of `Told` has its oldest entry first, a list of entries
--- its newest.
+-- The shared history of a stream's book, which threads pass on: its setting and its entries, which seat adds an entry, and
+-- which entry may come next. This product's own. A list of `Told` has its oldest entry first, a list of entries its newest.
 use Rattle.std.specs.Prelude.{◌≡◌, ℕ, suc, ◌<◌, ◌==◌, IsTrue, List, [], ◌∷◌, ◌++◌, length, map, reverse, filter_map, Option, Some, None, if◌then◌else◌}
 use Rattle.std.specs.List.{All}
 use Rattle.esm_model.specs.Records.{Record}
@@ -20,12 +19,12 @@ use Rattle.esm_model.specs.Valid.{IsValidRecord}
 abbrev pub entries_told : List Told → List Entry
 entries_told history = reverse (map (λ (t : Told). t.entry) history)
 
--- the records that stand with an entry, where that is a `Came` of the shard
+-- the records that an entry holds, where it is a `Came` of the shard
 abbrev pub came_with : ℕ → List Record → Entry → List Record
 came_with n records (Came shard first count moment) = if shard == n then records else []
 came_with n records _ = []
 
--- the records of the shard that stand with the `Came` entries of a history, in order
+-- the records of the shard that the `Came` entries of a history hold, in order
 abbrev pub records_told : ℕ → List Told → List Record
 records_told n [] = []
 records_told n (t ∷ ts) = came_with n t.records t.entry ++ records_told n ts
@@ -33,11 +32,11 @@ records_told n (t ∷ ts) = came_with n t.records t.entry ++ records_told n ts
 abbrev pub stream_told : List Told → ℕ → Stream
 stream_told history n = record { shard = n; records = records_told n history }
 
--- the records of each shard that came, the shards in the order of their first `Came`
+-- the records of each shard that arrived, the shards in the order of their first `Came`
 abbrev pub streams_told : List Told → List Stream
 streams_told history = map (stream_told history) (shards_that_came (entries_told history))
 
--- the setting of a book that was opened with the setup: its records are those that its history tells
+-- the setting of a book that was opened with the setup: its records are those that its history holds
 abbrev pub setting_told : Setup → List Told → Setting
 setting_told setup history = record {
   config = setup.config;
@@ -65,7 +64,7 @@ lines_told history = filter_map (λ (t : Told). entry_line t.entry) history
 
 -- authors
 
--- the lane whose batcher adds the entry; the reader adds those that have none
+-- the lane whose batcher adds the entry; the reader adds those without a lane
 abbrev pub lane_of_entry : Entry → Option LaneId
 lane_of_entry (Came shard first count moment) = None
 lane_of_entry (Began lane places closing moment) = Some lane
@@ -87,11 +86,11 @@ author setup history t = seat_of (setting_told setup history) (entries_told hist
 
 -- named places
 
--- the places are of records of the shard that came
+-- the places are those of records of the shard that arrived
 abbrev pub HaveCome : List Entry → ℕ → List ℕ → Type 0
 HaveCome h n places = (i : ℕ) → IsTrue (holds places i) → i < came_count h n
 
--- the places that the entry names came
+-- the records at the places that the entry names arrived
 abbrev pub NamesCame : List Entry → Entry → Type 0
 NamesCame h (Began lane places closing moment) = HaveCome h lane.shard places
 NamesCame h (Gave by shard places fate line state moment) = HaveCome h shard places
@@ -101,23 +100,23 @@ NamesCame h _ = Unit {0}
 
 -- which entry may come next
 
--- the records that a `Came` covers: so many of the shard, each valid
+-- the records that a `Came` covers: `count` of the shard, each valid
 pub record AreCovered (shard count : ℕ) (records : List Record) : Type 0 where
   pub number : length records ≡ count
   pub own_shard : All (λ (r : Record). r.shard ≡ shard) records
   pub valid : All IsValidRecord records
 
--- these records stand with the entry: with a `Came` those that it covers, with every other entry none
+-- the entry holds these records: a `Came` those that it covers, and every other entry none
 abbrev pub StandWith : Entry → List Record → Type 0
 StandWith (Came shard first count moment) records = AreCovered shard count records
 StandWith _ records = records ≡ []
 
--- it is told as one of a stream
+-- the entry is one of a stream's book: it holds its records, and no messages
 pub record IsOfStream (t : Told) : Type 0 where
   pub records : StandWith t.entry t.records
   pub no_messages : t.messages ≡ []
 
--- the entry may follow the history over every list of records that goes on from those told, its own among them
+-- the entry may follow the history over every list of records that extends those told, its own included
 pub record StreamMayFollow (setup : Setup) (history : List Told) (t : Told) : Type 0 where
   pub of_stream : IsOfStream t
   pub later : IsLater (entries_told history) (moment_of t.entry)

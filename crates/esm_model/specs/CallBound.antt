@@ -21,7 +21,7 @@ abbrev pub records_after : ℕ → Entry → ℕ
 records_after before (Came shard first count moment) = count + before
 records_after before _ = before
 
--- the number of records that came, of all shards
+-- the number of records that arrived, over all shards
 abbrev pub record_count : List Entry → ℕ
 record_count [] = 0
 record_count (e ∷ h) = records_after (record_count h) e
@@ -41,15 +41,15 @@ abbrev pub distinct : List Window → List Window
 distinct [] = []
 distinct (w ∷ ws) = if list_any (same_window w) ws then distinct ws else w ∷ distinct ws
 
--- those of the shard's records that came
+-- the windows of the shard's records that arrived
 abbrev pub windows_that_came : Setting → List Entry → ℕ → List Window
 windows_that_came s h n = map (λ (i : ℕ). record { shard = n; start = window_of s n i }) (came_places h n)
 
--- those whose state was found
+-- the windows whose state the journal had at opening
 abbrev pub found_windows : Setting → List Window
 found_windows s = map (λ (f : FoundState). record { shard = f.shard; start = f.window }) s.states
 
--- the number of windows of the records that came and of the found ones, where windows are configured
+-- the number of windows of the records that arrived and of the found ones, where windows are configured
 abbrev pub window_count : Setting → List Entry → ℕ
 window_count s h =
     if has_windows s.config then length (distinct (flat_map (windows_that_came s h) (shards_that_came h) ++ found_windows s)) else 0
@@ -60,7 +60,7 @@ abbrev pub is_not_run : Reading → Bool
 is_not_run NotRun = true
 is_not_run _ = false
 
--- the reply to the call of the shard says that it was not run
+-- the reply says that this call of the shard was not run
 abbrev pub was_not_run : Setting → ℕ → Option Call → Reply → Bool
 was_not_run s n None reply = false
 was_not_run s n (Some call) reply = is_not_run (reading s.config (sequences_at s n call.places) (is_some call.closing) reply)
@@ -69,24 +69,24 @@ abbrev pub not_run_after : Setting → List Entry → ℕ → Entry → ℕ
 not_run_after s h before (Ended lane reply moment) = if was_not_run s lane.shard (last_call h lane) reply then suc before else before
 not_run_after s h before _ = before
 
--- the number of replies that say so
+-- the number of replies that say that their call was not run
 abbrev pub not_run_count : Setting → List Entry → ℕ
 not_run_count s [] = 0
 not_run_count s (e ∷ h) = not_run_after s h (not_run_count s h) e
 
 -- the bound
 
--- by the retry attempts, and the numbers of records, windows and replies that were not run
+-- from the retry attempts and the numbers of records, windows and replies that were not run
 abbrev pub calls_needed : (retries records windows not_run : ℕ) → ℕ
 calls_needed retries records windows not_run = records * (retries + 3) + windows * (retries + 1) + not_run
 
--- of a history
+-- the bound of a history
 abbrev pub call_bound : Setting → List Entry → ℕ
 call_bound s h = calls_needed (unwrap_or s.config.retries 0) (record_count h) (window_count s h) (not_run_count s h)
 
 -- a worked number
 
--- three records of one shard came, and the first call of them was throttled
+-- three records of one shard arrived, and the first call of them was throttled
 abbrev pub throttled_once : List Entry
 throttled_once =
     Ended (record { shard = 0; lane = 0 }) (Answered 429 false []) 1
@@ -94,6 +94,6 @@ throttled_once =
     ∷ Came 0 0 3 0
     ∷ []
 
--- with two retry attempts and no tumbling windows: five calls a record, and the one that was not run
+-- with two retry attempts and no tumbling windows: five calls for each record, and the one that was not run
 abbrev pub BoundOfThree : Type 0
 BoundOfThree = (s : Setting) → s.config.retries ≡ Some 2 → s.config.tumbling_ms ≡ 0 → call_bound s throttled_once ≡ 16

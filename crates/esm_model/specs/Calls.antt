@@ -16,7 +16,7 @@ use Rattle.esm_model.specs.EventText.{event_text}
 abbrev pub window_of_call : Setting → ℕ → List ℕ → Option ℕ → ℕ
 window_of_call s n places closing = unwrap_or closing (window_of s n (slice_index places 0))
 
--- what the event of a call says of its window, with the state before the call
+-- what the event of a call says of its window, with the state before the call; nothing without tumbling windows
 abbrev pub window_call : Setting → List Entry → ℕ → List ℕ → Option ℕ → Option WindowCall
 window_call s h n places closing =
     if has_windows s.config
@@ -49,8 +49,8 @@ calls_after s sends h k before (Ended lane reply moment) =
     else before
 calls_after s sends h k before _ = before
 
--- the calls of the batcher's lane that ended, oldest first, as its caller logs them: `sends` gives the bytes that it
--- sends for an event
+-- the calls of the batcher's lane that ended, oldest first, as its caller logs them; `sends` maps an event to the bytes that
+-- the caller sends
 abbrev pub calls : Setting → (List ℕ → List ℕ) → List Entry → ℕ → List Called
 calls s sends [] k = []
 calls s sends (e ∷ h) k = calls_after s sends h k (calls s sends h k) e
@@ -67,7 +67,7 @@ abbrev pub is_end_of : Setting → List Entry → ℕ → Entry → Bool
 is_end_of s h k (Ended lane reply moment) = batcher s h lane == k
 is_end_of s h k _ = false
 
--- some entry of `later` does
+-- some entry of `later` ends a call of the batcher
 abbrev pub has_end_of : Setting → (later before : List Entry) → ℕ → Bool
 has_end_of s [] before k = false
 has_end_of s (e ∷ later) before k = is_end_of s (later ++ before) k e || has_end_of s later before k

@@ -1,4 +1,4 @@
--- Items that came to a book, shard by shard. This product's own.
+-- The items that arrived in a book, shard by shard. This product's own.
 use Rattle.std.specs.Prelude.{◌≡◌, ℕ, ◌==◌, ◌≤◌, Bool, List, ◌++◌, length, filter}
 use Rattle.esm_model.specs.declared.limits.TheConstants.{MAX_RECORDS}
 use Rattle.esm_model.specs.declared.item.Item.{Item}
@@ -9,30 +9,30 @@ abbrev pub is_of : ℕ → Item → Bool
 is_of n (Stream r) = r.shard == n
 is_of n (Queue m) = n == 0
 
--- of the items those of the shard, in their order
+-- the items of the shard, in their order
 abbrev pub items_of : ℕ → List Item → List Item
 items_of n items = filter (is_of n) items
 
--- of each shard those of the list came behind those that had come
+-- in each shard, the list's items of that shard arrived after those that had arrived before
 abbrev pub Come : (before after : ℕ → List Item) → List Item → Type 0
 Come before after list = (n : ℕ) → after n ≡ before n ++ items_of n list
 
--- or the first of them
+-- or only the first of them arrived
 abbrev pub SomeCome : (before after : ℕ → List Item) → List Item → Type 0
 SomeCome before after list = (n : ℕ) → (rest : List Item) × (before n ++ items_of n list ≡ after n ++ rest)
 
--- none came, and none is gone
+-- no item arrived, and none is gone
 abbrev pub StayAsTheyAre : (before after : ℕ → List Item) → Type 0
 StayAsTheyAre before after = (n : ℕ) → after n ≡ before n
 
--- those of the list make no shard longer than an input may be
+-- with the list's items no shard is longer than an input may be
 abbrev pub FitBehind : (before : ℕ → List Item) → List Item → Type 0
 FitBehind before list = (n : ℕ) → length (before n ++ items_of n list) ≤ MAX_RECORDS
 
--- these came, of each shard those of the list in its order
+-- exactly these items arrived: in each shard those of the list, in its order
 abbrev pub AreCome : (came : ℕ → List Item) → List Item → Type 0
 AreCome came list = (n : ℕ) → came n ≡ items_of n list
 
--- or the first of them
+-- or only the first of them arrived
 abbrev pub AreSomeCome : (came : ℕ → List Item) → List Item → Type 0
 AreSomeCome came list = (n : ℕ) → (rest : List Item) × (items_of n list ≡ came n ++ rest)

@@ -1,5 +1,5 @@
--- A device as it stood, told whole. This product's own: the code of a value is one to one, so equal codes are equal
--- values, of whatever type the device is.
+-- The whole state of a device of any type, as a code. This product's own: codes are one to one, so equal codes are those of
+-- equal states.
 use base.Stored.{Gv, Coded}
 
 abbrev pub coded_whole : Coded Gv

@@ -1,6 +1,6 @@
--- How a record earns its fate (newest entry first): by the end of a call, by the age, or by the filter. Source: the
--- Lambda Developer Guide, event source mappings for Kinesis (filtering, error handling, maximum record age, retry
--- attempts).
+-- How a record earns its fate: by the end of a call, by its age, or by the filter. A history has its newest entry first.
+-- Source: the Lambda Developer Guide, event source mappings for Kinesis (filtering, error handling, maximum record age,
+-- retry attempts).
 use Rattle.std.specs.Prelude.{◌≡◌, ℕ, ◌+◌, ◌-◌, ◌<◌, Bool, false, IsTrue, List, ◌∷◌, ◌++◌, take, drop, Option, Some, None}
 use Rattle.std.specs.List.{list_any}
 use Rattle.esm_model.specs.Lane.{same_lane}
@@ -23,14 +23,14 @@ use Rattle.esm_model.specs.Tries.{tries_of, verdict_after}
 
 -- the end of a call
 
--- a call of the lane begins or ends
+-- the entry begins or ends a call of the lane
 abbrev pub is_call_of : LaneId → Entry → Bool
 is_call_of lane (Began at places closing moment) = same_lane at lane
 is_call_of lane (Ended at reply moment) = same_lane at lane
 is_call_of lane _ = false
 
--- the last end of a call of the lane: the reply, what stood before it, and the call that ended. No call of the lane
--- began or ended since.
+-- the last end of a call of the lane: its reply, what came before it, and the call that ended. No call of the lane has begun
+-- or ended since.
 pub record LastEnd (s : Setting) (h : List Entry) (lane : LaneId) : Type 0 where
   pub since : List Entry
   pub reply : Reply
@@ -45,11 +45,11 @@ pub record LastEnd (s : Setting) (h : List Entry) (lane : LaneId) : Type 0 where
 abbrev pub verdict_at : {s : Setting} {h : List Entry} {lane : LaneId} → LastEnd s h lane → Verdict
 verdict_at {s = s} {lane = lane} end = verdict_after s end.earlier lane end.reply
 
--- the tries of its call before it
+-- the tries of that call before its end
 abbrev pub tries_at : {s : Setting} {h : List Entry} {lane : LaneId} → LastEnd s h lane → ℕ
 tries_at {s = s} {lane = lane} end = tries_of s end.earlier lane.shard end.call
 
--- the call that ended is one of those of the lane's batcher, as its caller logs it
+-- that call is among those of the lane's batcher, as its caller logs it
 abbrev pub IsLogged : (List ℕ → List ℕ) → {s : Setting} {h : List Entry} {lane : LaneId} → LastEnd s h lane → Type 0
 IsLogged sends {s = s} {h = h} {lane = lane} end =
     (earlier later : List Called)
@@ -61,8 +61,8 @@ pub record HaveSucceeded (s : Setting) (h : List Entry) (lane : LaneId) (n : ℕ
   pub shard : n ≡ lane.shard
   pub exact : places ≡ take (verdict_at end).succeeded end.call.places
 
--- records are exhausted: by the last end of their lane, whose ruling gives up exactly these, all that did not succeed;
--- with this end they failed more often than the retry attempts allow
+-- records are exhausted: by the last end of their lane, whose ruling gives up exactly these, which are all that did not
+-- succeed; with this end they have failed more often than the retry attempts allow
 pub record AreExhausted (s : Setting) (h : List Entry) (lane : LaneId) (n : ℕ) (places : List ℕ) : Type 0 where
   pub end : LastEnd s h lane
   pub shard : n ≡ lane.shard
@@ -74,7 +74,7 @@ pub record AreExhausted (s : Setting) (h : List Entry) (lane : LaneId) (n : ℕ)
 
 -- the age and the filter
 
--- an age is set, and the record at the place is older at the moment
+-- an age is set, and at the moment the record at the place is older
 pub record IsTooOld (s : Setting) (n m i : ℕ) : Type 0 where
   pub item : Record
   pub stands : record_at s n i ≡ Some item
@@ -88,14 +88,14 @@ pub record IsFilteredOut (s : Setting) (n i : ℕ) : Type 0 where
   pub stands : record_at s n i ≡ Some item
   pub fails : passes s.config.filters item ≡ false
 
--- each of the places of the lane's shard is of a record that is too old
+-- each of the places, of the lane's shard, is that of a record that is too old
 pub record HaveExpired (s : Setting) (lane : LaneId) (n : ℕ) (places : List ℕ) (m : ℕ) : Type 0 where
   pub shard : n ≡ lane.shard
   pub old : (i : ℕ) → IsTrue (holds places i) → IsTooOld s n m i
 
 -- the fate
 
--- the places have earned the fate, given at the moment after the history
+-- the places have earned this fate, which they get at the moment after the history
 abbrev pub IsEarned : Setting → List Entry → Option LaneId → ℕ → List ℕ → Fate → ℕ → Type 0
 IsEarned s h (Some lane) n places Succeeded m = HaveSucceeded s h lane n places
 IsEarned s h (Some lane) n places Exhausted m = AreExhausted s h lane n places

@@ -1,5 +1,5 @@
--- What the entries of a history say one by one. A history is written newest entry first, so each fact is a recursion
--- over what one more entry does. This product's own.
+-- What the entries of a history say, one by one. A history has its newest entry first, so each definition is a recursion
+-- that says what one more entry changes. This product's own.
 use Rattle.std.specs.Prelude.{◌≡◌, ℕ, suc, ◌+◌, ◌*◌, ◌==◌, nat_le, nat_lt, Bool, true, false, ◌&&◌, List, [], ◌∷◌, ◌++◌, Option, Some, None, if◌then◌else◌}
 use Rattle.std.specs.List.{list_any, position_or_len}
 use Rattle.esm_model.specs.Lane.{same_lane}
@@ -12,7 +12,7 @@ use Rattle.esm_model.specs.declared.entry.Entry.TheVariants.{Came, Began, Ended,
 abbrev pub holds : List ℕ → ℕ → Bool
 holds places i = list_any (λ p. p == i) places
 
--- in milliseconds
+-- the moment of an entry, in milliseconds
 abbrev pub moment_of : Entry → ℕ
 moment_of (Came shard first count moment) = moment
 moment_of (Began lane places closing moment) = moment
@@ -23,18 +23,18 @@ moment_of (Closed lane window moment) = moment
 moment_of (Replayed shard places moment) = moment
 moment_of (Shut moment) = moment
 
--- that of the newest entry, or 0
+-- the moment of the newest entry, or 0
 abbrev pub last_moment : List Entry → ℕ
 last_moment [] = 0
 last_moment (e ∷ h) = moment_of e
 
--- coming and shutting
+-- arrival and the input's end
 
 abbrev pub came_after : ℕ → ℕ → Entry → ℕ
 came_after n before (Came shard first count moment) = if shard == n then count + before else before
 came_after n before _ = before
 
--- how many records of the shard came; in a legal history they are those at the places below this number
+-- how many records of the shard arrived; in a legal history they are those at the places below this number
 abbrev pub came_count : List Entry → ℕ → ℕ
 came_count [] n = 0
 came_count (e ∷ h) n = came_after n (came_count h n) e
@@ -44,7 +44,7 @@ abbrev pub covers : ℕ → ℕ → Entry → Bool
 covers n i (Came shard first count moment) = (shard == n) && (nat_le first i && nat_lt i (first + count))
 covers n i _ = false
 
--- the record at the place came: a `Came` covers it
+-- the record at the place arrived: a `Came` covers it
 abbrev pub has_come : List Entry → ℕ → ℕ → Bool
 has_come h n i = list_any (covers n i) h
 
@@ -57,7 +57,7 @@ abbrev pub came_moment : List Entry → ℕ → ℕ → ℕ
 came_moment [] n i = 0
 came_moment (e ∷ h) n i = came_moment_after n i (came_moment h n i) e
 
--- it ends the input
+-- the entry ends the input
 abbrev pub is_shut_entry : Entry → Bool
 is_shut_entry (Shut moment) = true
 is_shut_entry _ = false
@@ -66,7 +66,7 @@ is_shut_entry _ = false
 abbrev pub is_shut : List Entry → Bool
 is_shut h = list_any is_shut_entry h
 
--- it begins a call
+-- the entry begins a call
 abbrev pub is_beginning : Entry → Bool
 is_beginning (Began lane places closing moment) = true
 is_beginning _ = false
@@ -80,13 +80,13 @@ abbrev pub shards_after : List ℕ → Entry → List ℕ
 shards_after before (Came shard first count moment) = if holds before shard then before else before ++ shard ∷ []
 shards_after before _ = before
 
--- the shards that came, in the order of their first `Came`
+-- the shards of which records arrived, in the order of their first `Came`
 abbrev pub shards_that_came : List Entry → List ℕ
 shards_that_came [] = []
 shards_that_came (e ∷ h) = shards_after (shards_that_came h) e
 
--- the number of the batcher that serves the lane: the index of its shard among those that came, times the factor,
--- plus the lane's number
+-- the number of the batcher that serves the lane: the index of its shard among those that arrived, times the factor, plus
+-- the lane's number
 abbrev pub batcher : Setting → List Entry → LaneId → ℕ
 batcher s h lane = position_or_len (λ n. n == lane.shard) (shards_that_came h) * s.config.factor + lane.lane
 

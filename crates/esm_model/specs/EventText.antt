@@ -1,6 +1,6 @@
--- The event of a function's call for a stream's batch. Source: the Lambda Developer Guide, "Using Lambda with Kinesis"
--- (the example event, and the fields of tumbling windows). Identifiers, ARNs and sequence numbers have no character
--- that needs an escape, and stand as they are.
+-- The event of a function call for a stream's batch. Source: the Lambda Developer Guide, "Using Lambda with Kinesis" (the
+-- example event, and the fields of tumbling windows). Identifiers, ARNs and sequence numbers have no character that needs an
+-- escape, and are written as they are.
 use Rattle.std.specs.Prelude.{ℕ, ◌/◌, ◌%◌, List, [], ◌∷◌, ◌++◌, codes, Option, Some, None}
 use Rattle.std.specs.List.{join_by}
 use Rattle.base64.specs.Engines.{standard}
@@ -25,7 +25,7 @@ shard_id shard = codes "shardId-" ++ padded_decimal 12 shard
 abbrev pub seconds_text : ℕ → List ℕ
 seconds_text ms = decimal (ms / 1000) ++ codes "." ++ padded_decimal 3 (ms % 1000)
 
--- what Kinesis gave of the record
+-- what Kinesis says of the record
 abbrev pub kinesis_part : Record → List ℕ
 kinesis_part r =
     codes "{\"kinesis\":{\"kinesisSchemaVersion\":\"1.0\",\"partitionKey\":" ++ quoted r.key
@@ -39,7 +39,7 @@ identity_part r =
     codes ",\"eventSource\":\"aws:kinesis\",\"eventVersion\":\"1.0\",\"eventID\":\""
     ++ shard_id r.shard ++ codes ":" ++ r.seq
 
--- where it came from
+-- where the record came from
 abbrev pub source_part : Config → List ℕ
 source_part c =
     codes "\",\"eventName\":\"aws:kinesis:record\",\"invokeIdentityArn\":\"arn:aws:iam::" ++ c.account
@@ -50,12 +50,12 @@ source_part c =
 unfoldable pub record_text : Config → Record → List ℕ
 record_text c r = kinesis_part r ++ identity_part r ++ source_part c
 
--- a window's state as the function gave it, `{}` where it gave none
+-- a window's state as the function returned it, or `{}` where it returned none
 abbrev pub state_text : List ℕ → List ℕ
 state_text [] = codes "{}"
 state_text (b ∷ bytes) = b ∷ bytes
 
--- the window from its start to its length after that, with its state
+-- the window's start and end, and its state
 abbrev pub span_part : Config → WindowCall → List ℕ
 span_part c w =
     codes ",\"window\":{\"start\":\"" ++ second_text w.state.window
@@ -70,12 +70,12 @@ final_part c w =
     ++ codes "\",\"isFinalInvokeForWindow\":" ++ truth_text w.closing
     ++ codes ",\"isWindowTerminatedEarly\":false"
 
--- what stands after `Records`: nothing without tumbling windows
+-- what comes after `Records`: nothing without tumbling windows
 abbrev pub window_part : Config → Option WindowCall → List ℕ
 window_part c None = []
 window_part c (Some w) = span_part c w ++ final_part c w
 
--- what stands behind the elements of the records
+-- what comes after the records' elements
 abbrev pub end_part : Config → Option WindowCall → List ℕ
 end_part c w = codes "]" ++ window_part c w ++ codes "}"
 

@@ -1,4 +1,4 @@
--- What a failure line tells. Source: the Lambda Developer Guide, event source mappings for Kinesis, failure destinations.
+-- What a failure line says. Source: the Lambda Developer Guide, event source mappings for Kinesis, failure destinations.
 use Rattle.std.specs.Prelude.{ℕ, suc, ◌-◌, ◌==◌, Bool, ◌&&◌, List, [], ◌∷◌, length, Option, Some, None, option_map, unwrap_or, slice_index, if◌then◌else◌}
 use Rattle.esm_model.specs.Records.{Record}
 use Rattle.esm_model.specs.declared.entry.Reply.{Reply}
@@ -20,7 +20,7 @@ abbrev pub calls_of : List Entry → ℕ → ℕ → ℕ
 calls_of [] n i = 0
 calls_of (e ∷ h) n i = calls_of_after n i (calls_of h n i) e
 
--- of a reply that was answered: not lost and not garbled
+-- the response in a reply: none where the reply is lost or garbled
 abbrev pub response_in : Reply → Option Response
 response_in (Answered status error body) = Some (record { status = status; error = error })
 response_in (Garbled bytes) = None
@@ -39,7 +39,7 @@ response_of (e ∷ h) n i = response_after h n i (response_of h n i) e
 abbrev pub sequence_at : Setting → ℕ → ℕ → List ℕ
 sequence_at s n i = unwrap_or (option_map (λ (r : Record). r.seq) (record_at s n i)) []
 
--- its arrival
+-- the arrival of the record at the place, in milliseconds since 1970
 abbrev pub arrival_at : Setting → ℕ → ℕ → ℕ
 arrival_at s n i = unwrap_or (option_map (λ (r : Record). r.arrival) (record_at s n i)) 0
 
@@ -47,7 +47,7 @@ arrival_at s n i = unwrap_or (option_map (λ (r : Record). r.arrival) (record_at
 abbrev pub last_of : List ℕ → ℕ
 last_of places = slice_index places (length places - 1)
 
--- of records that are given up at the moment, after the history
+-- what the line says of records that are given up at the moment, after the history
 abbrev pub failure_of : Setting → List Entry → ℕ → List ℕ → Bool → ℕ → Failure
 failure_of s h n places expired m = record {
   shard = n;
@@ -63,6 +63,6 @@ failure_of s h n places expired m = record {
   moment = m;
 }
 
--- there is a line exactly where a destination is set
+-- the failure line: there is one if and only if a destination is set
 abbrev pub failure_line : Setting → List Entry → ℕ → List ℕ → Bool → ℕ → Option (List ℕ)
 failure_line s h n places expired m = option_map (λ (destination : List ℕ). failure_text s.config (failure_of s h n places expired m)) s.config.destination

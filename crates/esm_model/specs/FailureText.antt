@@ -1,6 +1,6 @@
--- The line that the failure destination gets for records that were given up. Source: the Lambda Developer Guide,
--- "Retaining discarded batch records" for Kinesis (the example of an invocation record). The text of `requestId`, which
--- names the first place and the shard, and the condition `RecordAgeExceeded` are this product's own.
+-- The line that the failure destination gets for records that were given up. Source: the Lambda Developer Guide, "Retaining
+-- discarded batch records" for Kinesis (the example of an invocation record). The text of `requestId`, which names the first
+-- place and the shard, and the condition `RecordAgeExceeded` are this product's own.
 use Rattle.std.specs.Prelude.{ℕ, List, [], ◌++◌, Bool, if◌then◌else◌, codes, Option, Some, None}
 use Rattle.esm_model.specs.Numbers.{decimal, padded_hexadecimal}
 use Rattle.esm_model.specs.Dates.{date_text}
@@ -9,7 +9,7 @@ use Rattle.esm_model.specs.declared.config.Config.{Config}
 use Rattle.esm_model.specs.declared.event.Failure.{Failure}
 use Rattle.esm_model.specs.declared.event.Response.{Response}
 
--- a line that is delivered again has the same id
+-- the place and the shard of the first record, so a line that is delivered again has the same id
 abbrev pub request_id : Failure → List ℕ
 request_id f = padded_hexadecimal 8 f.place ++ codes "-0000-8000-8000-" ++ padded_hexadecimal 12 f.shard
 
@@ -24,7 +24,7 @@ request_part c f =
     ++ codes "\",\"condition\":\"" ++ condition_text f.expired
     ++ codes "\",\"approximateInvokeCount\":" ++ decimal f.calls ++ codes "},"
 
--- the error header of an answer
+-- what an answer says of its error header
 abbrev pub error_part : Bool → List ℕ
 error_part error = if error then codes ",\"functionError\":\"Unhandled\"" else []
 

@@ -16,17 +16,17 @@ abbrev pub names_place : ℕ → ℕ → Entry → Bool
 names_place n i (Gave by shard places fate line state moment) = (shard == n) && holds places i
 names_place n i _ = false
 
--- a fate that stands stays
+-- the first fate that a place gets stays
 abbrev pub given_after : ℕ → ℕ → Option Fate → Entry → Option Fate
 given_after n i before (Gave by shard places fate line state moment) = option_or before (if (shard == n) && holds places i then Some fate else None)
 given_after n i before _ = before
 
--- the fate of the `Gave` that names the place
+-- the fate of the first `Gave` that names the place
 abbrev pub given : List Entry → ℕ → ℕ → Option Fate
 given [] n i = None
 given (e ∷ h) n i = given_after n i (given h n i) e
 
--- the found fate, else that of the `Gave` that names the place
+-- the fate found in the journal, or else that of the `Gave` that names the place
 abbrev pub fate : Setting → List Entry → ℕ → ℕ → Option Fate
 fate s h n i = option_or (option_map (λ (f : FoundFate). f.fate) (found_fate s n i)) (given h n i)
 
@@ -43,11 +43,11 @@ abbrev pub below : ℕ → List ℕ
 below zero = []
 below (suc n) = below n ++ n ∷ []
 
--- the places of the shard's records that came
+-- the places of the shard's records that arrived
 abbrev pub came_places : List Entry → ℕ → List ℕ
 came_places h n = below (came_count h n)
 
--- a record is open where it came and has no fate: the places of the lane's open records, in order
+-- the places of the lane's open records, in order: they arrived and have no fate
 abbrev pub open_places : Setting → List Entry → LaneId → List ℕ
 open_places s h lane = filter (λ i. is_in_lane s lane i && lacks_fate s h lane.shard i) (came_places h lane.shard)
 
@@ -64,7 +64,7 @@ abbrev pub is_fate : Fate → Option Fate → Bool
 is_fate f None = false
 is_fate f (Some g) = same_fate f g
 
--- the number of the shard's records that came and have this fate
+-- the number of the shard's arrived records that have this fate
 abbrev pub fate_count : Setting → List Entry → ℕ → Fate → ℕ
 fate_count s h n f = length (filter (λ i. is_fate f (fate s h n i)) (came_places h n))
 

@@ -14,7 +14,7 @@ use Rattle.esm_model.specs.declared.item.Message.{Message}
 
 -- ---- the object that is judged
 
--- What a field shows to a list of tests and to an object pattern; where it shows nothing, that fails.
+-- What a field shows to a list of tests and to an object pattern. Where it shows nothing, the test or the pattern fails.
 pub record Seen : Type 0 where
   pub leaves : Option (List Data)
   pub members : Option Members
@@ -36,7 +36,7 @@ plain d = record { leaves = Some (leaves d); members = Some (members_in d) }
 abbrev pub in_object : Members → List ℕ → Seen
 in_object ms key = plain (get_member key ms)
 
--- the members of what is JSON
+-- the members of a JSON value, where there is one
 abbrev pub json_members : Option Data → Option Members
 json_members d = option_map (λ v. members_in (Some v)) d
 
@@ -45,7 +45,7 @@ record_field r key =
     if bytes_eq key (codes "kinesisSchemaVersion") then Some (string (codes "1.0"))
     else (if bytes_eq key (codes "partitionKey") then Some (string r.key) else (if bytes_eq key (codes "sequenceNumber") then Some (string r.seq) else None))
 
--- The fields of a stream's record, and its data as JSON: only an object pattern sees that.
+-- The fields of a stream's record. An object pattern sees its data as JSON; a list of tests sees nothing of it.
 abbrev pub in_record : Record → Option Data → List ℕ → Seen
 in_record r json key = if bytes_eq key (codes "data") then record { leaves = None; members = json_members json } else plain (record_field r key)
 
@@ -57,8 +57,8 @@ is_text_body (Some d) = is_leaf d
 abbrev pub message_text : Message → List ℕ → Option Data
 message_text m key = if bytes_eq key (codes "messageId") then Some (string m.id) else None
 
--- The fields of a queue's message, and its body as JSON: a list of tests sees the body as its text, unless it is a JSON
--- object or list.
+-- The fields of a queue's message. An object pattern sees its body as JSON. A list of tests sees the body as text, unless it
+-- is a JSON object or list.
 abbrev pub in_message : Message → Option Data → List ℕ → Seen
 in_message m json key =
     if bytes_eq key (codes "body") then record { leaves = if is_text_body json then Some (string m.body ∷ []) else None; members = json_members json }

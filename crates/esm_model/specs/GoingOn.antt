@@ -1,5 +1,5 @@
--- How a shared history goes on: by the entries of one seat, at which moments, and by those of others alone. This product's
--- own. The oldest entry stands first.
+-- How a shared history continues: by the entries of one seat, at which moments, and by entries of other seats alone. A
+-- history has its oldest entry first. This product's own.
 use Rattle.std.specs.Prelude.{◌≡◌, ℕ, max, Bool, true, List, [], ◌∷◌, ◌++◌, Option, Some, Result, Err}
 use Rattle.esm_model.specs.declared.book.CameError.{CameError}
 use Rattle.esm_model.specs.declared.book.CameError.TheVariants.{StreamChanged}
@@ -11,8 +11,8 @@ use Rattle.esm_model.specs.Entries.{moment_of, last_moment, is_shut}
 use Rattle.esm_model.specs.Books.{entries_told}
 use Rattle.esm_model.specs.Kept.{Meaning, entries_after, IsLegal, MayFollowAll, AllBy, added}
 
--- The author n has added entries that may follow; the setup stays, and so does a mark that is true. Only seat 0, which items
--- come by, tells the value a change.
+-- The author n added entries that may follow. The setup stays, and a value that is down stays down. Only seat 0, by which
+-- items arrive, can add a change.
 pub record GoesOn {T : Type 0} (m : Meaning T) (n : ℕ) (x y : T) : Type 0 where
   pub setup_is : m.setup y ≡ m.setup x
   pub history_is : m.history y ≡ m.history x ++ added (m.history x) (m.history y)
@@ -21,7 +21,7 @@ pub record GoesOn {T : Type 0} (m : Meaning T) (n : ℕ) (x y : T) : Type 0 wher
   pub marked : m.mark x ≡ true → m.mark y ≡ true
   pub unchanged : (n ≡ 0 → ⊥) → m.change y ≡ m.change x
 
--- the change that a value was told, after items were refused so or came
+-- the change that a value has after items arrived or were refused: that of the refusal, if there is one, else the one before
 abbrev pub change_told : Option Change → Result (Unit {0}) CameError → Option Change
 change_told before (Err (StreamChanged change)) = Some change
 change_told before _ = before
@@ -31,33 +31,33 @@ pub record OthersFollow (author : Setup → List Told → Told → ℕ) (may_fol
   pub legal : IsLegal (may_follow setup) (h ++ es)
   pub others : entries_after (author setup) n h es ≡ []
 
--- each of the entries es, which come after h, that is the author's comes after the input's end
+-- each of the author's entries among es, which come after h, comes after the input's end
 abbrev pub OwnFollowShut : (List Told → Told → ℕ) → ℕ → List Told → List Told → Type 0
 OwnFollowShut author n h [] = Unit {0}
 OwnFollowShut author n h (t ∷ es) = (author h t ≡ n → is_shut (entries_told h) ≡ true) × OwnFollowShut author n (h ++ t ∷ []) es
 
 -- moments
 
--- the entry, which comes after the history, has this moment, or that of the entry before it where that is later, and
--- `MAX_MOMENT` at most
+-- the entry, which comes after the history, has this moment, or that of the entry before it where that is later, capped at
+-- `MAX_MOMENT`
 abbrev pub IsAt : ℕ → List Told → Told → Type 0
 IsAt moment h t = moment_of t.entry ≡ capped_moment (max moment (last_moment (entries_told h)))
 
--- and so each of the entries es, which come after h
+-- each of the entries es, which come after h, is at this moment
 abbrev pub AllAt : ℕ → List Told → List Told → Type 0
 AllAt moment h [] = Unit {0}
 AllAt moment h (t ∷ es) = IsAt moment h t × AllAt moment (h ++ t ∷ []) es
 
--- the moment is one that was given
+-- the entry, which comes after the history, is at a moment that was given
 abbrev pub IsGivenAfter : (ℕ → Bool) → List Told → Told → Type 0
 IsGivenAfter gave h t = (moment : ℕ) × (gave moment ≡ true) × IsAt moment h t
 
--- and so each of the entries es, which come after h
+-- each of the entries es, which come after h, is at such a moment
 abbrev pub AllGiven : (ℕ → Bool) → List Told → List Told → Type 0
 AllGiven gave h [] = Unit {0}
 AllGiven gave h (t ∷ es) = IsGivenAfter gave h t × AllGiven gave (h ++ t ∷ []) es
 
--- and so each of them that is the author's
+-- each of the author's entries among es, which come after h, is at such a moment
 abbrev pub OwnGiven : (ℕ → Bool) → (List Told → Told → ℕ) → ℕ → List Told → List Told → Type 0
 OwnGiven gave author n h [] = Unit {0}
 OwnGiven gave author n h (t ∷ es) = (author h t ≡ n → IsGivenAfter gave h t) × OwnGiven gave author n (h ++ t ∷ []) es

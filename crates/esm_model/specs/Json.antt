@@ -1,5 +1,5 @@
--- JSON as this product reads it: a UTF-8 text that `serde_json` reads, its limit of depth included. Of a key that stands
--- twice in an object the last value counts.
+-- JSON as this product reads it: a UTF-8 text that `serde_json` reads, within its limit of depth. Of a key that occurs twice
+-- in an object the last value counts.
 use Rattle.std.specs.Prelude.{ℕ, List, if◌then◌else◌, Option, None}
 use Rattle.std.specs.Str.{is_utf8}
 use Rattle.serde_json.specs.Data.{Data}

@@ -1,11 +1,11 @@
--- JSON texts as this product writes them. Source: RFC 8259, section 7; that the short escapes are used wherever there
--- is one, and nothing else is escaped that need not be, is this product's own.
+-- JSON texts as this product writes them. Source: RFC 8259, section 7. This product's own: a short escape is used wherever
+-- there is one, and only what has to be escaped is.
 use Rattle.std.specs.Prelude.{ℕ, List, [], ◌∷◌, ◌++◌, ◌==◌, nat_lt, if◌then◌else◌, codes, Bool, Option, Some, None}
 use Rattle.std.specs.List.{flat_map}
 use Rattle.esm_model.specs.Numbers.{padded_hexadecimal}
 
--- the character after the backslash of a byte's short escape: for `"`, `\`, backspace, form feed, line feed, carriage
--- return and tab
+-- the character after the backslash in a byte's short escape; `"`, `\`, backspace, form feed, line feed, carriage return and
+-- tab have one
 abbrev pub escape_letter : ℕ → Option ℕ
 escape_letter b =
     if b == 34 then Some 34
@@ -17,7 +17,7 @@ escape_letter b =
     else (if b == 9 then Some 116
     else None))))))
 
--- the other characters below U+0020 by their numbers, all others as they are
+-- a byte without a short escape: below U+0020 by its number, any other as it is
 abbrev pub escaped_with : Option ℕ → ℕ → List ℕ
 escaped_with (Some letter) b = codes "\\" ++ letter ∷ []
 escaped_with None b = if nat_lt b 32 then codes "\\u00" ++ padded_hexadecimal 2 b else b ∷ []

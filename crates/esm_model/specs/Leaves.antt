@@ -22,14 +22,14 @@ abbrev pub items_list : Items → List Data
 items_list no_items = []
 items_list (item d ds) = d ∷ items_list ds
 
--- of a field's value, if it has one
+-- the leaves of a field's value; a field without a value has none
 abbrev pub leaves : Option Data → List Data
 leaves None = []
 leaves (Some (array ds)) = filter is_leaf (items_list ds)
 leaves (Some (object ms)) = []
 leaves (Some d) = d ∷ []
 
--- a value is there and passes
+-- there is a value, and it passes
 abbrev pub some_passes : {A : Type 0} → (A → Bool) → Option A → Bool
 some_passes p o = unwrap_or (option_map p o) false
 
@@ -44,7 +44,7 @@ abbrev pub is_scalar : Data → Scalar → Bool
 is_scalar d (text s) = some_passes (λ t. bytes_eq t s) (as_str d)
 is_scalar d (whole z) = some_passes (λ y. int_eq y z) (whole_of d)
 
--- one leaf passes the test; `exists` is not judged by a leaf
+-- one leaf passes the test; a leaf does not decide `exists`
 abbrev pub leaf_passes : Test → Data → Bool
 leaf_passes (equals x) d = is_scalar d x
 leaf_passes (truth b) d = some_passes (λ c. beq c b) (as_bool d)

@@ -1,4 +1,4 @@
--- Names that outputs tell: the files of a folder, and the limits of the engine. This product's own.
+-- Names that reports and messages print: the files of a folder, and the limits of the engine. This product's own.
 use Rattle.std.specs.Prelude.{ℕ, List, codes}
 use Rattle.esm_model.specs.declared.names.FileName.{FileName}
 use Rattle.esm_model.specs.declared.names.FileName.TheVariants.{Journal, Spare, Failures, Registry}

@@ -1,6 +1,5 @@
--- Filter patterns. Source: the EventBridge event pattern syntax, as the Lambda Developer Guide takes it for filter
--- criteria (`Pattern`). Which operators there are, that numbers are whole, and the names of the refusals are this
--- product's own.
+-- Filter patterns. Source: the EventBridge event pattern syntax, as the Lambda Developer Guide adopts it for filter criteria
+-- (`Pattern`). Which operators there are, that numbers are whole, and the names of the refusals are this product's own.
 use Rattle.std.specs.Result.{result_map_both}
 use Rattle.std.specs.Prelude.{ℕ, ◌+◌, ℤ, List, [], ◌∷◌, codes, nat_lt, Bool, true, false, ◌&&◌, if◌then◌else◌, Option, Some, None, option_and_then, ok_or, Result, Ok, Err}
 use Rattle.std.specs.Str.{bytes_eq}
@@ -39,7 +38,7 @@ pub data Test : Type 0 where
   suffix : List ℕ → Test
   exists : Bool → Test
 
--- What a field has to meet: a list of tests, or an object pattern. The key `$or` has object patterns instead.
+-- What a field has to meet: a list of tests, or an object pattern. The key `$or` has a list of object patterns.
 mutual
   pub data Rule : Type 0 where
     tests : List Test → Rule
@@ -64,7 +63,7 @@ pub data Refusal : Type 0 where
   empty : Refusal
   bad_test : Refusal
 
--- what was read, or why it was not
+-- what was read, or why nothing was
 abbrev pub Reads : Type 0 → Type 0
 Reads A = Result A Refusal
 
@@ -76,7 +75,7 @@ abbrev pub reads_map : {A B : Type 0} → (A → B) → Reads A → Reads B
 reads_map f (Ok a) = Ok (f a)
 reads_map f (Err e) = Err e
 
--- why a value that is not in the grammar at its place is refused
+-- why a value is refused that the grammar does not allow where it is
 abbrev pub refusal_of : Data → Refusal
 refusal_of null = bad_test
 refusal_of (boolean b) = bad_test
@@ -87,7 +86,7 @@ refusal_of (array (item d ds)) = bad_test
 refusal_of (object no_members) = empty
 refusal_of (object (member k d ms)) = bad_test
 
--- a number without fraction and exponent, not written `-0`, from -2^63 to 2^63-1
+-- a whole number: without fraction and exponent, not written `-0`, and from -2^63 to 2^63-1
 abbrev pub whole_of : Data → Option ℤ
 whole_of d = option_and_then as_i64 (as_number d)
 
@@ -108,12 +107,12 @@ read_scalar (string s) = Ok (text s)
 read_scalar (array ds) = Err (refusal_of (array ds))
 read_scalar (object ms) = Err (refusal_of (object ms))
 
--- each of a list, in order
+-- each element of a list, in order
 abbrev pub read_all : {A : Type 0} → (Data → Reads A) → Items → Reads (List A)
 read_all one no_items = Ok []
 read_all one (item d ds) = and_then (one d) (λ x. reads_map (λ xs. x ∷ xs) (read_all one ds))
 
--- lists and objects that have members
+-- only where the list or the object is not empty
 abbrev pub unless_no_items : {A : Type 0} → Items → Reads A → Reads A
 unless_no_items no_items r = Err empty
 unless_no_items (item d ds) r = r
@@ -122,7 +121,7 @@ abbrev pub unless_no_members : {A : Type 0} → Members → Reads A → Reads A
 unless_no_members no_members r = Err empty
 unless_no_members (member k d ms) r = r
 
--- one of them, or a list of some
+-- one value to differ from, or a list of some
 abbrev pub read_anything_but : Data → Reads (List Scalar)
 read_anything_but null = Err bad_test
 read_anything_but (boolean b) = Err bad_test
@@ -139,7 +138,7 @@ comparison_named s =
 abbrev pub read_comparison : Data → Reads Comparison
 read_comparison d = ok_or (option_and_then comparison_named (as_str d)) (refusal_of d)
 
--- after a lower bound an upper one may follow
+-- only an upper bound may follow a lower one
 abbrev pub may_follow : Comparison → Comparison → Bool
 may_follow above below = true
 may_follow above at_most = true
@@ -196,14 +195,14 @@ read_test (string s) = Ok (equals (text s))
 read_test (array ds) = Err (refusal_of (array ds))
 read_test (object ms) = read_only ms
 
--- A stream's pattern may not test the data of a record as a whole: only at the top, where `outer` holds.
+-- A stream's pattern may not test the data of a record as a whole. This concerns the top alone, where `outer` holds.
 abbrev pub is_data : Bool → List ℕ → Bool
 is_data outer key = outer && bytes_eq key (codes "data")
 
 abbrev pub is_or : List ℕ → Bool
 is_or key = bytes_eq key (codes "$or")
 
--- The places are judged in order: the keys of an object in their order, the elements of a list in theirs.
+-- Values are judged in order, the keys of an object and the elements of a list, and the first refusal counts.
 abbrev mutual
   -- the rule of a value at its key
   pub read_rule : Bool → List ℕ → Data → Reads Rule
@@ -244,7 +243,7 @@ abbrev pub read_value : Bool → Option Data → Reads Fields
 read_value outer None = Err not_json
 read_value outer (Some d) = read_object outer d
 
--- the pattern that a text is, for a stream's records or for a queue's messages
+-- the pattern in a text, for a stream's records or for a queue's messages
 unfoldable pub read_pattern : Bool → List ℕ → Reads Fields
 read_pattern for_stream source = if nat_lt MAX_PATTERN (char_count source) then Err too_long else read_value for_stream (read source)
 
@@ -255,7 +254,7 @@ abbrev pub with_first : Reads Fields → Result (List Fields) (ℕ × Refusal) �
 with_first (Err why) rest = Err (0, why)
 with_first (Ok p) rest = result_map_both (λ ps. p ∷ ps) later rest
 
--- the patterns of these texts, or the place and the refusal of the first that is none
+-- the patterns in these texts, or the index and the refusal of the first that is none
 abbrev pub read_patterns : Bool → List (List ℕ) → Result (List Fields) (ℕ × Refusal)
 read_patterns for_stream [] = Ok []
 read_patterns for_stream (t ∷ ts) = with_first (read_pattern for_stream t) (read_patterns for_stream ts)

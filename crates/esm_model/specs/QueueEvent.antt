@@ -1,6 +1,6 @@
--- The event of a function's call for a queue's batch. Source: the Lambda Developer Guide, "Using Lambda with Amazon SQS"
--- (the example event). The text of `receiptHandle` is this product's own. Ids, ARNs and regions have no character that
--- needs an escape, and stand as they are.
+-- The event of a function call for a queue's batch. Source: the Lambda Developer Guide, "Using Lambda with Amazon SQS" (the
+-- example event). The text of `receiptHandle` is this product's own. Ids, ARNs and regions have no character that needs an
+-- escape, and are written as they are.
 use Rattle.std.specs.Prelude.{ℕ, ◌≡◌, ◌≤◌, List, [], ◌++◌, codes, false, Option, Some, None}
 use Rattle.std.specs.List.{join_by, flat_map}
 use Rattle.md5.specs.Md5.{md5}
@@ -13,25 +13,25 @@ use Rattle.esm_model.specs.declared.config.Kind.{Kind}
 use Rattle.esm_model.specs.declared.config.Config.{Config}
 use Rattle.esm_model.specs.declared.received.Received.{Received}
 
--- which are valid
+-- validity
 
--- of a queue's mapping
+-- the valid configuration of a queue's mapping
 pub record IsQueueConfig (c : Config) : Type 0 where
   pub kind : is_stream c.kind ≡ false
   pub valid : IsValidConfig c
 
--- of a queue of the kind
+-- a valid message of a queue of this kind, as a call receives it
 pub record IsValidReceived (kind : Kind) (r : Received) : Type 0 where
   pub message : IsValidMessage kind r.message
   pub first : r.first ≤ MAX_MOMENT
 
 -- the text
 
--- each byte by two lower-case hexadecimal digits
+-- each byte as two lower-case hexadecimal digits
 unfoldable pub hexadecimal : List ℕ → List ℕ
 hexadecimal bytes = flat_map (padded_hexadecimal 2) bytes
 
--- the place and the receive count
+-- names the place and the receive count
 abbrev pub receipt_handle : Received → List ℕ
 receipt_handle r = codes "RH-" ++ decimal r.place ++ codes "-" ++ decimal r.count
 
@@ -59,7 +59,7 @@ attributes_part r =
 abbrev pub digest_part : Received → List ℕ
 digest_part r = codes ",\"md5OfBody\":\"" ++ hexadecimal (md5 r.message.body) ++ codes "\""
 
--- where it came from
+-- where the message came from
 abbrev pub queue_part : Config → List ℕ
 queue_part c =
     codes ",\"eventSource\":\"aws:sqs\",\"eventSourceARN\":\"" ++ c.source_arn

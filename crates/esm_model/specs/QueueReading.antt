@@ -17,30 +17,30 @@ use Rattle.esm_model.specs.declared.verdict.QueueReading.TheVariants.{NotRun, Fa
 abbrev pub failed_positions : List (List ℕ) → List ℕ → List ℕ
 failed_positions ids reported = filter (holds reported) (below (length ids))
 
--- by the positions that all elements report: those messages failed, the others succeeded
+-- from the positions that the elements report: those messages failed, the others succeeded
 abbrev pub reported_reading : List (List ℕ) → Option (List ℕ) → QueueReading
 reported_reading ids None = Failed
 reported_reading ids (Some reported) = Done (failed_positions ids reported)
 
--- by the value of `batchItemFailures`
+-- from the value of `batchItemFailures`
 abbrev pub queue_failures_reading : List (List ℕ) → Option Data → QueueReading
 queue_failures_reading ids None = Done []
 queue_failures_reading ids (Some null) = Done []
 queue_failures_reading ids (Some (array ds)) = reported_reading ids (all_reported ids ds)
 queue_failures_reading ids (Some _) = Failed
 
--- by the whole answer
+-- from the whole answer
 abbrev pub queue_body_reading : List (List ℕ) → Option Data → QueueReading
 queue_body_reading ids (Some null) = Done []
 queue_body_reading ids (Some (object ms)) = queue_failures_reading ids (get_member (codes "batchItemFailures") ms)
 queue_body_reading ids _ = Failed
 
--- of the batch's message ids and the answer's body
+-- from the batch's message ids and the answer's body
 unfoldable pub queue_item_reading : List (List ℕ) → List ℕ → QueueReading
 queue_item_reading ids [] = Done []
 queue_item_reading ids (x ∷ xs) = queue_body_reading ids (read_json (x ∷ xs))
 
--- of the batch's message ids, in order
+-- from the batch's message ids, in order, and the reply
 abbrev pub queue_reading : Config → List (List ℕ) → Reply → QueueReading
 queue_reading c ids Lost = Failed
 queue_reading c ids (Garbled bytes) = Failed

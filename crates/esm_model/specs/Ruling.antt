@@ -10,20 +10,20 @@ use Rattle.esm_model.specs.declared.verdict.Rest.{Rest}
 use Rattle.esm_model.specs.declared.verdict.Rest.TheVariants as rest
 use Rattle.esm_model.specs.declared.verdict.Verdict.{Verdict}
 
--- a number of tries: a greater one counts as the greatest
+-- a number of tries, capped at `MAX_TRIES`
 abbrev pub capped_tries : ℕ → ℕ
 capped_tries n = min MAX_TRIES n
 
--- the rest of a batch that failed: given up where one more try is above the retries
+-- the rest of a batch that failed: given up where one more try exceeds the retries
 abbrev pub after_try : Option ℕ → ℕ → Rest
 after_try None tries = rest.Counted
 after_try (Some retries) tries = if nat_lt retries (tries + 1) then rest.Exhausted else rest.Counted
 
--- so many succeeded, and what becomes of the others
+-- this many succeeded, and what becomes of the others
 abbrev pub verdict : ℕ → Rest → Verdict
 verdict succeeded rest = record { succeeded = succeeded; rest = rest }
 
--- on a batch of so many records with so many failed tries; a final call has no records
+-- on a batch of `count` records that failed `tries` times before; a final call has no records
 abbrev pub ruling : Config → ℕ → ℕ → Reading → Verdict
 ruling config count tries Whole = verdict count rest.Nothing
 ruling config count tries NotRun = verdict 0 rest.Again
@@ -32,12 +32,12 @@ ruling config count tries Failed =
 ruling config count tries (UpTo p) =
     if config.bisect then verdict p (rest.Split (count - p)) else verdict p (after_try config.retries tries)
 
--- one more try counts
+-- the rest counts one more try
 abbrev pub is_counted : Rest → Bool
 is_counted rest.Counted = true
 is_counted _ = false
 
--- the lane waits before its next call
+-- the rest is a failure, so the lane waits before its next call
 abbrev pub is_failure : Rest → Bool
 is_failure rest.Again = true
 is_failure rest.Counted = true

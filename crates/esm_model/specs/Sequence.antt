@@ -6,7 +6,7 @@ use Rattle.std.specs.declared.cmp.Ordering.{Ordering}
 use Rattle.std.specs.Ordering.{ordering_then, nat_cmp}
 use Rattle.std.specs.Cmp.Lexicographic.{slice_cmp}
 
--- 1 to 129 digits that do not begin with 0, or one digit
+-- one digit, or 2 to 129 digits that do not begin with 0
 abbrev pub is_sequence : List ℕ → Bool
 is_sequence text =
     not (length text == 0)
@@ -14,6 +14,6 @@ is_sequence text =
     && list_all is_ascii_digit text
     && ((length text == 1) || not (slice_index text 0 == 48))
 
--- by the number of digits, then byte by byte
+-- the order of two sequence numbers: by the number of digits, then digit by digit
 abbrev pub sequence_order : List ℕ → List ℕ → Ordering
 sequence_order a b = ordering_then (nat_cmp (length a) (length b)) (slice_cmp nat_cmp a b)

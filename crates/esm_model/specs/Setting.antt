@@ -1,4 +1,4 @@
--- A setting: what a history is judged over. This product's own.
+-- The setting of a history: what its entries are judged against. This product's own.
 use Rattle.std.specs.Prelude.{ℕ, ◌≡◌, ◌==◌, Bool, false, ◌&&◌, List, [], ◌∷◌, map, Option, Some, find, option_map, unwrap_or, slice_get, filter_map, if◌then◌else◌}
 use Rattle.esm_model.specs.Lane.{lane_of}
 use Rattle.esm_model.specs.declared.config.Config.{Config}
@@ -14,7 +14,7 @@ pub record Stream : Type 0 where
   pub shard : ℕ
   pub records : List Record
 
--- the configuration, the calls allowed, the records of each shard, and what the journal told of at opening
+-- the configuration, the calls allowed, the records of each shard, and what was found in the journal at opening
 pub record Setting : Type 0 where
   pub config : Config
   pub calls : ℕ
@@ -26,7 +26,7 @@ pub record Setting : Type 0 where
 
 -- records
 
--- those of the first stream with this shard
+-- the records of the first stream with this shard
 abbrev pub records_in : List Stream → ℕ → List Record
 records_in [] n = []
 records_in (t ∷ ts) n = if t.shard == n then t.records else records_in ts n
@@ -39,7 +39,7 @@ records_of s n = records_in s.streams n
 abbrev pub record_at : Setting → ℕ → ℕ → Option Record
 record_at s n i = slice_get (records_of s n) i
 
--- those at the places, in order
+-- the records at the places, in order
 abbrev pub records_at : Setting → ℕ → List ℕ → List Record
 records_at s n places = filter_map (record_at s n) places
 
@@ -47,7 +47,7 @@ records_at s n places = filter_map (record_at s n) places
 abbrev pub sequences_at : Setting → ℕ → List ℕ → List (List ℕ)
 sequences_at s n places = map (λ (r : Record). r.seq) (records_at s n places)
 
--- the record's key is one of the lane
+-- the record's key belongs to the lane
 abbrev pub is_key_of : Setting → LaneId → Record → Bool
 is_key_of s lane r = lane_of r.key s.config.factor == lane.lane
 
@@ -83,6 +83,6 @@ found_window_tries s n w = unwrap_or (option_map (λ (f : FoundWindowTries). f.t
 abbrev pub over : Setting → List Stream → Setting
 over s streams = record s { streams = streams }
 
--- each record of the one lists stands at its place in the others
+-- each record of the first lists is in the second ones, at the same place of its shard
 abbrev pub Extends : List Stream → List Stream → Type 0
 Extends before after = (n i : ℕ) (r : Record) → slice_get (records_in before n) i ≡ Some r → slice_get (records_in after n) i ≡ Some r

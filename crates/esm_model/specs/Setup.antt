@@ -1,4 +1,4 @@
--- A setup that says nothing, to stand where there is none.
+-- An empty setup, for where a definition needs one and there is none.
 use Rattle.std.specs.Prelude.{[], None, false}
 use Rattle.esm_model.specs.declared.config.Config.{Config}
 use Rattle.esm_model.specs.declared.config.Kind.TheVariants.{Stream}

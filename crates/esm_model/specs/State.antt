@@ -18,16 +18,16 @@ use Rattle.esm_model.specs.declared.verdict.StateRead.TheVariants.{Empty, Span, 
 
 -- ---- the lexemes of a text: texts, numbers and words, brackets, colons and commas
 
--- how many begin in it
+-- how many lexemes begin in the text
 abbrev pub begun : List ℕ → ℕ
 begun text = length (lex between text)
 
--- the places at which they begin, from the end of `before` on: with the byte there one more begins
+-- the places at which lexemes begin, after the text `before`: one begins at a byte if with it there is one more
 unfoldable pub places : List ℕ → List ℕ → List ℕ
 places before [] = []
 places before (x ∷ xs) = (if nat_lt (begun before) (begun (before ++ x ∷ [])) then length before ∷ [] else []) ++ places (before ++ x ∷ []) xs
 
--- a comma stands after each item and member but the last
+-- 1 for the comma before a further item or member; there is none after the last
 abbrev pub comma_before : Items → ℕ
 comma_before no_items = 0
 comma_before (item j js) = 1
@@ -36,7 +36,7 @@ abbrev pub comma_before_member : Members → ℕ
 comma_before_member no_members = 0
 comma_before_member (member k j ms) = 1
 
--- of how many lexemes a value consists
+-- the number of lexemes of a value
 abbrev mutual
   pub size : Json → ℕ
   size json.null = 1
@@ -46,12 +46,12 @@ abbrev mutual
   size (json.array js) = 1 + items_size js
   size (json.object ms) = 1 + members_size ms
 
-  -- with the closing bracket
+  -- the items, their commas and the closing bracket
   pub items_size : Items → ℕ
   items_size no_items = 1
   items_size (item j js) = size j + (comma_before js + items_size js)
 
-  -- a member has a key, a colon and a value
+  -- the members, their commas and the closing brace; a member has a key, a colon and a value
   pub members_size : Members → ℕ
   members_size no_members = 1
   members_size (member k j ms) = 2 + (size j + (comma_before_member ms + members_size ms))
@@ -64,19 +64,19 @@ pub record Member : Type 0 where
   pub first : ℕ
   pub last : ℕ
 
--- The members of an object in the text's order. These are the places of the lexemes from the first key on: that key, its
--- colon, its value, and the comma or brace after it; then the next key.
+-- The members of an object, in the order of the text. `places` are those of the lexemes from the first key on: that key, its
+-- colon, the lexemes of its value, the comma or brace after it, and then the next key.
 abbrev pub members_at : List ℕ → Members → List Member
 members_at places no_members = []
 members_at places (member k j ms) =
     record { key = k; first = get_or places 2 0; last = get_or places (1 + size j) 0 } ∷ members_at (drop (3 + size j) places) ms
 
--- the members that the grammar finds in what it reads
+-- the members of the object that the grammar reads, if it reads one
 abbrev pub members_of : Option (Json × List Token) → Members
 members_of (Some (json.object ms, rest)) = ms
 members_of _ = no_members
 
--- the first lexeme is the opening brace
+-- the members of the outermost object, behind its opening brace, which is the first lexeme
 abbrev pub outermost_members : List ℕ → List Member
 outermost_members text = members_at (drop 1 (places [] text)) (members_of (value max_depth (tokens text)))
 
@@ -86,20 +86,20 @@ last_named name (m ∷ ms) = option_or (last_named name ms) (if bytes_eq m.key n
 
 -- ---- the state
 
--- the bytes of an object, from its opening brace to its closing one, which are its first and its last lexeme; at most a
--- state's limit
+-- the bytes of an object, from its opening brace to its closing one, which are its first and its last lexeme; no more than a
+-- state may have
 abbrev pub value_span : Option Member → StateRead
 value_span None = Bad
 value_span (Some m) = if nat_le (m.last + 1 - m.first) MAX_DATA then Span m.first (m.last + 1) else Bad
 
--- by the value that reading the answer finds under `state`
+-- the span, from the value that the answer has under `state`
 abbrev pub found_span : List ℕ → Option Data → StateRead
 found_span text None = Empty
 found_span text (Some null) = Empty
 found_span text (Some (object ms)) = value_span (last_named (codes "state") (outermost_members text))
 found_span text (Some _) = Bad
 
--- by the value that the whole answer is
+-- the span, from the value of the whole answer
 abbrev pub answer_span : List ℕ → Option Data → StateRead
 answer_span text (Some null) = Empty
 answer_span text (Some (object ms)) = found_span text (get_member (codes "state") ms)

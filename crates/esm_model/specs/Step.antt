@@ -21,17 +21,17 @@ use Rattle.esm_model.specs.Windows.{is_due}
 use Rattle.esm_model.specs.FailureLine.{failure_line}
 use Rattle.esm_model.specs.Owed.{unsorted, IsOwed, Settled}
 
--- each entry's moment is at least that of the last one, and a moment
+-- the moment is not before that of the last entry, and is at most `MAX_MOMENT`
 pub record IsLater (h : List Entry) (m : ℕ) : Type 0 where
   pub not_back : last_moment h ≤ m
   pub within : m ≤ MAX_MOMENT
 
--- each covered record of which the journal kept a fate or tries has the kept sequence number
+-- each covered record for which the journal kept a fate or tries has the sequence number that it kept
 pub record IsKept (s : Setting) (n first count : ℕ) : Type 0 where
   pub fates : (i : ℕ) (f : FoundFate) (r : Record) → first ≤ i → i < first + count → record_at s n i ≡ Some r → found_fate s n i ≡ Some f → r.seq ≡ f.text
   pub tries : (i : ℕ) (f : FoundTries) (r : Record) → first ≤ i → i < first + count → record_at s n i ≡ Some r → found_try s n i ≡ Some f → r.seq ≡ f.text
 
--- records come: the next ones of the shard's list
+-- records may arrive: the next ones of the shard's list
 pub record MayCome (s : Setting) (h : List Entry) (n first count : ℕ) : Type 0 where
   pub not_shut : is_shut h ≡ false
   pub next : first ≡ came_count h n
@@ -39,7 +39,7 @@ pub record MayCome (s : Setting) (h : List Entry) (n first count : ℕ) : Type 0
   pub within : first + count ≤ length (records_of s n)
   pub kept : IsKept s n first count
 
--- records are filtered: all of the shard that are open and do not pass
+-- records may be filtered: all open ones of the shard that do not pass the filter
 pub record MayFilter (s : Setting) (h : List Entry) (n : ℕ) (places : List ℕ) (line : Option (List ℕ)) (state : Option WindowState) (m : ℕ) : Type 0 where
   pub exact : places ≡ unsorted s h n
   pub some : 1 ≤ length places
@@ -51,7 +51,7 @@ pub record MayFilter (s : Setting) (h : List Entry) (n : ℕ) (places : List ℕ
 abbrev pub is_front_expired : Setting → List Entry → LaneId → ℕ → Bool
 is_front_expired s h lane m = list_any (is_expired s lane.shard m) (take 1 (open_places s h lane))
 
--- what every call of a lane needs
+-- what every call of a lane requires
 pub record MayCall (s : Setting) (h : List Entry) (lane : LaneId) (m : ℕ) : Type 0 where
   pub settled : Settled s h
   pub came : 1 ≤ came_count h lane.shard
@@ -60,7 +60,7 @@ pub record MayCall (s : Setting) (h : List Entry) (lane : LaneId) (m : ℕ) : Ty
   pub calls_left : calls_begun h < s.calls
   pub front : is_front_expired s h lane m ≡ false
 
--- a call of a batch begins
+-- a call of a batch may begin
 pub record MayBegin (s : Setting) (h : List Entry) (lane : LaneId) (places : List ℕ) (m : ℕ) : Type 0 where
   pub call : MayCall s h lane m
   pub no_window_due : (w : ℕ) → is_due s h lane.shard w ≡ false
@@ -68,7 +68,7 @@ pub record MayBegin (s : Setting) (h : List Entry) (lane : LaneId) (places : Lis
   pub exact : places ≡ batch s h lane m
   pub some : 1 ≤ length places
 
--- a final call begins: of the least window that is due, without records
+-- a final call may begin, without records: that of the least window that is due
 pub record MayBeginFinal (s : Setting) (h : List Entry) (lane : LaneId) (places : List ℕ) (window m : ℕ) : Type 0 where
   pub call : MayCall s h lane m
   pub delay_over : delay_end s h lane ≤ m
@@ -76,7 +76,7 @@ pub record MayBeginFinal (s : Setting) (h : List Entry) (lane : LaneId) (places 
   pub least : (w : ℕ) → is_due s h lane.shard w ≡ true → window ≤ w
   pub no_places : places ≡ []
 
--- records expire: the longest prefix of the group that is expired, at most so many at once
+-- records may expire: the longest expired prefix of the lane's group, at most `MAX_EXPIRED` of it at once
 pub record MayExpire (s : Setting) (h : List Entry) (lane : LaneId) (n : ℕ) (places : List ℕ) (line : Option (List ℕ)) (state : Option WindowState) (m : ℕ) : Type 0 where
   pub settled : Settled s h
   pub rests : is_running h lane ≡ false
@@ -86,7 +86,7 @@ pub record MayExpire (s : Setting) (h : List Entry) (lane : LaneId) (n : ℕ) (p
   pub line_is : line ≡ failure_line s h lane.shard places true m
   pub no_state : state ≡ None
 
--- records succeed or are exhausted where their lane owes it, are filtered at their arrival, or expire
+-- records succeed or are exhausted where their lane owes that; they are filtered at their arrival, or expire
 abbrev pub MayGive : Setting → List Entry → Option LaneId → ℕ → List ℕ → Fate → Option (List ℕ) → Option WindowState → ℕ → Type 0
 MayGive s h None n places Filtered line state m = MayFilter s h n places line state m
 MayGive s h (Some lane) n places Succeeded line state m = IsOwed s h lane (Gave (Some lane) n places Succeeded line state m)
@@ -94,7 +94,7 @@ MayGive s h (Some lane) n places Exhausted line state m = IsOwed s h lane (Gave 
 MayGive s h (Some lane) n places Expired line state m = MayExpire s h lane n places line state m
 MayGive s h _ n places _ line state m = ⊥
 
--- the row of each entry; no book adds a `Replayed`
+-- the conditions of each entry; a stream's run adds no `Replayed`, which only a replay does
 abbrev pub MayFollow : Setting → List Entry → Entry → Type 0
 MayFollow s h (Came shard first count moment) = MayCome s h shard first count
 MayFollow s h (Began lane places None moment) = MayBegin s h lane places moment
@@ -106,7 +106,7 @@ MayFollow s h (Closed lane window moment) = IsOwed s h lane (Closed lane window 
 MayFollow s h (Replayed shard places moment) = ⊥
 MayFollow s h (Shut moment) = Settled s h × (is_shut h ≡ false)
 
--- a history is legal where it is empty, or a legal one followed by an entry that may follow it
+-- a history is legal if it is empty, or if it is a legal one and an entry that may follow it
 abbrev pub Legal : Setting → List Entry → Type 0
 Legal s [] = ⊤
 Legal s (e ∷ h) = Legal s h × (IsLater h (moment_of e) × MayFollow s h e)

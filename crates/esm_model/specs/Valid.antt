@@ -28,7 +28,7 @@ is_letter b = is_between 65 90 b || is_lower b
 abbrev pub begins_char : ℕ → Bool
 begins_char b = nat_lt b 128 || nat_le 192 b
 
--- the characters of a UTF-8 text
+-- the number of characters of a UTF-8 text
 abbrev pub char_count : List ℕ → ℕ
 char_count text = length (filter begins_char text)
 
@@ -42,7 +42,7 @@ is_stream_byte b = is_name_byte b || (b == 46)
 abbrev pub is_region_byte : ℕ → Bool
 is_region_byte b = is_lower b || is_ascii_digit b || (b == 45)
 
--- from so many to so many bytes, each of which passes
+-- from `low` to `high` bytes, each of which passes
 abbrev pub is_word : (ℕ → Bool) → ℕ → ℕ → List ℕ → Bool
 is_word passes low high text = is_between low high (length text) && list_all passes text
 
@@ -57,7 +57,7 @@ pub record IsValidRecord (r : Record) : Type 0 where
 
 -- sources and functions
 
--- `arn:aws:SERVICE:REGION:ACCOUNT:` and what follows
+-- `arn:aws:SERVICE:REGION:ACCOUNT:` and the resource
 abbrev pub arn_of : List ℕ → List ℕ → List ℕ → List ℕ → List ℕ
 arn_of service region account resource = codes "arn:aws:" ++ service ++ codes ":" ++ region ++ codes ":" ++ account ++ codes ":" ++ resource
 
@@ -68,7 +68,7 @@ IsKinesisSource region account arn =
 abbrev pub is_label_byte : ℕ → Bool
 is_label_byte b = is_stream_byte b || (b == 58)
 
--- a DynamoDB stream
+-- the ARN of a DynamoDB table's stream
 abbrev pub IsTableSource : List ℕ → List ℕ → List ℕ → Type 0
 IsTableSource region account arn =
     (name label : List ℕ)
@@ -76,7 +76,7 @@ IsTableSource region account arn =
     × (is_word is_label_byte 1 64 label ≡ true)
     × (arn ≡ arn_of (codes "dynamodb") region account (codes "table/" ++ name ++ codes "/stream/" ++ label))
 
--- the name of a queue: a FIFO queue's ends in `.fifo`, counted in the 80
+-- the name of a queue, at most 80 characters; a FIFO queue's ends in `.fifo`, which counts
 abbrev pub is_queue_name : Kind → List ℕ → Bool
 is_queue_name Stream name = false
 is_queue_name Standard name = is_word is_name_byte 1 80 name
@@ -97,7 +97,7 @@ is_region text = is_word is_region_byte 1 32 text
 abbrev pub is_account : List ℕ → Bool
 is_account text = is_word is_ascii_digit 12 12 text
 
--- a function's ARN, of this plain name
+-- the ARN of a function with this plain name
 abbrev pub IsFunctionArn : List ℕ → List ℕ → Type 0
 IsFunctionArn name arn =
     (region account : List ℕ)
@@ -110,7 +110,7 @@ abbrev pub is_stream : Kind → Bool
 is_stream Stream = true
 is_stream _ = false
 
--- so many whole seconds in milliseconds
+-- whole seconds, from `low` to `high`, as milliseconds
 abbrev pub is_seconds : ℕ → ℕ → ℕ → Bool
 is_seconds low high ms = (ms % 1000 == 0) && is_between low high (ms / 1000)
 
@@ -124,7 +124,7 @@ is_window Stream size ms = is_seconds 0 300 ms
 is_window Standard size ms = is_seconds 0 300 ms && (nat_le size 10 || nat_lt 0 ms)
 is_window Fifo size ms = ms == 0
 
--- of a value that is there
+-- the value passes if it is there
 abbrev pub none_or : (ℕ → Bool) → Option ℕ → Bool
 none_or passes None = true
 none_or passes (Some n) = passes n
@@ -137,7 +137,7 @@ abbrev pub is_destination : Option (List ℕ) → Bool
 is_destination None = true
 is_destination (Some text) = starts_with nat_eq text (codes "arn:aws:sqs:") && nat_le (length text) 350
 
--- the fields that only a stream's mapping has
+-- a stream's mapping: the fields that only it has, and no concurrency
 pub record HasStreamFields (c : Config) : Type 0 where
   pub factor : is_between 1 10 c.factor ≡ true
   pub retries : none_or (λ n. nat_le n MAX_RETRIES) c.retries ≡ true
@@ -148,7 +148,7 @@ pub record HasStreamFields (c : Config) : Type 0 where
   pub destination : is_destination c.destination ≡ true
   pub concurrency : c.concurrency ≡ None
 
--- a queue's mapping has none of them, and may bound its concurrency
+-- a queue's mapping has none of those fields, and may have a maximum concurrency
 pub record HasQueueFields (c : Config) : Type 0 where
   pub factor : c.factor ≡ 1
   pub retries : c.retries ≡ None
@@ -176,7 +176,7 @@ pub record IsValidConfig (c : Config) : Type 0 where
   pub filters : length c.filters ≤ MAX_FILTERS
   pub fields : HasFieldsOf c.kind c
 
--- of a stream's mapping
+-- the valid configuration of a stream's mapping
 pub record IsStreamConfig (c : Config) : Type 0 where
   pub kind : c.kind ≡ Stream
   pub valid : IsValidConfig c

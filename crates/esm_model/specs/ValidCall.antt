@@ -1,4 +1,4 @@
--- Which windows' calls and which failures are valid: their numbers are within the bounds of what the journal keeps.
+-- Which window calls and failures are valid: their numbers and texts are within the bounds of what a journal keeps.
 use Rattle.std.specs.Prelude.{◌≤◌, length}
 use Rattle.esm_model.specs.declared.moment.TheConstants.{MAX_MOMENT}
 use Rattle.esm_model.specs.declared.limits.TheConstants.{MAX_SHARD, MAX_DATA}

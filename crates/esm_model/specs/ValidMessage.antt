@@ -13,11 +13,11 @@ use Rattle.esm_model.specs.Valid.{is_between, is_name_byte, is_word}
 abbrev pub is_message_id : List ℕ → Bool
 is_message_id text = is_word is_name_byte 1 100 text
 
--- a byte that is a character of its own: tab, line feed, carriage return, or one from U+0020
+-- a byte that is a character of its own, or part of a longer one: tab, line feed, carriage return, or any from 0x20 on
 abbrev pub is_body_byte : ℕ → Bool
 is_body_byte b = nat_le 32 b || (b == 9) || (b == 10) || (b == 13)
 
--- U+FFFE and U+FFFF in UTF-8 are EF BF BE and EF BF BF
+-- the text begins with U+FFFE or U+FFFF, in UTF-8 EF BF BE and EF BF BF
 abbrev pub ends_plane : List ℕ → Bool
 ends_plane (a ∷ b ∷ c ∷ rest) = (a == 239) && (b == 191) && nat_le 190 c
 ends_plane _ = false
@@ -38,7 +38,7 @@ is_group_byte b = is_between 33 126 b
 abbrev pub is_message_group : List ℕ → Bool
 is_message_group text = is_word is_group_byte 1 128 text
 
--- a group is there exactly where the queue is FIFO
+-- there is a group if and only if the queue is FIFO
 abbrev pub is_group_of : Kind → Option (List ℕ) → Bool
 is_group_of Stream group = false
 is_group_of Standard None = true

@@ -1,5 +1,5 @@
 -- Tumbling windows and their states. Source: the Lambda Developer Guide, stateful processing for Kinesis
--- (`TumblingWindowInSeconds`); that a window never goes back in a shard is this product's own.
+-- (`TumblingWindowInSeconds`). That the windows of a shard never go back is this product's own.
 use Rattle.std.specs.Prelude.{ℕ, suc, zero, ◌-◌, ◌%◌, ◌==◌, nat_lt, max, Bool, not, ◌&&◌, ◌||◌, List, [], ◌∷◌, Option, Some, None, unwrap_or, codes, if◌then◌else◌, is_some}
 use Rattle.std.specs.List.{list_any}
 use Rattle.esm_model.specs.declared.config.Config.{Config}
@@ -19,19 +19,19 @@ has_windows c = not (c.tumbling_ms == 0)
 abbrev pub window_floor : ℕ → ℕ → ℕ
 window_floor width arrival = arrival - arrival % width
 
--- a record's window is the greater of that of the record before it in its shard, or 0, and the floor of its arrival
+-- a record's window: the floor of its arrival, or the window of the record before it in the shard where that is later
 abbrev pub window_from : ℕ → ℕ → List Record → ℕ → ℕ
 window_from width before [] i = before
 window_from width before (r ∷ rs) zero = max before (window_floor width r.arrival)
 window_from width before (r ∷ rs) (suc i) = window_from width (max before (window_floor width r.arrival)) rs i
 
--- the window of the record at the place, by its start
+-- the window of the record at the place, named by its start in milliseconds
 abbrev pub window_of : Setting → ℕ → ℕ → ℕ
 window_of s n i = window_from s.config.tumbling_ms 0 (records_of s n) i
 
 -- states
 
--- the text of the state, where it is that of the window
+-- the text of the state, where the state is that of the window; else the one before
 abbrev pub text_for : ℕ → Option (List ℕ) → Option WindowState → Option (List ℕ)
 text_for w before None = before
 text_for w before (Some state) = if state.window == w then Some state.text else before
@@ -41,7 +41,8 @@ state_after n w before (Gave by shard places fate line state moment) = if shard 
 state_after n w before (Closed lane window moment) = if (lane.shard == n) && (window == w) then None else before
 state_after n w before _ = before
 
--- the text in the last `Gave` for the window after its last `Closed`, else the found state where no `Closed` took it away
+-- the text in the window's last `Gave` after its last `Closed`; else the state found in the journal, unless a `Closed`
+-- removed it
 abbrev pub kept_state : Setting → List Entry → ℕ → ℕ → Option (List ℕ)
 kept_state s [] n w = found_state s n w
 kept_state s (e ∷ h) n w = state_after n w (kept_state s h n w) e
@@ -50,7 +51,7 @@ kept_state s (e ∷ h) n w = state_after n w (kept_state s h n w) e
 abbrev pub window_state : Setting → List Entry → ℕ → ℕ → List ℕ
 window_state s h n w = unwrap_or (kept_state s h n w) (codes "{}")
 
--- a window of a shard that came is outstanding while it has a state
+-- the window has a state, and records of its shard arrived
 abbrev pub is_outstanding : Setting → List Entry → ℕ → ℕ → Bool
 is_outstanding s h n w = has_windows s.config && nat_lt 0 (came_count h n) && is_some (kept_state s h n w)
 
@@ -58,10 +59,10 @@ is_outstanding s h n w = has_windows s.config && nat_lt 0 (came_count h n) && is
 abbrev pub has_open_record : Setting → List Entry → ℕ → ℕ → Bool
 has_open_record s h n w = list_any (λ i. lacks_fate s h n i && (window_of s n i == w)) (came_places h n)
 
--- a record of a later window came
+-- a record of a later window arrived
 abbrev pub has_later_record : Setting → List Entry → ℕ → ℕ → Bool
 has_later_record s h n w = list_any (λ i. nat_lt w (window_of s n i)) (came_places h n)
 
--- a window is due where besides no record of it is open, and a record of a later window came or the book is shut
+-- a window is due if it is outstanding, no record of it is open, and a record of a later window arrived or the input ended
 abbrev pub is_due : Setting → List Entry → ℕ → ℕ → Bool
 is_due s h n w = is_outstanding s h n w && not (has_open_record s h n w) && (has_later_record s h n w || is_shut h)

@@ -1,4 +1,5 @@
--- Worked examples: what they share. Each is a setting, a history (newest entry first) and what the definitions say of it.
+-- What the worked examples share. Each is a setting, a history with its newest entry first, and what the definitions say of
+-- it.
 use Rattle.std.specs.Prelude.{◌≡◌, ℕ, Bool, true, false, List, [], ◌∷◌, ◌++◌, codes, map, filter, reverse, Option, Some, None}
 use Rattle.esm_model.specs.declared.config.Config.{Config}
 use Rattle.esm_model.specs.declared.config.Kind.TheVariants.{Stream}
@@ -44,7 +45,7 @@ plain_mapping = record {
   enabled = true;
 }
 
--- nothing found in a journal
+-- a setting that found nothing in the journal at opening
 abbrev pub setting_over : Config → List Record → Setting
 setting_over config records = record {
   config = config;
@@ -63,7 +64,7 @@ record_with seq arrival = record { shard = 0; seq = seq; key = codes "1"; payloa
 abbrev pub records_with : List (List ℕ) → List Record
 records_with seqs = map (λ (seq : List ℕ). record_with seq 0) seqs
 
--- such a record as an event of the plain mapping shows it, by its sequence number and its arrival in seconds
+-- the text of such a record in an event of the plain mapping, by its sequence number and its arrival in seconds
 abbrev pub shown : List ℕ → List ℕ → List ℕ
 shown seq seconds =
     codes "{\"kinesis\":{\"kinesisSchemaVersion\":\"1.0\",\"partitionKey\":\"1\",\"sequenceNumber\":\"" ++ seq
@@ -96,11 +97,11 @@ failed_call places moment h = ended fails moment ∷ began places moment ∷ h
 abbrev pub good_call : List ℕ → ℕ → List Entry → List Entry
 good_call places moment h = gave places Succeeded moment ∷ ended succeeds moment ∷ began places moment ∷ h
 
--- all the records of shard 0, so many, came at the moment, and the input ended
+-- all `count` records of shard 0 arrived at the moment, and the input ended
 abbrev pub all_came : ℕ → ℕ → List Entry
 all_came count moment = Shut moment ∷ Came 0 0 count moment ∷ []
 
--- the journal tells that the record of shard 0 at the place succeeded
+-- the success of the record of shard 0 at the place, as found in the journal at opening
 abbrev pub found_success : ℕ → List ℕ → FoundFate
 found_success place text = record { shard = 0; place = place; fate = Succeeded; text = text }
 
@@ -110,7 +111,7 @@ abbrev pub is_call : Entry → Bool
 is_call (Began lane places closing moment) = true
 is_call _ = false
 
--- its calls, oldest first: lanes, places and moments
+-- the calls of a history, oldest first: lanes, places and moments
 abbrev pub calls_in : List Entry → List Entry
 calls_in h = filter is_call (reverse h)
 
@@ -118,14 +119,14 @@ calls_in h = filter is_call (reverse h)
 abbrev pub events_in : Setting → List Entry → ℕ → List (List ℕ)
 events_in s h k = map (λ (c : Called). c.event) (calls s (λ event. event) h k)
 
--- the fate of each record of the shard that came, in order of places
+-- the fate of each arrived record of the shard, in order of places
 abbrev pub fates_in : Setting → List Entry → ℕ → List (Option Fate)
 fates_in s h n = map (fate s h n) (came_places h n)
 
 abbrev pub all_have : List Fate → List (Option Fate)
 all_have fates = map (λ (f : Fate). Some f) fates
 
--- a legal history over the setting with these calls, and what they came to in shard 0
+-- the history is legal over the setting, and has these calls and this outcome in shard 0
 pub record Runs (s : Setting) (h calls : List Entry) (fates : List Fate) (lines : List (List ℕ)) (point : ℕ) : Type 0 where
   pub is_legal : Legal s h
   pub calls_are : calls_in h ≡ calls

@@ -1,4 +1,4 @@
--- Worked examples: the greatest age of a record.
+-- Worked examples: the maximum age of a record.
 use Rattle.std.specs.Prelude.{ℕ, List, [], ◌∷◌, ◌++◌, codes, Some, None}
 use Rattle.esm_model.specs.declared.config.Config.{Config}
 use Rattle.esm_model.specs.declared.entry.Fate.TheVariants.{Succeeded, Expired}
@@ -8,7 +8,7 @@ use Rattle.esm_model.specs.Setting.{Setting}
 use Rattle.esm_model.specs.Step.{Legal}
 use Rattle.esm_model.specs.Worked.{plain_mapping, setting_over, record_with, lane_0, began, good_call, all_came, Runs}
 
--- a minute, and a destination
+-- a maximum age of a minute, and a destination
 abbrev pub aging_mapping : Config
 aging_mapping = record plain_mapping { age_ms = Some 60000; destination = Some (codes "arn:aws:sqs:us-east-1:123456789012:d") }
 
@@ -30,7 +30,7 @@ expired_line =
 abbrev pub expired_at : ℕ → List Entry → List Entry
 expired_at moment h = Gave (Some lane_0) 0 (0 ∷ []) Expired (Some expired_line) None moment ∷ h
 
--- at 60000 the record is called; at 60001 it has expired, without a call, and leaves its line
+-- at 60000 the record is called; at 60001 it has expired, without a call and with its failure line
 pub record RecordAge : Type 0 where
   pub in_time : Runs aging (good_call (0 ∷ []) 60000 (all_came 1 60000)) (began (0 ∷ []) 60000 ∷ []) (Succeeded ∷ []) [] 1
   pub too_old : Runs aging (expired_at 60001 (all_came 1 60001)) [] (Expired ∷ []) (expired_line ∷ []) 1

@@ -1,4 +1,4 @@
--- Worked examples: what answers report.
+-- Worked examples: what answers report, and how it counts.
 use Rattle.std.specs.Prelude.{◌≡◌, ℕ, List, [], ◌∷◌, ◌++◌, codes, replicate, Some, None, true, false}
 use Rattle.esm_model.specs.declared.entry.Fate.{Fate}
 use Rattle.esm_model.specs.declared.entry.Fate.TheVariants.{Succeeded, Exhausted}
@@ -20,7 +20,7 @@ reporting =
 abbrev pub reports : Reply
 reports = Answered 200 false (codes "{\"batchItemFailures\":[{\"itemIdentifier\":\"107\"},{\"itemIdentifier\":\"104\"}]}")
 
--- what stands before the least position that is reported succeeded, and the rest counts one try
+-- the records before the least position that is reported succeeded, and the rest counts one try
 abbrev pub after_report : List Entry
 after_report =
     Tried lane_0 (3 ∷ 4 ∷ 5 ∷ 6 ∷ 7 ∷ []) None 1 0 ∷ gave (0 ∷ 1 ∷ 2 ∷ []) Succeeded 0

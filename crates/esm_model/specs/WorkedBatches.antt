@@ -14,7 +14,7 @@ use Rattle.esm_model.specs.Worked.{plain_mapping, setting_over, record_with, rec
 abbrev pub one_record : Setting
 one_record = setting_over plain_mapping (record_with (codes "1") 0 ∷ [])
 
--- its 415 bytes
+-- the 415 bytes of its event
 abbrev pub one_record_event : List ℕ
 one_record_event =
     codes "{\"Records\":[{\"kinesis\":{\"kinesisSchemaVersion\":\"1.0\",\"partitionKey\":\"1\",\"sequenceNumber\":\"1\",\"data\":\"SGVsbG8=\",\"approximateArrivalTimestamp\":0.000},"
@@ -48,7 +48,7 @@ pub record BatchingWindow : Type 0 where
 abbrev pub EarlyBatchIsNotLegal : Type 0
 EarlyBatchIsNotLegal = ¬ Legal gathering_one (began (0 ∷ []) 999 ∷ Came 0 0 1 0 ∷ [])
 
--- `filtered-data`: a filter on the data, which is then no JSON or passes, and a filter on the key
+-- `filtered-data`: a filter on the data, which is no JSON or passes, and a filter on the key
 
 abbrev pub filtering : List ℕ → List ℕ → Setting
 filtering filter payload = setting_over (record plain_mapping { filters = filter ∷ [] }) (record (record_with (codes "1") 0) { payload = payload } ∷ [])
@@ -59,7 +59,7 @@ on_data = codes "{\"data\":{\"n\":[1]}}"
 abbrev pub on_key : List ℕ
 on_key = codes "{\"partitionKey\":[\"1\"]}"
 
--- the record is filtered as it came
+-- the record is filtered at its arrival
 abbrev pub filtered_history : List Entry
 filtered_history = Shut 0 ∷ Gave None 0 (0 ∷ []) Filtered None None 0 ∷ Came 0 0 1 0 ∷ []
 

@@ -1,5 +1,5 @@
--- Legality by tests that compute: each row of a history is judged over the shards, lanes and windows that occur in it.
--- A history that passes is legal; the worked histories are judged so.
+-- Legality as a test that computes: the conditions of each entry, over the shards, lanes and windows that occur in the
+-- history. A history that passes is legal; the worked histories are proved legal by it.
 use Rattle.std.specs.Prelude.{ℕ, ◌+◌, ◌==◌, nat_eq, nat_le, nat_lt, Bool, true, false, not, ◌&&◌, List, [], ◌∷◌, length, map, take, take_while, Option, Some, None, option_map, is_none, slice_get, if◌then◌else◌}
 use Rattle.std.specs.List.{list_any, list_all}
 use Rattle.std.specs.Option.{option_eq}
@@ -26,12 +26,12 @@ use Rattle.esm_model.specs.FailureLine.{failure_line}
 use Rattle.esm_model.specs.Owed.{Debt, debts, unsorted, owed}
 use Rattle.esm_model.specs.Step.{is_front_expired}
 
--- ---- one value is another
+-- ---- equality of values
 
 abbrev pub same_state : WindowState → WindowState → Bool
 same_state a b = (a.window == b.window) && bytes_eq a.text b.text
 
--- two entries of the kinds that a lane may owe
+-- the two entries are equal, for the kinds that a lane may owe
 abbrev pub same_entry : Entry → Entry → Bool
 same_entry (Gave by n places f line state m) (Gave by2 n2 places2 f2 line2 state2 m2) =
     option_eq same_lane by by2 && ((n == n2) && (bytes_eq places places2 && (same_fate f f2 && (option_eq bytes_eq line line2 && (option_eq same_state state state2 && (m == m2))))))
@@ -46,7 +46,7 @@ abbrev pub lanes_after : List LaneId → Entry → List LaneId
 lanes_after before (Ended lane reply moment) = if list_any (λ at. same_lane at lane) before then before else lane ∷ before
 lanes_after before _ = before
 
--- the lanes of which a call ended: no other lane is owed anything
+-- the lanes in which a call ended: no other lane owes anything
 abbrev pub lanes_that_ended : List Entry → List LaneId
 lanes_that_ended [] = []
 lanes_that_ended (e ∷ h) = lanes_after (lanes_that_ended h) e
@@ -64,7 +64,7 @@ abbrev pub windows_seen : Setting → List Entry → List ℕ
 windows_seen s [] = map (λ (f : FoundState). f.window) s.states
 windows_seen s (e ∷ h) = windows_after (windows_seen s h) e
 
--- ---- the rows
+-- ---- the conditions of each entry
 
 abbrev pub is_later : List Entry → ℕ → Bool
 is_later h m = nat_le (last_moment h) m && nat_le m MAX_MOMENT
@@ -73,7 +73,7 @@ abbrev pub is_text_of : Option (List ℕ) → Option Record → Bool
 is_text_of (Some text) (Some r) = bytes_eq r.seq text
 is_text_of _ _ = true
 
--- the record at the place has the sequence number that the journal kept
+-- the record at the place has the sequence number that the journal kept of it
 abbrev pub is_kept : Setting → ℕ → ℕ → Bool
 is_kept s n i =
     is_text_of (option_map (λ (f : FoundFate). f.text) (found_fate s n i)) (record_at s n i)
@@ -126,7 +126,7 @@ abbrev pub is_entry : Option Entry → Entry → Bool
 is_entry None e = false
 is_entry (Some first) e = same_entry first e
 
--- the lane owes the entry first
+-- the entry is the first that the lane owes
 abbrev pub is_owed : Setting → List Entry → LaneId → Entry → Bool
 is_owed s h lane e = is_entry (slice_get (owed s h lane) 0) e
 

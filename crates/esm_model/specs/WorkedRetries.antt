@@ -53,7 +53,7 @@ pub record ThrottledCall : Type 0 where
 
 -- `delay-ladder`: ten such replies, each called as soon as the delay is over
 
--- calls that are throttled, each so many milliseconds after the one before; the first at the moment
+-- throttled calls: the first at the moment, each other after the next of these delays in milliseconds
 abbrev pub throttled_calls : ℕ → List ℕ → List Entry → List Entry
 throttled_calls moment [] h = throttled_call moment h
 throttled_calls moment (delay ∷ delays) h = throttled_calls (moment + delay) delays (throttled_call moment h)
@@ -64,7 +64,7 @@ ladder = throttled_calls 0 (250 ∷ 500 ∷ 1000 ∷ 2000 ∷ 4000 ∷ 8000 ∷ 
 abbrev pub alone_at : List ℕ → List Entry
 alone_at moments = map (began (0 ∷ [])) moments
 
--- the moments of the ten calls; each is that at which the delay after the call before it is over
+-- the moments of the ten calls: each is the end of the delay after the call before it
 pub record DelayLadder : Type 0 where
   pub is_legal : Legal once ladder
   pub calls_are : calls_in ladder ≡ alone_at (0 ∷ 250 ∷ 750 ∷ 1750 ∷ 3750 ∷ 7750 ∷ 15750 ∷ 31750 ∷ 63750 ∷ 123750 ∷ [])
@@ -79,7 +79,7 @@ pub record DelayLadder : Type 0 where
   pub after_9 : delay_end once (throttled_calls 0 (250 ∷ 500 ∷ 1000 ∷ 2000 ∷ 4000 ∷ 8000 ∷ 16000 ∷ 32000 ∷ []) (all_came 1 0)) lane_0 ≡ 123750
   pub after_10 : delay_end once ladder lane_0 ≡ 183750
 
--- `tries-outlast`: the two tries of a first run are found in the journal: the second run makes one call
+-- `tries-outlast`: the journal has the two tries of a first run, so the second run makes one call
 
 abbrev pub tried_twice : Setting
 tried_twice = record retrying { tries = record { shard = 0; place = 0; tries = 2; text = codes "1" } ∷ [] }

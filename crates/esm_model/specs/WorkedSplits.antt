@@ -105,7 +105,7 @@ fifth_given_up = gave (4 ∷ []) Exhausted 0 ∷ failed_call (4 ∷ []) 0 (faile
 abbrev pub bisecting_thrice : Setting
 bisecting_thrice = record bisecting { calls = 3 }
 
--- the first run leaves the checkpoint 4; the second goes on there, and makes five calls
+-- the first run leaves the checkpoint at 4; the second continues there and makes five calls
 pub record BudgetAndRestart : Type 0 where
   pub first_run : Legal bisecting_thrice after_call_3
   pub checkpoint_left : checkpoint bisecting_thrice after_call_3 0 ≡ 4

@@ -20,7 +20,7 @@ windowed = setting_over (record plain_mapping { tumbling_ms = 120000 }) (record_
 abbrev pub three_came : List Entry
 three_came = all_came 3 120000
 
--- a call, whose answer leaves the state to the window
+-- a call whose answer leaves this state to the window
 abbrev pub stateful_call : List ℕ → Reply → WindowState → List Entry → List Entry
 stateful_call places reply state h = Gave (Some lane_0) 0 places Succeeded None (Some state) 120000 ∷ ended reply 120000 ∷ began places 120000 ∷ h
 
@@ -39,7 +39,7 @@ second_call h = stateful_call (2 ∷ []) (Answered 200 false (codes "{\"state\":
 abbrev pub windows_history : List Entry
 windows_history = final_call 120000 (second_call (final_call 0 (first_call three_came)))
 
--- what stands behind the state in an event
+-- what comes after the state in an event
 abbrev pub call_end : List ℕ
 call_end = codes "\"shardId\":\"shardId-000000000000\",\"eventSourceARN\":\"arn:aws:kinesis:us-east-1:123456789012:stream/s\",\"isFinalInvokeForWindow\":false,\"isWindowTerminatedEarly\":false}"
 
@@ -65,11 +65,11 @@ pub record TumblingWindows : Type 0 where
   pub runs : Runs windowed windows_history (began (0 ∷ 1 ∷ []) 120000 ∷ final_begun 0 ∷ began (2 ∷ []) 120000 ∷ final_begun 120000 ∷ []) (Succeeded ∷ Succeeded ∷ Succeeded ∷ []) [] 3
   pub events : events_in windowed windows_history 0 ≡ first_event ∷ first_final_event ∷ second_event ∷ second_final_event ∷ []
 
--- the next window may not begin before the final call of one that is due
+-- no batch of the next window may begin before the final call of a window that is due
 abbrev pub SkippedFinalCallIsNotLegal : Type 0
 SkippedFinalCallIsNotLegal = ¬ Legal windowed (began (2 ∷ []) 120000 ∷ first_call three_came)
 
--- `window-restart`: the first call was made in a run before; its fates and the window's state are found in the journal
+-- `window-restart`: an earlier run made the first call; its fates and the window's state are found in the journal
 
 abbrev pub windowed_again : Setting
 windowed_again = record windowed {
@@ -85,7 +85,7 @@ pub record WindowRestart : Type 0 where
   pub runs : Runs windowed_again restarted_history (final_begun 0 ∷ began (2 ∷ []) 120000 ∷ final_begun 120000 ∷ []) (Succeeded ∷ Succeeded ∷ Succeeded ∷ []) [] 3
   pub events : events_in windowed_again restarted_history 0 ≡ first_final_event ∷ second_event ∷ second_final_event ∷ []
 
--- `state-spans`: where the state stands in an answer
+-- `state-spans`: where the state is in an answer
 pub record StateSpans : Type 0 where
   pub span : state_read (codes "{\"state\": {\"a\" : 1},\"x\":2}") ≡ Span 10 19
   pub number : state_read (codes "{\"state\":7}") ≡ Bad

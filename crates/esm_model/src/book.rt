@@ -1,10 +1,10 @@
-// What a book answers: jobs and pauses for the batchers, refusals, and the trouble that took it down.
+// What a book answers: jobs and pauses for the batchers, refusals, and the trouble that took the book down.
 use crate::call_event::Event;
 use crate::lane::LaneId;
 use crate::memory::OutOfMemory;
 use crate::text::{Places, Text};
 
-/// A refusal of a call that took devices: why, and what it took.
+/// The refusal of a call that takes devices by value: why it refused, and the devices, which it gives back.
 #[derive(Drop, Debug)]
 pub struct Refused<E, P> {
     pub why: E,
@@ -14,12 +14,12 @@ pub struct Refused<E, P> {
 /// Why a book could not be opened.
 #[derive(Clone, Copy, Debug, PartialEq, Eq)]
 pub enum BookOpen {
-    /// The first payload of the journal that no book could have written.
+    /// The position in the journal, counted from 0, of the first payload that no book could have written.
     BadPayload(u32),
     OutOfMemory,
 }
 
-/// A record that stands in the stream with another text than the journal kept of it.
+/// A record that arrived with another text than the journal kept of it. Both texts are sequence numbers.
 #[derive(Drop, Debug)]
 pub struct Change {
     pub shard: u64,
@@ -28,18 +28,19 @@ pub struct Change {
     pub given: Text,
 }
 
-/// Why a book is down: the first of these that a call of it answered.
+/// Why a book is down: the first of these causes that one of its calls reported.
 #[derive(Drop, Debug)]
 pub enum Trouble {
     /// The journal's disk failed.
     Disk,
     /// The failure destination failed.
     Dest,
-    /// The stream changed.
+    /// A record of the input differs from what the journal kept of it.
     Changed(Change),
 }
 
-/// A call to make: the event is for the function, the rest names the batch.
+/// A call to make: the event to send to the function, and the lane and the batch that it is for. `closing` is the start of
+/// the window, in milliseconds, where this is a window's final call; `places` is then empty.
 #[derive(Drop, Debug)]
 pub struct Job {
     pub lane: LaneId,
@@ -48,12 +49,12 @@ pub struct Job {
     pub event: Event,
 }
 
-/// What a batcher is to do.
+/// What a batcher does next.
 #[derive(Drop, Debug)]
 pub enum Next {
     /// Call the function.
     Call(Job),
-    /// Ask again: so many records got their fate.
+    /// Ask again: this many records got their fate.
     Gave(u32),
     /// Pause until this moment, in milliseconds.
     Idle { until: u64 },
@@ -70,22 +71,22 @@ pub enum BookError {
     DiskFault,
     /// The failure destination failed in this call.
     DestFault,
-    /// An earlier call found trouble.
+    /// The book is down since an earlier call.
     Down,
-    /// Want of memory; the book is as before.
+    /// Out of memory; the book is unchanged.
     OutOfMemory,
 }
 
-/// Why a book did not take records.
+/// Why a book did not accept records.
 #[derive(Drop, Debug)]
 pub enum CameError {
-    /// A record has another text than the journal kept of it; none of the list was taken.
+    /// A record differs from what the journal kept of it; no record of the list was accepted.
     StreamChanged(Change),
     /// The journal's disk failed in this call.
     DiskFault,
-    /// An earlier call found trouble.
+    /// The book is down since an earlier call.
     Down,
-    /// Want of memory; the book is as before.
+    /// Out of memory; the book is unchanged.
     OutOfMemory,
 }
 

@@ -1,4 +1,4 @@
-// The event of a call to make: what its text is written of.
+// The event of a call to make, kept as the parts from which its text is written.
 ghost use Rattle.std.specs.Prelude.{◌≡◌};
 ghost use Rattle.esm_model.specs.EventText.{event_in};
 
@@ -6,8 +6,8 @@ use crate::record::Record;
 use std::alloc::Global;
 use std::marker::Model;
 
-/// The event of a call to make, seen as its text. The text is not written yet: it is what it begins with, an element for
-/// each of some records, which the event shares, and what it ends with.
+/// The event of a call to make. Contracts see its text, which is not written yet: the event holds the beginning, the
+/// records, which it shares, and the end. Each record becomes one element of the text.
 #[derive(Drop, Debug)]
 pub struct Event {
     head: Vec<u8>,
@@ -16,8 +16,8 @@ pub struct Event {
     tail: Vec<u8>,
 }
 
-/// What the text of an event is written of: its beginning, the records of its elements, what each element says of its source,
-/// and its end.
+/// The parts from which an event's text is written: its beginning, the records of its elements, the source with which each
+/// element ends, and its end.
 #[derive(Clone, Copy)]
 pub struct EventParts<'a> {
     pub head: &'a [u8],
@@ -36,7 +36,7 @@ impl Model for Event {
 }
 
 impl Event {
-    /// The event with this text, which has no elements of records; takes no memory.
+    /// An event with this text and no elements of records. Takes no memory.
     pub fn of_text(alloc: Global, text: Vec<u8>) -> Event
         ensures { result ≡ text.items }
     {
@@ -48,8 +48,8 @@ impl Event {
         }
     }
 
-    /// The event that begins with `head`, has an element for each of the records, separated by commas, which ends with
-    /// `source`, and ends with `tail`; takes no memory.
+    /// The event that begins with `head`, has an element for each record, separated by commas, and ends with `tail`. Each
+    /// element ends with `source`. Takes no memory.
     pub fn of_records(head: Vec<u8>, records: Vec<Record>, source: Vec<u8>, tail: Vec<u8>) -> Event
         ensures { result ≡ event_in head.items records.items source.items tail.items }
     {
@@ -61,7 +61,7 @@ impl Event {
         }
     }
 
-    /// What its text is written of.
+    /// The parts from which its text is written.
     pub fn parts(&self) -> EventParts<'_>
         ensures { self.now ≡ event_in result.head.now result.records.now result.source.now result.tail.now }
     {

@@ -1,7 +1,7 @@
 // The configuration of an event source mapping, with the kind of its source and its starting position.
 use crate::text::{Text, Texts};
 
-/// What a mapping reads.
+/// The kind of source that a mapping reads.
 #[derive(Clone, Copy, Debug, PartialEq, Eq)]
 pub enum Kind {
     /// A Kinesis stream.
@@ -38,11 +38,11 @@ pub struct Config {
     pub batch_size: u32,
     /// The batching window in milliseconds.
     pub window_ms: u64,
-    /// The parallelization factor.
+    /// The parallelization factor: how many lanes each shard has.
     pub factor: u32,
     /// The retry attempts allowed; `None` for any number (-1).
     pub retries: Option<u32>,
-    /// The greatest age of a record in milliseconds; `None` for any (-1).
+    /// The maximum age of a record in milliseconds; `None` for any (-1).
     pub age_ms: Option<u64>,
     /// Whether a failed batch is halved.
     pub bisect: bool,
@@ -53,7 +53,7 @@ pub struct Config {
     pub start: Start,
     /// The failure destination, if there is one.
     pub destination: Option<Text>,
-    /// The filter patterns, each a JSON text; a record passes where one of them passes, or there is none.
+    /// The filter patterns, each a JSON text. A record passes if one of them passes, or if there are none.
     pub filters: Texts,
     /// The maximum concurrency of a queue's mapping.
     pub concurrency: Option<u32>,

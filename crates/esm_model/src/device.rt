@@ -1,8 +1,9 @@
-// A device as it stood at opening, whole and of any type: a disk, a pair of disks or a destination.
+// The state of a device when a book was opened over it. The device is a disk, a pair of disks or a destination. For
+// contracts alone.
 use std::marker::Model;
 
-/// A device as it stood at opening, whole: a disk, a pair of them or a destination, of whatever type it is. Contracts
-/// see its code, which is one to one. Only contracts speak of it: no value is made.
+/// The whole state of a device when a book was opened over it: a disk, a pair of disks or a destination, of any type.
+/// Contracts see its code; two states with one code are equal. Only contracts use it: no value is made.
 pub struct DeviceFound {
     number: u64,
 }

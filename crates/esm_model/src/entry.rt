@@ -1,4 +1,4 @@
-// The entries of a book's history, with the fates of records, the replies and the window states.
+// The entries of a book's history, and what they hold: fates of records, replies and window states.
 ghost use Rattle.std.specs.Prelude.{◌≡◌};
 
 use crate::lane::LaneId;
@@ -6,7 +6,7 @@ use crate::text::{Bytes, Places, Text};
 use std::marker::Model;
 use std::snapshot::Snapshot;
 
-/// What becomes of a record: each comes to exactly one of these.
+/// The fate of a record. A record without one is open, and none gets a second.
 #[derive(Clone, Copy, Debug, PartialEq, Eq)]
 pub enum Fate {
     /// A function's answer counts it as done.
@@ -19,16 +19,16 @@ pub enum Fate {
     Exhausted,
 }
 
-/// What a call of a function came to.
+/// The result of a function call.
 #[derive(Drop, Debug)]
 pub enum Reply {
-    /// A whole response; `error` tells that it has the header `X-Amz-Function-Error`.
+    /// A whole response; `error` says whether it has the header `X-Amz-Function-Error`.
     Answered {
         status: u16,
         error: bool,
         body: Bytes,
     },
-    /// The bytes read are no response.
+    /// Bytes were read, but they are no response.
     Garbled {
         bytes: Bytes,
     },
@@ -36,8 +36,8 @@ pub enum Reply {
     Lost,
 }
 
-/// A reply that a history tells of, seen as that reply. Its bytes are known to contracts alone and not held, so that a
-/// history takes no memory for the answers of functions.
+/// A reply in a history. Contracts see the whole reply; the program does not keep its bytes, so a history takes no memory
+/// for the answers of functions.
 #[derive(Drop)]
 pub struct PastReply {
     reply: Snapshot<Reply>,
@@ -52,7 +52,7 @@ impl Model for PastReply {
 }
 
 impl PastReply {
-    /// The reply, as a history tells it. Takes no memory.
+    /// The reply as a history holds it. Takes no memory.
     pub fn of(reply: &Reply) -> PastReply
         ensures { result ≡ reply.now }
     {
@@ -62,7 +62,8 @@ impl PastReply {
     }
 }
 
-/// A tumbling window's state, by the window's start in milliseconds, as the JSON text that a function gave.
+/// The state of a tumbling window: the window's start in milliseconds, and the state as the JSON text that a function
+/// returned.
 #[derive(Drop, Debug)]
 pub struct WindowState {
     pub window: u64,
@@ -72,27 +73,28 @@ pub struct WindowState {
 /// One step of a book's history. Moments are in milliseconds since 1970; places count a shard's records from 0.
 #[derive(Drop)]
 pub enum Entry {
-    /// Records came: `count` of them, from the place `first` on.
+    /// Records arrived: `count` of them, at the places from `first` on.
     Came {
         shard: u64,
         first: u32,
         count: u32,
         moment: u64,
     },
-    /// A call began. `closing` names the window of a final call, whose places are empty.
+    /// A call began. `closing` is the start of the window where this is its final call, which has no places.
     Began {
         lane: LaneId,
         places: Places,
         closing: Option<u64>,
         moment: u64,
     },
-    /// The lane's call ended.
+    /// The lane's call ended with this reply.
     Ended {
         lane: LaneId,
         reply: PastReply,
         moment: u64,
     },
-    /// Records got their fate; `by` is `None` where that was at arrival. `line` is the failure line.
+    /// Records got their fate. `by` is the lane, or `None` where they were filtered at their arrival. `line` is the failure
+    /// line, and `state` what the call left to its window.
     Gave {
         by: Option<LaneId>,
         shard: u64,
@@ -102,7 +104,8 @@ pub enum Entry {
         state: Option<WindowState>,
         moment: u64,
     },
-    /// A failed try that counts; `tries` is the number after it.
+    /// A failed try was counted for these places, or for the final call of the window `closing`; `tries` is the number after
+    /// it.
     Tried {
         lane: LaneId,
         places: Places,
@@ -110,19 +113,19 @@ pub enum Entry {
         tries: u32,
         moment: u64,
     },
-    /// A tumbling window was closed.
+    /// A tumbling window was closed, after its final call.
     Closed {
         lane: LaneId,
         window: u64,
         moment: u64,
     },
-    /// Records whose failure was called again by a replay.
+    /// A replay called these records, which had been given up, and they succeeded.
     Replayed {
         shard: u64,
         places: Places,
         moment: u64,
     },
-    /// The input ended: nothing comes after this.
+    /// The input ended: no record arrives after this.
     Shut {
         moment: u64,
     },

@@ -10,16 +10,17 @@ pub struct WindowCall {
     pub closing: bool,
 }
 
-/// The answer that a failure line tells of.
+/// The answer that a failure line reports: its status, and whether it had the function error header.
 #[derive(Clone, Copy, Debug, PartialEq, Eq)]
 pub struct Response {
     pub status: u16,
     pub error: bool,
 }
 
-/// What a failure line says of the records that were given up: the shard, the first place, the first and the last
-/// sequence number and arrival, how many they are, whether they expired (or else are exhausted), the calls whose
-/// batch held the first record with the last answer of these, and the moment of the fate in milliseconds.
+/// What a failure line says of the records that were given up: their shard, the first one's place, sequence number and
+/// arrival, the last one's sequence number and arrival, and their count. `expired` says that they expired, and otherwise
+/// they are exhausted. `calls` counts the calls whose batch had the first record, and `response` is the answer of the last
+/// of these. Arrivals and `moment`, when they got their fate, are in milliseconds since 1970.
 #[derive(Drop, Debug)]
 pub struct Failure {
     pub shard: u64,

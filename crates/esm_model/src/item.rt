@@ -1,8 +1,8 @@
-// What a line of an input gives: a record of a stream, or a message of a queue.
+// The items of an input, one for each line: a record of a stream or a message of a queue.
 use crate::record::Record;
 use crate::text::Text;
 
-/// A message of a queue; `group` is there exactly where the queue is FIFO, `sent` is in milliseconds since 1970.
+/// A message of a queue. It has a `group` if and only if the queue is FIFO; `sent` is in milliseconds since 1970.
 #[derive(Drop, Debug)]
 pub struct Message {
     pub id: Text,
@@ -20,7 +20,7 @@ pub enum LineKind {
     Queue { fifo: bool },
 }
 
-/// What one line gives.
+/// The item that one line contains.
 #[derive(Drop, Debug)]
 pub enum Item {
     /// A record of a stream.

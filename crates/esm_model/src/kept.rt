@@ -1,10 +1,10 @@
-// The trait of a book that threads hand on: its history of entries, their authors, and whether it is down.
+// The trait of a book that threads pass on: its history, the author of each entry, and whether the book is down.
 ghost use Rattle.std.specs.Prelude.{◌≡◌, ℕ, ◌<◌, ◌^◌, Bool, List, Option, length};
 ghost use Rattle.esm_model.specs.declared.book.Change.{Change};
 ghost use Rattle.esm_model.specs.declared.setup.Setup.{Setup};
 ghost use Rattle.esm_model.specs.declared.setup.Told.{Told};
 
-/// A value with a history of entries, which threads hand on to one another: a book.
+/// A book: a value with a history of entries, which threads pass to one another.
 ///
 /// A history is a list of entries, the oldest first. Each entry has an author: the number of the seat that added it.
 pub trait Kept {
@@ -13,16 +13,16 @@ pub trait Kept {
 
     ghost history: { Self → List Told };
 
-    // whether the value is down: no call of it does any more work
+    // whether the value is down, so that its calls do no more work
     ghost mark: { Self → Bool };
 
-    // the change that the value was told, where it is down for one
+    // the change that took the value down, if one did
     ghost change: { Self → Option Change };
 
-    // the author of an entry that comes after this history
+    // the author of this entry if it follows this history
     ghost author: { Setup → List Told → Told → ℕ };
 
-    // the entry may come next after this history
+    // this entry may follow this history
     ghost may_follow: { Setup → List Told → Told → Type 0 };
 
     /// The number of entries of the history. Takes no memory.

@@ -1,20 +1,21 @@
-// The lane of a shard, and the choice of a record's lane by its partition key.
+// The lanes of a shard, and which lane a partition key belongs to.
 ghost use Rattle.std.specs.Prelude.{◌≡◌, ◌≤◌, ◌<◌, ℕ, List};
 ghost use Rattle.esm_model.specs.Lane as spec;
 
 use md5::{Digest, Md5};
 
-/// The least number that each number of lanes divides: a key's MD5 modulo it tells the lane for each of them.
+/// The least common multiple of all numbers of lanes, 1 to 10: an MD5 modulo it determines the lane for each factor.
 pub(crate) const LANES_MULTIPLE: u128 = 2_520;
 
-/// A lane of a shard: one of `ParallelizationFactor` many, each of which runs one batch at a time.
+/// A lane of a shard. A shard has `ParallelizationFactor` lanes, counted from 0, and each runs one batch at a time.
 #[derive(Clone, Copy, Debug, PartialEq, Eq)]
 pub struct LaneId {
     pub shard: u64,
     pub lane: u32,
 }
 
-/// The number of the lane that the partition key belongs to, below the factor; with one lane no MD5 is computed.
+/// The lane of the partition key, a number below the factor: the key's MD5 modulo the factor. With one lane no MD5 is
+/// computed.
 pub fn lane_of(key: &[u8], factor: u32) -> u32
     requires some { 1 ≤ factor }
     requires most { factor ≤ 10 }
@@ -28,19 +29,19 @@ pub fn lane_of(key: &[u8], factor: u32) -> u32
     (u128::from_be_bytes(digest) % factor as u128) as u32
 }
 
-/// The MD5 of the key as a number, modulo `LANES_MULTIPLE`.
+/// The MD5 of the key as a number, modulo `LANES_MULTIPLE`; `lane_by` takes it.
 pub(crate) fn mixed(key: &[u8]) -> u16
-    ensures { result ≡ spec.lane_of key.now 2520 }
+    ensures { result ≡ spec.lane_of key.now LANES_MULTIPLE }
 {
     (u128::from_be_bytes(Md5::digest(key)) % LANES_MULTIPLE) as u16
 }
 
-/// The lane by that number, below the factor.
+/// The lane of a key whose `mixed` is this, a number below the factor.
 #[tactic(auto, using(crate::proofs::LaneFacts::lane_mixed))]
 pub(crate) fn lane_by(mixed: u16, factor: u32) -> u32
     requires some { 1 ≤ factor }
     requires most { factor ≤ 10 }
-    ensures value { (key : List ℕ) → mixed ≡ spec.lane_of key 2520 → result ≡ spec.lane_of key factor }
+    ensures value { (key : List ℕ) → mixed ≡ spec.lane_of key LANES_MULTIPLE → result ≡ spec.lane_of key factor }
     ensures below { result < factor }
 {
     mixed as u32 % factor

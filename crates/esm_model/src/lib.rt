@@ -1,6 +1,6 @@
-//! The vocabulary of the engine: the types that every crate speaks of, and the definitions of
-//! legal histories, batches, rulings and checkpoints that every contract cites.
-//! Pure values and small pure functions; no device, clock or thread.
+//! The vocabulary of the engine: the types that every crate uses, and the definitions of legal histories, batches, rulings
+//! and checkpoints that contracts cite.
+//! Only pure values and small pure functions; no device, clock or thread.
 #![tactic(auto)]
 
 pub mod book;

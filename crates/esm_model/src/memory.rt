@@ -1,7 +1,8 @@
-// Want of memory, the one refusal of every call that grows something.
+// The error of every call that allocates: out of memory.
 use std::alloc::{AllocError, AllocFailed};
 
-/// Want of memory: the one refusal that every call which grows something may give.
+/// Out of memory: an allocation failed, or a size or a count would exceed its limit. Every call that allocates may return
+/// this.
 #[derive(Clone, Copy, Debug, PartialEq, Eq)]
 pub struct OutOfMemory;
 

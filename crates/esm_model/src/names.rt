@@ -1,4 +1,4 @@
-// Names that outputs tell: the files of a folder, and the limits of the engine.
+// Names that reports and messages print: the files of a folder, and the limits of the engine.
 ghost use Rattle.std.specs.Prelude.{◌≡◌};
 ghost use Rattle.esm_model.specs.Names.{file_name};
 
@@ -12,7 +12,7 @@ pub enum FileName {
 }
 
 impl FileName {
-    /// The name, as in `journal.esm`.
+    /// Its name in the folder, as in `journal.esm`.
     pub fn name(self) -> &'static str
         ensures { result.now ≡ file_name self }
     {
@@ -25,7 +25,7 @@ impl FileName {
     }
 }
 
-/// A limit of the engine that an input went past: records, bytes of records, shards, or lanes.
+/// A limit that an input exceeded: of records, bytes of records, shards, or lanes.
 #[derive(Clone, Copy, Debug, PartialEq, Eq)]
 pub enum LimitName {
     Records,

@@ -1,10 +1,10 @@
-// A part of a text.
+// A part of a text, as a range of its bytes.
 ghost use Rattle.std.specs.Prelude.{◌≡◌, ◌++◌, IfOk, OnOk};
 ghost use Rattle.esm_model.specs.Records.{part_of, IsWithin, IsPart};
 
 use crate::memory::OutOfMemory;
 
-/// A part of a text: the place of its first byte, and the place behind its last one, both counted from 0.
+/// A part of a text: the index of its first byte, and the index after its last one, both counted from 0.
 #[derive(Clone, Copy, Debug)]
 pub struct Part {
     pub from: u32,
@@ -12,8 +12,8 @@ pub struct Part {
 }
 
 impl Part {
-    /// Puts the bytes behind the text, and gives the part that they are; `OutOfMemory` also where the text would have
-    /// 2^32 bytes.
+    /// Appends the bytes to the text, and returns the part that they are. `OutOfMemory` is also returned where the text
+    /// would reach 2^32 bytes.
     pub fn append(text: &mut Vec<u8>, bytes: &[u8]) -> Result<Part, OutOfMemory>
         ensures text { OnOk result (text.new.items ≡ text.old.items ++ bytes.now) }
         ensures part { IfOk result (λ p. IsPart text.new.items p bytes.now) }
@@ -28,7 +28,7 @@ impl Part {
         Ok(Part { from, to })
     }
 
-    /// The bytes of the part.
+    /// The bytes of the part. The part has to lie within the text.
     pub fn of(self, text: &[u8]) -> &[u8]
         requires { IsWithin text.now self }
         ensures { result.now ≡ part_of text.now self }

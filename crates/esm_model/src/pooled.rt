@@ -1,5 +1,5 @@
-// The trait of a book that a reader and batchers share: items come and their input ends, a batcher asks what is next and ends
-// its call, and what is left is told when all have come to their end.
+// The trait of a book that a reader and batchers share. Items arrive and the input ends; a batcher asks what comes next and
+// ends its call; once all batchers have ended, the book says whether something is left.
 ghost use Rattle.std.specs.Prelude.{◌≡◌, ◌⊎◌, ◌<◌, ◌≤◌, ◌+◌, ◌++◌, ◌∷◌, [], ℕ, Bool, List, Some, true, false, length, All, IfOk, IfErr, OnOk, OnErr, IsErrOf};
 ghost use Rattle.esm_model.specs.declared.book.BookError.TheVariants as why;
 ghost use Rattle.esm_model.specs.declared.book.CameError.TheVariants as refusal;
@@ -27,20 +27,21 @@ use crate::kept::Kept;
 use crate::progress::Progress;
 use std::alloc::Global;
 
-/// A book that a reader and batchers share, each with a seat at a turn: the reader has the seat 0, and batcher `k` the seat
-/// `k + 1`.
+/// A book that a reader and batchers share. Each has a seat at a turn: the reader has seat 0, and batcher `k` has seat `k +
+/// 1`.
 ///
-/// What is known of it is told of its setup and its history, and of a batcher by its number.
+/// What contracts know of it is said of its setup and its history, and, for a batcher, of the batcher's number.
 pub trait Pooled: Kept {
     // Of a batcher.
 
-    // its calls that ended, oldest first, as its caller logs them; it sends these bytes for an event
+    // its calls that ended, oldest first, as its caller logs them; the function maps an event to the bytes that the caller
+    // sends
     ghost calls: { Setup → (List ℕ → List ℕ) → List Told → ℕ → List Called };
 
-    // no call of it runs
+    // it runs no call
     ghost rests: { Setup → List Told → ℕ → Type 0 };
 
-    // the job is of its call that runs
+    // it runs the call of this job
     ghost runs: { Setup → List Told → ℕ → Job → Type 0 };
 
     // the input has ended, and nothing is left for it
@@ -57,23 +58,25 @@ pub trait Pooled: Kept {
     // what the lines of its input are
     ghost kind: { Setup → LineKind };
 
-    // the items of the shard that came, in their order; a queue is shard 0
+    // the items of the shard that arrived, in their order; a queue is shard 0
     ghost items: { List Told → ℕ → List Item };
 
-    // an item of a list that is to come differs from what the journal kept of it, and the first of them differs so
+    // among the items of a list that is to arrive, the first that differs from what the journal kept of it differs by this
+    // change
     ghost differs: { Setup → List Told → List Item → Change → Type 0 };
 
     // Of moments.
 
-    // its calls are made at such moments alone
+    // the moments at which it may be called
     ghost given: { ℕ → Bool };
 
-    // such a moment was given for each entry of its history, and for each that it decided and a device that failed kept from
-    // being added
+    // each entry of its history has a moment that was given, and so has each entry that it decided but that a failed device
+    // kept from being added
     ghost timed: { (ℕ → Bool) → Self → Type 0 };
 
-    /// Items come, at the moment, in milliseconds. A list of which an item differs from what was kept of it is refused whole.
-    /// After an error other than want of memory the book is down, and the first of the items may have come.
+    /// Adds the items that arrived, at the moment, in milliseconds. A list with an item that differs from what the journal
+    /// kept of it is refused whole (`StreamChanged`). After an error other than `OutOfMemory` the book is down, and the
+    /// first of the items may have been added.
     fn bring(&mut self, alloc: Global, list: Vec<Item>, moment: u64) -> Result<(), CameError>
         requires going { is_shut (entries_told (Self.history self.old)) ≡ false }
         requires few { length list.items ≤ MAX_BATCH }
@@ -87,13 +90,13 @@ pub trait Pooled: Kept {
         ensures going { is_shut (entries_told (Self.history self.new)) ≡ false }
         ensures came { OnOk result (Come (items (Self.history self.old)) (items (Self.history self.new)) list.items) }
         ensures some { SomeCome (items (Self.history self.old)) (items (Self.history self.new)) list.items }
-        // When an error comes, and what it tells.
+        // When each error is returned, and what it reports.
         ensures down { IfErr result (λ e. (e ≡ refusal.OutOfMemory) ⊎ (Self.mark self.new ≡ true)) }
         ensures changed { (change : Change) → IsErrOf result (refusal.StreamChanged change) →
             differs (Self.setup self.old) (Self.history self.old) list.items change }
         ensures tells { Self.change self.new ≡ change_told (Self.change self.old) result };
 
-    /// The input ended, at the moment, in milliseconds; that is noted where the book is not down. Takes no memory.
+    /// Notes that the input ended, at the moment, in milliseconds, unless the book is down. Takes no memory.
     fn end_input(&mut self, moment: u64)
         requires going { is_shut (entries_told (Self.history self.old)) ≡ false }
         requires given { given moment ≡ true }
@@ -104,8 +107,8 @@ pub trait Pooled: Kept {
         ensures change { Self.change self.new ≡ Self.change self.old }
         ensures shut { Self.mark self.new ≡ false → is_shut (entries_told (Self.history self.new)) ≡ true };
 
-    /// What the batcher does next at the moment, in milliseconds; a call that is answered has begun. After an error other
-    /// than want of memory the book is down.
+    /// What the batcher does next at the moment, in milliseconds. Where the answer is a call, that call has begun. After an
+    /// error other than `OutOfMemory` the book is down.
     fn ask(&mut self, alloc: Global, batcher: u32, moment: u64) -> Result<Next, BookError>
         requires number { batcher < MAX_LANES }
         requires rests { rests (Self.setup self.old) (Self.history self.old) batcher }
@@ -123,8 +126,9 @@ pub trait Pooled: Kept {
         ensures rests { OnErr result (rests (Self.setup self.old) (Self.history self.new) batcher) }
         ensures down { IfErr result (λ e. (e ≡ why.OutOfMemory) ⊎ (Self.mark self.new ≡ true)) };
 
-    /// The batcher's call that runs came to this reply at the moment, in milliseconds. After an error other than want of
-    /// memory the book is down, and the end is noted all the same.
+    /// Ends the batcher's running call with this reply, at the moment, in milliseconds, and returns how many records or
+    /// messages got their fate. After an error other than `OutOfMemory` the book is down, and the end of the call is in its
+    /// history all the same. After `OutOfMemory` the history is unchanged.
     fn end_call(
         &mut self,
         alloc: Global,
@@ -144,7 +148,7 @@ pub trait Pooled: Kept {
             calls (Self.setup self.old) sends (Self.history self.new) batcher ≡ calls (Self.setup self.old) sends (Self.history self.old) batcher
             ++ call_of (Self.setup self.old) sends job.event reply ∷ [] }
         ensures rests { (IsErrOf result why.OutOfMemory → ⊥) → rests (Self.setup self.old) (Self.history self.new) batcher }
-        // When an error comes, and what it leaves.
+        // When each error is returned, and what it leaves.
         ensures unchanged { IsErrOf result why.OutOfMemory → Self.history self.new ≡ Self.history self.old }
         ensures down { IfErr result (λ e. (e ≡ why.OutOfMemory) ⊎ (Self.mark self.new ≡ true)) };
 
@@ -153,8 +157,8 @@ pub trait Pooled: Kept {
         ensures spent { result ≡ true → spent (Self.setup self.now) (Self.history self.now) }
         ensures going { result ≡ false → spent (Self.setup self.now) (Self.history self.now) → ⊥ };
 
-    /// Whether nothing is left for the batchers below the number, once the input has ended and none runs a call. `None` for want
-    /// of memory alone.
+    /// Whether nothing is left for the batchers with numbers below `batchers`, once the input has ended and none runs a
+    /// call. `None` only where memory ran out.
     fn is_over(&self, batchers: u32) -> Option<bool>
         requires number { (0 < batchers) × (batchers ≤ MAX_LANES) }
         requires up { Self.mark self.now ≡ false }
@@ -163,16 +167,16 @@ pub trait Pooled: Kept {
         ensures over { result ≡ Some true → (k : ℕ) → k < batchers → finished (Self.setup self.now) (Self.history self.now) k }
         ensures left { result ≡ Some false → (k : ℕ) × (k < batchers) × left (Self.setup self.now) (Self.history self.now) k };
 
-    /// How far the book has come, for whoever watches the run; nothing is promised of it. Takes no memory.
+    /// How far the book has come, for whoever watches the run. Nothing is promised of the numbers. Takes no memory.
     fn progress(&self) -> Progress;
 
-    /// Before the first entry no item came and no batcher has called. Does nothing.
+    /// Before the first entry no item has arrived and no batcher has called. Does nothing.
     fn begins()
         ensures calls { (s : Setup) (sends : List ℕ → List ℕ) (k : ℕ) → calls s sends [] k ≡ [] }
         ensures rests { (s : Setup) (k : ℕ) → rests s [] k }
         ensures items { (n : ℕ) → items [] n ≡ [] };
 
-    /// What the reader and a batcher have done and know stays, whatever the other seats add. Does nothing.
+    /// What the reader or a batcher has done and knows stays true, whatever the other seats add. Does nothing.
     fn stays()
         ensures calls { (s : Setup) (sends : List ℕ → List ℕ) (h es : List Told) (k : ℕ) → OthersFollow Self.author Self.may_follow s (k + 1) h es →
             calls s sends (h ++ es) k ≡ calls s sends h k }

@@ -3,10 +3,10 @@
 /// How far a run has come. Nothing is promised of these numbers: they are for whoever watches.
 #[derive(Clone, Copy, Debug, PartialEq, Eq)]
 pub struct Progress {
-    /// The records, or messages, that came.
+    /// The records or messages that arrived.
     pub came: u64,
     /// Those of them that have their fate.
     pub settled: u64,
-    /// Those of them that a call which runs was made for.
+    /// Those of them that are in a running call.
     pub in_calls: u64,
 }

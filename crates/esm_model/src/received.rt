@@ -1,8 +1,8 @@
-// A message of a queue as a call of the function receives it, with its place and its receive count.
+// A message of a queue as a function call receives it, with its place and its receive count.
 use crate::item::Message;
 
-/// A message as a call receives it: its place in the order of arrival, how often it was received with this time, and
-/// the moment of its first receive in milliseconds since 1970.
+/// A message as a function call receives it: its place in the order of arrival, how often it was received, this time
+/// included, and the moment of its first receive in milliseconds since 1970.
 #[derive(Drop, Debug)]
 pub struct Received {
     pub message: Message,

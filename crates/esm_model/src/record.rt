@@ -1,4 +1,4 @@
-// A record of a stream, whose texts are parts of one text that it may share with other records.
+// A record of a stream. Its texts are parts of one text, which it may share with other records.
 ghost use Rattle.std.specs.Prelude.{◌≡◌, ◌≤◌, ◌<◌, true, IsUtf8, Some, Ok, length, option_map, IfOk};
 ghost use Rattle.std.specs.Result.{result_ok};
 ghost use Rattle.base64.specs.Engines.{standard};
@@ -19,8 +19,9 @@ use std::alloc::Global;
 use std::marker::Model;
 use std::str::from_utf8;
 
-/// A record of a stream: its shard's number, its sequence number, its partition key, its data and its approximate arrival
-/// in milliseconds since 1970. The number, the key and the data's base64 are parts of one text.
+/// A record of a stream: its shard's number, its sequence number, its partition key, its data and its approximate arrival in
+/// milliseconds since 1970. The sequence number, the key and the base64 of the data are parts of one text, which records may
+/// share.
 #[derive(Drop, Debug)]
 pub struct Record {
     text: SharedBytes,
@@ -31,12 +32,13 @@ pub struct Record {
     payload: Part,
     /// Bytes of the data.
     len: u32,
-    /// By what its lane is chosen, where that was computed.
+    /// The key's MD5, reduced as `mixed` does, from which its lane follows; `None` where it was not computed yet.
     mixed: Option<u16>,
 }
 
 impl Model for Record {
     ghost use Rattle.std.specs.Prelude.{◌≡◌, IfSome};
+    ghost use Rattle.esm_model.specs.declared.lane.TheConstants.{LANES_MULTIPLE};
     ghost use Rattle.esm_model.specs.Lane.{lane_of};
     ghost use Rattle.esm_model.specs.Records.{Record, ArePartsOf, part_of, record_in};
 
@@ -45,10 +47,10 @@ impl Model for Record {
     ghost view = { λ r. record_in r.text r.shard r.seq r.key r.payload r.arrival };
 
     ghost invariant = { λ r. ArePartsOf r.text r.seq r.key r.payload r.len
-        × IfSome r.mixed (λ m. m ≡ lane_of (part_of r.text r.key) 2520) };
+        × IfSome r.mixed (λ m. m ≡ lane_of (part_of r.text r.key) LANES_MULTIPLE) };
 }
 
-/// The texts of a record in a row, and which part is which.
+/// The texts of one record, one after the other, and which part is which.
 #[derive(Drop)]
 struct Packed {
     text: Vec<u8>,
@@ -57,7 +59,7 @@ struct Packed {
     payload: Part,
 }
 
-/// Puts the texts of a record into one of its own.
+/// Writes the texts of a record into one new text.
 #[tactic(auto, using(crate::proofs::RecordFacts::is_part_still))]
 fn pack(alloc: Global, seq: &[u8], key: &[u8], payload: &[u8]) -> Result<Packed, OutOfMemory>
     ensures seq { IfOk result (λ p. IsPart p.text.items p.seq seq.now) }
@@ -77,7 +79,7 @@ fn pack(alloc: Global, seq: &[u8], key: &[u8], payload: &[u8]) -> Result<Packed,
     })
 }
 
-/// Each of a slice's bytes is below 256. Does nothing.
+/// Each byte of a slice is below 256. Does nothing.
 fn are_bytes(text: &[u8])
     ensures { IsBytes text.now }
 {
@@ -85,8 +87,8 @@ fn are_bytes(text: &[u8])
 }
 
 impl Record {
-    /// The record whose sequence number, partition key and data's base64 are these parts of the text, the data being so
-    /// many bytes; takes no memory.
+    /// The record whose sequence number, partition key and base64 of the data are these parts of the text. The data has
+    /// `len` bytes, and `arrival` is in milliseconds since 1970. Takes no memory.
     pub fn within(
         text: SharedBytes,
         shard: u64,
@@ -117,7 +119,7 @@ impl Record {
         }
     }
 
-    /// The record with this sequence number, partition key and base64 of so many bytes of data, in a text of its own.
+    /// The record with this sequence number, partition key and base64 of `len` bytes of data, in a text of its own.
     pub fn of(
         alloc: Global,
         shard: u64,
@@ -141,7 +143,7 @@ impl Record {
         Ok(Record::within(text, shard, seq, key, payload, len, arrival))
     }
 
-    /// A copy, which shares the text.
+    /// A copy, which shares the text. `OutOfMemory` where the text has more holders than can be counted.
     pub fn copy(&self) -> Result<Record, OutOfMemory>
         ensures { IfOk result (λ copy. copy ≡ self.now) }
     {
@@ -157,14 +159,14 @@ impl Record {
         })
     }
 
-    /// Computes by what its lane is chosen, so that `lane` computes no MD5 of the key. Contracts see no change.
+    /// Computes the MD5 of its key once, so that `lane` need not. Contracts see no change.
     pub fn mix(&mut self)
         ensures { self.new ≡ self.old }
     {
         self.mixed = Some(mixed(self.key.of(self.text.as_slice())));
     }
 
-    /// The number of its lane, below the factor.
+    /// The number of its lane, below the factor. Computes an MD5 of the key unless `mix` was called or the factor is 1.
     pub fn lane(&self, factor: u32) -> u32
         requires some { 1 ≤ factor }
         requires most { factor ≤ 10 }
@@ -177,12 +179,13 @@ impl Record {
         }
     }
 
-    /// A copy in a text of its own, which is let go when this copy is.
+    /// A copy in a text of its own, which is freed with the last record that shares it. Keeps what `mix` computed.
+    /// `OutOfMemory` if an allocation failed.
     pub fn apart(&self, alloc: Global) -> Result<Record, OutOfMemory>
         ensures { IfOk result (λ copy. copy ≡ self.now) }
     {
         let payload = self.payload.of(self.text.as_slice());
-        Record::of(
+        let mut copy = Record::of(
             alloc,
             self.shard,
             self.seq(),
@@ -190,7 +193,9 @@ impl Record {
             payload,
             self.len,
             self.arrival,
-        )
+        )?;
+        copy.mixed = self.mixed;
+        Ok(copy)
     }
 
     /// The number of its shard.
@@ -251,7 +256,7 @@ impl Record {
         }
     }
 
-    /// The standard padded base64 of its data (RFC 4648, section 4).
+    /// The base64 of its data, standard and padded (RFC 4648, section 4).
     #[tactic(auto, unfolding(crate::specs::EventText::base64_text))]
     pub fn base64(&self) -> &[u8]
         ensures { result.now ≡ base64_text self.now.payload }

@@ -1,4 +1,4 @@
-// The sequence number of a record: reading it from a text, copying it, and the order of two of them.
+// The sequence number of a record: how it is read from a text and copied, and the order of two.
 ghost use Rattle.std.specs.Prelude.{◌≡◌, ◌≢◌, true, false, IfOk};
 ghost use Rattle.esm_model.specs.Sequence.{is_sequence, sequence_order};
 ghost use Rattle.esm_model.specs.declared.sequence.SeqError.TheVariants as seq_error;
@@ -10,8 +10,8 @@ use std::alloc::{AllocError, Global};
 use std::cmp::Ordering;
 use std::marker::Model;
 
-/// The sequence number of a record: `0`, or 1 to 129 digits that do not begin with `0`;
-/// seen as the list of its digits. (Kinesis API Reference, `SequenceNumber`.)
+/// The sequence number of a record: `0`, or 1 to 129 digits that do not begin with `0` (Kinesis API Reference,
+/// `SequenceNumber`). Contracts see the list of its digits.
 #[derive(Drop, Debug)]
 pub struct Seq {
     digits: Text,
@@ -28,12 +28,12 @@ impl Model for Seq {
     ghost invariant = { λ s. IsTrue (is_sequence s.digits) };
 }
 
-/// Why a text gave no sequence number.
+/// Why a text was not read as a sequence number.
 #[derive(Clone, Copy, Debug, PartialEq, Eq)]
 pub enum SeqError {
-    /// It is not the text of one.
+    /// The text is not that of a sequence number.
     BadSeq,
-    /// There was no memory for the copy.
+    /// There is no memory for the copy.
     OutOfMemory,
 }
 
@@ -46,8 +46,8 @@ impl From<AllocError> for SeqError {
 }
 
 impl Seq {
-    /// The sequence number that the text spells: a copy of it.
-    /// `BadSeq` exactly where the text is not that of a sequence number.
+    /// Reads a sequence number from its text, which it copies. A text that is not that of a sequence number is never read,
+    /// and `BadSeq` is returned for no other text.
     pub fn read(alloc: Global, text: &str) -> Result<Seq, SeqError>
         ensures copied { IfOk result (λ s. s ≡ text.now) }
         ensures spelled { IfOk result (λ s. is_sequence text.now ≡ true) }
@@ -63,7 +63,7 @@ impl Seq {
         })
     }
 
-    /// The sequence number with these digits: a copy of them.
+    /// The sequence number with these digits, which it copies.
     #[tactic(auto, using(crate::proofs::RecordFacts::sequence_utf8))]
     pub fn of_digits(alloc: Global, digits: &[u8]) -> Result<Seq, OutOfMemory>
         requires { is_sequence digits.now ≡ true }
@@ -102,7 +102,7 @@ impl Seq {
         self.digits.as_slice()
     }
 
-    /// The order of the numbers: by the number of digits, then digit by digit.
+    /// Compares two numbers by their value: by the number of digits, then digit by digit.
     pub fn order(&self, other: &Seq) -> Ordering
         ensures { result ≡ sequence_order self.now other.now }
     {
@@ -110,7 +110,7 @@ impl Seq {
     }
 }
 
-/// The order of two sequence numbers by their digits: by how many there are, then digit by digit.
+/// Compares two sequence numbers, given as their digits, by value: by the number of digits, then digit by digit.
 pub fn number_order(a: &[u8], b: &[u8]) -> Ordering
     ensures { result ≡ sequence_order a.now b.now }
 {

@@ -1,4 +1,4 @@
-// What a book is opened with: its mapping, what its journal told at opening, and how its devices stood.
+// What a book is opened with: its mapping, what its journal said at opening, and the state of its devices.
 use crate::config::Config;
 use crate::device::DeviceFound;
 use crate::entry::{Entry, Fate};
@@ -7,15 +7,15 @@ use crate::record::Record;
 use crate::text::{Bytes, Text};
 use std::collections::LinkedList;
 
-/// An entry as a history tells it: a `Came` stands with the records that it covers, in order, or with the messages
-/// where the book is a queue's. Every other entry stands with none. Only contracts speak of it: no value is made.
+/// An entry of a shared history. A `Came` holds the records that it covers, in order, or the messages where the book is a
+/// queue's; every other entry holds none. Only contracts use it: no value is made.
 pub struct Told {
     pub entry: Entry,
     pub records: LinkedList<Record>,
     pub messages: LinkedList<Message>,
 }
 
-/// A record whose fate the journal told at opening, with the sequence number that it kept.
+/// A fate found in the journal at opening, with the record's sequence number as the journal kept it.
 pub struct FoundFate {
     pub shard: u64,
     pub place: u32,
@@ -23,7 +23,8 @@ pub struct FoundFate {
     pub text: Text,
 }
 
-/// A record without a fate whose failed tries the journal told at opening, with the sequence number that it kept.
+/// Failed tries of a record without a fate, found in the journal at opening, with the record's sequence number as the
+/// journal kept it.
 pub struct FoundTries {
     pub shard: u64,
     pub place: u32,
@@ -31,29 +32,30 @@ pub struct FoundTries {
     pub text: Text,
 }
 
-/// A tumbling window's state that the journal told at opening. The window is its start in milliseconds.
+/// The state of a tumbling window, found in the journal at opening. `window` is the window's start in milliseconds.
 pub struct FoundState {
     pub shard: u64,
     pub window: u64,
     pub text: Bytes,
 }
 
-/// A tumbling window whose failed final calls the journal told at opening.
+/// The number of failed final calls of a tumbling window, found in the journal at opening. `window` is the window's start in
+/// milliseconds.
 pub struct FoundWindowTries {
     pub shard: u64,
     pub window: u64,
     pub tries: u32,
 }
 
-/// A message whose deletion the journal told at opening, with the message id that it kept.
+/// The deletion of a message, found in the journal at opening, with the message's id as the journal kept it.
 pub struct FoundDeletion {
     pub place: u32,
     pub fate: Fate,
     pub text: Text,
 }
 
-/// What a book was opened with: its mapping, what its journal said, and how its devices stood.
-/// Only contracts speak of it: no value is made.
+/// What a book was opened with: its mapping, what its journal said, and the state of its devices. Only contracts use it: no
+/// value is made.
 pub struct Setup {
     pub config: Config,
     /// The number of calls allowed.
@@ -67,9 +69,9 @@ pub struct Setup {
     pub deletions: LinkedList<FoundDeletion>,
     /// The payloads of the journal, in order.
     pub payloads: LinkedList<Bytes>,
-    /// The pair of the journal, with its two disks.
+    /// The state of the journal's pair with its two disks.
     pub pair: DeviceFound,
-    /// The lines of the failure destination, as it sends them, and the destination.
+    /// The lines found in the failure destination, as it sends them, and the destination's state.
     pub lines: LinkedList<Bytes>,
     pub dest: DeviceFound,
 }

@@ -1,4 +1,4 @@
-// Bytes that several values hold together.
+// Bytes that several values share.
 ghost use Rattle.std.specs.Prelude.{◌≡◌, IfOk};
 
 use crate::memory::OutOfMemory;
@@ -7,7 +7,7 @@ use std::marker::Model;
 use std::ops::Deref;
 use std::sync::Arc;
 
-/// Bytes that are written once and then shared, seen as a list; they go when their last holder does.
+/// Bytes that are written once and then shared. Contracts see them as a list. They are freed with their last holder.
 #[derive(Drop, Debug)]
 pub struct SharedBytes {
     bytes: Arc<Vec<u8>>,
@@ -22,7 +22,7 @@ impl Model for SharedBytes {
 }
 
 impl SharedBytes {
-    /// The bytes of a `Vec`, with one holder.
+    /// Takes the bytes of a `Vec`; the result is their one holder.
     pub fn from_vec(alloc: Global, bytes: Vec<u8>) -> Result<SharedBytes, OutOfMemory>
         ensures { IfOk result (λ t. t ≡ bytes.items) }
     {
@@ -31,7 +31,7 @@ impl SharedBytes {
         })
     }
 
-    /// One more holder of the same bytes; `OutOfMemory` where there are more than can be counted.
+    /// Adds a holder of the same bytes. `OutOfMemory` where there would be more holders than can be counted.
     pub fn share(&self) -> Result<SharedBytes, OutOfMemory>
         ensures { IfOk result (λ t. t ≡ self.now) }
     {

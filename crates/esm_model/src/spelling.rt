@@ -1,25 +1,25 @@
-// Whether bytes spell digits, a name or a sequence number.
+// Whether bytes are digits, the bytes of a name, or a sequence number.
 ghost use Rattle.std.specs.Prelude.{◌≡◌, ◌==◌, ◌||◌, ◌<◌, not, length, slice_index};
 ghost use Rattle.std.specs.List.{list_all};
 ghost use Rattle.std.specs.Char.{is_ascii_digit};
 ghost use Rattle.esm_model.specs.Sequence.{is_sequence};
 ghost use Rattle.esm_model.specs.Valid.{is_name_byte};
 
-/// Whether each byte is a decimal digit of ASCII.
+/// Whether each byte is an ASCII decimal digit.
 pub fn are_digits(text: &[u8]) -> bool
     ensures { result ≡ list_all is_ascii_digit text.now }
 {
     text.iter().all(|b| b.is_ascii_digit())
 }
 
-/// Whether the byte is a letter or a digit of ASCII, `-` or `_`.
+/// Whether the byte is an ASCII letter or digit, `-` or `_`.
 pub fn is_name_byte(byte: u8) -> bool
     ensures { result ≡ is_name_byte byte }
 {
     byte.is_ascii_alphabetic() || byte.is_ascii_digit() || byte == b'-' || byte == b'_'
 }
 
-/// Whether each byte is a letter or a digit of ASCII, `-` or `_`.
+/// Whether each byte is an ASCII letter or digit, `-` or `_`.
 pub fn are_name_bytes(text: &[u8]) -> bool
     ensures { result ≡ list_all is_name_byte text.now }
 {

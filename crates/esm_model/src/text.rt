@@ -1,4 +1,4 @@
-// Owned lists that entries hold: texts, bytes, places of records, and lists of texts.
+// Owned lists that entries hold: texts, bytes, places of records, and lists of texts. Contracts see them as plain lists.
 ghost use Rattle.std.specs.Prelude.{◌≡◌, IfOk};
 ghost use Rattle.std.specs.String.{string_bytes};
 
@@ -6,7 +6,7 @@ use crate::memory::OutOfMemory;
 use std::alloc::Global;
 use std::marker::Model;
 
-/// UTF-8 text, seen as the list of its bytes.
+/// UTF-8 text. Contracts see the list of its bytes.
 #[derive(Drop, Debug)]
 pub struct Text {
     chars: String,
@@ -22,7 +22,7 @@ impl Model for Text {
 }
 
 impl Text {
-    /// The text of a `String`; takes no memory.
+    /// Wraps the text of a `String`. Takes no memory.
     pub fn from_vec(chars: String) -> Self
         ensures { result ≡ string_bytes chars }
     {
@@ -49,7 +49,7 @@ impl Text {
     }
 }
 
-/// Bytes, seen as a list.
+/// Bytes. Contracts see them as a list.
 #[derive(Drop, Debug)]
 pub struct Bytes {
     bytes: Vec<u8>,
@@ -64,7 +64,7 @@ impl Model for Bytes {
 }
 
 impl Bytes {
-    /// The bytes of a `Vec`; takes no memory.
+    /// Wraps the bytes of a `Vec`. Takes no memory.
     pub fn from_vec(bytes: Vec<u8>) -> Self
         ensures { result ≡ bytes.items }
     {
@@ -77,7 +77,7 @@ impl Bytes {
         self.bytes.as_slice()
     }
 
-    /// The `Vec` of the bytes, with its memory.
+    /// The `Vec` of the bytes. Copies nothing.
     pub fn into_vec(self) -> Vec<u8>
         ensures { result.items ≡ self }
     {
@@ -93,7 +93,7 @@ impl Bytes {
     }
 }
 
-/// Places of records in their shard's list, counted from 0; seen as a list.
+/// Places of records in their shard's list, counted from 0. Contracts see them as a list.
 #[derive(Drop, Debug)]
 pub struct Places {
     places: Vec<u32>,
@@ -108,7 +108,7 @@ impl Model for Places {
 }
 
 impl Places {
-    /// The places of a `Vec`; takes no memory.
+    /// Wraps the places of a `Vec`. Takes no memory.
     pub fn from_vec(places: Vec<u32>) -> Self
         ensures { result ≡ places.items }
     {
@@ -129,7 +129,7 @@ impl Places {
     }
 }
 
-/// Texts, seen as the list of their lists of bytes.
+/// Texts. Contracts see the list of their lists of bytes.
 #[derive(Drop, Debug)]
 pub struct Texts {
     texts: Vec<Text>,
@@ -144,14 +144,14 @@ impl Model for Texts {
 }
 
 impl Texts {
-    /// The texts of a `Vec`; takes no memory.
+    /// Wraps the texts of a `Vec`. Takes no memory.
     pub fn from_vec(texts: Vec<Text>) -> Self
         ensures { result ≡ texts.items }
     {
         Texts { texts }
     }
 
-    /// The `Vec` of the texts, with its memory.
+    /// The `Vec` of the texts. Copies nothing.
     pub fn into_vec(self) -> Vec<Text>
         ensures { result.items ≡ self }
     {

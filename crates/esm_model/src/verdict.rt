@@ -1,4 +1,4 @@
-// What a reply says of a batch, and the verdict on the records that succeeded and the rest.
+// What a reply says of a batch, and the verdict: how many records succeeded, and what becomes of the rest.
 use crate::text::Places;
 
 /// What a reply says of a stream's batch.
@@ -14,29 +14,30 @@ pub enum Reading {
     UpTo(u32),
 }
 
-/// What becomes of the records that did not succeed.
+/// The rest of a batch: the records that did not succeed, and what becomes of them.
 #[derive(Clone, Copy, Debug, PartialEq, Eq)]
 pub enum Rest {
-    /// There are none.
+    /// There are none: all succeeded.
     Nothing,
     /// They are called again and no try is counted.
     Again,
-    /// They are called again with one more try.
+    /// They are called again, and one more try is counted.
     Counted,
-    /// They are halved: the first so many become a piece of their own.
+    /// They are split: this many of the first ones become a piece of their own. After item failures these are all of them.
     Split(u32),
     /// They are given up.
     Exhausted,
 }
 
-/// The ruling on a batch: its first `succeeded` records succeeded, the others are the rest.
+/// The verdict on a batch: its first `succeeded` records succeeded, and the others are the rest.
 #[derive(Clone, Copy, Debug, PartialEq, Eq)]
 pub struct Verdict {
     pub succeeded: u32,
     pub rest: Rest,
 }
 
-/// The `state` of an answer: none, the bytes of its value from `from` to before `to`, or no object.
+/// The `state` of an answer: `Empty` where there is none; the span of its bytes, from `from` up to but not including `to`;
+/// or `Bad` where it is no state that a window can have.
 #[derive(Clone, Copy, Debug, PartialEq, Eq)]
 pub enum StateRead {
     Empty,
@@ -51,7 +52,8 @@ pub struct Answer {
     pub state: StateRead,
 }
 
-/// What a reply says of a queue's batch; `failed` are positions in it, rising from 0.
+/// What a reply says of a queue's batch. `failed` are positions in the batch, counted from 0 and rising; the other messages
+/// succeeded.
 #[derive(Drop, Debug)]
 pub enum QueueReading {
     NotRun,

@@ -1,4 +1,4 @@
-//! Worked examples: whole histories that are legal, and what they come to; each is computed from the definitions.
+//! Worked examples: whole legal histories and their outcome. Each is computed from the definitions.
 ghost use Rattle.std.specs.Prelude.{◌≡◌, true, List};
 ghost use Rattle.esm_model.specs.declared.entry.Entry.{Entry};
 ghost use Rattle.esm_model.specs.Setting.{Setting};
@@ -12,15 +12,14 @@ ghost use Rattle.esm_model.specs.WorkedBatches.{OneRecord, BatchingWindow, Early
 ghost use Rattle.esm_model.specs.WorkedAnswers.{PartialFailure, ItemFailuresCounted, AnswerBodies, HostileBodies};
 ghost use Rattle.esm_model.specs.WorkedWindows.{TumblingWindows, SkippedFinalCallIsNotLegal, WindowRestart, StateSpans};
 
-/// A history that passes the tests over the shards, lanes and windows that occur in it is legal.
+/// A history is legal if it passes tests over the shards, lanes and windows that occur in it.
 pub fn legal_by_tests()
     ensures { (s : Setting) (h : List Entry) → is_legal s h ≡ true → Legal s h }
 {}
 
-/// Eight records of which the fifth fails are halved down to it in seven calls, or given up as a whole with one
-/// failure line; item failures halve a batch too, and a second run goes on from the fates that it finds. A batch
-/// that leaves out a record that fits may not begin, the later half of a halved batch may not go first, and no
-/// call goes beyond those allowed.
+/// Eight records of which the fifth fails are halved down to it in seven calls, or given up together with one failure line.
+/// Item failures halve a batch too. A second run continues from the fates that it finds. Refused are a batch that omits a
+/// record that fits, the later half of a halved batch before the first one, and a call beyond those allowed.
 pub fn splits()
     ensures bisect_eight { BisectEight }
     ensures exhaust_eight { ExhaustEight }
@@ -31,9 +30,8 @@ pub fn splits()
     ensures fourth_call { FourthCallIsNotLegal }
 {}
 
-/// A record that fails is called again after a delay, which doubles up to a minute, until its retries are spent; a
-/// call that was not run counts no try, and the tries that the journal tells of count. No call begins before the
-/// delay is over.
+/// A record that fails is called again after a delay, which doubles up to a minute, until its retries are used up. A call
+/// that was not run counts no try, and the tries in the journal count. No call begins before the delay is over.
 pub fn retries()
     ensures retry_delays { RetryDelays }
     ensures early_call { EarlyCallIsNotLegal }
@@ -42,21 +40,20 @@ pub fn retries()
     ensures tries_outlast { TriesOutlast }
 {}
 
-/// A record expires, with its failure line, where it is strictly older than the greatest age; it may then not be
-/// called.
+/// A record expires, with its failure line, once it is strictly older than the maximum age, and may then not be called.
 pub fn ages()
     ensures record_age { RecordAge }
     ensures late_call { LateCallIsNotLegal }
     ensures age_edge { AgeEdge }
 {}
 
-/// The calls of two lanes run side by side, and the checkpoint waits for the first record.
+/// The calls of two lanes overlap, and the checkpoint waits for the first record.
 pub fn lanes()
     ensures { TwoLanes }
 {}
 
-/// One record is one call with its whole event. A batch waits for its window, unless it is full or the input
-/// ended, and may not begin earlier. A record that does not pass the filter is never called.
+/// One record is one call with its whole event. A batch waits for its batching window, unless it is full or the input ended,
+/// and may not begin earlier. A record that does not pass the filter is never called.
 pub fn batches()
     ensures one_record { OneRecord }
     ensures batching_window { BatchingWindow }
@@ -64,8 +61,9 @@ pub fn batches()
     ensures filtered_data { FilteredData }
 {}
 
-/// Of an answer's item failures the least position counts, and what stands behind it counts one try. A body without
-/// item failures succeeds; one that reports no record of the batch, or is no list of item failures, fails.
+/// Of an answer's item failures the least position counts: what is before it succeeded, and the rest, from it on, counts one
+/// try. A body without item failures succeeds. One that reports no record of the batch, or is no list of item failures,
+/// fails.
 pub fn answers()
     ensures partial_failure { PartialFailure }
     ensures item_failures_counted { ItemFailuresCounted }
@@ -73,8 +71,8 @@ pub fn answers()
     ensures hostile_bodies { HostileBodies }
 {}
 
-/// A window's state goes from call to call and to its final call, which comes before the next window, also where
-/// the state is found by a second run; a state is the bytes of the member as the answer gives them.
+/// A window's state passes from call to call and to its final call, which comes before the next window, also where a second
+/// run finds the state in the journal. A state is the bytes of the member as the answer has them.
 pub fn windows()
     ensures tumbling_windows { TumblingWindows }
     ensures skipped_final_call { SkippedFinalCallIsNotLegal }

@@ -12,16 +12,17 @@ use esm_model::{BookError, Event, Job, Next, OutOfMemory, Reply};
 use std::alloc::Global;
 use std::sync::Wait;
 
-/// The longest pause, in milliseconds; then it asks again. This product's own.
+/// The longest pause, in milliseconds; after it the book is asked again. This product's own.
 const MAX_PAUSE: u64 = 1_000;
 
-// Pauses until the moment, in milliseconds, but for `MAX_PAUSE` at most.
+// Pauses until the moment `until`, but for at most `MAX_PAUSE` milliseconds.
 fn pause<C: Clock>(clock: &C, until: u64) {
     let latest = clock.now().saturating_add(MAX_PAUSE);
     clock.pause(until.min(latest));
 }
 
-// Calls the function with the event, whose text is written into `text`, in the memory of the one before.
+// Calls the function with the text of the event. Unless it stands already it is written into `text`, in the memory of the one
+// before.
 fn call_written<F: Caller>(
     alloc: Global,
     caller: &mut F,
@@ -33,11 +34,11 @@ fn call_written<F: Caller>(
         (record { name = name.now; event = F.sends event.now; reply = reply } ∷ [])) }
     ensures unlogged { OnErr result (F.log caller.new ≡ F.log caller.old) }
 {
-    write_event(alloc, text, event)?;
-    caller.call(alloc, name, text.as_slice())
+    let written = write_event(alloc, text, event)?;
+    caller.call(alloc, name, written)
 }
 
-// Makes the call that began, and tells its end; answers how the run ends, where the book is down.
+// Makes the call that began, and records its end. Returns how the run ends if the book is down.
 fn make_call<B: Serial, C: Clock, F: Caller>(
     alloc: Global,
     book: &mut B,
@@ -64,7 +65,7 @@ fn make_call<B: Serial, C: Clock, F: Caller>(
     }
 }
 
-// Asks what is next and does it; answers how the run ends, where nothing more is to be done.
+// Asks what is next and does it. Returns how the run ends if nothing more is to be done.
 fn step<B: Serial, C: Clock, F: Caller>(
     alloc: Global,
     book: &mut B,
@@ -96,9 +97,9 @@ fn step<B: Serial, C: Clock, F: Caller>(
     }
 }
 
-/// Asks, calls the function `name` and pauses, for `MAX_PAUSE` at most, until it is answered that nothing is left or that all calls
-/// allowed were made, or the book is down. Want of memory ends it at any point. The text of each event takes the memory of the one
-/// before.
+/// Asks the book, calls the function `name` and pauses, for at most `MAX_PAUSE`, until the book answers that nothing is left
+/// or that all calls allowed were made, or is down. `OutOfMemory` may end it at any point. The text of each event that is
+/// still to be written takes the memory of the one before.
 pub(crate) fn call_all<R: Wait, B: Serial, C: Clock, F: Caller>(
     rt: &R,
     alloc: Global,

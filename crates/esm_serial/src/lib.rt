@@ -1,5 +1,5 @@
-//! The run of any book that one caller calls for on one thread: its input is read first and whole, and then its calls are made one
-//! after the other, until nothing is left, all calls allowed were made, or the book is down.
+//! The run, on one thread, of any book whose calls one caller makes: reads its input to the end, and then makes its calls
+//! one after the other, until nothing is left, all calls allowed were made, or the book is down.
 #![tactic(auto)]
 
 mod calling;

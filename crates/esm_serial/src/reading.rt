@@ -1,4 +1,4 @@
-// The reading of a book's input, whole, before its first call.
+// Reads all of a book's input before its first call.
 ghost use Rattle.std.specs.Prelude.{◌≡◌, ◌≤◌, None, false, length, All, IfErr, OnOk, IsErrOf, IsSome};
 ghost use Rattle.esm_model.specs.declared.limits.TheConstants.{MAX_BATCH};
 ghost use Rattle.esm_model.specs.Items.{IsValidItem};
@@ -16,7 +16,7 @@ use std::alloc::Global;
 use std::sync::Wait;
 use std::thread::Threads;
 
-/// Why nothing more is read, though there may be more.
+/// Why reading stops, though there may be more to read.
 #[derive(Clone, Copy, Debug, PartialEq, Eq)]
 pub enum Stop {
     /// The book is down.
@@ -35,7 +35,7 @@ impl From<OutOfMemory> for Stop {
     }
 }
 
-/// Why reading stops where a list was refused so.
+/// Returns why reading stops if a list was refused for this reason.
 fn stopped(came: Result<(), CameError>) -> Result<(), Stop>
     ensures { result ≡ stop_of came }
 {
@@ -46,7 +46,7 @@ fn stopped(came: Result<(), CameError>) -> Result<(), Stop>
     }
 }
 
-/// Items come to the book.
+/// Brings the items to the book.
 fn note<B: Serial, C: Clock>(
     alloc: Global,
     book: &mut B,
@@ -70,7 +70,7 @@ fn note<B: Serial, C: Clock>(
     stopped(came)
 }
 
-/// Hands the items on, in lists of at most 10,000.
+/// Passes the items on, in lists of at most 10,000.
 fn hand_on<B: Serial, C: Clock>(
     alloc: Global,
     book: &mut B,
@@ -99,14 +99,14 @@ fn hand_on<B: Serial, C: Clock>(
     note(alloc, book, rest, clock)
 }
 
-/// Tells what holds of every input.
+/// States what holds of every input. Does nothing.
 fn stands<S: Source>(input: &Input<S>)
     ensures { input.now.failed ≡ false → IsInput S.faults S.left input.now }
 {
     let _end = input.end();
 }
 
-/// Reads the input to its end and hands its items on, piece by piece. It waits for each piece.
+/// Reads the input to its end and passes its items on, piece by piece. It waits for each piece.
 pub(crate) fn read_all<R: Threads + Wait + Sync, B: Serial, S: Source, C: Clock>(
     rt: &R,
     alloc: Global,
@@ -120,7 +120,7 @@ pub(crate) fn read_all<R: Threads + Wait + Sync, B: Serial, S: Source, C: Clock>
     requires came { AreCome (B.items book.old) (handed input.old) }
     requires kind { input.old.kind ≡ B.kind book.old }
     requires good { input.old.failed ≡ false }
-    // What came.
+    // What arrived.
     ensures brings { Brings B.Serial C.gave book.old book.new }
     ensures came { OnOk result (AreCome (B.items book.new) (handed input.new)) }
     ensures end { OnOk result (IsSome input.new.end) }

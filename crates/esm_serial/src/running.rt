@@ -23,7 +23,7 @@ pub enum RunEnd {
     Finished,
     /// All calls allowed were made, and something is left.
     Spent,
-    /// The book is down; it tells why.
+    /// The book is down, and says why.
     Down,
 }
 
@@ -34,7 +34,7 @@ pub struct Ran<B, S: Source> {
     pub input: Input<S>,
 }
 
-/// The input ended, now.
+/// Notes that the input ended, at the moment of the clock.
 fn note_end<B: Serial, C: Clock>(book: &mut B, clock: &C)
     requires going { B.going book.old }
     ensures since { EndsReading B.Serial C.gave book.old book.new }
@@ -49,10 +49,11 @@ fn note_end<B: Serial, C: Clock>(book: &mut B, clock: &C)
     book.end_input(moment);
 }
 
-/// Reads the input whole and hands its items to the book, in lists of at most 10,000; notes its end; and then asks and calls, one
-/// call after the other, and pauses, for a second at most, until nothing is left, all calls allowed were made, or the book is down.
-/// Where the book is down once the input was read, nothing is asked. `name` is the function's. Want of memory ends the run at any
-/// point; where it comes while the input is read, no end of the input is noted, and no call was made.
+/// Reads all of the input, passes its items to the book in lists of at most 10,000, and notes its end. Then it asks the
+/// book, calls, one call after the other, and pauses, for at most a second, until nothing is left, all calls allowed were
+/// made, or the book is down. If the book went down while the input was read, nothing is asked. `name` is the function's.
+/// `OutOfMemory` may end the run at any point; if memory runs out while the input is read, no end of the input is noted, and
+/// no call was made.
 pub fn run_serial<R: Threads + Wait + Sync, B: Serial, S: Source, C: Clock, F: Caller>(
     rt: &R,
     alloc: Global,
@@ -72,7 +73,7 @@ pub fn run_serial<R: Threads + Wait + Sync, B: Serial, S: Source, C: Clock, F: C
     ensures rests { OnOk result.end (B.rests result.book) }
     ensures stopped { OnErr result.end (HasCalled B.Serial C.gave F.sends book result.book (F.log caller.old) (F.log caller.new)
         ⊎ HasOneMore B.Serial C.gave F.sends book result.book (F.log caller.old) (F.log caller.new)) }
-    // How it ended, and what came of the input.
+    // How it ended, and what became of the input.
     ensures ended { IfOk result.end (EndsSo B.Serial result.book) }
     ensures came { IfOk result.end (CameSo B.Serial C.gave book result.book result.input (F.log caller.old) (F.log caller.new)) }
     ensures changed { (change : Change) → B.change result.book ≡ Some change → IsChangeOf B.Serial C.gave F.sends book result.book result.input change }

@@ -1,5 +1,5 @@
-// The trait of a book that is read first and then called for by one caller: items come and their input ends, and then the caller
-// asks what is next and ends its call, one after the other.
+// The trait of a book that is read first and then called for by one caller: items arrive and their input ends; then the
+// caller asks what is next and ends its call, again and again.
 ghost use Rattle.std.specs.Prelude.{◌≡◌, ◌⊎◌, ◌≤◌, ℕ, List, [], None, Ok, true, false, Bool, Option, length, All, IfOk, IfErr, OnOk, OnErr, IsErrOf};
 ghost use Rattle.esm_model.specs.declared.book.BookError.TheVariants as why;
 ghost use Rattle.esm_model.specs.declared.book.CameError.TheVariants as refusal;
@@ -18,13 +18,13 @@ ghost use Rattle.esm_serial.specs.Adding.{AddsNoCall, AddsCall, IsAnswered};
 use esm_model::{BookError, CameError, Item, Job, Next, Reply};
 use std::alloc::Global;
 
-/// A book whose items all come before its first call, and whose calls one caller makes, one after the other.
+/// A book to which all items come before its first call, and whose calls one caller makes, one after the other.
 pub trait Serial {
-    // from the first the book came to the other, and these calls ended meanwhile, oldest first, as a caller logs them that sends
-    // these bytes for an event; the clock gave each moment that was noted
+    // the book went from the first to the second, and these calls ended meanwhile (oldest first), as a caller logs them that
+    // sends these bytes for an event; the clock gave each moment that was noted
     ghost since: { (ℕ → Bool) → (List ℕ → List ℕ) → Self → Self → List Called → Type 0 };
 
-    // it is as it was opened: no item came, and no call began
+    // it is as it was opened: no item arrived, and no call began
     ghost fresh: { Self → Type 0 };
 
     // more items may come
@@ -36,7 +36,7 @@ pub trait Serial {
     // no call runs
     ghost rests: { Self → Type 0 };
 
-    // the job is of its call that runs
+    // this is the job of the call that runs
     ghost runs: { Self → Job → Type 0 };
 
     // its input ended, and nothing is left
@@ -45,25 +45,25 @@ pub trait Serial {
     // all calls allowed were made, and something is left
     ghost spent: { Self → Type 0 };
 
-    // whether it is down: no call of it does any more work
+    // whether it is down: no method of it does any more work
     ghost down: { Self → Bool };
 
-    // the change that it was told, where it is down for one
+    // the change for which it is down, if it is down for one
     ghost change: { Self → Option Change };
 
-    // what the lines of its input are
+    // the kind of lines of its input
     ghost kind: { Self → LineKind };
 
     // the function of its mapping
     ghost function: { Self → List ℕ };
 
-    // the items of the shard that came, in their order; a queue is shard 0
+    // the items of the shard that arrived, in their order; a queue is shard 0
     ghost items: { Self → ℕ → List Item };
 
-    // an item of a list that is to come differs from what was kept of it, and the first of them differs so
+    // an item of a list that is to come differs from what the journal kept of it, and this is the first such change
     ghost differs: { Self → List Item → Change → Type 0 };
 
-    /// What holds of a book as it was opened. Does nothing.
+    /// States what holds of a book as it was opened. Does nothing.
     fn begins(&self)
         requires fresh { fresh self.now }
         ensures since { (gave : ℕ → Bool) (sends : List ℕ → List ℕ) → since gave sends self.now self.now [] }
@@ -72,8 +72,9 @@ pub trait Serial {
         ensures up { down self.now ≡ false }
         ensures change { change self.now ≡ None };
 
-    /// Items come, at the moment, in milliseconds. A list of which an item differs from what was kept of it is refused whole.
-    /// After an error other than want of memory the book is down, and the first of the items may have come.
+    /// Takes items that arrived at the moment, in milliseconds. If an item of the list differs from what the journal kept of
+    /// it, the whole list is refused. After an error other than `OutOfMemory` the book is down; a prefix of the items may
+    /// have been taken.
     fn bring(&mut self, alloc: Global, list: Vec<Item>, moment: u64) -> Result<(), CameError>
         requires going { going self.old }
         requires few { length list.items ≤ MAX_BATCH }
@@ -86,14 +87,14 @@ pub trait Serial {
         ensures some { SomeCome (items self.old) (items self.new) list.items }
         ensures kind { kind self.new ≡ kind self.old }
         ensures function { function self.new ≡ function self.old }
-        // When an error comes, and what it tells.
+        // When an error is returned, and what it says.
         ensures up { OnOk result (down self.new ≡ false) }
         ensures down { IfErr result (λ e. (e ≡ refusal.OutOfMemory) ⊎ (down self.new ≡ true)) }
         ensures changed { (change : Change) → IsErrOf result (refusal.StreamChanged change) → differs self.old list.items change }
         ensures refused { (change : Change) → IsErrOf result (refusal.StreamChanged change) → StayAsTheyAre (items self.old) (items self.new) }
         ensures tells { change self.new ≡ change_told (change self.old) result };
 
-    /// The input ended, at the moment, in milliseconds; that is noted where the book is not down. Takes no memory.
+    /// Notes that the input ended at the moment, in milliseconds, unless the book is down. Takes no memory.
     fn end_input(&mut self, moment: u64)
         requires going { going self.old }
         ensures since { AddsNoCall since moment self.old self.new }
@@ -104,8 +105,8 @@ pub trait Serial {
         ensures change { change self.new ≡ change self.old }
         ensures function { function self.new ≡ function self.old };
 
-    /// What the caller does next at the moment, in milliseconds; a call that is answered has begun. After an error other than
-    /// want of memory the book is down.
+    /// Returns what the caller does next at the moment, in milliseconds; a call that is returned has begun. After an error
+    /// other than `OutOfMemory` the book is down.
     fn ask(&mut self, alloc: Global, moment: u64) -> Result<Next, BookError>
         requires rests { rests self.old }
         // What is added.
@@ -114,7 +115,7 @@ pub trait Serial {
         ensures change { change self.new ≡ change self.old }
         ensures function { function self.new ≡ function self.old }
         ensures shut { shut self.old → shut self.new }
-        // What is answered.
+        // What is returned.
         ensures answer { IfOk result (IsAnswered rests runs self.new) }
         ensures finished { result ≡ Ok next.Finished → finished self.new }
         ensures spent { result ≡ Ok next.Spent → spent self.new }
@@ -122,8 +123,8 @@ pub trait Serial {
         ensures up { OnOk result (down self.new ≡ false) }
         ensures down { IfErr result (λ e. (e ≡ why.OutOfMemory) ⊎ (down self.new ≡ true)) };
 
-    /// The call that runs came to this reply at the moment, in milliseconds. After an error other than want of memory the book is
-    /// down, and the end is noted all the same.
+    /// Notes that the call that runs ended with this reply at the moment, in milliseconds. After an error other than
+    /// `OutOfMemory` the book is down, but the end is noted.
     fn end_call(
         &mut self,
         alloc: Global,
@@ -139,7 +140,7 @@ pub trait Serial {
         ensures change { change self.new ≡ change self.old }
         ensures function { function self.new ≡ function self.old }
         ensures shut { shut self.old → shut self.new }
-        // When an error comes, and what it leaves.
+        // When an error is returned, and what it leaves.
         ensures no_end { IsErrOf result why.OutOfMemory → AddsNoCall since moment self.old self.new }
         ensures runs { IsErrOf result why.OutOfMemory → runs self.new job }
         ensures down { IfErr result (λ e. (e ≡ why.OutOfMemory) ⊎ (down self.new ≡ true)) };

@@ -1,4 +1,4 @@
-// What a run does with each answer of a book.
+// Tests: what a run does with each answer of a book.
 use crate::running::{Ran, RunEnd, run_serial};
 use crate::serial::Serial;
 use esm_input::Input;
@@ -24,7 +24,7 @@ enum Answer {
     NoMemory,
 }
 
-/// A book that takes no item, and answers these, the last one first.
+/// A book that takes no item, and gives these answers, the last one first.
 #[derive(Drop)]
 struct Scripted {
     answers: Vec<Answer>,
@@ -113,7 +113,7 @@ impl Serial for Scripted {
     }
 }
 
-/// How the run ended, how many calls ended and how many answers were left, and the moment of the clock, which began at 0.
+/// How the run ended, how many calls ended, how many answers were left, and the moment of the clock, which began at 0.
 #[derive(Clone, Copy)]
 struct Ended {
     end: Option<RunEnd>,

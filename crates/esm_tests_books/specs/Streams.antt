@@ -1,4 +1,4 @@
--- What the calls of the tests keep of a stream's book. Only this crate's tests cite this.
+-- What the helpers of the tests know of a stream's book. Only this crate's tests cite this.
 use Rattle.std.specs.Prelude.{◌≡◌, ◌≢◌, ℕ, List, Some, false}
 use Rattle.esm_model.specs.declared.book.Job.{Job}
 use Rattle.esm_model.specs.declared.config.Config.{Config}
@@ -14,17 +14,17 @@ use Rattle.esm_stream_core.specs.Calls.{IsResting, IsRunningJob}
 abbrev pub lanes_mapping : Config
 lanes_mapping = record plain_mapping { factor = 2; retries = Some 1 }
 
--- the input goes on, and no call runs
+-- the input has not ended, and no call is running
 pub record IsOpen (h : List Entry) : Type 0 where
   pub going : is_shut h ≡ false
   pub quiet : (lane : LaneId) → is_running h lane ≡ false
 
--- the call of the job is the batcher's, and runs
+-- the job's call is the running one of the batcher
 pub record Runs (v : CoreView) (batcher : ℕ) (job : Job) : Type 0 where
   pub lane : lane_of_batcher v.setting v.past batcher ≡ Some job.lane
   pub job_is : IsRunningJob v.past job
 
--- what one batcher did leaves the others' calls as they were, and does not end the input
+-- what one batcher did leaves the calls of the others as they were, and does not end the input
 pub record KeepsOthers (batcher : ℕ) (before after : CoreView) : Type 0 where
   pub going : is_shut after.past ≡ is_shut before.past
   pub rest : (other : ℕ) → other ≢ batcher → IsResting before other → IsResting after other

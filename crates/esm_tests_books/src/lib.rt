@@ -1,5 +1,5 @@
-//! Worked examples over the durable books: messages and records come, batches are called, and the journal keeps what became
-//! of them over a restart. The crate has nothing but these tests, so that each crate that they call is proved once.
+//! Worked examples over the durable books: messages and records arrive, batches are called, and the journal keeps their
+//! fates over a restart. The crate has only these tests, so each crate that they call is proved once.
 #![tactic(auto)]
 
 #[cfg(test)]

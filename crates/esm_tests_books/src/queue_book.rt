@@ -1,4 +1,4 @@
-// The book of a queue over disks in memory.
+// Tests of a queue's book over disks in memory.
 ghost use Rattle.std.specs.Prelude.{◌≡◌, ◌+◌, ◌<◌, true, false, IfOk, OnOk};
 ghost use Rattle.esm_model.specs.declared.config.Kind.TheVariants.{Standard};
 ghost use Rattle.esm_model.specs.Entries.{is_running, is_shut};
@@ -25,7 +25,7 @@ fn mapping(alloc: Global) -> Result<Config, AllocError>
     Ok(config)
 }
 
-/// The same, whose function reports the messages that failed.
+/// The same mapping, with a function that reports the messages that failed.
 fn reporting_mapping(alloc: Global) -> Result<Config, AllocError>
     ensures { IfOk result IsQueue }
 {
@@ -46,7 +46,7 @@ fn opened(alloc: Global, config: Config, pair: Pair<MemDisk>) -> Result<QueueBoo
     }
 }
 
-/// The message of a standard queue with this id, which was sent at 0.
+/// The message of a standard queue with this id, which was sent at moment 0.
 fn message(alloc: Global, id: &str) -> Result<Message, AllocError>
     requires { is_message_id id.now ≡ true }
     ensures { IfOk result (IsValidMessage Standard) }
@@ -61,7 +61,7 @@ fn message(alloc: Global, id: &str) -> Result<Message, AllocError>
     })
 }
 
-/// One message comes, after so many.
+/// Brings one message, after `before` others.
 fn bring(
     alloc: Global,
     book: &mut QueueBook<MemDisk>,
@@ -84,7 +84,7 @@ fn bring(
     book.came(alloc, items, moment)
 }
 
-/// Batcher 0 is to call, and the call begins.
+/// Has batcher 0 begin a call.
 fn begin(alloc: Global, book: &mut QueueBook<MemDisk>, moment: u64) -> Result<Job, Fail>
     requires { is_running book.old.core.past (queue_lane 0) ≡ false }
     ensures runs { IfOk result (Calls book.new.core.past) }
@@ -96,7 +96,7 @@ fn begin(alloc: Global, book: &mut QueueBook<MemDisk>, moment: u64) -> Result<Jo
     Ok(job)
 }
 
-/// The call is answered with status 200 and this body: how many messages are deleted.
+/// Ends the call with status 200 and this body. Returns how many messages are deleted.
 fn end(
     alloc: Global,
     book: &mut QueueBook<MemDisk>,
@@ -116,7 +116,7 @@ fn end(
     Ok(book.done(alloc, job, reply, moment)?)
 }
 
-/// Until when batcher 0, which has no call, pauses.
+/// Until when batcher 0, which has no running call, pauses.
 fn pause(alloc: Global, book: &mut QueueBook<MemDisk>, moment: u64) -> Result<u64, Fail>
     requires { is_running book.old.core.past (queue_lane 0) ≡ false }
     ensures { OnOk result (is_running book.new.core.past (queue_lane 0) ≡ false) }
@@ -127,7 +127,7 @@ fn pause(alloc: Global, book: &mut QueueBook<MemDisk>, moment: u64) -> Result<u6
     Ok(until)
 }
 
-/// The input ends.
+/// Ends the input.
 fn shut(book: &mut QueueBook<MemDisk>, moment: u64) -> Result<(), BookError>
     requires { Rests book.old.core.past }
     ensures { OnOk result (is_running book.new.core.past (queue_lane 0) ≡ false) }
@@ -148,9 +148,9 @@ fn finishes(alloc: Global, book: &mut QueueBook<MemDisk>, moment: u64) -> Result
 
 /// The text of the call's event.
 fn event_text(alloc: Global, job: &Job) -> Option<Vec<u8>> {
-    let mut text = Vec::new(alloc);
-    match write_event(alloc, &mut text, &job.event) {
-        Ok(()) => Some(text),
+    let mut room = Vec::new(alloc);
+    match write_event(alloc, &mut room, &job.event) {
+        Ok(text) => Vec::from_slice(alloc, text).ok(),
         Err(_) => None,
     }
 }
@@ -159,7 +159,7 @@ fn event_text(alloc: Global, job: &Job) -> Option<Vec<u8>> {
 const SHOWN_AGAIN: &str =
     r#"{"Records":[{"messageId":"b","receiptHandle":"RH-1-2","body":"x","attributes":{"ApproximateReceiveCount":"2","SentTimestamp":"0","ApproximateFirstReceiveTimestamp":"0"},"messageAttributes":{},"md5OfBody":"9dd4e461268c8034f5c8564e155c67a6","eventSource":"aws:sqs","eventSourceARN":"arn:aws:sqs:us-east-1:123456789012:q","awsRegion":"us-east-1"}]}"#;
 
-/// Of three messages the answer reports one: it is hidden until its visibility timeout is over, and is then called again.
+/// The answer reports one of three messages: it is hidden until its visibility timeout is over, and is then called again.
 #[test]
 fn queue_item_failures(rt: HostRuntime) -> Result<(), Fail> {
     let alloc = rt.alloc();

@@ -1,4 +1,4 @@
-// The book of a replay opens over disks in memory, or tells why not.
+// Tests of opening a replay's book over disks in memory, and of the reasons why it does not open.
 ghost use Rattle.std.specs.Prelude.{◌≡◌, false, IfOk};
 
 use crate::stream_lanes::mapping;
@@ -38,7 +38,7 @@ fn refusal(alloc: Global, pair: Pair<MemDisk>, line: &str) -> Result<Option<Repl
     }
 }
 
-/// A payload that no book could have written is told before a line that names no records.
+/// A bad payload is reported before a line that names no records.
 #[test]
 fn replay_opens(rt: HostRuntime) -> Result<(), Fail> {
     let alloc = rt.alloc();

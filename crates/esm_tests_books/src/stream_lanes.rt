@@ -1,4 +1,4 @@
-// Two lanes of a shard, whose calls run at the same time.
+// A test of two lanes of a shard, with calls that overlap.
 ghost use Rattle.std.specs.Prelude.{◌≡◌, ℕ, ◌≤◌, length, true, false, IfOk, OnOk};
 ghost use Rattle.std.specs.List.{All};
 ghost use Rattle.esm_model.specs.Entries.{is_shut};
@@ -39,7 +39,7 @@ fn opened(alloc: Global) -> Result<Lanes, Fail>
     }
 }
 
-/// A record of the first shard with this sequence number and key, which arrived at 0.
+/// A record of the first shard with this sequence number and key, which arrived at moment 0.
 fn item(alloc: Global, seq: &str, key: &str) -> Result<Record, Fail>
     requires { is_between 1 MAX_KEY (char_count key.now) ≡ true }
     ensures { IfOk result IsValidRecord }
@@ -58,7 +58,7 @@ fn items(alloc: Global) -> Result<Vec<Record>, Fail>
     Ok(items)
 }
 
-/// Records come.
+/// Brings the records.
 fn bring(alloc: Global, book: &mut Lanes, items: Vec<Record>, moment: u64) -> Result<(), Fail>
     requires no_call { IsOpen book.old.core.past }
     requires few { length items.items ≤ MAX_BATCH }
@@ -68,14 +68,14 @@ fn bring(alloc: Global, book: &mut Lanes, items: Vec<Record>, moment: u64) -> Re
     Ok(book.came(alloc, items, moment)?)
 }
 
-/// A call that runs, and whose it is.
+/// A running call, and its batcher.
 #[derive(Drop)]
 struct Call {
     batcher: u32,
     job: Job,
 }
 
-/// The batcher is to call, and the call begins.
+/// Has the batcher begin a call.
 fn begin(alloc: Global, book: &mut Lanes, batcher: u32, moment: u64) -> Result<Call, Fail>
     requires { IsResting book.old.core batcher }
     ensures mine { IfOk result (λ call. call.batcher ≡ batcher) }
@@ -88,7 +88,7 @@ fn begin(alloc: Global, book: &mut Lanes, batcher: u32, moment: u64) -> Result<C
     Ok(Call { batcher, job })
 }
 
-/// The call is answered with status 200 and no body, as a function error or not: how many records get a fate.
+/// Ends the call with status 200 and no body, with or without the function error. Returns how many records get a fate.
 fn end(alloc: Global, book: &mut Lanes, call: Call, error: bool, moment: u64) -> Result<u32, Fail>
     requires { Runs book.old.core call.batcher call.job }
     ensures rests { OnOk result (IsResting book.new.core call.batcher) }
@@ -114,7 +114,7 @@ fn pause(alloc: Global, book: &mut Lanes, batcher: u32, moment: u64) -> Result<u
     Ok(until)
 }
 
-/// The input ends.
+/// Ends the input.
 fn shut(book: &mut Lanes, moment: u64) -> Result<(), BookError>
     requires { is_shut book.old.core.past ≡ false }
     ensures { OnOk result ((batcher : ℕ) → IsResting book.old.core batcher → IsResting book.new.core batcher) }
@@ -123,7 +123,7 @@ fn shut(book: &mut Lanes, moment: u64) -> Result<(), BookError>
     Ok(())
 }
 
-/// The batcher finishes.
+/// Has the batcher finish.
 fn finish(alloc: Global, book: &mut Lanes, batcher: u32, moment: u64) -> Result<(), Fail>
     requires { IsResting book.old.core batcher }
     ensures { OnOk result (KeepsOthers batcher book.old.core book.new.core) }
@@ -142,7 +142,7 @@ fn calls(history: &[Entry]) -> usize {
         .count()
 }
 
-/// What the journal has: the second record succeeded at 0, the first was tried at 0 and given up at 250.
+/// What the journal has: the second record succeeded at 0; the first was tried at 0 and given up at 250.
 const PAYLOADS: [&[u8]; 3] = [
     &[
         1, 0, 0, 0, 0, 0, 0, 0, 0, 1, 0, 0, 0, 0, 0, 0, 0, 0, 0, 0, 0, 0, 1, 0, 0, 0, 1, 1, b'2',
@@ -156,8 +156,8 @@ const PAYLOADS: [&[u8]; 3] = [
     ],
 ];
 
-/// Record 1 is of lane 1, and record 2 of lane 0. Both calls run at the same time. Record 2 succeeds; record 1 fails, is
-/// called again after 250 milliseconds, fails again and is given up. The checkpoint waits for record 1.
+/// Record 1 is in lane 1, and record 2 in lane 0. Both calls are running at the same time. Record 2 succeeds; record 1
+/// fails, is called again after 250 milliseconds, fails again and is given up. The checkpoint waits for record 1.
 #[test]
 fn two_lanes(rt: HostRuntime) -> Result<(), Fail> {
     let alloc = rt.alloc();

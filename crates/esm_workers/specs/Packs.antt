@@ -1,4 +1,4 @@
--- Hands, as they are put together and taken apart. Only this crate's proofs cite this.
+-- Hands, as they are assembled and taken apart. Only this crate's proofs cite this.
 use Rattle.std.specs.Prelude.{List, [], ◌∷◌}
 use Rattle.esm_turn.specs.Seats.{SeatView}
 use Rattle.esm_workers.specs.declared.hand.Hand.{Hand}

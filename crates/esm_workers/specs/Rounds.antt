@@ -13,12 +13,12 @@ use Rattle.esm_model.specs.Batching.{Answers}
 use Rattle.esm_workers.specs.declared.calling.Left.{Left}
 use Rattle.esm_workers.specs.declared.calling.Left.TheVariants.{Call, Gave, Idle}
 
--- wherever the log had come to old by these calls, P holds of what it was first
+-- P holds of the log as it was first, from which it grew to `old` by these calls
 abbrev pub GoesOnFrom : List Called → Option (List Called) → (Option (List Called) → Type 0) → Type 0
 GoesOnFrom calls old P = (first : Option (List Called)) → Grows first old calls → P first
 
--- what the batcher k was answered is so of this history and this mark; after an error it rests, and but for want of memory the
--- book is down
+-- the answer for batcher k holds of this history and this mark; after an error no call of the batcher runs, and unless
+-- memory ran out the book is down
 pub record IsAnswer (rests : Setup → List Told → ℕ → Type 0) (runs : Setup → List Told → ℕ → Job → Type 0) (finished : Setup → List Told → ℕ → Type 0) (spent : Setup → List Told → Type 0) (setup : Setup) (k : ℕ) (h : List Told) (mark : Bool) (answer : Result Next BookError) : Type 0 where
   pub knows : IfOk answer (Answers rests runs setup h k)
   pub at_end : IfOk answer (λ a. a ≡ next.Finished → finished setup h k)
@@ -26,12 +26,12 @@ pub record IsAnswer (rests : Setup → List Told → ℕ → Type 0) (runs : Set
   pub waits : OnErr answer (rests setup h k)
   pub down : IfErr answer (λ e. (e ≡ OutOfMemory) ⊎ (mark ≡ true))
 
--- nothing is to be done after the answer
+-- nothing is left to do after the answer
 abbrev pub StopsWork : Result Next BookError → Type 0
 StopsWork (Ok a) = (a ≡ next.Finished) ⊎ (a ≡ next.Spent)
 StopsWork (Err e) = e ≢ OutOfMemory
 
--- the answer after which this is left
+-- the answer that leaves this to do
 abbrev pub answer_of : Left → Next
 answer_of (Call job) = next.Call job
 answer_of (Gave count) = next.Gave count

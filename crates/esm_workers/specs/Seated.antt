@@ -6,8 +6,8 @@ use Rattle.esm_model.specs.Kept.{entries_of, IsLegal}
 use Rattle.esm_model.specs.GoingOn.{OwnGiven}
 use Rattle.esm_turn.specs.Seats.{TurnView, SeatView, IsFreeSeat}
 
--- The seat n of the turn does not have the value. What it has seen is legal and holds all entries that it added itself,
--- and each of these has a moment that was given, or that of the entry before it where that is later.
+-- Seat n of the turn does not hold the value. What it has seen is legal and has all entries that it added itself, and each
+-- of these has a moment that the clock gave, or that of the entry before if that is later.
 pub record IsSeated (author : Setup → List Told → Told → ℕ) (may_follow : Setup → List Told → Told → Type 0) (gave : ℕ → Bool) (t : TurnView) (n : ℕ) (s : SeatView) : Type 0 where
   pub free : IsFreeSeat t n s
   pub whole : s.mine ≡ entries_of (author t.setup) n s.seen

@@ -9,8 +9,8 @@ use Rattle.esm_model.specs.declared.setup.Told.{Told}
 use Rattle.esm_model.specs.GoingOn.{OthersFollow}
 use Rattle.esm_workers.specs.Working.{Outside, HasLogged}
 
--- What a reader did, told of what its seat has seen: the shared history goes on from that by the entries of others alone.
--- A mark that it has seen is that of the book, and the change that it saw last is the book's.
+-- What a reader did, by what its seat has seen: after that, the shared history has only entries of others. If it has seen
+-- the mark, the book has it, and the change that it saw last is the book's.
 pub record WasRead (author : Setup → List Told → Told → ℕ) (may_follow : Setup → List Told → Told → Type 0) (read : List Told → Bool → Option Change → Bool → Type 0) (setup : Setup) (h : List Told) (mark : Bool) (change : Option Change) (short : Bool) : Type 0 where
   pub seen : List Told
   pub rest : List Told
@@ -22,8 +22,8 @@ pub record WasRead (author : Setup → List Told → Told → ℕ) (may_follow :
   pub long : short ≡ false → was_short ≡ false
   pub did : read seen seen_mark change was_short
 
--- What batchers with these callers did: so many of them had a thread. Where no hand was short, none runs a call any more,
--- and each log grew by the calls that the shared history tells of.
+-- What batchers with these callers did: only the first `batchers` made calls. Unless memory ran out for one, no call runs
+-- any more, and each log grew by the calls that the shared history has.
 pub record HaveCalled {F : Type 0} (calls : Setup → (List ℕ → List ℕ) → List Told → ℕ → List Called) (rests : Setup → List Told → ℕ → Type 0) (runs : Setup → List Told → ℕ → Job → Type 0) (o : Outside F) (setup : Setup) (h : List Told) (short : Bool) (batchers : ℕ) (old new : List F) : Type 0 where
   pub as_many : length new ≡ length old
   pub rest : short ≡ false → (k : ℕ) → rests setup h k

@@ -19,14 +19,14 @@ use std::alloc::Global;
 use std::sync::Wait;
 use std::thread::Threads;
 
-// What the batchers leave, and whether want of memory ended the work of one of them.
+// What the batchers leave, and whether memory ran out for one of them.
 pub(crate) struct Behind<T, F> {
     pub(crate) book: T,
     pub(crate) callers: Vec<F>,
     pub(crate) short: bool,
 }
 
-// No batcher begins.
+// No batcher begins: all comes back as it was.
 fn none_begins<T: Pooled, C: Clock, F: Caller>(
     book: T,
     callers: Vec<F>,
@@ -56,7 +56,7 @@ fn none_begins<T: Pooled, C: Clock, F: Caller>(
     }
 }
 
-// So many batchers work at this turn over the book, which is closed then.
+// Has the first `batchers` batchers work at this turn over the book, and then closes the turn.
 fn call_at<R: Threads + Wait + Sync, T: Pooled + Send, C: Clock + Sync, F: Caller + Send>(
     rt: &R,
     alloc: Global,
@@ -99,8 +99,8 @@ fn call_at<R: Threads + Wait + Sync, T: Pooled + Send, C: Clock + Sync, F: Calle
     }
 }
 
-// So many batchers work over the book, each in a thread of its own, unless it is down. Where there is no memory for that,
-// none begins.
+// Has the first `batchers` batchers work over the book, each in a thread of its own, unless the book is down. If there is no
+// memory for the turn, none begins.
 pub(crate) fn call_behind<
     R: Threads + Wait + Sync,
     T: Pooled + Send,

@@ -22,20 +22,21 @@ use std::alloc::Global;
 use std::sync::Wait;
 
 /// The longest pause of a batcher, in milliseconds; then it asks again. This product's own.
-pub const MAX_PAUSE: u64 = 1_000;
+const MAX_PAUSE: u64 = 1_000;
 
-/// Its longest pause after a call, in milliseconds. Each pause in a row may be twice as long. This product's own.
+/// The longest first pause, in milliseconds, after a call or after records got a fate. Each further pause in a row may be twice
+/// as long. This product's own.
 const FIRST_PAUSE: u64 = 1;
 
-// What a batcher takes from one round to the next: the text of the event written last, whose memory the next one takes, and
-// for how many milliseconds it pauses at most.
+// What a batcher takes from one round to the next: the memory in which the text of an event is written, and how many
+// milliseconds it pauses at most.
 #[derive(Drop)]
 struct Carried {
     text: Vec<u8>,
-    patience: u64,
+    longest_pause: u64,
 }
 
-// What the batcher does next. The moment is read before the turn is taken.
+// Asks what the batcher does next. The moment is read before the turn is taken.
 fn ask<R: Wait, T: Pooled, C: Clock>(
     rt: &R,
     alloc: Global,
@@ -63,8 +64,8 @@ fn ask<R: Wait, T: Pooled, C: Clock>(
     next
 }
 
-// Ends the batcher's call with this reply, and asks what the batcher does next. Without the memory to note the end nothing is
-// noted or asked.
+// Ends the batcher's call with this reply, and asks what the batcher does next. If there is no memory to note the end,
+// nothing is noted or asked.
 fn end_and_ask<T: Pooled>(
     book: &mut T,
     alloc: Global,
@@ -91,7 +92,8 @@ fn end_and_ask<T: Pooled>(
     }
 }
 
-// The batcher's call came to this reply; answers what the batcher does next. The moment is read before the turn is taken.
+// Records at the turn that the batcher's call ended with this reply, and returns what the batcher does next. The moment is
+// read before the turn is taken.
 fn tell<R: Wait, T: Pooled, C: Clock>(
     rt: &R,
     alloc: Global,
@@ -108,12 +110,12 @@ fn tell<R: Wait, T: Pooled, C: Clock>(
     requires given { (m : ℕ) → C.gave m ≡ true → T.given m ≡ true }
     ensures seated { IsSeated T.author T.may_follow C.gave turn.now (batcher + 1) seat.new }
     ensures grows { IsPrefix seat.old.seen seat.new.seen }
-    // Where the end is noted.
+    // If the end is noted.
     ensures called { OnOk result ((sends : List ℕ → List ℕ) →
         T.calls turn.now.setup sends seat.new.seen batcher ≡
         T.calls turn.now.setup sends seat.old.seen batcher ++ call_of turn.now.setup sends job.event reply ∷ []) }
     ensures answer { IfOk result (IsAnswer T.rests T.runs T.finished T.spent turn.now.setup batcher seat.new.seen seat.new.mark) }
-    // Where it is not.
+    // If it is not.
     ensures no_end { OnErr result ((sends : List ℕ → List ℕ) →
         T.calls turn.now.setup sends seat.new.seen batcher ≡ T.calls turn.now.setup sends seat.old.seen batcher) }
     ensures runs { OnErr result (T.runs turn.now.setup seat.new.seen batcher job) }
@@ -128,8 +130,8 @@ fn tell<R: Wait, T: Pooled, C: Clock>(
     next
 }
 
-// Makes the call that began, with its event's text, which is written into `text`; tells its end, and answers what the batcher
-// does next.
+// Makes the call that began, with the text of its event, which is written into `text` unless it stands already. Then records
+// the end of the call, and returns what the batcher does next.
 fn make_call<R: Wait, T: Pooled, C: Clock, F: Caller>(
     rt: &R,
     alloc: Global,
@@ -156,30 +158,30 @@ fn make_call<R: Wait, T: Pooled, C: Clock, F: Caller>(
         (λ first. HasLogged (T.runs turn.now.setup seat.new.seen batcher) turn.now.setup F.sends
         (T.calls turn.now.setup F.sends seat.new.seen batcher) first (F.log caller.new))) }
 {
-    write_event(alloc, text, &job.event)?;
-    let reply = caller.call(alloc, name, text.as_slice())?;
+    let written = write_event(alloc, text, &job.event)?;
+    let reply = caller.call(alloc, name, written)?;
     tell(rt, alloc, turn, seat, clock, batcher, job, reply)
 }
 
-// Pauses until the moment, in milliseconds, but for as many at most as the batcher has patience, which is twice as long then,
-// up to `MAX_PAUSE`.
-fn pause<C: Clock>(clock: &C, until: u64, patience: &mut u64) {
-    let latest = clock.now().saturating_add(*patience);
+// Pauses until the moment, in milliseconds, but for at most `longest_pause` milliseconds, and then doubles that, up to
+// `MAX_PAUSE`.
+fn pause<C: Clock>(clock: &C, until: u64, longest_pause: &mut u64) {
+    let latest = clock.now().saturating_add(*longest_pause);
     clock.pause(until.min(latest));
-    *patience = patience.saturating_mul(2).min(MAX_PAUSE);
+    *longest_pause = longest_pause.saturating_mul(2).min(MAX_PAUSE);
 }
 
-// What is left for a batcher to do. An answer that ends its work leaves none of these.
+// What is left for a batcher to do. An answer that ends its work leaves nothing.
 enum Left {
-    // It makes this call.
+    // Make this call.
     Call(Job),
-    // It asks again: so many records got their fate.
+    // Ask again: this many records got their fate.
     Gave(u32),
-    // It pauses until this moment, in milliseconds, and asks again.
+    // Pause until this moment, in milliseconds, and ask again.
     Idle { until: u64 },
 }
 
-// What is left to do after the answer; nothing where it ends the batcher's work or the book is down.
+// Returns what is left to do after the answer; nothing if it ends the batcher's work or the book is down.
 fn left_after(answer: Result<Next, BookError>) -> Result<Option<Left>, OutOfMemory>
     ensures goes { IfOk result (λ left. IfSome left (λ l. answer ≡ Ok (answer_of l))) }
     ensures stops { IfOk result (λ left. IfNone left (StopsWork answer)) }
@@ -195,7 +197,7 @@ fn left_after(answer: Result<Next, BookError>) -> Result<Option<Left>, OutOfMemo
     }
 }
 
-// Does what is left for the batcher, and answers what it does next.
+// Does what is left for the batcher, and returns what it does next.
 fn round<R: Wait, T: Pooled, C: Clock, F: Caller>(
     rt: &R,
     alloc: Global,
@@ -224,25 +226,25 @@ fn round<R: Wait, T: Pooled, C: Clock, F: Caller>(
 {
     match left {
         Left::Call(job) => {
-            carried.patience = FIRST_PAUSE;
+            carried.longest_pause = FIRST_PAUSE;
             let text = &mut carried.text;
             make_call(
                 rt, alloc, turn, seat, caller, clock, name, batcher, job, text,
             )
         }
         Left::Gave(_) => {
-            carried.patience = FIRST_PAUSE;
+            carried.longest_pause = FIRST_PAUSE;
             Ok(ask(rt, alloc, turn, seat, clock, batcher))
         }
         Left::Idle { until } => {
-            pause(clock, until, &mut carried.patience);
+            pause(clock, until, &mut carried.longest_pause);
             let answer = ask(rt, alloc, turn, seat, clock, batcher);
             Ok(answer)
         }
     }
 }
 
-// What holds of a batcher whose seat has added nothing. Does nothing.
+// States what holds of a batcher whose seat has added nothing. Does nothing.
 fn begin<T: Pooled, C: Clock>(turn: &Turn<T>, seat: &Seat<T>, clock: &C, batcher: u32)
     requires seated { IsSeated T.author T.may_follow C.gave turn.now (batcher + 1) seat.now }
     requires unused { seat.now.mine ≡ [] }
@@ -253,10 +255,10 @@ fn begin<T: Pooled, C: Clock>(turn: &Turn<T>, seat: &Seat<T>, clock: &C, batcher
     T::stays();
 }
 
-/// Asks for the batcher, calls the function `name` and pauses, shortly at first, then twice as long each time, for `MAX_PAUSE`
-/// at most, until it is answered that nothing is left or that all calls allowed were made, or the book is down. Want of memory
-/// ends it at any point. The text of each event takes the memory of the one before, so the batcher holds as much as its longest
-/// event takes.
+/// Works for the batcher: asks the book, calls the function `name`, and pauses, shortly at first and then twice as long each
+/// time, for at most `MAX_PAUSE`. Ends when the book answers that nothing is left or that all calls allowed were made, or
+/// when it is down. `OutOfMemory` may end it at any point. The text of each event that is still to be written takes the
+/// memory of the one before, so the batcher holds as much as the longest of these takes.
 pub fn call_all<R: Wait, T: Pooled, C: Clock, F: Caller>(
     rt: &R,
     alloc: Global,
@@ -284,7 +286,7 @@ pub fn call_all<R: Wait, T: Pooled, C: Clock, F: Caller>(
     begin(turn, seat, clock, batcher);
     let mut carried = Carried {
         text: Vec::new(alloc),
-        patience: FIRST_PAUSE,
+        longest_pause: FIRST_PAUSE,
     };
     let mut answer = ask(rt, alloc, turn, seat, clock, batcher);
     for _ in rt.forever() {

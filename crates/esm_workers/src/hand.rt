@@ -5,7 +5,7 @@ use esm_turn::Seat;
 pub struct Hand<T, F> {
     pub seat: Seat<T>,
     pub caller: F,
-    /// Want of memory ended its work.
+    /// Whether memory ran out during its work.
     pub short: bool,
 }
 

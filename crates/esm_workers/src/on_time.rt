@@ -1,4 +1,4 @@
-// A book whose calls are made at moments that a clock gave alone.
+// A book whose calls are made only at moments that a clock gave.
 ghost use Rattle.std.specs.Prelude.{◌≡◌, ℕ, true};
 
 use esm_io::Clock;
@@ -7,13 +7,13 @@ use std::alloc::Global;
 use std::marker::{Model, PhantomData};
 use std::snapshot::Snapshot;
 
-/// A book that is called at moments alone that a clock of the kind `C` gave. It does as the book itself, and contracts see the
-/// book. Wherever it was handed on, the book that comes back by `into_book` is known to be timed: such a moment was given for
-/// each entry that it added, and for each that a device that failed kept from being added.
+/// A book that is called only at moments that a clock of the kind `C` gave. It does the same as the book itself, and
+/// contracts see that book. Through whichever threads it went, the book that `into_book` returns is known to be timed: the
+/// clock gave such a moment for each entry that it added, and for each entry that it could not add because a device failed.
 #[derive(Drop)]
 pub struct OnTime<B: Pooled, C: Clock> {
     book: B,
-    // it has no clock, so it moves to another thread wherever the book does
+    // it has no clock, so it may move to another thread whenever the book may
     clock: PhantomData<Snapshot<C>>,
 }
 
@@ -28,7 +28,7 @@ impl<B: Pooled, C: Clock> Model for OnTime<B, C> {
 }
 
 impl<B: Pooled, C: Clock> OnTime<B, C> {
-    /// This book, from now on called at moments alone that a clock of the kind gave.
+    /// Takes this book, which from now on is called only at moments that a clock of the kind gave.
     pub fn new(book: B) -> OnTime<B, C>
         requires given { (m : ℕ) → C.gave m ≡ true → B.given m ≡ true }
         requires timed { B.timed C.gave book }
@@ -40,7 +40,7 @@ impl<B: Pooled, C: Clock> OnTime<B, C> {
         }
     }
 
-    /// The book itself.
+    /// Returns the book itself.
     pub fn into_book(self) -> B
         ensures book { result ≡ self }
         ensures timed { B.timed C.gave result }

@@ -5,7 +5,7 @@ ghost use Rattle.esm_workers.specs.Packs.{seats_of, callers_of};
 use crate::hand::Hand;
 use esm_turn::Seat;
 
-// The seats behind the first and the callers move into hands, in order.
+// Moves the seats after the first, and the callers, into hands, in order. Returns the first seat.
 pub(crate) fn pack<T, F>(
     seats: &mut Vec<Seat<T>>,
     callers: &mut Vec<F>,
@@ -29,7 +29,7 @@ pub(crate) fn pack<T, F>(
     seats.pop().unwrap()
 }
 
-// The first seat, and the seats and callers of the hands, in order.
+// Moves the first seat, and the seats and callers of the hands, back into their vectors, in order.
 pub(crate) fn unpack<T, F>(
     first: Seat<T>,
     mut worked: Vec<Hand<T, F>>,

@@ -1,4 +1,4 @@
-// The trait of what reads an input and hands its items to a book, at the reader's seat.
+// The trait of a reader: it reads an input and passes its items to a book, at the reader's seat.
 ghost use Rattle.std.specs.Prelude.{◌≡◌, [], ℕ, List, Bool, true, false, OnOk, OnErr, Option, None};
 ghost use Rattle.std.specs.Thread.{IsSync};
 ghost use Rattle.esm_model.specs.Books.{entries_told};
@@ -15,17 +15,19 @@ use std::alloc::Global;
 use std::sync::Wait;
 use std::thread::Threads;
 
-/// What reads an input and hands its items to a book at a turn, and notes the end of the input: the work of seat 0.
+/// A reader: it reads an input, passes its items to a book at a turn, and notes the end of the input. This is the work of
+/// seat 0.
 pub trait Reading<T: Pooled> {
     // it may begin over a book of this setup
     ghost ready: { Setup → Self → Type 0 };
 
-    // what it did over a book of this setup: from itself before and after, what its seat has seen, whether it has seen the
-    // mark, the change as it saw it last, and whether want of memory stopped it
+    // what it did over a book of this setup: the reader before and after, what its seat has seen, whether it has seen the
+    // mark, the change as it saw it last, and whether memory ran out
     ghost read: { Setup → Self → Self → List Told → Bool → Option Change → Bool → Type 0 };
 
-    /// Reads to the input's end, or until the book is down, all calls allowed were made while more is awaited of an input that
-    /// does not tell its bytes, or memory is wanting; in any case it notes the end of the input where the book is not down.
+    /// Reads to the input's end, or until the book is down, all calls allowed were made while more is awaited of an input
+    /// that does not show its bytes, or memory runs out. In any case it notes the end of the input, unless the book is down.
+    /// `OutOfMemory` if an allocation failed.
     fn read_all<R: Threads + Wait + Sync, C: Clock>(
         &mut self,
         rt: &R,

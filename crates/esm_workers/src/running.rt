@@ -1,4 +1,4 @@
-// The run of a book's reader and batchers, from the book to the book.
+// The run of a book's reader and batchers, which takes the book and gives it back.
 ghost use Rattle.std.specs.Prelude.{◌≡◌, ◌⊎◌, ◌+◌, ◌<◌, ◌≤◌, [], ℕ, true, false, length, None, IfOk, IfErr, vec_capacity};
 ghost use Rattle.esm_model.specs.Books.{entries_told};
 ghost use Rattle.esm_model.specs.Entries.{is_shut};
@@ -21,7 +21,7 @@ use std::alloc::Global;
 use std::sync::Wait;
 use std::thread::Threads;
 
-/// What a run of a book's reader and batchers leaves, and whether want of memory ended the work of one of them.
+/// What a run of a book's reader and batchers leaves, and whether memory ran out for one of them.
 pub struct Ran<T, W, F> {
     pub book: T,
     pub reader: W,
@@ -29,7 +29,7 @@ pub struct Ran<T, W, F> {
     pub short: bool,
 }
 
-// The reader reads alone at this turn, which is closed then; answers whether want of memory stopped it.
+// Has the reader read alone at this turn, and then closes the turn. Also returns whether memory ran out.
 fn read_alone<R: Threads + Wait + Sync, T: Pooled, W: Reading<T>, C: Clock>(
     rt: &R,
     alloc: Global,
@@ -54,7 +54,7 @@ fn read_alone<R: Threads + Wait + Sync, T: Pooled, W: Reading<T>, C: Clock>(
     (turn.close(seats), short)
 }
 
-// The reader reads, and then so many batchers work.
+// Has the reader read, and then the first `batchers` batchers work.
 fn read_then_call<
     R: Threads + Wait + Sync,
     T: Pooled + Send,
@@ -102,7 +102,7 @@ fn read_then_call<
     }
 }
 
-// The reader reads, and so many batchers work beside it.
+// Has the reader read, and the first `batchers` batchers work beside it.
 fn read_along<
     R: Threads + Wait + Sync,
     T: Pooled + Send,
@@ -160,7 +160,7 @@ fn read_along<
     }
 }
 
-// The reader reads, and so many batchers work beside it or after it.
+// Has the reader read, and the first `batchers` batchers work beside it, or after it with `read_first`.
 fn run_at<
     R: Threads + Wait + Sync,
     T: Pooled + Send,
@@ -205,10 +205,11 @@ fn run_at<
     )
 }
 
-/// Has the reader and so many batchers work on the book until each has come to its end: caller `k` is batcher `k`'s, and
-/// `name` is the function's. The reader works in this thread, and each batcher in one of its own; those for which none can be
-/// made work one after the other. With `read_first` the batchers begin once the reader has ended, unless the book is down.
-/// Where there is no memory to begin with, all comes back as it was.
+/// Has the reader and the first `batchers` batchers work on the book until each has ended. Caller `k` is batcher `k`'s, and
+/// `name` is the function's. The reader works in this thread, and each batcher in a thread of its own; batchers for which no
+/// thread can be made work one after the other. With `read_first` the batchers begin once the reader has ended, unless the
+/// book is down. `OutOfMemory`, with everything as it was, if there is no memory to begin; if memory runs out later, `short`
+/// says so.
 pub fn run_hands<
     R: Threads + Wait + Sync,
     T: Pooled + Send,
@@ -233,7 +234,7 @@ pub fn run_hands<
     requires callers { length callers.items ≡ MAX_LANES }
     requires batchers { batchers ≤ MAX_LANES }
     requires given { (m : ℕ) → C.gave m ≡ true → T.given m ≡ true }
-    // What the book tells.
+    // What the book says.
     ensures setup { IfOk result (λ ran. T.setup ran.book ≡ T.setup book) }
     ensures legal { IfOk result (λ ran. IsLegal (T.may_follow (T.setup book)) (T.history ran.book)) }
     ensures moments { IfOk result (λ ran. AllGiven C.gave [] (T.history ran.book)) }

@@ -1,4 +1,4 @@
-// What a batcher does with each answer of a book.
+// Tests: what a batcher does with each answer of a book.
 use crate::calling::call_all;
 use crate::on_time::OnTime;
 use esm_io::{Clock, Script, ScriptCaller, StepClock};
@@ -19,7 +19,7 @@ enum Answer {
     NoMemory,
 }
 
-/// A book without entries but the end of its input, which answers these, the last one first.
+/// A book that has no entry except the end of its input, and gives these answers, the last one first.
 #[derive(Drop)]
 struct Scripted {
     answers: Vec<Answer>,
@@ -116,7 +116,7 @@ impl Pooled for Scripted {
         None
     }
 
-    // no record came
+    // no record arrived
     fn progress(&self) -> Progress {
         Progress {
             came: 0,
@@ -157,7 +157,7 @@ fn batcher_over<R: Wait>(
     }
 }
 
-// The same of the book while it is called at moments of the clock alone.
+// The same for the book when it is called only at moments of the clock.
 fn batcher_on_time<R: Wait>(
     rt: &R,
     alloc: Global,
@@ -198,7 +198,7 @@ fn pauses_until_the_moment_at_most(rt: HostRuntime) -> Result<(), Fail> {
     Ok(())
 }
 
-// Ten pauses of 1, 2, 4 .. 512 milliseconds, and then two of a second.
+// Ten pauses of 1, 2, 4, up to 512 milliseconds, and then two of a second.
 #[test]
 fn pauses_twice_as_long_each_time_for_a_second_at_most(rt: HostRuntime) -> Result<(), Fail> {
     let mut answers = vec![in rt.alloc(); Answer::Spent]?;

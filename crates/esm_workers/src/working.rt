@@ -18,7 +18,7 @@ use std::sync::Wait;
 use std::thread;
 use std::thread::Threads;
 
-// The reader reads at this seat; answers whether want of memory stopped it.
+// Has the reader read at this seat. Returns whether memory ran out.
 pub(crate) fn read<R: Threads + Wait + Sync, T: Pooled, W: Reading<T>, C: Clock>(
     rt: &R,
     alloc: Global,
@@ -50,7 +50,7 @@ struct Site<'a, R, T: Kept, C> {
     name: &'a str,
 }
 
-// The reader's hand reads; answers whether want of memory stopped it.
+// Has the reader's hand read. Returns whether memory ran out.
 fn read_by<R: Threads + Wait + Sync, T: Pooled, W: Reading<T>, C: Clock>(
     site: &Site<R, T, C>,
     hand: &mut ReaderHand<T, W>,
@@ -67,7 +67,7 @@ fn read_by<R: Threads + Wait + Sync, T: Pooled, W: Reading<T>, C: Clock>(
     read(site.rt, site.alloc, site.turn, site.clock, reader, seat)
 }
 
-// The batcher's hand calls.
+// Has the batcher's hand call.
 fn call<R: Wait, T: Pooled, C: Clock, F: Caller>(
     site: &Site<R, T, C>,
     batcher: usize,
@@ -92,7 +92,7 @@ fn call<R: Wait, T: Pooled, C: Clock, F: Caller>(
     hand.short = called.is_err();
 }
 
-// All these hands work, each in a thread of its own; where none can be made, one after the other.
+// Has all these hands work, each in a thread of its own; those for which none can be made work one after the other.
 fn call_each<R: Threads + Wait + Sync, T: Pooled + Send, C: Clock + Sync, F: Caller + Send>(
     site: &Site<R, T, C>,
     hands: &mut [Hand<T, F>],
@@ -118,7 +118,7 @@ fn call_each<R: Threads + Wait + Sync, T: Pooled + Send, C: Clock + Sync, F: Cal
     );
 }
 
-// So many hands work, and the others stay idle.
+// Has the first `count` hands work; the others stay idle.
 fn call_first<R: Threads + Wait + Sync, T: Pooled + Send, C: Clock + Sync, F: Caller + Send>(
     site: &Site<R, T, C>,
     count: usize,
@@ -134,8 +134,8 @@ fn call_first<R: Threads + Wait + Sync, T: Pooled + Send, C: Clock + Sync, F: Ca
     call_each(site, working);
 }
 
-// So many hands work beside the reader. It reads in this thread, so it reads also where no other can be made; the hands
-// then begin when it has ended. Answers whether want of memory stopped the reader.
+// Has the first `count` hands work beside the reader. The reader reads in this thread, so it reads even if no other thread
+// can be made; the hands then begin when it has ended. Returns whether memory ran out for the reader.
 fn read_beside<
     R: Threads + Wait + Sync,
     T: Pooled + Send,
@@ -189,7 +189,7 @@ fn any_short<T, F>(hands: &[Hand<T, F>]) -> bool
     false
 }
 
-// So many hands work, and the others stay idle; answers whether one was short.
+// Has the first `count` hands work; the others stay idle. Returns whether memory ran out for one.
 pub(crate) fn call_some<
     R: Threads + Wait + Sync,
     T: Pooled + Send,
@@ -223,7 +223,7 @@ pub(crate) fn call_some<
     any_short(hands)
 }
 
-// The reader reads, and so many hands work beside it; answers whether one of them was short.
+// Has the reader read, and the first `count` hands work beside it. Returns whether memory ran out for one of them.
 pub(crate) fn read_and_call<
     R: Threads + Wait + Sync,
     T: Pooled + Send,

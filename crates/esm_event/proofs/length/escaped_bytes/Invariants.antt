@@ -1,8 +1,0 @@
-use Rattle.std.proofs.Common.{◌≡◌, ◌*◌, ◌≤◌, take, length}
-use Rattle.std.specs.List.{flat_map}
-use Rattle.esm_model.specs.JsonText.{escaped_byte}
-use Rattle.esm_event.proofs.length.escaped_bytes.Given as goal
-
-abbrev pub invariant-loop-byte : goal.invariant-loop-byte
-invariant-loop-byte l =
-    (l.total ≡ length (flat_map escaped_byte (take l.byte-index l.text))) × (l.total ≤ 6 * l.byte-index)
