@@ -1,5 +1,5 @@
 -- What no pattern tells apart: where a name of the patterns sees the same, they pass alike.
-use Rattle.std.proofs.Common.{◌≡◌, ℕ, List, [], ◌∷◌, filter, if◌then◌else◌, Bool, true, false, true≢false, ◌&&◌, ◌||◌, Option, Some, None, codes, bytes_eq, refl, sym, ap, ap₂, ◌∙◌}
+use Rattle.std.proofs.Common.{◌≡◌, ℕ, List, [], ◌∷◌, filter, cond, if◌then◌else◌, Bool, true, false, true≢false, ◌&&◌, ◌||◌, Option, Some, None, codes, bytes_eq, refl, sym, ap, ap₂, ◌∙◌}
 use Rattle.std.specs.List.{list_any}
 use Rattle.std.proofs.lemmas.Slice.Eq.{bytes_eq-Decides}
 use Rattle.serde_json.specs.Data.{Data, null, boolean, number, string, array, object, Items, Members, put}
@@ -77,31 +77,34 @@ module _ (names : List ℕ → Bool) where
   abbrev pub members_like : Bool → Members → Members → Type 0
   members_like kept ms ns = kept ≡ true → AreLike names ms ns
 
+  -- what is found at each name once e is at this one
+  abbrev pub Puts : List ℕ → Data → Members → Members → Type 0
+  Puts name e old new = (k : List ℕ) → get_member k new ≡ cond (bytes_eq k name) (Some e) (get_member k old)
+
   module _ (kept : Bool) (name : List ℕ) (d e : Data) (ms old new : Members) (were : members_like kept ms old) where
-    at_name : (k : List ℕ) → k ≡ name → new ≡ put name e old → Like names (Some d) (Some e) → Like names (get_member k (put name d ms)) (get_member k new)
-    at_name k is inserted like =
+    at_name : (k : List ℕ) → k ≡ name → get_member k new ≡ Some e → Like names (Some d) (Some e) → Like names (get_member k (put name d ms)) (get_member k new)
+    at_name k is there like =
         let here : get_member k (put name d ms) ≡ Some d = ap (λ (q : List ℕ). get_member q (put name d ms)) is ∙ get_member-put name d ms in
-        let there : get_member k new ≡ Some e = ap (get_member k) inserted ∙ ap (λ (q : List ℕ). get_member q (put name e old)) is ∙ get_member-put name e old in
         rw (here, there) like
 
-    elsewhere : (k : List ℕ) → (k ≡ name → ⊥) → get_member k new ≡ get_member k old → Like names (get_member k ms) (get_member k old) → Like names (get_member k (put name d ms)) (get_member k new)
-    elsewhere k other still like = rw (get_member-put_other k name d ms other, still) like
+    elsewhere : (k : List ℕ) → bytes_eq k name ≡ false → get_member k new ≡ get_member k old → Like names (get_member k ms) (get_member k old) → Like names (get_member k (put name d ms)) (get_member k new)
+    elsewhere k is still like =
+        let other = λ (here : k ≡ name). true≢false (sym ((bytes_eq-Decides k name).1 here) ∙ is) in
+        rw (get_member-put_other k name d ms other, still) like
 
-    by_name : (k : List ℕ) (b same : Bool) → b ≡ (kept && names name) → (b ≡ true → Like names (Some d) (Some e)) → (b ≡ true → new ≡ put name e old) → (b ≡ false → new ≡ old)
+    by_name : (k : List ℕ) (b same : Bool) → b ≡ (kept && names name) → (b ≡ true → Like names (Some d) (Some e)) → (b ≡ true → Puts name e old new) → (b ≡ false → new ≡ old)
         → bytes_eq k name ≡ same → kept ≡ true → names k ≡ true → Like names (get_member k (put name d ms)) (get_member k new)
-    by_name k b true wanted like inserted passed is keeps named =
+    by_name k b true wanted like puts passed is keeps named =
         let here : k ≡ name = (bytes_eq-Decides k name).0 is in
         let both : b ≡ true = wanted ∙ ap₂ (λ x y. x && y) keeps (ap names (sym here) ∙ named) in
-        at_name k here (inserted both) (like both)
-    by_name k true false wanted like inserted passed is keeps named =
-        let other = λ (here : k ≡ name). true≢false (sym ((bytes_eq-Decides k name).1 here) ∙ is) in
-        elsewhere k other (ap (get_member k) (inserted refl) ∙ get_member-put_other k name e old other) (were keeps k named)
-    by_name k false false wanted like inserted passed is keeps named =
-        let other = λ (here : k ≡ name). true≢false (sym ((bytes_eq-Decides k name).1 here) ∙ is) in
-        elsewhere k other (ap (get_member k) (passed refl)) (were keeps k named)
+        at_name k here (puts both k ∙ ap (λ (c : Bool). cond c (Some e) (get_member k old)) is) (like both)
+    by_name k true false wanted like puts passed is keeps named =
+        elsewhere k is (puts refl k ∙ ap (λ (c : Bool). cond c (Some e) (get_member k old)) is) (were keeps k named)
+    by_name k false false wanted like puts passed is keeps named =
+        elsewhere k is (ap (get_member k) (passed refl)) (were keeps k named)
 
-    pub next_member : (b : Bool) → b ≡ (kept && names name) → (b ≡ true → Like names (Some d) (Some e)) → (b ≡ true → new ≡ put name e old) → (b ≡ false → new ≡ old) → members_like kept (put name d ms) new
-    next_member b wanted like inserted passed keeps k named = by_name k b (bytes_eq k name) wanted like inserted passed refl keeps named
+    pub next_member : (b : Bool) → b ≡ (kept && names name) → (b ≡ true → Like names (Some d) (Some e)) → (b ≡ true → Puts name e old new) → (b ≡ false → new ≡ old) → members_like kept (put name d ms) new
+    next_member b wanted like puts passed keeps k named = by_name k b (bytes_eq k name) wanted like puts passed refl keeps named
 
   -- ---- documents
 

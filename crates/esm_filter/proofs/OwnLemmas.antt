@@ -1,12 +1,12 @@
 -- What a record's own fields decide holds whatever its data is.
-use Rattle.std.proofs.Common.{◌≡◌, ℕ, List, [], ◌∷◌, codes, Bool, true, false, true≢false, if◌then◌else◌, ◌&&◌, ◌||◌, Option, None, bytes_eq, refl, sym, ap, ap₂, ◌∙◌}
+use Rattle.std.proofs.Common.{◌≡◌, ℕ, List, [], ◌∷◌, codes, Bool, true, false, true≢false, if◌then◌else◌, ◌&&◌, ◌||◌, Option, Some, None, bytes_eq, refl, sym, ap, ap₂, ◌∙◌}
 use Rattle.std.specs.List.{list_any}
 use Rattle.serde_json.specs.Data.{Data}
 use Rattle.esm_model.specs.Filter.{Seen, plain, in_object, json_members, record_field, in_record, rule_passes, fields_pass, one_passes, patterns_pass}
 use Rattle.esm_model.specs.Leaves.{some_passes, tests_pass}
 use Rattle.esm_model.specs.Pattern.{Rule, tests, nested, one_of, Fields, no_fields, field, Choices, no_choices, choice}
 use Rattle.esm_model.specs.Records.{Record}
-use Rattle.esm_filter.specs.Own.{rule_may_pass, fields_may_pass, one_may_pass}
+use Rattle.esm_filter.specs.Own.{decided_by_own, rule_may_pass, fields_may_pass, one_may_pass}
 
 or_parts : (a b : Bool) → (a || b) ≡ false → (a ≡ false) × (b ≡ false)
 or_parts true b no' = absurd (true≢false no')
@@ -103,3 +103,24 @@ module _ (x : Record) (json : Option Data) where
   pub patterns_refused : (ps : List Fields) → patterns_pass ps (in_record x None) ≡ false → list_any (λ fs. fields_may_pass fs (in_record x None)) ps ≡ false → patterns_pass ps (in_record x json) ≡ false
   patterns_refused [] fails no' = absurd (true≢false fails)
   patterns_refused (p ∷ ps) fails no' = any_refused (p ∷ ps) no'
+
+-- ---- the answer, at each way out
+
+abbrev answer : Bool → Bool → Option Bool
+answer passes may_pass = if passes then Some true else (if may_pass then None else Some false)
+
+module _ (ps : List Fields) (x : Record) where
+  abbrev passes_alone : Bool
+  passes_alone = patterns_pass ps (in_record x None)
+
+  abbrev may_pass_alone : Bool
+  may_pass_alone = list_any (λ fs. fields_may_pass fs (in_record x None)) ps
+
+  pub own_passes : passes_alone ≡ true → Some true ≡ decided_by_own ps x
+  own_passes holds = sym (ap (λ (a : Bool). answer a may_pass_alone) holds)
+
+  pub own_refused : passes_alone ≡ false → may_pass_alone ≡ false → Some false ≡ decided_by_own ps x
+  own_refused fails no' = sym (ap₂ answer fails no')
+
+  pub own_waits : passes_alone ≡ false → may_pass_alone ≡ true → None ≡ decided_by_own ps x
+  own_waits fails may_pass = sym (ap₂ answer fails may_pass)

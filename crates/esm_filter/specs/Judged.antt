@@ -1,4 +1,4 @@
--- What the program judges, as the fields of an object.
+-- The meaning of what the code judges, as the fields of an object.
 use Rattle.std.specs.Prelude.{ℕ, List, Option, option_map}
 use Rattle.std.specs.Borrow.{Bor}
 use Rattle.serde_json.specs.Data.{Data, string}

@@ -1,4 +1,4 @@
--- What the program says of a reading: the value or the refusal; want of memory says nothing.
+-- The meaning of an answer of the code's readers: the value or the refusal; `OutOfMemory` says nothing.
 use Rattle.std.specs.Prelude.{◌≡◌, Result, Ok, Err}
 use Rattle.esm_model.specs.Pattern as spec
 use Rattle.esm_model.specs.Pattern.{Reads}

@@ -1,4 +1,4 @@
--- The pattern that the program's tree stands for.
+-- The pattern that the code's tree represents.
 use Rattle.std.specs.Prelude.{List, [], ◌∷◌, map, String, string_bytes}
 use Rattle.std.specs.declared.alloc.Global.{Global}
 use Rattle.esm_model.specs.Pattern as spec
@@ -51,7 +51,7 @@ abbrev pub choices_of : List spec.Rule → spec.Choices
 choices_of [] = spec.no_choices
 choices_of (r ∷ rs) = spec.choice (fields_in r) (choices_of rs)
 
--- one level, with each rule inside already seen
+-- one level, whose inner rules are represented already
 abbrev pub rule_step : Rule-F spec.Rule → spec.Rule
 rule_step (Rule-F.Tests v) = spec.tests (map test_view v.items)
 rule_step (Rule-F.Nested v) = spec.nested (fields_of v.items)

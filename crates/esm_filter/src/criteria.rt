@@ -10,6 +10,7 @@ ghost use Rattle.esm_model.specs.Pattern.{read_pattern, read_patterns};
 ghost use Rattle.esm_filter.specs.Criteria.{IsOneRead, IsRead, JudgesMessages, JudgesRecords, patterns_of, patterns_view};
 ghost use Rattle.esm_filter.specs.Found.{found_view, value_of};
 ghost use Rattle.esm_filter.specs.Judged.{judged_view};
+ghost use Rattle.esm_filter.specs.Own.{decided_by_own};
 ghost use Rattle.esm_filter.specs.View.{fields_view};
 
 use crate::document::{read_bytes, read_document};
@@ -23,7 +24,7 @@ use crate::work::Work;
 use esm_model::{Kind, Message, OutOfMemory, Record, Text};
 use std::alloc::Global;
 
-/// The filter criteria of a mapping: what passes one of the patterns passes, and everything where there are none.
+/// The filter criteria of a mapping. A record or message passes if it passes one of the patterns, or if there are none.
 /// (Lambda Developer Guide, event filtering; EventBridge event pattern syntax.)
 #[derive(Drop)]
 pub struct Criteria {
@@ -39,7 +40,7 @@ fn is_stream(kind: Kind) -> bool
     }
 }
 
-/// The pattern that the text at the place `filter` is.
+/// Reads the pattern in the text, which has the index `filter`.
 fn read_one(
     alloc: Global,
     for_stream: bool,
@@ -118,9 +119,10 @@ fn message_passes<'a, 'd>(
     patterns_pass(patterns, found)
 }
 
-/// Whether the record passes, where its own fields decide that.
+/// Whether the record passes, if its own fields decide that; `None` if a pattern may still pass by its data.
 fn passes_without_data(patterns: &[Vec<(String, Rule)>], item: &Record) -> Option<bool>
-    ensures { IfSome result (λ b. (json : Option Data) → b ≡ patterns_pass (patterns_view patterns.now) (in_record item.now json)) }
+    ensures right { IfSome result (λ b. (json : Option Data) → b ≡ patterns_pass (patterns_view patterns.now) (in_record item.now json)) }
+    ensures decided { result ≡ decided_by_own (patterns_view patterns.now) item.now }
 {
     let found = Judged::OfRecord(item, None);
     let passes = patterns_pass(patterns, found);
@@ -132,8 +134,8 @@ fn passes_without_data(patterns: &[Vec<(String, Rule)>], item: &Record) -> Optio
 }
 
 impl Criteria {
-    /// The criteria that the pattern texts are, for what a mapping of this kind reads.
-    /// `BadPattern` names the first text that is no pattern, with the first refusal in it.
+    /// Reads the criteria from the texts of patterns, for what a mapping of this kind reads. `BadPattern` names the first
+    /// text that is no pattern, and the first reason why it is none.
     pub fn read(alloc: Global, kind: Kind, texts: &[Text]) -> Result<Criteria, FilterError>
         requires { length texts.now < 2 ^ 32 }
         ensures patterns { IsRead result (read_patterns (is_stream kind) texts.now) }
@@ -149,8 +151,8 @@ impl Criteria {
         self.patterns.as_slice().is_empty()
     }
 
-    /// Whether a stream's record passes; its data is decoded and read once at most, and not at all where there are no
-    /// patterns or its own fields decide.
+    /// Whether a stream's record passes. Its data is decoded and read at most once, and not at all if there are no patterns
+    /// or its own fields decide. `work` is the memory for reading it.
     pub fn passes_record(
         &self,
         alloc: Global,
@@ -168,7 +170,8 @@ impl Criteria {
         Ok(record_passes(patterns, item, &json))
     }
 
-    /// Whether a queue's message passes; its body is read once at most, and not at all where there are no patterns.
+    /// Whether a queue's message passes. Its body is read at most once, and not at all if there are no patterns. `work` is
+    /// the memory for reading it.
     pub fn passes_message(
         &self,
         alloc: Global,

@@ -1,15 +1,15 @@
-//! What a document holds of the fields that the patterns name, read from its tokens with no tree of the rest.
+//! Reading from a document's tokens the fields that the patterns name, without building a tree of the rest.
 ghost use Rattle.std.specs.Prelude.{◌≡◌, ◌≢◌, ◌<◌, ◌&&◌, ◌∷◌, ◌++◌, [], length, Err, None, option_map, true, false, IfOk, OnOk};
 ghost use Rattle.json.specs.Json.{value, items, members};
-ghost use Rattle.serde_json.specs.Data.{no_members, put};
+ghost use Rattle.serde_json.specs.Data.{no_members};
 ghost use Rattle.serde_json.specs.Read.{of_json, of_items, of_members, converted, read as read_text};
 ghost use Rattle.esm_model.specs.Json.{read_json};
 ghost use Rattle.esm_filter.specs.Criteria.{patterns_view};
-ghost use Rattle.esm_filter.specs.Found.{found_view, items_view, members_view};
-ghost use Rattle.esm_filter.specs.Named.{is_named, KeepsItems, KeepsMembers, KeepsValue, Like};
+ghost use Rattle.esm_filter.specs.Found.{found_view, items_view, members_view, with_member};
+ghost use Rattle.esm_filter.specs.Named.{is_named, AreFew, KeepsItems, KeepsMembers, KeepsValue, Like};
 
 use crate::error::DocumentError;
-use crate::found::Found;
+use crate::found::{Found, put_member};
 use crate::names::is_named;
 use crate::number::number_of;
 use crate::pattern::Rule;
@@ -19,7 +19,7 @@ use json::{Reader, Token};
 use std::alloc::Global;
 use std::str::from_utf8;
 
-/// How deep arrays and objects nest.
+/// How deep arrays and objects may nest.
 const MAX_DEPTH: usize = 127;
 
 fn keep_item<'a>(
@@ -42,13 +42,12 @@ fn keep_member<'a>(
     member: Found<'a>,
     kept: bool,
 ) -> Result<(), DocumentError>
-    ensures ok { OnOk result (kept ≡ true
-        → members_view found.new.items ≡ put name.now (found_view member.entry) (members_view found.old.items)) }
+    ensures ok { OnOk result (kept ≡ true → found.new.items ≡ with_member (name.entry, member.entry) found.old.items) }
     ensures passed { kept ≡ false → found.new.items ≡ found.old.items }
     ensures memory { result ≢ Err DocumentError.NotJson }
 {
     if kept {
-        found.push((name, member))?;
+        put_member(found, name, member)?;
     }
     Ok(())
 }
@@ -137,6 +136,7 @@ fn read_members<'a>(
 ) -> Result<Vec<(&'a str, Found<'a>)>, DocumentError>
     ensures ok { IfOk result (λ m. KeepsMembers (is_named (patterns_view patterns.now)) kept depth
         reader.old (members_view m.items) reader.new) }
+    ensures few { IfOk result (λ m. AreFew (is_named (patterns_view patterns.now)) m.items) }
     ensures shorter { OnOk result (length reader.new < length reader.old) }
     ensures err { result ≡ Err DocumentError.NotJson → converted (λ ms. of_members ms no_members)
         (members (value depth) (length reader.old) reader.old) ≡ None }
@@ -150,7 +150,7 @@ fn read_members<'a>(
     Ok(found)
 }
 
-/// What the text holds of the fields that the patterns name; `None` where it is no JSON.
+/// The part of the text with the fields that the patterns name; `None` where the text is no JSON.
 pub(crate) fn read_document<'a>(
     alloc: Global,
     patterns: &[Vec<(String, Rule)>],
@@ -174,7 +174,7 @@ pub(crate) fn read_document<'a>(
     }
 }
 
-/// The same of bytes, which are no JSON where they are no UTF-8.
+/// The same for bytes; `None` also where they are no UTF-8.
 pub(crate) fn read_bytes<'a>(
     alloc: Global,
     patterns: &[Vec<(String, Rule)>],

@@ -9,20 +9,20 @@ pub enum PatternError {
     NotJson,
     /// It is no JSON object.
     NotObject,
-    /// An object or a list in it has no members.
+    /// An object or a list in it is empty.
     Empty,
-    /// Something else in it is not in the grammar.
+    /// Something else in it does not follow the grammar.
     BadTest,
     /// It has more than 4,096 characters.
     TooLong,
 }
 
-/// Why filter criteria were refused.
+/// Why filter criteria are refused.
 #[derive(Clone, Copy, Debug, PartialEq, Eq)]
 pub enum FilterError {
-    /// The first text that is no pattern, counted from 0, and why.
+    /// The text with the index `filter`, counted from 0, is the first that is no pattern; `why` says why.
     BadPattern { filter: u32, why: PatternError },
-    /// Want of memory.
+    /// Out of memory.
     OutOfMemory,
 }
 

@@ -17,7 +17,7 @@ use esm_model::{Message, Record};
 /// The object that a pattern is judged over.
 #[derive(Clone, Copy, Drop)]
 pub(crate) enum Judged<'a, 'd> {
-    /// The members of a JSON object; a value that is none, or is absent, has no members.
+    /// The members of a JSON object; a value of another kind, or an absent one, has no members.
     Within(Option<&'a Found<'d>>),
     /// A stream's record, and its data where that is JSON.
     OfRecord(&'a Record, Option<&'a Found<'d>>),
@@ -74,7 +74,7 @@ fn value_tests_pass(value: Option<&Found<'_>>, tests: &[Test]) -> bool
     value_passes_any(value, tests)
 }
 
-/// Of a field whose only leaf is this text.
+/// Whether the test passes for a field whose only leaf is this text.
 fn text_passes_test(text: &str, test: &Test) -> bool
     ensures { result ≡ test_passes (json_data.string text.now ∷ []) (test_view test.now) }
 {
@@ -98,7 +98,7 @@ fn text_tests_pass(text: &str, tests: &[Test]) -> bool
     text_passes_any(text, tests)
 }
 
-/// Of a field that is this text or is absent.
+/// Whether one of the tests passes for a field that is this text or is absent.
 fn text_or_none_tests_pass(text: Option<&str>, tests: &[Test]) -> bool
     ensures { result ≡ tests_pass (map test_view tests.now) (leaves (text_of text.entry)) }
 {
@@ -141,7 +141,7 @@ fn is_text_body(json: Option<&Found<'_>>) -> bool
     }
 }
 
-/// The member of a value that is an object.
+/// The member with this key, if the value is an object.
 fn member<'v, 'd>(value: Option<&'v Found<'d>>, key: &str) -> Option<&'v Found<'d>>
     ensures { value_of result ≡ get_member key.now (members_in (value_of value.entry)) }
 {
@@ -187,7 +187,7 @@ impl<'a, 'd> Judged<'a, 'd> {
         }
     }
 
-    /// The value of the field for an object pattern; `None` where that fails.
+    /// The field's value for an object pattern; the outer `None` means that any object pattern fails for it.
     fn inner(self, key: &str) -> Option<Option<&'a Found<'d>>>
         ensures { option_map (λ v. members_in (value_of v)) result ≡ (judged_view self.entry key.now).members }
     {
@@ -220,7 +220,7 @@ fn some_json<'v, 'd>(json: Option<&'v Found<'d>>) -> Option<Option<&'v Found<'d>
     }
 }
 
-/// Whether the field with this key of the object meets the rule.
+/// Whether the object's field with this key meets the rule.
 #[cycle(judge)]
 pub(crate) fn rule_passes(rule: &Rule, key: &str, found: Judged<'_, '_>) -> bool
     ensures { result ≡ rule_passes (rule_view rule.now) key.now (judged_view found.entry) }

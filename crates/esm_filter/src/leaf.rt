@@ -12,7 +12,7 @@ use crate::found::Found;
 use crate::pattern::{Bound, Comparison, Scalar, Test};
 use serde_json::Number;
 
-/// Whether the number keeps to the bound.
+/// Whether the number is within the bound.
 fn meets(number: i64, bound: &Bound) -> bool
     ensures { result ≡ meets number (bound_view bound.now) }
 {
@@ -121,7 +121,7 @@ fn null_passes(test: &Test) -> bool
     }
 }
 
-/// A leaf that passes: false for a list and for an object.
+/// Whether the value is a leaf that passes; a list or an object never is.
 pub(crate) fn is_passing_leaf(value: &Found<'_>, test: &Test) -> bool
     ensures { result ≡ (is_leaf (found_view value.now) && leaf_passes (test_view test.now) (found_view value.now)) }
 {

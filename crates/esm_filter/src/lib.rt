@@ -1,7 +1,6 @@
-//! The filter criteria of a mapping: JSON patterns, of which a record or a message has to pass one.
-//! A pattern's text is read once into a tree; a record is judged by that tree, and of its data, which is read once, what
-//! the patterns name is kept.
-//! Pure values; no device, clock or thread.
+//! The filter criteria of a mapping: JSON patterns, of which a record or a message has to pass one. A pattern's text is read
+//! once into a tree, by which records are judged. A record's data is read once, and only the parts that the patterns name
+//! are kept of it. Pure values; no device, clock or thread.
 #![tactic(auto)]
 
 mod criteria;

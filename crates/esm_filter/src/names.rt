@@ -1,4 +1,4 @@
-//! Which names the patterns speak of, at any depth.
+//! The names that occur in patterns, at any depth.
 ghost use Rattle.std.specs.Prelude.{◌≡◌};
 ghost use Rattle.std.specs.List.{list_any};
 ghost use Rattle.esm_filter.specs.Criteria.{patterns_view};

@@ -1,4 +1,4 @@
-//! The number that a token of JSON writes, as `serde_json` reads it.
+//! Reading the number in a JSON token, as `serde_json` does.
 ghost use Rattle.std.specs.Prelude.{◌≡◌, ◌<◌, ◌==◌, false, true, length, slice_index, option_map, IsTrue};
 ghost use Rattle.serde_json.specs.Read.{number_of, number_from, float_of};
 ghost use Rattle.serde_json.specs.View.{number_view};

@@ -41,7 +41,7 @@ fn read_one_scalar(alloc: Global, value: &Value) -> Result<Vec<Scalar>, ReadErro
     Ok(scalars)
 }
 
-/// The values that a leaf may not equal: one, or a list of some.
+/// Reads the values that a leaf may not equal: one, or a list of some.
 fn read_anything_but(alloc: Global, value: &Value) -> Result<Vec<Scalar>, ReadError>
     ensures { Tells (λ v. map scalar_view v.items) result (read_anything_but (view value.now)) }
 {
@@ -53,7 +53,7 @@ fn read_anything_but(alloc: Global, value: &Value) -> Result<Vec<Scalar>, ReadEr
     }
 }
 
-/// An upper bound may follow a lower one.
+/// Whether the second comparison may follow the first: only an upper bound may follow a lower one.
 fn may_follow(first: Comparison, second: Comparison) -> bool
     ensures { result ≡ may_follow (comparison_view first) (comparison_view second) }
 {
@@ -99,7 +99,7 @@ fn read_named(alloc: Global, name: &str, value: &Value) -> Result<Test, ReadErro
     }
 }
 
-/// The test that is the only member of an object.
+/// Reads the test that is the only member of an object.
 fn read_only(alloc: Global, members: &Map<String, Value>) -> Result<Test, ReadError>
     ensures { Tells test_view result (read_only (members_view members.now.entries)) }
 {
@@ -125,7 +125,7 @@ pub(crate) fn read_test(alloc: Global, value: &Value) -> Result<Test, ReadError>
     }
 }
 
-/// The tests of a list, in order.
+/// Reads the tests of a list, in order.
 pub(crate) fn read_tests(alloc: Global, items: &[Value]) -> Result<Vec<Test>, ReadError>
     ensures { Tells (λ v. map test_view v.items) result (read_all read_test (items_view items.now)) }
 {
@@ -154,7 +154,7 @@ fn two_bounds(alloc: Global, first: Bound, second: Bound) -> Result<Vec<Bound>, 
     Ok(bounds)
 }
 
-/// What follows the first bound: nothing, or an upper one.
+/// Reads what follows the first bound: nothing, or an upper bound.
 fn read_second(alloc: Global, first: Bound, rest: &[Value]) -> Result<Vec<Bound>, ReadError>
     ensures { Tells (λ v. map bound_view v.items) result
         (read_second (comparison_view first.comparison) first.value (items_view rest.now)) }

@@ -13,8 +13,7 @@ fn rule_may_pass(rule: &Rule, key: &str, found: Judged<'_, '_>) -> bool
     ensures { result ≡ rule_may_pass (rule_view rule.now) key.now (judged_view found.entry) }
 {
     match rule {
-        Rule::Tests(_) => key == "data" || rule_passes(rule, key, found),
-        Rule::Nested(_) => key == "data" || rule_passes(rule, key, found),
+        Rule::Tests(_) | Rule::Nested(_) => key == "data" || rule_passes(rule, key, found),
         Rule::OneOf(choices) => one_may_pass(choices, found),
     }
 }
@@ -53,7 +52,7 @@ fn choice_may_pass(choice: &Rule, found: Judged<'_, '_>) -> bool
     }
 }
 
-/// Whether one of the patterns may pass, whatever the data is of the record, which is seen without it.
+/// Whether one of the patterns may pass, whatever the record's data is; `found` shows the record without it.
 pub(crate) fn one_pattern_may_pass(patterns: &[Vec<(String, Rule)>], found: Judged<'_, '_>) -> bool
     ensures { result ≡ list_any (λ p. fields_may_pass (fields_view p.items) (judged_view found.entry)) patterns.now }
 {

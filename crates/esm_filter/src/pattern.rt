@@ -1,4 +1,4 @@
-/// How a leaf's number stands to a bound.
+/// How a number compares to a bound.
 #[derive(Clone, Copy, Debug, PartialEq, Eq)]
 pub(crate) enum Comparison {
     Equal,
@@ -15,7 +15,7 @@ pub(crate) struct Bound {
     pub(crate) value: i64,
 }
 
-/// What a leaf can be equal to.
+/// What a leaf can equal.
 #[derive(Drop, Debug)]
 pub(crate) enum Scalar {
     Text(String),
@@ -39,10 +39,10 @@ pub(crate) enum Test {
 /// What a field has to meet.
 #[derive(Drop)]
 pub(crate) enum Rule {
-    /// One of these tests passes for its leaves.
+    /// One of these tests has to pass for its leaves.
     Tests(Vec<Test>),
-    /// An object pattern: each member passes for its value.
+    /// An object pattern: each member has to pass for its value.
     Nested(Vec<(String, Rule)>),
-    /// Under the key `$or`: one of these, each an object pattern, passes for the same object.
+    /// Only under the key `$or`: one of these, each an object pattern, has to pass for the same object.
     OneOf(Vec<Rule>),
 }

@@ -30,7 +30,7 @@ fn read_object(
     }
 }
 
-/// The pattern that a JSON text is.
+/// Reads the pattern in a JSON text.
 pub(crate) fn read_value(
     alloc: Global,
     for_stream: bool,
@@ -45,7 +45,7 @@ pub(crate) fn read_value(
     }
 }
 
-/// The characters of a UTF-8 text.
+/// The number of characters of a UTF-8 text.
 fn char_count(text: &str) -> usize
     ensures { result ≡ char_count text.now }
 {

@@ -24,14 +24,14 @@ fn has_no_members(members: &Map<String, Value>) -> bool
     members.len() == 0
 }
 
-/// A list of tests for a record's data is refused.
+/// Whether the key is that of a record's data, for which a list of tests is refused.
 fn is_data(outer: bool, key: &str) -> bool
     ensures { result ≡ is_data outer key.now }
 {
     outer && key == "data"
 }
 
-/// What the value at a key asks of the field. `outer` tells that the keys are those of a stream's record.
+/// Reads the rule in the value at a key. `outer` says that the keys are those of a stream's record.
 #[cycle(read_rules)]
 fn read_rule(alloc: Global, outer: bool, key: &str, value: &Value) -> Result<Rule, ReadError>
     ensures { Tells rule_view result (read_rule outer key.now (view value.now)) }
@@ -143,7 +143,7 @@ fn read_choices(alloc: Global, outer: bool, items: &Vec<Value>) -> Result<Vec<Ru
     Ok(choices)
 }
 
-/// The members of an object pattern.
+/// Reads the members of an object pattern.
 #[cycle(read_rules)]
 pub(crate) fn read_choice(
     alloc: Global,

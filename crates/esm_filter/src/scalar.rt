@@ -21,7 +21,7 @@ fn empty_or_bad(count: usize) -> PatternError
     }
 }
 
-/// Why a value that is not in the grammar at its place is refused.
+/// Why a value is refused that the grammar does not allow where it is.
 pub(crate) fn refusal_of(value: &Value) -> PatternError
     ensures { refusal_view result ≡ refusal_of (view value.now) }
 {

@@ -1,19 +1,19 @@
-// What reading documents needs of memory, kept from one to the next.
+// The memory for reading documents, which is reused from one document to the next.
 ghost use Rattle.std.specs.Prelude.{◌≢◌, None, OnOk};
 
 use esm_model::OutOfMemory;
 use json::Scratch;
 use std::alloc::Global;
 
-/// Room for reading documents. One serves all records or messages of a list: it is made for the first document that is
-/// read, grows to the longest, and is given back when it is dropped.
+/// Memory for reading documents. One value serves all records or messages of a list. It is allocated when the first document
+/// is read, grows to the longest one, and is freed when it is dropped.
 #[derive(Drop)]
 pub struct Work {
     scratch: Option<Box<Scratch>>,
 }
 
 impl Work {
-    /// Takes no memory.
+    /// Takes no memory yet.
     pub fn new() -> Work {
         Work { scratch: None }
     }
@@ -27,7 +27,7 @@ impl Work {
         Ok(())
     }
 
-    /// The room, which is made at the first call.
+    /// The memory, allocated by the first call.
     pub(crate) fn scratch(&mut self, alloc: Global) -> Result<&mut Scratch, OutOfMemory> {
         self.make(alloc)?;
         match &mut self.scratch {

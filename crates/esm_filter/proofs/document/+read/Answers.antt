@@ -10,8 +10,8 @@ use Rattle.serde_json.specs.View.{number_view}
 use Rattle.esm_filter.specs.Criteria.{patterns_view}
 use Rattle.esm_filter.specs.Found.{found_view, items_view, members_view}
 use Rattle.esm_filter.specs.declared.found.Found.{Number, Bool, Null, Text, the_lemmas}
-use Rattle.esm_filter.specs.Named.{is_named, Like}
-use Rattle.esm_filter.proofs.FoundLemmas.{view-Array, view-Object}
+use Rattle.esm_filter.specs.Named.{is_named, AreFew, Like}
+use Rattle.esm_filter.proofs.FoundLemmas.{few_next, few_none, get_member-with_member, view-Array, view-Object}
 use Rattle.esm_filter.proofs.KeepLemmas.{keeps_as, leaves_in, next_leaf, no_more}
 use Rattle.esm_filter.proofs.LikeLemmas.{itself, like_arrays, like_objects, next_member, same_leaf}
 use Rattle.esm_filter.proofs.Tokens.{in_array, in_object, items_after, members_after, item_turn, member_turn, nothing_before}
@@ -166,7 +166,7 @@ read_items-returns-clause-ok t c =
 pub read_members-members-init : goal.read_members-members-init
 read_members-members-init t c =
     let names = is_named (patterns_view c.args.patterns.now) in
-    (length c.args.reader.now, no_members, omega arith, refl, omega arith, λ kept k named. subst (λ es. Like names None (get_member k (members_view es))) (sym c.new-found.ensures.items) (itself names None))
+    (length c.args.reader.now, no_members, omega arith, refl, omega arith, (λ kept k named. subst (λ es. Like names None (get_member k (members_view es))) (sym c.new-found.ensures.items) (itself names None)), subst (AreFew names) (sym c.new-found.ensures.items) (few_none names))
 
 pub read_members-returns-in_err-name-clause-err : goal.read_members-returns-in_err-name-clause-err
 read_members-returns-in_err-name-clause-err t c refused =
@@ -202,10 +202,15 @@ read_members-members-preserved t c =
       omega (arith, l.invariant.2),
       l.invariant.3 ∙ member_turn p old n k l.reader s (Some (d, r)) named done.ok.reads,
       omega (arith, l.invariant.4),
-      next_member names c.args.kept k d (found_view v) old (members_view l.found.items) (members_view c.keep_member.new.found.items) l.invariant.5 c.is_wanted-wanted.result c.is_wanted-wanted.ensures done.ok.like c.in_ok-keep_member.ensures.ok (λ off. ap members_view (c.keep_member.ensures.passed off)),
+      next_member names c.args.kept k d (found_view v) old (members_view l.found.items) (members_view c.keep_member.new.found.items) l.invariant.5 c.is_wanted-wanted.result c.is_wanted-wanted.ensures done.ok.like
+          (λ on q. ap (λ ms. get_member q (members_view ms)) (c.in_ok-keep_member.ensures.ok on) ∙ get_member-with_member q (c.in-Some.name, v) l.found.items) (λ off. ap members_view (c.keep_member.ensures.passed off)),
+      few_next names c.args.kept (c.in-Some.name, v) l.found.items c.keep_member.new.found.items c.is_wanted-wanted.result c.is_wanted-wanted.ensures c.in_ok-keep_member.ensures.ok c.keep_member.ensures.passed l.invariant.6,
     )
 
 pub read_members-returns-clause-ok : goal.read_members-returns-clause-ok
 read_members-returns-clause-ok t c =
     let l = c.members in
     record { found = l.invariant.1; reads = l.invariant.3 ∙ ap (converted (members_after l.invariant.1)) (members_end (value c.args.depth) l.invariant.0 l.reader c.next_key.new.self l.invariant.2 (grind arith)); like = l.invariant.5 }
+
+pub read_members-returns-clause-few : goal.read_members-returns-clause-few
+read_members-returns-clause-few t c = c.members.invariant.6

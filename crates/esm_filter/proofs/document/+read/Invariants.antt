@@ -5,7 +5,7 @@ use Rattle.serde_json.specs.Read.{of_items, of_members, converted}
 use Rattle.esm_model.specs.Leaves.{is_leaf, items_list}
 use Rattle.esm_filter.specs.Criteria.{patterns_view}
 use Rattle.esm_filter.specs.Found.{items_view, members_view}
-use Rattle.esm_filter.specs.Named.{is_named}
+use Rattle.esm_filter.specs.Named.{is_named, AreFew}
 use Rattle.esm_filter.proofs.LikeLemmas.{members_like}
 use Rattle.esm_filter.proofs.Tokens.{items_after, members_after}
 use Rattle.esm_filter.proofs.document.+read.Given as goal
@@ -35,6 +35,7 @@ invariant-read_members-members l =
     × (converted (λ ms. of_members ms no_members) (members (value l.depth) (length l.initial.reader) l.initial.reader) ≡ converted (members_after read) (members (value l.depth) n l.reader))
     × (length l.reader ≤ length l.initial.reader)
     × members_like (is_named (patterns_view l.patterns)) l.kept read (members_view l.found.items)
+    × AreFew (is_named (patterns_view l.patterns)) l.found.items
 
 abbrev pub decreases-read_members-members : goal.decreases-read_members-members
 decreases-read_members-members l = length l.reader

@@ -8,7 +8,7 @@ use Rattle.esm_filter.proofs.criteria.Criteria.passes_record.Goals as goal
 pub returns-in-Some : goal.returns-in-Some
 returns-in-Some c =
     of_own_fields c.args.self.now.patterns.items c.as_slice-patterns.result.now (in_record c.args.item.now (read_json c.args.item.now.payload)) c.in-Some.passes
-    c.as_slice-patterns.ensures.value (c.in-Some.ensures (read_json c.args.item.now.payload))
+    c.as_slice-patterns.ensures.value (c.in-Some.ensures.right (read_json c.args.item.now.payload))
 
 pub returns : goal.returns
 returns c =
