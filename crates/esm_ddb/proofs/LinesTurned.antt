@@ -5,7 +5,8 @@ use Rattle.std.specs.List.{AllZip}
 use Rattle.std.proofs.lemmas.List.{append-nil, drop_at, take_at}
 use Rattle.std.proofs.lemmas.List.Elements.{All-nil, AllZip-push}
 use Rattle.esm_record.specs.Input.{begun, ended, is_blank, lines_of}
-use Rattle.esm_record.proofs.Splits.{NoLineFeed, begun_at_end, begun_in_line, ended_at_end, ended_in_line, lines_are}
+use Rattle.esm_record.specs.LineBlocks.{NoLineFeed}
+use Rattle.esm_record.proofs.Splits.{begun_at_end, begun_in_line, ended_at_end, ended_in_line, lines_are}
 use Rattle.esm_ddb.specs.LineByLine.{IsTurnedLineByLine, behind}
 use Rattle.esm_ddb.specs.ReadsBack.{IsOfBytes}
 use Rattle.esm_ddb.specs.Translation.{Translation, add_line, after_line, line_feed, nothing_turned, translation_of, turned_lines}

@@ -4,7 +4,7 @@ use Rattle.std.specs.Prelude.{is_some, IsNone, OnOk}
 use Rattle.std.proofs.lemmas.List.{append-nil}
 use Rattle.std.proofs.lemmas.Bool.Decides.{nat_tests}
 use Rattle.esm_record.specs.Input.{lines_of, ended, begun, too_long}
-use Rattle.esm_record.specs.Splitting.{NoLineFeed, IsFirstLine}
+use Rattle.esm_record.specs.LineBlocks.{NoLineFeed, IsFirstLine}
 use Rattle.esm_record.proofs.Splits.{ended_in_line, begun_in_line, ended_at_end, begun_at_end}
 use Rattle.esm_ddb.specs.Translating.{State, Stands, HasRead}
 use Rattle.esm_ddb.specs.Translation.{Translation, add_line, after_line, line_feed, turned_lines, translation_so_far, translation_of}

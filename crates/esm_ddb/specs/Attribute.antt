@@ -5,7 +5,7 @@ use Rattle.std.specs.Str.{bytes_eq}
 use Rattle.serde_json.specs.Data.{Data, null, boolean, number, string, array, object, Items, no_items, item, Members, no_members, member}
 use Rattle.serde_json.specs.Find.{as_str}
 
--- the types of a text, of a list of texts
+-- the types whose values are texts, then those whose values are sets of texts
 abbrev pub is_text_type : List ℕ → Bool
 is_text_type tag = bytes_eq tag (codes "S") || (bytes_eq tag (codes "N") || bytes_eq tag (codes "B"))
 
@@ -17,7 +17,7 @@ are_texts no_items = true
 are_texts (item d more) = is_some (as_str d) && are_texts more
 
 abbrev mutual
-  -- an object with one member, whose name is the type of its value
+  -- an object with one member, named by the type of its value
   pub is_attribute : Data → Bool
   is_attribute null = false
   is_attribute (boolean b) = false
@@ -43,12 +43,12 @@ abbrev mutual
   are_attributes no_items = true
   are_attributes (item d more) = is_attribute d && are_attributes more
 
-  -- each member is an attribute and its value
+  -- each member is the name and the value of an attribute
   pub is_item : Members → Bool
   is_item no_members = true
   is_item (member name d more) = is_attribute d && is_item more
 
--- the value of a key: of a text's type
+-- the value of a key attribute: of type S, N or B
 abbrev pub is_key_typed : Members → Bool
 is_key_typed no_members = false
 is_key_typed (member tag d no_members) = is_text_type tag && is_some (as_str d)
@@ -66,7 +66,7 @@ abbrev pub are_key_values : Members → Bool
 are_key_values no_members = true
 are_key_values (member name d more) = is_key_value d && are_key_values more
 
--- at least one key
+-- one key or more
 abbrev pub are_keys : Members → Bool
 are_keys no_members = false
 are_keys (member name d more) = is_key_value d && are_key_values more

@@ -1,6 +1,6 @@
--- The change of an item that a line of a DynamoDB stream tells, and why a line tells none. Sources: the Amazon DynamoDB API
--- Reference, `Record` (`eventID`, `eventName`) and `StreamRecord`; that a change stands on one line with its shard and its
--- moment of arrival, as a record of a Kinesis stream does, is this product's own.
+-- The change of an item that a line of a DynamoDB stream states, and why a line states none. Sources: the Amazon DynamoDB
+-- API Reference, `Record` (`eventID`, `eventName`) and `StreamRecord`. That a line has a change with its shard and its
+-- moment of arrival, as a record of a Kinesis stream has, is this product's own.
 use Rattle.std.specs.Prelude.{ℕ, ◌^◌, nat_le, List, Bool, ◌||◌, codes, Option, Some, None, option_and_then, option_map, Result, Ok, Err}
 use Rattle.std.specs.Option.{ok_or}
 use Rattle.std.specs.Str.{bytes_eq}
@@ -14,7 +14,7 @@ use Rattle.esm_ddb.specs.declared.error.DdbError.TheVariants.{Missing, BadField}
 use Rattle.esm_ddb.specs.declared.error.DdbField.{DdbField}
 use Rattle.esm_ddb.specs.declared.error.DdbField.TheVariants as field
 
--- what the table's stream says of the item
+-- what the table's stream says of the item: the member `dynamodb`
 pub record StreamRecord : Type 0 where
   pub keys : Data
   pub new_image : Option Data
@@ -36,7 +36,7 @@ pub record Change : Type 0 where
 abbrev pub is_visible : ℕ → Bool
 is_visible b = is_between 33 126 b
 
--- 1 to 100 visible characters of ASCII
+-- 1 to 100 visible ASCII characters
 abbrev pub event_id : List ℕ → Option (List ℕ)
 event_id text = only_if (is_word is_visible 1 100 text) text
 
@@ -74,7 +74,7 @@ size_within (Some n) = only_if (nat_le n max_size) n
 abbrev pub size_of : Data → Option ℕ
 size_of d = size_within (option_and_then as_u64 (as_number d))
 
--- the member `dynamodb`, whose fields are judged together
+-- what the member `dynamodb` says; it is refused as a whole if one of its fields is bad
 abbrev pub stream_record : Data → Option StreamRecord
 stream_record d =
     option_and_then (λ keys.
@@ -99,13 +99,13 @@ name_of field.EventId = codes "eventID"
 name_of field.EventName = codes "eventName"
 name_of field.Dynamodb = codes "dynamodb"
 
--- one reading after another, up to the first refusal
+-- one reading after another; the first refusal ends them
 infixl 10 ◌>>=◌
 abbrev pub ◌>>=◌ : {A B : Type 0} → Result A DdbError → (A → Result B DdbError) → Result B DdbError
 (Ok x) >>= f = f x
 (Err e) >>= f = Err e
 
--- what the field says: it is there, and its value reads
+-- the field's value: the field is present, and its value is valid
 abbrev pub judged : {A : Type 0} → DdbField → (Data → Option A) → Option Data → Result A DdbError
 judged name reading None = Err (Missing name)
 judged name reading (Some value) = ok_or (reading value) (BadField name)
@@ -113,7 +113,7 @@ judged name reading (Some value) = ok_or (reading value) (BadField name)
 abbrev pub field_of : {A : Type 0} → DdbField → (Data → Option A) → Data → Result A DdbError
 field_of name reading line = judged name reading (get (name_of name) line)
 
--- the fields are judged in this order
+-- the fields are judged in this order, and the first bad one is named
 abbrev pub change_of : Data → Result Change DdbError
 change_of line = do
   shard ← field_of field.ShardId (of_text shard_number) line

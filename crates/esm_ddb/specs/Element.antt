@@ -1,6 +1,6 @@
--- The element of an event's `Records` that a change of an item is. Source: the Lambda Developer Guide, "Using Lambda with
--- DynamoDB" (the example event); that a moment is cut to whole seconds, that objects are written in the order of their
--- members' names and that there is no white space is this product's own.
+-- The element of an event's `Records` for the change of an item. Source: the Lambda Developer Guide, "Using Lambda with
+-- DynamoDB" (the example event). That the moment is cut to whole seconds, that objects have their members in the order of
+-- their names, and that there is no white space, is this product's own.
 use Rattle.std.specs.Prelude.{ℕ, ◌/◌, List, [], ◌++◌, codes, Option, Some, None}
 use Rattle.serde_json.specs.Data.{Data}
 use Rattle.esm_model.specs.JsonText.{quoted}
@@ -9,26 +9,26 @@ use Rattle.esm_ddb.specs.Change.{Change, StreamRecord}
 use Rattle.esm_ddb.specs.ItemText.{value_text}
 use Rattle.esm_ddb.specs.declared.source.Source.{Source}
 
--- which change it is
+-- the members that identify the change
 abbrev pub event_part : Source → Change → List ℕ
 event_part s c =
     codes "{\"eventID\":" ++ quoted c.id
     ++ codes ",\"eventName\":" ++ quoted c.name
     ++ codes ",\"eventVersion\":\"1.1\",\"eventSource\":\"aws:dynamodb\",\"awsRegion\":" ++ quoted s.region
 
--- after its name; an absent image is left out together with its name
+-- the member with an image; an absent image is left out together with its name
 abbrev pub image_part : List ℕ → Option Data → List ℕ
 image_part name None = []
 image_part name (Some d) = name ++ value_text d
 
--- the item before and after the change
+-- the item's keys, and its images after and before the change
 abbrev pub images_part : StreamRecord → List ℕ
 images_part r =
     codes ",\"Keys\":" ++ value_text r.keys
     ++ image_part (codes ",\"NewImage\":") r.new_image
     ++ image_part (codes ",\"OldImage\":") r.old_image
 
--- its place in the stream
+-- sequence number, size and view type
 abbrev pub place_part : StreamRecord → List ℕ
 place_part r =
     codes ",\"SequenceNumber\":" ++ quoted r.seq

@@ -1,11 +1,11 @@
--- How the keys and the images of an item are written: RFC 8259 without white space, the members of an object in the order of
--- their names. No attribute value has a JSON number; of one nothing is written.
+-- The JSON text of an item's keys and images: RFC 8259 without white space, the members of an object in the order of
+-- their names. No attribute value has a JSON number, so nothing is written for one.
 use Rattle.std.specs.Prelude.{◌≡◌, ℕ, List, [], ◌++◌, codes, Bool, true, false, if◌then◌else◌, Some, option_map}
 use Rattle.serde_json.specs.Data.{Data, null, boolean, number, string, array, object, Items, no_items, item, Members, no_members, member}
 use Rattle.esm_model.specs.Json.{read_json}
 use Rattle.esm_model.specs.JsonText.{quoted, truth_text}
 
--- a comma, where something stands before
+-- a comma, unless this is the first
 abbrev pub comma_if : Bool → List ℕ
 comma_if later = if later then codes "," else []
 
@@ -27,8 +27,8 @@ abbrev mutual
   members_text later no_members = codes "}"
   members_text later (member name d more) = comma_if later ++ (quoted name ++ (codes ":" ++ (value_text d ++ members_text true more)))
 
--- an example: the order is that of the names' bytes, whatever it is in the text that is read, and of a name that stands twice the
--- last value counts
+-- an example: members are in the order of their names' bytes, whatever their order in the text that is read; if a name
+-- occurs twice, the last value counts
 abbrev pub AreNamesInOrder : Type 0
 AreNamesInOrder =
     option_map value_text (read_json (codes "{\"ab\":{\"S\":\"x\"},\"a\":{\"N\":\"1\"}, \"B\":{\"BOOL\":true},\"a\":{\"N\":\"2\"}}"))

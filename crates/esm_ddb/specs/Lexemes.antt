@@ -1,5 +1,5 @@
--- The places at which lexemes begin, by the mode of the lexer, and of how many lexemes lists and objects consist. Only this
--- crate's proofs cite this.
+-- Where lexemes begin, by the mode of the lexer, and how many lexemes lists and objects have. Only this crate's proofs
+-- cite this.
 use Rattle.std.specs.Prelude.{ℕ, ◌+◌, List, [], ◌∷◌, ◌++◌, Bool, true, false, if◌then◌else◌}
 use Rattle.json.specs.Lex.{Class, quote, backslash, operator, space, other, class, Mode, between, in_word, in_string, in_escape}
 use Rattle.json.specs.Json.{Items, no_items, item, Members, no_members, member}
@@ -23,7 +23,7 @@ mode_of mode.InWord = in_word
 mode_of mode.InText = in_string
 mode_of mode.InEscape = in_escape
 
--- a lexeme begins with a byte of this class
+-- whether a lexeme begins with a byte of this class
 abbrev pub begins : Mode → Class → Bool
 begins between quote = true
 begins between backslash = true
@@ -41,12 +41,12 @@ begins in_escape c = false
 abbrev pub place_if : Bool → ℕ → List ℕ
 place_if is place = if is then place ∷ [] else []
 
--- the places from this one on
+-- the places at which lexemes begin; the bytes begin at place `p`
 unfoldable pub places_from : Mode → ℕ → List ℕ → List ℕ
 places_from m p [] = []
 places_from m p (x ∷ xs) = place_if (begins m (class x)) p ++ places_from (next m (class x)) (p + 1) xs
 
--- the items and members, each with what stands behind it
+-- the lexemes of the items or members, each with the one behind it
 abbrev pub items_sum : Items → ℕ
 items_sum no_items = 0
 items_sum (item j js) = size j + 1 + items_sum js

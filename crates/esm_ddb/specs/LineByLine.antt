@@ -1,5 +1,5 @@
--- The lines of the turned text are those of the input, each in its place, and its records are those of the changes that these
--- lines tell, in their order.
+-- The lines of the turned text are those of the input, each at its position, and its records are those of the changes
+-- that these lines state, in their order.
 use Rattle.std.specs.Prelude.{◌≡◌, ◌≤◌, ℕ, List, [], ◌∷◌, ◌++◌, drop, flat_map, if◌then◌else◌, length, map, take, Result, Ok, Err, None}
 use Rattle.std.specs.List.{All, AllZip}
 use Rattle.esm_model.specs.declared.item.Item.{Item}
@@ -16,18 +16,18 @@ use Rattle.esm_ddb.specs.declared.source.Source.{Source}
 
 -- ---- lines
 
--- behind the good lines of a text in which a bad one followed stands an empty line: each of them ends in a line feed
+-- an empty line follows the good lines of a text if a bad one followed in the input: each good line ends with a line feed
 abbrev pub behind : List (List ℕ) → List (List ℕ)
 behind [] = []
 behind (line ∷ lines) = [] ∷ []
 
--- the first lines of the input, as many as are good, became the lines of the text, each the one in its place
+-- each good line of the input was turned into the line of the text at the same position
 pub record IsLineByLine (s : Source) (bytes : List ℕ) (t : Translation) : Type 0 where
   pub many : t.lines ≤ length (lines_of bytes)
   pub texts : List (List ℕ)
   pub each : AllZip (λ line text. turned s line ≡ Ok text) (take t.lines (lines_of bytes)) texts
   pub are : lines_of t.text ≡ texts ++ behind (drop t.lines (lines_of bytes))
-  -- all of them where none is bad
+  -- all of them if none is bad
   pub all : t.bad ≡ None → drop t.lines (lines_of bytes) ≡ []
 
 abbrev pub IsTurnedLineByLine : Type 0
@@ -35,7 +35,7 @@ IsTurnedLineByLine = (s : Source) (bytes : List ℕ) → IsOfBytes s → IsLineB
 
 -- ---- records
 
--- the record is that of the change that this line tells
+-- the record is that of the change that this line states
 pub record IsOfChange (s : Source) (r : Record) : Type 0 where
   pub line : List ℕ
   pub change : Change
@@ -46,11 +46,11 @@ abbrev pub record_told : Source → Result Change DdbError → List Record
 record_told s (Ok change) = turned_record s change ∷ []
 record_told s (Err why) = []
 
--- a blank line tells none
+-- a blank line states none
 abbrev pub record_in : Source → List ℕ → List Record
 record_in s line = if is_blank line then [] else record_told s (change_in line)
 
--- of lines, in their order
+-- the records of these lines, in their order
 abbrev pub records_of : Source → List (List ℕ) → List Record
 records_of s lines = flat_map (record_in s) lines
 
@@ -58,16 +58,16 @@ records_of s lines = flat_map (record_in s) lines
 abbrev pub good_records : Source → List ℕ → List Record
 good_records s bytes = records_of s (take (translation_of s bytes).lines (lines_of bytes))
 
--- the items are records of these, in their order, from the first on
+-- the items are the first of these records, in their order
 abbrev pub AreFirst : List Item → List Record → Type 0
 AreFirst items records = (more : List Item) × (map Stream records ≡ items ++ more)
 
--- Of an input's text, or of its first bytes, the records of the input's good lines are read, also where those bytes are read as if no
--- others followed: a line that is cut off is refused.
+-- A text that is the turned input or a prefix of it reads as the first records of the input's good lines, in their order.
+-- This also holds if the text is read as if more followed; a line that is cut off is refused.
 pub record HasRecordsOf (s : Source) (bytes text : List ℕ) : Type 0 where
   pub so_far : AreFirst (input_so_far kinds.Stream text).items (good_records s bytes)
   pub whole : AreFirst (input_of kinds.Stream text).items (good_records s bytes)
-  -- all of them where none is refused
+  -- all of them, if the text is whole and none is refused
   pub all : text ≡ (translation_of s bytes).text → (input_of kinds.Stream text).bad ≡ None → (input_of kinds.Stream text).items ≡ map Stream (good_records s bytes)
 
 abbrev pub HasRecordsOfLines : Type 0

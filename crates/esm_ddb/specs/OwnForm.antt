@@ -1,5 +1,5 @@
--- An event in the form in which a stream's events are written, cut into the texts of its elements. Only this crate's proofs cite
--- this.
+-- An event in the form in which this engine writes a stream's events, cut into the texts of its elements. Only this
+-- crate's proofs cite this.
 use Rattle.std.specs.Prelude.{◌≡◌, ◌≤◌, ◌<◌, ℕ, List, ◌∷◌, ◌++◌, codes, get_or, length, Bool, true, ◌&&◌, ◌||◌, ◌==◌, nat_le, nat_lt, not, Some}
 use Rattle.std.specs.Char.{is_ascii_digit}
 use Rattle.std.specs.List.{All, flat_map, list_all}
@@ -13,11 +13,11 @@ use Rattle.esm_ddb.specs.Event.{ddb_event}
 abbrev pub is_plain : ℕ → Bool
 is_plain b = nat_le 32 b && nat_lt b 128
 
--- of a text that stands in JSON as it is
+-- a byte that a JSON string has as it is
 abbrev pub is_kept : ℕ → Bool
 is_kept b = nat_le 32 b && not (b == 34) && not (b == 92)
 
--- that need no escape
+-- an ASCII byte that needs no escape
 abbrev pub is_unescaped : ℕ → Bool
 is_unescaped b = is_plain b && not (b == 34) && not (b == 92)
 
@@ -50,7 +50,7 @@ part_g = codes "\",\"awsRegion\":\""
 abbrev pub part_h : List ℕ
 part_h = codes "\",\"eventSourceARN\":\""
 
--- its texts, and its moment
+-- the texts of an element, and its moment
 pub record Texts : Type 0 where
   pub key : List ℕ
   pub seq : List ℕ
@@ -76,7 +76,7 @@ pub record IsMoment (m : List ℕ) : Type 0 where
   pub fraction_digits : list_all is_ascii_digit fraction ≡ true
   pub three : length fraction ≡ 3
 
--- the seconds and the thousandths of a moment, of one second or more
+-- the seconds and the milliseconds of a moment of one second or later
 pub record AreParts (whole fraction : List ℕ) : Type 0 where
   pub digits : list_all is_ascii_digit whole ≡ true
   pub some : 0 < length whole
@@ -96,7 +96,7 @@ pub record AreUnescaped (t : Texts) : Type 0 where
   pub arn : list_all is_unescaped t.arn ≡ true
   pub moment : IsMoment t.moment
 
--- an element as it is written, and the bytes of its data
+-- an element in this form, and the bytes of its data
 pub record Own : Type 0 where
   pub texts : Texts
   pub payload : List ℕ
@@ -116,13 +116,13 @@ other_texts os = flat_map (λ (o : Own). codes "," ++ whole_text o.texts) os
 abbrev pub other_payloads : List Own → List ℕ
 other_payloads os = flat_map (λ (o : Own). codes "," ++ o.payload) os
 
--- Up to what is left of it the event became this text: whatever elements are left, theirs follow.
+-- Up to what is left of it, the event is turned into `out`; the data of whatever elements are left follows.
 pub record Becomes (event out left : List ℕ) : Type 0 where
   pub when : (os : List Own) → All IsOwn os → left ≡ other_texts os ++ codes "]}" → ddb_event event ≡ out ++ (other_payloads os ++ codes "]}")
 
--- ---- what is read of it
+-- ---- what is read of the event
 
--- bytes that pass the test stand before the rest
+-- the text begins with bytes that pass the test, before the rest
 pub record Passes (test : ℕ → Bool) (text rest : List ℕ) : Type 0 where
   pub passed : List ℕ
   pub is : text ≡ passed ++ rest
@@ -133,7 +133,7 @@ pub record PassesMoment (text rest : List ℕ) : Type 0 where
   pub is : text ≡ moment ++ rest
   pub read : IsMoment moment
 
--- what an element ends with, the same in each of an event
+-- how an element ends, which is the same for each element of an event
 abbrev pub tail_text : (role region arn : List ℕ) → List ℕ
 tail_text role region arn = part_f ++ (role ++ (part_g ++ (region ++ (part_h ++ (arn ++ codes "\"}")))))
 
@@ -146,7 +146,7 @@ pub record IsTail (tail : List ℕ) : Type 0 where
   pub region_plain : list_all is_unescaped region ≡ true
   pub arn_plain : list_all is_unescaped arn ≡ true
 
--- an element up to its data
+-- the text begins with an element up to its data
 pub record PassesNumber (text rest : List ℕ) : Type 0 where
   pub key : List ℕ
   pub seq : List ℕ
@@ -161,7 +161,7 @@ pub record IsDecoded (text before after : List ℕ) : Type 0 where
   pub data_is : result_ok (decode_of standard text) ≡ Some payload
   pub written : after ≡ before ++ payload
 
--- its data
+-- the text begins with an element's data, which was decoded and written
 pub record PassesData (text rest before after : List ℕ) : Type 0 where
   pub bytes : List ℕ
   pub payload : List ℕ
@@ -170,7 +170,7 @@ pub record PassesData (text rest before after : List ℕ) : Type 0 where
   pub data_is : result_ok (decode_of standard bytes) ≡ Some payload
   pub written : after ≡ before ++ payload
 
--- what stands between its data and its tail
+-- the text begins with the members between an element's data and its end
 pub record PassesId (text rest : List ℕ) : Type 0 where
   pub moment : List ℕ
   pub id : List ℕ
@@ -178,7 +178,7 @@ pub record PassesId (text rest : List ℕ) : Type 0 where
   pub moment_is : IsMoment moment
   pub id_plain : list_all is_unescaped id ≡ true
 
--- an element up to its tail
+-- the text begins with an element up to its end
 pub record PassesFront (text rest before after : List ℕ) : Type 0 where
   pub key : List ℕ
   pub seq : List ℕ
@@ -199,7 +199,7 @@ pub record PassesTail (text tail rest : List ℕ) : Type 0 where
   pub is : text ≡ tail ++ rest
   pub tail_is : IsTail tail
 
--- a whole element
+-- the text begins with a whole element, whose data was written
 pub record PassesOwn (text rest before after : List ℕ) : Type 0 where
   pub own : Own
   pub is_own : IsOwn own

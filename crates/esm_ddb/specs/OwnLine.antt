@@ -1,5 +1,6 @@
--- A line in the form that is recognised: the members in the order of the table of fields, without white space, those of keys and
--- images in the order of their names, each attribute value a text, and no text with an escape. Only this crate's proofs cite this.
+-- A line in the form that is recognized without parsing: its members in the order of the table of fields, without white
+-- space, those of keys and images in the order of their names, each attribute value a text, and no text with an escape.
+-- Only this crate's proofs cite this.
 use Rattle.std.specs.Prelude.{◌≡◌, ◌≤◌, ℕ, List, [], ◌∷◌, ◌++◌, codes, Bool, true, false, Option, Some, None, ⊤}
 use Rattle.std.specs.List.{All, list_all}
 use Rattle.json.specs.Json as json
@@ -23,7 +24,7 @@ use Rattle.esm_ddb.specs.declared.source.Source.{Source}
 
 -- ---- attributes
 
--- whose value is a text
+-- an attribute whose value is a text
 pub record TextAttribute : Type 0 where
   pub name : List ℕ
   pub tag : List ℕ
@@ -53,7 +54,7 @@ trees_of (a ∷ xs) = json.member a.name (json.object (json.member a.tag (json.s
 
 -- ---- keys and images
 
--- it stands in the line as it is written, and reads back
+-- the line has its text as this product writes it, and it reads back
 pub record IsOwnItem (d : Data) : Type 0 where
   pub written : compact_text d ≡ value_text d
   pub numbers : tree.HasNumbers (outline d)
@@ -99,9 +100,9 @@ pub record IsOwnChange (shard : List ℕ) (c : Change) : Type 0 where
   pub old_image : IsOwnImage c.item.old_image
   pub place : IsOwnPlace c.item
 
--- ---- what is read of it
+-- ---- what is read of the line
 
--- a text up to its quotation mark
+-- the text begins with this text up to a quotation mark
 pub record PassesText (text passed rest : List ℕ) : Type 0 where
   pub is : text ≡ passed ++ 34 ∷ rest
   pub kept : list_all is_kept passed ≡ true
@@ -112,7 +113,7 @@ pub record PassesAttribute (text name rest : List ℕ) : Type 0 where
   pub is : text ≡ attribute_text attribute ++ rest
   pub name_is : name ≡ attribute.name
 
--- attributes, of which there is one at least, and the closing brace
+-- the text begins with one attribute or more, and the closing brace
 pub record PassesAttributes (text rest : List ℕ) : Type 0 where
   pub first : TextAttribute
   pub others : List TextAttribute
@@ -120,7 +121,8 @@ pub record PassesAttributes (text rest : List ℕ) : Type 0 where
   pub order : is_in_order (trees_of (first ∷ others)) ≡ true
   pub is : text ≡ attributes_text false (first ∷ others) ++ rest
 
--- up to what is left of it, before which this name stands: whatever good attributes are left, the text has attributes
+-- The text begins with attributes, the last of which has this name, before what is left of it: whatever good attributes
+-- are left, the text begins with attributes.
 pub record Leads (text name left : List ℕ) : Type 0 where
   pub when : (xs : List TextAttribute) (rest : List ℕ) → All IsTextAttribute xs → goes_on (Some name) (trees_of xs) ≡ true → is_in_order (trees_of xs) ≡ true
       → left ≡ attributes_text true xs ++ rest → PassesAttributes text rest
@@ -178,7 +180,7 @@ pub record PassesEvent (text event rest : List ℕ) : Type 0 where
   pub name_kept : list_all is_kept name ≡ true
   pub name_reads : event_name name ≡ Some name
 
--- the pieces are those of a change that the text tells
+-- the pieces are those of a change that the text states
 pub record IsTold (text : List ℕ) (o : OwnLine) : Type 0 where
   pub change : Change
   pub told : (s : Source) → turned_value s (read text) ≡ turned_change s change

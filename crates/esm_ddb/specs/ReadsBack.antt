@@ -1,4 +1,4 @@
--- A line that is turned reads back as the record of its change.
+-- A turned line reads back as the record of its change.
 use Rattle.std.specs.Prelude.{◌≡◌, ◌≤◌, ℕ, nat_lt, List, [], ◌∷◌, length, Bool, true, false, Result, Ok}
 use Rattle.std.specs.List.{list_all}
 use Rattle.std.specs.Option.{ok_or}
@@ -15,7 +15,7 @@ use Rattle.esm_ddb.specs.declared.source.Source.{Source}
 abbrev pub is_byte : ℕ → Bool
 is_byte b = nat_lt b 256
 
--- the change that a line tells
+-- the change that a line states
 abbrev pub change_in : List ℕ → Result Change DdbError
 change_in line = ok_or (only_object (read_json line)) NotJson >>= change_of
 
@@ -25,12 +25,12 @@ pub record IsOneLine (text : List ℕ) : Type 0 where
   pub seen : is_blank text ≡ false
   pub short : length text ≤ MAX_LINE
 
--- the region and the ARN of the stream are bytes
+-- the region and the ARN of the stream are lists of bytes
 pub record IsOfBytes (s : Source) : Type 0 where
   pub region : list_all is_byte s.region ≡ true
   pub arn : list_all is_byte s.arn ≡ true
 
--- of a line that is not blank: it tells a change, and what it became is the line of that change's record
+-- a line that is not blank states a change, and it was turned into the line of that change's record
 pub record ReadsBack (s : Source) (line text : List ℕ) : Type 0 where
   pub change : Change
   pub told : change_in line ≡ Ok change

@@ -16,23 +16,23 @@ use Rattle.esm_ddb.specs.LineByLine.{IsOfChange}
 use Rattle.esm_ddb.specs.ReadsBack.{IsOfBytes}
 use Rattle.esm_ddb.specs.Translating.{source_of}
 
--- the records' own data in the batch's order, and behind them what the event says of its window
+-- the data of the records in the order of the batch, and then what the event says of its window
 abbrev pub elements_event : Config → List Record → Option WindowCall → List ℕ
 elements_event c rs w = codes "{\"Records\":[" ++ join_by (λ r. r.payload) (codes ",") rs ++ codes "]" ++ window_part c w ++ codes "}"
 
--- The text reads as a JSON object, in an event too, where it stands one level deeper.
+-- The text reads as a JSON object, also in an event, where it is nested one level deeper.
 pub record IsState (text : List ℕ) : Type 0 where
   pub utf8 : is_utf8 text ≡ true
   pub members : json.Members
   pub reads : json.value (max_depth - 1) (tokens text) ≡ Some (json.object members, [])
   pub in_range : is_some (of_json (json.object members)) ≡ true
 
--- the state of the event's window, if it has one; a window without a state yet has `{}`
+-- the state of the event's window, if it has one, reads so; a window without a state yet has `{}`
 abbrev pub HasState : Option WindowCall → Type 0
 HasState None = ⊤
 HasState (Some w) = IsState (state_text w.state.text)
 
--- An event becomes the event whose `Records` are exactly the elements that its records carry.
+-- An event is turned into the event whose `Records` are exactly the elements that its records carry.
 abbrev pub HasItsElements : Type 0
 HasItsElements = (c : Config) (rs : List Record) (w : Option WindowCall) → IsStreamConfig c → All (IsOfChange (source_of c)) rs → HasState w
     → ddb_event (event_text c rs w) ≡ elements_event c rs w
@@ -40,15 +40,16 @@ HasItsElements = (c : Config) (rs : List Record) (w : Option WindowCall) → IsS
 abbrev pub HasFirstState : Type 0
 HasFirstState = IsState (state_text [])
 
--- and the state that a window has after a function's answer, whatever that is
+-- and so does the state that a window has after a function's answer, whatever the answer is
 abbrev pub HasAnsweredState : Type 0
 HasAnsweredState = (body : List ℕ) → IsState (state_text (answered_state body))
 
--- The changed event is no longer than the event, and so within the limit of events: an element is shorter than its base64.
+-- The turned event is no longer than the event, so it is within the limit of events: an element is shorter than its
+-- base64.
 abbrev pub IsNoLonger : Type 0
 IsNoLonger = (c : Config) (rs : List Record) (w : Option WindowCall) → IsStreamConfig c → All (IsOfChange (source_of c)) rs → HasState w
     → length (ddb_event (event_text c rs w)) ≤ length (event_text c rs w)
 
--- the region and the ARN of a valid mapping are bytes
+-- the region and the ARN of a valid mapping are lists of bytes
 abbrev pub HasSourceOfBytes : Type 0
 HasSourceOfBytes = (c : Config) → IsStreamConfig c → IsOfBytes (source_of c)

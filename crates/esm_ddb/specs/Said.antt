@@ -1,4 +1,4 @@
--- What the code's changes mean. Only this crate's proofs cite this.
+-- The code's changes, as the definitions have them. Only this crate's proofs cite this.
 use Rattle.std.specs.Borrow.{Bor}
 use Rattle.std.specs.Prelude.{Option, option_map}
 use Rattle.std.specs.declared.alloc.Global.{Global}

@@ -1,4 +1,4 @@
--- What the code's splitter means. Only this crate's proofs cite this.
+-- The code's splitter, as the definitions have its state. Only this crate's proofs cite this.
 use Rattle.esm_ddb.specs.Translating.{State}
 use Rattle.esm_ddb.specs.declared.splitter.Splitter.{Splitter}
 

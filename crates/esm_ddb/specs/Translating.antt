@@ -1,4 +1,4 @@
--- What a translator keeps of what it was fed.
+-- The state of a translator, by what it was fed.
 use Rattle.std.specs.Prelude.{◌≡◌, ℕ, ◌≤◌, Bool, List, [], ◌++◌, length, Option, IsNone}
 use Rattle.esm_model.specs.declared.config.Config.{Config}
 use Rattle.esm_model.specs.declared.limits.TheConstants.{MAX_LINE}
@@ -10,14 +10,14 @@ use Rattle.esm_ddb.specs.declared.source.Source.{Source}
 abbrev pub source_of : Config → Source
 source_of c = record { region = c.region; arn = c.source_arn }
 
--- the good lines so far, the line that has begun, and the first bad line
+-- the number of good lines so far, the unfinished line, and the first bad line
 pub record State : Type 0 where
   pub source : Source
   pub good : ℕ
   pub begun : List ℕ
   pub bad : Option DdbLine
 
--- it stands at the end of this translation, whose text is that before the call and the call's
+-- it is at the end of this translation, whose text is that before the call and then that of the call
 pub record Stands (t : Translation) (before given : List ℕ) (s : State) : Type 0 where
   pub text : t.text ≡ before ++ given
   pub bad : t.bad ≡ s.bad
@@ -35,6 +35,6 @@ IsFed bytes s = HasRead bytes [] (translation_so_far s.source bytes).text s
 -- what contracts see of a translator
 pub record Translating : Type 0 where
   pub state : State
-  -- a call of it was short of memory
+  -- a call ran out of memory
   pub failed : Bool
   pub finished : Bool

@@ -1,5 +1,5 @@
--- A JSON tree whose objects have their members in the order of their names, and the value that it is then as it stands. Only
--- this crate's proofs cite this.
+-- A JSON tree whose objects have their members in the order of their names, and the value that it is. Only this crate's
+-- proofs cite this.
 use Rattle.std.specs.Prelude.{ℕ, List, Bool, true, ◌&&◌, pos, Option, Some, None, is_some, unwrap_or, option_and_then, Result}
 use Rattle.std.specs.Option.{ok_or}
 use Rattle.std.specs.Cmp.Lexicographic.{slice_cmp}
@@ -13,7 +13,7 @@ use Rattle.serde_json.specs.Read.{max_depth, number_of}
 use Rattle.esm_ddb.specs.declared.error.DdbError.{DdbError}
 use Rattle.esm_ddb.specs.declared.error.DdbError.TheVariants.{NotJson}
 
--- a number that is out of range is none, and stands for one that is no whole number from 0
+-- a number out of range has no value; a negative one takes its place, which no field accepts
 abbrev pub number_in : List ℕ → Num
 number_in s = unwrap_or (number_of s) (negative (pos 0))
 
@@ -37,23 +37,23 @@ abbrev mutual
 abbrev pub is_before : List ℕ → List ℕ → Bool
 is_before k l = is_lt (slice_cmp nat_cmp k l)
 
--- the name stands before that of the first member
+-- the name comes before that of the first member
 abbrev pub is_first : List ℕ → Members → Bool
 is_first k no_members = true
 is_first k (member l j ms) = is_before k l
 
--- the name may stand after the one that stood before, if one did
+-- the name may follow the one before it, if there is one
 abbrev pub follows : Option (List ℕ) → List ℕ → Bool
 follows None k = true
 follows (Some l) k = is_before l k
 
--- the same of the first member's name
+-- the first member's name may follow this one, if there is one
 abbrev pub goes_on : Option (List ℕ) → Members → Bool
 goes_on None ms = true
 goes_on (Some k) ms = is_first k ms
 
 abbrev mutual
-  -- each number is in range, and the names of each object rise
+  -- each number is in range, and the names of each object are in ascending order
   pub is_ordered : Json → Bool
   is_ordered null = true
   is_ordered (boolean b) = true
@@ -88,7 +88,7 @@ abbrev mutual
   members_ranged no_members = true
   members_ranged (member k j ms) = is_ranged j && members_ranged ms
 
--- the one value that tokens are
+-- the one value that the tokens are
 abbrev pub whole_tree : List Token → Option Json
 whole_tree ts = option_and_then (λ p. if_last p.0 p.1) (json.value max_depth ts)
 

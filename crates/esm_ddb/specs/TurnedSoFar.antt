@@ -10,18 +10,19 @@ use Rattle.esm_ddb.specs.declared.input.InputTurned.{InputTurned}
 use Rattle.esm_ddb.specs.declared.input.InputTurned.TheVariants as ends
 use Rattle.esm_ddb.specs.declared.source.Source.{Source}
 
--- of the bytes that were turned: all their lines where the source ended, else those that ended, and a last one that is too long
+-- the bytes turned: all their lines if the source ended, otherwise those that ended, and an unfinished one that is too
+-- long
 abbrev pub translation_read : Source → (whole : Bool) → List ℕ → Translation
 translation_read s true bytes = translation_of s bytes
 translation_read s false bytes = translation_so_far s bytes
 
--- why the reading ends, if it does: a bad line comes before the end of the source
+-- why the reading ends, if it does: a bad line counts before the end of the source
 abbrev pub end_by : (whole : Bool) → Option DdbLine → Option InputTurned
 end_by whole (Some line) = Some (ends.BadLine line)
 end_by true None = Some ends.Ended
 end_by false None = None
 
--- these bytes were read of the source
+-- these bytes were read from the source
 pub record IsRead {S : Type 0} (faults : S → ℕ) (left : S → Option (List ℕ)) (old new : S) (bytes : List ℕ) : Type 0 where
   pub front : TakesFront (left old) (left new) bytes
   pub count : IsCount (faults old) (faults new)
@@ -35,7 +36,7 @@ pub record IsTurnedSoFar {S : Type 0} (faults : S → ℕ) (left : S → Option 
   pub source : t.state.source ≡ s
   pub so_far : IsGoodSoFar s bytes text
 
--- after one piece more
+-- after one more piece
 abbrev pub StandsSo : {S : Type 0} → (faults : S → ℕ) (left : S → Option (List ℕ)) → Source → (old now : S) → Translating → (text : List ℕ) → Option InputTurned → Type 0
 StandsSo faults left s old now t text None = IsTurnedSoFar faults left s old now t text
 StandsSo faults left s old now t text (Some end) = IsTurnedInput faults left s old now text end

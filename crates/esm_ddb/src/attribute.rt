@@ -1,4 +1,4 @@
-//! Whether a value is an attribute value, an item or the keys of one.
+//! Validating a value as an attribute value, as an item or as the keys of one.
 ghost use Rattle.std.specs.Prelude.{◌≡◌};
 ghost use Rattle.serde_json.specs.Data.{array};
 ghost use Rattle.json.specs.Value.{items_view, members_view, value_view};
@@ -32,7 +32,7 @@ fn are_texts(items: &Vec<Value<'_>>) -> bool
     true
 }
 
-/// Whether the value is an object with one member, whose name is the type of its value.
+/// Whether the value is an object with one member, named by the type of its value.
 #[cycle(attributes)]
 pub fn is_attribute(value: &Value<'_>) -> bool
     ensures { result ≡ is_attribute (data_in (value_view value.now)) }
@@ -93,7 +93,7 @@ fn are_attributes(items: &Vec<Value<'_>>) -> bool
     true
 }
 
-/// Whether each member is an attribute and its value.
+/// Whether each member is the name and the value of an attribute.
 #[cycle(attributes)]
 pub fn is_item(members: &Vec<(&str, Value<'_>)>) -> bool
     ensures { result ≡ is_item (members_in (members_view members.now.items)) }
@@ -139,7 +139,7 @@ fn are_key_values(members: &Vec<(&str, Value<'_>)>) -> bool
     true
 }
 
-/// Whether each member is a key and its value, and there is one at least.
+/// Whether each member is the name and the value of a key attribute, and there is at least one.
 pub fn are_keys(members: &Vec<(&str, Value<'_>)>) -> bool
     ensures { result ≡ are_keys (members_in (members_view members.now.items)) }
 {

@@ -1,21 +1,18 @@
-// Blocks of lines that are turned side by side, each as if no line stood before it, and put together in order.
+// Blocks of lines that are turned side by side, each on its own, and then put together in order.
 ghost use Rattle.std.specs.Prelude.{◌≡◌, ◌+◌, ◌++◌, [], ℕ, List, IfOk};
 ghost use Rattle.std.specs.Thread.{IsSync};
 ghost use Rattle.esm_record.specs.Input.{lines_of, begun};
 ghost use Rattle.esm_ddb.specs.Blocks.{IsTurnedBlock, behind};
 ghost use Rattle.esm_ddb.specs.declared.source.Source.{Source as Stream};
 
-use crate::cut::{lines_up_to, share_of};
 use crate::error::DdbLine;
 use crate::source::Source;
 use crate::splitter::{GROWTH, Splitter};
 use crate::text_pieces::push_piece;
 use esm_model::{Bytes, OutOfMemory};
+use esm_record::line_blocks::{lines_up_to, share_of, threads_worth};
 use std::alloc::Global;
 use std::thread::{Threads, join};
-
-/// Bytes of the shortest block that is worth a thread of its own.
-const MIN_BLOCK: usize = 32_768;
 
 /// What the lines of a block became up to the first bad one, in pieces; how many of them are good; and the first bad one,
 /// counted from 1 in the block.
@@ -26,14 +23,14 @@ pub struct Block {
     pub bad: Option<DdbLine>,
 }
 
-/// How many lines are good, and the first bad one.
+/// The number of good lines, and the first bad one.
 #[derive(Clone, Copy)]
 pub struct Counted {
     pub good: u64,
     pub bad: Option<DdbLine>,
 }
 
-/// The count of the lines where so many good ones stand before a block's.
+/// The count of the lines up to the end of a block, whose lines follow `before` good ones.
 pub fn counted_on(before: u64, good: u64, bad: Option<DdbLine>) -> Result<Counted, OutOfMemory>
     ensures good { IfOk result (λ counted. counted.good ≡ before + good) }
     ensures bad { IfOk result (λ counted. counted.bad ≡ behind before bad) }
@@ -56,7 +53,7 @@ pub fn counted_on(before: u64, good: u64, bad: Option<DdbLine>) -> Result<Counte
     })
 }
 
-/// Turns the lines of the block whose line feeds came, up to the first bad one.
+/// Turns the ended lines of the block, up to the first bad one.
 fn turn_block(alloc: Global, source: &Source, lines: &[u8]) -> Result<Block, OutOfMemory>
     ensures { IfOk result (λ block. IsTurnedBlock source.now lines.now block) }
 {
@@ -73,7 +70,7 @@ fn turn_block(alloc: Global, source: &Source, lines: &[u8]) -> Result<Block, Out
 }
 
 impl Block {
-    /// What its lines and then those of the next block became; nothing after a bad line.
+    /// What its lines and then those of the next block are turned into; nothing after a bad line.
     fn with_next(self, next: Block) -> Result<Block, OutOfMemory>
         ensures { (s : Stream) (xs ys : List ℕ) → begun (lines_of xs) ≡ [] → IsTurnedBlock s xs self
             → IsTurnedBlock s ys next → IfOk result (λ block. IsTurnedBlock s (xs ++ ys) block) }
@@ -96,7 +93,7 @@ impl Block {
     }
 }
 
-/// What the lines of both parts became.
+/// What the lines of both parts are turned into.
 fn both(
     front: Result<Block, OutOfMemory>,
     back: Result<Block, OutOfMemory>,
@@ -108,7 +105,7 @@ fn both(
     block.with_next(back?)
 }
 
-/// Turns the lines of the block, in blocks of about equal length side by side on so many threads, this one among them.
+/// Turns the lines of the block on `threads` threads side by side, this one among them, in blocks of about equal length.
 #[cycle(blocks)]
 fn turn_blocks<R: Threads + Sync>(
     rt: &R,
@@ -137,7 +134,7 @@ fn turn_blocks<R: Threads + Sync>(
     both(ahead, after)
 }
 
-/// Turns the lines of the block whose line feeds came, up to the first bad one, on up to so many threads side by side.
+/// Turns the ended lines of the block, up to the first bad one, on up to `threads` threads side by side.
 pub fn turn_lines<R: Threads + Sync>(
     rt: &R,
     alloc: Global,
@@ -147,6 +144,6 @@ pub fn turn_lines<R: Threads + Sync>(
 ) -> Result<Block, OutOfMemory>
     ensures { IfOk result (λ block. IsTurnedBlock source.now lines.now block) }
 {
-    let threads = threads.min(lines.len() / MIN_BLOCK);
+    let threads = threads_worth(lines.len(), threads);
     turn_blocks(rt, alloc, source, threads, lines)
 }

@@ -1,4 +1,4 @@
-// A caller that is handed events of a stream and calls with those of a DynamoDB stream.
+// A caller that gets events of a stream and calls with those of a DynamoDB stream.
 ghost use Rattle.std.specs.Prelude.{◌≡◌, min};
 ghost use Rattle.esm_io.specs.Faults.{MAX_FAULTS};
 ghost use Rattle.esm_ddb.specs.Event.{ddb_event};
@@ -8,7 +8,8 @@ use esm_io::Caller;
 use esm_model::{OutOfMemory, Reply};
 use std::alloc::Global;
 
-/// A caller over another, which it calls with the event of the DynamoDB stream's records. Its faults are those of the other.
+/// A caller over another, which it calls with the event of the DynamoDB stream's records. Its faults are those of the one
+/// below.
 #[derive(Drop)]
 pub struct DdbCaller<F: Caller> {
     /// The caller below.
@@ -16,14 +17,14 @@ pub struct DdbCaller<F: Caller> {
 }
 
 impl<F: Caller> DdbCaller<F> {
-    /// Takes no memory.
+    /// Makes the caller over `inner`. Takes no memory.
     pub fn new(inner: F) -> DdbCaller<F>
         ensures { result.inner ≡ inner }
     {
         DdbCaller { inner }
     }
 
-    /// The caller below, as the calls left it.
+    /// Returns the caller below, as the calls left it.
     pub fn into_inner(self) -> F
         ensures { result ≡ self.inner }
     {

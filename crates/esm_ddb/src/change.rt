@@ -1,4 +1,4 @@
-//! The change of an item that a line of a DynamoDB stream tells.
+//! The change of an item that a line of a DynamoDB stream states.
 ghost use Rattle.std.specs.Prelude.{◌≡◌, option_and_then, option_map, true};
 ghost use Rattle.std.specs.List.{list_all};
 ghost use Rattle.std.specs.Result.{result_map_both};
@@ -17,10 +17,10 @@ use esm_model::spelling::is_sequence;
 use esm_record::shard_number;
 use json::Value;
 
-/// The greatest size of an item in bytes that a line may tell.
+/// The greatest size of an item that a line may state, in bytes.
 pub const MAX_SIZE: u64 = 9_007_199_254_740_992;
 
-/// What the table's stream says of the item.
+/// What the table's stream says of the item: the member `dynamodb`.
 #[derive(Clone, Copy)]
 pub struct StreamRecord<'a, 't> {
     pub keys: &'a Value<'t>,
@@ -32,7 +32,7 @@ pub struct StreamRecord<'a, 't> {
     pub view: &'t str,
 }
 
-/// The change of an item.
+/// The change of an item, borrowed from the parsed line.
 #[derive(Clone, Copy)]
 pub struct Change<'a, 't> {
     pub shard: u64,
@@ -184,7 +184,7 @@ fn keys_in<'a, 't>(field: Option<&'a Value<'t>>) -> Option<&'a Value<'t>>
     }
 }
 
-/// An image, which may be absent.
+/// An image, which may be absent; `None` if it is present and not an item.
 fn image_in<'a, 't>(field: Option<&'a Value<'t>>) -> Option<Option<&'a Value<'t>>>
     ensures { option_map data_of result ≡ spec.image_of (data_of field.entry) }
 {
@@ -203,7 +203,7 @@ fn image_in<'a, 't>(field: Option<&'a Value<'t>>) -> Option<Option<&'a Value<'t>
     }
 }
 
-/// What the member `dynamodb` says.
+/// What the member `dynamodb` says; `None` if one of its fields is absent or bad.
 fn stream_record<'a, 't>(value: &'a Value<'t>) -> Option<StreamRecord<'a, 't>>
     requires { is_ordered (value_view value.now) ≡ true }
     ensures { option_map record_view result ≡ spec.stream_record (data_in (value_view value.entry.now)) }
@@ -296,7 +296,7 @@ fn item_of<'a, 't>(line: &'a Value<'t>) -> Result<StreamRecord<'a, 't>, DdbError
     }
 }
 
-/// The change that the object tells; the first of its fields that is absent or wrong.
+/// Returns the change that the object states, or the first of its fields that is absent or bad.
 pub fn change_of<'a, 't>(line: &'a Value<'t>) -> Result<Change<'a, 't>, DdbError>
     requires { is_ordered (value_view line.now) ≡ true }
     ensures { result_map_both change_view (λ e. e) result ≡ spec.change_of (data_in (value_view line.entry.now)) }

@@ -1,4 +1,4 @@
-// The configuration of a mapping that reads the stream of a DynamoDB table.
+// The configuration of a mapping whose source is the stream of a DynamoDB table.
 ghost use Rattle.std.specs.Prelude.{◌≡◌, Some, IfOk};
 ghost use Rattle.serde_json.specs.View.{view};
 ghost use Rattle.esm_config.specs.Answer.{IfBad};
@@ -11,10 +11,10 @@ use esm_model::Config;
 use serde_json::Value;
 use std::alloc::Global;
 
-/// The configuration of a mapping's object whose source is the stream of a DynamoDB table,
-/// `arn:aws:dynamodb:REGION:ACCOUNT:table/NAME/stream/LABEL`, in the fields of `CreateEventSourceMapping` of the Lambda API
-/// reference. `StartingPosition` is `TRIM_HORIZON`; a pattern has at most 4,087 characters and is kept as `{"data":PATTERN}`.
-/// Refusals as in `esm_config::read`.
+/// Reads the configuration of a mapping from its JSON object, whose source is the stream of a DynamoDB table,
+/// `arn:aws:dynamodb:REGION:ACCOUNT:table/NAME/stream/LABEL`, with the fields of `CreateEventSourceMapping` of the Lambda
+/// API reference. `StartingPosition` has to be `TRIM_HORIZON`; a pattern has at most 4,087 characters and is kept as
+/// `{"data":PATTERN}`. Refusals are as in `esm_config::read`.
 pub fn read_config(alloc: Global, value: &Value) -> Result<Config, ConfigError>
     ensures ok { IfOk result (λ c. dynamo_config_of (view value.now) ≡ Some c) }
     ensures given { IfOk result (λ c. IsDynamoGiven c) }

@@ -1,4 +1,4 @@
-// A destination that is told failure lines of a stream and delivers those of a DynamoDB stream.
+// A destination that gets failure lines of a stream and delivers those of a DynamoDB stream.
 ghost use Rattle.std.specs.Prelude.{◌≡◌, min, vec_capacity};
 ghost use Rattle.esm_io.specs.Faults.{MAX_FAULTS};
 ghost use Rattle.esm_ddb.specs.FailureLine.{HasRoomBeside, ddb_line};
@@ -8,18 +8,18 @@ use esm_io::{Dest, DestError};
 use esm_model::OutOfMemory;
 use std::alloc::Global;
 
-/// A destination over another, to which it delivers each line of at most 16,777,214 bytes with `"DDBStreamBatchInfo":` in place
-/// of its first `"KinesisBatchInfo":`, and a longer one as it is.
+/// A destination over another. It delivers each line of at most 16,777,214 bytes with `"DDBStreamBatchInfo":` in place of
+/// its first `"KinesisBatchInfo":`, and a longer one unchanged.
 #[derive(Drop)]
 pub struct DdbDest<T: Dest> {
     /// The destination below.
     pub inner: T,
-    /// Room for the line that is delivered.
+    /// Room for the changed line.
     room: Vec<u8>,
 }
 
 impl<T: Dest> DdbDest<T> {
-    /// Takes no memory.
+    /// Makes the destination over `inner`. Takes no memory.
     pub fn new(alloc: Global, inner: T) -> DdbDest<T>
         ensures { result.inner ≡ inner }
     {
@@ -29,7 +29,7 @@ impl<T: Dest> DdbDest<T> {
         }
     }
 
-    /// The destination below, as the deliveries left it.
+    /// Returns the destination below, as the deliveries left it.
     pub fn into_inner(self) -> T
         ensures { result ≡ self.inner }
     {

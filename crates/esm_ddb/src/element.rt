@@ -1,4 +1,4 @@
-//! The element of an event's `Records` that a change of an item is.
+//! Writing the element of an event's `Records` for the change of an item.
 ghost use Rattle.std.specs.Prelude.{◌≡◌, ◌++◌, OnOk, IfOk};
 ghost use Rattle.json.specs.Value.{value_view};
 ghost use Rattle.esm_ddb.specs.Element.{element, event_part, image_part, images_part, place_part};
@@ -16,7 +16,7 @@ use esm_model::OutOfMemory;
 use json::Value;
 use std::alloc::Global;
 
-/// The bytes that most elements have room in.
+/// The capacity in bytes that most elements fit into.
 const ROOM: usize = 1024;
 
 fn push_event(out: &mut Vec<u8>, source: &Source, change: &Change) -> Result<(), OutOfMemory>
@@ -34,7 +34,7 @@ fn push_event(out: &mut Vec<u8>, source: &Source, change: &Change) -> Result<(),
     Ok(())
 }
 
-/// Appends the image after its name, where there is one.
+/// Appends the image after its name, if there is one.
 fn push_image(out: &mut Vec<u8>, name: &[u8], image: Option<&Value<'_>>) -> Result<(), OutOfMemory>
     ensures { OnOk result (out.new.items ≡ out.old.items ++ image_part name.now (data_of image.entry)) }
 {
@@ -92,7 +92,7 @@ fn push_element(
     Ok(())
 }
 
-/// The text of the element; `keys` is the text of the item's keys.
+/// Returns the text of the element; `keys` is the text of the item's keys.
 pub fn element(
     alloc: Global,
     source: &Source,

@@ -1,4 +1,4 @@
-//! The elements of an event's `Records`, and where they stand.
+//! Finding the elements of an event's `Records` and where they are in its text.
 ghost use Rattle.std.specs.Prelude.{◌≡◌, ◌+◌, ◌-◌, get_or, codes, if◌then◌else◌, IfOk, Some, None, option_map};
 ghost use Rattle.std.specs.Option.{option_or};
 ghost use Rattle.json.specs.Find.{get};
@@ -12,7 +12,8 @@ use esm_model::{Bytes, OutOfMemory};
 use json::Value;
 use std::alloc::Global;
 
-/// Where an element stands in the text, from its opening brace to behind its closing one, and the bytes of its data.
+/// Where an element is in the text, in bytes: from its opening brace to behind its closing brace; and the bytes of its
+/// data.
 #[derive(Drop, Debug)]
 pub struct Element {
     pub first: usize,
@@ -47,7 +48,7 @@ fn payload_of(alloc: Global, element: &Value<'_>) -> Result<Option<Bytes>, OutOf
     }
 }
 
-/// The place of lexeme number `at`, or 0.
+/// The place of lexeme number `at`, or 0 if there is none.
 fn place(places: &[usize], at: usize) -> usize
     ensures { result ≡ get_or places.now at 0 }
 {
@@ -57,7 +58,7 @@ fn place(places: &[usize], at: usize) -> usize
     }
 }
 
-/// The element that begins with lexeme number `at` and has so many.
+/// The element that begins with lexeme number `at` and ends before lexeme number `end`.
 fn element_at(
     places: &[usize],
     at: usize,
@@ -76,7 +77,7 @@ fn element_at(
     })
 }
 
-/// The elements of a list whose first one begins with lexeme number `start`.
+/// The elements of a list, the first of which begins with lexeme number `start`; `None` if one has no such data.
 fn elements_at(
     alloc: Global,
     places: &[usize],
@@ -104,7 +105,7 @@ fn later(is: bool, at: usize, found: Option<usize>) -> Option<usize>
     if is { Some(at) } else { found }
 }
 
-/// The number of the first lexeme of the value of the last member `Records`.
+/// The number of the first lexeme of the value of the last member named `Records`.
 fn records_at(members: &Vec<(&str, Value<'_>)>) -> Result<Option<usize>, OutOfMemory>
     ensures { IfOk result (λ o. o ≡ value_at (codes "Records") 1 (members_view members.now.items)) }
 {
@@ -118,7 +119,8 @@ fn records_at(members: &Vec<(&str, Value<'_>)>) -> Result<Option<usize>, OutOfMe
     Ok(found)
 }
 
-/// The elements of the list `Records` of an object; `None` where they are none.
+/// The elements of an object's list `Records`; `None` if there is no such list, or one of its items is not such an
+/// element.
 pub fn object_elements(
     alloc: Global,
     places: &[usize],

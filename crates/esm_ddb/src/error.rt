@@ -5,7 +5,7 @@ ghost use Rattle.esm_ddb.specs.Change.{name_of};
 use esm_model::OutOfMemory;
 use std::alloc::AllocError;
 
-/// A field of a line, by its name there, in the order in which the fields are judged.
+/// A field of a line, named as its member; the fields are judged in this order.
 #[derive(Clone, Copy, Debug, PartialEq, Eq)]
 pub enum DdbField {
     /// `shardId`
@@ -35,17 +35,16 @@ impl DdbField {
     }
 }
 
-/// Why a line is refused: the first of these that holds, `LineTooLong` before all others.
+/// Why a line is refused: the first of these that holds, and `LineTooLong` before all others.
 #[derive(Clone, Copy, Debug, PartialEq, Eq)]
 pub enum DdbError {
     /// It does not read as a JSON object.
     NotJson,
     /// The field is absent.
     Missing(DdbField),
-    /// The field's value is not of its kind; for `dynamodb` also where the element has more than
-    /// 1,048,576 bytes.
+    /// The field's value is not valid; for `dynamodb` also if the element has more than 1,048,576 bytes.
     BadField(DdbField),
-    /// It has more than 8,388,608 bytes without its line feed.
+    /// The line has more than 8,388,608 bytes without its line feed.
     LineTooLong,
 }
 
@@ -56,10 +55,10 @@ pub struct DdbLine {
     pub why: DdbError,
 }
 
-/// Why a line gave nothing.
+/// Why a line was not turned.
 #[derive(Clone, Copy, Debug)]
 pub enum Refusal {
-    /// There was no memory.
+    /// An allocation failed.
     OutOfMemory,
     /// The line is bad.
     Line(DdbError),

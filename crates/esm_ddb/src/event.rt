@@ -1,4 +1,4 @@
-//! The event of a DynamoDB stream's records.
+//! Turning the event of a stream into that of a DynamoDB stream.
 ghost use Rattle.std.specs.Prelude.{◌≡◌, ◌++◌, [], if◌then◌else◌, None, OnOk, IfOk, is_some, option_map, slice_range};
 ghost use Rattle.json.specs.Value.{value_view};
 ghost use Rattle.serde_json.specs.Read.{read};
@@ -17,7 +17,7 @@ use json::{Reader, Scratch, Value};
 use std::alloc::Global;
 use std::str::from_utf8;
 
-/// The elements of the object that the text is, where its numbers are in range.
+/// The elements of the object that the text is, if all its numbers are in range.
 fn ranged_elements(
     alloc: Global,
     text: &[u8],
@@ -33,7 +33,7 @@ fn ranged_elements(
     object_elements(alloc, places.as_slice(), object)
 }
 
-/// The elements of a text that reads as JSON, where it is an object whose `Records` is a list of such elements.
+/// The elements of a text that is valid JSON, if it is an object whose `Records` is a list of such elements.
 fn text_elements(alloc: Global, text: &str) -> Result<Option<Vec<Element>>, OutOfMemory>
     ensures { IfOk result (λ o. option_map (λ v. v.items) o ≡ (if is_some (read text.now) then read_elements text.now else None)) }
 {
@@ -55,7 +55,7 @@ fn event_elements(alloc: Global, event: &[u8]) -> Result<Option<Vec<Element>>, O
     }
 }
 
-/// The bytes from one place to another, as far as they are there.
+/// The bytes from one place to another; places behind the end of the text count as its end.
 fn part(text: &[u8], from: usize, to: usize) -> &[u8]
     ensures { result.now ≡ slice_range text.entry.now from to }
 {
@@ -63,7 +63,7 @@ fn part(text: &[u8], from: usize, to: usize) -> &[u8]
     if from < end { &text[from..end] } else { &[] }
 }
 
-/// Appends the text with the bytes of its data in place of each of its elements.
+/// Appends the text with each of its elements replaced by the bytes of its data.
 fn push_replaced(out: &mut Vec<u8>, text: &[u8], elements: &Vec<Element>) -> Result<(), OutOfMemory>
     ensures { OnOk result (out.new.items ≡ out.old.items ++ replaced 0 text.now elements.now.items) }
 {
@@ -90,7 +90,7 @@ fn push_event(
     }
 }
 
-/// What the event becomes, found by parsing it.
+/// The turned event, found by parsing the event.
 #[tactic(auto, unfolding(crate::specs::Event::ddb_event))]
 fn parsed_event(alloc: Global, event: &[u8]) -> Result<Vec<u8>, OutOfMemory>
     ensures { IfOk result (λ text. text.items ≡ ddb_event event.now) }
@@ -101,9 +101,9 @@ fn parsed_event(alloc: Global, event: &[u8]) -> Result<Vec<u8>, OutOfMemory>
     Ok(out)
 }
 
-/// The event of a DynamoDB stream that a stream's event becomes: the bytes of its data in place of each element of `Records`,
-/// where the event reads as a JSON object whose last `Records` is a list of objects, each with an object `kinesis` whose
-/// `data` is standard padded base64. Any other bytes stay as they are.
+/// Turns a stream's event into the event of a DynamoDB stream: each element of `Records` is replaced by the bytes of its
+/// data. The event has to be a JSON object whose last `Records` is a list of objects, each with an object `kinesis` whose
+/// `data` is standard padded base64. Any other bytes are returned unchanged.
 pub fn ddb_event(alloc: Global, event: &[u8]) -> Result<Vec<u8>, OutOfMemory>
     ensures { IfOk result (λ text. text.items ≡ ddb_event event.now) }
 {

@@ -1,4 +1,4 @@
-//! The failure line of a DynamoDB stream's records.
+//! Turning the failure line of a stream's records into that of a DynamoDB stream's.
 ghost use Rattle.std.specs.Prelude.{◌≡◌, ◌≤◌, ◌<◌, ◌+◌, ◌++◌, length, nat_eq, vec_capacity, vec_len, OnErr, OnOk, IfOk, IfSome, IsTrue, Some};
 ghost use Rattle.std.specs.List.{starts_with};
 ghost use Rattle.esm_ddb.specs.FailureLine.{ddb_line, first_place, renamed_at, stream_part};
@@ -6,7 +6,7 @@ ghost use Rattle.esm_ddb.specs.FailureLine.{ddb_line, first_place, renamed_at, s
 use esm_model::{MAX_PAYLOAD, OutOfMemory};
 use std::alloc::{AllocError, Global};
 
-/// The bytes of `"KinesisBatchInfo":`.
+/// The length in bytes of `"KinesisBatchInfo":`.
 const STREAM_PART: usize = 19;
 
 fn begins_with_part(bytes: &[u8]) -> bool
@@ -43,7 +43,8 @@ fn push_renamed(out: &mut Vec<u8>, line: &[u8], at: usize) -> Result<(), AllocEr
     Ok(())
 }
 
-/// Appends the line with `"DDBStreamBatchInfo":` in place of its first `"KinesisBatchInfo":`.
+/// Appends the line with `"DDBStreamBatchInfo":` in place of its first `"KinesisBatchInfo":`, or unchanged as `ddb_line`
+/// says. It fails only if the buffer lacked room for the line and two bytes more.
 #[tactic(auto, unfolding(crate::specs::FailureLine::ddb_line))]
 pub fn push_line(out: &mut Vec<u8>, line: &[u8]) -> Result<(), AllocError>
     ensures text { OnOk result (out.new.items ≡ out.old.items ++ ddb_line line.now) }
@@ -59,8 +60,8 @@ pub fn push_line(out: &mut Vec<u8>, line: &[u8]) -> Result<(), AllocError>
     }
 }
 
-/// The line with `"DDBStreamBatchInfo":` in place of its first `"KinesisBatchInfo":`. A line without that text, or of more
-/// than 16,777,214 bytes, stays as it is.
+/// Returns the line with `"DDBStreamBatchInfo":` in place of its first `"KinesisBatchInfo":`. A line without that text,
+/// or of more than 16,777,214 bytes, is returned unchanged.
 pub fn ddb_line(alloc: Global, line: &[u8]) -> Result<Vec<u8>, OutOfMemory>
     ensures { IfOk result (λ text. text.items ≡ ddb_line line.now) }
 {

@@ -1,4 +1,4 @@
-// The input of a DynamoDB stream, read to its end and turned into the input of a stream.
+// Reading the input of a DynamoDB stream to its end and turning it into the input of a stream.
 ghost use Rattle.std.specs.Prelude.{◌≡◌, ◌<◌, ◌++◌, ℕ, List, [], vec_len, false, IfOk, IfErr, OnOk};
 ghost use Rattle.std.specs.List.{concat};
 ghost use Rattle.esm_ddb.specs.Translating.{source_of};
@@ -12,43 +12,32 @@ use crate::text_pieces::TextPieces;
 use crate::translator::{Translator, TurnedInPieces};
 use esm_io::Source;
 use esm_model::{Bytes, Config, OutOfMemory, Refused};
+use esm_record::line_blocks::threads_for;
 use std::alloc::Global;
-use std::thread;
 use std::thread::Threads;
 
 /// How many bytes one read of the source asks for.
 const PIECE: usize = 1_048_576;
-
-/// The most threads that turn lines.
-const MOST_THREADS: usize = 4;
-
-/// How many threads are to turn lines: one for each processor, four at most.
-fn threads_for<R: Threads>(rt: &R) -> usize {
-    match thread::available_parallelism(rt) {
-        Ok(processors) => processors.get().min(MOST_THREADS),
-        Err(_) => 1,
-    }
-}
 
 /// Why the reading of an input ended.
 #[derive(Clone, Copy, Debug, PartialEq, Eq)]
 pub enum InputTurned {
     /// The source ended, and no line is bad.
     Ended,
-    /// This line is bad, the first one.
+    /// The first bad line.
     BadLine(DdbLine),
-    /// A read of the source failed, and no line that ended before is bad.
+    /// A read of the source failed, and no line before that is bad.
     Failed,
 }
 
-/// An input that was read and turned: the source, as the reading left it, the lines that its lines became, and why it ended.
+/// An input that was read and turned: the source as the reading left it, the turned lines, and why the reading ended.
 pub struct TurnedInput<S> {
     pub source: S,
     pub text: TextPieces,
     pub end: InputTurned,
 }
 
-/// A bad line comes before the end of the source.
+/// A bad line counts before the end of the source.
 fn end_of(whole: bool, bad: Option<DdbLine>) -> Option<InputTurned>
     ensures { result ≡ end_by whole bad }
 {
@@ -58,7 +47,7 @@ fn end_of(whole: bool, bad: Option<DdbLine>) -> Option<InputTurned>
     }
 }
 
-/// Room for one piece.
+/// A buffer for one piece.
 fn room(alloc: Global) -> Result<Vec<u8>, OutOfMemory>
     ensures { IfOk result (λ buffer. 0 < vec_len buffer) }
 {
@@ -76,7 +65,8 @@ fn push_all(text: &mut TextPieces, pieces: Vec<Bytes>) -> Result<(), OutOfMemory
     Ok(())
 }
 
-/// Reads one piece of the source and turns it, on up to so many threads. Answers why the reading ends by it, if it does.
+/// Reads one piece of the source and turns it, on up to `threads` threads. Returns why the reading ends with it, if it
+/// does.
 fn turn_more<R: Threads + Sync, S: Source>(
     rt: &R,
     alloc: Global,
@@ -103,7 +93,7 @@ fn turn_more<R: Threads + Sync, S: Source>(
     Ok(end_of(count == 0, bad))
 }
 
-/// Reads the source and appends what its lines become, up to the first bad line.
+/// Reads the source and appends the turned lines, up to the first bad one.
 fn turn_all<R: Threads + Sync, S: Source>(
     rt: &R,
     alloc: Global,
@@ -135,9 +125,10 @@ fn turn_all<R: Threads + Sync, S: Source>(
     Err(OutOfMemory)
 }
 
-/// Reads the input of the mapping's stream, and gives what its lines become as a `Translator` gives it: to its end, to the first
-/// bad line, or to a read that fails. Lines are turned on several threads side by side, on one where no other can be made.
-/// Where memory is wanting the source comes back, of which bytes may have been read.
+/// Reads the input of the mapping's stream and turns its lines as a `Translator` does: to the end of the source, to the
+/// first bad line, or to a read that fails. Several threads turn lines side by side; if no thread can be made, this one
+/// turns them alone. `OutOfMemory`: an allocation failed. The source is then given back, and bytes may have been read
+/// from it.
 pub fn turn_input<R: Threads + Sync, S: Source>(
     rt: &R,
     alloc: Global,

@@ -1,4 +1,4 @@
-//! The texts of an item's keys and images.
+//! Writing the texts of an item's keys and images.
 ghost use Rattle.std.specs.Prelude.{◌≡◌, ◌++◌, false, OnOk, codes};
 ghost use Rattle.json.specs.Value.{items_view, members_view, value_view};
 ghost use Rattle.esm_model.specs.JsonText.{quoted};
@@ -20,7 +20,7 @@ fn push_comma(out: &mut Vec<u8>, later: bool) -> Result<(), OutOfMemory>
     Ok(())
 }
 
-/// Appends the name of a member, with what stands before its value.
+/// Appends the name of a member, with the comma before it and the colon behind it.
 fn push_name(out: &mut Vec<u8>, later: bool, name: &str) -> Result<(), OutOfMemory>
     ensures { OnOk result (out.new.items ≡ out.old.items ++ (comma_if later ++ (quoted name.now ++ codes ":"))) }
 {
@@ -30,7 +30,7 @@ fn push_name(out: &mut Vec<u8>, later: bool, name: &str) -> Result<(), OutOfMemo
     Ok(())
 }
 
-/// Appends the value's text. After an `Err` a part of it may stand there.
+/// Appends the value's text. After an `Err` a part of it may have been appended.
 #[cycle(values)]
 pub fn push_value(out: &mut Vec<u8>, value: &Value<'_>) -> Result<(), OutOfMemory>
     ensures { OnOk result (out.new.items ≡ out.old.items ++ value_text (data_in (value_view value.now))) }

@@ -1,4 +1,4 @@
-//! Where the lexemes of a JSON text begin: its texts, numbers and words, brackets, colons and commas.
+//! Where the lexemes of a JSON text begin: its strings, numbers and words, brackets, colons and commas.
 ghost use Rattle.std.specs.Prelude.{◌≡◌, ◌++◌, [], IfOk, OnOk};
 ghost use Rattle.json.specs.Lex.{class};
 ghost use Rattle.esm_model.specs.State.{places};
@@ -8,16 +8,16 @@ ghost use Rattle.esm_ddb.specs.Lexemes.{begins, class_of, mode_of, place_if};
 use esm_model::OutOfMemory;
 use std::alloc::Global;
 
-/// Where a byte stands.
+/// Where in the text the lexer is.
 #[derive(Clone, Copy)]
 pub enum Mode {
     /// Between lexemes.
     Between,
     /// In a number or a word.
     InWord,
-    /// In a text.
+    /// In a string.
     InText,
-    /// In a text, just after a backslash.
+    /// In a string, just after a backslash.
     InEscape,
 }
 
@@ -55,7 +55,7 @@ impl Mode {
         }
     }
 
-    /// Where the byte after a byte of this kind stands.
+    /// The mode after a byte of this kind.
     fn after(self, kind: Kind) -> Mode
         ensures { mode_of result ≡ next (mode_of self) (class_of kind) }
     {
@@ -88,7 +88,7 @@ fn note(found: &mut Vec<usize>, begins: bool, place: usize) -> Result<(), OutOfM
     Ok(())
 }
 
-/// The places at which lexemes begin, in their order.
+/// Returns the places in bytes at which lexemes begin, in ascending order.
 pub fn places(alloc: Global, text: &[u8]) -> Result<Vec<usize>, OutOfMemory>
     ensures { IfOk result (λ found. found.items ≡ places [] text.now) }
 {

@@ -1,7 +1,7 @@
-//! DynamoDB streams as the streams that the engine runs: a line becomes the line of a record, whose data is the element of an
-//! event; an event gets these elements; a failure line gets the table's name; and the mapping of such a stream.
-//! Pure values, a caller and a destination over another, and the reading of a source; no device and no clock of its own.
-//! Threads only turn lines side by side, and what they become is the same without them.
+//! Presents DynamoDB streams as the streams that the engine runs: a line is turned into the line of a record, whose data
+//! is the element of an event; an event gets these elements; a failure line gets `DDBStreamBatchInfo`; and the mapping of
+//! such a stream is read. It has pure values, a caller and a destination over another, and the reading of a source; no
+//! device and no clock of its own. Threads only turn lines side by side, and the lines are the same without them.
 #![tactic(auto)]
 
 mod attribute;
@@ -10,7 +10,6 @@ mod caller;
 mod change;
 mod config;
 pub mod crossing;
-mod cut;
 mod dest;
 mod element;
 mod elements;

@@ -1,4 +1,4 @@
-//! Numbers of a JSON text.
+//! Judging the numbers of a JSON text.
 ghost use Rattle.std.specs.Prelude.{◌≡◌, ◌==◌, is_some, length, slice_index, true, false, IsTrue, option_and_then, ◌<◌};
 ghost use Rattle.serde_json.specs.Find.{as_u64};
 ghost use Rattle.serde_json.specs.Read.{float_of, number_from, number_of};
@@ -38,7 +38,8 @@ fn has_negative(numeral: &Numeral<'_>) -> bool
     has_float(true, numeral)
 }
 
-/// Whether the number that a token writes is in range.
+/// Whether the number that the token states is in the range of JSON numbers here: a whole number of 64 bits or a finite
+/// `f64`.
 pub fn is_in_range(text: &str) -> bool
     ensures { result ≡ is_some (number_of text.now) }
 {
@@ -56,7 +57,7 @@ fn unsigned(numeral: &Numeral<'_>) -> Option<u64>
     numeral.to_u64()
 }
 
-/// The number that a token writes, where it is a whole number from 0 to 2^64 - 1 without a sign.
+/// The number that the token states, if it is a whole number from 0 to 2^64 - 1 without a sign.
 pub fn whole_number(text: &str) -> Option<u64>
     ensures { result ≡ option_and_then as_u64 (number_of text.now) }
 {

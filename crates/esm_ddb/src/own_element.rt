@@ -1,4 +1,4 @@
-//! An element of an event in the form in which a stream's events are written.
+//! Recognizing an element of an event in the form in which this engine writes a stream's events.
 ghost use Rattle.std.specs.Prelude.{◌≡◌, ◌++◌, IfOk, IfSome, IsTrue};
 ghost use Rattle.std.specs.Char.{is_ascii_digit};
 ghost use Rattle.std.specs.List.{list_all};
@@ -10,7 +10,7 @@ use base64::engine::general_purpose::STANDARD;
 use esm_model::OutOfMemory;
 use memchr::memchr;
 
-/// What follows the part, where the text begins with it.
+/// Returns what follows the part, if the text begins with it.
 pub fn after_part<'a>(text: &'a [u8], part: &[u8]) -> Option<&'a [u8]>
     ensures { IfSome result (λ rest. text.entry.now ≡ part.now ++ rest.now) }
 {
@@ -30,7 +30,7 @@ fn are_digits(text: &[u8]) -> bool
     text.iter().all(|b| b.is_ascii_digit())
 }
 
-/// What follows the bytes up to the next quotation mark, where none of them needs an escape.
+/// What follows the bytes up to the next quotation mark, if none of them needs an escape.
 fn after_text(text: &[u8]) -> Option<&[u8]>
     ensures { IfSome result (λ rest. Passes is_unescaped text.now rest.now) }
 {
@@ -38,7 +38,7 @@ fn after_text(text: &[u8]) -> Option<&[u8]>
     are_unescaped(&text[..at]).then_some(&text[at..])
 }
 
-/// Whether they are the seconds, of one or more, and the thousandths of a moment.
+/// Whether they are the seconds, one or more, and the three digits of the milliseconds.
 fn are_parts(whole: &[u8], fraction: &[u8]) -> bool
     ensures { IsTrue result → AreParts whole.now fraction.now }
 {
@@ -60,7 +60,7 @@ fn are_parts(whole: &[u8], fraction: &[u8]) -> bool
     are_digits(fraction)
 }
 
-/// Whether it is seconds, a point and three digits.
+/// Whether the text is seconds, a point and three digits.
 fn is_moment(text: &[u8]) -> bool
     ensures { IsTrue result → IsMoment text.now }
 {
@@ -74,7 +74,7 @@ fn is_moment(text: &[u8]) -> bool
     are_parts(&text[..point], &text[point + 1..])
 }
 
-/// What follows the moment, which a brace follows.
+/// What follows the moment: the text from the next brace on.
 fn after_moment(text: &[u8]) -> Option<&[u8]>
     ensures { IfSome result (λ rest. PassesMoment text.now rest.now) }
 {
@@ -82,7 +82,7 @@ fn after_moment(text: &[u8]) -> Option<&[u8]>
     is_moment(&text[..at]).then_some(&text[at..])
 }
 
-/// What follows the element's beginning: its key and its sequence number, up to its data.
+/// What follows the beginning of an element: its key, its sequence number and the name of its data.
 fn after_number(text: &[u8]) -> Option<&[u8]>
     ensures { IfSome result (λ rest. PassesNumber text.now rest.now) }
 {
@@ -96,7 +96,7 @@ fn after_number(text: &[u8]) -> Option<&[u8]>
     after_part(behind_seq, b"\",\"data\":\"")
 }
 
-/// Appends the bytes that the text stands for; whether it is standard padded base64.
+/// Appends the bytes that the text encodes, and returns whether it is standard padded base64.
 fn push_decoded(out: &mut Vec<u8>, text: &[u8]) -> Result<bool, OutOfMemory>
     ensures { IfOk result (λ is. IsTrue is → IsDecoded text.now out.old.items out.new.items) }
 {
@@ -107,8 +107,8 @@ fn push_decoded(out: &mut Vec<u8>, text: &[u8]) -> Result<bool, OutOfMemory>
     }
 }
 
-/// Appends the bytes that the text up to the next quotation mark stands for, and gives what follows it; `None` where it is no
-/// standard padded base64.
+/// Appends the bytes that the text up to the next quotation mark encodes, and returns what follows it; `None` if it is
+/// not standard padded base64.
 fn push_data<'a>(out: &mut Vec<u8>, text: &'a [u8]) -> Result<Option<&'a [u8]>, OutOfMemory>
     ensures { IfOk result (λ o. IfSome o (λ rest. PassesData text.entry.now rest.now out.old.items out.new.items)) }
 {
@@ -123,7 +123,7 @@ fn push_data<'a>(out: &mut Vec<u8>, text: &'a [u8]) -> Result<Option<&'a [u8]>, 
     }
 }
 
-/// What follows the element's moment and its id, which stand behind its data.
+/// What follows the element's moment and its id, which come after its data.
 fn after_id(text: &[u8]) -> Option<&[u8]>
     ensures { IfSome result (λ rest. PassesId text.now rest.now) }
 {
@@ -136,7 +136,7 @@ fn after_id(text: &[u8]) -> Option<&[u8]>
     after_text(id)
 }
 
-/// Appends the data of the element, and gives what follows its id; `None` where it is not in that form.
+/// Appends the element's data and returns what follows its id; `None` if the element is not in this form.
 pub fn push_front<'a>(out: &mut Vec<u8>, text: &'a [u8]) -> Result<Option<&'a [u8]>, OutOfMemory>
     ensures { IfOk result (λ o. IfSome o (λ rest. PassesFront text.entry.now rest.now out.old.items out.new.items)) }
 {
@@ -149,7 +149,7 @@ pub fn push_front<'a>(out: &mut Vec<u8>, text: &'a [u8]) -> Result<Option<&'a [u
     Ok(after_id(behind))
 }
 
-/// What an element ends with behind its id, and what follows it.
+/// Returns what an element has behind its id, and what follows the element; `None` if it is not in this form.
 pub fn tail_of(text: &[u8]) -> Option<(&[u8], &[u8])>
     ensures { IfSome result (λ p. PassesTail text.now p.0.now p.1.now) }
 {

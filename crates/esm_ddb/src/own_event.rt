@@ -1,4 +1,4 @@
-//! An event in the form in which a stream's events are written.
+//! Turning an event that has the form in which this engine writes a stream's events, without parsing it.
 ghost use Rattle.std.specs.Prelude.{◌≡◌, ℕ, List, [], codes, IfOk, IfSome, IsTrue};
 ghost use Rattle.esm_ddb.specs.Event.{ddb_event};
 ghost use Rattle.esm_ddb.specs.OwnForm.{Becomes, IsTail, PassesOwn};
@@ -8,7 +8,8 @@ use esm_event::bytes::push_bytes;
 use esm_model::OutOfMemory;
 use std::alloc::Global;
 
-/// Appends the data of the element that ends with this tail, and gives what follows it; `None` where there is no such element.
+/// Appends the data of an element that ends with this tail, and returns what follows it; `None` if there is no such
+/// element.
 fn push_own<'a>(
     out: &mut Vec<u8>,
     tail: &[u8],
@@ -29,7 +30,8 @@ fn is_end(text: &[u8]) -> bool
     text == b"]}".as_slice()
 }
 
-/// Appends the data of the elements that are left, each after its comma; whether these are all and the event's end follows.
+/// Appends the data of the elements that are left, each after its comma, and the event's end. Returns whether the event
+/// has only such elements up to its end.
 fn push_others(out: &mut Vec<u8>, tail: &[u8], left: &[u8]) -> Result<bool, OutOfMemory>
     requires { IsTail tail.now }
     ensures { IfOk result (λ is. IsTrue is → (event : List ℕ) → Becomes event out.old.items left.now → ddb_event event ≡ out.new.items) }
@@ -47,7 +49,7 @@ fn push_others(out: &mut Vec<u8>, tail: &[u8], left: &[u8]) -> Result<bool, OutO
     Ok(is_whole)
 }
 
-/// Appends what the event becomes; whether it has elements in that form alone.
+/// Appends the turned event. Returns whether the event has only elements in this form.
 fn push_event(out: &mut Vec<u8>, event: &[u8]) -> Result<bool, OutOfMemory>
     requires { out.old.items ≡ [] }
     ensures { IfOk result (λ is. IsTrue is → out.new.items ≡ ddb_event event.now) }
@@ -65,7 +67,8 @@ fn push_event(out: &mut Vec<u8>, event: &[u8]) -> Result<bool, OutOfMemory>
     push_others(out, tail, left)
 }
 
-/// What the event becomes, where it has elements, and is written as a stream's events are, without a window.
+/// Turns the event, if it has elements and is written as this engine writes a stream's events without a window; `None`
+/// means that it has to be parsed.
 pub fn own_event(alloc: Global, event: &[u8]) -> Result<Option<Vec<u8>>, OutOfMemory>
     ensures { IfOk result (λ o. IfSome o (λ text. text.items ≡ ddb_event event.now)) }
 {

@@ -1,4 +1,4 @@
-//! Keys and images of a line, where they stand there as they are written.
+//! Recognizing keys and images that a line has in the form in which they are written.
 ghost use Rattle.std.specs.Prelude.{◌≡◌, IfSome};
 ghost use Rattle.esm_ddb.specs.Attribute.{is_text_type};
 ghost use Rattle.esm_ddb.specs.OwnLine.{PassesAttribute, PassesAttributes, PassesImage, PassesItem, PassesText};
@@ -9,7 +9,8 @@ use crate::quoted::are_kept;
 use memchr::memchr;
 use std::cmp::Ordering;
 
-/// The text up to the next quotation mark, and what follows that; none of its bytes stands for another.
+/// Returns the text before the next quotation mark, and what follows the mark; `None` if a byte before it needs an
+/// escape.
 pub fn split_text(text: &[u8]) -> Option<(&[u8], &[u8])>
     ensures { IfSome result (λ p. PassesText text.now p.0.now p.1.now) }
 {
@@ -27,7 +28,7 @@ fn is_text_type(tag: &[u8]) -> bool
     tag == b"S".as_slice() || tag == b"N".as_slice() || tag == b"B".as_slice()
 }
 
-/// The name of the attribute, whose value is a text, and what follows it.
+/// The name of an attribute whose value is a text, and what follows the attribute.
 fn split_attribute(text: &[u8]) -> Option<(&[u8], &[u8])>
     ensures { IfSome result (λ p. PassesAttribute text.now p.0.now p.1.now) }
 {
@@ -45,14 +46,14 @@ fn split_attribute(text: &[u8]) -> Option<(&[u8], &[u8])>
     }
 }
 
-/// Whether the name stands before the other one.
+/// Whether the name comes before the other one.
 fn is_before(name: &[u8], other: &[u8]) -> bool
     ensures { result ≡ is_before name.now other.now }
 {
     matches!(name.cmp(other), Ordering::Less)
 }
 
-/// What follows the attributes, of one or more, and the brace that closes them.
+/// What follows one attribute or more, in the order of their names, and the brace that closes them.
 fn after_attributes(text: &[u8]) -> Option<&[u8]>
     ensures { IfSome result (λ rest. PassesAttributes text.now rest.now) }
 {
@@ -70,7 +71,7 @@ fn after_attributes(text: &[u8]) -> Option<&[u8]>
     after_part(left, b"}")
 }
 
-/// What follows the object of attributes.
+/// Returns what follows the object of attributes.
 pub fn after_item(text: &[u8]) -> Option<&[u8]>
     ensures { IfSome result (λ rest. PassesItem text.now rest.now) }
 {
@@ -78,7 +79,7 @@ pub fn after_item(text: &[u8]) -> Option<&[u8]>
     after_attributes(attributes)
 }
 
-/// What follows the image, if there is one, and its name.
+/// Returns what follows the image and its name, if there is one; otherwise the whole text.
 pub fn after_image<'a>(text: &'a [u8], name: &[u8]) -> Option<&'a [u8]>
     ensures { IfSome result (λ rest. PassesImage name.now text.entry.now rest.now) }
 {

@@ -1,4 +1,4 @@
-//! A line in the form that is recognised, cut into what is copied of it.
+//! Recognizing a line in the form that needs no parsing, cut into what is copied from it.
 ghost use Rattle.std.specs.Prelude.{◌≡◌, ◌++◌, ℕ, List, codes, IfSome, IsTrue};
 ghost use Rattle.esm_model.specs.Numbers.{decimal};
 ghost use Rattle.esm_ddb.specs.OwnLine.{IsTold, PassesArrival, PassesEvent, PassesImages, PassesPlace, PassesShard};
@@ -11,7 +11,7 @@ use esm_model::spelling::is_sequence;
 use esm_record::shard_number;
 use itoa::Buffer;
 
-/// What is copied of a line.
+/// What is copied from a line.
 #[derive(Clone, Copy)]
 pub struct OwnLine<'a> {
     pub shard: u64,
@@ -25,14 +25,14 @@ pub struct OwnLine<'a> {
     pub item: &'a [u8],
 }
 
-/// What stands before this end of the text.
+/// What precedes this end of the text.
 fn front_of<'a>(text: &'a [u8], end: &[u8]) -> &'a [u8]
     ensures { (front : List ℕ) → text.entry.now ≡ front ++ end.now → result.now ≡ front }
 {
     &text[..text.len().saturating_sub(end.len())]
 }
 
-/// The number whose digits the text begins with.
+/// The number whose digits the text begins with, or `u64::MAX` if it is greater.
 fn digits_at(text: &[u8]) -> u64 {
     let mut number: u64 = 0;
     for byte in text {
@@ -46,7 +46,7 @@ fn digits_at(text: &[u8]) -> u64 {
     number
 }
 
-/// The number whose shortest digits the text begins with, and what follows them.
+/// The number that the text begins with, in its shortest decimal form, and what follows it.
 fn split_whole(text: &[u8]) -> Option<(u64, &[u8])>
     ensures { IfSome result (λ p. text.now ≡ decimal p.0 ++ p.1.now) }
 {
@@ -66,7 +66,7 @@ fn split_shard(text: &[u8]) -> Option<(u64, &[u8])>
     Some((number, rest))
 }
 
-/// The moment of arrival in milliseconds since 1970, and what follows it and its comma.
+/// The moment of arrival in milliseconds since 1970, and what follows its comma.
 fn split_arrival(text: &[u8]) -> Option<(u64, &[u8])>
     ensures { IfSome result (λ p. PassesArrival text.now p.0 p.1.now) }
 {
@@ -95,7 +95,7 @@ fn split_event(text: &[u8]) -> Option<(&[u8], &[u8])>
     }
 }
 
-/// The keys, and what follows them and the images.
+/// The text of the keys, and what follows the images.
 fn split_images(text: &[u8]) -> Option<(&[u8], &[u8])>
     ensures { IfSome result (λ p. PassesImages text.now p.0.now p.1.now) }
 {
@@ -129,7 +129,7 @@ fn is_end(text: &[u8]) -> bool
     text == b"}}".as_slice()
 }
 
-/// What is copied of the line, where it is in that form.
+/// Returns what is copied from the line, if it has this form.
 pub fn own_line(text: &[u8]) -> Option<OwnLine<'_>>
     ensures { IfSome result (λ o. IsTold text.now o) }
 {

@@ -1,4 +1,4 @@
-//! What a line in the form that is recognised becomes.
+//! Turning a line in the form that is recognized without parsing.
 ghost use Rattle.std.specs.Prelude.{◌≡◌, ◌++◌, ◌/◌, Ok, IfOk, IfSome, OnOk};
 ghost use Rattle.serde_json.specs.Read.{read};
 ghost use Rattle.md5.specs.Md5.{md5};
@@ -68,7 +68,7 @@ fn record_line(alloc: Global, line: &OwnLine<'_>, payload: &[u8]) -> Result<Vec<
     Ok(out)
 }
 
-/// What the line becomes, where it is in that form, and its element has few enough bytes.
+/// Turns the line, if it has this form and its element is within `MAX_DATA`.
 pub fn own_turned(
     alloc: Global,
     source: &Source,

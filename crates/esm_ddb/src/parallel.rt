@@ -1,4 +1,4 @@
-// Reading the lines of a piece that are turned side by side.
+// Turning the lines of a piece on several threads side by side.
 ghost use Rattle.std.specs.Prelude.{◌≡◌, ℕ, List, ◌++◌, [], OnOk, IsNone};
 ghost use Rattle.std.specs.List.{concat};
 ghost use Rattle.esm_record.specs.Input.{begun, lines_of};
@@ -8,15 +8,16 @@ ghost use Rattle.esm_ddb.specs.Translating.{HasRead, Stands};
 ghost use Rattle.esm_ddb.specs.Translation.{Translation, add_line, line_feed};
 
 use crate::block::{Block, counted_on, turn_lines};
-use crate::cut::{ended_lines, first_line};
 use crate::splitter::Splitter;
 use crate::text_pieces::push_piece;
 use esm_model::{Bytes, OutOfMemory};
+use esm_record::line_blocks::{ended_lines, first_line};
 use json::Scratch;
 use std::alloc::Global;
 use std::thread::Threads;
 
-/// Takes what the lines of a block became that follow those that were read; no line has begun.
+/// Appends what the lines of a block were turned into; the block follows the lines that were read, and no line is
+/// unfinished.
 fn take_block(
     reading: &mut Splitter,
     pieces: &mut Vec<Bytes>,
@@ -41,7 +42,7 @@ fn take_block(
     Ok(())
 }
 
-/// Ends the line that has begun: this is its rest, and its line feed came.
+/// Ends the unfinished line with this rest, behind which its line feed was found.
 fn end_begun(
     alloc: Global,
     reading: &mut Splitter,
@@ -61,7 +62,8 @@ fn end_begun(
     push_piece(pieces, Bytes::from_vec(out))
 }
 
-/// Reads lines that line feeds end, where no line has begun, up to the first bad one, on up to so many threads.
+/// Turns lines that all end with a line feed, where no line is unfinished, up to the first bad one, on up to `threads`
+/// threads.
 fn read_lines<R: Threads + Sync>(
     rt: &R,
     alloc: Global,
@@ -81,7 +83,7 @@ fn read_lines<R: Threads + Sync>(
     take_block(reading, pieces, block)
 }
 
-/// Reads the lines that this piece ends, where no line has begun, and begins the next one; nothing after a bad line.
+/// Turns the lines that this piece ends, where no line is unfinished, and begins the next one; nothing after a bad line.
 fn read_ended<R: Threads + Sync>(
     rt: &R,
     alloc: Global,
@@ -104,7 +106,7 @@ fn read_ended<R: Threads + Sync>(
     reading.begin_line(rest)
 }
 
-/// Reads the lines that this piece ends, up to the first bad one: the line that has begun, and then the others.
+/// Turns the lines that this piece ends, up to the first bad one: first the unfinished line, then the others.
 fn read_blocks<R: Threads + Sync>(
     rt: &R,
     alloc: Global,
@@ -131,8 +133,8 @@ fn read_blocks<R: Threads + Sync>(
     read_ended(rt, alloc, threads, reading, pieces, after)
 }
 
-/// Turns the lines that this piece ends, on up to so many threads side by side, and appends what they become; nothing after
-/// a bad line.
+/// Turns the lines that this piece ends, on up to `threads` threads side by side, and appends the turned lines; nothing
+/// after a bad line.
 pub fn read_parallel<R: Threads + Sync>(
     rt: &R,
     alloc: Global,

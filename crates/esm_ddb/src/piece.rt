@@ -13,7 +13,8 @@ use esm_model::OutOfMemory;
 use std::alloc::Global;
 use std::thread::Threads;
 
-/// Reads bytes into the front of the buffer, and answers how many; 0 is the end of the source.
+/// Reads bytes into the front of the buffer, and returns how many; 0 is the end of the source. `Failed` is returned only
+/// if the source's count of faults rose, and nothing was taken then.
 pub fn read_bytes<S: Source>(source: &mut S, buffer: &mut Vec<u8>) -> Result<usize, Failed>
     requires room { 0 < vec_len buffer.old }
     ensures room { vec_len buffer.new ≡ vec_len buffer.old }
@@ -27,7 +28,8 @@ pub fn read_bytes<S: Source>(source: &mut S, buffer: &mut Vec<u8>) -> Result<usi
     source.read(buffer)
 }
 
-/// Turns the lines that a piece completes, on up to so many threads side by side; an empty piece is the end of the input.
+/// Turns the lines that a piece completes, on up to `threads` threads side by side; an empty piece is the end of the
+/// input.
 pub fn turn_piece<R: Threads + Sync>(
     rt: &R,
     alloc: Global,

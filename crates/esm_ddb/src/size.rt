@@ -1,4 +1,4 @@
-//! Of how many lexemes a JSON value consists.
+//! How many lexemes a JSON value has.
 ghost use Rattle.std.specs.Prelude.{◌≡◌, ◌+◌, IfOk};
 ghost use Rattle.json.specs.Value.{items_view, members_view, value_view};
 ghost use Rattle.esm_model.specs.State.{items_size, members_size, size};
@@ -6,7 +6,7 @@ ghost use Rattle.esm_model.specs.State.{items_size, members_size, size};
 use esm_model::OutOfMemory;
 use json::Value;
 
-/// The number that so many more lead to; want of memory where there is none.
+/// The sum of the three; `OutOfMemory` if it does not fit.
 pub fn passed(at: usize, more: usize, end: usize) -> Result<usize, OutOfMemory>
     ensures { IfOk result (λ n. n ≡ at + more + end) }
 {
@@ -19,7 +19,7 @@ pub fn passed(at: usize, more: usize, end: usize) -> Result<usize, OutOfMemory>
     }
 }
 
-/// The number of its lexemes.
+/// The number of the value's lexemes.
 #[cycle(sizes)]
 pub fn size(value: &Value<'_>) -> Result<usize, OutOfMemory>
     ensures { IfOk result (λ n. n ≡ size (value_view value.now)) }
@@ -31,7 +31,7 @@ pub fn size(value: &Value<'_>) -> Result<usize, OutOfMemory>
     }
 }
 
-/// The number of a list's lexemes: its bracket, and each item with the comma or the bracket behind it.
+/// The number of a list's lexemes: its bracket, and each item with the comma or bracket behind it.
 #[cycle(sizes)]
 fn items_size(items: &Vec<Value<'_>>) -> Result<usize, OutOfMemory>
     ensures { IfOk result (λ n. n ≡ 1 + items_size (items_view items.now.items)) }
@@ -44,7 +44,7 @@ fn items_size(items: &Vec<Value<'_>>) -> Result<usize, OutOfMemory>
     Ok(total.max(2))
 }
 
-/// The number of an object's lexemes: its brace, and each member with the comma or the brace behind it.
+/// The number of an object's lexemes: its brace, and each member with the comma or brace behind it.
 #[cycle(sizes)]
 fn members_size(members: &Vec<(&str, Value<'_>)>) -> Result<usize, OutOfMemory>
     ensures { IfOk result (λ n. n ≡ 1 + members_size (members_view members.now.items)) }

@@ -1,4 +1,4 @@
-// Where the elements of a mapping's events come from.
+// The stream whose changes a mapping's events have.
 ghost use Rattle.std.specs.Prelude.{◌≡◌, IfOk};
 
 use esm_model::{Config, OutOfMemory, Text};
@@ -12,7 +12,7 @@ pub struct Source {
 }
 
 impl Source {
-    /// The source of the mapping.
+    /// Returns the source of the mapping.
     pub fn of(alloc: Global, config: &Config) -> Result<Source, OutOfMemory>
         ensures { IfOk result (λ s. s ≡ record { region = config.now.region; arn = config.now.source_arn }) }
     {
@@ -22,7 +22,7 @@ impl Source {
         })
     }
 
-    /// A copy of the source.
+    /// Returns a copy of the source.
     pub fn copy(&self, alloc: Global) -> Result<Source, OutOfMemory>
         ensures { IfOk result (λ copy. copy ≡ self.now) }
     {

@@ -1,25 +1,26 @@
-// Splitting the input into lines piece by piece, and turning each up to the first bad one.
+// Splitting the input into lines, piece by piece, and turning each up to the first bad one.
 ghost use Rattle.std.specs.Prelude.{◌≡◌, ◌+◌, Some, ℕ, List, ◌++◌, [], OnOk, IsNone};
-ghost use Rattle.esm_record.specs.Splitting.{NoLineFeed};
+ghost use Rattle.esm_record.specs.LineBlocks.{NoLineFeed};
 ghost use Rattle.esm_ddb.specs.Gives.{Gives};
 ghost use Rattle.esm_ddb.specs.States.{state_of};
 ghost use Rattle.esm_ddb.specs.Translating.{HasRead, Stands};
 ghost use Rattle.esm_ddb.specs.Translation.{Translation, add_line, translation_of};
 ghost use Rattle.esm_ddb.specs.Turned.{turned};
 
-use crate::cut::first_line;
 use crate::error::{DdbError, DdbLine, Refusal};
 use crate::source::Source;
 use crate::turned::turned;
 use esm_event::bytes::push_bytes;
 use esm_model::{MAX_LINE, OutOfMemory};
+use esm_record::line_blocks::first_line;
 use json::Scratch;
 use std::alloc::Global;
 
-/// Most lines become lines of fewer bytes than so many times their own.
+/// Most lines are turned into lines of fewer bytes than this many times their own.
 pub const GROWTH: usize = 3;
 
-/// What has been turned of an input: where it comes from, the good lines, the line that has begun, and the first bad line.
+/// The state of an input that is being turned: its source, the number of good lines, the unfinished line, and the first
+/// bad line.
 #[derive(Drop)]
 pub struct Splitter {
     pub source: Source,
@@ -28,7 +29,7 @@ pub struct Splitter {
     pub bad: Option<DdbLine>,
 }
 
-/// What the line becomes that has begun so and ends with this rest. No line has begun then.
+/// Turns the line that consists of the unfinished line and this rest. After `Ok` no line is unfinished.
 fn turned_whole(
     alloc: Global,
     scratch: &mut Scratch,
@@ -52,7 +53,7 @@ fn turned_whole(
 }
 
 impl Splitter {
-    /// Nothing has been read.
+    /// Makes a splitter that has read nothing.
     #[tactic(auto, unfolding(crate::specs::Translation::translation_so_far))]
     pub fn new(alloc: Global, source: Source) -> Splitter
         ensures read { HasRead [] [] [] (state_of result) }
@@ -66,7 +67,7 @@ impl Splitter {
         }
     }
 
-    /// Ends the line that has begun: this is its rest, and this stands behind it.
+    /// Turns the unfinished line, which this rest completes, and appends it and `end`.
     pub fn end_line(
         &mut self,
         alloc: Global,
@@ -99,7 +100,7 @@ impl Splitter {
         }
     }
 
-    /// Goes on with the line that has begun, whose line feed is still to come.
+    /// Appends to the unfinished line, whose line feed is still to come.
     pub fn begin_line(&mut self, more: &[u8]) -> Result<(), OutOfMemory>
         requires going { IsNone self.old.bad }
         requires in_line { NoLineFeed more.now }
@@ -116,7 +117,7 @@ impl Splitter {
         Ok(())
     }
 
-    /// The line that has begun is too long.
+    /// Refuses the unfinished line as too long.
     fn refuse_long(&mut self) -> Result<(), OutOfMemory>
         ensures bad { OnOk result (self.new.bad ≡ Some (record { line = self.old.good + 1; why = DdbError.LineTooLong })) }
         ensures source { self.new.source ≡ self.old.source }
@@ -131,7 +132,7 @@ impl Splitter {
         Ok(())
     }
 
-    /// Turns the lines that this piece ends, up to the first bad one.
+    /// Turns the lines that this piece ends, up to the first bad one, and keeps an unfinished one.
     fn read_piece(
         &mut self,
         alloc: Global,
@@ -172,7 +173,7 @@ impl Splitter {
         self.read_piece(alloc, out, piece)
     }
 
-    /// Turns the last line, which no line feed ends; nothing after a bad line.
+    /// Turns the last line, which has no line feed; nothing after a bad line.
     pub fn read_end(&mut self, alloc: Global, out: &mut Vec<u8>) -> Result<(), OutOfMemory>
         ensures read { OnOk result ((bytes before : List ℕ) → HasRead bytes before out.old.items (state_of self.old)
             → Stands (translation_of self.old.source bytes) before out.new.items (state_of self.new)) }

@@ -1,5 +1,5 @@
-// Tests: rows of the table of fields, a change that becomes the line of its record, an input in pieces and a whole one, events,
-// and a failure line.
+// Tests: rows of the table of fields, a change that is turned into the line of its record, an input in pieces and a whole
+// one, events, and a failure line.
 ghost use Rattle.std.specs.Prelude.{◌<◌};
 
 use crate::config::read_config;
@@ -22,7 +22,8 @@ use std::thread::Threads;
 const LINE: &str =
     "{\"shardId\":\"shardId-000000000000\",\"approximateArrivalTimestamp\":0,\"eventID\":\"e1\",\"eventName\":\"INSERT\",\"dynamodb\":{\"Keys\":{\"id\":{\"S\":\"a\"}},\"NewImage\":{\"id\":{\"S\":\"a\"}},\"SequenceNumber\":\"1\",\"SizeBytes\":6,\"StreamViewType\":\"NEW_IMAGE\"";
 
-/// What follows that, before the last brace, and the field that is refused. Of a name that stands twice the last value counts.
+/// What follows that, before the last brace, and the field that is refused. If a name occurs twice, the last value
+/// counts.
 const ROWS: [(&str, Option<DdbError>); 25] = [
     ("}", None),
     (",\"Colour\":1},\"colour\":1.5", None),
@@ -105,7 +106,7 @@ const ROWS: [(&str, Option<DdbError>); 25] = [
     ),
 ];
 
-/// The line that `LINE` with two braces becomes.
+/// The line that `LINE` with two braces is turned into.
 const TURNED: &str =
     "{\"shardId\":\"shardId-000000000000\",\"sequenceNumber\":\"1\",\"partitionKey\":\"fb6125352ca9254ad76755dc7cbdcacc\",\"data\":\"eyJldmVudElEIjoiZTEiLCJldmVudE5hbWUiOiJJTlNFUlQiLCJldmVudFZlcnNpb24iOiIxLjEiLCJldmVudFNvdXJjZSI6ImF3czpkeW5hbW9kYiIsImF3c1JlZ2lvbiI6InVzLWVhc3QtMSIsImR5bmFtb2RiIjp7IkFwcHJveGltYXRlQ3JlYXRpb25EYXRlVGltZSI6MCwiS2V5cyI6eyJpZCI6eyJTIjoiYSJ9fSwiTmV3SW1hZ2UiOnsiaWQiOnsiUyI6ImEifX0sIlNlcXVlbmNlTnVtYmVyIjoiMSIsIlNpemVCeXRlcyI6NiwiU3RyZWFtVmlld1R5cGUiOiJORVdfSU1BR0UifSwiZXZlbnRTb3VyY2VBUk4iOiJhcm46YXdzOmR5bmFtb2RiOnVzLWVhc3QtMToxMjM0NTY3ODkwMTI6dGFibGUvdGFiL3N0cmVhbS8xIn0=\",\"approximateArrivalTimestamp\":0}";
 
@@ -137,7 +138,7 @@ fn fields(rt: HostRuntime) -> Result<(), Fail> {
     Ok(())
 }
 
-/// The space keeps the line from being recognised, so that it is parsed.
+/// The space keeps the line from being recognized, so it is parsed.
 #[test]
 fn change_of_a_parsed_item(rt: HostRuntime) -> Result<(), Fail> {
     let alloc = rt.alloc();
@@ -190,7 +191,8 @@ fn all_of(alloc: Global, mut pieces: TextPieces) -> Result<Vec<u8>, Fail> {
     Ok(all)
 }
 
-/// What an input becomes that is read so many bytes a time, whose read of this number fails, and why its reading ends.
+/// What an input is turned into that is read `step` bytes at a time and whose read number `fail` fails, and why its
+/// reading ends.
 fn input_of<R: Threads + Sync>(
     rt: &R,
     alloc: Global,
@@ -231,7 +233,7 @@ fn whole_input(rt: HostRuntime) -> Result<(), Fail> {
     Ok(())
 }
 
-/// Of a long piece, whose lines several threads turn, the last block has the bad line.
+/// The bad line is in the last block of a long piece, whose lines several threads turn.
 #[test]
 fn last_block(rt: HostRuntime) -> Result<(), Fail> {
     let alloc = rt.alloc();
@@ -251,7 +253,7 @@ fn last_block(rt: HostRuntime) -> Result<(), Fail> {
     Ok(())
 }
 
-/// Events, and what they become.
+/// Events, and what they are turned into.
 const EVENTS: [(&str, &str); 9] = [
     (
         "{\"Records\":[{\"kinesis\":{\"kinesisSchemaVersion\":\"1.0\",\"partitionKey\":\"k\",\"sequenceNumber\":\"1\",\"data\":\"YQ==\",\"approximateArrivalTimestamp\":12.345},\"eventSource\":\"aws:kinesis\",\"eventVersion\":\"1.0\",\"eventID\":\"shardId-000000000000:1\",\"eventName\":\"aws:kinesis:record\",\"invokeIdentityArn\":\"r\",\"awsRegion\":\"us-east-1\",\"eventSourceARN\":\"arn\"},{\"kinesis\":{\"kinesisSchemaVersion\":\"1.0\",\"partitionKey\":\"l\",\"sequenceNumber\":\"1\",\"data\":\"Yg==\",\"approximateArrivalTimestamp\":1.000},\"eventSource\":\"aws:kinesis\",\"eventVersion\":\"1.0\",\"eventID\":\"shardId-000000000000:1\",\"eventName\":\"aws:kinesis:record\",\"invokeIdentityArn\":\"r\",\"awsRegion\":\"us-east-1\",\"eventSourceARN\":\"arn\"}]}",

@@ -7,12 +7,12 @@ use std::alloc::Global;
 use std::collections::VecDeque;
 use std::marker::Model;
 
-/// Bytes in pieces, each of which is freed once it was read. Contracts see the bytes that are left.
+/// Bytes in pieces, each of which is freed once it has been read. Contracts see the bytes that are left.
 #[derive(Drop)]
 pub struct TextPieces {
     /// The piece that is being read.
     first: Bytes,
-    /// How many of its bytes were read.
+    /// How many of its bytes have been read.
     at: usize,
     others: VecDeque<Bytes>,
 }
@@ -28,7 +28,7 @@ impl Model for TextPieces {
     ghost invariant = { λ t. t.at ≤ length t.first };
 }
 
-/// Appends a piece, which it copies nothing of. An empty one takes no room.
+/// Appends a piece without copying it. An empty one takes no room.
 pub fn push_piece(pieces: &mut Vec<Bytes>, piece: Bytes) -> Result<(), OutOfMemory>
     ensures { OnOk result (concat pieces.new.items ≡ concat pieces.old.items ++ piece) }
 {
@@ -39,7 +39,7 @@ pub fn push_piece(pieces: &mut Vec<Bytes>, piece: Bytes) -> Result<(), OutOfMemo
     Ok(())
 }
 
-/// Goes on to the next piece, as long as the first one has no bytes left.
+/// Moves on to the next piece while the first one has no bytes left.
 fn go_on(first: &mut Bytes, at: &mut usize, others: &mut VecDeque<Bytes>)
     requires { at.old ≤ length first.old }
     ensures same { drop at.new first.new ++ concat others.new.items ≡ drop at.old first.old ++ concat others.old.items }
@@ -55,7 +55,7 @@ fn go_on(first: &mut Bytes, at: &mut usize, others: &mut VecDeque<Bytes>)
     }
 }
 
-/// Puts bytes from `at` on at the front of `into`, as many as there are in both. Answers how many, and moves `at` behind them.
+/// Copies bytes from `at` on to the front of `into`, as many as both have. Returns how many, and moves `at` behind them.
 fn give_front(bytes: &[u8], at: &mut usize, into: &mut [u8]) -> usize
     requires { at.old ≤ length bytes.now }
     ensures within { at.new ≤ length bytes.now }
@@ -72,7 +72,7 @@ fn give_front(bytes: &[u8], at: &mut usize, into: &mut [u8]) -> usize
 }
 
 impl TextPieces {
-    /// No bytes. Takes no memory.
+    /// Makes an empty text. Takes no memory.
     pub fn new(alloc: Global) -> TextPieces
         ensures { result ≡ [] }
     {
@@ -83,7 +83,7 @@ impl TextPieces {
         }
     }
 
-    /// Appends a piece, which it copies nothing of. An empty one takes no room.
+    /// Appends a piece without copying it. An empty one takes no room.
     pub fn push(&mut self, piece: Bytes) -> Result<(), OutOfMemory>
         ensures { OnOk result (self.new ≡ self.old ++ piece) }
     {
@@ -96,8 +96,8 @@ impl TextPieces {
         }
     }
 
-    /// Takes bytes from the front, puts them at the front of `into`, and answers how many. For an `into` that is not empty 0
-    /// is the end.
+    /// Takes bytes from the front, copies them to the front of `into`, and returns how many. If `into` is not empty, 0
+    /// means the end.
     pub fn read(&mut self, into: &mut [u8]) -> usize
         ensures within { result ≤ length into.old }
         ensures taken { self.old ≡ take result into.new ++ self.new }

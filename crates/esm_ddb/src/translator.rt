@@ -15,22 +15,22 @@ use std::alloc::Global;
 use std::marker::Model;
 use std::thread::Threads;
 
-/// What a call of `Translator` gives: what the lines that it completes became, in their order, and the first bad line of all
-/// the input so far, if there is one.
+/// What a call of `Translator` returns: the lines that it completed, turned, in their order, and the first bad line of
+/// the whole input so far, if there is one.
 #[derive(Drop, Debug)]
 pub struct Turned {
     pub bytes: Bytes,
     pub bad: Option<DdbLine>,
 }
 
-/// What a call of `Translator` gives, its text in pieces.
+/// What a call of `Translator` returns, with its text in pieces.
 #[derive(Drop, Debug)]
 pub struct TurnedInPieces {
     pub pieces: Vec<Bytes>,
     pub bad: Option<DdbLine>,
 }
 
-/// The same, with its text in one piece at most.
+/// The same with its text in one piece, or in none if it is empty.
 pub fn in_pieces(alloc: Global, turned: Turned) -> Result<TurnedInPieces, OutOfMemory>
     ensures text { IfOk result (λ same. concat same.pieces.items ≡ turned.bytes) }
     ensures bad { IfOk result (λ same. same.bad ≡ turned.bad) }
@@ -41,8 +41,8 @@ pub fn in_pieces(alloc: Global, turned: Turned) -> Result<TurnedInPieces, OutOfM
     Ok(TurnedInPieces { pieces, bad })
 }
 
-/// A translator of lines of a DynamoDB stream into lines of a stream's input, in any pieces of bytes.
-/// Contracts see what it keeps, whether it failed for want of memory and whether it finished.
+/// Translates lines of a DynamoDB stream into lines of a stream's input; the bytes may be cut into pieces anywhere.
+/// Contracts see its state, whether it ran out of memory, and whether it finished.
 #[derive(Drop)]
 pub struct Translator {
     alloc: Global,
@@ -109,7 +109,7 @@ fn read_end(alloc: Global, reading: &mut Splitter) -> Result<Turned, OutOfMemory
 }
 
 impl Translator {
-    /// A translator for the mapping's stream that was fed nothing. It copies the stream's region and ARN.
+    /// Makes a translator for the mapping's stream, which was fed nothing. It copies the stream's region and ARN.
     #[tactic(auto, unfolding(crate::specs::Translation::translation_so_far))]
     pub fn new(alloc: Global, config: &Config) -> Result<Translator, OutOfMemory>
         ensures fed { IfOk result (λ t. IsFed [] t.state) }
@@ -126,9 +126,9 @@ impl Translator {
         })
     }
 
-    /// Takes the next piece of the input. Gives what the lines that it ends became, each with its line feed, up to the first
-    /// bad line, and that line; after a bad line each call gives no bytes and the same bad line. A line of more than
-    /// 8,388,608 bytes is bad as soon as they came. After `OutOfMemory` each call answers `OutOfMemory`.
+    /// Takes the next piece of the input. Returns the lines that it ends, turned, each with its line feed, up to the
+    /// first bad line, and that line. After a bad line each call returns no bytes and the same bad line. A line is bad as
+    /// soon as more than 8,388,608 bytes of it arrived. After `OutOfMemory` each call returns `OutOfMemory`.
     pub fn feed(&mut self, piece: &[u8]) -> Result<Turned, OutOfMemory>
         requires { self.old.finished ≡ false }
         ensures text { IfOk result (λ turned. (bytes : List ℕ) → IsFed bytes self.old.state
@@ -152,8 +152,8 @@ impl Translator {
         Ok(turned)
     }
 
-    /// Takes the next piece of the input as `feed` does, its lines turned on up to `threads` threads side by side and put
-    /// together in order. Where no thread can be made they are turned one after the other.
+    /// Takes the next piece of the input as `feed` does, but turns its lines on up to `threads` threads side by side and
+    /// puts them together in order. If no thread can be made, it turns them one after the other.
     pub fn feed_parallel<R: Threads + Sync>(
         &mut self,
         rt: &R,
@@ -182,8 +182,8 @@ impl Translator {
         Ok(turned)
     }
 
-    /// Ends the input: what stands after the last line feed is a line of its own. Gives what it became, without a line feed,
-    /// or the first bad line of the whole input.
+    /// Ends the input: what follows the last line feed is a line of its own. Returns it turned, without a line feed, and
+    /// the first bad line of the whole input, if there is one. After `OutOfMemory` each call returns `OutOfMemory`.
     pub fn finish(&mut self) -> Result<Turned, OutOfMemory>
         requires { self.old.finished ≡ false }
         ensures text { IfOk result (λ turned. (bytes : List ℕ) → IsFed bytes self.old.state

@@ -1,4 +1,5 @@
-//! A line as a tree whose objects have their members in the order of their names: whether they do, and what stands in it.
+//! A line as a tree of JSON values: whether its objects have their members in the order of their names, and what is in
+//! it.
 ghost use Rattle.std.specs.Prelude.{◌≡◌, is_some, option_and_then, option_map, true, IfSome};
 ghost use Rattle.json.specs.Value.{items_view, members_view, value_view};
 ghost use Rattle.serde_json.specs.Find.{as_number, as_object, as_str, as_u64, get};
@@ -12,10 +13,10 @@ use json::{Error, Reader, Value};
 use std::alloc::Global;
 use std::cmp::Ordering;
 
-/// How deep arrays and objects may nest.
+/// How deep arrays and objects may be nested.
 const MAX_DEPTH: usize = 127;
 
-/// The one value that a text is.
+/// Reads the one value that a text is; `NotJson` if it is not one value, and `OutOfMemory` if an allocation failed.
 pub fn read_value<'a>(alloc: Global, reader: &mut Reader<'a>) -> Result<Value<'a>, Refusal>
     ensures { Gives (λ v. value_view v) result (tree_of reader.old) }
 {
@@ -30,14 +31,14 @@ pub fn read_value<'a>(alloc: Global, reader: &mut Reader<'a>) -> Result<Value<'a
     }
 }
 
-/// Whether the name stands before the other one.
+/// Whether the name comes before the other one.
 fn is_before(name: &str, other: &str) -> bool
     ensures { result ≡ is_before name.now other.now }
 {
     matches!(name.as_bytes().cmp(other.as_bytes()), Ordering::Less)
 }
 
-/// Whether the name may stand after the one that stood before.
+/// Whether the name may follow the one before it.
 fn follows(before: Option<&str>, name: &str) -> bool
     ensures { result ≡ follows (option_map (λ s. s.now) before.entry) name.now }
 {
@@ -47,7 +48,7 @@ fn follows(before: Option<&str>, name: &str) -> bool
     }
 }
 
-/// Whether each number is in range, and the names of each object rise.
+/// Whether each number is in range, and the names of each object are in ascending order.
 #[cycle(orders)]
 pub fn is_ordered(value: &Value<'_>) -> bool
     ensures { result ≡ is_ordered (value_view value.now) }
@@ -126,7 +127,7 @@ fn members_ranged(members: &Vec<(&str, Value<'_>)>) -> bool
     true
 }
 
-/// The text that the value is.
+/// The text that the value is; `None` if it is no string.
 pub fn text_in<'t>(value: &Value<'t>) -> Option<&'t str>
     ensures { option_map (λ s. s.now) result ≡ as_str (data_in (value_view value.entry.now)) }
 {
@@ -137,7 +138,7 @@ pub fn text_in<'t>(value: &Value<'t>) -> Option<&'t str>
     }
 }
 
-/// The whole number from 0 to 2^64 - 1 that the value is.
+/// The whole number from 0 to 2^64 - 1 that the value is; `None` if it is not one.
 pub fn whole_in(value: &Value<'_>) -> Option<u64>
     ensures { result ≡ option_and_then as_u64 (as_number (data_in (value_view value.now))) }
 {
@@ -155,7 +156,7 @@ pub fn is_object(value: &Value<'_>) -> bool
     matches!(value, Value::Object(_))
 }
 
-/// The members of the object that the value is.
+/// The members of the object that the value is; `None` if it is no object.
 pub fn members_of<'a, 't>(value: &'a Value<'t>) -> Option<&'a Vec<(&'t str, Value<'t>)>>
     ensures { option_map (λ m. members_in (members_view m.now.items)) result ≡ as_object (data_in (value_view value.entry.now)) }
 {
@@ -166,7 +167,7 @@ pub fn members_of<'a, 't>(value: &'a Value<'t>) -> Option<&'a Vec<(&'t str, Valu
     }
 }
 
-/// The member of that name, where the value is an object.
+/// The member with this name, if the value is an object that has one.
 pub fn member<'a, 't>(value: &'a Value<'t>, name: &str) -> Option<&'a Value<'t>>
     requires { is_ordered (value_view value.now) ≡ true }
     ensures found { option_map (λ v. data_in (value_view v.now)) result ≡ get name.now (data_in (value_view value.entry.now)) }

@@ -1,4 +1,4 @@
-//! The line of a stream's input that a line of a DynamoDB stream becomes.
+//! Turning a line of a DynamoDB stream into the line of a stream's input.
 ghost use Rattle.std.specs.Prelude.{◌≡◌, ◌<◌, ◌++◌, Some, false, true, OnOk, IfOk};
 ghost use Rattle.std.specs.Fmt.{digit_glyph};
 ghost use Rattle.json.specs.Value.{value_view};
@@ -30,7 +30,7 @@ use md5::{Digest, Md5};
 use std::alloc::Global;
 use std::str::from_utf8;
 
-/// The bytes that most lines have room in besides their data, and most keys.
+/// The capacity in bytes that most lines fit into without their data, and most keys.
 const ROOM: usize = 256;
 
 /// The lower-case hexadecimal digit.
@@ -45,7 +45,7 @@ fn digit(value: u8) -> u8
     }
 }
 
-/// Appends the byte by two lower-case hexadecimal digits.
+/// Appends the byte as two lower-case hexadecimal digits.
 fn push_byte(out: &mut Vec<u8>, byte: u8) -> Result<(), OutOfMemory>
     ensures { OnOk result (out.new.items ≡ out.old.items ++ padded_hexadecimal 2 byte) }
 {
@@ -54,7 +54,7 @@ fn push_byte(out: &mut Vec<u8>, byte: u8) -> Result<(), OutOfMemory>
     Ok(())
 }
 
-/// Appends each byte by two lower-case hexadecimal digits.
+/// Appends each byte as two lower-case hexadecimal digits.
 #[tactic(auto, unfolding(esm_model::specs::QueueEvent::hexadecimal))]
 fn push_hexadecimal_bytes(out: &mut Vec<u8>, bytes: &[u8]) -> Result<(), OutOfMemory>
     ensures { OnOk result (out.new.items ≡ out.old.items ++ hexadecimal bytes.now) }
@@ -73,7 +73,7 @@ fn push_digest(out: &mut Vec<u8>, keys: &[u8]) -> Result<(), OutOfMemory>
     Ok(())
 }
 
-/// Appends shard and sequence number of the line.
+/// Appends the shard and the sequence number of the record's line.
 pub fn push_place(out: &mut Vec<u8>, shard: u64, seq: &[u8]) -> Result<(), OutOfMemory>
     ensures { OnOk result (out.new.items ≡ out.old.items ++ place_part shard seq.now) }
 {
@@ -84,7 +84,7 @@ pub fn push_place(out: &mut Vec<u8>, shard: u64, seq: &[u8]) -> Result<(), OutOf
     Ok(())
 }
 
-/// Appends partition key, data and moment of arrival of the line.
+/// Appends the partition key, the data and the moment of arrival of the record's line.
 pub fn push_content(
     out: &mut Vec<u8>,
     keys: &[u8],
@@ -103,7 +103,7 @@ pub fn push_content(
     Ok(())
 }
 
-/// Appends the line of the change's record, whose keys and whose element have these texts.
+/// Appends the line of the change's record; `keys` is the text of its keys and `payload` that of its element.
 fn push_record(
     out: &mut Vec<u8>,
     source: &Source,
@@ -120,7 +120,7 @@ fn push_record(
     Ok(())
 }
 
-/// The bytes that the line has room in of a record with this data.
+/// The capacity in bytes for the line of a record with this data.
 pub fn room_for(payload: &[u8]) -> usize {
     (payload.len() / 3).saturating_mul(4).saturating_add(ROOM)
 }
@@ -150,7 +150,7 @@ fn keys_text(alloc: Global, keys: &Value<'_>) -> Result<Vec<u8>, OutOfMemory>
     Ok(text)
 }
 
-/// The line of the change's record; `BadField` where its element has too many bytes.
+/// The line of the change's record; `BadField` if its element has more than `MAX_DATA` bytes.
 fn turned_change(alloc: Global, source: &Source, change: &Change) -> Result<Vec<u8>, Refusal>
     ensures { Gives (λ v. v.items) result (turned_change source.now (change_view change.now)) }
 {
@@ -193,7 +193,7 @@ fn turned_text(
     }
 }
 
-/// What a text becomes that has an object whose members are not in the order of their names.
+/// Turns a text that has an object whose members are not in the order of their names.
 fn turned_unordered(alloc: Global, source: &Source, text: &str) -> Result<Vec<u8>, Refusal>
     ensures { Gives (λ v. v.items) result (turned_value source.now (read text.now)) }
 {
@@ -204,7 +204,7 @@ fn turned_unordered(alloc: Global, source: &Source, text: &str) -> Result<Vec<u8
     turned_ordered(alloc, source, ordered.as_str())
 }
 
-/// What a text becomes in which the members of each object are in the order of their names.
+/// Turns a text in which the members of each object are in the order of their names.
 #[tactic(auto, using(crate::proofs::Trees::gives_none, crate::proofs::Trees::gives_tree))]
 fn turned_ordered(alloc: Global, source: &Source, text: &str) -> Result<Vec<u8>, Refusal>
     ensures { Gives (λ v. v.items) result (turned_value source.now (read text.now)) }
@@ -219,7 +219,7 @@ fn turned_ordered(alloc: Global, source: &Source, text: &str) -> Result<Vec<u8>,
     }
 }
 
-/// What a text becomes that is a line.
+/// Turns a line that is UTF-8.
 fn turned_line(
     alloc: Global,
     scratch: &mut Scratch,
@@ -255,7 +255,7 @@ fn is_blank(line: &[u8]) -> bool
         .all(|b| *b == b' ' || *b == b'\t' || *b == b'\r')
 }
 
-/// What the line becomes, which stands without its line feed: nothing where it is blank.
+/// Turns a line, given without its line feed; a blank one is turned into nothing.
 pub fn turned(
     alloc: Global,
     scratch: &mut Scratch,

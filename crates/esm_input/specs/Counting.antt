@@ -1,4 +1,4 @@
--- What is counted of the items of an input, and the limits of the counts. Only this crate's proofs cite this.
+-- What is counted of an input's items, and the limits of the counts. Only this crate's proofs cite this.
 use Rattle.std.specs.Prelude.{◌≡◌, ℕ, ◌+◌, ◌*◌, ◌≤◌, nat_le, nat_lt, List, ◌++◌, length, take, Option, Some, None, if◌then◌else◌}
 use Rattle.esm_model.specs.declared.limits.TheConstants.{MAX_RECORDS, MAX_INPUT, MAX_SHARDS, MAX_LANES}
 use Rattle.esm_model.specs.declared.item.Item.{Item}
@@ -7,19 +7,19 @@ use Rattle.esm_model.specs.declared.names.LimitName.TheVariants.{Records, Bytes,
 use Rattle.esm_input.specs.Limits.{item_bytes, data_bytes, shards_with, shards_in, limited_after}
 use Rattle.esm_input.specs.declared.counted.Counted.{Counted}
 
--- it counts these items
+-- these are the counts of the items
 pub record IsCountOf (c : Counted) (xs : List Item) : Type 0 where
   pub items : c.items ≡ length xs
   pub bytes : c.bytes ≡ data_bytes xs
   pub shards : c.shards.items ≡ shards_in xs
 
--- no count is past its limit
+-- no count exceeds its limit
 pub record IsWithin (c : Counted) : Type 0 where
   pub items : c.items ≤ MAX_RECORDS
   pub bytes : c.bytes ≤ MAX_INPUT
   pub shards : length c.shards.items ≤ MAX_SHARDS
 
--- the first limit that one more item passes after those counted
+-- the first limit that one more item exceeds, after those counted
 abbrev pub passed_by : (factor : ℕ) → Counted → Item → Option LimitName
 passed_by factor c x =
     if nat_le MAX_RECORDS c.items then Some Records
@@ -28,17 +28,17 @@ passed_by factor c x =
     else if nat_lt MAX_LANES (length (shards_with c.shards.items x) * factor) then Some Lanes
     else None
 
--- one more item is counted
+-- one more item was counted
 pub record CountsMore (old new : Counted) (x : Item) : Type 0 where
   pub items : new.items ≡ old.items + 1
   pub bytes : new.bytes ≡ old.bytes + item_bytes x
   pub shards : new.shards.items ≡ shards_with old.shards.items x
 
--- where these were counted, so many of the next ones are within the limits, up to one that passes this limit
+-- the first `count` of the next items are within the limits; this is the limit that the one after them exceeds, if it does
 abbrev pub IsFront : (factor : ℕ) → Counted → List Item → (count : ℕ) → Option LimitName → Type 0
 IsFront factor c items count limit =
     (xs : List Item) → IsCountOf c xs → limited_after factor xs items ≡ record { items = xs ++ take count items; limit = limit }
 
--- where these were counted, the next ones are counted too
+-- the next items were counted in addition to those counted before
 abbrev pub CountsOn : (old new : Counted) → List Item → Type 0
 CountsOn old new items = (xs : List Item) → IsCountOf old xs → IsCountOf new (xs ++ items)

@@ -8,14 +8,14 @@ use Rattle.esm_input.specs.Limits.{data_bytes, shards_in}
 use Rattle.esm_input.specs.Positions.{from_start}
 use Rattle.esm_input.specs.Reading.{items_read}
 
--- no limit is passed by them; each shard has as many lanes as the factor
+-- the items exceed no limit; each shard has `factor` lanes
 pub record AreWithin (factor : ℕ) (xs : List Item) : Type 0 where
   pub few : length xs ≤ MAX_RECORDS
   pub bytes : data_bytes xs ≤ MAX_INPUT
   pub shards : length (shards_in xs) ≤ MAX_SHARDS
   pub lanes : length (shards_in xs) * factor ≤ MAX_LANES
 
--- what an input hands out, and each front of it, is within the limits
+-- every front of what an input hands out is within the limits
 abbrev pub HandedWithin : Type 0
 HandedWithin = (kind : LineKind) (factor : ℕ) (start : Start) (whole : Bool) (bytes : List ℕ) (came rest : List Item)
     → from_start start (items_read kind factor whole bytes).items ≡ came ++ rest → AreWithin factor came

@@ -1,4 +1,4 @@
-// The items of an input, counted against the limits.
+// Counting the items of an input against the limits.
 ghost use Rattle.std.specs.Prelude.{◌≡◌, ◌≤◌, [], length, None, IfOk, OnOk, OnErr};
 ghost use Rattle.esm_input.specs.Limits.{item_bytes, shards_with};
 ghost use Rattle.esm_input.specs.Counting.{IsCountOf, IsWithin, CountsMore, CountsOn, IsFront, passed_by};
@@ -6,7 +6,7 @@ ghost use Rattle.esm_input.specs.Counting.{IsCountOf, IsWithin, CountsMore, Coun
 use esm_model::{Item, LimitName, MAX_INPUT, MAX_LANES, MAX_RECORDS, MAX_SHARDS, OutOfMemory};
 use std::alloc::Global;
 
-/// How many items came, how many bytes they have, and their shards, in the order of first appearance.
+/// The number of items so far, the number of their bytes, and their shards, in the order of first appearance.
 #[derive(Drop)]
 pub(crate) struct Counted {
     pub(crate) items: usize,
@@ -14,14 +14,14 @@ pub(crate) struct Counted {
     pub(crate) shards: Vec<u64>,
 }
 
-/// How many of a list's items are within the limits, and the limit that the next one passes.
+/// How many of a list's first items are within the limits, and the limit that the next one exceeds, if it does.
 #[derive(Drop)]
 pub(crate) struct Front {
     pub(crate) count: usize,
     pub(crate) limit: Option<LimitName>,
 }
 
-/// Bytes of a record's data, or of a message's body.
+/// The number of bytes of a record's data, or of a message's body.
 fn bytes_of(item: &Item) -> usize
     ensures { result ≡ item_bytes item.now }
 {
@@ -31,7 +31,7 @@ fn bytes_of(item: &Item) -> usize
     }
 }
 
-/// Notes the shard of an item, where it has one and the shards lack it.
+/// Notes the shard of an item, if it has one that was not noted yet.
 fn note_shard(shards: &mut Vec<u64>, item: &Item) -> Result<(), OutOfMemory>
     ensures noted { OnOk result (shards.new.items ≡ shards_with shards.old.items item.now) }
     ensures kept { OnErr result (shards.new.items ≡ shards.old.items) }
@@ -47,7 +47,7 @@ fn note_shard(shards: &mut Vec<u64>, item: &Item) -> Result<(), OutOfMemory>
 }
 
 impl Counted {
-    /// Nothing came yet.
+    /// The counts of no items.
     pub(crate) fn new(alloc: Global) -> Counted
         ensures count { IsCountOf result [] }
         ensures within { IsWithin result }
@@ -59,7 +59,7 @@ impl Counted {
         }
     }
 
-    /// How many shards there are with that of the item.
+    /// The number of shards, that of the item included.
     fn shards_with(&self, item: &Item) -> usize
         requires { IsWithin self.now }
         ensures { result ≡ length (shards_with self.now.shards.items item.now) }
@@ -77,7 +77,7 @@ impl Counted {
         }
     }
 
-    /// The first limit that one more item passes; `factor` is the number of lanes of a shard.
+    /// The first limit that one more item exceeds; `factor` is the number of lanes of a shard.
     fn limit(&self, factor: u32, item: &Item) -> Option<LimitName>
         requires within { IsWithin self.now }
         requires few { factor ≤ 10 }
@@ -99,7 +99,7 @@ impl Counted {
         None
     }
 
-    /// Counts an item, or names the limit that it passes.
+    /// Counts an item, or returns the limit that it exceeds.
     fn add(&mut self, factor: u32, item: &Item) -> Result<Option<LimitName>, OutOfMemory>
         requires within { IsWithin self.old }
         requires few { factor ≤ 10 }
@@ -116,7 +116,7 @@ impl Counted {
         Ok(None)
     }
 
-    /// Counts the items in order, up to the first that passes a limit.
+    /// Counts the items in order, up to the first that exceeds a limit.
     pub(crate) fn count_front(&mut self, factor: u32, items: &[Item]) -> Result<Front, OutOfMemory>
         requires within { IsWithin self.old }
         requires few { factor ≤ 10 }

@@ -7,10 +7,10 @@ use esm_record::BadLine;
 pub enum InputEnd {
     /// It was read to its end.
     End,
-    /// The first bad line; the items before it were handed out.
+    /// A line is bad, the first one; the items before it were handed out.
     BadLine(BadLine),
     /// The source failed.
     Fault,
-    /// An item passes this limit, the first that it passes; the items before it were handed out.
+    /// An item exceeds this limit, the first of those that it exceeds; the items before it were handed out.
     Limit(LimitName),
 }

@@ -1,4 +1,4 @@
-// The input of a run: what it is made with, and its reads.
+// The input of a run: how it is made, and how it is read.
 ghost use Rattle.std.specs.Prelude.{◌≡◌, ◌≤◌, ◌<◌, ◌++◌, ℕ, List, [], length, None, true, false, IfOk, IfErr, OnOk, OnErr, All, IsSome, option_copied};
 ghost use Rattle.esm_io.specs.Faults.{IsCount};
 ghost use Rattle.esm_io.specs.Told.{TakesFront};
@@ -12,25 +12,14 @@ use crate::taking::{read_bytes, read_lines, take};
 use esm_io::Source;
 use esm_model::{Item, LineKind, OutOfMemory, Refused, Start};
 use esm_record::Lines;
+use esm_record::line_blocks::threads_for;
 use std::alloc::Global;
 use std::marker::Model;
 use std::snapshot::Snapshot;
-use std::thread;
 use std::thread::Threads;
 
-/// How many bytes one read asks for.
+/// The number of bytes that one read asks for.
 const PIECE: usize = 1048576;
-
-/// The most threads that parse lines.
-const MOST_THREADS: usize = 4;
-
-/// How many threads are to parse lines: one for each processor, four at most.
-fn threads_for<R: Threads>(rt: &R) -> usize {
-    match thread::available_parallelism(rt) {
-        Ok(processors) => processors.get().min(MOST_THREADS),
-        Err(_) => 1,
-    }
-}
 
 /// The number of threads that was asked once, or is now.
 fn asked<R: Threads>(rt: &R, known: &mut Option<usize>) -> usize {
@@ -44,12 +33,12 @@ fn asked<R: Threads>(rt: &R, known: &mut Option<usize>) -> usize {
     }
 }
 
-/// The input of a run, as it is read. Contracts see what it was made with, the bytes that were read of the source, and why
-/// the reading ended.
+/// The input of a run, while it is read. Contracts see what it was made with, the bytes that were read from the source, and
+/// why the reading ended.
 #[derive(Drop)]
 pub struct Input<S: Source> {
     source: S,
-    /// The source as it was handed in, for the contracts alone.
+    /// The source as it was given, for contracts alone.
     found: Snapshot<S>,
     lines: Lines,
     factor: u32,
@@ -57,7 +46,7 @@ pub struct Input<S: Source> {
     counted: Counted,
     positions: Positions,
     buffer: Vec<u8>,
-    /// How many threads parse lines at most, once it was asked.
+    /// The maximum number of threads to parse lines, once it was asked for.
     threads: Option<usize>,
     whole: bool,
     end: Option<InputEnd>,
@@ -99,8 +88,8 @@ impl<S: Source> Model for Input<S> {
 }
 
 impl<S: Source> Input<S> {
-    /// Nothing is read yet. `factor` is the number of lanes of a shard; `start` is the mapping's starting position, where
-    /// `Latest` is taken as the first record. A refusal hands the source back.
+    /// Makes an input of which nothing was read yet. `factor` is the number of lanes of a shard. `start` is the mapping's
+    /// starting position; `Latest` counts as the first record. A refusal gives the source back.
     pub fn new(
         alloc: Global,
         source: S,
@@ -142,9 +131,10 @@ impl<S: Source> Input<S> {
         })
     }
 
-    /// Reads one piece of at most 1,048,576 bytes, and gives the items of the lines that it completes: those before the first
-    /// bad line and within the limits, from the starting position on. A long piece's lines are parsed by several threads, by
-    /// one where no other can be made. Where the reading ends by it, `end` tells why. After `OutOfMemory` nothing more is read.
+    /// Reads one piece of at most 1,048,576 bytes, and returns the items of the lines that it completes: those before the
+    /// first bad line and within the limits, from the starting position on. Several threads parse the lines of a long piece,
+    /// unless the lines are short; if no other thread can be made, this one does. If the reading ends with this piece, `end`
+    /// says why. After `OutOfMemory` nothing more is read.
     pub fn read<R: Threads + Sync>(
         &mut self,
         rt: &R,
@@ -190,7 +180,7 @@ impl<S: Source> Input<S> {
         Ok(taken.items)
     }
 
-    /// Why the reading ended, where it has. Its clauses say what is true of every input. Takes no memory.
+    /// Why the reading ended, if it did. Its clauses also say what holds of every input. Takes no memory.
     pub fn end(&self) -> Option<&InputEnd>
         ensures value { option_copied result ≡ self.now.end }
         ensures keeps { self.now.failed ≡ false → IsInput S.faults S.left self.now }
@@ -198,7 +188,8 @@ impl<S: Source> Input<S> {
         self.end.as_ref()
     }
 
-    /// Whether a read would not wait. It waits for that itself, for `patience` milliseconds at most. Takes no memory.
+    /// Whether a read would return without waiting. Waits for that itself, for at most `patience` milliseconds. Takes no
+    /// memory.
     pub fn is_ready(&mut self, patience: u64) -> bool
         ensures ready { IsSome (S.left self.old.source) → result ≡ true }
         ensures left { S.left self.new.source ≡ S.left self.old.source }
@@ -214,7 +205,7 @@ impl<S: Source> Input<S> {
         self.factor
     }
 
-    /// The source, as it was left, and why the reading ended, where it has. Takes no memory.
+    /// The source in its last state, and why the reading ended, if it did. Takes no memory.
     pub fn into_parts(self) -> (S, Option<InputEnd>)
         ensures source { result.0 ≡ self.source }
         ensures end { result.1 ≡ self.end }
@@ -222,7 +213,7 @@ impl<S: Source> Input<S> {
         (self.source, self.end)
     }
 
-    /// The source, as it was left. Takes no memory.
+    /// The source in its last state. Takes no memory.
     pub fn into_source(self) -> S
         ensures { result ≡ self.source }
     {

@@ -1,7 +1,7 @@
-//! What holds of every input, as the contract of a function that does nothing.
+//! A law of every input, as the contract of a function that does nothing.
 ghost use Rattle.esm_input.specs.Within.{HandedWithin};
 
-/// What an input hands out, and each front of it, is within the limits: of items, of bytes, of shards and of lanes.
+/// Every front of what an input hands out is within the limits of items, bytes, shards and lanes.
 pub fn handed_is_within()
     ensures { HandedWithin }
 {}

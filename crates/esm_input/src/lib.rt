@@ -1,6 +1,6 @@
-//! The input of a run, read piece by piece: its records or messages from the mapping's starting position on, within the
-//! limits of the engine, and why the reading ended.
-//! It reads a source and keeps no item; what it hands out is told by the bytes that were read.
+//! Reads the input of a run piece by piece: its records or messages from the mapping's starting position on, within the
+//! limits of the engine, and why the reading ended. It reads a source and keeps no item; contracts define what it hands out
+//! by the bytes that were read.
 #![tactic(auto)]
 
 mod counted;

@@ -7,7 +7,7 @@ ghost use Rattle.esm_input.specs.Begun.{begun_after, kept_from, begun_from};
 use esm_model::{Item, OutOfMemory, Start};
 use std::alloc::Global;
 
-/// The shards whose starting position was reached, where it is a moment.
+/// The shards that have begun, which matters only if the starting position is a moment.
 #[derive(Drop)]
 pub(crate) struct Positions {
     pub(crate) begun: Vec<u64>,
@@ -23,7 +23,8 @@ impl Positions {
         }
     }
 
-    /// Whether the item is not before its position; then its shard has begun. `moment` is in milliseconds.
+    /// Whether the item is not before the starting position; then its shard has begun. `moment` is in milliseconds since
+    /// 1970.
     fn begin(&mut self, moment: u64, item: &Item) -> Result<bool, OutOfMemory>
         ensures value { IfOk result (λ begun. begun ≡ has_begun moment self.old.begun.items item.now) }
         ensures noted { IfOk result (λ begun. self.new.begun.items
@@ -43,7 +44,7 @@ impl Positions {
         Ok(true)
     }
 
-    /// Keeps an item that is not before its position.
+    /// Keeps the item if it is not before the starting position.
     fn keep_one(&mut self, kept: &mut Vec<Item>, moment: u64, item: Item) -> Result<(), OutOfMemory>
         ensures kept { OnOk result (kept.new.items ≡ kept.old.items ++ from_moment moment self.old.begun.items (item ∷ [])) }
         ensures begun { OnOk result (self.new.begun.items ≡ begun_after moment self.old.begun.items (item ∷ [])) }
@@ -55,7 +56,7 @@ impl Positions {
         Ok(())
     }
 
-    /// The items that are not before their positions, in their order.
+    /// The items that are not before the starting position, in their order.
     fn keep_from(
         &mut self,
         alloc: Global,

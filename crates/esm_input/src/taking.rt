@@ -1,4 +1,4 @@
-// What one piece of an input gives.
+// Reading one piece of an input.
 ghost use Rattle.std.specs.Prelude.{◌≡◌, ◌≤◌, ◌<◌, ◌==◌, ◌++◌, length, take, vec_len, false, IfOk, OnOk, OnErr, All};
 ghost use Rattle.esm_io.specs.Faults.{IsCount, Rose};
 ghost use Rattle.esm_io.specs.Told.{TakesFront, IsAtEnd};
@@ -16,14 +16,14 @@ use esm_record::{BadLine, Fed, Lines};
 use std::alloc::Global;
 use std::thread::Threads;
 
-/// The items that a piece gives out, and why the reading ends by it, if it does.
+/// The items that a piece hands out, and why the reading ends with it, if it does.
 #[derive(Drop)]
 pub(crate) struct Taken {
     pub(crate) items: Vec<Item>,
     pub(crate) end: Option<InputEnd>,
 }
 
-/// Reads bytes into the front of the buffer, and answers how many; 0 is the end of the source.
+/// Reads bytes into the front of the buffer, and returns their number; 0 means the end of the source.
 pub(crate) fn read_bytes<S: Source>(source: &mut S, buffer: &mut Vec<u8>) -> Result<usize, Failed>
     requires room { 0 < vec_len buffer.old }
     ensures room { vec_len buffer.new ≡ vec_len buffer.old }
@@ -37,22 +37,23 @@ pub(crate) fn read_bytes<S: Source>(source: &mut S, buffer: &mut Vec<u8>) -> Res
     source.read(buffer)
 }
 
-/// The shortest piece whose lines several threads are to parse, in bytes.
+/// The bytes of the shortest piece whose lines several threads parse.
 const MIN_PIECE: usize = 98_304;
 
-/// How many bytes of a piece show whether its lines are short.
+/// The number of a piece's first bytes from which it is judged whether its lines are short.
 const SAMPLE: usize = 65_536;
 
-/// The bytes of a line, with its line feed, below which it is short on average. Short lines take more memory parsed than read.
+/// Lines with on average fewer bytes than this, line feeds included, are short. Short lines take more memory once parsed
+/// than as bytes.
 const MIN_LINE: usize = 32;
 
-/// Whether the lines in front of the piece are short, as blank ones are.
+/// Whether the lines at the front of the piece are short, as blank lines are.
 fn has_short_lines(piece: &[u8]) -> bool {
     let front = &piece[..piece.len().min(SAMPLE)];
     front.iter().filter(|b| **b == b'\n').count() > front.len() / MIN_LINE
 }
 
-/// How many of so many threads are to parse the lines of the piece: one alone where it is small or its lines are short.
+/// How many of these threads parse the lines of the piece: one if the piece is short or its lines are.
 fn threads_over(threads: usize, piece: &[u8]) -> usize {
     if piece.len() < MIN_PIECE || has_short_lines(piece) {
         1
@@ -61,7 +62,7 @@ fn threads_over(threads: usize, piece: &[u8]) -> usize {
     }
 }
 
-/// Reads the lines that a piece completes, parsed by so many threads at most; an empty piece is the end of the input.
+/// Reads the lines that a piece completes, with up to `threads` threads that parse them; an empty piece ends the input.
 pub(crate) fn read_lines<R: Threads + Sync>(
     rt: &R,
     threads: usize,
@@ -84,7 +85,7 @@ pub(crate) fn read_lines<R: Threads + Sync>(
     }
 }
 
-/// Why the reading ends: a limit passed comes before a bad line, and that before the end of the source.
+/// Why the reading ends, if it does: an exceeded limit comes before a bad line, and that before the end of the source.
 fn end_of(whole: bool, limit: Option<LimitName>, bad: Option<BadLine>) -> Option<InputEnd>
     ensures { result ≡ end_by whole limit bad }
 {
@@ -97,7 +98,7 @@ fn end_of(whole: bool, limit: Option<LimitName>, bad: Option<BadLine>) -> Option
     whole.then_some(InputEnd::End)
 }
 
-/// Counts the items of a piece up to the first that passes a limit, and keeps those from the starting position on.
+/// Counts the items of a piece up to the first that exceeds a limit, and keeps those from the starting position on.
 pub(crate) fn take(
     alloc: Global,
     factor: u32,

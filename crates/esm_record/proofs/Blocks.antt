@@ -13,7 +13,8 @@ use Rattle.esm_record.specs.declared.error.LineError.{LineError}
 use Rattle.esm_record.specs.declared.splitter.Splitter.{Splitter}
 use Rattle.esm_record.specs.Input.{Input, is_line_feed, lines_of, ended, begun, nothing_read, add_line, read_lines, input_so_far}
 use Rattle.esm_record.specs.Parsing.{parse_line, parsed_lines, add_parsed}
-use Rattle.esm_record.specs.Splitting.{Stands, HasRead, NoLineFeed, IsFirstLine}
+use Rattle.esm_record.specs.LineBlocks.{NoLineFeed, IsFirstLine}
+use Rattle.esm_record.specs.Splitting.{Stands, HasRead}
 use Rattle.esm_record.proofs.FirstLine.{not_true}
 use Rattle.esm_record.proofs.Splits.{HasFirst, follow, follow_nil, first_line, lines_of-append, ended-append, begun-append, begun_at_end}
 use Rattle.esm_record.proofs.Parses.{all_judged}

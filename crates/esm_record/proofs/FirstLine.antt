@@ -7,7 +7,7 @@ use Rattle.std.proofs.lemmas.List.Elements.{All-from_get_or}
 use Rattle.std.proofs.Math.Seq.{drop-cons}
 use Rattle.memchr.specs.Find.{Nowhere, NoneBefore, Passes, is_byte}
 use Rattle.esm_record.specs.Input.{is_line_feed}
-use Rattle.esm_record.specs.Splitting.{NoLineFeed, IsFirstLine}
+use Rattle.esm_record.specs.LineBlocks.{NoLineFeed, IsFirstLine}
 
 pub not_true : (b : Bool) → (b ≡ true → ⊥) → b ≡ false
 not_true true h = absurd (h refl)

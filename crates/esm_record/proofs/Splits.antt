@@ -1,17 +1,15 @@
 -- The lines of bytes that go on.
 use Rattle.std.proofs.Common.{◌≡◌, ℕ, ◌+◌, Bool, true, false, cond, ltb, List, [], ◌∷◌, ◌++◌, length, refl, sym, ap, ◌∙◌, append_assoc, arith}
-use Rattle.std.specs.List.{onto_first, All}
+use Rattle.std.specs.List.{onto_first}
 use Rattle.std.proofs.lemmas.List.{append-nil}
 use Rattle.std.proofs.lemmas.List.Splits.{slice_split_none, slice_split_at}
 use Rattle.esm_record.specs.Input.{is_line_feed, lines_of, ended, begun, too_long}
+use Rattle.esm_record.specs.LineBlocks.{NoLineFeed}
 
 -- what has begun goes on with the first part
 abbrev pub follow : List ℕ → List (List ℕ) → List (List ℕ)
 follow front [] = front ∷ []
 follow front (part ∷ parts) = (front ++ part) ∷ parts
-
-abbrev pub NoLineFeed : List ℕ → Type 0
-NoLineFeed bytes = All (λ b. is_line_feed b ≡ false) bytes
 
 abbrev pub HasFirst : List (List ℕ) → Type 0
 HasFirst parts = (part : List ℕ) × (others : List (List ℕ)) × (parts ≡ part ∷ others)

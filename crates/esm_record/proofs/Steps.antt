@@ -10,7 +10,8 @@ use Rattle.esm_model.specs.declared.item.LineKind.{LineKind}
 use Rattle.esm_model.specs.declared.item.Item.{Item}
 use Rattle.esm_record.specs.declared.splitter.Splitter.{Splitter}
 use Rattle.esm_record.specs.Seen.{Follows}
-use Rattle.esm_record.specs.Splitting.{Stands, HasRead, NoLineFeed, IsFirstLine}
+use Rattle.esm_record.specs.LineBlocks.{NoLineFeed, IsFirstLine}
+use Rattle.esm_record.specs.Splitting.{Stands, HasRead}
 use Rattle.esm_record.specs.Input.{Input, add_line, after_line, read_after, read_lines, lines_of, ended, begun, too_long, input_so_far, input_of}
 use Rattle.esm_record.proofs.Splits.{ended_in_line, begun_in_line, ended_at_end, begun_at_end, lines_are}
 use Rattle.esm_record.proofs.Inputs.{read_push, bad_for_ever, bad_whole}

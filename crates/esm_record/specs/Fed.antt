@@ -1,4 +1,4 @@
--- The bytes that a reader of lines was fed, in blocks that only clauses see.
+-- The bytes that a reader of lines was fed, in blocks that only contracts see.
 use Rattle.std.specs.Prelude.{ℕ, List}
 use Rattle.std.specs.List.{flat_map}
 use Rattle.std.specs.declared.snapshot.Snapshot.{Snapshot}

@@ -8,7 +8,7 @@ use Rattle.std.specs.declared.string.String.{String}
 use Rattle.std.specs.Global.{Global}
 use Rattle.std.specs.BTreeSet.{BTreeSet, contains_by}
 
--- an id's first eight bytes as a number, which orders most ids without a look at their texts
+-- an id's first eight bytes as a number: it orders most ids, so their texts are rarely compared
 abbrev pub next_byte : ℕ → ℕ → ℕ
 next_byte n b = (n * 256 % 2 ^ 64 + b) % 2 ^ 64
 
@@ -21,6 +21,6 @@ Ids = BTreeSet (ℕ × String Global)
 abbrev pub id_cmp : List ℕ → ℕ × String Global → Ordering
 id_cmp id key = ordering_then (nat_cmp (front_of id) key.0) (slice_cmp nat_cmp id (string_bytes key.1))
 
--- whether the id stood
+-- the id was seen before
 abbrev pub stood_in : Ids → List ℕ → Bool
 stood_in ids id = contains_by (id_cmp id) ids

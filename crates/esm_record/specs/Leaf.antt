@@ -1,4 +1,4 @@
--- What the fields of a line look at in the members of an object. Only this crate's proofs cite this.
+-- What the fields of a line use of an object's members. Only this crate's proofs cite this.
 use Rattle.std.specs.Prelude.{◌≡◌, ℕ, Bool, true, false, List, [], ◌∷◌, length, get_or, Option, Some, None, option_map, option_and_then, MatchResult, Result, Ok, Err}
 use Rattle.std.specs.Bool.{MatchBool}
 use Rattle.std.specs.Option.{ok_or}
@@ -27,7 +27,7 @@ text_in (leaf.Plain p) = Some p.bytes.now
 text_in (leaf.Whole n) = None
 text_in leaf.Other = None
 
--- a number with neither sign, fraction nor exponent
+-- a number without sign, fraction and exponent
 abbrev pub whole_in : Leaf → Option ℕ
 whole_in (leaf.Text s) = None
 whole_in (leaf.Plain p) = None
@@ -41,13 +41,13 @@ pub record IsLeafOf (d : Data) (l : Leaf) : Type 0 where
   pub text : as_str d ≡ text_in l
   pub whole : whole_of d ≡ whole_in l
 
--- the tokens begin with a value of this leaf
+-- the tokens begin with a value that has this leaf
 pub record ReadsLeaf (depth : ℕ) (old : List Token) (l : Leaf) (new : List Token) : Type 0 where
   pub data_read : Data
   pub reads : converted of_json (value depth old) ≡ Some (data_read, new)
   pub is : IsLeafOf data_read l
 
--- the tokens begin with the items, or the members, that a bracket closes
+-- the tokens begin with items, or members, and the bracket that closes them
 pub record PassesItems (depth : ℕ) (old new : List Token) : Type 0 where
   pub found : Items
   pub reads : converted of_items (items (value depth) (length old) old) ≡ Some (found, new)
@@ -72,26 +72,26 @@ opens_object (token.bad ∷ ts) = false
 abbrev pub leaf_at : Field → Found → Option Leaf
 leaf_at f found = get_or found.leaves (slot_of f) None
 
--- the member, if there is one, is of this leaf
+-- the member, if there is one, has this leaf
 pub record IsFound (member : Option Data) (l : Option Leaf) : Type 0 where
   pub text : option_map as_str member ≡ option_map text_in l
   pub whole : option_map whole_of member ≡ option_map whole_in l
 
--- the members that the fields name have these leaves
+-- the members with the names of fields have these leaves
 abbrev pub AreFound : Members → Found → Type 0
 AreFound ms found = (f : Field) → IsFound (get_member (name_of f) ms) (leaf_at f found)
 
--- the tokens begin with the members of these leaves and the brace that closes them
+-- the tokens begin with members that have these leaves, and the brace that closes them
 pub record ReadsMembers (depth : ℕ) (old : List Token) (found : Found) (new : List Token) : Type 0 where
   pub members_read : Members
   pub reads : converted (λ ms. of_members ms no_members) (members (value depth) (length old) old) ≡ Some (members_read, new)
   pub are : AreFound members_read found
 
--- an object of members with these leaves, or no object
+-- an object whose members have these leaves, or no object
 abbrev pub IsObjectRead : Option Data → Bool → Found → Type 0
 IsObjectRead d is found = MatchBool is ((ms : Members) × (d ≡ Some (object ms)) × AreFound ms found) (only_object d ≡ None)
 
--- the members of the object that the line is, or why it is none
+-- the members of the line's object, or why the line is no object
 abbrev pub IsObjectOf : List ℕ → Result (Unit {0}) Refusal → Found → Type 0
 IsObjectOf line r found = MatchResult r (λ _. (ms : Members) × (object_of line ≡ Some (object ms)) × AreFound ms found) (λ e. Fails e (ok_or (object_of line) NotJson))
 
@@ -105,7 +105,7 @@ of_text_in reading l = option_and_then reading (text_in l)
 abbrev pub moment_in : Leaf → Option ℕ
 moment_in l = moment_within (whole_in l)
 
--- the fields are judged in this order
+-- the record, whose fields are judged in this order
 abbrev pub record_in : Found → Result Record LineError
 record_in f = do
   shard ← field_in field.ShardId (of_text_in shard_number) (leaf_at field.ShardId f)

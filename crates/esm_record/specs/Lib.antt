@@ -7,6 +7,7 @@ pub mod Numbers
 pub mod Ids
 pub mod Seen
 pub mod Splitting
+pub mod LineBlocks
 pub mod Leaf
 pub mod Usual
 pub mod Fed

@@ -1,7 +1,7 @@
 -- One line of an input. Sources: the Kinesis API Reference, `Record` (`SequenceNumber`, `PartitionKey` of 1 to 256
 -- characters, `Data` of at most 1 MB in base64, `ApproximateArrivalTimestamp`) and `ShardId`; the SQS API Reference,
--- `Message` (`MessageId`, `Body`, the attributes `SentTimestamp` and `MessageGroupId`); that a record or a message stands
--- on one line under these names is this product's own.
+-- `Message` (`MessageId`, `Body`, the attributes `SentTimestamp` and `MessageGroupId`). That each record or message is one
+-- line with these names is this product's own.
 use Rattle.std.specs.Prelude.{ℕ, ◌==◌, nat_eq, nat_le, Bool, true, false, ◌&&◌, List, length, drop, codes, Option, Some, None, option_and_then, Result, Ok, Err, is_some, if◌then◌else◌}
 use Rattle.std.specs.List.{list_all, starts_with}
 use Rattle.std.specs.Char.{is_ascii_digit}
@@ -26,18 +26,18 @@ use Rattle.esm_record.specs.declared.error.Field.TheVariants as field
 use Rattle.esm_record.specs.declared.error.LineError.{LineError}
 use Rattle.esm_record.specs.declared.error.LineError.TheVariants.{NotJson, Missing, BadField}
 
--- one reading after another, up to the first refusal
+-- one reading after another; the first refusal ends them
 infixl 10 ◌>>=◌
 abbrev pub ◌>>=◌ : {A B : Type 0} → Result A LineError → (A → Result B LineError) → Result B LineError
 (Ok x) >>= f = f x
 (Err e) >>= f = Err e
 
--- the value where it passes
+-- the value, if it passes
 abbrev pub only_if : {A : Type 0} → Bool → A → Option A
 only_if true x = Some x
 only_if false x = None
 
--- `shardId-` and twelve digits: the shard's number
+-- `shardId-` and twelve digits
 abbrev pub is_shard_id : List ℕ → Bool
 is_shard_id text = (length text == 20) && starts_with nat_eq text (codes "shardId-") && list_all is_ascii_digit (drop 8 text)
 
@@ -59,7 +59,7 @@ payload_within (Some bytes) = only_if (nat_le (length bytes) MAX_DATA) bytes
 abbrev pub payload : List ℕ → Option (List ℕ)
 payload text = payload_within (result_ok (decode_of standard text))
 
--- milliseconds, with neither fraction nor exponent
+-- milliseconds, written without fraction and exponent
 abbrev pub moment_within : Option ℕ → Option ℕ
 moment_within None = None
 moment_within (Some n) = only_if (nat_le n MAX_MOMENT) n
@@ -90,7 +90,7 @@ name_of field.Body = codes "body"
 name_of field.SentTimestamp = codes "sentTimestamp"
 name_of field.MessageGroupId = codes "messageGroupId"
 
--- its place among the fields
+-- its index among the fields
 abbrev pub slot_of : Field → ℕ
 slot_of field.ShardId = 0
 slot_of field.SequenceNumber = 1
@@ -102,7 +102,7 @@ slot_of field.Body = 6
 slot_of field.SentTimestamp = 7
 slot_of field.MessageGroupId = 8
 
--- what the field says: it is there, and its value reads
+-- what the field says, if it is there and its value is allowed
 abbrev pub judged : {A : Type 0} → Field → (Data → Option A) → Option Data → Result A LineError
 judged name reading None = Err (Missing name)
 judged name reading (Some value) = ok_or (reading value) (BadField name)
@@ -110,7 +110,7 @@ judged name reading (Some value) = ok_or (reading value) (BadField name)
 abbrev pub field_of : {A : Type 0} → Field → (Data → Option A) → Data → Result A LineError
 field_of name reading line = judged name reading (get (name_of name) line)
 
--- the fields are judged in this order
+-- the record of a line, whose fields are judged in this order
 abbrev pub record_of : Data → Result Record LineError
 record_of line = do
   shard ← field_of field.ShardId (of_text shard_number) line
@@ -124,12 +124,12 @@ abbrev pub some_group : Result (List ℕ) LineError → Result (Option (List ℕ
 some_group (Ok group) = Ok (Some group)
 some_group (Err why) = Err why
 
--- a FIFO queue's message has a group; that of a standard queue is ignored
+-- a FIFO queue's message has a group; a standard queue's message has none, and the field is ignored
 abbrev pub group_of : Bool → Data → Result (Option (List ℕ)) LineError
 group_of true line = some_group (field_of field.MessageGroupId (of_text message_group) line)
 group_of false line = Ok None
 
--- the fields are judged in this order; whether the queue is FIFO
+-- the message of a line, whose fields are judged in this order; `fifo` says that the queue is FIFO
 abbrev pub message_of : Bool → Data → Result Message LineError
 message_of fifo line = do
   id ← field_of field.MessageId (of_text message_id) line
@@ -138,7 +138,7 @@ message_of fifo line = do
   group ← group_of fifo line
   Ok (record { id = id; group = group; body = body; sent = sent })
 
--- the JSON object that the bytes are, as UTF-8 text
+-- the JSON object in the bytes, as UTF-8 text
 abbrev pub only_object : Option Data → Option Data
 only_object None = None
 only_object (Some value) = only_if (is_some (as_object value)) value

@@ -1,4 +1,4 @@
--- Lines whose records stand in one text that is still to be shared. Only this crate's proofs cite this.
+-- Lines whose records are in one text that is not shared yet. Only this crate's proofs cite this.
 use Rattle.std.specs.Prelude.{◌≡◌, ℕ, List, map, length, true, Option, Some, option_map, Result, Ok, IsUtf8}
 use Rattle.std.specs.List.{AllByRecursion}
 use Rattle.std.specs.Result.{result_ok}
@@ -26,7 +26,7 @@ pub record ArePlaced (text : List ℕ) (p : Placed) : Type 0 where
   pub utf8 : IsUtf8 (part_of text p.key)
   pub encoded : option_map length (result_ok (decode_of standard (part_of text p.payload))) ≡ Some p.len
 
--- what the line says, over this text
+-- what the line is, with this text
 abbrev pub said_over : List ℕ → Row → Result (Option Item) LineError
 said_over text (row.Record p) = Ok (Some (Stream (placed_record text p)))
 said_over text (row.Said said) = said

@@ -1,19 +1,10 @@
 -- What a reader of lines keeps of what it has read. Only this crate's proofs cite this.
-use Rattle.std.specs.Prelude.{◌≡◌, ℕ, ◌≤◌, false, List, [], ◌∷◌, ◌++◌, length, IsNone}
-use Rattle.std.specs.List.{All}
+use Rattle.std.specs.Prelude.{◌≡◌, ℕ, ◌≤◌, List, [], ◌++◌, length, IsNone}
 use Rattle.esm_model.specs.declared.item.Item.{Item}
 use Rattle.esm_record.specs.declared.splitter.Splitter.{Splitter}
 use Rattle.esm_model.specs.declared.limits.TheConstants.{MAX_LINE}
-use Rattle.esm_record.specs.Input.{Input, is_line_feed, lines_of, begun, input_so_far}
+use Rattle.esm_record.specs.Input.{Input, lines_of, begun, input_so_far}
 use Rattle.esm_record.specs.Seen.{Follows}
-
-abbrev pub NoLineFeed : List ℕ → Type 0
-NoLineFeed bytes = All (λ b. is_line_feed b ≡ false) bytes
-
--- the bytes up to the first line feed, and what follows it
-pub record IsFirstLine (bytes line after : List ℕ) : Type 0 where
-  pub parts : bytes ≡ line ++ 10 ∷ after
-  pub none : NoLineFeed line
 
 -- the reader stands at the end of this input, whose items are those before the call and the call's
 pub record Stands (input : Input) (before given : List Item) (r : Splitter) : Type 0 where

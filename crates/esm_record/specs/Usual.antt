@@ -6,16 +6,16 @@ use Rattle.std.specs.Fmt.{decimal}
 use Rattle.std.specs.List.{list_all}
 use Rattle.esm_record.specs.declared.usual.UsualLine.{UsualLine}
 
--- a character of ASCII that stands in a JSON text for itself
+-- an ASCII character that represents itself in a JSON text
 abbrev pub is_plain : ℕ → Bool
 is_plain b = nat_le 32 b && nat_lt b 128 && not (b == 34) && not (b == 92)
 
--- the literal, a text and its quotation mark stand before the rest
+-- the text begins with the literal, a plain text and its quotation mark, before the rest
 pub record PassesMember (text literal passed rest : List ℕ) : Type 0 where
   pub is : text ≡ literal ++ (passed ++ 34 ∷ rest)
   pub plain : list_all is_plain passed ≡ true
 
--- the digits of a number below 10 ^ 19, with no zero before it
+-- the digits of a number below 10 ^ 19, without a leading zero
 pub record IsWhole (digits : List ℕ) : Type 0 where
   pub some : 0 < length digits
   pub few : length digits ≤ 19

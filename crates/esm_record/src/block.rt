@@ -1,12 +1,13 @@
-//! The lines of a block parsed side by side, each as it reads whatever came before it.
-ghost use Rattle.std.specs.Prelude.{◌≡◌, ◌<◌, ◌≤◌, ◌++◌, [], List, Option, Result, length, IfOk, IfSome, IfNone};
+//! Parsing the lines of a block, by several threads side by side; each line is parsed regardless of the lines before it.
+ghost use Rattle.std.specs.Prelude.{◌≡◌, ◌<◌, ◌++◌, [], List, Option, Result, length, IfOk, IfSome, IfNone};
 ghost use Rattle.std.specs.Thread.{IsSync};
 ghost use Rattle.esm_model.specs.declared.item.Item.{Item};
 ghost use Rattle.esm_record.specs.declared.error.LineError.{LineError};
 ghost use Rattle.esm_record.specs.Input.{lines_of, begun};
 ghost use Rattle.esm_record.specs.Parsing.{parsed_lines};
-ghost use Rattle.esm_record.specs.Splitting.{NoLineFeed, IsFirstLine};
+ghost use Rattle.esm_record.specs.LineBlocks.{NoLineFeed};
 
+use crate::line_blocks::{first_line, lines_up_to, share_of, threads_worth};
 use crate::packed::Packed;
 use crate::parse::Parsed;
 use esm_model::{LineKind, MAX_LINE, OutOfMemory};
@@ -15,46 +16,8 @@ use memchr::{memchr, memrchr};
 use std::alloc::Global;
 use std::thread::{Threads, join};
 
-/// Bytes of the shortest block that is worth a thread of its own.
-pub const MIN_BLOCK: usize = 32_768;
-
 /// Bytes of lines whose records share one text; a longer line is a chunk of its own.
 const CHUNK: usize = 16_384;
-
-/// The line up to the first line feed, and what follows that.
-pub fn first_line(bytes: &[u8]) -> Option<(&[u8], &[u8])>
-    ensures some { IfSome result (λ p. IsFirstLine bytes.now p.0.now p.1.now) }
-    ensures none { IfNone result (NoLineFeed bytes.now) }
-{
-    match memchr(b'\n', bytes) {
-        Some(at) => Some((&bytes[..at], &bytes[at + 1..])),
-        None => None,
-    }
-}
-
-/// The lines up to the last line feed, and what follows that.
-pub fn ended_lines(bytes: &[u8]) -> (&[u8], &[u8])
-    ensures parts { bytes.now ≡ result.0.now ++ result.1.now }
-    ensures whole { begun (lines_of result.0.now) ≡ [] }
-    ensures rest { NoLineFeed result.1.now }
-{
-    match memrchr(b'\n', bytes) {
-        Some(at) => bytes.split_at(at + 1),
-        None => bytes.split_at(0),
-    }
-}
-
-/// The lines up to the first line feed from this place on, and what follows that.
-fn lines_up_to(bytes: &[u8], place: usize) -> (&[u8], &[u8])
-    requires { place ≤ length bytes.now }
-    ensures parts { bytes.now ≡ result.0.now ++ result.1.now }
-    ensures whole { begun (lines_of result.0.now) ≡ [] }
-{
-    match memchr(b'\n', &bytes[place..]) {
-        Some(more) => bytes.split_at(place + more + 1),
-        None => bytes.split_at(0),
-    }
-}
 
 /// Whole lines from the front, up to the last line feed of the first `CHUNK` bytes, or up to the first one where none is
 /// among them; and what follows.
@@ -74,8 +37,8 @@ pub fn next_chunk(bytes: &[u8]) -> Option<(&[u8], &[u8])>
     }
 }
 
-/// What each line of the chunk says whose line feed came; the records share one text. Where they go to several `lanes`, what
-/// chooses each one's is computed.
+/// Parses each line of the chunk that a line feed ends; the records share one text. With several `lanes`, the MD5 that
+/// chooses a record's lane is computed too.
 pub fn parse_chunk(
     alloc: Global,
     kind: LineKind,
@@ -98,7 +61,7 @@ pub fn parse_chunk(
     packed.into_parsed(alloc, lanes)
 }
 
-/// What each line of the block says whose line feed came, chunk by chunk.
+/// Parses each line of the block that a line feed ends, chunk by chunk.
 fn parse_block(
     alloc: Global,
     kind: LineKind,
@@ -118,7 +81,7 @@ fn parse_block(
     Ok(parsed)
 }
 
-/// What the lines of both parts say.
+/// What the lines of both parts are.
 fn both(
     front: Result<Vec<Parsed>, OutOfMemory>,
     back: Result<Vec<Parsed>, OutOfMemory>,
@@ -130,15 +93,6 @@ fn both(
     let mut rest = back?;
     all.append(&mut rest)?;
     Ok(all)
-}
-
-/// Bytes of the part of so many threads' work that these threads do.
-fn share_of(bytes: usize, threads: usize, these: usize) -> usize
-    requires some { 0 < threads }
-    requires of_them { these ≤ threads }
-    ensures { result ≤ bytes }
-{
-    bytes / threads * these
 }
 
 /// The same, in blocks of about equal length side by side on so many threads, this one among them.
@@ -171,7 +125,7 @@ fn parse_blocks<R: Threads + Sync>(
     both(ahead, behind)
 }
 
-/// What each line of the block says whose line feed came, parsed by up to so many threads side by side.
+/// Parses each line of the block that a line feed ends, by up to `threads` threads side by side.
 pub fn parse_lines<R: Threads + Sync>(
     rt: &R,
     alloc: Global,
@@ -182,6 +136,6 @@ pub fn parse_lines<R: Threads + Sync>(
 ) -> Result<Vec<Parsed>, OutOfMemory>
     ensures { IfOk result (λ v. v.items ≡ parsed_lines kind block.now) }
 {
-    let threads = threads.min(block.len() / MIN_BLOCK);
+    let threads = threads_worth(block.len(), threads);
     parse_blocks(rt, alloc, kind, lanes, threads, block)
 }

@@ -1,4 +1,4 @@
-//! Decimal digits: whether they write a number with no zero before it, and which number they write.
+//! Decimal digits: whether they are a number without a leading zero, and which number they are.
 ghost use Rattle.std.specs.Prelude.{◌≡◌, ◌≤◌, true, length, IsTrue};
 ghost use Rattle.std.specs.Char.{is_ascii_digit};
 ghost use Rattle.std.specs.List.{list_all};
@@ -7,7 +7,7 @@ ghost use Rattle.esm_record.specs.Usual.{IsWhole};
 
 use esm_model::spelling::are_digits;
 
-/// Whether these are the digits of a number below 10^19, with no zero before it.
+/// Whether these are the digits of a number below 10^19, without a leading zero.
 pub fn is_whole(digits: &[u8]) -> bool
     ensures { IsTrue result → IsWhole digits.now }
 {
@@ -20,7 +20,7 @@ pub fn is_whole(digits: &[u8]) -> bool
     are_digits(digits)
 }
 
-/// The number that the decimal digits write.
+/// The number that the decimal digits, at most 19, are.
 pub fn number_of(digits: &[u8]) -> u64
     requires few { length digits.now ≤ 19 }
     requires digits { list_all is_ascii_digit digits.now ≡ true }

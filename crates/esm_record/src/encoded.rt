@@ -1,4 +1,4 @@
-//! How many bytes a base64 text encodes, without writing them.
+//! The number of bytes that a base64 text encodes, computed without decoding it.
 ghost use Rattle.std.specs.Prelude.{◌≡◌, ◌≤◌, length, option_map, IfSome};
 ghost use Rattle.std.specs.List.{list_all};
 ghost use Rattle.std.specs.Result.{result_ok};
@@ -8,10 +8,10 @@ ghost use Rattle.esm_record.specs.Base64Symbols.{is_symbol};
 
 use base64::engine::general_purpose::STANDARD;
 
-/// Symbols of a group.
+/// The symbols of a group.
 const SYMBOLS: usize = 4;
 
-/// Bytes that a group encodes.
+/// The bytes that a group encodes.
 const BYTES: usize = 3;
 
 fn is_symbol(byte: u8) -> bool
@@ -24,7 +24,7 @@ fn is_symbol(byte: u8) -> bool
         | (byte == b'/')
 }
 
-/// Whether each byte is a symbol of the standard alphabet; it reads to the end, which vectors do.
+/// Whether each byte is a symbol of the standard alphabet. Reads all bytes, so the loop can use vector instructions.
 fn are_symbols(text: &[u8]) -> bool
     ensures { result ≡ list_all is_symbol text.now }
 {
@@ -35,7 +35,7 @@ fn are_symbols(text: &[u8]) -> bool
     passes
 }
 
-/// How many bytes a text of at most one group encodes.
+/// The number of bytes that a text of at most one group encodes.
 fn group_length(group: &[u8]) -> Option<usize>
     requires { length group.now ≤ SYMBOLS }
     ensures count { result ≡ option_map length (result_ok (decode_of standard group.now)) }
@@ -45,7 +45,7 @@ fn group_length(group: &[u8]) -> Option<usize>
     STANDARD.decode_slice(group, &mut bytes).ok()
 }
 
-/// How many bytes the standard padded base64 text encodes; `None` exactly where it is none.
+/// The number of bytes that the standard padded base64 text encodes; `None` if and only if the text is no base64.
 pub(crate) fn encoded_length(text: &[u8]) -> Option<usize>
     ensures { result ≡ option_map length (result_ok (decode_of standard text.now)) }
 {

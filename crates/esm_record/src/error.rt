@@ -30,7 +30,7 @@ pub enum Field {
     MessageGroupId,
 }
 
-/// The field, where this is its name.
+/// The field, if this is its name.
 fn only(name: &str, wanted: &str, field: Field) -> Option<Field>
     ensures { result ≡ (if bytes_eq name.now wanted.now then Some field else None) }
 {
@@ -84,7 +84,7 @@ impl Field {
         }
     }
 
-    /// Its place among the fields.
+    /// Its index among the fields.
     pub fn slot(self) -> usize
         ensures value { result ≡ slot_of self }
         ensures within { result < 9 }
@@ -103,24 +103,24 @@ impl Field {
     }
 }
 
-/// Why a line is refused: the first of these that holds.
+/// Why a line is refused: the first of these causes that holds.
 #[derive(Drop, Debug)]
 pub enum LineError {
     /// It does not read as a JSON object.
     NotJson,
     /// The field is absent.
     Missing(Field),
-    /// The field's value is not of its kind.
+    /// The field's value is not allowed.
     BadField(Field),
     /// The sequence number `given` is not greater than the shard's last one, `kept`.
     Backwards { kept: Text, given: Text },
     /// It has more than 8,388,608 bytes without its line feed.
     LineTooLong,
-    /// The message id stood in an earlier line.
+    /// The message id occurred in an earlier line.
     Repeated(Text),
 }
 
-/// The first bad line, counted from 1, and why it is refused.
+/// The first bad line: its number, counted from 1, and why it is refused.
 #[derive(Drop, Debug)]
 pub struct BadLine {
     pub line: u64,
@@ -161,7 +161,7 @@ impl BadLine {
 /// Why a line gave no item.
 #[derive(Drop, Debug)]
 pub enum Refusal {
-    /// There was no memory for the item.
+    /// There is no memory for the item.
     OutOfMemory,
     /// The line is bad.
     Line(LineError),

@@ -1,4 +1,4 @@
-//! The bytes that a reader was fed, as clauses see them.
+//! The bytes that a reader was fed, for contracts alone.
 ghost use Rattle.std.specs.Prelude.{◌≡◌, ◌<◌, ◌++◌, [], length, OnOk, IfOk};
 ghost use Rattle.esm_record.specs.Fed.{in_blocks};
 
@@ -7,10 +7,11 @@ use std::alloc::Global;
 use std::marker::Model;
 use std::snapshot::Snapshot;
 
-/// Bytes of a block.
+/// The bytes of a block.
 const BLOCK: usize = 256;
 
-/// Bytes that only clauses read. Whole blocks of them take no memory; those after the last block are kept, to become one.
+/// Bytes that only contracts read. Whole blocks take no memory; the bytes after the last whole block are kept, to become
+/// one.
 #[derive(Drop)]
 pub struct FedBytes {
     blocks: Vec<Snapshot<[u8; BLOCK]>>,
@@ -28,7 +29,7 @@ impl Model for FedBytes {
     ghost invariant = { λ f. length f.rest.items ≤ 256 };
 }
 
-/// Takes a whole block.
+/// Adds a whole block.
 fn push_block(noted: &mut Vec<Snapshot<[u8; BLOCK]>>, bytes: &[u8]) -> Result<(), OutOfMemory>
     requires { length bytes.now ≡ BLOCK }
     ensures { OnOk result (in_blocks noted.new.items ≡ in_blocks noted.old.items ++ bytes.now) }
@@ -42,7 +43,7 @@ fn push_block(noted: &mut Vec<Snapshot<[u8; BLOCK]>>, bytes: &[u8]) -> Result<()
     }
 }
 
-/// Takes the whole blocks, and gives what follows them.
+/// Adds the whole blocks at the front, and returns the bytes after them.
 fn push_blocks<'a>(
     noted: &mut Vec<Snapshot<[u8; BLOCK]>>,
     bytes: &'a [u8],
@@ -69,7 +70,7 @@ impl FedBytes {
         }
     }
 
-    /// Notes the next piece.
+    /// Adds the next piece.
     pub fn note(&mut self, piece: &[u8]) -> Result<(), OutOfMemory>
         ensures { OnOk result (self.new ≡ self.old ++ piece.now) }
     {

@@ -1,4 +1,4 @@
-// The fields of a record's line, as slices of the line, or of the room that reading it took.
+// The fields of a record's line, as slices of the line or of the scratch memory that reading it used.
 ghost use Rattle.std.specs.Prelude.{◌≡◌, true, Some, length, option_map};
 ghost use Rattle.std.specs.Result.{result_ok};
 ghost use Rattle.std.specs.Str.{is_utf8};
@@ -6,7 +6,7 @@ ghost use Rattle.base64.specs.Engines.{standard};
 ghost use Rattle.base64.specs.GeneralPurpose.{decode_of};
 ghost use Rattle.esm_model.specs.Sequence.{is_sequence};
 
-/// A base64 text, and the bytes that it encodes, counted.
+/// A base64 text, and the number of bytes that it encodes.
 #[derive(Clone, Copy, Drop)]
 pub struct Base64<'a> {
     pub text: &'a [u8],
@@ -24,7 +24,7 @@ pub struct Fields<'a> {
     /// The partition key, in UTF-8.
     pub key: &'a [u8],
     pub payload: Base64<'a>,
-    /// Milliseconds since 1970.
+    /// Its approximate arrival, in milliseconds since 1970.
     pub arrival: u64,
     ghost number: { is_sequence seq.now ≡ true },
     ghost utf8: { is_utf8 key.now ≡ true },

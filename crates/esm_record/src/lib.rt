@@ -1,6 +1,6 @@
-//! The input of a mapping: lines of JSON in any pieces of bytes, read into items.
-//! Says the first bad line, with its number and why it is refused.
-//! Pure values; no device and no clock. Threads only parse lines side by side, and what is read is the same without them.
+//! Reads the input of a mapping, JSON lines that arrive in pieces of any size, into items, and reports the first bad line,
+//! with its number and why it is refused. Pure values; no device and no clock. Threads only parse lines side by side, and
+//! what is read is the same without them.
 #![tactic(auto)]
 
 mod block;
@@ -12,6 +12,7 @@ mod fields;
 mod item;
 pub mod laws;
 mod line;
+pub mod line_blocks;
 mod lines;
 mod number;
 mod numbers;

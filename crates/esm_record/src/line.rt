@@ -1,4 +1,4 @@
-//! The object that a line is, and the moment in one of its fields.
+//! Reading the object of a line, and the moment in one of its fields.
 ghost use Rattle.std.specs.Prelude.{◌≡◌, None, length};
 ghost use Rattle.esm_record.specs.Leaf.{moment_in, field_in, leaf_at, IsObjectOf};
 
@@ -9,7 +9,7 @@ use esm_model::MAX_MOMENT;
 use json::Scratch;
 use std::str::from_utf8;
 
-/// Puts the members of the object that the line is to those found, which are none yet.
+/// Reads the members of the line's object into `found`, which has none yet.
 pub fn read_line<'a>(
     scratch: &'a mut Scratch,
     line: &'a [u8],

@@ -13,12 +13,12 @@ use std::alloc::Global;
 use std::marker::Model;
 use std::thread::Threads;
 
-/// A reader of an input's lines, in any pieces of bytes.
-/// Contracts see the bytes that it was fed, whether it failed for want of memory and whether it finished.
+/// A reader of an input's lines, which arrive in pieces of any size. Contracts see the bytes that it was fed, whether it ran
+/// out of memory and whether it finished.
 #[derive(Drop)]
 pub struct Lines {
     alloc: Global,
-    /// What it was fed, which clauses alone see.
+    /// What it was fed, for contracts alone.
     fed: FedBytes,
     reading: Splitter,
     failed: bool,
@@ -83,15 +83,15 @@ fn read_end(alloc: Global, reading: &mut Splitter) -> Result<Fed, OutOfMemory>
 }
 
 impl Lines {
-    /// A reader that was fed nothing. It takes no memory yet.
+    /// Makes a reader that was fed nothing. Takes no memory.
     pub fn new(alloc: Global, kind: LineKind) -> Result<Lines, OutOfMemory>
         ensures { result ≡ Ok (record { kind = kind; bytes = []; failed = false; finished = false }) }
     {
         Lines::for_lanes(alloc, kind, 1)
     }
 
-    /// The same where the records go to so many lanes of their shard: with more than one, what chooses a record's lane is
-    /// computed where its line is parsed, so by several threads where these parse.
+    /// Makes a reader of records that go to this many lanes of their shard. With more than one, the MD5 that chooses a
+    /// record's lane is computed when its line is parsed, and so by several threads if these parse. Takes no memory.
     #[tactic(auto, unfolding(crate::specs::Input::input_so_far))]
     pub fn for_lanes(alloc: Global, kind: LineKind, lanes: u32) -> Result<Lines, OutOfMemory>
         ensures { result ≡ Ok (record { kind = kind; bytes = []; failed = false; finished = false }) }
@@ -105,9 +105,9 @@ impl Lines {
         })
     }
 
-    /// Takes the next piece of the input. Gives the items of the lines that it ends, up to the first bad line, and that
-    /// line; after a bad line each call gives no items and the same bad line. A line of more than 8,388,608 bytes is bad
-    /// as soon as they came. After `OutOfMemory` each call answers `OutOfMemory`.
+    /// Reads the next piece of the input. Returns the items of the lines that it completes, up to the first bad line, and
+    /// that line. After a bad line each call returns no items and the same bad line. A line is bad as soon as it has more
+    /// than 8,388,608 bytes. After `OutOfMemory` each call returns `OutOfMemory`.
     pub fn feed(&mut self, piece: &[u8]) -> Result<Fed, OutOfMemory>
         requires { self.old.finished ≡ false }
         ensures items { IfOk result (λ fed. (input_so_far self.old.kind self.old.bytes).items ++ fed.items.items
@@ -131,8 +131,8 @@ impl Lines {
         Ok(fed)
     }
 
-    /// Takes the next piece of the input as `feed` does, its lines parsed by up to `threads` threads side by side and judged
-    /// in order. Where no thread can be made they are parsed one after the other.
+    /// Reads the next piece of the input as `feed` does. Up to `threads` threads parse its lines side by side, and the lines
+    /// are judged in order. If no thread can be made, they are parsed one after the other.
     pub fn feed_parallel<R: Threads + Sync>(
         &mut self,
         rt: &R,
@@ -161,8 +161,8 @@ impl Lines {
         Ok(fed)
     }
 
-    /// Ends the input: what stands after the last line feed is a line of its own. Gives its item, or the first bad line
-    /// of the whole input.
+    /// Ends the input: what comes after the last line feed is a line of its own. Returns its item, or the first bad line of
+    /// the whole input.
     pub fn finish(&mut self) -> Result<Fed, OutOfMemory>
         requires { self.old.finished ≡ false }
         ensures items { IfOk result (λ fed. (input_so_far self.old.kind self.old.bytes).items ++ fed.items.items

@@ -1,4 +1,4 @@
-//! What a number's text says, as `serde_json` reads it.
+//! Reading the text of a JSON number, as `serde_json` does.
 ghost use Rattle.std.specs.Prelude.{◌≡◌, ◌<◌, ◌==◌, false, true, length, slice_index, option_map, IsTrue};
 ghost use Rattle.serde_json.specs.Find.{as_u64};
 ghost use Rattle.serde_json.specs.Read.{number_of, number_from, float_of};
@@ -12,8 +12,8 @@ fn has_minus(bytes: &[u8]) -> bool
     !bytes.is_empty() && bytes[0] == b'-'
 }
 
-/// The whole number that the text writes with neither sign, fraction nor exponent, where it writes such a one below
-/// 2^64; `None` where the number is too large for a float.
+/// The whole number in the text, if it is written without sign, fraction and exponent and is below 2^64; otherwise the inner
+/// `None`. The outer `None` means that the number is too large for a float.
 pub fn whole_number(text: &str) -> Option<Option<u64>>
     ensures { result ≡ option_map as_u64 (number_of text.now) }
 {

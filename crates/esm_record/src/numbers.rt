@@ -1,4 +1,4 @@
-// The last sequence number of each shard, as lines of the input are read.
+// The last sequence number of each shard, while the lines of an input are read.
 ghost use Rattle.std.specs.Prelude.{◌≡◌, ◌==◌, ℕ, Some, None, option_map, if◌then◌else◌, OnOk};
 ghost use Rattle.std.specs.String.{string_bytes};
 ghost use Rattle.esm_record.specs.Numbers.{number_in};
@@ -7,7 +7,7 @@ use esm_model::OutOfMemory;
 use std::alloc::Global;
 use std::collections::BTreeMap;
 
-/// The last sequence number of each shard, written over by the next one of the shard.
+/// The last sequence number of each shard, overwritten by the shard's next one.
 #[derive(Drop)]
 pub struct Numbers {
     pub of_shards: BTreeMap<u64, String>,
@@ -22,7 +22,7 @@ fn write_over(kept: &mut String, number: &str) -> Result<(), OutOfMemory>
 }
 
 impl Numbers {
-    /// No record came.
+    /// The numbers of an input without records.
     pub fn new(alloc: Global) -> Numbers
         ensures { (shard : ℕ) → number_in result shard ≡ None }
     {
@@ -40,7 +40,7 @@ impl Numbers {
         }
     }
 
-    /// Notes the first number of the shard.
+    /// Adds the first number of a shard.
     fn add(&mut self, alloc: Global, shard: u64, number: &str) -> Result<(), OutOfMemory>
         ensures { OnOk result ((s : ℕ) → number_in self.new s
             ≡ (if shard == s then Some number.now else number_in self.old s)) }
@@ -50,7 +50,7 @@ impl Numbers {
         Ok(())
     }
 
-    /// Makes the number its shard's last one.
+    /// Makes the number the last one of its shard.
     pub fn keep(&mut self, alloc: Global, shard: u64, number: &str) -> Result<(), OutOfMemory>
         ensures { OnOk result ((s : ℕ) → number_in self.new s
             ≡ (if shard == s then Some number.now else number_in self.old s)) }

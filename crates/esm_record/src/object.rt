@@ -1,4 +1,4 @@
-//! The members of a line's object that its fields name, read from the tokens with no tree.
+//! Reading the members of a line's object that fields name from its tokens, without building a tree.
 ghost use Rattle.std.specs.Prelude.{◌≡◌, ◌<◌, ◌∷◌, false, length, Some, None, option_map, IfSome, IsUtf8, IfOk, OnOk, OnErr};
 ghost use Rattle.std.specs.Bool.{MatchBool};
 ghost use Rattle.json.specs.Json.{value, items, members};
@@ -27,17 +27,17 @@ use esm_model::OutOfMemory;
 use json::{Invalid, Reader, Scratch, Token};
 use std::str::from_utf8;
 
-/// How deep arrays and objects nest within the object of a line.
+/// How deep arrays and objects may nest within the object of a line.
 const MAX_DEPTH: usize = 126;
 
-/// What a field looks at in a value.
+/// What a field uses of a value.
 #[derive(Clone, Copy, Drop)]
 pub enum Leaf<'a> {
-    /// A text that the reader of tokens gave.
+    /// A text that the reader of tokens returned.
     Text(&'a str),
     /// A text of a line in the usual form.
     Plain(Plain<'a>),
-    /// A number with neither sign, fraction nor exponent, below 2^64.
+    /// A number without sign, fraction and exponent, below 2^64.
     Whole(u64),
     Other,
 }
@@ -56,7 +56,7 @@ impl<'a> Leaf<'a> {
         }
     }
 
-    /// The bytes of its text, which are not read to see that they are UTF-8.
+    /// The bytes of its text. They are not checked again to be UTF-8.
     pub fn bytes(self) -> Option<&'a [u8]>
         ensures value { option_map (λ b. b.now) result ≡ text_in self.entry }
         ensures utf8 { IfSome result (λ b. IsUtf8 b.now) }
@@ -78,14 +78,14 @@ impl<'a> Leaf<'a> {
     }
 }
 
-/// The values of the members that fields name, the last of a name.
+/// The values of the members that fields name; of a name that occurs twice, the last.
 #[derive(Drop)]
 pub struct Found<'a> {
     leaves: [Option<Leaf<'a>>; 9],
 }
 
 impl<'a> Found<'a> {
-    /// No member came.
+    /// No member was read yet.
     pub fn nothing() -> Found<'a>
         ensures empty { (f : Field) → leaf_at f result ≡ None }
         ensures sized { length result.leaves ≡ 9 }
@@ -100,7 +100,7 @@ impl<'a> Found<'a> {
         leaves[field.slot()]
     }
 
-    /// The next member of the object, whose name is this field's.
+    /// Adds the next member of the object, which has this field's name.
     pub fn keep_field(&mut self, field: Field, leaf: Leaf<'a>)
         requires { length self.old.leaves ≡ 9 }
         ensures kept { (d : Data) (ms : Members) → IsLeafOf d leaf.entry → AreFound ms self.old → AreFound (put (name_of field) d ms) self.new }
@@ -111,7 +111,7 @@ impl<'a> Found<'a> {
         leaves[at] = Some(leaf);
     }
 
-    /// The next member of the object.
+    /// Adds the next member of the object.
     fn keep(&mut self, name: &str, leaf: Leaf<'a>)
         requires { length self.old.leaves ≡ 9 }
         ensures kept { (d : Data) (ms : Members) → IsLeafOf d leaf.entry → AreFound ms self.old → AreFound (put name.now d ms) self.new }
@@ -185,7 +185,7 @@ fn pass_members(reader: &mut Reader<'_>, depth: usize) -> Result<(), Invalid>
     Ok(())
 }
 
-/// The members up to the brace that closes the object.
+/// Reads the members up to the brace that closes the object.
 fn read_members<'a>(reader: &mut Reader<'a>, found: &mut Found<'a>) -> Result<(), Invalid>
     requires empty { (f : Field) → leaf_at f found.old ≡ None }
     requires sized { length found.old.leaves ≡ 9 }
@@ -200,7 +200,7 @@ fn read_members<'a>(reader: &mut Reader<'a>, found: &mut Found<'a>) -> Result<()
     Ok(())
 }
 
-/// Takes the brace that opens an object; after `false` the tokens are no object.
+/// Takes the brace that opens an object. `false` means that the tokens are no object.
 fn opens_object(reader: &mut Reader<'_>) -> bool
     ensures { MatchBool result (reader.old ≡ token.begin_object ∷ reader.new) (opens_object reader.old ≡ false) }
 {
@@ -210,7 +210,7 @@ fn opens_object(reader: &mut Reader<'_>) -> bool
     }
 }
 
-/// Puts the members of the object that the text is to those found, which are none yet; after `false` it is none.
+/// Reads the members of the text's object into `found`, which has none yet. `false` means that the text is no object.
 pub fn read_object<'a>(
     text: &'a str,
     scratch: &'a mut Scratch,

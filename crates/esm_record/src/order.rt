@@ -1,4 +1,5 @@
-// Judging what a line says by the items before: its record is the next of its shard, or its message a new one of the queue.
+// Judging a parsed line by the items before it: its record has to be the next of its shard, and its message a new one of the
+// queue.
 ghost use Rattle.std.specs.Prelude.{◌≡◌, ℕ, List, ◌++◌, option_to_list, Ok, IfOk, IfErr, OnOk};
 ghost use Rattle.esm_record.specs.Gives.{Gives, Fails};
 ghost use Rattle.esm_record.specs.Input.{number_after, in_order};
@@ -28,7 +29,7 @@ fn backwards(alloc: Global, kept: &str, given: &str) -> Result<LineError, OutOfM
     Ok(LineError::Backwards { kept, given })
 }
 
-/// Whether the record's sequence number is greater than the shard's last one.
+/// Checks that the record's sequence number is greater than the shard's last one.
 fn check_order(alloc: Global, last: &Numbers, given: &Record) -> Result<(), Refusal>
     ensures ok { OnOk result (in_order (number_in last.now given.now.shard) given.now ≡ Ok given.now) }
     ensures bad { IfErr result (λ e. Fails e (in_order (number_in last.now given.now.shard) given.now)) }
@@ -77,7 +78,7 @@ fn judge_message(alloc: Global, seen: &mut Seen, given: Message) -> Result<Optio
     }
 }
 
-/// What the line says after the items before: its item, and nothing where it is blank.
+/// Judges what a line is by the items before it: its item, or nothing if it is blank.
 pub fn judge(alloc: Global, seen: &mut Seen, parsed: Parsed) -> Result<Option<Item>, Refusal>
     ensures item { (items : List Item) → Follows items seen.old → Gives result (judge items parsed) }
     ensures kept { IfOk result (λ o. (items : List Item) → Follows items seen.old

@@ -1,5 +1,5 @@
-//! What lines say whose records share one text: the records' numbers, keys and data stand in it one behind the other, so
-//! that a record takes no memory of its own.
+//! Parsed lines whose records share one text. Their sequence numbers, keys and data are written into it one after the other,
+//! so a record takes no memory of its own.
 ghost use Rattle.std.specs.Prelude.{◌≡◌, ◌++◌, [], ◌∷◌, Ok, Some, IfOk, OnOk};
 ghost use Rattle.esm_model.specs.declared.item.Item.TheVariants.{Stream};
 ghost use Rattle.esm_record.specs.Fields.{record_at};
@@ -17,27 +17,27 @@ use json::Scratch;
 use std::alloc::Global;
 use std::marker::Model;
 
-/// A record whose number, key and base64 stand in a text that is still to be shared.
+/// A record whose sequence number, key and base64 are in a text that is not shared yet.
 #[derive(Drop)]
 struct Placed {
     shard: u64,
-    /// Milliseconds since 1970.
+    /// Its arrival, in milliseconds since 1970.
     arrival: u64,
     seq: Part,
     key: Part,
     payload: Part,
-    /// Bytes of the data.
+    /// The number of bytes of its data.
     len: u32,
 }
 
-/// What a line says: a record that is still to share the text, or anything else.
+/// What a line is: a record that does not share the text yet, or anything else.
 #[derive(Drop)]
 enum Row {
     Record(Placed),
     Said(Parsed),
 }
 
-/// What lines say, in their order, and the text of their records. Contracts see what the lines say.
+/// What lines are, in their order, and the text of their records. Contracts see what the lines are.
 #[derive(Drop)]
 pub struct Packed {
     text: Vec<u8>,
@@ -58,7 +58,7 @@ impl Model for Packed {
     ghost invariant = { λ p. AreRowsOf p.text.items p.rows.items };
 }
 
-/// Puts the texts of a record behind the others.
+/// Appends the texts of a record to the others.
 fn place(text: &mut Vec<u8>, fields: &Fields<'_>) -> Result<Placed, OutOfMemory>
     ensures text { OnOk result (text.new.items
         ≡ text.old.items ++ (fields.now.seq.now ++ (fields.now.key.now ++ fields.now.payload.text.now))) }
@@ -78,7 +78,7 @@ fn place(text: &mut Vec<u8>, fields: &Fields<'_>) -> Result<Placed, OutOfMemory>
     })
 }
 
-/// What the line says; its record shares the text. Where it is to go to one of several lanes, what chooses that is computed.
+/// What the line is; its record now shares the text. With several lanes, the MD5 that chooses its lane is computed too.
 fn said_of(text: &SharedBytes, row: Row, lanes: bool) -> Result<Parsed, OutOfMemory>
     requires { IsRowOf text.now row }
     ensures { IfOk result (λ said. said ≡ said_over text.now row) }
@@ -105,7 +105,7 @@ fn said_of(text: &SharedBytes, row: Row, lanes: bool) -> Result<Parsed, OutOfMem
     }
 }
 
-/// What the lines say; their records share the text.
+/// What the lines are; their records share the text.
 fn all_said(
     alloc: Global,
     text: &SharedBytes,
@@ -124,7 +124,7 @@ fn all_said(
 }
 
 impl Packed {
-    /// No line came. There is room for so many bytes of records.
+    /// No lines yet, and memory for `room` bytes of records.
     pub fn new(alloc: Global, room: usize) -> Result<Packed, OutOfMemory>
         ensures { IfOk result (λ p. p ≡ []) }
     {
@@ -134,7 +134,7 @@ impl Packed {
         })
     }
 
-    /// What these lines and the next one say, which says this.
+    /// These lines and a next one, which was parsed as this.
     fn with_said(self, said: Parsed) -> Result<Packed, OutOfMemory>
         ensures { IfOk result (λ p. p ≡ self ++ said ∷ []) }
     {
@@ -143,7 +143,7 @@ impl Packed {
         Ok(Packed { text, rows })
     }
 
-    /// What these lines and the next one say, which has these fields.
+    /// These lines and a next one, which has these fields.
     fn with_fields(self, fields: &Fields<'_>) -> Result<Packed, OutOfMemory>
         ensures { IfOk result (λ p. p ≡ self ++ Ok (Some (Stream (record_at fields.now))) ∷ []) }
     {
@@ -153,7 +153,7 @@ impl Packed {
         Ok(Packed { text, rows })
     }
 
-    /// What these lines and the next one say, which is a stream's and neither blank nor too long.
+    /// These lines and a next one of a stream, which is neither blank nor too long.
     fn with_record(self, scratch: &mut Scratch, line: &[u8]) -> Result<Packed, OutOfMemory>
         ensures { IfOk result (λ p. p ≡ self ++ some_item Stream (line_of record_of line.now) ∷ []) }
     {
@@ -164,7 +164,7 @@ impl Packed {
         }
     }
 
-    /// What these lines and the next one say.
+    /// These lines and the next one.
     pub fn with_line(
         self,
         alloc: Global,
@@ -189,7 +189,8 @@ impl Packed {
         }
     }
 
-    /// What the lines say; their records share the text. Where they go to several lanes, what chooses each one's is computed.
+    /// What the lines are; their records share the text. With several lanes, the MD5 that chooses each one's lane is
+    /// computed too.
     pub fn into_parsed(self, alloc: Global, lanes: bool) -> Result<Vec<Parsed>, OutOfMemory>
         ensures { IfOk result (λ v. v.items ≡ self) }
     {

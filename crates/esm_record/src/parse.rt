@@ -1,4 +1,4 @@
-//! What a line says by itself: nothing where it is blank, its item, or why it does not read.
+//! Parsing a line by itself: it is blank, an item, or unreadable.
 ghost use Rattle.std.specs.Prelude.{◌≡◌, ◌||◌, IfOk};
 ghost use Rattle.esm_record.specs.Line.{line_of, record_of, message_of};
 ghost use Rattle.esm_record.specs.Input.{is_blank_byte, is_blank, some_item};
@@ -11,7 +11,7 @@ use esm_model::{Item, LineKind, MAX_LINE, OutOfMemory};
 use json::Scratch;
 use std::alloc::Global;
 
-/// What a line says, whatever came before it.
+/// What a line is, regardless of the lines before it: nothing where it is blank, its item, or why it does not read.
 pub type Parsed = Result<Option<Item>, LineError>;
 
 fn is_blank_byte(byte: u8) -> bool
@@ -20,14 +20,14 @@ fn is_blank_byte(byte: u8) -> bool
     byte == b' ' || byte == b'\t' || byte == b'\r'
 }
 
-/// Whether the line is spaces, tabs and carriage returns alone.
+/// Whether the line has only spaces, tabs and carriage returns.
 pub fn is_blank(line: &[u8]) -> bool
     ensures { result ≡ is_blank line.now }
 {
     line.iter().all(|b| is_blank_byte(*b))
 }
 
-/// Of a stream's line, which is neither blank nor too long.
+/// Parses a stream's line, which is neither blank nor too long.
 fn parse_record(alloc: Global, scratch: &mut Scratch, line: &[u8]) -> Result<Parsed, OutOfMemory>
     ensures { IfOk result (λ p. p ≡ some_item Item.Stream (line_of record_of line.now)) }
 {
@@ -38,7 +38,7 @@ fn parse_record(alloc: Global, scratch: &mut Scratch, line: &[u8]) -> Result<Par
     }
 }
 
-/// Of a queue's line, which is neither blank nor too long.
+/// Parses a queue's line, which is neither blank nor too long.
 pub fn parse_message(
     alloc: Global,
     scratch: &mut Scratch,
@@ -54,7 +54,7 @@ pub fn parse_message(
     }
 }
 
-/// What the line says, whatever came before it.
+/// Parses the line, regardless of the lines before it.
 pub fn parse_line(
     alloc: Global,
     kind: LineKind,

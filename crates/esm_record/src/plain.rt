@@ -1,4 +1,4 @@
-//! Bytes that carry the proof that they are UTF-8, in place of a `str`, to make which they would be read once more.
+//! Bytes with a proof that they are UTF-8. They stand in for a `str`, which cannot be made without reading them once more.
 ghost use Rattle.std.specs.Prelude.{◌≡◌, true};
 ghost use Rattle.std.specs.Str.{is_utf8};
 

@@ -1,4 +1,4 @@
-//! The message that a line of a queue is.
+//! Reading the message of a queue's line.
 ghost use Rattle.std.specs.Prelude.{◌≡◌, IfOk};
 ghost use Rattle.std.specs.List.{list_all};
 ghost use Rattle.esm_model.specs.ValidMessage as valid;
@@ -15,10 +15,10 @@ use json::Scratch;
 use memchr::memchr;
 use std::alloc::Global;
 
-/// Bytes of a message's id.
+/// The maximum number of bytes of a message's id.
 const MAX_ID: usize = 100;
 
-/// Bytes of a message's group.
+/// The maximum number of bytes of a message's group.
 const MAX_GROUP: usize = 128;
 
 fn is_message_id(text: &[u8]) -> bool
@@ -43,7 +43,8 @@ fn ends_plane(bytes: &[u8]) -> bool
     }
 }
 
-/// Whether each byte is a character of its own or part of a longer one; it reads to the end, which vectors do.
+/// Whether each byte is a character of its own or part of a longer one. Reads all bytes, so the loop can use vector
+/// instructions.
 fn are_body_bytes(text: &[u8]) -> bool
     ensures { result ≡ list_all valid.is_body_byte text.now }
 {
@@ -54,7 +55,8 @@ fn are_body_bytes(text: &[u8]) -> bool
     passes
 }
 
-/// Whether each character of the text is one that a body may have; only U+F000 to U+FFFF begin with 0xEF.
+/// Whether each character of the text is one that a body may have. Only a text with 0xEF, with which U+F000 to U+FFFF begin,
+/// needs the slower test.
 fn has_body_chars(text: &[u8]) -> bool
     ensures { result ≡ valid.has_body_chars text.now }
 {
@@ -64,7 +66,7 @@ fn has_body_chars(text: &[u8]) -> bool
     }
 }
 
-/// The same, of a text in which U+FFFE or U+FFFF may stand.
+/// The same, for a text in which U+FFFE or U+FFFF may occur.
 fn has_body_chars_beside(text: &[u8]) -> bool
     ensures { result ≡ valid.has_body_chars text.now }
 {
@@ -188,7 +190,7 @@ fn group_of(alloc: Global, fifo: bool, line: &Found<'_>) -> Result<Option<Text>,
     }
 }
 
-/// The message that the members of the object are.
+/// The message in the members of the object.
 fn message_of(alloc: Global, fifo: bool, line: &Found<'_>) -> Result<Message, Refusal>
     ensures { Gives result (message_in fifo line.now) }
 {
@@ -204,7 +206,7 @@ fn message_of(alloc: Global, fifo: bool, line: &Found<'_>) -> Result<Message, Re
     })
 }
 
-/// The message of a queue's line, which is neither blank nor too long.
+/// Reads the message of a queue's line, which is neither blank nor too long.
 pub fn read_message(
     alloc: Global,
     scratch: &mut Scratch,

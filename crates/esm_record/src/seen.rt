@@ -1,4 +1,4 @@
-// What the next line of the input is judged against: last sequence numbers, and the message ids seen before.
+// What the next line of the input is judged by: the last sequence numbers, and the message ids seen before.
 ghost use Rattle.std.specs.Prelude.{◌≡◌, ◌||◌, ℕ, List, [], IfOk};
 ghost use Rattle.std.specs.Str.{bytes_eq};
 ghost use Rattle.esm_record.specs.Gives.{Gives};
@@ -12,16 +12,16 @@ use esm_model::Message;
 use std::alloc::Global;
 use std::collections::BTreeSet;
 
-/// What the next line is judged against: the last sequence number of each shard, and the message ids that stood.
+/// What the next line is judged by: the last sequence number of each shard, and the message ids seen before.
 #[derive(Drop)]
 pub struct Seen {
     pub numbers: Numbers,
-    /// Each with its first eight bytes as a number, which mostly orders it.
+    /// Each id with its first eight bytes as a number, by which most ids are ordered.
     pub ids: BTreeSet<(u64, String)>,
 }
 
 impl Seen {
-    /// No line came.
+    /// What is known before the first line.
     pub fn new(alloc: Global) -> Seen
         ensures { Follows [] result }
     {
@@ -43,7 +43,7 @@ fn front_of(id: &[u8]) -> u64
     front
 }
 
-/// Takes the message's id to those that stood, or refuses the message where it is one of them.
+/// Adds the message's id to those seen, or refuses the message if its id is one of them.
 pub fn as_new(
     alloc: Global,
     ids: &mut BTreeSet<(u64, String)>,

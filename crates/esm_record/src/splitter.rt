@@ -1,12 +1,14 @@
-// Splitting the input into lines piece by piece, and reading each up to the first bad one.
+// Splitting the input into lines, piece by piece, and reading each line up to the first bad one.
 ghost use Rattle.std.specs.Prelude.{◌≡◌, ◌≤◌, ◌+◌, Some, ℕ, List, ◌++◌, [], length, fold, OnOk, IfOk, IsNone};
 ghost use Rattle.esm_model.specs.declared.item.Item.{Item};
 ghost use Rattle.esm_record.specs.Input.{Input, add_line, input_of, lines_of, begun};
 ghost use Rattle.esm_record.specs.Parsing.{parse_line, add_parsed};
-ghost use Rattle.esm_record.specs.Splitting.{Stands, HasRead, NoLineFeed};
+ghost use Rattle.esm_record.specs.LineBlocks.{NoLineFeed};
+ghost use Rattle.esm_record.specs.Splitting.{Stands, HasRead};
 
-use crate::block::{MIN_BLOCK, ended_lines, first_line, next_chunk, parse_chunk, parse_lines};
+use crate::block::{next_chunk, parse_chunk, parse_lines};
 use crate::error::{BadLine, LineError, Refusal};
+use crate::line_blocks::{ended_lines, first_line, threads_worth};
 use crate::order::judge;
 use crate::parse::{Parsed, parse_line};
 use crate::seen::Seen;
@@ -16,8 +18,8 @@ use std::alloc::Global;
 use std::mem;
 use std::thread::Threads;
 
-/// What has been read of an input: the good lines, what the next one is judged against, the room that reading takes, the
-/// line that has begun, and the first bad line.
+/// What was read of an input: the number of good lines, what the next line is judged by, the scratch memory of the parser,
+/// the begun line, and the first bad line.
 #[derive(Drop)]
 pub struct Splitter {
     pub kind: LineKind,
@@ -30,7 +32,7 @@ pub struct Splitter {
     pub bad: Option<BadLine>,
 }
 
-/// What the line says that has begun so and ends with this rest. No line has begun then.
+/// Parses the begun line, which ends with this rest. Afterwards no line is begun.
 fn parse_whole(
     alloc: Global,
     kind: LineKind,
@@ -56,7 +58,7 @@ fn parse_whole(
 }
 
 impl Splitter {
-    /// Takes what the next line says; nothing after a bad line.
+    /// Judges and adds the next parsed line, unless a bad one came before.
     fn take_line(
         &mut self,
         alloc: Global,
@@ -95,7 +97,7 @@ impl Splitter {
         }
     }
 
-    /// Takes what the next lines say, in their order; nothing after a bad line.
+    /// Judges and adds the next parsed lines, in their order, unless a bad one came before.
     fn take_lines(
         &mut self,
         alloc: Global,
@@ -113,7 +115,7 @@ impl Splitter {
         Ok(())
     }
 
-    /// Ends the line that has begun: this is its rest, and its line feed came.
+    /// Ends the begun line: `rest` is its rest, and its line feed was read.
     fn end_line(
         &mut self,
         alloc: Global,
@@ -130,7 +132,7 @@ impl Splitter {
         self.take_line(alloc, items, parsed)
     }
 
-    /// Goes on with the line that has begun, whose line feed is still to come.
+    /// Adds to the begun line, whose line feed was not read yet.
     fn begin_line(&mut self, more: &[u8]) -> Result<(), OutOfMemory>
         requires going { IsNone self.old.bad }
         requires short { length self.old.begun.items ≤ MAX_LINE }
@@ -148,7 +150,7 @@ impl Splitter {
         Ok(())
     }
 
-    /// The line that has begun is too long.
+    /// Refuses the begun line, since it is too long.
     fn refuse_long(&mut self) -> Result<(), OutOfMemory>
         ensures bad { OnOk result ((self.new.bad ≡ Some (record { line = self.old.good + 1; why = LineError.LineTooLong }))) }
         ensures kind { self.new.kind ≡ self.old.kind }
@@ -161,7 +163,7 @@ impl Splitter {
         Ok(())
     }
 
-    /// Reads a chunk of lines that line feeds end, where no line has begun.
+    /// Reads a chunk of whole lines, while no line is begun.
     fn read_chunk(
         &mut self,
         alloc: Global,
@@ -180,7 +182,7 @@ impl Splitter {
         self.take_lines(alloc, items, parsed)
     }
 
-    /// Reads the lines that this piece ends, where no line has begun, chunk by chunk up to the first bad one.
+    /// Reads the lines that this piece completes, while no line is begun, chunk by chunk up to the first bad one.
     fn read_chunks(
         &mut self,
         alloc: Global,
@@ -204,7 +206,7 @@ impl Splitter {
         self.begin_line(rest)
     }
 
-    /// Reads the lines that this piece ends, up to the first bad one: the line that has begun, and then the others.
+    /// Reads the lines that this piece completes, up to the first bad one: first the begun line, then the others.
     fn read_piece(
         &mut self,
         alloc: Global,
@@ -230,7 +232,7 @@ impl Splitter {
         self.read_chunks(alloc, items, after)
     }
 
-    /// Reads lines that line feeds end, where no line has begun; up to so many threads parse them side by side.
+    /// Reads whole lines, while no line is begun; up to `threads` threads parse them side by side.
     fn read_lines<R: Threads + Sync>(
         &mut self,
         rt: &R,
@@ -251,8 +253,8 @@ impl Splitter {
         self.take_lines(alloc, items, parsed)
     }
 
-    /// Reads the lines that this piece ends, where no line has begun, up to the first bad one; up to so many threads parse
-    /// them side by side.
+    /// Reads the lines that this piece completes, while no line is begun, up to the first bad one; up to `threads` threads
+    /// parse them side by side.
     fn read_ended<R: Threads + Sync>(
         &mut self,
         rt: &R,
@@ -272,8 +274,8 @@ impl Splitter {
         self.read_more(alloc, items, rest)
     }
 
-    /// Reads the lines that this piece ends, up to the first bad one: the line that has begun, and then the others, which
-    /// up to so many threads parse side by side.
+    /// Reads the lines that this piece completes, up to the first bad one: first the begun line, then the others, which up
+    /// to `threads` threads parse side by side.
     fn read_blocks<R: Threads + Sync>(
         &mut self,
         rt: &R,
@@ -301,7 +303,7 @@ impl Splitter {
         self.read_ended(rt, alloc, threads, items, after)
     }
 
-    /// Nothing has been read.
+    /// A splitter that has read nothing.
     #[tactic(auto, unfolding(crate::specs::Input::input_so_far))]
     pub fn new(alloc: Global, kind: LineKind, lanes: bool) -> Splitter
         ensures read { HasRead [] [] [] result }
@@ -318,7 +320,7 @@ impl Splitter {
         }
     }
 
-    /// Reads the lines that this piece ends; nothing after a bad line.
+    /// Reads the lines that this piece completes, unless a bad line came before.
     pub fn read_more(
         &mut self,
         alloc: Global,
@@ -336,7 +338,7 @@ impl Splitter {
         self.read_piece(alloc, items, piece)
     }
 
-    /// Reads the lines that this piece ends as `read_more` does, parsed by up to so many threads side by side.
+    /// Reads the lines that this piece completes, as `read_more` does; up to `threads` threads parse them side by side.
     pub fn read_parallel<R: Threads + Sync>(
         &mut self,
         rt: &R,
@@ -350,13 +352,13 @@ impl Splitter {
             → HasRead (bytes ++ piece.now) before items.new.items self.new) }
         ensures kind { self.new.kind ≡ self.old.kind }
     {
-        if threads < 2 || piece.len() / 2 < MIN_BLOCK || self.bad.is_some() {
+        if threads_worth(piece.len(), threads) < 2 || self.bad.is_some() {
             return self.read_more(alloc, items, piece);
         }
         self.read_blocks(rt, alloc, threads, items, piece)
     }
 
-    /// Reads the last line, which no line feed ends; nothing after a bad line.
+    /// Reads the last line, which no line feed ends, unless a bad line came before.
     pub fn read_end(&mut self, alloc: Global, items: &mut Vec<Item>) -> Result<(), OutOfMemory>
         requires { IsNone self.old.bad → length self.old.begun.items ≤ MAX_LINE }
         ensures read { OnOk result ((bytes : List ℕ) (before : List Item) → HasRead bytes before items.old.items self.old

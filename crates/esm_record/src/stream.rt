@@ -1,4 +1,4 @@
-//! The record that a line of a stream is.
+//! Reading the record of a stream's line.
 ghost use Rattle.std.specs.Prelude.{◌≡◌, codes, nat_eq, true, option_map, IfOk, IfSome, IsUtf8};
 ghost use Rattle.std.specs.List.{starts_with};
 ghost use Rattle.esm_model.specs.Records.{encoded_in};
@@ -36,7 +36,7 @@ fn is_shard_id(text: &[u8]) -> bool
     begins_as_shard_id(text) && are_digits(&text[8..])
 }
 
-/// The number of a shard, by its id: `shardId-` and twelve digits (Kinesis API Reference, `ShardId`); `None` for any other
+/// The number of a shard from its id, `shardId-` and twelve digits (Kinesis API Reference, `ShardId`); `None` for any other
 /// text.
 pub fn shard_number(text: &[u8]) -> Option<u64>
     ensures { result ≡ spec.shard_number text.now }
@@ -90,7 +90,7 @@ fn partition_key_in(leaf: Leaf<'_>) -> Option<&[u8]>
     }
 }
 
-/// The base64 of at most `MAX_DATA` bytes that the text is.
+/// The text as base64 of at most `MAX_DATA` bytes; `None` where it is none.
 fn base64_of(text: &[u8]) -> Option<Base64<'_>>
     ensures { option_map (λ b. encoded_in b.text.now) result ≡ spec.payload text.now }
 {
@@ -155,7 +155,7 @@ fn payload_of<'a>(line: &Found<'a>) -> Result<Base64<'a>, LineError>
     }
 }
 
-/// The fields of a record among the members of the object.
+/// The fields of a record, from the members of the object.
 fn fields_of<'a>(line: &Found<'a>) -> Result<Fields<'a>, LineError>
     ensures { Tells record_at result (record_in line.now) }
 {
@@ -173,7 +173,7 @@ fn fields_of<'a>(line: &Found<'a>) -> Result<Fields<'a>, LineError>
     })
 }
 
-/// The fields of a stream's line, which is neither blank nor too long.
+/// Reads the fields of a stream's line, which is neither blank nor too long.
 pub fn read_fields<'a>(scratch: &'a mut Scratch, line: &'a [u8]) -> Result<Fields<'a>, Refusal>
     ensures { Shows record_at result (spec.line_of spec.record_of line.now) }
 {
@@ -204,7 +204,7 @@ fn record_of(alloc: Global, fields: &Fields<'_>) -> Result<Record, OutOfMemory>
     }
 }
 
-/// The record of a stream's line, which is neither blank nor too long, in a text of its own.
+/// Reads the record of a stream's line, which is neither blank nor too long, into a text of its own.
 pub fn read_record(alloc: Global, scratch: &mut Scratch, line: &[u8]) -> Result<Record, Refusal>
     ensures { Gives result (spec.line_of spec.record_of line.now) }
 {

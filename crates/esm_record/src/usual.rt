@@ -1,5 +1,5 @@
-//! The line in the form in which programs write a stream's record: its five members in one order, with no white space and
-//! no escape. It is read with no index and no tokens.
+//! Reading a stream's line in the form in which programs write it: five members in one order, without white space and
+//! escapes. It is read without an index and without tokens.
 ghost use Rattle.std.specs.Prelude.{◌≡◌, ◌++◌, true, false, None, Ok, length, IfSome};
 ghost use Rattle.std.specs.List.{list_all};
 ghost use Rattle.esm_record.specs.Leaf.{leaf_at, IsObjectOf};
@@ -20,32 +20,32 @@ pub struct UsualLine<'a> {
     key: Plain<'a>,
     /// The text of the member `data`, which in a record's line is base64.
     payload: Plain<'a>,
-    /// Milliseconds since 1970.
+    /// The arrival, in milliseconds since 1970.
     arrival: u64,
 }
 
-/// What follows the literal, where the text begins with it.
+/// What comes after the literal, if the text begins with it.
 fn after_literal<'a>(text: &'a [u8], literal: &[u8]) -> Option<&'a [u8]>
     ensures { IfSome result (λ rest. text.entry.now ≡ literal.now ++ rest.now) }
 {
     text.strip_prefix(literal)
 }
 
-/// What stands before the literal, where the text ends with it.
+/// What comes before the literal, if the text ends with it.
 fn before_literal<'a>(text: &'a [u8], literal: &[u8]) -> Option<&'a [u8]>
     ensures { IfSome result (λ front. text.entry.now ≡ front.now ++ literal.now) }
 {
     text.strip_suffix(literal)
 }
 
-/// Whether the byte is a character of ASCII that stands in a JSON text for itself.
+/// Whether the byte is an ASCII character that represents itself in a JSON text.
 fn is_plain(byte: u8) -> bool
     ensures { result ≡ is_plain byte }
 {
     (32 <= byte) & (byte < 128) & (byte != b'"') & (byte != b'\\')
 }
 
-/// Whether each byte is such a character; it reads to the end, which vectors do.
+/// Whether each byte is such a character. Reads all bytes, so the loop can use vector instructions.
 fn are_plain(text: &[u8]) -> bool
     ensures { result ≡ list_all is_plain text.now }
 {
@@ -56,7 +56,7 @@ fn are_plain(text: &[u8]) -> bool
     passes
 }
 
-/// The text that follows the literal, up to its quotation mark, and what follows that.
+/// The text after the literal, up to its quotation mark, and what comes after that.
 fn split_member<'a>(text: &'a [u8], literal: &[u8]) -> Option<(Plain<'a>, &'a [u8])>
     ensures { IfSome result (λ p. PassesMember text.entry.now literal.now p.0.bytes.now p.1.now) }
 {
@@ -70,7 +70,7 @@ fn split_member<'a>(text: &'a [u8], literal: &[u8]) -> Option<(Plain<'a>, &'a [u
     }
 }
 
-/// The moment that ends the object, in milliseconds since 1970.
+/// The moment at the end of the object, in milliseconds since 1970.
 fn last_moment(text: &[u8]) -> Option<u64>
     ensures { IfSome result (λ moment. PassesMoment text.now moment) }
 {
@@ -83,7 +83,7 @@ fn last_moment(text: &[u8]) -> Option<u64>
     }
 }
 
-/// The texts and the moment of the line, where it has that form.
+/// The texts and the moment of the line, if it has this form.
 fn usual_line(line: &[u8]) -> Option<UsualLine<'_>>
     ensures { IfSome result (λ u. IsUsual line.now u) }
 {
@@ -101,7 +101,8 @@ fn usual_line(line: &[u8]) -> Option<UsualLine<'_>>
     })
 }
 
-/// Puts the members of the object that the line is to those found, which are none yet, where it has that form.
+/// Reads the members of the line's object into `found`, which has none yet, if the line has this form. Returns whether it
+/// did.
 pub fn read_usual<'a>(line: &'a [u8], found: &mut Found<'a>) -> bool
     requires empty { (f : Field) → leaf_at f found.old ≡ None }
     requires sized { length found.old.leaves ≡ 9 }

@@ -1,7 +1,7 @@
 use Rattle.std.proofs.Common.{rules, ◌≡◌, List, ◌++◌, ap, ◌∙◌, arith}
 use Rattle.std.proofs.lemmas.Grind.{common_steps}
 use Rattle.esm_record.specs.Parsing.{parsed_lines}
-use Rattle.esm_record.specs.Splitting.{NoLineFeed}
+use Rattle.esm_record.specs.LineBlocks.{NoLineFeed}
 use Rattle.esm_record.proofs.Blocks.{Said, chunk_parsed, all_parsed}
 use Rattle.esm_record.proofs.block.parse_block.Goals as goal
 

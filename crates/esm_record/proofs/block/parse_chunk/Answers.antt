@@ -2,7 +2,7 @@ use Rattle.std.proofs.Common.{rules, ◌≡◌, List, ◌++◌, ap, ◌∙◌, r
 use Rattle.std.proofs.lemmas.Grind.{common_steps}
 use Rattle.std.specs.Prelude.{IfOk}
 use Rattle.esm_record.specs.Parsing.{parse_line, parsed_lines}
-use Rattle.esm_record.specs.Splitting.{NoLineFeed}
+use Rattle.esm_record.specs.LineBlocks.{NoLineFeed}
 use Rattle.esm_record.proofs.Blocks.{Said, one_parsed, all_parsed}
 use Rattle.esm_record.proofs.block.parse_chunk.Goals as goal
 

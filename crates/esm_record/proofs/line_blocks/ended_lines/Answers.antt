@@ -1,9 +1,9 @@
 use Rattle.std.proofs.Common.{ℕ, List, sym, ap, subst, ◌∙◌}
 use Rattle.esm_record.specs.Input.{lines_of, begun}
-use Rattle.esm_record.specs.Splitting.{NoLineFeed}
+use Rattle.esm_record.specs.LineBlocks.{NoLineFeed}
 use Rattle.esm_record.proofs.FirstLine.{has_none}
 use Rattle.esm_record.proofs.Blocks.{whole_at, none_after}
-use Rattle.esm_ddb.proofs.cut.ended_lines.Goals as goal
+use Rattle.esm_record.proofs.line_blocks.ended_lines.Goals as goal
 
 pub returns-in-Some-clause-whole : goal.returns-in-Some-clause-whole
 returns-in-Some-clause-whole c =

@@ -1,8 +1,8 @@
 use Rattle.std.proofs.Common.{◌≤◌, ◌*◌, ◌/◌, arith}
 use Rattle.std.proofs.Math.Nat.{mul-le-mul_left}
-use Rattle.esm_record.proofs.block.share_of.Goals as goal
+use Rattle.esm_record.proofs.line_blocks.share_of.Goals as goal
 
-pub returns : goal.returns
-returns c =
+pub returns-clause-within : goal.returns-clause-within
+returns-clause-within c =
     let most : c.args.bytes / c.args.threads * c.args.these ≤ c.args.bytes / c.args.threads * c.args.threads = mul-le-mul_left (c.args.bytes / c.args.threads) c.requires.of_them in
     omega (arith, most)
