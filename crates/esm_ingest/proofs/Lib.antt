@@ -9,3 +9,4 @@ pub mod Counted
 pub mod Groups
 pub mod Partwise
 pub mod Changing
+pub mod Staying

@@ -1,4 +1,4 @@
--- Records that stand in the stream with another sequence number than the journal kept of them. This product's own.
+-- Records whose sequence number is another than the one that the journal kept of them. This product's own.
 use Rattle.std.specs.Prelude.{ℕ, ◌+◌, List, [], ◌∷◌, ◌++◌, Option, Some, None, option_map, if◌then◌else◌}
 use Rattle.std.specs.Option.{option_or}
 use Rattle.std.specs.Str.{bytes_eq}
@@ -11,17 +11,17 @@ use Rattle.esm_model.specs.Setting.{Setting, found_fate, found_try}
 use Rattle.esm_model.specs.Entries.{came_count}
 use Rattle.esm_ingest.specs.Coming.{count_of}
 
--- the text that was kept, where there is one and it is another than the sequence number
+-- the kept text, if there is one and it differs from the sequence number
 abbrev pub other_text : List ℕ → Option (List ℕ) → Option (List ℕ)
 other_text seq None = None
 other_text seq (Some kept) = if bytes_eq kept seq then None else Some kept
 
--- what was kept of the place with its fate, else with its tries, where that is another
+-- what was kept of the place with its fate, else with its tries, if it differs
 abbrev pub kept_otherwise : Setting → ℕ → ℕ → List ℕ → Option (List ℕ)
 kept_otherwise s n i seq =
     option_or (other_text seq (option_map (λ (f : FoundFate). f.text) (found_fate s n i))) (other_text seq (option_map (λ (f : FoundTries). f.text) (found_try s n i)))
 
--- the record at the place has another sequence number than this text, which was kept
+-- the change: the record at the place has another sequence number than this text, which was kept
 abbrev pub change_of : Record → ℕ → List ℕ → Change
 change_of r i kept = record { shard = r.shard; place = i; kept = kept; given = r.seq }
 
@@ -33,11 +33,11 @@ change_at s i r = option_map (change_of r i) (kept_otherwise s r.shard i r.seq)
 abbrev pub place_after : List Entry → List Record → Record → ℕ
 place_after h before r = came_count h r.shard + count_of r.shard before
 
--- of the first record that differs, of those that come after these
+-- the change of the first record that differs, of those that come after these
 abbrev pub first_change_from : Setting → List Entry → List Record → List Record → Option Change
 first_change_from s h before [] = None
 first_change_from s h before (r ∷ rs) = option_or (change_at s (place_after h before r) r) (first_change_from s h (before ++ r ∷ []) rs)
 
--- of the first record of the list that differs
+-- the change of the first record of the list that differs
 abbrev pub first_change : Setting → List Entry → List Record → Option Change
 first_change s h rs = first_change_from s h [] rs

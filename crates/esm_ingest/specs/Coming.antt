@@ -11,7 +11,7 @@ abbrev pub with_record : List Stream → Record → List Stream
 with_record [] r = record { shard = r.shard; records = r ∷ [] } ∷ []
 with_record (t ∷ ts) r = if t.shard == r.shard then record { shard = t.shard; records = t.records ++ r ∷ [] } ∷ ts else t ∷ with_record ts r
 
--- and so each of them, in order
+-- each of the records is the next of its shard, in order
 abbrev pub with_records : List Stream → List Record → List Stream
 with_records ts [] = ts
 with_records ts (r ∷ rs) = with_records (with_record ts r) rs
@@ -29,6 +29,6 @@ of_shard n rs = filter (λ (r : Record). r.shard == n) rs
 abbrev pub count_of : ℕ → List Record → ℕ
 count_of n rs = length (of_shard n rs)
 
--- with the records that came, those of each shard have places of 32 bits
+-- together with those that came, the records of each shard have places of 32 bits
 abbrev pub FitPlaces : List Entry → List Record → Type 0
 FitPlaces h rs = (n : ℕ) → came_count h n + count_of n rs < 4294967296

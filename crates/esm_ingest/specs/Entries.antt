@@ -20,7 +20,7 @@ came_part m p = Came p.shard p.first (length p.records) m
 abbrev pub came_parts : ℕ → List Part → List Entry
 came_parts m ps = map (came_part m) ps
 
--- the places are filtered, where there are any
+-- the places are filtered, if there are any
 abbrev pub filtered_at : ℕ → ℕ → List ℕ → List Entry
 filtered_at m n [] = []
 filtered_at m n (i ∷ places) = Gave None n (i ∷ places) Filtered None None m ∷ []

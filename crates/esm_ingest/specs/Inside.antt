@@ -22,6 +22,6 @@ abbrev pub AllFit : List Entry → List Stream → Type 0
 AllFit h [] = ⊤
 AllFit h (t ∷ ts) = (came_count h t.shard + length t.records < 4294967296) × AllFit h ts
 
--- they come next to those of their shard
+-- the part of these records, which follow those of their shard that came
 abbrev pub next_of_stream : Setting → List Entry → Stream → Part
 next_of_stream s h t = next_part s h t.shard t.records

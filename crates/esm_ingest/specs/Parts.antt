@@ -14,7 +14,7 @@ use Rattle.esm_ingest.specs.Coming.{shards_of, of_shard}
 abbrev pub is_refused_at : Setting → ℕ → ℕ → Record → Bool
 is_refused_at s n place r = is_none (found_fate s n place) && is_refused s r
 
--- the places of such records, of those that stand from the place on
+-- the places of such records, from the place on
 abbrev pub refused_from : Setting → ℕ → ℕ → List Record → List ℕ
 refused_from s n place [] = []
 refused_from s n place (r ∷ rs) = if is_refused_at s n place r then place ∷ refused_from s n (place + 1) rs else refused_from s n (place + 1) rs
@@ -26,11 +26,11 @@ pub record Part : Type 0 where
   pub records : List Record
   pub refused : List ℕ
 
--- the records come next to those of the shard that came
+-- the part of these records, which follow those of the shard that came
 abbrev pub next_part : Setting → List Entry → ℕ → List Record → Part
 next_part s h n rs = record { shard = n; first = came_count h n; records = rs; refused = refused_from s n (came_count h n) rs }
 
--- the records of the shard among those of the list
+-- the part of the shard: its records among those of the list
 abbrev pub part_in : Setting → List Entry → List Record → ℕ → Part
 part_in s h rs n = next_part s h n (of_shard n rs)
 

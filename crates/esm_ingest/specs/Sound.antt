@@ -13,7 +13,7 @@ use Rattle.esm_ingest.specs.Parts.{Part, parts_of, grown_by}
 use Rattle.esm_ingest.specs.Changes.{first_change}
 use Rattle.esm_ingest.specs.Entries.{with_entries, came_part, came_parts, arrival_entries}
 
--- the history calls for nothing over all lists of records that go on from the setting's own
+-- the history requires nothing more, over all lists of records that extend the setting's own
 abbrev pub SettledOver : Setting → List Entry → Type 0
 SettledOver s h = (streams : List Stream) → Extends s.streams streams → Settled (over s streams) h
 
@@ -43,7 +43,7 @@ PartsCome s h rs m = (before : List Part) (p : Part) (left : List Part) → befo
 abbrev pub ArrivalIsLegal : Setting → List Entry → List Record → ℕ → Type 0
 ArrivalIsLegal s h rs m = (before : List Entry) (e : Entry) (left : List Entry) → before ++ e ∷ left ≡ arrival_entries s h rs m → LegalOver (with_all s rs) (e ∷ with_entries h before)
 
--- then nothing is called for
+-- then nothing more is required
 abbrev pub ArrivalIsSettled : Setting → List Entry → List Record → ℕ → Type 0
 ArrivalIsSettled s h rs m = SettledOver (with_all s rs) (with_entries h (arrival_entries s h rs m))
 

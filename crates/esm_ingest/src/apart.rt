@@ -1,15 +1,9 @@
-// Records that stay where most of their neighbours go: each in a text of its own.
-ghost use Rattle.std.specs.Prelude.{◌≡◌, ◌↔◌, ◌+◌, ◌*◌, ◌<◌, ◌≤◌, IfOk, OnOk, IsTrue, length};
+// Puts records that stay into texts of their own, when at least half of a list's records go.
+ghost use Rattle.std.specs.Prelude.{◌≡◌, ◌↔◌, ◌*◌, ◌<◌, ◌≤◌, All, IfOk, OnOk, IsTrue, length};
+ghost use Rattle.esm_ingest.specs.Judged.{IsInRow};
 
 use esm_model::{OutOfMemory, Record};
 use std::alloc::Global;
-
-/// Whether the next of the rising places is this one.
-fn is_next(places: &[u32], next: usize, place: u32) -> bool
-    ensures { IsTrue result → next < length places.now }
-{
-    next < places.len() && places[next] == place
-}
 
 /// Puts the record into a text of its own.
 fn put_apart(alloc: Global, records: &mut Vec<Record>, at: usize) -> Result<(), OutOfMemory>
@@ -21,35 +15,31 @@ fn put_apart(alloc: Global, records: &mut Vec<Record>, at: usize) -> Result<(), 
     Ok(())
 }
 
-/// Whether at least half of the records are refused.
-fn are_most_refused(records: &Vec<Record>, refused: &[u32]) -> bool
-    ensures { IsTrue result ↔ length records.now.items ≤ 2 * length refused.now }
+/// Whether at most half of the records stay.
+fn do_few_stay(records: &Vec<Record>, staying: &[u32]) -> bool
+    ensures { IsTrue result ↔ 2 * length staying.now ≤ length records.now.items }
 {
-    records.len().saturating_sub(refused.len()) <= refused.len()
+    staying.len() <= records.len().saturating_sub(staying.len())
 }
 
-/// The same records, of which the first is at the place `first`. Where at least half of them are refused, each other one is
-/// put into a text of its own: the texts that it shared with the others are let go with them.
-pub fn kept_apart(
+/// The same records, of which the first is at the place `first`, and those at the places `staying` are to stay. Where these
+/// are at most half, each of them gets a text of its own, so that the texts that it shared are freed with the others.
+pub fn with_own_texts(
     alloc: Global,
     records: Vec<Record>,
     first: u32,
-    refused: &[u32],
+    staying: &[u32],
 ) -> Result<Vec<Record>, OutOfMemory>
-    requires { first + length records.items < 4294967296 }
+    requires { All (IsInRow first (length records.items)) staying.now }
     ensures { IfOk result (λ kept. kept.items ≡ records.items) }
 {
     let mut kept = records;
-    if !are_most_refused(&kept, refused) {
+    if !do_few_stay(&kept, staying) {
         return Ok(kept);
     }
-    let mut next = 0;
-    for at in 0..kept.len() {
-        if is_next(refused, next, first + at as u32) {
-            next += 1;
-        } else {
-            put_apart(alloc, &mut kept, at)?;
-        }
+    for place in staying {
+        let at = *place - first;
+        put_apart(alloc, &mut kept, at as usize)?;
     }
     Ok(kept)
 }

@@ -1,4 +1,4 @@
-// Finding the first record that comes with another sequence number than the journal kept at its place.
+// Finds the first record that comes with another sequence number than the journal kept at its place.
 ghost use Rattle.std.specs.Prelude.{◌≡◌, IfOk, option_map, option_copied, unwrap_or};
 ghost use Rattle.std.specs.Ordering.{nat_cmp};
 ghost use Rattle.std.specs.BTreeMap.{get};
@@ -36,7 +36,7 @@ fn tries_text(said: &Says, shard: u64, place: u32) -> Option<&KeptText>
     }
 }
 
-/// The text, where there is one and it is another than the sequence number.
+/// The kept text, if there is one and it differs from the sequence number.
 fn other_text<'a>(seq: &[u8], kept: Option<&'a KeptText>) -> Option<&'a KeptText>
     ensures { option_copied result ≡ other_text seq.now (option_copied kept.entry) }
 {
@@ -52,7 +52,8 @@ fn other_text<'a>(seq: &[u8], kept: Option<&'a KeptText>) -> Option<&'a KeptText
     }
 }
 
-/// What was kept of the record at the place with its fate, else with its tries, where that is another text.
+/// The text that was kept with the fate of the record at the place, else with its tries, if it differs from the sequence
+/// number.
 fn kept_otherwise<'a>(ledger: &'a Ledger, item: &Record, place: u32) -> Option<&'a KeptText>
     ensures { option_copied result ≡ kept_otherwise (setting_of ledger.now) item.now.shard place item.now.seq }
 {
@@ -62,7 +63,7 @@ fn kept_otherwise<'a>(ledger: &'a Ledger, item: &Record, place: u32) -> Option<&
     }
 }
 
-/// How the record differs from the kept text, where there is one.
+/// How the record differs from the kept text, if there is one.
 fn change_from(
     alloc: Global,
     item: &Record,
@@ -97,7 +98,7 @@ fn change_at(
     change_from(alloc, item, place, kept_otherwise(ledger, item, place))
 }
 
-/// The place of the shard's next record, where the map has those of the shards of the list.
+/// The place of the shard's next record; the map has it for the shards of the records before.
 fn next_place(ledger: &Ledger, next: &BTreeMap<u64, u32>, shard: u64) -> u32
     requires { Keeps ledger.now }
     ensures { result ≡ unwrap_or (get nat_cmp next.now shard) (came_count (past_of ledger.now) shard) }
@@ -108,9 +109,9 @@ fn next_place(ledger: &Ledger, next: &BTreeMap<u64, u32>, shard: u64) -> u32
     }
 }
 
-/// The first record of the list that stands in the stream with another sequence number than the journal kept of it, with a
-/// fate or with tries; `None` exactly where none does. Linear in the list, but for the logarithm of the number of its
-/// shards and of what was found at opening; where nothing was found, no record is looked at.
+/// The first record of the list whose sequence number differs from the one that the journal kept of its place, with a fate
+/// or with tries; `None` if and only if none does. Linear in the list, but for a factor logarithmic in the number of its
+/// shards and in what was found at opening; if nothing was found, no record is looked at.
 pub fn first_change(
     alloc: Global,
     ledger: &Ledger,

@@ -1,4 +1,4 @@
-// Grouping the records of a list by shard, in the order in which the shards first appear.
+// Groups the records of a list by shard, in the order in which the shards first appear.
 ghost use Rattle.std.specs.Prelude.{◌≡◌, ℕ, ◌==◌, [], Some, None, length, map, IfOk, IfSome, OnOk, if◌then◌else◌};
 ghost use Rattle.std.specs.Ordering.{nat_cmp};
 ghost use Rattle.std.specs.BTreeMap.{get};
@@ -17,7 +17,7 @@ pub struct Group {
     pub records: Vec<Record>,
 }
 
-/// The record is the first of its shard.
+/// Begins the group of a shard with its first record.
 fn push_group(alloc: Global, groups: &mut Vec<Group>, item: Record) -> Result<(), OutOfMemory>
     requires { place_in (names_in groups.old.items) item.shard ≡ None }
     ensures index { OnOk result ((n : ℕ) → place_in (names_in groups.new.items) n
@@ -31,7 +31,7 @@ fn push_group(alloc: Global, groups: &mut Vec<Group>, item: Record) -> Result<()
     Ok(())
 }
 
-/// The record is the next of its shard, whose group is at the index.
+/// Appends the next record of a shard, whose group is at the index.
 fn push_record(groups: &mut Vec<Group>, at: usize, item: Record) -> Result<(), OutOfMemory>
     requires { place_in (names_in groups.old.items) item.shard ≡ Some at }
     ensures names { OnOk result (names_in groups.new.items ≡ names_in groups.old.items) }
@@ -48,7 +48,7 @@ struct Run {
     at: usize,
 }
 
-/// Where the shard's group is; that of the last record is not looked up.
+/// The index of the shard's group, if it has one; that of the last record's group is not looked up.
 fn place_of(index: &BTreeMap<u64, usize>, last: Option<Run>, shard: u64) -> Option<usize>
     requires { IfSome last (λ (r : Run). get nat_cmp index.now r.shard ≡ Some r.at) }
     ensures { result ≡ get nat_cmp index.now shard }
@@ -59,8 +59,7 @@ fn place_of(index: &BTreeMap<u64, usize>, last: Option<Run>, shard: u64) -> Opti
     }
 }
 
-/// The record is the next of its shard; the index tells where each shard's group is, and the run where the last record's
-/// is.
+/// Adds the next record of its shard. `index` has where each shard's group is, and `last` where the last record's is.
 fn add(
     alloc: Global,
     groups: &mut Vec<Group>,
@@ -89,7 +88,7 @@ fn add(
     }
 }
 
-/// The records by their shards, in the order in which the shards first appear. A group is looked up once for a run of
+/// Groups the records by shard, in the order in which the shards first appear. A group is looked up once for a run of
 /// records of its shard.
 pub fn grouped(alloc: Global, items: Vec<Record>) -> Result<Vec<Group>, OutOfMemory>
     ensures { IfOk result (λ groups. map stream_in groups.items ≡ with_records [] items.items) }

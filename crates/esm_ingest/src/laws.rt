@@ -1,5 +1,5 @@
-//! What records that come leave of a legal history, each as the contract of a function that does nothing. A history is
-//! written newest entry first; it is settled where it calls for nothing more.
+//! What records that come leave of a legal history. Each law is the contract of a function that does nothing. A history is
+//! written newest entry first; it is settled if it requires nothing more.
 ghost use Rattle.std.specs.Prelude.{◌≡◌, ℕ, List, length};
 ghost use Rattle.esm_model.specs.Records.{Record};
 ghost use Rattle.esm_model.specs.declared.entry.Entry.{Entry};
@@ -14,12 +14,12 @@ pub fn all_have_come()
     ensures { (c : Ledger) → Keeps c → (n : ℕ) → came_count (past_of c) n ≡ length (records_of (setting_of c) n) }
 {}
 
-/// Where no record of the list differs, each part has the sequence numbers that were kept.
+/// If no record of the list differs, each part has the sequence numbers that were kept.
 pub fn unchanged_is_kept()
     ensures { (s : Setting) (h : List Entry) (rs : List Record) (m : ℕ) → MayArrive s h rs m → PartsAreKept s h rs }
 {}
 
-/// The parts may come one after the other, over all lists of records that go on from those so far.
+/// The parts may come one after the other, over all lists of records that extend those so far.
 pub fn parts_come()
     ensures { (s : Setting) (h : List Entry) (rs : List Record) (m : ℕ) → MayArrive s h rs m → PartsCome s h rs m }
 {}
@@ -34,7 +34,7 @@ pub fn arrival_is_legal()
     ensures { (s : Setting) (h : List Entry) (rs : List Record) (m : ℕ) → MayArrive s h rs m → ArrivalIsLegal s h rs m }
 {}
 
-/// Then nothing more is called for.
+/// Then nothing more is required.
 pub fn arrival_is_settled()
     ensures { (s : Setting) (h : List Entry) (rs : List Record) (m : ℕ) → MayArrive s h rs m → ArrivalIsSettled s h rs m }
 {}

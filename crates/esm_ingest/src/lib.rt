@@ -6,9 +6,9 @@
 mod apart;
 mod change;
 mod group;
+mod judging;
 pub mod laws;
 mod parts;
-mod refusing;
 
 pub use change::first_change;
 pub use parts::{ShardRecords, by_shard};

@@ -6,9 +6,9 @@ ghost use Rattle.esm_ledger.specs.Ledger.{past_of, setting_of, Keeps};
 ghost use Rattle.esm_ingest.specs.Coming.{FitPlaces, with_records};
 ghost use Rattle.esm_ingest.specs.Parts.{CanCome, grown_by, next_part, part, parts_of};
 
-use crate::apart::kept_apart;
+use crate::apart::with_own_texts;
 use crate::group::{Group, grouped};
-use crate::refusing::refused;
+use crate::judging::{Judged, judge};
 use esm_filter::{Criteria, Work};
 use esm_ledger::Ledger;
 use esm_model::{OutOfMemory, Places, Record};
@@ -25,7 +25,7 @@ pub struct ShardRecords {
     pub refused: Places,
 }
 
-/// The records come next to those of their shard that came.
+/// The part of a group, whose records follow those of their shard that came.
 fn part_of(
     alloc: Global,
     ledger: &Ledger,
@@ -40,7 +40,7 @@ fn part_of(
 {
     let Group { shard, records } = group;
     let first = ledger.came_of(shard);
-    let places = refused(
+    let judged = judge(
         alloc,
         &ledger.found,
         criteria,
@@ -49,19 +49,19 @@ fn part_of(
         first,
         records.as_slice(),
     )?;
-    let records = kept_apart(alloc, records, first, places.as_slice())?;
+    let Judged { refused, staying } = judged;
+    let records = with_own_texts(alloc, records, first, staying.as_slice())?;
     Ok(ShardRecords {
         shard,
         first,
         records,
-        refused: Places::from_vec(places),
+        refused: Places::from_vec(refused),
     })
 }
 
-/// The records of a list by their shards, in the order in which the shards first appear. They move into the parts; their
-/// order within a shard stays. Linear in the list, but for the logarithm of the number of its shards and of what was
-/// found at opening.
-/// (Lambda Developer Guide, event filtering for Kinesis.)
+/// Sorts the records of a list by shard, in the order in which the shards first appear. The records move into the parts, and
+/// keep their order within a shard. Linear in the list, but for a factor logarithmic in the number of its shards and in what
+/// was found at opening. (Lambda Developer Guide, event filtering for Kinesis.)
 pub fn by_shard(
     alloc: Global,
     ledger: &Ledger,

@@ -1,5 +1,5 @@
--- What a book's journal keeps of an entry. This product's own: of a fate, a counted try, a window's end and a replay one
--- payload each, of every other entry nothing.
+-- What a book's journal keeps of an entry. This product's own: one payload for each fate, counted try, window's end and
+-- replay, and nothing for any other entry.
 use Rattle.std.specs.Prelude.{ℕ, ◌<◌, List, map, reverse, length, Option, Some, None, option_map, filter_map, slice_get, IfSome, [], ◌∷◌}
 use Rattle.std.specs.List.{All}
 use Rattle.esm_model.specs.declared.item.Message.{Message}
@@ -15,7 +15,7 @@ use Rattle.esm_journal_record.specs.Payload.{payload_of, IsSaid}
 
 -- a stream's book
 
--- what is said of an entry; the try of a window's final call is one of the window
+-- what is said of an entry; a try of a window's final call counts for the window
 abbrev pub entry_said : Setting → Entry → Option Said
 entry_said s (entry.Gave by shard places fate line state moment) = Some (Fates shard fate moment state places (sequences_at s shard places))
 entry_said s (entry.Tried lane places None tries moment) = Some (Tried lane.shard moment tries places (sequences_at s lane.shard places))
@@ -31,7 +31,7 @@ entry_payload s e = option_map payload_of (entry_said s e)
 abbrev pub history_payloads : Setting → List Entry → List (List ℕ)
 history_payloads s h = filter_map (entry_payload s) (reverse h)
 
--- of a history as threads hand it on, over the setting that it tells
+-- of a history as threads pass it, over the setting that it gives
 abbrev pub payloads_told : Setup → List Told → List (List ℕ)
 payloads_told setup history = filter_map (λ (t : Told). entry_payload (setting_told setup history) t.entry) history
 
@@ -54,13 +54,13 @@ queue_said messages _ = None
 abbrev pub queue_payload : List Message → Entry → Option (List ℕ)
 queue_payload messages e = option_map payload_of (queue_said messages e)
 
--- lists that go on
+-- lists that grow
 
--- the places stand in the shard's list
+-- the shard's list has the places
 abbrev pub StandIn : Setting → ℕ → List ℕ → Type 0
 StandIn s n places = All (λ i. i < length (records_of s n)) places
 
--- the places that the entry names stand in their shard's list
+-- the shard's list has the places that the entry names
 abbrev pub NamesStand : Setting → Entry → Type 0
 NamesStand s (entry.Gave by shard places fate line state moment) = StandIn s shard places
 NamesStand s (entry.Tried lane places closing tries moment) = StandIn s lane.shard places

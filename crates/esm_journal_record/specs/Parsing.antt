@@ -20,7 +20,7 @@ abbrev pub ◌>>=◌ : {A B : Type 0} → Option A → (A → Option B) → Opti
 None >>= f = None
 (Some x) >>= f = f x
 
--- what a function returned, seen by view, is what reading gives, unless memory ran out
+-- what a function returned, seen through `view`, is what reading gives, unless memory ran out
 abbrev pub Fails : {Y : Type 0} → ReadError → Option Y → Type 0
 Fails Memory read = Unit {0}
 Fails NoPayload read = read ≡ None
@@ -39,13 +39,13 @@ abbrev pub ◌⊗◌ : {A B : Type 0} → (List ℕ → Option (A × List ℕ)) 
   y ← second x.1
   Some ((x.0, y.0), y.1)
 
--- a field whose value passes
+-- a field whose value passes a test
 abbrev pub only : {A : Type 0} → (A → Bool) → (List ℕ → Option (A × List ℕ)) → List ℕ → Option (A × List ℕ)
 only passes field bytes = do
   x ← field bytes
   if passes x.0 then Some x else None
 
--- what is made of a field
+-- a field, with a function applied to its value
 abbrev pub made : {A B : Type 0} → (A → B) → (List ℕ → Option (A × List ℕ)) → List ℕ → Option (B × List ℕ)
 made make field bytes = do
   x ← field bytes
@@ -78,11 +78,11 @@ fate_at bytes = do
   fate ← fate_of b.0
   Some (fate, b.1)
 
--- so many bytes
+-- `n` bytes
 unfoldable pub taken : ℕ → List ℕ → Option (List ℕ × List ℕ)
 taken n bytes = if nat_lt (length bytes) n then None else Some (take n bytes, drop n bytes)
 
--- a text behind its length
+-- the length of a text, then the text
 unfoldable pub text_at : List ℕ → Option (List ℕ × List ℕ)
 text_at bytes = do
   n ← only (λ n. nat_le n MAX_DATA) (number_at w32) bytes
@@ -91,7 +91,7 @@ text_at bytes = do
 abbrev pub state_of : ℕ × List ℕ → WindowState
 state_of x = record { window = x.0; text = x.1 }
 
--- a flag, and where it is 1 the window and its state
+-- a flag, and if it is 1 the window and its state
 unfoldable pub flagged_at : List ℕ → Option (Option WindowState × List ℕ)
 flagged_at bytes = do
   flag ← byte_at bytes
@@ -153,7 +153,7 @@ said_at kind bytes =
     if kind == 6 then window_tried_at bytes else (
     if kind == 7 then replayed_at bytes else None))))))
 
--- what all of the bytes say, where they are a payload
+-- what all of the bytes say, if they are a payload
 unfoldable pub said_of : List ℕ → Option Said
 said_of bytes = do
   kind ← byte_at bytes

@@ -27,20 +27,20 @@ fate_byte Filtered = 2
 fate_byte Expired = 3
 fate_byte Exhausted = 4
 
--- a text behind its length
+-- the length of a text, then the text
 abbrev pub text_bytes : List ℕ → List ℕ
 text_bytes text = four (length text) ++ text
 
--- a flag, and where it is 1 the window and its state
+-- a flag, and if it is 1 the window and its state
 abbrev pub flagged_bytes : Option WindowState → List ℕ
 flagged_bytes None = 0 ∷ []
 flagged_bytes (Some state) = 1 ∷ (eight state.window ++ text_bytes state.text)
 
--- the length of a text has one byte
+-- the length of a text fits in one byte
 abbrev pub is_short : List ℕ → Bool
 is_short text = nat_lt (length text) 256
 
--- a place, and the text that is kept of it behind its length in one byte
+-- a place, then the length, in one byte, of the text that is kept of it, and the text
 abbrev pub name_bytes : ℕ → List ℕ → List ℕ
 name_bytes place text = four place ++ length text ∷ text
 
@@ -53,7 +53,7 @@ names_bytes (place ∷ places) (text ∷ texts) = name_bytes place text ++ names
 unfoldable pub named_bytes : List ℕ → List (List ℕ) → List ℕ
 named_bytes places texts = four (length places) ++ names_bytes places texts
 
--- the payload: a byte that tells the kind, and then its fields
+-- the payload: a byte for the kind, and then its fields
 abbrev pub payload_of : Said → List ℕ
 payload_of (Fates shard fate moment state places texts) =
     1 ∷ (eight shard ++ (fate_byte fate ∷ (eight moment ++ (flagged_bytes state ++ named_bytes places texts))))
@@ -80,7 +80,7 @@ rises ns = rises_from 0 ns
 abbrev pub is_message_id : List ℕ → Bool
 is_message_id text = is_word is_name_byte 1 100 text
 
--- a place has four bytes
+-- a place fits in four bytes
 abbrev pub is_place : ℕ → Bool
 is_place place = nat_lt place (2 ^ 32)
 
@@ -106,7 +106,7 @@ IsTries tries = is_between 1 MAX_TRIES tries ≡ true
 abbrev pub IsState : WindowState → Type 0
 IsState state = IsMoment state.window × (length state.text ≤ MAX_DATA)
 
--- records that succeeded alone have a state
+-- only records that succeeded may have a state
 abbrev pub may_keep : Fate → Option WindowState → Bool
 may_keep Succeeded state = true
 may_keep _ None = true
@@ -117,7 +117,7 @@ abbrev pub is_deletion : Fate → Bool
 is_deletion Expired = false
 is_deletion _ = true
 
--- a payload may say so
+-- a payload may say this
 abbrev pub IsSaid : Said → Type 0
 IsSaid (Fates shard fate moment state places texts) =
     IsShard shard × IsMoment moment × IfSome state IsState × (may_keep fate state ≡ true) × AreNamed is_sequence places texts

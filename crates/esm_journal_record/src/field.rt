@@ -1,4 +1,4 @@
-// The fields of a payload, read from the front of bytes.
+// Reads the fields of a payload from the front of its bytes.
 ghost use Rattle.std.specs.Prelude.{◌≡◌};
 ghost use Rattle.std.specs.Int.{w32, w64};
 ghost use Rattle.esm_journal_record.specs.declared.field.ReadError.TheVariants.{Memory};
@@ -87,7 +87,7 @@ pub(crate) fn read_shard(bytes: &[u8]) -> Result<(u64, &[u8]), ReadError>
     Ok((shard, rest))
 }
 
-/// A moment, or the start of a window.
+/// Reads a moment, or the start of a window, in milliseconds.
 #[tactic(auto, unfolding(crate::specs::Parsing::moment_at))]
 pub(crate) fn read_moment(bytes: &[u8]) -> Result<(u64, &[u8]), ReadError>
     ensures { Gives (λ x. (x.0, x.1.now)) result (moment_at bytes.now) }
@@ -133,7 +133,7 @@ pub(crate) fn read_fate(bytes: &[u8]) -> Result<(Fate, &[u8]), ReadError>
     }
 }
 
-/// So many bytes, and those behind them.
+/// The first `count` bytes, and those after them.
 #[tactic(auto, unfolding(crate::specs::Parsing::taken))]
 pub(crate) fn take(count: usize, bytes: &[u8]) -> Result<(&[u8], &[u8]), ReadError>
     ensures { Gives (λ x. (x.0.now, x.1.now)) result (taken count bytes.now) }
@@ -144,7 +144,7 @@ pub(crate) fn take(count: usize, bytes: &[u8]) -> Result<(&[u8], &[u8]), ReadErr
     Ok(bytes.split_at(count))
 }
 
-/// The text of a state behind its length.
+/// Reads the length of a state's text, and the text.
 #[tactic(auto, unfolding(crate::specs::Parsing::text_at))]
 pub(crate) fn read_text(alloc: Global, bytes: &[u8]) -> Result<(Bytes, &[u8]), ReadError>
     ensures { Gives (λ x. (x.0, x.1.now)) result (text_at bytes.now) }
@@ -158,7 +158,7 @@ pub(crate) fn read_text(alloc: Global, bytes: &[u8]) -> Result<(Bytes, &[u8]), R
     Ok((Bytes::from_vec(text), rest))
 }
 
-/// A flag, and where it is 1 a window and its state.
+/// Reads a flag and, if it is 1, a window and its state.
 #[tactic(auto, unfolding(crate::specs::Parsing::flagged_at))]
 pub(crate) fn read_flagged(
     alloc: Global,

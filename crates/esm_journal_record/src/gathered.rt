@@ -1,4 +1,4 @@
-// Texts that are put one behind the other into one text, which they then share.
+// Gathers texts, one after the other, in one text, which they then share.
 ghost use Rattle.std.specs.Prelude.{◌≡◌, ◌++◌, [], ◌∷◌, IsUtf8, IfOk};
 ghost use Rattle.esm_journal_record.specs.Gathered.{parts_in, AreTextsIn};
 
@@ -25,7 +25,7 @@ impl Model for GatheredTexts {
     ghost invariant = { λ g. AreTextsIn g.text.items g.parts.items };
 }
 
-/// The texts that are these parts of the bytes, which they share.
+/// The texts that are these parts of `text`, which they share.
 fn texts_within(
     alloc: Global,
     text: &SharedBytes,
@@ -43,7 +43,7 @@ fn texts_within(
 }
 
 impl GatheredTexts {
-    /// No text. There is room for so many, of so many bytes in all.
+    /// No text yet, with capacity for `texts` of them, of `bytes` bytes in all.
     pub fn new(alloc: Global, texts: usize, bytes: usize) -> Result<GatheredTexts, OutOfMemory>
         ensures { IfOk result (λ g. g ≡ []) }
     {
@@ -53,7 +53,7 @@ impl GatheredTexts {
         })
     }
 
-    /// These texts and one more, in UTF-8; `OutOfMemory` also where they would have 2^32 bytes in all.
+    /// Adds one more text, in UTF-8. Returns `OutOfMemory` also if all of them would have 2^32 bytes or more.
     pub fn with(self, bytes: &[u8]) -> Result<GatheredTexts, OutOfMemory>
         requires { IsUtf8 bytes.now }
         ensures { IfOk result (λ g. g ≡ self ++ bytes.now ∷ []) }
@@ -67,18 +67,20 @@ impl GatheredTexts {
         Ok(GatheredTexts { text, parts })
     }
 
-    /// These texts and the record's sequence number.
+    /// Adds the record's sequence number. Returns `OutOfMemory` as `with` does.
     pub fn with_sequence(self, item: &Record) -> Result<GatheredTexts, OutOfMemory>
         ensures { IfOk result (λ g. g ≡ self ++ item.now.seq ∷ []) }
     {
         self.with(item.seq())
     }
 
-    /// The texts, which share their bytes.
+    /// The texts, which share their bytes. Room that was reserved and not used is given back. `OutOfMemory` if an allocation
+    /// failed.
     pub fn into_texts(self, alloc: Global) -> Result<KeptTexts, OutOfMemory>
         ensures { IfOk result (λ texts. texts ≡ self) }
     {
-        let GatheredTexts { text, parts } = self;
+        let GatheredTexts { mut text, parts } = self;
+        text.shrink_to_fit();
         let text = SharedBytes::from_vec(alloc, text)?;
         let texts = texts_within(alloc, &text, parts)?;
         Ok(KeptTexts::from_vec(texts))

@@ -15,7 +15,7 @@ ghost use Rattle.esm_journal_record.specs.declared.said.Said.TheVariants.{Fates}
 ghost use Rattle.esm_journal_record.specs.Payload.{payload_of, IsSaid};
 ghost use Rattle.esm_journal_record.specs.Parsing.{said_of};
 
-/// What may be said is read again from its own payload.
+/// What may be said is read back from its own payload.
 pub fn read_again()
     ensures { (said : Said) → IsSaid said → said_of (payload_of said) ≡ Some said }
 {}
@@ -50,23 +50,23 @@ pub fn first_message_deleted()
         ≡ Some (3 ∷ 1 ∷ 0 ∷ 0 ∷ 0 ∷ 0 ∷ 0 ∷ 0 ∷ 0 ∷ 0 ∷ 0 ∷ 0 ∷ 0 ∷ 1 ∷ 0 ∷ 0 ∷ 0 ∷ 0 ∷ 1 ∷ 109 ∷ []) }
 {}
 
-/// The payload of an entry stays when the lists of records go on, where the places that it names stand in them.
+/// The payload of an entry stays when the lists of records grow, if they have the places that it names.
 pub fn payload_stays()
     ensures { (s : Setting) (after : List Stream) (e : Entry) → Extends s.streams after → NamesStand s e → entry_payload (over s after) e ≡ entry_payload s e }
 {}
 
-/// The payloads of a legal history stay when the lists of records go on.
+/// The payloads of a legal history stay when the lists of records grow.
 pub fn history_payloads_stay()
     ensures { (s : Setting) (after : List Stream) (h : List Entry) → Extends s.streams after → Legal s h
         → history_payloads (over s after) h ≡ history_payloads s h }
 {}
 
-/// What a history of threads tells of the journal is what its entries do.
+/// The payloads of a history as threads pass it are those of its entries.
 pub fn payloads_are_told()
     ensures { (setup : Setup) (history : List Told) → history_payloads (setting_told setup history) (entries_told history) ≡ payloads_told setup history }
 {}
 
-/// When such a history goes on, its payloads stay, and those of the entries that follow come behind them.
+/// When such a history is legal and grows, its payloads stay, and those of the new entries follow them.
 pub fn payloads_go_on()
     ensures { (setup : Setup) (history more : List Told) → IsLegal (stream_may_follow setup) history →
         payloads_told setup (history ++ more)

@@ -1,4 +1,4 @@
-// Places with the texts that a payload keeps of them.
+// Reads places with the texts that a payload keeps of them.
 ghost use Rattle.std.specs.Prelude.{◌≡◌, IfOk, IsUtf8};
 ghost use Rattle.esm_journal_record.specs.Payload.{rises};
 ghost use Rattle.esm_journal_record.specs.Words.{test_of};
@@ -21,7 +21,7 @@ pub(crate) struct Named {
     pub texts: KeptTexts,
 }
 
-/// A place, its text and the bytes behind them.
+/// Reads a place and its text; also returns the bytes after them.
 #[tactic(auto, unfolding(crate::specs::Parsing::name_at))]
 fn read_name(word: Word, bytes: &[u8]) -> Result<((u32, &[u8]), &[u8]), ReadError>
     ensures read { Gives (λ x. ((x.0.0, x.0.1.now), x.1.now)) result (name_at (test_of word) bytes.now) }
@@ -36,7 +36,7 @@ fn read_name(word: Word, bytes: &[u8]) -> Result<((u32, &[u8]), &[u8]), ReadErro
     Ok(((place, text), rest))
 }
 
-/// So many places, each with its text. There is room for no more than the bytes can have.
+/// Reads `count` places, each with its text. Takes memory for no more than the bytes can have.
 fn read_names(
     alloc: Global,
     word: Word,
@@ -73,7 +73,7 @@ fn rises(places: &[u32]) -> bool
     true
 }
 
-/// At least one place, in rising order, with their texts.
+/// Reads at least one place, in rising order, each with its text.
 #[tactic(auto, unfolding(crate::specs::Parsing::named_at))]
 pub(crate) fn read_named(
     alloc: Global,

@@ -1,4 +1,4 @@
-// A payload of records, written name by name: what stands in front of the names, and then each of them.
+// Writes a payload of records name by name: what precedes the names, and then each of them.
 ghost use Rattle.std.specs.Prelude.{◌≡◌, ◌++◌, ℕ, List, length, IfOk, IfSome, OnOk};
 ghost use Rattle.esm_journal_record.specs.declared.said.Said.TheVariants as said;
 ghost use Rattle.esm_journal_record.specs.Payload.{payload_of, IsSaid, IsState, name_bytes, names_bytes};
@@ -8,13 +8,13 @@ use crate::writing::{push_fates_front, push_name, push_replays, push_tried_front
 use esm_model::{Fate, OutOfMemory, Record, WindowState};
 use std::alloc::Global;
 
-/// The bytes that the fields in front of the names take, but for a state.
+/// Room for the fields in front of the names, in bytes, without a state.
 const FRONT_ROOM: usize = 32;
 
-/// The bytes that a place with a sequence number of Kinesis takes.
+/// Room for a place with a sequence number of Kinesis, in bytes.
 const NAME_ROOM: usize = 64;
 
-/// A payload of fates is begun: it wants the names of so many records behind it, one `push_sequence` for each.
+/// Begins a payload of fates. The names of `count` records have to follow, one `push_sequence` for each.
 pub fn begin_fates(
     alloc: Global,
     shard: u64,
@@ -33,7 +33,7 @@ pub fn begin_fates(
     Ok(out)
 }
 
-/// A payload of failed tries is begun: it wants the names of so many records behind it, one `push_sequence` for each.
+/// Begins a payload of failed tries. The names of `count` records have to follow, one `push_sequence` for each.
 pub fn begin_tried(
     alloc: Global,
     shard: u64,
@@ -50,7 +50,7 @@ pub fn begin_tried(
     Ok(out)
 }
 
-/// The payload that says of the records at the places, with these sequence numbers, that they are replayed.
+/// The payload that says that the records at the places, with these sequence numbers, were replayed.
 pub fn replayed_bytes(
     alloc: Global,
     shard: u64,
@@ -67,7 +67,7 @@ pub fn replayed_bytes(
     Ok(out)
 }
 
-/// The place of the next record, and its sequence number.
+/// Appends the place of the next record and its sequence number.
 pub fn push_sequence(out: &mut Vec<u8>, place: u32, item: &Record) -> Result<(), OutOfMemory>
     ensures { OnOk result (out.new.items ≡ out.old.items ++ name_bytes place item.now.seq) }
 {

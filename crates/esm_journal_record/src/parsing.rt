@@ -1,4 +1,4 @@
-// A payload, read.
+// Reads a payload.
 ghost use Rattle.std.specs.Prelude.{◌≡◌, ◌≢◌, IfOk, IfSome, IfNone};
 ghost use Rattle.esm_journal_record.specs.Payload.{payload_of, IsSaid, may_keep, is_deletion};
 ghost use Rattle.esm_journal_record.specs.Parsing.{Gives, said_of, said_at, fates_at, closed_at, deleted_at, state_at, tried_at, window_tried_at, replayed_at};
@@ -184,8 +184,7 @@ fn read_whole(alloc: Global, bytes: &[u8]) -> Result<Said, ReadError>
     Ok(said)
 }
 
-/// What the payload says; `None` exactly where the bytes are no payload of a mapping's journal.
-/// Linear in the bytes.
+/// What the payload says; `None` if and only if the bytes are no payload of a mapping's journal. Linear in the bytes.
 pub fn read_said(alloc: Global, bytes: &[u8]) -> Result<Option<Said>, OutOfMemory>
     ensures found { IfOk result (λ o. IfSome o (λ s. IsSaid s × (bytes.now ≡ payload_of s))) }
     ensures only { (s : Said) → IsSaid s → bytes.now ≡ payload_of s → IfOk result (λ o. o ≡ Some s) }

@@ -7,7 +7,7 @@ use esm_model::{Fate, Places, WindowState};
 /// number is kept, of each message its id.
 #[derive(Drop, Debug)]
 pub enum Said {
-    /// Records of a shard got this fate; where they succeeded in a tumbling window, with its new state.
+    /// Records of a shard got this fate. If they succeeded in a tumbling window, `state` is its new state.
     Fates {
         shard: u64,
         fate: Fate,
@@ -29,13 +29,13 @@ pub enum Said {
         places: Places,
         texts: KeptTexts,
     },
-    /// A tumbling window has this state.
+    /// A tumbling window has this state. Only a compaction writes this kind.
     State {
         shard: u64,
         moment: u64,
         state: WindowState,
     },
-    /// Records have failed so often.
+    /// Records have failed `tries` times.
     Tried {
         shard: u64,
         moment: u64,
@@ -43,14 +43,14 @@ pub enum Said {
         places: Places,
         texts: KeptTexts,
     },
-    /// The final call of a tumbling window has failed so often.
+    /// The final call of a tumbling window has failed `tries` times.
     WindowTried {
         shard: u64,
         window: u64,
         moment: u64,
         tries: u32,
     },
-    /// Records that had failed for good were called again by a replay.
+    /// Records that had failed for good were replayed: called again, and counted as succeeded.
     Replayed {
         shard: u64,
         moment: u64,

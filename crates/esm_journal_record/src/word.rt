@@ -6,7 +6,7 @@ ghost use Rattle.esm_journal_record.specs.Words.{test_of};
 
 use esm_model::spelling::{are_name_bytes, is_sequence};
 
-/// What a text that is kept of a place has to be.
+/// The kind of text that is kept of a place.
 #[derive(Clone, Copy, Debug)]
 pub(crate) enum Word {
     Sequence,

@@ -1,4 +1,4 @@
-// A payload, written.
+// Writes a payload.
 ghost use Rattle.std.specs.Prelude.{◌≡◌, ◌<◌, ◌^◌, ◌++◌, ◌∷◌, [], true, length, Some, IfOk, IfSome, OnOk};
 ghost use Rattle.std.specs.List.{list_all};
 ghost use Rattle.esm_journal_record.specs.declared.said.Said.TheVariants as said;
@@ -10,7 +10,7 @@ use crate::said::Said;
 use esm_model::{Bytes, Fate, OutOfMemory, Places, WindowState};
 use std::alloc::Global;
 
-/// The payload that says so. Linear in its length.
+/// The bytes of the payload that says this. Linear in their number.
 pub fn said_bytes(alloc: Global, said: &Said) -> Result<Vec<u8>, OutOfMemory>
     requires { IsSaid said.now }
     ensures { IfOk result (λ bytes. bytes.items ≡ payload_of said.now) }
@@ -50,7 +50,7 @@ fn push_bytes(out: &mut Vec<u8>, bytes: &[u8]) -> Result<(), OutOfMemory>
     Ok(())
 }
 
-/// The byte that tells a fate in a payload: 1 for `Succeeded`, 2 for `Filtered`, 3 for `Expired`, 4 for `Exhausted`.
+/// The byte for a fate in a payload: 1 for `Succeeded`, 2 for `Filtered`, 3 for `Expired`, 4 for `Exhausted`.
 pub fn fate_byte(fate: Fate) -> u8
     ensures { result ≡ fate_byte fate }
 {
@@ -133,7 +133,7 @@ fn push_kind(out: &mut Vec<u8>, kind: u8, shard: u64) -> Result<(), OutOfMemory>
     Ok(())
 }
 
-/// What stands in front of the names of a payload of fates, of which so many follow.
+/// Appends what precedes the names of a payload of fates; `count` names follow.
 pub(crate) fn push_fates_front(
     out: &mut Vec<u8>,
     shard: u64,
@@ -213,7 +213,7 @@ fn push_state(
     Ok(())
 }
 
-/// What stands in front of the names of a payload of tries, of which so many follow.
+/// Appends what precedes the names of a payload of tries; `count` names follow.
 pub(crate) fn push_tried_front(
     out: &mut Vec<u8>,
     shard: u64,
@@ -276,7 +276,7 @@ fn push_replayed(
     push_replays(out, shard, moment, places.as_slice(), texts.as_slice())
 }
 
-/// A payload of replays: the places and, in the same order, the sequence number of each.
+/// Appends a payload of replays: the places and, in the same order, the sequence number of each.
 #[tactic(auto, unfolding(crate::specs::Payload::named_bytes))]
 pub(crate) fn push_replays(
     out: &mut Vec<u8>,

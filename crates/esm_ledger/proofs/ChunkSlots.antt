@@ -1,6 +1,7 @@
 -- The slots of chunks: what one place changes, and where a place stands.
 use Rattle.std.proofs.Common.{◌≡◌, ℕ, zero, suc, ◌+◌, ◌-◌, ◌*◌, ◌/◌, ◌%◌, ◌<◌, ◌≤◌, true, false, List, [], ◌∷◌, ◌++◌, length, set, drop, replicate, get_or, refl, sym, ap, ◌∙◌, subst, Option, Some, None, is_some, arith, append_assoc, length-append, append-nil}
-use Rattle.std.specs.Prelude.{cond}
+use Rattle.std.specs.Prelude.{cond, Vec, vec_capacity}
+use Rattle.std.specs.declared.alloc.Global.{Global}
 use Rattle.std.specs.List.{All, count_by}
 use Rattle.std.proofs.lemmas.List.{length-replicate, length-set, replicate-append-replicate, set-get_or, set-append_left, set-append_right, get_or_append_left, get_or-append_right}
 use Rattle.std.proofs.lemmas.List.Sums.{sum_by-cons}
@@ -46,18 +47,24 @@ none_left (Some r ∷ slots) none = absurd (omega (arith, none, count_full r slo
 
 -- a chunk of slots that came
 
-pub chunk_none : (held : ℕ) → held ≡ 0 → IsChunk [] held
+pub chunk_none : (slots : Vec (Option Record) Global) (held : ℕ) → held ≡ 0 → slots.items ≡ [] → vec_capacity slots ≡ 0 → IsChunk slots held
 unfolding none_held
-chunk_none held none = record { whole = refl; count = none; gone = λ e. refl }
+chunk_none slots held none empty freed = record {
+  whole = ap (λ xs. length (chunk_of xs)) empty;
+  count = none ∙ sym (ap (λ xs. count_by is_some xs) empty);
+  gone = λ e. empty;
+  freed = λ e. freed;
+}
 
 pub none_came : (slots : List (Option Record)) → length slots ≡ 16 → count_by is_some slots ≡ 0 → none_held ≡ slots
 unfolding none_held
 none_came slots len none = ap (λ n. replicate n nothing) (sym len) ∙ sym (none_left slots none)
 
 -- the last record of a chunk is let go
-pub chunk_gone : (slots : List (Option Record)) (held at : ℕ) → IsChunk slots held → is_some (get_or slots at None) ≡ true → held - 1 ≡ 0 → none_held ≡ set (chunk_of slots) at None
+pub chunk_gone : (v : Vec (Option Record) Global) (held at : ℕ) → IsChunk v held → is_some (get_or v.items at None) ≡ true → held - 1 ≡ 0 → none_held ≡ set (chunk_of v.items) at None
 unfolding none_held
-chunk_gone slots held at is some none =
+chunk_gone v held at is some none =
+    let slots = v.items in
     let less = fewer slots at some in
     let count = is.count in
     let left : count_by is_some (set slots at None) ≡ 0 = omega (arith, less, count, none) in

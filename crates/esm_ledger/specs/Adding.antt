@@ -1,4 +1,4 @@
--- What a change of one shard makes of a ledger. Only this crate's proofs cite this.
+-- What a change of one shard does to a ledger. Only this crate's proofs cite this.
 use Rattle.std.specs.Prelude.{◌≡◌, ◌≢◌, ℕ, false, List, map, length, None, vec_len, vec_capacity}
 use Rattle.esm_model.specs.Lane.{same_lane}
 use Rattle.esm_model.specs.declared.lane.LaneId.{LaneId}
@@ -9,7 +9,7 @@ use Rattle.esm_ledger.specs.declared.shard.ShardLedger.{ShardLedger}
 use Rattle.esm_ledger.specs.Shard.{IsShard, SameSplits, lane_id}
 use Rattle.esm_ledger.specs.Ledger.{setting_of, stream_of, IsAt}
 
--- the same shards with the same records, each related so to what it was
+-- the same shards with the same records, each in this relation to what it was
 pub record IsChanged (c d : Ledger) (P : ShardLedger → ShardLedger → Type 0) : Type 0 where
   pub names : map (λ (x : ShardLedger). x.shard) d.shards.items ≡ map (λ (x : ShardLedger). x.shard) c.shards.items
   pub streams : map stream_of d.shards.items ≡ map stream_of c.shards.items
@@ -25,7 +25,7 @@ pub record KeepsOthers (c d : Ledger) (n : ℕ) : Type 0 where
   pub len : vec_len d.shards ≡ vec_len c.shards
   pub capacity : vec_capacity d.shards ≡ vec_capacity c.shards
 
--- each window keeps its place for a state
+-- each window keeps its entry for a state
 abbrev pub KeepsStates : ShardLedger → ShardLedger → Type 0
 KeepsStates x y = y.windows.states ≡ x.windows.states
 
@@ -38,12 +38,12 @@ pub record KeepsClosings (x y : ShardLedger) : Type 0 where
 abbrev pub KeepsSplits : ShardLedger → ShardLedger → Type 0
 KeepsSplits x y = SameSplits x.lanes y.lanes
 
--- no other lane changes, and each window keeps its place for a state
+-- no other lane changes, and each window keeps its entry for a state
 pub record EndsAt (lane : LaneId) (x y : ShardLedger) : Type 0 where
   pub others : (k : ℕ) → same_lane lane (lane_id y.shard k) ≡ false → lane_in y.lanes k ≡ lane_in x.lanes k
   pub states : y.windows.states ≡ x.windows.states
 
--- no other lane changes, and this one rests
+-- no other lane changes, and no call of this one runs
 pub record RestsAt (lane : LaneId) (x y : ShardLedger) : Type 0 where
   pub others : (k : ℕ) → same_lane lane (lane_id y.shard k) ≡ false → lane_in y.lanes k ≡ lane_in x.lanes k
   pub rests : y.shard ≡ lane.shard → (lane_in y.lanes lane.lane).state.running ≡ None

@@ -20,11 +20,11 @@ use Rattle.esm_ledger.specs.declared.arriving.Landing.{Landing}
 use Rattle.esm_ledger.specs.declared.shard.ShardLedger.{ShardLedger}
 use Rattle.esm_ledger.specs.Shard.{lane_id, measure_at}
 
--- where a record comes to, if it comes to a lane
+-- where a record goes, if it goes to a lane
 abbrev pub landing_at : List (Option Landing) → ℕ → Option Landing
 landing_at landings k = slice_index_or landings k None
 
--- the record comes to the lane
+-- the record goes to the lane
 abbrev pub lands_in : ℕ → Option Landing → Bool
 lands_in k None = false
 lands_in k (Some l) = l.lane == k
@@ -33,7 +33,7 @@ lands_in k (Some l) = l.lane == k
 abbrev pub tries_found : Setting → ℕ → ℕ → Option ℕ
 tries_found s n i = option_map (λ (f : FoundTries). capped_tries f.tries) (found_try s n i)
 
--- the record at the place comes to its lane with its found tries, where it has no found fate and passes the filter
+-- the record at the place goes to its lane with its found tries, if it has no found fate and passes the filter
 pub record IsLanding (s : Setting) (n i : ℕ) (l : Option Landing) : Type 0 where
   pub lanes : (k : ℕ) → k < s.config.factor → lands_in k l ≡ arrives s (lane_id n k) i
   pub tries : IfSome l (λ (x : Landing). x.tries ≡ tries_found s n i)
@@ -48,18 +48,18 @@ pub record AreArriving (s : Setting) (n first : ℕ) (a : Arriving) : Type 0 whe
   pub windows : a.windows.items ≡ open_windows s n first (length a.records.items)
   pub last : a.last ≡ window_before s n (first + length a.records.items)
 
--- the lists are as long as they have to be
+-- the lists have the lengths that they need
 pub record IsEven (a : Arriving) : Type 0 where
   pub measures : length a.measures.items ≡ length a.records.items
   pub fates : length a.fates.items ≡ length a.records.items
   pub landings : length a.landings.items ≡ length a.records.items
   pub windows : length a.windows.items ≤ length a.records.items
 
--- how many of the records come to the lane
+-- how many of the records go to the lane
 abbrev pub landing_count : ℕ → List (Option Landing) → ℕ
 landing_count k landings = length (filter (lands_in k) landings)
 
--- each record comes to a lane that there is, with tries within the bounds
+-- a record goes to a lane that exists, with tries within the bounds, or to none
 abbrev pub IsWithin : ℕ → Option Landing → Type 0
 IsWithin lanes l = IfSome l (λ (x : Landing). (x.lane < lanes) × IfSome x.tries (λ t. (1 ≤ t) × (t ≤ MAX_TRIES)))
 
@@ -73,7 +73,7 @@ abbrev pub landed : ℕ → ℕ → List (Option Landing) → LaneView → LaneV
 landed k first [] v = v
 landed k first (l ∷ landings) v = landed k (suc first) landings (land_in k first l v)
 
--- the records find the memory that they need
+-- there is memory for the records
 pub record HasRoomFor (c : ShardLedger) (a : Arriving) : Type 0 where
   pub records : length a.records.items ≤ c.records.room
   pub measures : vec_len c.measures + vec_len a.measures ≤ vec_capacity c.measures
@@ -83,7 +83,7 @@ pub record HasRoomFor (c : ShardLedger) (a : Arriving) : Type 0 where
   pub windows : (w : ℕ) → holds a.windows.items w ≡ true → has_entry c.windows.opened w ≡ true
   pub lanes : (k : ℕ) → k < length c.lanes.lanes → landing_count k a.landings.items ≤ (lane_in c.lanes k).kept.adds
 
--- their number fits 32 bits
+-- the numbers fit 32 bits with these records
 pub record FitsNumbers (c : ShardLedger) (a : Arriving) : Type 0 where
   pub fates : length c.progress.fated + length a.fates.items < 4294967296
   pub came : c.arrivals.came + length a.records.items < 4294967296

@@ -26,7 +26,7 @@ with_list (t ∷ ts) n records = if t.shard == n then record { shard = t.shard; 
 abbrev pub grown : Setting → ℕ → List Record → Setting
 grown s n records = over s (with_list s.streams n records)
 
--- what is to be kept of a shard that comes for the first time, as a list
+-- the new tables of a shard that comes for the first time, as a list
 abbrev pub listed : Option ShardLedger → List ShardLedger
 listed None = []
 listed (Some y) = y ∷ []
@@ -53,8 +53,8 @@ pub record Takes (xs ys : List ShardLedger) (n m : ℕ) (a : Arriving) : Type 0 
   pub tries : now.windows.tries ≡ was.windows.tries
   pub goes : (s : Setting) (h : List Entry) → HasFoundTries s was.shard → Legal s (Came was.shard (came_count h was.shard) (length a.records.items) m ∷ h) → AreArriving s was.shard (came_count h was.shard) a → IsShard s h was → IsShard s (Came was.shard (came_count h was.shard) (length a.records.items) m ∷ h) now
 
--- the records of a shard, with all that is kept of them, find their memory; where the shard did not come before, what
--- is to be kept of it is there
+-- there is memory for the records of a shard with all that is kept of them; if the shard did not come before, its new tables
+-- are there
 pub record IsComing (c : Ledger) (x : Coming) : Type 0 where
   pub some : 1 ≤ length x.arriving.records.items
   pub shard : All (λ (r : Record). r.shard ≡ x.shard) x.arriving.records.items
@@ -66,7 +66,7 @@ pub record IsComing (c : Ledger) (x : Coming) : Type 0 where
   pub named : is_some x.fresh ≡ not (holds (shards_that_came (past_of c)) x.shard)
   pub fresh : (y : ShardLedger) → x.fresh ≡ Some y → (y.shard ≡ x.shard) × IsShard (setting_of c) (past_of c) y × HasRoomFor y x.arriving
 
--- of each record from the place on whether it passes the filter; of one with a found fate this may say either
+-- whether each record from the place on passes the filter; of one with a found fate this may say either
 pub record TellsPassing (s : Setting) (n first : ℕ) (rs : List Record) (passing : List Bool) : Type 0 where
   pub all : length passing ≡ length rs
   pub each : (k : ℕ) (r : Record) → slice_get rs k ≡ Some r → found_fate s n (first + k) ≡ None → slice_index_or passing k false ≡ not (is_refused s r)

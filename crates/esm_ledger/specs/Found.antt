@@ -8,14 +8,14 @@ use Rattle.esm_model.specs.Ruling.{capped_tries}
 use Rattle.esm_journal_state.specs.SaidLists.{SaidLists, state_told, window_tries_told}
 use Rattle.esm_shard_index.specs.Windows.{WindowTable, open_in, state_in, tries_in}
 
--- no record came, and each window of the shard has what the lists tell of it
+-- no record came, and each window of the shard is as the lists have it
 pub record HasFoundWindows (t : SaidLists) (n : ℕ) (windows : WindowTable) : Type 0 where
   pub opened : (w : ℕ) → open_in windows w ≡ 0
   pub states : (w : ℕ) → state_in windows w ≡ option_map (λ (f : FoundState). f.text) (state_told t n w)
   pub tries : (w : ℕ) → tries_in windows w ≡ capped_tries (unwrap_or (option_map (λ (f : FoundWindowTries). f.tries) (window_tries_told t n w)) 0)
   pub last : windows.last ≡ 0
 
--- the setting is of this configuration, and was opened with what the lists tell of records
+-- the setting is of this configuration, and was opened with what the lists have of records
 pub record TellsOf (s : Setting) (c : Config) (t : SaidLists) : Type 0 where
   pub config : s.config ≡ c
   pub fates : s.fates ≡ t.fates

@@ -2,7 +2,7 @@
 use Rattle.std.specs.Prelude.{ℕ, Bool, List}
 use Rattle.esm_model.specs.Records.{Record}
 
--- all that came, by place whether the record is held, and how many more find room
+-- all that came, by place whether the record is held, and for how many more there is room
 pub record Held : Type 0 where
   pub items : List Record
   pub held : List Bool

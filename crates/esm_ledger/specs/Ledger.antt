@@ -37,11 +37,11 @@ setting_of c = record {
   window_tries = c.found.window_tries;
 }
 
--- where no record came
+-- the setting at opening: no record came
 abbrev pub opened_with : Config → ℕ → SaidLists → Setting
 opened_with config calls found = record { config = config; calls = calls; streams = []; fates = found.fates; tries = found.tries; states = found.states; window_tries = found.window_tries }
 
--- the history is legal over all lists of records that go on from the setting's own
+-- the history is legal over all lists of records that extend the setting's own
 abbrev pub LegalOver : Setting → List Entry → Type 0
 LegalOver s h = (streams : List Stream) → Extends s.streams streams → Legal (over s streams) h
 
@@ -63,12 +63,12 @@ unended (e ∷ h) = unended_after (unended h) e
 abbrev pub spare_of : List Entry → ℕ
 spare_of h = unended h + (if is_shut h then 0 else 1)
 
--- room for so many more entries besides, and the history stays short
+-- room for `n` more entries besides, and the history stays short
 pub record HasRoom (c : Ledger) (n : ℕ) : Type 0 where
   pub room : vec_len c.history + spare_of (past_of c) + n ≤ vec_capacity c.history
   pub short : vec_len c.history + spare_of (past_of c) + n < MAX_ENTRIES
 
--- room for so many shards that come for the first time
+-- room for `n` shards that come for the first time
 abbrev pub HasShardRoom : Ledger → ℕ → Type 0
 HasShardRoom c n = vec_len c.shards + n ≤ vec_capacity c.shards
 
@@ -77,7 +77,7 @@ pub record MayEnd (x : ShardLedger) (lane : ℕ) : Type 0 where
   pub within : running_count (lane_in x.lanes lane).state.running ≤ front_length (lane_in x.lanes lane).kept.pieces
   pub few : (lane_in x.lanes lane).state.failures < 18446744073709551615
 
--- what holds of a ledger also where calls ended without a ruling
+-- what holds of a ledger even if calls ended without a ruling
 pub record Rests (c : Ledger) : Type 0 where
   pub legal : LegalOver (setting_of c) (past_of c)
   pub last : c.last ≡ last_moment (past_of c)

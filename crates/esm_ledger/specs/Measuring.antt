@@ -17,7 +17,7 @@ use Rattle.esm_ledger.specs.declared.arriving.Landing.{Landing}
 use Rattle.esm_ledger.specs.declared.measure.Measure.{Measure}
 use Rattle.esm_ledger.specs.Shard.{measure_at}
 
--- the window of a record after one of the window before
+-- the window of a record that follows one of the window `before`
 abbrev pub window_next : Config → ℕ → Record → ℕ
 window_next config before r = max before (window_floor config.tumbling_ms r.arrival)
 
@@ -50,7 +50,7 @@ fate_for t n i = option_map (λ (f : FoundFate). f.fate) (fate_told t n i)
 abbrev pub tries_for : SaidLists → ℕ → ℕ → Option ℕ
 tries_for t n i = option_map (λ (f : FoundTries). capped_tries f.tries) (tries_told t n i)
 
--- the record at the place comes to the lane of its key, where it passes the filter and has no found fate
+-- the record at the place goes to the lane of its key, if it passes the filter and has no found fate
 abbrev pub landing_for : ℕ → SaidLists → ℕ → ℕ → Record → Bool → Option Landing
 landing_for factor t n i r passes = if passes && is_none (fate_for t n i) then Some (record { lane = lane_of r.key factor; tries = tries_for t n i }) else None
 

@@ -12,7 +12,7 @@ pub record StaysAt (c d : Ledger) (n : ℕ) : Type 0 where
   pub states : (w : ℕ) → HasState c n w → HasState d n w
   pub closings : (k : ℕ) → IsClosingPrepared c (lane_id n k) → IsClosingPrepared d (lane_id n k)
 
--- what is prepared for any other shard stays, and for records that are to come to it
+-- what is prepared for any other shard, and for records that are to come to it, stays
 pub record StaysElsewhere (c d : Ledger) (n : ℕ) : Type 0 where
   pub shards : (m : ℕ) → m ≢ n → StaysAt c d m
   pub comings : (x : Coming) → x.shard ≢ n → IsComing c x → IsComing d x

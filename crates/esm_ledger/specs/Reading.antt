@@ -10,7 +10,7 @@ use Rattle.esm_model.specs.Checkpoint.{checkpoint, spread}
 use Rattle.esm_model.specs.Windows.{is_due}
 use Rattle.esm_model.specs.Owed.{debts, unsorted}
 
--- the lane that the batcher serves: shards are indexed in the order in which they came. None where its shard has not come
+-- the lane that the batcher serves: shards are indexed in the order in which they came. None if its shard has not come
 abbrev pub lane_of_batcher : Setting → List Entry → ℕ → Option LaneId
 lane_of_batcher s h k = option_map (λ (n : ℕ). record { shard = n; lane = k % s.config.factor }) (slice_get (shards_that_came h) (k / s.config.factor))
 
@@ -18,7 +18,7 @@ lane_of_batcher s h k = option_map (λ (n : ℕ). record { shard = n; lane = k %
 abbrev pub AreOpen : Setting → List Entry → ℕ → List ℕ → Type 0
 AreOpen s h n places = All (λ i. lacks_fate s h n i ≡ true) places
 
--- of a shard that came
+-- the checkpoint of a shard that came
 abbrev pub checkpoint_of : Setting → List Entry → ℕ → Option ℕ
 checkpoint_of s h n = if nat_lt 0 (came_count h n) then Some (checkpoint s h n) else None
 

@@ -22,7 +22,7 @@ use Rattle.esm_ledger.specs.declared.shard.ShardLedger.{ShardLedger}
 abbrev pub lane_id : ℕ → ℕ → LaneId
 lane_id n k = record { shard = n; lane = k }
 
--- of no record
+-- the measure of no record
 abbrev pub nothing : Measure
 nothing = record { length = 0; window = 0 }
 

@@ -20,7 +20,7 @@ pub record CallFits (c : ShardLedger) (lane : ℕ) (places : List ℕ) : Type 0 
   pub few : (i : ℕ) → holds places i ≡ true → calls_at c.callings i < 4294967295
   pub short : length places < 4294967296
 
--- the end of the lane's call may be added, where its splits and the tries of its window are prepared
+-- the end of the lane's call may be added, if its splits and the tries of its window are prepared
 pub record EndFits (c : ShardLedger) (lane : ℕ) : Type 0 where
   pub known : lane < length c.lanes.lanes
   pub within : running_count (lane_in c.lanes lane).state.running ≤ front_length (lane_in c.lanes lane).kept.pieces

@@ -1,4 +1,4 @@
-//! Adding an entry to a ledger: each takes no memory, within what is prepared.
+//! Adds entries to a ledger. Within what is prepared, none of these calls takes memory.
 ghost use Rattle.std.specs.Prelude.{◌≡◌, ◌≢◌, ℕ, Option, ◌+◌, ◌<◌, ◌∷◌, true, false, length, IfSome, Some, None};
 ghost use Rattle.esm_model.specs.Entries.{came_count};
 ghost use Rattle.esm_model.specs.Lane.{same_lane};
@@ -31,7 +31,7 @@ impl Ledger {
             (length coming.arriving.records.items) moment ∷ past_of self.old }
         ensures setting { setting_of self.new ≡ grown (setting_of self.old) coming.shard coming.arriving.records.items }
         ensures room { (n : ℕ) → HasRoom self.old (n + 1) → HasRoom self.new n }
-        // What is prepared for further entries stays; a shard that comes for the first time takes the room of one.
+        // What is prepared for further entries stays; a shard that comes for the first time uses the room of one.
         ensures shards { (n : ℕ) → HasShardRoom self.old (n + 1) → HasShardRoom self.new n }
         ensures shards_known { coming.fresh ≡ None → (n : ℕ) → HasShardRoom self.old n → HasShardRoom self.new n }
         ensures elsewhere { StaysElsewhere self.old self.new coming.shard }
@@ -57,8 +57,8 @@ impl Ledger {
         );
     }
 
-    /// A call of the lane begins: of these places, or a final call of the window `closing` with none. It takes the room
-    /// of two entries, one for its end.
+    /// A call of the lane begins: of these places, or a final call of the window `closing` with none. Uses the room of two
+    /// entries, one for its end.
     pub fn began(&mut self, lane: LaneId, places: Places, closing: Option<u64>, moment: u64)
         requires kept { Keeps self.old }
         requires room { HasRoom self.old 2 }
@@ -87,7 +87,7 @@ impl Ledger {
         );
     }
 
-    /// The call of the lane ends with this verdict, in the room that was kept for it.
+    /// The call of the lane ends with this verdict. Uses the room that is kept for its end.
     pub fn ended(
         &mut self,
         alloc: Global,
@@ -122,8 +122,8 @@ impl Ledger {
         );
     }
 
-    /// Records succeed, are filtered or are exhausted, and their window perhaps has a new state, of which `state` is a
-    /// copy.
+    /// Records succeed, are filtered or are exhausted. If their window gets a new state, `state` goes into the entry and
+    /// `copy`, a copy of it, into the table of windows.
     pub fn gave(
         &mut self,
         by: Option<LaneId>,
@@ -197,7 +197,7 @@ impl Ledger {
         );
     }
 
-    /// A failed try counts.
+    /// Adds a counted try: of the records at the places, or of the final call of the window `closing`.
     pub fn tried(
         &mut self,
         lane: LaneId,
@@ -252,7 +252,7 @@ impl Ledger {
         );
     }
 
-    /// The input ended, in the room that was kept for it.
+    /// The input ended. Uses the room that is kept for this entry.
     pub fn ended_input(&mut self, moment: u64)
         requires kept { Keeps self.old }
         requires legal { LegalOver (setting_of self.old) (Entry.Shut moment ∷ past_of self.old) }
@@ -268,7 +268,7 @@ impl Ledger {
     }
 }
 
-/// What a reply answers; `None` where it is lost or garbled.
+/// The answer of a reply; `None` if it was lost or garbled.
 fn response_of(reply: &Reply) -> Option<Response>
     ensures { result ≡ response_in reply.now }
 {

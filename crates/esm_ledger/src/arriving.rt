@@ -2,7 +2,7 @@
 use crate::measure::Measure;
 use esm_model::{Fate, Record};
 
-/// The lane that a record comes to, and the tries that were found of it at opening, 1 to 10,001, if there are any.
+/// The lane that a record goes to, and the tries that were found of it at opening, 1 to 10,001, if there are any.
 #[derive(Clone, Copy, Debug)]
 pub struct Landing {
     pub lane: u32,
@@ -16,7 +16,7 @@ pub struct Arriving {
     pub measures: Vec<Measure>,
     /// The fates that were found of them at opening.
     pub fates: Vec<Option<Fate>>,
-    /// Where they come to; `None` for a record that has a found fate or that the filter refuses.
+    /// Where they go; `None` for a record that has a found fate or that the filter refuses.
     pub landings: Vec<Option<Landing>>,
     /// The windows of those without a found fate, one for each, by their start in milliseconds.
     pub windows: Vec<u64>,

@@ -1,4 +1,4 @@
-//! What an entry changes of the shard that it is of, where the ledger has it.
+//! Applies an entry to the tables of its shard, if the ledger has that.
 ghost use Rattle.std.specs.Prelude.{◌≡◌, ◌≢◌, ℕ, List, Option, ◌<◌, ◌∷◌, length, IfSome, IfNone, Some, None, ◌+◌, ◌++◌, vec_len, vec_capacity};
 ghost use Rattle.esm_ledger.specs.Arriving.{IsEven};
 ghost use Rattle.esm_ledger.specs.Coming.{CanTake, Takes, listed};
@@ -139,7 +139,7 @@ impl Ledger {
         }
     }
 
-    /// The lane rests, whatever its call was answered.
+    /// Ends the lane's call in the tables without a ruling, whatever the answer was.
     pub(crate) fn lane_rests(&mut self, alloc: Global, lane: LaneId, moment: u64)
         requires rests { Rests self.old }
         requires known { lane.lane < self.old.config.factor }
@@ -163,7 +163,7 @@ impl Ledger {
 
 fn let_go(_arriving: Arriving) {}
 
-/// What is to be kept of a shard that comes for the first time stands behind the others.
+/// Appends the tables of a shard that comes for the first time, if it does, within the capacity.
 pub fn push_fresh(shards: &mut Vec<ShardLedger>, fresh: Option<ShardLedger>)
     requires { IfSome fresh (λ _. vec_len shards.old < vec_capacity shards.old) }
     ensures items { shards.new.items ≡ shards.old.items ++ listed fresh }

@@ -1,4 +1,4 @@
-// The slots of a chunk of places: of sixteen in a row that all came.
+// The slots of a chunk: sixteen places in a row that all came.
 ghost use Rattle.std.specs.Prelude.{◌≡◌, ◌<◌, length, None, true, false, is_some, option_copied, slice_set, slice_index_or, vec_len, vec_capacity};
 ghost use Rattle.std.specs.List.{count_by};
 ghost use Rattle.esm_ledger.specs.Chunks.{none_held};
@@ -6,8 +6,8 @@ ghost use Rattle.esm_ledger.specs.Chunks.{none_held};
 use esm_model::Record;
 use std::marker::Model;
 
-/// The number of places of a chunk: few, so that records that are held far apart take little memory besides their own, and
-/// enough that a chunk without one takes little for its places.
+/// The number of places of a chunk. Few, so that records that are held far apart keep little memory besides their own;
+/// enough that a chunk that holds none costs little for each of its places.
 pub const CHUNK_PLACES: usize = 16;
 
 /// The slots of a chunk's places, each with its record while that is held. Once no record is held the slots take no
@@ -28,7 +28,7 @@ impl Model for Chunk {
 
     ghost view = { λ c. chunk_of c.slots.items };
 
-    ghost invariant = { λ c. IsChunk c.slots.items c.held };
+    ghost invariant = { λ c. IsChunk c.slots c.held };
 }
 
 /// The record in the slot, if one is held there.
@@ -51,7 +51,7 @@ fn is_held(slots: &[Option<Record>], at: usize) -> bool
     }
 }
 
-/// The slot holds no record any more.
+/// Drops the record in the slot, if it holds one.
 pub fn empty_slot(slots: &mut Vec<Option<Record>>, at: usize)
     ensures items { slots.new.items ≡ slice_set slots.old.items at None }
     ensures len { vec_len slots.new ≡ vec_len slots.old }
@@ -105,7 +105,7 @@ impl Chunk {
         held_in(self.slots.as_slice(), at)
     }
 
-    /// The record in the slot is held no more.
+    /// Drops the record in the slot, if one is held there.
     pub fn let_go(&mut self, at: usize)
         ensures { self.new ≡ slice_set self.old at None }
     {

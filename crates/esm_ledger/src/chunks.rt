@@ -11,7 +11,7 @@ use std::collections::VecDeque;
 use std::marker::Model;
 
 /// The slots of a shard's first places, in whole chunks. A chunk that holds no record takes no memory but its own few words,
-/// and none where no chunk before it holds one.
+/// and not even these if no chunk before it holds one.
 #[derive(Drop)]
 pub struct Chunks {
     /// The place of the first chunk.
@@ -42,7 +42,7 @@ fn is_front_empty(chunks: &VecDeque<Chunk>) -> bool
     }
 }
 
-/// Takes away the empty chunks in front, of which the first is that of the place `base`.
+/// Removes the empty chunks in front. `base` is the place of the first chunk.
 fn trim(base: &mut usize, chunks: &mut VecDeque<Chunk>)
     requires few { base.old + CHUNK_PLACES * length chunks.old.items ≤ usize.MAX }
     requires whole { All IsWhole chunks.old.items }
@@ -77,7 +77,7 @@ impl Chunks {
         self.base + CHUNK_PLACES * self.chunks.len()
     }
 
-    /// Room for so many more chunks.
+    /// Reserves room for `count` more chunks.
     pub fn reserve(&mut self, count: usize) -> Result<(), OutOfMemory>
         ensures places { self.new.places ≡ self.old.places }
         ensures room { self.old.room ≤ self.new.room }
@@ -87,7 +87,7 @@ impl Chunks {
         Ok(())
     }
 
-    /// One more chunk, with these slots.
+    /// Appends a chunk with these slots.
     pub fn push(&mut self, slots: Vec<Option<Record>>)
         requires whole { length slots.items ≡ CHUNK_PLACES }
         requires room { 0 < self.old.room }
@@ -113,7 +113,7 @@ impl Chunks {
         }
     }
 
-    /// The record at the place is held no more.
+    /// Drops the record at the place, if it is held.
     pub fn let_go(&mut self, place: usize)
         ensures places { self.new.places ≡ slice_set self.old.places place None }
         ensures room { self.old.room ≤ self.new.room }

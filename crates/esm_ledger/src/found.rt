@@ -1,4 +1,4 @@
-//! What the journal told at opening of records and windows of a shard that is about to come.
+//! What the journal said at opening of a shard whose records are about to come.
 ghost use Rattle.std.specs.Prelude.{◌≡◌, ℕ, ◌+◌, ◌≤◌, ◌==◌, ◌&&◌, false, None, Some, length, if◌then◌else◌, IfOk, OnOk};
 ghost use Rattle.esm_model.specs.Ruling.{capped_tries};
 ghost use Rattle.esm_journal_state.specs.SaidLists.{fate_told, tries_told};
@@ -13,19 +13,19 @@ use esm_model::{Fate, MAX_TRIES, OutOfMemory, Record};
 use esm_shard_index::Windows;
 use std::alloc::Global;
 
-/// What the journal told at opening of a shard's records. Where it told nothing of the shard, none of them is looked up.
+/// What the journal said at opening of a shard's records. If it said nothing of the shard, none of them is looked up.
 #[derive(Drop)]
 pub struct ShardFound<'a> {
     said: &'a Says,
     shard: u64,
-    /// Whether it told anything of the shard.
+    /// Whether it said anything of the shard.
     any: bool,
     ghost fates: { any ≡ false → (i : ℕ) → fate_told said.now shard i ≡ None },
     ghost tries: { any ≡ false → (i : ℕ) → tries_told said.now shard i ≡ None },
 }
 
 impl<'a> ShardFound<'a> {
-    /// Of the shard, by what the journal told of all. Logarithmic in the number of shards that it told of.
+    /// For this shard, from all that the journal said. Logarithmic in the number of shards that it named.
     pub fn of(said: &'a Says, shard: u64) -> ShardFound<'a>
         ensures said { result.said.now ≡ said.now }
         ensures shard { result.shard ≡ shard }
@@ -50,7 +50,7 @@ impl<'a> ShardFound<'a> {
         }
     }
 
-    /// The tries that were found of it, 10,001 at most.
+    /// The tries that were found of the record at the place, 10,001 at most.
     fn tries(&self, place: u32) -> Option<u32>
         ensures { result ≡ tries_for self.now.said.now self.now.shard place }
     {
@@ -70,7 +70,7 @@ fn capped(tries: u32) -> u32
     MAX_TRIES.min(tries)
 }
 
-/// Where the record at the place, with this found fate, comes to, if it has none and passes the filter.
+/// Where the record at the place, with this found fate, goes, if it has none and passes the filter.
 fn landing_of(
     found: &ShardFound,
     factor: u32,
@@ -94,15 +94,15 @@ fn landing_of(
     }
 }
 
-/// The fates that were found of records, and where the records come to.
+/// The fates that were found of records, and where the records go.
 #[derive(Drop)]
 pub struct Fated {
     pub fates: Vec<Option<Fate>>,
     pub landings: Vec<Option<Landing>>,
 }
 
-/// Of these records of the shard, from the place `first` on. Each is looked up once for its fate, and where it comes to a
-/// lane once for its tries.
+/// The found fates of these records of the shard, from the place `first` on, and where they go. Looks each up once for its
+/// fate and, if it goes to a lane, once for its tries.
 pub fn found_records(
     alloc: Global,
     found: &ShardFound,

@@ -1,4 +1,4 @@
-// The ledger of a stream's book: the history of entries, with quick tables of what it says.
+// The ledger of a stream's book: the history of entries, with tables from which it is read quickly.
 ghost use Rattle.std.specs.Prelude.{◌≡◌, ℕ, ◌+◌, ◌<◌, ◌∷◌, [], true, false, length, reverse, OnOk, IfOk, IfSome, IfNone, Some, None};
 ghost use Rattle.std.specs.Prelude.{slice_get, ◌++◌, vec_len, vec_capacity};
 ghost use Rattle.esm_model.specs.declared.lane.LaneId.{LaneId};
@@ -14,8 +14,8 @@ use esm_journal_state::Says;
 use esm_model::{Config, Entry, LaneId, MAX_ENTRIES, OutOfMemory};
 use std::alloc::Global;
 
-/// A stream's book without its decisions: the history, and beside it what says in constant or logarithmic time what the
-/// history says. All memory is prepared first; then adding an entry takes none and cannot fail.
+/// A stream's book without its decisions: the history, and tables that say in constant or logarithmic time what the history
+/// says. All memory is prepared first; then adding an entry takes none and cannot fail.
 #[derive(Drop)]
 pub struct Ledger {
     pub config: Config,
@@ -37,7 +37,7 @@ pub struct Ledger {
 }
 
 impl Ledger {
-    /// One with no entry, and room for the end of the input.
+    /// A ledger without entries, with room for the end of the input.
     pub fn new(
         alloc: Global,
         config: Config,
@@ -64,8 +64,9 @@ impl Ledger {
         })
     }
 
-    /// Room in the history for so many more entries; the end of a call that runs and the end of the input have theirs.
-    /// A call that begins counts for two. After `OutOfMemory` nothing has changed.
+    /// Makes room in the history for `count` more entries, besides the ends of the running calls and of the input, which
+    /// have theirs. A call that begins counts as two. Returns `OutOfMemory` also if the history would reach `MAX_ENTRIES`.
+    /// After `OutOfMemory` nothing has changed.
     pub fn prepare_entries(&mut self, count: usize) -> Result<(), OutOfMemory>
         requires kept { Keeps self.old }
         ensures kept { Keeps self.new }
@@ -83,7 +84,7 @@ impl Ledger {
         Ok(())
     }
 
-    /// Memory for so many shards that come for the first time. After `OutOfMemory` nothing has changed.
+    /// Makes room for `count` shards that come for the first time. After `OutOfMemory` nothing has changed.
     pub fn prepare_shards(&mut self, count: usize) -> Result<(), OutOfMemory>
         requires kept { Keeps self.old }
         ensures kept { Keeps self.new }
@@ -98,8 +99,8 @@ impl Ledger {
         Ok(())
     }
 
-    /// Memory for the end of a call of the lane, however long after it begins. After `OutOfMemory` nothing has changed
-    /// that contracts see.
+    /// Prepares memory for the end of a call of the lane, however long after it begins. After `OutOfMemory` nothing has
+    /// changed that contracts see.
     pub fn prepare_call(&mut self, alloc: Global, lane: LaneId) -> Result<(), OutOfMemory>
         requires kept { Keeps self.old }
         requires known { lane.lane < self.old.config.factor }
@@ -119,8 +120,8 @@ impl Ledger {
         }
     }
 
-    /// Memory for a state of the window and for a failed try of its final call. After `OutOfMemory` nothing has changed
-    /// that contracts see.
+    /// Prepares memory for a state of the window and for a failed try of its final call. After `OutOfMemory` nothing has
+    /// changed that contracts see.
     pub fn prepare_window(&mut self, shard: u64, window: u64) -> Result<(), OutOfMemory>
         requires kept { Keeps self.old }
         ensures kept { Keeps self.new }
@@ -173,7 +174,7 @@ impl Ledger {
         }
     }
 
-    /// One more entry at the end of the history, within its room.
+    /// Appends an entry to the history, within its room.
     pub(crate) fn note(&mut self, entry: Entry, moment: u64)
         requires { vec_len self.old.history < vec_capacity self.old.history }
         ensures history { self.new.history.items ≡ self.old.history.items ++ entry ∷ [] }

@@ -1,4 +1,4 @@
-//! What is to be kept of records that are about to come, from the records and what was found of them.
+//! Computes what is kept of records that are about to come, beside what was found of them.
 ghost use Rattle.std.specs.Prelude.{◌≡◌, ℕ, ◌+◌, ◌<◌, max, length, Some, slice_get, IfOk};
 ghost use Rattle.std.specs.List.{All};
 ghost use Rattle.esm_model.specs.Records.{Record};
@@ -17,7 +17,7 @@ use esm_model::{Config, Fate, OutOfMemory, Record};
 use esm_window::window_of;
 use std::alloc::Global;
 
-/// The window of a record that follows one of the window `before`, by its start in milliseconds; 0 where no windows are
+/// The window of a record that follows one of the window `before`, by its start in milliseconds; 0 if no windows are
 /// configured.
 fn window_after(config: &Config, before: u64, arrival: u64) -> u64
     ensures { result ≡ max before (window_floor config.now.tumbling_ms arrival) }
@@ -29,7 +29,7 @@ fn window_after(config: &Config, before: u64, arrival: u64) -> u64
     }
 }
 
-/// What stands beside the records, the windows of those without a found fate, and the window of the last.
+/// The measures of records, the windows of those without a found fate, and the window of the last.
 #[derive(Drop)]
 struct Beside {
     measures: Vec<Measure>,
@@ -72,8 +72,8 @@ fn measured(
 }
 
 impl Arriving {
-    /// Records of a shard that are about to come, with the fates that were found of them and where they come to.
-    /// `before` is the window of the record before them in their shard, or 0.
+    /// Records of a shard that are about to come, with the fates that were found of them and where they go. `before` is the
+    /// window of the record before them in their shard, or 0.
     pub fn new(
         alloc: Global,
         config: &Config,

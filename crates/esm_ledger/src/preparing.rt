@@ -1,4 +1,4 @@
-//! Memory for records of a shard that are about to come.
+//! Reserves memory for records of a shard that are about to come.
 ghost use Rattle.std.specs.Prelude.{◌≡◌, ℕ, ◌+◌, ◌<◌, ◌≤◌, true, [], ◌∷◌, Some, length, slice_index_or, vec_len, vec_capacity, IfOk, OnOk};
 ghost use Rattle.esm_model.specs.Entries.{holds};
 ghost use Rattle.esm_shard_index.specs.LaneView.{lane_in};
@@ -13,7 +13,7 @@ use esm_model::OutOfMemory;
 use esm_shard_index::{Arrivals, Callings, LaneTable, Progress, Windows};
 use std::alloc::Global;
 
-/// Memory for the records and what stands beside them. After `OutOfMemory` nothing has changed that contracts see.
+/// Reserves memory for the records and their measures. After `OutOfMemory` nothing has changed that contracts see.
 pub fn reserve_records(
     records: &mut Records,
     measures: &mut Vec<Measure>,
@@ -31,7 +31,7 @@ pub fn reserve_records(
     Ok(())
 }
 
-/// Memory for the records in the tables. After `OutOfMemory` nothing has changed that contracts see.
+/// Reserves memory for the records in the tables. After `OutOfMemory` nothing has changed that contracts see.
 pub fn reserve_tables(
     progress: &mut Progress,
     arrivals: &mut Arrivals,
@@ -59,7 +59,7 @@ pub fn reserve_tables(
     windows.prepare_open(arriving.windows.as_slice())
 }
 
-/// One more record comes to its lane, where that is one of those that are counted.
+/// Counts one more record for its lane, if that is one of those that are counted.
 fn count_landing(counts: &mut [u32], landing: Landing)
     requires { (k : ℕ) → k < length counts.old → slice_index_or counts.old k 0 < u32.MAX }
     ensures size { length counts.new ≡ length counts.old }
@@ -72,7 +72,7 @@ fn count_landing(counts: &mut [u32], landing: Landing)
     counts[at] += 1;
 }
 
-/// One more record comes, to a lane or to none.
+/// Counts one more record, which goes to a lane or to none.
 fn count_record(counts: &mut [u32], landing: Option<Landing>)
     requires { (k : ℕ) → k < length counts.old → slice_index_or counts.old k 0 < u32.MAX }
     ensures size { length counts.new ≡ length counts.old }
@@ -84,7 +84,7 @@ fn count_record(counts: &mut [u32], landing: Option<Landing>)
     }
 }
 
-/// How many of the records come to each of so many lanes.
+/// How many of the records go to each of `lanes` lanes.
 fn count_landings(
     alloc: Global,
     lanes: u32,
@@ -101,7 +101,7 @@ fn count_landings(
     Ok(counts)
 }
 
-/// Memory for the records in each of the lanes. After `OutOfMemory` nothing has changed that contracts see.
+/// Reserves memory for the records in each lane. After `OutOfMemory` nothing has changed that contracts see.
 pub fn reserve_lanes(
     lanes: &mut LaneTable,
     alloc: Global,

@@ -6,7 +6,7 @@ use crate::ledger::Ledger;
 use esm_model::{LaneId, Progress};
 
 impl Ledger {
-    /// How many records came and have a fate, over all shards. It tells of no call.
+    /// How many records came, and how many of them have a fate, over all shards. Leaves the number in calls at 0.
     pub fn progress(&self) -> Progress {
         let mut progress = Progress {
             came: 0,
@@ -25,7 +25,7 @@ impl Ledger {
         progress
     }
 
-    /// How many records the lane's running call is of; 0 where none runs or a final one does.
+    /// How many records are in the lane's running call; 0 if none runs or a final one does.
     pub fn called_count(&self, lane: LaneId) -> u32
         requires kept { Keeps self.now }
         requires known { lane.lane < self.now.config.factor }

@@ -1,4 +1,4 @@
-//! What is read of a ledger, each by the definition of its word. Nothing takes memory.
+//! Reads a ledger: each answer is the definition of its word. Nothing takes memory.
 ghost use Rattle.std.specs.Prelude.{◌≡◌, ℕ, ◌<◌, ◌≤◌, ◌↔◌, [], Some, true, false, length, option_copied, IfSome, IsNone};
 ghost use Rattle.esm_model.specs.Records.{Record};
 ghost use Rattle.esm_model.specs.Setting.{record_at};
@@ -21,7 +21,7 @@ use esm_model::{Bytes, LaneId, Record, Response};
 use esm_shard_index::{Front, Running};
 
 impl Ledger {
-    /// The lane that the batcher serves; `None` where its shard has not come.
+    /// The lane that the batcher serves; `None` if its shard has not come.
     pub fn lane_of_batcher(&self, batcher: u32) -> Option<LaneId>
         requires { Keeps self.now }
         ensures { result ≡ lane_of_batcher (setting_of self.now) (past_of self.now) batcher }
@@ -36,8 +36,8 @@ impl Ledger {
         }
     }
 
-    /// The lane's group, where the book is settled: its places, whether its first record is fresh, and the tries of it;
-    /// `None` exactly where no record of the lane is open.
+    /// The group of a lane that is settled: its places, whether its first record is fresh, and the tries of that record;
+    /// `None` if and only if no record of the lane is open.
     pub fn front(&self, lane: LaneId) -> Option<Front<'_>>
         requires kept { Keeps self.now }
         requires known { lane.lane < self.now.config.factor }
@@ -51,7 +51,7 @@ impl Ledger {
         }
     }
 
-    /// The number of the lane's open records, where the book is settled.
+    /// The number of open records of a lane that is settled.
     pub fn open_count(&self, lane: LaneId) -> u32
         requires kept { Keeps self.now }
         requires known { lane.lane < self.now.config.factor }
@@ -64,7 +64,7 @@ impl Ledger {
         }
     }
 
-    /// The moment at which the lane's delay runs out, in milliseconds; 0 where there is none.
+    /// The moment at which the lane's delay runs out, in milliseconds; 0 if there is none.
     pub fn delay_end(&self, lane: LaneId) -> u64
         requires kept { Keeps self.now }
         requires known { lane.lane < self.now.config.factor }
@@ -159,7 +159,7 @@ impl Ledger {
         }
     }
 
-    /// The answer of the last of these that ended.
+    /// The answer to the last of these calls that ended; `None` if it was lost or garbled, or none ended.
     pub fn response_of(&self, shard: u64, place: u32) -> Option<Response>
         requires kept { Keeps self.now }
         requires came { place < came_count (past_of self.now) shard }
@@ -235,7 +235,7 @@ fn closing_window(running: Option<Running>) -> Option<u64>
     }
 }
 
-/// What is kept of the record at the place, where it came.
+/// What is kept of the record at the place beside it; zeros if it did not come.
 fn measure_of(measures: &Vec<Measure>, place: u32) -> Measure
     ensures { result ≡ measure_at measures.now.items place }
 {

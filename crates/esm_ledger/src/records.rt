@@ -9,7 +9,7 @@ use std::alloc::Global;
 use std::marker::Model;
 use std::snapshot::Snapshot;
 
-/// The records of a shard that came, in order. Of one that was let go only contracts know.
+/// The records of a shard that came, in order. Those that were let go are seen by contracts alone.
 #[derive(Drop)]
 pub struct Records {
     /// All of them, as contracts see them.
@@ -34,7 +34,7 @@ impl Model for Records {
     ghost invariant = { λ r. AreSlots (seen_in r.seen.items) r.slots.places };
 }
 
-/// What is held of a record that comes: nothing, where its fate was found.
+/// What is held of a record that comes: nothing, if its fate was found.
 fn slot_for(item: Record, found: Option<Fate>) -> Option<Record>
     ensures { result ≡ (if is_none found then Some item else None) }
 {
@@ -56,7 +56,7 @@ impl Records {
         }
     }
 
-    /// Room for so many more records. After `OutOfMemory` nothing has changed that contracts see.
+    /// Reserves room for `count` more records. After `OutOfMemory` nothing has changed that contracts see.
     pub fn reserve(&mut self, count: usize) -> Result<(), OutOfMemory>
         ensures items { self.new.items ≡ self.old.items }
         ensures held { self.new.held ≡ self.old.held }
@@ -67,7 +67,7 @@ impl Records {
         self.slots.reserve(count)
     }
 
-    /// Records came, within the room: each is held, but for one with a found fate, which is let go at once.
+    /// Records came, within the room: each is held, except one with a found fate, which is let go at once.
     pub fn came(&mut self, records: Vec<Record>, fates: &[Option<Fate>])
         requires even { length fates.now ≡ length records.items }
         requires room { length records.items ≤ self.old.room }
@@ -91,7 +91,7 @@ impl Records {
         self.slots.push(slot_for(item, found));
     }
 
-    /// The records at the places are held no more.
+    /// Lets the records at the places go.
     pub fn let_go(&mut self, places: &[u32])
         ensures items { self.new.items ≡ self.old.items }
         ensures len { length self.new.held ≡ length self.old.held }
@@ -112,7 +112,7 @@ impl Records {
         self.slots.let_go(place as usize);
     }
 
-    /// The record at the place, if it came; where it came it has to be held.
+    /// The record at the place, if it came; it then has to be held.
     pub fn get(&self, place: u32) -> Option<&Record>
         requires { place < length self.now.items → slice_index_or self.now.held place false ≡ true }
         ensures { option_copied result ≡ slice_get self.now.items place }

@@ -43,8 +43,8 @@ pub struct ShardLedger {
 }
 
 impl ShardLedger {
-    /// A shard of which no record came, with so many lanes, 1 to 64, and the window states and tries that were found of
-    /// it at opening.
+    /// A shard of which no record came, with `lanes` lanes, 1 to 64, and the window states and tries that were found of it
+    /// at opening.
     pub fn new(
         alloc: Global,
         shard: u64,
@@ -69,7 +69,7 @@ impl ShardLedger {
         })
     }
 
-    /// Memory for the end of a call of the lane, so that it needs none however long after it begins. After
+    /// Prepares memory for the end of a call of the lane, so that it needs none however long after it begins. After
     /// `OutOfMemory` nothing has changed.
     pub fn prepare_call(&mut self, alloc: Global, lane: u32) -> Result<(), OutOfMemory>
         requires known { lane < length self.old.lanes.lanes }
@@ -85,8 +85,8 @@ impl ShardLedger {
         self.lanes.reserve(alloc, lane, 0, 2)
     }
 
-    /// Memory for a state of the window and for a failed try of its final call. After `OutOfMemory`
-    /// nothing has changed that contracts see.
+    /// Prepares memory for a state of the window and for a failed try of its final call. After `OutOfMemory` nothing has
+    /// changed that contracts see.
     pub fn prepare_window(&mut self, window: u64) -> Result<(), OutOfMemory>
         ensures shard { self.new.shard ≡ self.old.shard }
         ensures records { self.new.records ≡ self.old.records }
@@ -98,7 +98,7 @@ impl ShardLedger {
         self.windows.prepare_window(window)
     }
 
-    /// Memory for records that are about to come; there are so many lanes. After `OutOfMemory` nothing has
+    /// Prepares memory for records that are about to come. `lanes` is the number of lanes. After `OutOfMemory` nothing has
     /// changed that contracts see.
     pub fn prepare_records(
         &mut self,
@@ -149,8 +149,8 @@ impl ShardLedger {
         self.lanes.begin(lane, Running { count, closing });
     }
 
-    /// The call of the lane ends at the moment, in milliseconds, with this answer and verdict. Within the splits that
-    /// are prepared; takes no memory.
+    /// The call of the lane ends at the moment, in milliseconds, with this answer and verdict. Uses prepared splits; takes
+    /// no memory.
     pub fn ended(
         &mut self,
         alloc: Global,
@@ -181,8 +181,8 @@ impl ShardLedger {
         count_try(&mut self.windows, state.running, verdict.rest);
     }
 
-    /// The records at the places succeed, are filtered or are exhausted, and their window perhaps has a new state.
-    /// Takes no memory.
+    /// The records at the places succeed, are filtered or are exhausted, and their window may get a new state. Takes no
+    /// memory.
     pub fn gave(&mut self, places: &[u32], fate: Fate, state: Option<WindowState>)
         requires came { (i : ℕ) → holds places.now i ≡ true → i < length self.old.progress.fated }
         requires measured { length self.old.measures.items ≡ length self.old.progress.fated }
@@ -241,7 +241,7 @@ impl ShardLedger {
         self.windows.closed(window);
     }
 
-    /// Records came at the moment, in milliseconds. Within the memory that is prepared for them; takes none.
+    /// Records came at the moment, in milliseconds. Uses the memory that is prepared for them; takes none.
     pub fn came(&mut self, alloc: Global, arriving: Arriving, moment: u64)
         requires room { HasRoomFor self.old arriving }
         requires even { IsEven arriving }

@@ -1,5 +1,5 @@
-//! What a shard that is kept says of a legal history, each as the contract of a function that does nothing.
-//! A history is written newest entry first.
+//! What a kept shard says of a legal history. Each law is the contract of a function that does nothing. A history is written
+//! newest entry first.
 ghost use Rattle.std.specs.Prelude.{◌≡◌, ℕ, ◌<◌, ◌+◌, List, ◌∷◌, Option, Some, length};
 ghost use Rattle.esm_model.specs.declared.lane.LaneId.{LaneId};
 ghost use Rattle.esm_model.specs.declared.entry.Entry.{Entry};
@@ -22,7 +22,7 @@ pub fn shard_stays()
         IsShard s h c → IsShard s (e ∷ h) c }
 {}
 
-/// Over lists of records that go on from its own, a shard says the same.
+/// Over longer lists of records, a shard is still as the history says.
 pub fn shard_over_more_records()
     ensures { (s : Setting) (after : List Stream) (h : List Entry) (c : ShardLedger) → Extends s.streams after → Legal s h → IsShard s h c →
         IsShard (over s after) h c }
@@ -41,7 +41,7 @@ pub fn end_fits()
         s.calls < 4294967296 → lane.shard ≡ c.shard → IsShard s h c → EndFits c lane.lane }
 {}
 
-/// The places that get a fate in a legal history may be given it.
+/// The places that get a fate in a legal history may get it in the shard's tables.
 pub fn gift_fits()
     ensures { (s : Setting) (h : List Entry) (by : Option LaneId) (places : List ℕ) (f : Fate) (line : Option (List ℕ)) (state : Option WindowState)
         (m : ℕ) (c : ShardLedger) → Legal s (Entry.Gave by c.shard places f line state m ∷ h) → IsShard s h c → GiftFits c places }
@@ -54,13 +54,13 @@ pub fn expiry_fits()
         lane.lane < s.config.factor → IsShard s h c → ExpiryFits c lane.lane places }
 {}
 
-/// Records whose number fits 32 bits with those that came may come.
+/// Records may come if their number and the number of those that came fit 32 bits together.
 pub fn arrivals_fit()
     ensures { (s : Setting) (h : List Entry) (a : Arriving) (c : ShardLedger) → Legal s h → IsEven a →
         came_count h c.shard + length a.records.items < 4294967296 → IsShard s h c → FitsNumbers c a }
 {}
 
-/// The checkpoint, the spread and the number of open records.
+/// The checkpoint, the spread and the number of open records are those of the history.
 pub fn shard_tells()
     ensures { (s : Setting) (h : List Entry) (c : ShardLedger) → IsShard s h c → ShardTells s h c }
 {}

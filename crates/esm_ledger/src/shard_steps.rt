@@ -18,7 +18,7 @@ use esm_model::{Rest, WindowState};
 use esm_shard_index::{LaneTable, Running, Windows};
 use std::alloc::Global;
 
-/// A failed try counts for the window that the call closes, if it closes one, where the rest of its verdict is counted.
+/// Counts a failed try for the window that the call closes, if it closes one and the ruling counts a try.
 pub fn count_try(windows: &mut Windows, running: Option<Running>, rest: Rest)
     requires { IfSome (closing_in running) (λ w. has_entry windows.old.tries w ≡ true) }
     ensures tries { (w : ℕ) → tries_in windows.new w
@@ -38,7 +38,7 @@ pub fn count_try(windows: &mut Windows, running: Option<Running>, rest: Rest)
     }
 }
 
-/// The records at the places are open no more in their windows.
+/// Counts the records at the places as open no more in their windows.
 pub fn leave_windows(windows: &mut Windows, measures: &[Measure], places: &[u32])
     requires { (i : ℕ) → holds places.now i ≡ true → i < length measures.now }
     ensures opened { (w : ℕ) → open_in windows.new w ≡ open_in windows.old w - times (windows_at measures.now places.now) w }
@@ -52,7 +52,7 @@ pub fn leave_windows(windows: &mut Windows, measures: &[Measure], places: &[u32]
     }
 }
 
-/// The state, if there is one, is that of its window.
+/// Sets the state of its window, if there is one.
 pub fn take_state(windows: &mut Windows, state: Option<WindowState>)
     requires { IfSome state (λ x. has_entry windows.old.states x.window ≡ true) }
     ensures states { (w : ℕ) → state_in windows.new w ≡ text_for w (state_in windows.old w) state }
@@ -66,7 +66,7 @@ pub fn take_state(windows: &mut Windows, state: Option<WindowState>)
     }
 }
 
-/// The records from the place `first` on come to their lanes.
+/// Adds the records from the place `first` on to their lanes.
 pub fn land(lanes: &mut LaneTable, alloc: Global, first: u32, landings: &[Option<Landing>])
     requires within { All (IsWithin (length lanes.old.lanes)) landings.now }
     requires room { (k : ℕ) → k < length lanes.old.lanes → landing_count k landings.now ≤ (lane_in lanes.old k).kept.adds }

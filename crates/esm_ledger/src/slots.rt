@@ -1,4 +1,4 @@
-// The slots of a shard's places, in chunks that take no memory once no record of theirs is held.
+// The slots of a shard's places, in chunks that take no memory once none of their records is held.
 ghost use Rattle.std.specs.Prelude.{◌≡◌, ◌+◌, ◌<◌, ◌≤◌, ◌++◌, ◌∷◌, [], None, length, option_copied, slice_set, slice_index_or, vec_len, vec_capacity, OnOk};
 ghost use Rattle.std.specs.List.{All};
 ghost use Rattle.esm_ledger.specs.Chunks.{HasMemory, room_in};
@@ -17,7 +17,7 @@ pub struct Slots {
     full: Chunks,
     /// Those after them, at most a chunk's; their memory stays until a record comes to the next chunk.
     last: Vec<Option<Record>>,
-    /// Memory for chunks that are to come.
+    /// Memory for the next chunks.
     spare: Vec<Vec<Option<Record>>>,
 }
 
@@ -35,7 +35,7 @@ impl Model for Slots {
     ghost invariant = { λ s. IsLast s.last s.spare };
 }
 
-/// Memory for chunks, until there are so many.
+/// Allocates memory for chunks, until there are `count`.
 fn reserve_spare(
     alloc: Global,
     spare: &mut Vec<Vec<Option<Record>>>,
@@ -53,7 +53,7 @@ fn reserve_spare(
     Ok(())
 }
 
-/// The last chunk is whole: the next one begins, in memory that is spare.
+/// Appends the last chunk, which is whole, to the full ones, and begins the next one in spare memory.
 fn start_chunk(
     full: &mut Chunks,
     last: &mut Vec<Option<Record>>,
@@ -76,7 +76,7 @@ fn start_chunk(
     }
 }
 
-/// There is memory for a place in the last chunk; a new one begins where that is whole.
+/// Makes sure that there is memory for a place in the last chunk; begins a new one if that is whole.
 fn make_way(full: &mut Chunks, last: &mut Vec<Option<Record>>, spare: &mut Vec<Vec<Option<Record>>>)
     requires room { 0 < room_in (vec_capacity last.old) (vec_len last.old) (vec_len spare.old) full.old.room }
     requires few { length full.old.places + length last.old.items < usize.MAX }
@@ -108,7 +108,7 @@ impl Slots {
         }
     }
 
-    /// Memory for so many more places. After `OutOfMemory` nothing has changed that contracts see.
+    /// Reserves memory for `count` more places. After `OutOfMemory` nothing has changed that contracts see.
     pub fn reserve(&mut self, count: usize) -> Result<(), OutOfMemory>
         ensures places { self.new.places ≡ self.old.places }
         ensures room { self.old.room ≤ self.new.room }
@@ -121,7 +121,7 @@ impl Slots {
         reserve_spare(*self.last.allocator(), &mut self.spare, chunks)
     }
 
-    /// One more place, with its record where that is held.
+    /// Appends a place, with its record if that is held.
     pub fn push(&mut self, slot: Option<Record>)
         requires room { 0 < self.old.room }
         requires few { length self.old.places < usize.MAX }
@@ -144,7 +144,7 @@ impl Slots {
         }
     }
 
-    /// The record at the place is held no more.
+    /// Drops the record at the place, if it is held.
     pub fn let_go(&mut self, place: usize)
         ensures places { self.new.places ≡ slice_set self.old.places place None }
         ensures room { self.old.room ≤ self.new.room }

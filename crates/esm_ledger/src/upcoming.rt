@@ -1,4 +1,4 @@
-//! Preparing all that is kept of records that come next to their shard.
+//! Prepares all that is kept of the next records of a shard.
 ghost use Rattle.std.specs.Prelude.{◌≡◌, ℕ, ◌+◌, ◌≤◌, not, Some, length, is_some, slice_get, IfOk, OnOk};
 ghost use Rattle.std.specs.List.{All};
 ghost use Rattle.esm_model.specs.Records.{Record};
@@ -26,7 +26,7 @@ use esm_journal_state::Says;
 use esm_model::{Config, OutOfMemory, Record};
 use std::alloc::Global;
 
-/// What is kept of records of the shard from the place `first` on. `before` is the window of the record before them.
+/// What is kept of records of the shard from the place `first` on. `before` is the window of the record before them, or 0.
 fn arriving_of(
     alloc: Global,
     config: &Config,
@@ -75,11 +75,11 @@ fn window_of_last(measures: &[Measure]) -> u64
 }
 
 impl Ledger {
-    /// All that is kept of records that come next to their shard: their lengths and windows, what was found of them at
-    /// opening, where they come to, and the memory that they need in the shard's tables; where the shard comes for the
-    /// first time, what is to be kept of it, for which `prepare_shards` makes room.
-    /// `passing` says of each record whether it passes the filter, and may say either of one with a found fate.
-    /// After `OutOfMemory` the records are gone, and nothing else has changed that contracts see.
+    /// Prepares all that is kept of the next records of a shard: their lengths and windows, what was found of them at
+    /// opening, where they go, and the memory that they need in the shard's tables. If the shard comes for the first time,
+    /// the result has its new tables, for which `prepare_shards` makes room. `passing` says of each record whether it passes
+    /// the filter, and may say either of one with a found fate. After `OutOfMemory` the records are gone, and nothing else
+    /// has changed that contracts see.
     pub fn prepare_came(
         &mut self,
         alloc: Global,
@@ -135,7 +135,7 @@ impl Ledger {
         }
     }
 
-    /// Memory in the shard's tables for the records, if it came.
+    /// Reserves memory for the records in the shard's tables, if the shard came.
     fn prepare_known(
         &mut self,
         alloc: Global,
@@ -158,7 +158,7 @@ impl Ledger {
         }
     }
 
-    /// What is to be kept of the shard, if it comes for the first time.
+    /// The new tables of the shard, if it comes for the first time.
     fn fresh_for(
         &self,
         alloc: Global,
@@ -180,7 +180,7 @@ impl Ledger {
         }
     }
 
-    /// What is to be kept of a shard of which no record came, with memory for the records.
+    /// The new tables of a shard of which no record came, with memory for the records.
     fn first_of(
         &self,
         alloc: Global,

@@ -1,12 +1,12 @@
-use Rattle.std.proofs.Common.{◌≡◌, ◌∙◌, List, Option, sym, ap, subst, is_some}
+use Rattle.std.proofs.Common.{◌≡◌, ◌∙◌, List, Option, sym, ap, is_some}
 use Rattle.std.specs.List.{count_by}
 use Rattle.esm_model.specs.Records.{Record}
-use Rattle.esm_ledger.specs.Chunks.{IsChunk, chunk_of}
+use Rattle.esm_ledger.specs.Chunks.{chunk_of}
 use Rattle.esm_ledger.proofs.ChunkSlots.{chunk_none, none_came}
 use Rattle.esm_ledger.proofs.chunk.Chunk.of.Goals as goal
 
 pub invariant_of-t-8 : goal.invariant_of-t-8
-invariant_of-t-8 c = subst (λ (xs : List (Option Record)). IsChunk xs c.held_count-held.result) (sym c.new-slots.ensures.items) (chunk_none c.held_count-held.result c.if-held-eq0.true)
+invariant_of-t-8 c = chunk_none c.new-slots.result c.held_count-held.result c.if-held-eq0.true c.new-slots.ensures.items c.new-slots.ensures.capacity
 
 pub returns-then-held-eq0 : goal.returns-then-held-eq0
 returns-then-held-eq0 c =
