@@ -414,8 +414,8 @@ def watched_run(t):
         t.same("output", report, run.communicate(text_of(lines), timeout=60)[0])
         told = all_of(watcher)
         os.close(watcher)
-        shown = [tuple(map(int, line)) for line in re.findall(r"\r\x1b\[Kesm: came (\d+), settled (\d+), in calls (\d+)\r", told)]
-        line = "\r\x1b[Kesm: came %d, settled %d, in calls %d\r"
+        shown = [tuple(map(int, line)) for line in re.findall(r"\r\x1b\[Kesm: came (\d+), with a fate (\d+), in calls (\d+)\r", told)]
+        line = "\r\x1b[Kesm: came %d, with a fate %d, in calls %d\r"
         t.same("what is shown", "".join(line % counts for counts in shown) + ("\r\x1b[K" if is_terminal else ""), told)
         t.same("records that came", {60} if is_terminal else set(), {came for came, _, _ in shown})
         t.same("settled ones", sorted({settled for _, settled, _ in shown}), [settled for _, settled, _ in shown])

@@ -26,6 +26,6 @@ pub record Opens (words : List (List ℕ)) (folder : Folder) (functions : Functi
   pub named : Names called functions
   pub door_fits : door ≤ 65535
 
--- the words name nothing
+-- the words open nothing: no folder, functions and door fit them
 abbrev pub IsRefused : List (List ℕ) → Type 0
 IsRefused words = (folder : Folder) (functions : Functions) (door : ℕ) (command : List (List ℕ)) → ¬ Opens words folder functions door command

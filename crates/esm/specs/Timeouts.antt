@@ -5,7 +5,7 @@ use Rattle.esm_cli.specs.declared.command.Command.{Command}
 use Rattle.esm_cli.specs.declared.command.Command.TheVariants.{Run, Ddb, Redrive, Replay}
 use Rattle.esm_cli.specs.declared.table.TheConstants.{TIMEOUT}
 
--- in seconds: that of the command's options, and the longest where it takes none
+-- in seconds: that of the command's options, and the longest if it takes none
 abbrev pub timeout_of : Command → ℕ
 timeout_of (Run r) = r.timeout
 timeout_of (Ddb config calls timeout trace) = timeout
@@ -13,6 +13,6 @@ timeout_of (Redrive config max_receives calls visibility timeout trace) = timeou
 timeout_of (Replay config calls timeout trace) = timeout
 timeout_of _ = TIMEOUT.greatest
 
--- so many seconds are those of the command that the words spell, where they spell one
+-- `seconds` is the time under the command that the words spell; any number is, if they spell none
 abbrev pub IsTimeout : List (List ℕ) → ℕ → Type 0
 IsTimeout words seconds = (c : Command) → spells words c → seconds ≡ timeout_of c

@@ -1,4 +1,4 @@
-// What a person is told on standard error behind a refusal: what to do about it.
+// What standard error says after a refusal: what to do about it.
 use esm_cli::table::{COMMANDS, NUMBERS, OptionName, Verb};
 use memchr::memrchr;
 use std::io::Eprint;
@@ -6,10 +6,13 @@ use std::io::Eprint;
 /// The exit status of bad words.
 const BAD_WORDS: u8 = 2;
 
-/// The exit status where the output failed, which then tells nothing.
+/// The exit status of a failed output, whose last line then names no refusal.
 const OUTPUT_FAULT: u8 = 5;
 
-/// The command line up to the commands, which README explains.
+/// The exit status if memory ran out; nothing is told then.
+const OUT_OF_MEMORY: u8 = 70;
+
+/// The beginning of the usage text; docs/FORMATS.md explains its words.
 const USAGE: [&str; 5] = [
     "usage: esm FOLDER FUNCTIONS DOOR COMMAND [OPTIONS]",
     "  FOLDER     - for memory and standard input, or a folder that init made ready, with its input.jsonl",
@@ -18,7 +21,7 @@ const USAGE: [&str; 5] = [
     "  COMMAND    one of these, with its options:",
 ];
 
-/// How the line begins that tells a refusal, and what to do about it. The first one that fits counts.
+/// How a refusal's line begins, and what to do about it. The first entry that fits counts.
 const REMEDIES: [(&[u8], &str); 18] = [
     (
         b"calls spent",
@@ -26,7 +29,7 @@ const REMEDIES: [(&[u8], &str); 18] = [
     ),
     (
         b"disk fault",
-        "see that the folder is there and can be written, and that no other process has its files",
+        "see that the folder is there, can be written and has room, and that no other process has its files",
     ),
     (
         b"input fault",
@@ -38,7 +41,7 @@ const REMEDIES: [(&[u8], &str); 18] = [
     ),
     (
         b"not a journal",
-        "the file is none of this program's: put back a copy of it, or give another folder",
+        "this program did not write the file: put back a copy of it, or give another folder",
     ),
     (
         b"not empty",
@@ -58,7 +61,7 @@ const REMEDIES: [(&[u8], &str); 18] = [
     ),
     (
         b"destination fault",
-        "make room on the disk of failures.esm, or mend its rights, and give the command again",
+        "make room on the disk of failures.esm, or correct its permissions, and give the command again",
     ),
     (
         b"door fault",
@@ -94,7 +97,7 @@ const REMEDIES: [(&[u8], &str); 18] = [
     ),
 ];
 
-/// What to do about what this line tells.
+/// Returns what to do about the refusal on this line, or `None` if it needs nothing.
 fn remedy(line: &[u8]) -> Option<&'static str> {
     for remedy in REMEDIES.iter() {
         if line.starts_with(remedy.0) {
@@ -104,7 +107,7 @@ fn remedy(line: &[u8]) -> Option<&'static str> {
     None
 }
 
-/// The last line of a text whose lines all end, without its end.
+/// Returns the last line of a text whose lines all end with a line feed, without that line feed.
 fn last_line(text: &[u8]) -> &[u8] {
     let Some((_, text)) = text.split_last() else {
         return text;
@@ -125,7 +128,7 @@ fn is_needed(option: OptionName) -> bool {
     option == OptionName::Config
 }
 
-/// What stands behind the option's name.
+/// Returns what follows the option's name in the usage text.
 fn value_of(option: OptionName) -> &'static str {
     match option {
         OptionName::Config => " TEXT",
@@ -135,7 +138,7 @@ fn value_of(option: OptionName) -> &'static str {
     }
 }
 
-/// Tells how the option is spelled, in brackets where the command does not need it.
+/// Prints how the option is spelled, in brackets if the command does not need it.
 fn tell_option<R: Eprint>(rt: &R, option: OptionName) {
     let (open, close) = if is_needed(option) {
         (" --", "")
@@ -147,7 +150,8 @@ fn tell_option<R: Eprint>(rt: &R, option: OptionName) {
     }
 }
 
-/// Tells how the command is spelled, with the options that its table has. A mapping by its id stands in place of its text.
+/// Prints how the command is spelled, with the options of its table. `--mapping UUID` is shown as taking the place of
+/// `--config`.
 fn tell_command<R: Eprint>(rt: &R, word: &str) {
     let _ = rt.eprint("             ");
     let _ = rt.eprint(word);
@@ -165,7 +169,7 @@ fn tell_command<R: Eprint>(rt: &R, word: &str) {
     let _ = rt.eprintln("");
 }
 
-/// Tells which word was not understood, where that is known, and how a command is spelled.
+/// Prints which word names no command, if the fourth word does not, and then how each command is spelled.
 fn tell_usage<R: Eprint>(rt: &R, words: &[String]) {
     if let Some(verb) = words.get(3) {
         if Verb::named(verb.as_str()).is_none() {
@@ -181,11 +185,25 @@ fn tell_usage<R: Eprint>(rt: &R, words: &[String]) {
     }
 }
 
-/// Tells on standard error what to do about a refusal, which the end of the output tells. Nothing where there is nothing to be
-/// done; and where standard error fails the rest is not told.
+/// Prints on standard error that memory ran out and what to do about it, and returns the exit status. A failure of standard
+/// error is ignored.
+pub fn out_of_memory<R: Eprint>(rt: &R) -> u8 {
+    let _ = rt.eprintln(
+        "esm: memory ran out: raise its limit (ulimit -v), or split the input by shard as docs/SCALING.md shows",
+    );
+    OUT_OF_MEMORY
+}
+
+/// Prints on standard error what to do: for bad words how commands are spelled, where `words` are those of the program; for a
+/// failed output and for want of memory by the status; and otherwise about the refusal that the last line of the output
+/// (`told`) names. Prints nothing if there is nothing to be done. A failure of standard error is ignored.
 pub fn advise<R: Eprint>(rt: &R, words: &[String], status: u8, told: &[u8]) {
     if status == BAD_WORDS {
         tell_usage(rt, words);
+        return;
+    }
+    if status == OUT_OF_MEMORY {
+        let _ = out_of_memory(rt);
         return;
     }
     if status == OUTPUT_FAULT {

@@ -15,7 +15,7 @@ use std::net::Net;
 use std::rt::Clock;
 use std::time::Duration;
 
-/// A caller in memory that answers by the script.
+/// Makes a caller in memory that answers by the script.
 fn scripted<R: Net + Clock + Clone>(alloc: Global, script: Script) -> ProgramCaller<R>
     requires { HasNoLost script }
     ensures { elim result [ kind.Script caller ↦ caller ≡ new_caller script [] false | kind.Http caller ↦ ⊥ ] }
@@ -23,7 +23,7 @@ fn scripted<R: Net + Clock + Clone>(alloc: Global, script: Script) -> ProgramCal
     ProgramCaller::Script(ScriptCaller::new(alloc, script, Vec::new(alloc)))
 }
 
-/// A caller that answers as the functions do; over HTTP a call has so many seconds.
+/// Makes a caller that answers as the functions say. Over HTTP it limits each call to `timeout` seconds.
 fn caller<R: Net + Clock + Clone>(
     rt: &R,
     alloc: Global,
@@ -52,7 +52,8 @@ fn caller<R: Net + Clock + Clone>(
     }
 }
 
-/// The callers that answer as the functions do, one for each batcher; over HTTP a call has so many seconds.
+/// Makes the callers that answer as the functions say, one for each batcher. Over HTTP each call is limited to `timeout`
+/// seconds. `OutOfMemory` if an allocation failed.
 pub fn callers<R: Net + Clock + Clone>(
     rt: &R,
     alloc: Global,

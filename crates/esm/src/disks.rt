@@ -1,4 +1,4 @@
-// The disks and the input of a run, with a folder or without.
+// The disks and the input of a run, with or without a folder.
 use esm_folder::{Disks, InitEnd, Initialized, init};
 use esm_host::{FileDisk, FileSource, FleetingDisk};
 use esm_model::{FileName, OutOfMemory, Text};
@@ -6,11 +6,11 @@ use std::alloc::Global;
 use std::fs::File;
 use std::rt::Files;
 
-/// The input of a folder.
+/// The name of the input's file in a folder.
 const INPUT: &str = "input.jsonl";
 
-/// The disks of a world without a folder, as an `init` leaves them. They keep no journal, and what is made on them is refused
-/// for want of memory alone: none of its calls is a fault.
+/// Makes the disks of a world without a folder, as an `init` leaves them. They keep no journal. None of the calls of that
+/// `init` is a fault of such a disk, so it can fail only if memory runs out.
 pub fn fresh_disks(alloc: Global) -> Result<Disks<FleetingDisk>, OutOfMemory> {
     let disks = Disks {
         journal: FleetingDisk::new(),
@@ -32,7 +32,7 @@ fn path(alloc: Global, folder: &str, name: &str) -> Result<Text, OutOfMemory> {
     Ok(Text::from_vec(format!(in alloc; "{folder}/{name}")?))
 }
 
-/// The input of the folder. It opens nothing.
+/// Makes the input of the folder. It opens nothing yet.
 pub fn input_in<R: Files<File = File> + Clone>(
     rt: &R,
     alloc: Global,
@@ -41,7 +41,7 @@ pub fn input_in<R: Files<File = File> + Clone>(
     FileSource::new(rt, path(alloc, folder, INPUT)?)
 }
 
-/// A file of the folder. It opens nothing.
+/// Makes the disk of one file of the folder. It opens nothing yet.
 fn disk_in<R: Files<File = File> + Clone>(
     rt: &R,
     alloc: Global,
@@ -51,7 +51,7 @@ fn disk_in<R: Files<File = File> + Clone>(
     FileDisk::new(rt, path(alloc, folder, name.name())?)
 }
 
-/// The disks of the folder.
+/// Makes the four disks of the folder. It opens nothing yet.
 pub fn disks_in<R: Files<File = File> + Clone>(
     rt: &R,
     alloc: Global,

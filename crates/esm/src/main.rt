@@ -1,5 +1,5 @@
-//! The program: it takes the folder, the functions and the door from the first three words, makes the real world and
-//! does what the other words ask for. What it tells goes to standard output; what to do about a refusal, and on a terminal
+//! The program: it reads the folder, the functions and the door from the first three words, makes the real world and runs
+//! the command that the other words spell. The output goes to standard output; what to do about a refusal, and on a terminal
 //! how far a run has come, goes to standard error.
 #![tactic(auto)]
 
@@ -19,7 +19,7 @@ mod timeouts;
 mod words;
 mod worlds;
 
-use advice::advise;
+use advice::{advise, out_of_memory};
 use esm_host::fill_streams;
 use esm_io::{Caller, Clock, Disk, Door, Sink, Source};
 use esm_model::{MAX_LANES, OutOfMemory};
@@ -38,11 +38,8 @@ use worlds::{folder_world, memory_world};
 #[cfg(test)]
 mod tests;
 
-/// The exit status for want of memory.
-const OUT_OF_MEMORY: u8 = 70;
-
-/// What the first three words name, and the words of the command. Words that are refused leave none for the command, and so it
-/// is none.
+/// Reads what the first three words name, and the words of the command. If the three are refused, no words are left for the
+/// command, and no words spell none.
 fn opened(words: &[String]) -> Opening<'_>
     ensures opens { Opens (map string_bytes words.now) result.folder result.functions result.door (map string_bytes result.command.now)
         ⊎ IsRefused (map string_bytes words.now) }
@@ -57,8 +54,8 @@ fn opened(words: &[String]) -> Opening<'_>
     opening
 }
 
-/// Does what the command asks for in this world, tells on standard error what to do where it was refused, and answers the
-/// exit status; the command is the one that these words open. The threads are those of `rt`.
+/// Runs the command in this world and returns the exit status. If the command was refused, or memory ran
+/// out, prints on standard error what to do about it. `opening` is what `words` open; `rt` makes the threads.
 fn perform<
     R: Threads + Wait + Sync + Eprint,
     S: Source + Drop + Send,
@@ -92,18 +89,18 @@ fn main(rt: HostRuntime) -> ExitCode {
     fill_streams(&rt);
     let alloc = rt.alloc();
     let Ok(words) = words(&rt) else {
-        return ExitCode::from(OUT_OF_MEMORY);
+        return ExitCode::from(out_of_memory(&rt));
     };
     let words = words.as_slice();
     let opening = opened(words);
     let status = match opening.folder {
         Folder::Memory => match memory_world(&rt, alloc, opening) {
             Ok(world) => perform(&rt, alloc, words, opening, world),
-            Err(OutOfMemory) => OUT_OF_MEMORY,
+            Err(OutOfMemory) => out_of_memory(&rt),
         },
         Folder::Files(folder) => match folder_world(&rt, alloc, opening, folder) {
             Ok(world) => perform(&rt, alloc, words, opening, world),
-            Err(OutOfMemory) => OUT_OF_MEMORY,
+            Err(OutOfMemory) => out_of_memory(&rt),
         },
     };
     ExitCode::from(status)

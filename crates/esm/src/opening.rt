@@ -25,7 +25,7 @@ pub struct Opening<'a> {
     pub command: &'a [String],
 }
 
-/// The folder that a word names: none for an empty word, which would name the root.
+/// Reads the folder that a word names. An empty word names none: its files would be those of the root.
 fn read_folder(word: &str) -> Option<Folder<'_>>
     ensures some { IfSome result (IsFolder word.now) }
     ensures none { IfNone result ((folder : Folder) → ¬ IsFolder word.now folder) }
@@ -38,7 +38,7 @@ fn read_folder(word: &str) -> Option<Folder<'_>>
 }
 
 /// Reads the folder, the functions and the door.
-/// `None` where one of the three words is missing or of another form.
+/// Returns `None` if one of the three words is missing or has another form.
 pub fn read_opening(words: &[String]) -> Option<Opening<'_>>
     ensures some { IfSome result (λ opening. Opens (map string_bytes words.now) opening.folder opening.functions
         opening.door (map string_bytes opening.command.now)) }

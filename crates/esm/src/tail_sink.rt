@@ -1,19 +1,19 @@
-// A sink that remembers the end of what was written to it.
+// A sink that remembers the end of the last write.
 ghost use Rattle.std.specs.Prelude.{◌≡◌};
 
 use esm_io::{Failed, Sink};
 use std::alloc::Global;
 
-/// The bytes that are remembered: more than a line that tells a refusal has.
+/// How many bytes are remembered: more than the line of a refusal has.
 const TAIL: usize = 256;
 
-/// What remembers the end of what was written to it.
+/// A sink that remembers the end of the last write.
 pub trait Remembers {
-    /// The last bytes that were written, 256 at most.
+    /// The last bytes of the last write, at most 256; empty if there was no memory for them.
     fn tail(&self) -> &[u8];
 }
 
-/// A sink that hands all on to another one, and remembers the end of what that one took last.
+/// A sink that passes each write to another one, and remembers the end of what that one took last.
 #[derive(Drop)]
 pub struct TailSink<K: Sink> {
     inner: K,
@@ -21,7 +21,7 @@ pub struct TailSink<K: Sink> {
 }
 
 impl<K: Sink> TailSink<K> {
-    /// It takes no memory.
+    /// Makes a sink that has written nothing. Takes no memory.
     pub fn new(alloc: Global, inner: K) -> TailSink<K> {
         TailSink {
             inner,
@@ -29,7 +29,7 @@ impl<K: Sink> TailSink<K> {
         }
     }
 
-    /// Remembers the end of the bytes; nothing where memory is wanting.
+    /// Remembers the end of the bytes, or nothing if memory runs out.
     fn remember(&mut self, bytes: &[u8])
         ensures { self.new.inner ≡ self.old.inner }
     {

@@ -1,5 +1,5 @@
-// Tests: the words of a command line, with the program's own name left out and with bytes that are no UTF-8; an empty
-// folder; the time of a call that words spell.
+// Tests: the words of a command line, without the program's own name and with bytes that are no UTF-8; an empty folder; the
+// time limit of a call that words spell.
 use crate::opening::read_opening;
 use crate::timeouts::timeout_of;
 use crate::words::words;
@@ -56,7 +56,7 @@ fn words_that_are_no_text(rt: HostRuntime) -> Result<(), Fail> {
     Ok(())
 }
 
-/// The words that are parted by spaces in a text.
+/// The words of a text, which spaces separate.
 fn parted(alloc: Global, text: &str) -> Result<Vec<String>, AllocError> {
     let mut words = Vec::new(alloc);
     for word in text.split(' ') {
@@ -79,7 +79,7 @@ fn an_empty_folder_is_refused(rt: HostRuntime) -> Result<(), Fail> {
     Ok(())
 }
 
-/// The time of a call under the command that the text spells.
+/// The time limit of a call under the command that the text spells.
 fn timeout(alloc: Global, text: &str) -> Result<Option<u32>, AllocError> {
     match read(alloc, &parted(alloc, text)?) {
         Ok(command) => Ok(Some(timeout_of(&command))),

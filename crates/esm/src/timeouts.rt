@@ -1,4 +1,4 @@
-// The time that one call of a function has, by the words of the command.
+// The time limit of one call of a function, by the words of the command.
 ghost use Rattle.std.specs.Prelude.{◌≡◌, map, IfOk};
 ghost use Rattle.std.specs.String.{string_bytes};
 ghost use Rattle.esm.specs.Timeouts.{IsTimeout, timeout_of};
@@ -9,7 +9,7 @@ use esm_cli::{Command, WordsError, read};
 use esm_model::OutOfMemory;
 use std::alloc::Global;
 
-/// The time that one call of a function has under the command, in seconds: the longest where the command takes no
+/// Returns the time limit of one call of a function under the command, in seconds: the longest if the command takes no
 /// `--timeout`.
 pub fn timeout_of(command: &Command) -> u32
     ensures { result ≡ timeout_of command.now }
@@ -23,8 +23,8 @@ pub fn timeout_of(command: &Command) -> u32
     }
 }
 
-/// The time that one call of a function has, in seconds, under the command that the words spell: the longest where they
-/// spell none.
+/// Reads the time limit of one call of a function, in seconds, from the words of the command: the longest if they spell
+/// none.
 pub fn read_timeout(alloc: Global, words: &[String]) -> Result<u32, OutOfMemory>
     ensures { IfOk result (IsTimeout (map string_bytes words.now)) }
 {

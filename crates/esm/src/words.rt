@@ -4,7 +4,8 @@ use std::env;
 use std::io::ErrorKind;
 use std::rt::Env;
 
-/// The words after the program's own name. Where one of them is not UTF-8 there are none, which is no command.
+/// Returns the words after the program's own name. If one of them is not UTF-8 it returns none, and no words spell no
+/// command.
 pub fn words<R: Env + AllocGlobal>(rt: &R) -> Result<Vec<String>, OutOfMemory> {
     match env::args(rt) {
         Ok(args) => Ok(args.skip(1).collect(rt.alloc())?),

@@ -29,7 +29,7 @@ pub type HostWorld<H, S, D> = World<
     TcpDoor<H>,
 >;
 
-/// The world of what the words name, by this clock, over this input and these disks.
+/// Makes the world that the opening names, with this clock, this input and these disks.
 fn world_of<H: Runtime + Net + Clone, S: Source + Drop, D: Disk + Drop>(
     host: &H,
     alloc: Global,
@@ -58,7 +58,7 @@ fn world_of<H: Runtime + Net + Clone, S: Source + Drop, D: Disk + Drop>(
     })
 }
 
-/// The world without a folder: standard input, and disks that keep no journal, as an `init` leaves them.
+/// Makes the world without a folder: standard input, and disks that keep no journal and are as an `init` leaves them.
 pub fn memory_world<H: Runtime + Net + Clone>(
     host: &H,
     alloc: Global,
@@ -73,7 +73,7 @@ pub fn memory_world<H: Runtime + Net + Clone>(
     world_of(host, alloc, opening, clock, input, fresh_disks(alloc)?)
 }
 
-/// The world of a folder, whose files are opened when they are first used.
+/// Makes the world of a folder, whose files are opened when they are first used.
 pub fn folder_world<H: Runtime + Files<File = File> + Net + Clone>(
     host: &H,
     alloc: Global,

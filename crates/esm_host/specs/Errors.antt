@@ -1,4 +1,4 @@
--- Which of the system's error numbers pass by themselves. This product's own; the numbers are those of Linux.
+-- Which of the system's error numbers are temporary. This product's own; the numbers are those of Linux.
 use Rattle.std.specs.Prelude.{ℕ, ℤ, pos, negsuc, ◌==◌, Bool, false, List, [], ◌∷◌, Option, None, Some}
 use Rattle.std.specs.List.{list_any}
 
@@ -7,10 +7,10 @@ is_among numbers None = false
 is_among numbers (Some (negsuc n)) = false
 is_among numbers (Some (pos number)) = list_any (λ n. n == number) numbers
 
--- a connection is wanting: EAGAIN, ENOMEM, ENFILE, EMFILE, EADDRNOTAVAIL, ENOBUFS
+-- the system lacks what a connection needs: EAGAIN, ENOMEM, ENFILE, EMFILE, EADDRNOTAVAIL, ENOBUFS
 abbrev pub is_wanting : Option ℤ → Bool
 is_wanting = is_among (11 ∷ 12 ∷ 23 ∷ 24 ∷ 99 ∷ 105 ∷ [])
 
--- an accept may succeed a little later: EINTR, ENOMEM, ENFILE, EMFILE, ECONNABORTED, ENOBUFS
+-- an `accept` may succeed a little later: EINTR, ENOMEM, ENFILE, EMFILE, ECONNABORTED, ENOBUFS
 abbrev pub is_passing : Option ℤ → Bool
 is_passing = is_among (4 ∷ 12 ∷ 23 ∷ 24 ∷ 103 ∷ 105 ∷ [])

@@ -1,10 +1,10 @@
--- What the devices of the host hold. This product's own.
+-- What contracts see of the devices of the host. This product's own.
 use Rattle.std.specs.Prelude.{ℕ, Bool, List, Option}
 use Rattle.std.specs.Duration.{as_nanos}
 use Rattle.std.specs.declared.time.Duration.{Duration}
 use Rattle.esm_host.specs.declared.deadline.Deadline.{Deadline}
 
--- a real form: its count of faults
+-- a device of which contracts see nothing but its count of faults
 pub record RealState : Type 0 where
   pub faults : ℕ
 
@@ -13,13 +13,13 @@ pub record FileDiskState : Type 0 where
   pub down : Bool
   pub faults : ℕ
 
--- a disk that stands for no file: its first bytes, 0 where nothing was written; its length in bytes, and its count of faults
+-- a disk without a file: its first bytes, 0 where nothing was written; its length in bytes, and its count of faults
 pub record FleetingDiskState : Type 0 where
   pub kept : List ℕ
   pub len : ℕ
   pub faults : ℕ
 
--- a limit of time, in nanoseconds, and what the steady clock read when it began, none before
+-- a limit of time, in nanoseconds, and the reading of the steady clock when it began, none before
 pub record TimeLimit : Type 0 where
   pub limit : ℕ
   pub begun : Option Duration
@@ -27,8 +27,8 @@ pub record TimeLimit : Type 0 where
 abbrev pub writing_of : Deadline → TimeLimit
 writing_of d = record { limit = as_nanos d.limit; begun = d.begun }
 
--- a connection over TCP: whether it is there; its limit of time, in nanoseconds, and what the steady clock read when that
--- began, none before; that of its writes, where they have one of their own; its count of faults
+-- a connection over TCP: whether it is there; its limit of time, in nanoseconds, and the reading of the steady clock when
+-- that began, none before; the limit of its writes, if they have their own; its count of faults
 pub record TcpLinkState : Type 0 where
   pub connected : Bool
   pub limit : ℕ

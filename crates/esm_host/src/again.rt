@@ -1,4 +1,4 @@
-// Reads and writes that are made again where a signal interrupted them, as when the process is stopped and continued.
+// Repeats reads and writes that a signal interrupted, as when the process is stopped and continued.
 ghost use Rattle.std.specs.Prelude.{◌≡◌, ◌<◌, ◌≤◌, length, IfOk, OnOk, OnErr, IfErr, IsErrAnd, IsTrue, ◌↔◌};
 ghost use Rattle.std.specs.Io.{ReadsAtMost};
 ghost use Rattle.std.specs.Io.KnownBytes.{ReadConsumes, WriteAppends};
@@ -7,7 +7,7 @@ ghost use Rattle.std.specs.IoError.{error_kind};
 use std::io;
 use std::io::{ErrorKind, Read, Write};
 
-/// Whether a call of the system was interrupted: it did nothing, and is to be made again.
+/// Whether a call of the system was interrupted: then it did nothing, and is to be repeated.
 pub fn is_interrupted<T>(outcome: &io::Result<T>) -> bool
     ensures { IsTrue result ↔ IsErrAnd outcome.now (λ e. error_kind e ≡ ErrorKind.Interrupted) }
 {
@@ -17,7 +17,7 @@ pub fn is_interrupted<T>(outcome: &io::Result<T>) -> bool
     }
 }
 
-/// A read; one that was interrupted is made again.
+/// Reads, and repeats a read that was interrupted.
 pub fn read_again<S: Read>(source: &mut S, into: &mut [u8]) -> io::Result<usize>
     ensures within { ReadsAtMost result into.new }
     ensures uninterrupted { IfErr result (λ e. ¬ (error_kind e ≡ ErrorKind.Interrupted)) }
@@ -32,7 +32,8 @@ pub fn read_again<S: Read>(source: &mut S, into: &mut [u8]) -> io::Result<usize>
     Err(io::Error::from(ErrorKind::TimedOut))
 }
 
-/// A write; one that was interrupted is made again, and one that takes nothing of bytes that are there has failed.
+/// Writes, and repeats a write that was interrupted. A write that takes nothing of a nonempty slice has failed
+/// (`WriteZero`).
 pub fn write_again<S: Write>(sink: &mut S, from: &[u8]) -> io::Result<usize>
     ensures within { IfOk result (λ n. n ≤ length from.now) }
     ensures some { IfOk result (λ n. 0 < length from.now → 0 < n) }
@@ -48,7 +49,7 @@ pub fn write_again<S: Write>(sink: &mut S, from: &[u8]) -> io::Result<usize>
     Err(io::Error::from(ErrorKind::TimedOut))
 }
 
-/// What takes nothing of bytes that are there has failed.
+/// Turns a write that took nothing of a nonempty slice into an error.
 fn some_taken(count: io::Result<usize>, from: &[u8]) -> io::Result<usize>
     ensures some { IfOk result (λ n. 0 < length from.now → 0 < n) }
     ensures same { IfOk result (λ n. count ≡ Ok n) }

@@ -8,19 +8,19 @@ use std::io::ErrorKind;
 use std::rt::Clock;
 use std::time::Duration;
 
-/// The shortest time that a call of the system is given, in milliseconds.
+/// The shortest time that a call of the system gets, in milliseconds.
 const LEAST: u64 = 1;
 
 /// A limit of time, by the steady clock, from when it began.
 #[derive(Clone, Copy)]
 pub struct Deadline {
     pub limit: Duration,
-    /// What the steady clock read when it began; none before.
+    /// The reading of the steady clock when it began; none before.
     pub begun: Option<Duration>,
 }
 
 impl Deadline {
-    /// A limit of time that has not begun.
+    /// Makes a limit of time that has not begun.
     pub fn new(limit: Duration) -> Self
         ensures limit { result.limit ≡ limit }
         ensures unbegun { result.begun ≡ None }
@@ -28,7 +28,7 @@ impl Deadline {
         Deadline { limit, begun: None }
     }
 
-    /// A limit of time from now on. Where the steady clock cannot be read it began at that clock's zero.
+    /// Makes a limit of time that begins now. If the steady clock cannot be read, it began at that clock's zero.
     pub fn from_now<R: Clock>(rt: &R, limit: Duration) -> Self
         ensures limit { result.limit ≡ limit }
         ensures running { IsSome result.begun }
@@ -39,7 +39,7 @@ impl Deadline {
         }
     }
 
-    /// Begins it, where it has not begun.
+    /// Begins the limit, unless it has begun. An error if the steady clock cannot be read.
     pub fn begin<R: Clock>(&mut self, rt: &R) -> io::Result<()>
         ensures limit { self.new.limit ≡ self.old.limit }
         ensures begun { OnOk result (IsSome self.new.begun) }
@@ -51,7 +51,7 @@ impl Deadline {
         Ok(())
     }
 
-    /// Ends it, so that it can begin anew.
+    /// Ends the limit, so that it can begin again.
     pub fn end(&mut self)
         ensures limit { self.new.limit ≡ self.old.limit }
         ensures unbegun { self.new.begun ≡ None }
@@ -59,8 +59,8 @@ impl Deadline {
         self.begun = None;
     }
 
-    /// What is left of it; a millisecond at least where anything is left. A limit that has not begun counts as whole. An error
-    /// where nothing is left, and where the steady clock cannot be read.
+    /// Returns what is left of the limit, and at least a millisecond if anything is. A limit that has not begun is left
+    /// whole. An error if nothing is left, or if the steady clock cannot be read.
     pub fn left<R: Clock>(&self, rt: &R) -> io::Result<Duration>
         ensures some { IfOk result (λ left. 0 < as_nanos left) }
         ensures bounded { IfOk result (λ left. as_nanos left ≤ max (as_nanos self.now.limit) 1_000_000) }
@@ -74,7 +74,7 @@ impl Deadline {
     }
 }
 
-/// What is left of a limit; a millisecond at least where anything is left.
+/// Returns what is left of a limit, and at least a millisecond if anything is.
 fn time_left(limit: Duration, gone: Duration) -> Option<Duration>
     ensures none { IsNone result ↔ (as_nanos limit - as_nanos gone ≡ 0) }
     ensures some { IfSome result (λ left. as_nanos left ≡ max (as_nanos limit - as_nanos gone) 1_000_000) }
@@ -86,7 +86,7 @@ fn time_left(limit: Duration, gone: Duration) -> Option<Duration>
     Some(longer(left, Duration::from_millis(LEAST)))
 }
 
-/// The longer of two times.
+/// Returns the longer of two times.
 fn longer(one: Duration, other: Duration) -> Duration
     ensures { as_nanos result ≡ max (as_nanos one) (as_nanos other) }
 {

@@ -1,4 +1,4 @@
-// A file of the host as a disk: opened and locked by its first call, and synced with its folder.
+// A file of the host as a disk: its first call opens and locks the file, and it syncs the file and its folder.
 ghost use Rattle.std.specs.Prelude.{◌≡◌, [], true, false, IfOk, IsErr, OnOk, OnErr};
 ghost use Rattle.esm_io.specs.Faults.{IsCount, Rose};
 ghost use Rattle.esm_host.specs.Streams.{IsAboveStreams};
@@ -14,17 +14,16 @@ use std::path::Path;
 use std::rt::Files;
 use std::{fs, io};
 
-/// A file as a disk. It may be any disk, so nothing is said of what it holds.
+/// A file as a disk. To the contracts it may be any disk: they say nothing of what it holds.
 ///
-/// The first call opens the file, makes a missing one with length 0, and takes an exclusive advisory lock (`flock`)
-/// that stands until this value is dropped. Where that fails, as in a missing folder or at a file that another open
-/// has locked, the call is a fault and the next one tries again. It works on none of the descriptors of the standard
-/// streams: an open that gave one is a fault too.
+/// The first call opens the file, makes a missing one with length 0, and takes an exclusive advisory lock (`flock`) that is
+/// kept until this value is dropped. If that fails, as in a missing folder or for a file that another open has locked, the
+/// call is a fault; after a `len` or a `read` the next call tries again. The disk never uses the descriptor of a standard
+/// stream: an open that gave one is a fault too.
 ///
-/// A `sync` syncs the file's bytes and its length (`fdatasync`). The first one syncs the file's folder too, so that a file that
-/// was made is still found there after a crash.
-/// After a `write_at` or a `sync` that failed every later call is a fault: what the system still holds of the bytes
-/// is then unknown, and a further sync could answer Ok without them.
+/// A `sync` syncs the file's bytes and its length (`fdatasync`). The first one also syncs the file's folder, so that a new
+/// file is still found there after a crash. After a `write_at` or a `sync` that failed, every later call is a fault: what
+/// the system still holds of the bytes is then unknown, and a further sync could return Ok without them.
 #[derive(Drop)]
 pub struct FileDisk<R: Files<File = File> + Clone> {
     rt: R,
@@ -47,7 +46,7 @@ impl<R: Files<File = File> + Clone> Model for FileDisk<R> {
     ghost invariant = { λ s. IfSome s.file IsAboveStreams };
 }
 
-/// Opens and locks the file; makes a missing one.
+/// Opens and locks the file, and makes a missing one.
 fn open_locked<R: Files<File = File>>(rt: &R, path: &str) -> io::Result<File>
     ensures above { IfOk result IsAboveStreams }
 {
@@ -61,7 +60,7 @@ fn open_locked<R: Files<File = File>>(rt: &R, path: &str) -> io::Result<File>
     Ok(file)
 }
 
-/// The folder that a path's last name stands in.
+/// Returns the folder that has the path's last name.
 fn folder_of(path: &str) -> &str {
     match Path::new(path).parent() {
         Some(folder) if !folder.as_str().is_empty() => folder.as_str(),
@@ -74,7 +73,8 @@ fn sync_folder<R: Files<File = File>>(rt: &R, path: &str) -> io::Result<()> {
 }
 
 impl<R: Files<File = File> + Clone> FileDisk<R> {
-    /// A disk over the file at this path. It opens nothing. `OutOfMemory` where the runtime's handle cannot be copied.
+    /// Makes a disk over the file at this path. It opens nothing yet. `OutOfMemory` if the runtime's handle cannot be
+    /// copied.
     pub fn new(rt: &R, path: Text) -> Result<Self, OutOfMemory>
         ensures faultless { IfOk result (λ disk. disk.faults ≡ 0) }
         ensures up { IfOk result (λ disk. disk.down ≡ false) }
@@ -89,7 +89,7 @@ impl<R: Files<File = File> + Clone> FileDisk<R> {
         })
     }
 
-    /// The open file, taken out for one call; `file` is to be set again.
+    /// Takes the open file out for one call; `file` must be set again.
     fn take_file(&mut self) -> io::Result<File>
         ensures above { IfOk result IsAboveStreams }
         ensures same { self.new ≡ self.old }

@@ -14,8 +14,8 @@ use std::os::fd::AsRawFd;
 use std::rt::Files;
 use std::{fs, io};
 
-/// A file that is read from its front. It is opened by the first call that may wait; a missing one is a fault of the first
-/// read. It reads from none of the descriptors of the standard streams: an open that gave one is a fault.
+/// A file that is read from its front. The first call that may wait opens it; if the file is missing, the first read is a
+/// fault. It never reads from the descriptor of a standard stream: an open that gave one is a fault.
 #[derive(Drop)]
 pub struct FileSource<R: Files<File = File> + Clone> {
     rt: R,
@@ -43,7 +43,7 @@ fn open_above<R: Files<File = File>>(rt: &R, path: &str) -> io::Result<File>
     above_streams(fs::open(rt, path)?)
 }
 
-/// Whether to open what stands at this path, or to read it, may wait for others, as a FIFO or a device does.
+/// Whether to open or to read what is at this path may wait for others, as for a FIFO or a device.
 fn may_wait<R: Files<File = File>>(rt: &R, path: &str) -> bool {
     match fs::metadata(rt, path) {
         Ok(found) => !found.is_file(),
@@ -52,7 +52,8 @@ fn may_wait<R: Files<File = File>>(rt: &R, path: &str) -> bool {
 }
 
 impl<R: Files<File = File> + Clone> FileSource<R> {
-    /// The bytes of the file at this path. It opens nothing. `OutOfMemory` where the runtime's handle cannot be copied.
+    /// Makes a source of the bytes of the file at this path. It opens nothing yet. `OutOfMemory` if the runtime's handle
+    /// cannot be copied.
     pub fn new(rt: &R, path: Text) -> Result<Self, OutOfMemory>
         ensures faultless { IfOk result (λ source. source.faults ≡ 0) }
     {
@@ -70,9 +71,9 @@ impl<R: Files<File = File> + Clone> Source for FileSource<R> {
 
     ghost left = { λ s. None };
 
-    /// A file is always ready, and a FIFO or a device may not be. With some patience it is opened, and a FIFO waits there for
-    /// its first writer, however long. True also at its end, and where it cannot be opened or polled; false where the time
-    /// passed or a signal interrupted it.
+    /// A file is always ready; a FIFO or a device may not be. With a `patience` above 0, in milliseconds, it opens the file,
+    /// and a FIFO then waits for its first writer, however long. True also at the end of the file, or if it cannot be opened
+    /// or polled; false if the time passed or a signal interrupted it.
     fn is_ready(&mut self, patience: u64) -> bool {
         if self.file.is_none() {
             if patience == 0 {

@@ -1,4 +1,4 @@
-// A disk that stands for no file: it counts what is written and keeps the first bytes alone.
+// A disk without a file: it counts what is written, and keeps only the first bytes.
 ghost use Rattle.std.specs.Prelude.{◌≡◌, ◌+◌, ◌≤◌, ◌^◌, [], take, drop, length, replicate, max, min, false, IfOk, IsOk, OnOk, OnErr};
 ghost use Rattle.esm_io.specs.Faults.{IsCount, Rose};
 ghost use Rattle.esm_io.specs.Images.{overwritten};
@@ -7,15 +7,15 @@ ghost use Rattle.esm_io.specs.Schedule.{one_more};
 use esm_io::{Disk, Failed};
 use std::marker::Model;
 
-/// The bytes that are kept: as many as a journal's file without entries has, so that such a file can be opened.
+/// How many bytes are kept: as many as the file of a journal without entries has, so that such a file can be opened.
 const KEPT: usize = 18;
 
-/// A disk for a run without a folder, whose journal is never read again. It takes any number of bytes and keeps the first
-/// `KEPT` of them and the length, so its memory does not grow. Nothing outlasts it, and nothing is said of what it holds
-/// as a whole.
+/// A disk for a run without a folder, whose journal is never read again. It takes any number of bytes, and keeps the first
+/// `KEPT` of them and the length, so its memory does not grow. Nothing of it outlasts this value, and contracts say nothing
+/// of what it holds as a whole.
 ///
-/// A read among the bytes that are kept gives what was written there, or 0 where nothing was. Any other read is a fault, and
-/// so is a write that ends past 2^64 - 1 bytes.
+/// A read within the kept bytes returns what was written there, or 0 where nothing was. Any other read is a fault, and so is
+/// a write that ends past 2^64 - 1 bytes.
 #[derive(Drop)]
 pub struct FleetingDisk {
     kept: [u8; KEPT],
@@ -35,7 +35,7 @@ impl Model for FleetingDisk {
     ghost invariant = { λ s. length s.kept ≡ KEPT };
 }
 
-/// Writes over the bytes that are kept, as far as they go.
+/// Overwrites the kept bytes, as far as they extend.
 fn keep(kept: &mut [u8; KEPT], at: u64, from: &[u8])
     requires { length kept.old ≡ KEPT }
     ensures { kept.new ≡ take KEPT (overwritten kept.old at from.now) }
@@ -49,7 +49,7 @@ fn keep(kept: &mut [u8; KEPT], at: u64, from: &[u8])
 }
 
 impl FleetingDisk {
-    /// An empty disk.
+    /// Makes an empty disk.
     pub fn new() -> Self
         ensures kept { result.kept ≡ replicate KEPT 0 }
         ensures empty { result.len ≡ 0 }
@@ -104,7 +104,7 @@ impl Disk for FleetingDisk {
     }
 
     fn read(&mut self, at: u64, into: &mut [u8]) -> Result<(), Failed>
-        // What a read gives, and of what.
+        // What a read returns, and when it succeeds.
         ensures bytes { OnOk result (into.new ≡ take (length into.old) (drop at self.old.kept)) }
         ensures known { at + length into.old ≤ min self.old.len KEPT → IsOk result }
         ensures forgotten { OnOk result (at + length into.old ≤ min self.old.len KEPT) }
@@ -144,7 +144,7 @@ impl Disk for FleetingDisk {
         Ok(())
     }
 
-    /// It does nothing: nothing outlasts this value.
+    /// Does nothing: nothing outlasts this value.
     fn sync(&mut self) -> Result<(), Failed>
         ensures done { IsOk result }
         ensures same { self.new ≡ self.old }

@@ -1,4 +1,4 @@
-// The clock of the host, which tells the moment, pauses, and shows on a terminal how far a run has come.
+// The clock of the host, which gives the moment, pauses, and shows on a terminal how far a run has come.
 ghost use Rattle.std.specs.Prelude.{◌≡◌, ◌+◌, ◌/◌, ◌≤◌, ◌^◌, ◌-◌, min, true};
 ghost use Rattle.std.specs.Duration.{as_nanos};
 
@@ -11,28 +11,28 @@ use std::marker::Model;
 use std::sync::atomic::{AtomicU64, Ordering};
 use std::time::Duration;
 
-/// How long nothing is shown between two shows, in milliseconds.
+/// The least time between two shows, in milliseconds.
 const SHOW_EVERY: u64 = 1_000;
 
-/// The moment of the next show where nobody watches, and while a thread is at one.
+/// The moment of the next show if nobody watches, and while a thread shows something.
 const NEVER: u64 = u64::MAX;
 
-/// The host's clock. It reads the date once, when it is made, and goes on by the steady clock: a date that is set
-/// afterwards changes nothing. The steady clock stands while the machine is suspended, so that afterwards this one lags
-/// behind the date by that time.
+/// The host's clock. It reads the date once, when it is made, and continues by the steady clock: a date that is set
+/// afterwards changes nothing. The steady clock stops while the machine is suspended, so this clock then lags behind the
+/// date by that time.
 ///
-/// It may be watched at the terminal of standard error: there it shows how far a run has come, when the book makes a step
-/// and at most once a second, while this process is in the terminal's foreground.
+/// It may be watched at the terminal of standard error. There it shows how far a run has come, when the book makes a step,
+/// at most once a second, and only while this process is in the terminal's foreground.
 #[derive(Drop)]
 pub struct HostClock<R: std::rt::Clock + Eprint + Clone> {
     rt: R,
     /// When it was made, in milliseconds since 1970.
     date: u64,
-    /// What the steady clock read then, where it could be read.
+    /// The reading of the steady clock then, if it could be read.
     begun: Option<Duration>,
-    /// The moment from which on something may be shown again, in milliseconds since 1970, or `NEVER`.
+    /// The moment from which something may be shown again, in milliseconds since 1970, or `NEVER`.
     next_show: AtomicU64,
-    /// Whether a line is shown; none where nobody watches.
+    /// Whether a line is on the terminal; none if nobody watches.
     shown: Option<Shown>,
 }
 
@@ -45,14 +45,14 @@ impl<R: std::rt::Clock + Eprint + Clone> Model for HostClock<R> {
 }
 
 impl<R: std::rt::Clock + Eprint + Clone> HostClock<R> {
-    /// The clock of this host, which nobody watches. Where the date cannot be read, it counts from 0. `OutOfMemory` where
+    /// Makes the clock of this host, which nobody watches. If the date cannot be read, it counts from 0. `OutOfMemory` if
     /// the runtime's handle cannot be copied.
     pub fn new(rt: &R) -> Result<Self, OutOfMemory> {
         HostClock::made(rt, None)
     }
 
-    /// The clock of this host, watched where standard error is a terminal. A short run is shown nothing: the first show
-    /// comes a second after it was made.
+    /// Makes the clock of this host, watched if standard error is a terminal. The first show comes a second after that, so a
+    /// short run shows nothing.
     pub fn watched(rt: &R, alloc: Global) -> Result<Self, OutOfMemory> {
         if is_terminal(libc::STDERR_FILENO) {
             return HostClock::made(rt, Some(Shown::new(alloc)?));
@@ -60,8 +60,8 @@ impl<R: std::rt::Clock + Eprint + Clone> HostClock<R> {
         HostClock::made(rt, None)
     }
 
-    /// The same of a run that reads standard input. Where that is a terminal too, nobody watches: lines that are typed
-    /// would be wiped off the screen.
+    /// The same for a run that reads standard input. If that is a terminal too, nobody watches, since a show would wipe
+    /// typed lines off the screen.
     pub fn watched_at_input(rt: &R, alloc: Global) -> Result<Self, OutOfMemory> {
         if is_terminal(libc::STDIN_FILENO) {
             return HostClock::made(rt, None);
@@ -69,7 +69,7 @@ impl<R: std::rt::Clock + Eprint + Clone> HostClock<R> {
         HostClock::watched(rt, alloc)
     }
 
-    /// The clock of this host, which shows lines where there is what they are noted in.
+    /// Makes the clock of this host, which shows lines if it gets a `Shown` to note them in.
     fn made(rt: &R, shown: Option<Shown>) -> Result<Self, OutOfMemory> {
         let date = match rt.since_1970() {
             Ok(since) => after(0, since),
@@ -84,7 +84,7 @@ impl<R: std::rt::Clock + Eprint + Clone> HostClock<R> {
         })
     }
 
-    /// What tells whether a line is shown, for whoever is to erase it; none where nobody watches.
+    /// Returns what says whether a line is on the terminal, for whoever is to erase it; none if nobody watches.
     pub fn shown(&self) -> Result<Option<Shown>, OutOfMemory> {
         match &self.shown {
             None => Ok(None),
@@ -92,14 +92,14 @@ impl<R: std::rt::Clock + Eprint + Clone> HostClock<R> {
         }
     }
 
-    /// From now on nothing is shown for a second.
+    /// Lets nothing be shown for the next second.
     fn rest(&self) {
         let next = self.now().saturating_add(SHOW_EVERY);
         self.next_show.store(next, Ordering::SeqCst);
     }
 }
 
-/// The moment of the first show of a clock that was made at this date, in milliseconds since 1970.
+/// Returns the moment of the first show of a clock that was made at this date, in milliseconds since 1970.
 fn first_show(date: u64, is_watched: bool) -> u64 {
     if is_watched {
         return date.saturating_add(SHOW_EVERY);
@@ -107,7 +107,7 @@ fn first_show(date: u64, is_watched: bool) -> u64 {
     NEVER
 }
 
-/// The moment so long after a date, both in milliseconds, up to the last one.
+/// Returns the moment `gone` after a date, both in milliseconds, and at most the last moment.
 fn after(date: u64, gone: Duration) -> u64
     ensures { result ≡ min (date + as_nanos gone / 1_000_000) (2 ^ 64 - 1) }
 {
@@ -117,7 +117,7 @@ fn after(date: u64, gone: Duration) -> u64
 impl<R: std::rt::Clock + Eprint + Clone> Clock for HostClock<R> {
     ghost gave = { λ moment. true };
 
-    /// The date when it was made where the steady clock cannot be read.
+    /// The date when it was made, if the steady clock cannot be read.
     fn now(&self) -> u64
         ensures since_made { self.now.date ≤ result }
     {
@@ -138,8 +138,8 @@ impl<R: std::rt::Clock + Eprint + Clone> Clock for HostClock<R> {
         self.now().max(until)
     }
 
-    /// At most once a second, whoever asks, first a second after the clock was made, and not while a line is being shown: a
-    /// terminal that stands still holds one thread and no other.
+    /// At most once a second, whoever asks, first a second after the clock was made, and not while a line is being shown: so
+    /// a terminal that blocks holds up only one thread.
     fn takes_show(&self) -> bool {
         let due = self.next_show.load(Ordering::SeqCst);
         if due == NEVER {
@@ -161,7 +161,7 @@ impl<R: std::rt::Clock + Eprint + Clone> Clock for HostClock<R> {
         false
     }
 
-    /// On standard error, in a line that the next one overwrites, and that is erased before the output goes on.
+    /// Writes on standard error, in a line that the next show overwrites, and that is erased before the output continues.
     fn show(&self, progress: Progress) {
         if let Some(shown) = &self.shown {
             shown.tell(&self.rt, progress);

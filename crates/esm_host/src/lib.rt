@@ -1,5 +1,5 @@
-//! The devices of the host behind the traits of `esm_io`: files, the standard streams, the clock and connections over
-//! TCP, a few lines each. They count their faults and tell nothing of content.
+//! The devices of the host behind the traits of `esm_io`: files, the standard streams, the clock and connections over TCP, a
+//! few lines each. They count their faults and show contracts nothing of their content.
 #![tactic(auto)]
 
 mod again;

@@ -1,27 +1,27 @@
-// Which failures of the system are a want of its own, and no answer of a peer.
+// Which failures of the system mean that this machine lacks something, and are no answer of a peer.
 ghost use Rattle.std.specs.Prelude.{◌≡◌, ◌↔◌, true};
 ghost use Rattle.std.specs.IoError.{raw_os_error};
 ghost use Rattle.esm_host.specs.Errors.{is_wanting, is_passing};
 
 use std::io;
 
-/// The system has no room for a further open file.
+/// The system can open no further file.
 const ENFILE: i32 = 23;
 
-/// The system has no room for a further buffer of a socket.
+/// The system has no further buffer for a socket.
 const ENOBUFS: i32 = 105;
 
 /// Why there is no connection.
 #[derive(Clone, Copy, Debug, PartialEq, Eq)]
 pub enum NoConnection {
-    /// For want of a local port, a descriptor or a buffer (EADDRNOTAVAIL, EMFILE, ENFILE, EAGAIN, ENOBUFS, ENOMEM):
+    /// This machine has no free local port, descriptor or buffer (EADDRNOTAVAIL, EMFILE, ENFILE, EAGAIN, ENOBUFS, ENOMEM):
     /// nothing was asked of the peer.
     Wanting,
     /// Anything else: no peer listens, it did not take the connection in time, or the steady clock cannot be read.
     Refused,
 }
 
-/// Why a call that was to connect gave no connection.
+/// Returns why a call that was to connect gave no connection.
 pub fn no_connection(error: &io::Error) -> NoConnection
     ensures { (result ≡ NoConnection.Wanting) ↔ (is_wanting (raw_os_error error.now) ≡ true) }
 {
@@ -32,8 +32,8 @@ pub fn no_connection(error: &io::Error) -> NoConnection
     }
 }
 
-/// Whether a call that was to take a connection may succeed a little later: for want of a descriptor or a buffer, where
-/// the connection was gone before it was taken, and where the call was interrupted.
+/// Whether a call that was to accept a connection may succeed a little later: no descriptor or buffer was free, the
+/// connection was gone before it was accepted, or the call was interrupted.
 pub fn is_passing(error: &io::Error) -> bool
     ensures { result ≡ is_passing (raw_os_error error.now) }
 {

@@ -2,8 +2,8 @@
 use libc::types::pollfd;
 use std::os::fd::RawFd;
 
-/// Whether a read of this descriptor does not wait, or comes not to wait within so many milliseconds. True also at the end
-/// of what it reads and where it cannot be polled; false where the time passed or a signal interrupted it.
+/// Whether a read of this descriptor would not wait, now or within `patience` milliseconds. True also at the end of what it
+/// reads, or if it cannot be polled; false if the time passed or a signal interrupted it.
 pub fn is_readable(descriptor: RawFd, patience: u64) -> bool {
     let mut asked = [pollfd {
         fd: descriptor,

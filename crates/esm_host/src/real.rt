@@ -1,11 +1,11 @@
-// Counting the failures of calls of the system, for the devices of the host.
+// Counts the failures of calls of the system, for the devices of the host.
 ghost use Rattle.std.specs.Prelude.{◌≡◌, IfOk, Ok, OnOk, OnErr, IsErr};
 ghost use Rattle.esm_io.specs.Faults.{IsCount, Rose};
 ghost use Rattle.esm_io.specs.Schedule.{one_more};
 
 use esm_io::Failed;
 
-/// Counts a call that failed.
+/// Adds one to the count if the call failed.
 pub fn count_failure<T, E>(faults: &mut u64, outcome: &Result<T, E>)
     ensures uncounted { OnOk outcome.now (faults.new ≡ faults.old) }
     ensures counted { OnErr outcome.now (faults.new ≡ one_more faults.old) }
@@ -18,7 +18,7 @@ pub fn count_failure<T, E>(faults: &mut u64, outcome: &Result<T, E>)
     }
 }
 
-/// The result of a call; a failure is counted.
+/// Returns the result of a call, and counts a failure.
 pub fn counted<T, E: Drop>(faults: &mut u64, outcome: Result<T, E>) -> Result<T, Failed>
     ensures value { IfOk result (λ value. outcome ≡ Ok value) }
     ensures uncounted { OnOk result (faults.new ≡ faults.old) }

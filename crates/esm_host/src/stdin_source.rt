@@ -9,8 +9,8 @@ use esm_model::OutOfMemory;
 use std::alloc::Global;
 use std::marker::Model;
 
-/// Standard input. The host's reader holds a buffer of some thousand bytes; so it has a place of its own, since a source is
-/// handed on by value.
+/// Standard input. The host's reader holds a buffer of some thousand bytes, and a source is passed by value, so the reader
+/// is boxed.
 #[derive(Drop)]
 pub struct StdinSource<R: Input + Clone> {
     rt: R,
@@ -27,8 +27,8 @@ impl<R: Input + Clone> Model for StdinSource<R> {
 }
 
 impl<R: Input + Clone> StdinSource<R> {
-    /// Standard input from where it stands. It reads nothing. `OutOfMemory` where the runtime's handle cannot be copied, or
-    /// there is no place for the reader.
+    /// Makes a source of standard input from where it is. It reads nothing yet. `OutOfMemory` if the runtime's handle cannot
+    /// be copied, or there is no memory for the reader.
     pub fn new(rt: &R, alloc: Global) -> Result<Self, OutOfMemory>
         ensures faultless { IfOk result (λ source. source.faults ≡ 0) }
     {
@@ -45,8 +45,8 @@ impl<R: Input + Clone> Source for StdinSource<R> {
 
     ghost left = { λ s. None };
 
-    /// Asks of the host's descriptor 0. True also at its end and where it cannot be polled; false where the time passed or a
-    /// signal interrupted it.
+    /// Polls the host's descriptor 0. True also at its end, or if it cannot be polled; false if the time passed or a signal
+    /// interrupted it.
     fn is_ready(&mut self, patience: u64) -> bool {
         is_readable(libc::STDIN_FILENO, patience)
     }

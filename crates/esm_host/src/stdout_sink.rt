@@ -15,7 +15,7 @@ use std::marker::Model;
 pub struct StdoutSink<R: Print + Eprint + Clone> {
     rt: R,
     faults: u64,
-    /// Whether a line on the terminal tells how far a run has come, which is erased before a write.
+    /// Whether a line on the terminal shows how far a run has come; it is erased before a write.
     shown: Option<Shown>,
 }
 
@@ -28,8 +28,8 @@ impl<R: Print + Eprint + Clone> Model for StdoutSink<R> {
 }
 
 impl<R: Print + Eprint + Clone> StdoutSink<R> {
-    /// Standard output, beside a clock that notes here which lines it shows, if one does. It writes nothing. `OutOfMemory`
-    /// where the runtime's handle cannot be copied.
+    /// Makes a sink of standard output. `shown` is where a clock notes which lines it shows, if one does. It writes nothing
+    /// yet. `OutOfMemory` if the runtime's handle cannot be copied.
     pub fn new(rt: &R, shown: Option<Shown>) -> Result<Self, OutOfMemory>
         ensures faultless { IfOk result (λ sink. sink.faults ≡ 0) }
     {
@@ -46,7 +46,7 @@ impl<R: Print + Eprint + Clone> Sink for StdoutSink<R> {
 
     ghost written = { λ s. None };
 
-    /// What takes nothing of bytes that are there has failed.
+    /// A write that takes nothing of a nonempty slice is a fault.
     fn write(&mut self, from: &[u8]) -> Result<usize, Failed> {
         if let Some(shown) = &self.shown {
             shown.erase(&self.rt);

@@ -1,4 +1,4 @@
-// A port of 127.0.0.1 as a door, where connections over TCP come in.
+// A port of 127.0.0.1 as a door, at which connections over TCP arrive.
 ghost use Rattle.std.specs.Prelude.{◌≡◌, ◌*◌, true, false, Some, None, IsSome, IfNone, IfOk, IfErr, OnErr};
 ghost use Rattle.std.specs.IoError.{raw_os_error};
 ghost use Rattle.esm_io.specs.Faults.{IsCount, Rose};
@@ -18,20 +18,20 @@ use std::net::{Ipv4Addr, Net, OpenListener, TcpListener};
 use std::rt::Clock;
 use std::time::Duration;
 
-/// A request has 30 seconds from the connection's start to its last byte.
+/// The limit of all reads of a connection, from when it was accepted, and of all its writes, from the first one, in seconds.
 const LIMIT: u64 = 30;
 
-/// How many milliseconds an `accept` that could not take a connection waits at first; each further time twice as long.
+/// The first pause of an `accept` that could not take a connection, in milliseconds. Each further pause is twice as long.
 const FIRST_PAUSE: u64 = 10;
 
-/// The longest that it waits before it tries again, in milliseconds.
+/// The longest pause before it tries again, in milliseconds.
 const LONGEST_PAUSE: u64 = 1000;
 
-/// A port of 127.0.0.1 where connections over TCP come in. The first `accept` listens there; where that fails, as at
-/// a port that another process has, the next one tries again. All reads of an accepted connection have 30 seconds, and so
-/// have all its writes, from the first of them on; afterwards each is a fault. It works on none of the descriptors of the
-/// standard streams: a socket that got one is closed, which is a fault. `close` drops the connection, which ends it, and
-/// keeps no list.
+/// A port of 127.0.0.1 at which connections over TCP arrive. The first `accept` listens there; if that fails, as at a port
+/// that another process has, the next one tries again. All reads of an accepted connection together have 30 seconds, and so
+/// have all its writes, from the first one; after that each is a fault. The door never uses the descriptor of a standard
+/// stream: a socket that got one is closed, which is a fault. `close` drops the connection, which ends it, and keeps no
+/// list.
 #[derive(Drop)]
 pub struct TcpDoor<R: Net + Clock + Clone> {
     rt: R,
@@ -49,7 +49,7 @@ impl<R: Net + Clock + Clone> Model for TcpDoor<R> {
 }
 
 impl<R: Net + Clock + Clone> TcpDoor<R> {
-    /// A door at this port. It opens nothing. `OutOfMemory` where the runtime's handle cannot be copied.
+    /// Makes a door at this port. It opens nothing yet. `OutOfMemory` if the runtime's handle cannot be copied.
     pub fn new(rt: &R, port: u16) -> Result<Self, OutOfMemory>
         ensures faultless { IfOk result (λ door. door.faults ≡ 0) }
     {
@@ -62,7 +62,7 @@ impl<R: Net + Clock + Clone> TcpDoor<R> {
     }
 }
 
-/// The listener, made by the first call.
+/// Returns the listener, which the first call makes.
 fn listening<R: Net>(rt: &R, port: u16, listener: Option<R::Listener>) -> io::Result<R::Listener>
     ensures above { IfOk result (λ made. IfNone listener (IsOther (R.Listener.raw_fd made))) }
 {
@@ -72,8 +72,8 @@ fn listening<R: Net>(rt: &R, port: u16, listener: Option<R::Listener>) -> io::Re
     }
 }
 
-/// Waits for a connection, for ever if none comes. Where one cannot be taken for want of a descriptor or a buffer, or was
-/// gone before it was taken, it waits a little and goes on: no such error is told.
+/// Waits for a connection, for ever if none arrives. If none can be taken because no descriptor or buffer is free, or one
+/// was gone before it was taken, it waits a little and continues: such an error is not returned.
 fn accept_patiently<R: Net + Clock>(rt: &R, listener: &R::Listener) -> io::Result<R::Stream>
     ensures above { IfOk result (λ stream. IsOther (R.Stream.raw_fd stream)) }
     ensures patient { IfErr result (λ e. is_passing (raw_os_error e) ≡ false) }
@@ -97,8 +97,8 @@ impl<R: Net + Clock + Clone> Door for TcpDoor<R> {
 
     ghost closed = { λ s. None };
 
-    /// Waits for a connection, for ever if none comes. Where one cannot be taken for want of a descriptor or a buffer, it
-    /// waits and goes on.
+    /// Waits for a connection, for ever if none arrives. If none can be taken because no descriptor or buffer is free, it
+    /// waits and continues.
     fn accept(&mut self) -> Result<TcpLink<R>, Failed>
         ensures connected { IfOk result (λ link. link.connected ≡ true) }
         ensures limit { IfOk result (λ link. link.limit ≡ LIMIT * 1_000_000_000) }

@@ -1,4 +1,4 @@
-// A connection over TCP as a link, made to a local port or accepted by a door.
+// A connection over TCP as a link, either made to a local port or accepted by a door.
 ghost use Rattle.std.specs.Prelude.{◌≡◌, ◌⊎◌, ◌<◌, ◌≤◌, true, false, length, Some, None, option_map, IsSome, IfOk, IfErr, IsOk, OnOk, OnErr};
 ghost use Rattle.std.specs.Duration.{as_nanos};
 ghost use Rattle.std.specs.IoError.{error_kind, raw_os_error};
@@ -23,14 +23,14 @@ use std::net::{Ipv4Addr, Net, OpenStream, SocketAddr, TcpStream};
 use std::rt::Clock;
 use std::time::Duration;
 
-/// A connection over TCP, with a limit of time for all of it by the steady clock: once nothing is left of it each read and
-/// each write is a fault, and so is either where that clock cannot be read. A call that a signal interrupted is made again.
-/// The writes of a connection that a door accepted have a limit of their own, as long as that of its reads.
+/// A connection over TCP, with a limit of time for all of it by the steady clock. Once nothing is left of the limit, each
+/// read and each write is a fault, and so is one for which that clock cannot be read. A call that a signal interrupted is
+/// repeated. The writes of a connection that a door accepted have a limit of their own, as long as that of its reads.
 ///
-/// One to a port of 127.0.0.1 is made by its first `connect`, read or write, which begins the limit. Where that fails, the
-/// next call tries again, within the same limit; after `NoConnection::Wanting` it begins the limit anew. A connection that
-/// is made works on none of the descriptors of the standard streams, and is never one of a socket to itself. One that a
-/// door accepted is there from the start.
+/// A connection to a port of 127.0.0.1 is made by its first `connect`, read or write, which begins the limit. If that fails,
+/// the next call tries again, within the same limit; after `NoConnection::Wanting` it begins the limit again. A connection
+/// that is made never uses the descriptor of a standard stream, and is not one of a socket to itself, if its own address can
+/// be read. One that a door accepted is there from the start.
 #[derive(Drop)]
 pub struct TcpLink<R: Net + Clock + Clone> {
     rt: R,
@@ -38,7 +38,7 @@ pub struct TcpLink<R: Net + Clock + Clone> {
     port: Option<u16>,
     stream: Option<R::Stream>,
     deadline: Deadline,
-    /// That of the writes, where it is their own; the first of them begins it.
+    /// The limit of the writes, if they have their own; the first write begins it.
     writing: Option<Deadline>,
     faults: u64,
 }
@@ -62,8 +62,8 @@ impl<R: Net + Clock + Clone> Model for TcpLink<R> {
 }
 
 impl<R: Net + Clock + Clone> TcpLink<R> {
-    /// A connection to this port, with this limit of time from the start of connecting to the last byte. It opens nothing.
-    /// `OutOfMemory` where the runtime's handle cannot be copied.
+    /// Makes a link to this port, with this limit of time from the start of connecting to the last byte. It opens nothing
+    /// yet. `OutOfMemory` if the runtime's handle cannot be copied.
     pub fn new(rt: &R, port: u16, limit: Duration) -> Result<Self, OutOfMemory>
         ensures unconnected { IfOk result (λ link. link.connected ≡ false) }
         ensures limit { IfOk result (λ link. link.limit ≡ as_nanos limit) }
@@ -81,9 +81,9 @@ impl<R: Net + Clock + Clone> TcpLink<R> {
         })
     }
 
-    /// A connection that a listener has accepted, whose reads have this limit of time from now on, and whose writes have it
-    /// from the first of them on; either from the steady clock's zero where that cannot be read. `OutOfMemory` where the
-    /// runtime's handle cannot be copied.
+    /// Makes a link of a connection that a listener accepted. Its reads have this limit of time from now on, and its writes
+    /// have it from the first write on; if the steady clock cannot be read then, either begins at that clock's zero.
+    /// `OutOfMemory` if the runtime's handle cannot be copied.
     pub fn accepted(rt: &R, stream: R::Stream, limit: Duration) -> Result<Self, OutOfMemory>
         ensures connected { IfOk result (λ link. link.connected ≡ true) }
         ensures limit { IfOk result (λ link. link.limit ≡ as_nanos limit) }
@@ -101,7 +101,7 @@ impl<R: Net + Clock + Clone> TcpLink<R> {
         })
     }
 
-    /// Makes the connection now, where it is not there.
+    /// Makes the connection now, if it is not there.
     pub fn connect(&mut self) -> Result<(), NoConnection>
         ensures connected { OnOk result (self.new.connected ≡ true) }
         ensures ready { self.old.connected ≡ true → IsOk result }
@@ -122,7 +122,7 @@ impl<R: Net + Clock + Clone> TcpLink<R> {
         Ok(())
     }
 
-    /// The connection, made where it is not there. It is taken out for one call: `stream` is to be set again.
+    /// Takes the connection out for one call, and makes it if it is not there; `stream` must be set again.
     fn connected(&mut self) -> Result<R::Stream, NoConnection>
         ensures faults { self.new.faults ≡ self.old.faults }
         ensures there { self.old.connected ≡ true → IsOk result }
@@ -144,7 +144,8 @@ impl<R: Net + Clock + Clone> TcpLink<R> {
     }
 }
 
-/// Why there is no connection. A want ends the limit of time, so that the next try begins it anew.
+/// Returns why there is no connection. If this machine lacks something, ends the limit of time, so that the next try begins
+/// it again.
 fn unconnected(deadline: &mut Deadline, error: &io::Error) -> NoConnection
     ensures limit { deadline.new.limit ≡ deadline.old.limit }
     ensures refused { result ≡ NoConnection.Refused → deadline.new.begun ≡ deadline.old.begun }
@@ -158,7 +159,7 @@ fn unconnected(deadline: &mut Deadline, error: &io::Error) -> NoConnection
     cause
 }
 
-/// A connection to this port of 127.0.0.1, within the limit of time, which begins where it has not begun.
+/// Connects to this port of 127.0.0.1 within the limit of time, and begins the limit unless it has begun.
 fn connect_in_time<R: Net + Clock>(
     rt: &R,
     port: Option<u16>,
@@ -176,7 +177,7 @@ fn connect_in_time<R: Net + Clock>(
     connect_again(rt, SocketAddr::from((Ipv4Addr::LOCALHOST, port)), deadline)
 }
 
-/// A connection; a try that was interrupted is made again.
+/// Connects, and repeats a try that was interrupted.
 fn connect_again<R: Net + Clock>(
     rt: &R,
     peer: SocketAddr,
@@ -194,7 +195,7 @@ fn connect_again<R: Net + Clock>(
     Err(io::Error::from(ErrorKind::TimedOut))
 }
 
-/// One try to connect, within what is left of the limit of time.
+/// Tries once to connect, within what is left of the limit of time.
 fn try_connect<R: Net + Clock>(
     rt: &R,
     peer: SocketAddr,
@@ -207,9 +208,9 @@ fn try_connect<R: Net + Clock>(
     to_another(stream, peer)
 }
 
-/// A connection to a peer. Where nobody listens at a port that the system gives out to those who connect, it may connect
-/// a socket to itself, whose own address is then the peer's: nobody has taken that connection. Where its own address
-/// cannot be told, it counts as a connection to another.
+/// Refuses a connection of a socket to itself. If nobody listens at a port that the system gives to those who connect, a
+/// socket may connect to itself: its own address is then the peer's, and nobody has taken the connection. If its own address
+/// cannot be read, it counts as a connection to another.
 fn to_another<S: OpenStream + Drop>(stream: S, peer: SocketAddr) -> io::Result<S>
     ensures same { IfOk result (λ kept. kept ≡ stream) }
     ensures refused { IfErr result (λ e. is_wanting (raw_os_error e) ≡ false) }
@@ -220,8 +221,8 @@ fn to_another<S: OpenStream + Drop>(stream: S, peer: SocketAddr) -> io::Result<S
     }
 }
 
-/// The limit of time of the writes: that of the whole connection, or their own, which begins now where it has not begun, or
-/// at the steady clock's zero where that cannot be read.
+/// Returns the limit of time of the writes: that of the whole connection, or their own. Their own begins now, unless it has
+/// begun; if the steady clock cannot be read, it began at that clock's zero.
 fn limit_of_writes<R: Clock>(rt: &R, whole: Deadline, writing: &mut Option<Deadline>) -> Deadline
     ensures begun { HasBegunOnce (option_map writing_of writing.old) (option_map writing_of writing.new) }
     ensures together { writing.old ≡ None → result ≡ whole }
@@ -268,7 +269,7 @@ impl<R: Net + Clock + Clone> Link for TcpLink<R> {
         count
     }
 
-    /// What takes nothing of bytes that are there has failed.
+    /// A write that takes nothing of a nonempty slice is a fault.
     fn write(&mut self, from: &[u8]) -> Result<usize, Failed>
         ensures within { IfOk result (λ n. n ≤ length from.now) }
         ensures some { IfOk result (λ n. 0 < length from.now → 0 < n) }

@@ -1,4 +1,4 @@
-// A line on the terminal of standard error that tells how far a run has come, and is erased before the output goes on.
+// A line on the terminal of standard error that shows how far a run has come, and is erased before the output continues.
 use esm_model::{OutOfMemory, Progress};
 use std::alloc::Global;
 use std::io::Eprint;
@@ -6,7 +6,7 @@ use std::os::fd::RawFd;
 use std::sync::Arc;
 use std::sync::atomic::{AtomicBool, Ordering};
 
-/// What goes to the beginning of a terminal's line and erases it (ECMA-48, EL).
+/// Moves to the beginning of a terminal's line and erases it (ECMA-48, EL).
 const ERASE: &str = "\r\x1b[K";
 
 /// Whether this descriptor is a terminal.
@@ -14,34 +14,34 @@ pub fn is_terminal(descriptor: RawFd) -> bool {
     libc::isatty(descriptor) == 1
 }
 
-/// Whether this process may write on the terminal of standard error as it likes. One in the terminal's background would
-/// write over the prompt, or be stopped for it. A terminal that does not control the process has no background for it.
+/// Whether this process may write on the terminal of standard error. A process in the terminal's background would write over
+/// the prompt, or be stopped for it. If the terminal does not control the process, the process is in no background of it.
 pub fn is_in_front() -> bool {
     let front = libc::tcgetpgrp(libc::STDERR_FILENO);
     front == -1 || front == libc::getpgrp()
 }
 
-/// Whether a line stands on the terminal that tells how far a run has come. The clock, which writes the line, and the
-/// output, before which it is erased, share it.
+/// Whether a line on the terminal shows how far a run has come. The clock, which writes the line, and the output, before
+/// which it is erased, share this.
 #[derive(Drop)]
 pub struct Shown {
     stands: Arc<AtomicBool, Global>,
 }
 
 impl Shown {
-    /// No line stands there.
+    /// Notes that there is no line. `OutOfMemory` if an allocation failed.
     pub fn new(alloc: Global) -> Result<Shown, OutOfMemory> {
         let stands = Arc::new(alloc, AtomicBool::new(false))?;
         Ok(Shown { stands })
     }
 
-    /// The same for one more that shares it.
+    /// Returns one more handle to the same note. `OutOfMemory` if it cannot be made.
     pub fn share(&self) -> Result<Shown, OutOfMemory> {
         let stands = self.stands.clone()?;
         Ok(Shown { stands })
     }
 
-    /// Writes the line, over the one that stands there, and leaves the cursor where it begins. A failure is ignored.
+    /// Writes the line, over the previous one, and leaves the cursor where it begins. A failure is ignored.
     pub fn tell<R: Eprint>(&self, rt: &R, progress: Progress) {
         let Progress {
             came,
@@ -49,10 +49,12 @@ impl Shown {
             in_calls,
         } = progress;
         self.stands.store(true, Ordering::SeqCst);
-        let _ = eprint!(rt; "{ERASE}esm: came {came}, settled {settled}, in calls {in_calls}\r");
+        let _ = eprint!(rt;
+            "{ERASE}esm: came {came}, with a fate {settled}, in calls {in_calls}\r"
+        );
     }
 
-    /// Erases the line, where one stands there. A failure is ignored.
+    /// Erases the line, if there is one. A failure is ignored.
     pub fn erase<R: Eprint>(&self, rt: &R) {
         if self.stands.swap(false, Ordering::SeqCst) && is_in_front() {
             let _ = rt.eprint(ERASE);

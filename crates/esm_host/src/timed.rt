@@ -5,7 +5,7 @@ use std::io::{Read, Write};
 use std::net::OpenStream;
 use std::rt::Clock;
 
-/// A connection whose reads and writes wait no longer than a deadline lets them.
+/// A connection whose reads and writes wait no longer than until a deadline.
 #[derive(Drop)]
 pub struct Timed<'a, R: Clock, S: OpenStream + Drop> {
     pub rt: &'a R,
